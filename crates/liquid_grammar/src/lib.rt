@@ -1,0 +1,2 @@
+//! The grammar of Liquid templates: rules, elements and places, matched without memory.
+#![tactic(auto)]

@@ -1,0 +1,2 @@
+//! From template text to nodes: the reading of a text.
+#![tactic(auto)]

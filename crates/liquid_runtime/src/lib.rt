@@ -1,0 +1,2 @@
+//! Names and frames: what a template sees while it is rendered.
+#![tactic(auto)]

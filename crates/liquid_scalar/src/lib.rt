@@ -1,0 +1,2 @@
+//! Errors and scalar values of Liquid templates.
+#![tactic(auto)]

@@ -1,0 +1,2 @@
+//! Sinks, and the rendering of parsed templates.
+#![tactic(auto)]
