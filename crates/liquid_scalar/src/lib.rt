@@ -2,6 +2,7 @@
 #![tactic(auto)]
 
 pub mod error;
+mod error_text;
 pub mod place;
 pub mod report;
 pub mod scalar;

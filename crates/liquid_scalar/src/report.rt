@@ -8,23 +8,23 @@ use std::alloc::{AllocError, Global};
 /// A key and a value that say more of a message or a trace.
 #[derive(Debug, Drop)]
 pub struct Context {
-    key: String,
-    value: String,
+    pub(crate) key: String,
+    pub(crate) value: String,
 }
 
 /// What was being done when an error came, with its contexts, oldest first.
 #[derive(Debug, Drop)]
 pub struct Trace {
-    text: String,
-    contexts: Vec<Context>,
+    pub(crate) text: String,
+    pub(crate) contexts: Vec<Context>,
 }
 
 /// What a Liquid error says.
 #[derive(Debug, Drop)]
 pub struct Report {
-    message: String,
-    contexts: Vec<Context>,
-    traces: Vec<Trace>,
+    pub(crate) message: String,
+    pub(crate) contexts: Vec<Context>,
+    pub(crate) traces: Vec<Trace>,
     pub(crate) place: Option<Place>,
 }
 
