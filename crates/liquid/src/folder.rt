@@ -1,0 +1,24 @@
+ghost use Rattle.std.specs.Prelude.{◌≡◌, ℕ, List, Option, None};
+ghost use Rattle.liquid.specs.Files.{Reads};
+
+use std::alloc::Global;
+
+/// Why a file or a folder was not read.
+#[derive(Clone, Copy, Debug, PartialEq, Eq)]
+pub enum Unread {
+    Fault,
+    Memory,
+}
+
+/// Files by their paths.
+pub trait Folder {
+    /// What is known of the file at a path: nothing, its bytes, or that there are none to be read.
+    ghost known: { Self → List ℕ → Option (Option (List ℕ)) } = { λ _ _. None };
+
+    /// The bytes of the file at `path`.
+    fn read(&mut self, alloc: Global, path: &str) -> Result<Vec<u8>, Unread>
+        ensures reads { Reads (λ bytes. bytes.items) (known self.old path.now) result };
+
+    /// The names of the files directly in the folder at `path`; folders in it are passed over.
+    fn list(&mut self, alloc: Global, path: &str) -> Result<Vec<String>, Unread>;
+}
