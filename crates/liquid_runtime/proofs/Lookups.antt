@@ -11,7 +11,7 @@ use Rattle.std.specs.FinMap.Entries.{find}
 use Rattle.std.specs.declared.alloc.Global.{Global}
 use Rattle.liquid_value.specs.Tree.{Tree}
 use Rattle.liquid_value.specs.View.{view}
-use Rattle.liquid_value.specs.declared.Value.{Value}
+use Rattle.liquid_value.specs.declared.value.Value.{Value}
 use Rattle.liquid_runtime.specs.Maps.{Names, names_of, over}
 use Rattle.liquid_runtime.specs.View.{View, names_seen, lookup}
 use Rattle.liquid_runtime.specs.Frames.{core_view, indexed_view, stack_view, assigned_view, global_view, built_view}
@@ -57,6 +57,14 @@ lookup-indexed_view variables q =
     ∙ get-over variables empty q
     ∙ ap (λ m. option_or (get variables q) (get m q)) (sym (empty-over _ ∙ empty-over _ ∙ empty-over _))
 
+pub lookup-global_view : (v : View) (q : List ℕ) → lookup (global_view v) q ≡ lookup v q
+lookup-global_view v q = lookup-assigned_view empty v q ∙ ap (λ o. option_or o (lookup v q)) (get-empty (slice_cmp nat_cmp) q)
+
+pub lookup-built_view : (globals : Names) (q : List ℕ) → lookup (built_view globals) q ≡ get globals q
+lookup-built_view globals q =
+    lookup-global_view (stack_view globals (indexed_view empty core_view)) q
+    ∙ ap (λ m. get m q) (ap (over (over globals empty)) (empty-over _ ∙ empty-over empty) ∙ over-empty _ ∙ over-empty globals)
+
 -- a name that the object has is found there, whatever lies below
 pub found_in_object : (object : BTreeMap (String Global) Value) (q : List ℕ) (x : Value) (below : Option Tree) → Some x ≡ get_by_text object q → option_or (get (names_of object) q) below ≡ Some (view x)
 found_in_object object q x below is = ap (λ o. option_or o below) (get-names_of object q ∙ ap (option_map view) (sym is))
@@ -65,4 +73,11 @@ found_in_object object q x below is = ap (λ o. option_or o below) (get-names_of
 pub found_below_object : (object : BTreeMap (String Global) Value) (q : List ℕ) (below : Option Tree) → None ≡ get_by_text object q → option_or (get (names_of object) q) below ≡ below
 found_below_object object q below is = ap (λ o. option_or o below) (get-names_of object q ∙ ap (option_map view) (sym is))
 
+-- what an own object and the frames below it answer
 pub ruleset object_first = (lookup-stack_view, lookup-assigned_view, lookup-indexed_view, found_in_object, found_below_object)
+
+-- a fresh object has no names, and the core has none
+pub ruleset fresh = (names_of-empty, lookup-core_view)
+
+-- the laws of names and frames
+pub ruleset frame_laws = (get-over, lookup-stack_view, lookup-global_view, lookup-built_view)

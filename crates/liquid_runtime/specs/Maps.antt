@@ -7,7 +7,7 @@ use Rattle.std.specs.FinMap.{FinMap, entries, from_entries}
 use Rattle.std.specs.declared.alloc.Global.{Global}
 use Rattle.liquid_value.specs.Tree.{Tree}
 use Rattle.liquid_value.specs.View.{view}
-use Rattle.liquid_value.specs.declared.Value.{Value}
+use Rattle.liquid_value.specs.declared.value.Value.{Value}
 
 -- a finite map from names to what stands for them
 abbrev pub NameMap : Type 0 → Type 0

@@ -15,6 +15,7 @@ pub struct GlobalFrame<P> {
 
 impl<P: Runtime> GlobalFrame<P> {
     /// A frame over `parent` in which nothing is assigned yet.
+    #[tactic(auto, using(crate::proofs::Lookups::fresh))]
     pub fn new(alloc: Global, parent: P) -> Self
         ensures { ⟦<GlobalFrame<P> as Runtime>⟧.view result ≡ global_view (P.view parent) }
     {

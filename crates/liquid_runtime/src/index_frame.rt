@@ -16,6 +16,7 @@ pub struct IndexFrame {
 
 impl IndexFrame {
     /// A frame without index variables.
+    #[tactic(auto, using(crate::proofs::Lookups::fresh))]
     pub(crate) fn new(alloc: Global, parent: RuntimeCore) -> Self
         ensures { ⟦<IndexFrame as Runtime>⟧.view result ≡ index_view core_view }
     {

@@ -1,4 +1,4 @@
-ghost use Rattle.std.specs.Prelude.{◌≡◌, ℕ, List, IfSome};
+ghost use Rattle.std.specs.Prelude.{◌≡◌, IfSome, None, OnErr};
 ghost use Rattle.std.specs.Option.{option_map};
 ghost use Rattle.liquid_scalar.specs.Told.{told, Gives};
 ghost use Rattle.liquid_value.specs.View.{view as tree_of};
@@ -19,7 +19,10 @@ pub trait Runtime {
     /// The value of the name. A name without a value is refused as "Unknown variable", with the
     /// name as the context `requested variable`. Memory is taken only for that refusal.
     fn get_name(&self, alloc: Global, name: &str) -> Result<&Value, Error>
-        ensures { Gives (λ value. tree_of value.now) result (found (view self.now) name.now) }
+        ensures gives { Gives (λ value. tree_of value.now) result (found (view self.now) name.now) }
+
+        // Memory is wanted only where the name has no value.
+        ensures refuses { OnErr result (lookup (view self.now) name.now ≡ None) }
     {
         match self.try_get_name(name) {
             Some(value) => Ok(value),

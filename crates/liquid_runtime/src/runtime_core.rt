@@ -1,3 +1,4 @@
+ghost use Rattle.std.specs.Prelude.{◌≡◌};
 ghost use Rattle.liquid_runtime.specs.Frames.{core_view};
 
 use crate::runtime::Runtime;
@@ -9,7 +10,9 @@ pub struct RuntimeCore {}
 
 impl RuntimeCore {
     /// A runtime without names.
-    pub fn new() -> Self {
+    pub fn new() -> Self
+        ensures { ⟦<RuntimeCore as Runtime>⟧.view result ≡ core_view }
+    {
         RuntimeCore {}
     }
 }
@@ -17,6 +20,7 @@ impl RuntimeCore {
 impl Runtime for RuntimeCore {
     ghost view = { λ _. core_view };
 
+    #[tactic(auto, using(crate::proofs::Lookups::fresh))]
     fn try_get_name(&self, _name: &str) -> Option<&Value> {
         None
     }
