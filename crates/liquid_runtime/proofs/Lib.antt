@@ -1,2 +1,3 @@
-pub mod Lookups
+pub mod FrameLookups
 pub mod MapLaws
+pub mod ObjectNames

@@ -26,7 +26,7 @@ impl RuntimeBuilder {
     ghost use Rattle.liquid_runtime.specs.Built.{globals_of};
 
     /// A builder without globals. What it builds takes its memory from `alloc`.
-    #[tactic(auto, using(crate::proofs::Lookups::fresh))]
+    #[tactic(auto, using(crate::proofs::FrameLookups::fresh))]
     pub fn new(alloc: Global) -> Self
         ensures { globals_of result ≡ empty }
     {

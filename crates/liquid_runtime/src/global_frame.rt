@@ -15,7 +15,7 @@ pub struct GlobalFrame<P> {
 
 impl<P: Runtime> GlobalFrame<P> {
     /// A frame over `parent` in which nothing is assigned yet.
-    #[tactic(auto, using(crate::proofs::Lookups::fresh))]
+    #[tactic(auto, using(crate::proofs::FrameLookups::fresh))]
     pub fn new(alloc: Global, parent: P) -> Self
         ensures { ⟦<GlobalFrame<P> as Runtime>⟧.view result ≡ global_view (P.view parent) }
     {
@@ -29,7 +29,7 @@ impl<P: Runtime> GlobalFrame<P> {
 impl<P: Runtime> Runtime for GlobalFrame<P> {
     ghost view = { λ frame. assigned_view (names_of frame.assigned) (P.view frame.parent) };
 
-    #[tactic(auto, using(crate::proofs::Lookups::object_first))]
+    #[tactic(auto, using(crate::proofs::FrameLookups::object_first))]
     fn try_get_name(&self, name: &str) -> Option<&Value> {
         match self.assigned.get(name) {
             Some(value) => Some(value),

@@ -16,7 +16,7 @@ pub struct IndexFrame {
 
 impl IndexFrame {
     /// A frame without index variables.
-    #[tactic(auto, using(crate::proofs::Lookups::fresh))]
+    #[tactic(auto, using(crate::proofs::FrameLookups::fresh))]
     pub(crate) fn new(alloc: Global, parent: RuntimeCore) -> Self
         ensures { ⟦<IndexFrame as Runtime>⟧.view result ≡ index_view core_view }
     {
@@ -30,7 +30,7 @@ impl IndexFrame {
 impl Runtime for IndexFrame {
     ghost view = { λ frame. indexed_view (names_of frame.variables) core_view };
 
-    #[tactic(auto, using(crate::proofs::Lookups::object_first))]
+    #[tactic(auto, using(crate::proofs::FrameLookups::object_first))]
     fn try_get_name(&self, name: &str) -> Option<&Value> {
         match self.variables.get(name) {
             Some(value) => Some(value),

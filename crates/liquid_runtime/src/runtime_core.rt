@@ -20,7 +20,7 @@ impl RuntimeCore {
 impl Runtime for RuntimeCore {
     ghost view = { λ _. core_view };
 
-    #[tactic(auto, using(crate::proofs::Lookups::fresh))]
+    #[tactic(auto, using(crate::proofs::FrameLookups::fresh))]
     fn try_get_name(&self, _name: &str) -> Option<&Value> {
         None
     }

@@ -27,7 +27,7 @@ impl<P: Runtime> StackFrame<P> {
 impl<P: Runtime> Runtime for StackFrame<P> {
     ghost view = { λ frame. stack_view (names_of frame.names) (P.view frame.parent) };
 
-    #[tactic(auto, using(crate::proofs::Lookups::object_first))]
+    #[tactic(auto, using(crate::proofs::FrameLookups::object_first))]
     fn try_get_name(&self, name: &str) -> Option<&Value> {
         match self.names.get(name) {
             Some(value) => Some(value),
