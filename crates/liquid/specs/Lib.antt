@@ -1,2 +1,3 @@
 pub mod Command
 pub mod Files
+pub mod Globals

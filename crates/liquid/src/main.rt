@@ -3,5 +3,6 @@
 
 pub mod command;
 pub mod folder;
+pub mod globals;
 
 fn main() {}
