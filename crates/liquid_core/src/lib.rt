@@ -1,0 +1,36 @@
+//! Liquid templates: parsed, and rendered over names that a caller sets.
+//!
+//! All that users need is named here, at the paths of Rust's liquid-core: errors in `error`, values
+//! in `model`, `parse` in `parser`, frames and templates in `runtime`, and the most used names at the
+//! root. What that crate does not make public stands at the root alone.
+#![tactic(auto)]
+
+/// Errors.
+pub mod error {
+    pub use liquid_scalar::{Error, Place, Result};
+}
+
+/// Values.
+pub mod model {
+    pub use liquid_scalar::{Scalar, ScalarOf};
+    pub use liquid_value::{Object, Value};
+}
+
+/// From text to nodes.
+pub mod parser {
+    pub use liquid_parser::{Language, Node, parse};
+}
+
+/// Names and frames, and templates rendered over them.
+pub mod runtime {
+    pub use liquid_runtime::{
+        BuiltRuntime, GlobalFrame, IndexFrame, Runtime, RuntimeBuilder, RuntimeCore, StackFrame,
+    };
+    pub use liquid_template::Template;
+}
+
+pub use liquid_parser::{Language, Node};
+pub use liquid_runtime::{Runtime, RuntimeBuilder};
+pub use liquid_scalar::{Error, Result};
+pub use liquid_template::{Sink, SinkFault, Template, TextSink, WriterSink, render_source};
+pub use liquid_value::{Object, Value};
