@@ -121,7 +121,7 @@ takes_name_byte s rest b (here m) = m.front
 takes_name_byte s rest b (instead h m) =
     m.match.before.front ∙ ap₂ (λ x y. x ∷ y) (sym m.is) (sym m.match.after.stays)
 
-is_some-map : {A B : Type 0} (f : A → B) (o : Option A) → is_some (option_map f o) ≡ is_some o
+pub is_some-map : {A B : Type 0} (f : A → B) (o : Option A) → is_some (option_map f o) ≡ is_some o
 is_some-map f (Some x) = refl
 is_some-map f None = refl
 
