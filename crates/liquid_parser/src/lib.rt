@@ -4,6 +4,8 @@
 pub mod language;
 pub mod node;
 pub mod parser;
+#[cfg(test)]
+mod tests;
 
 pub use language::Language;
 pub use node::Node;
