@@ -1,0 +1,4 @@
+pub mod Refusal
+pub mod ErrorText
+pub mod Told
+pub mod Scalar

@@ -1,0 +1,109 @@
+ghost use Rattle.std.specs.Prelude.{◌≡◌, ◌∷◌, ◌++◌, [], IfOk, OnOk};
+ghost use Rattle.liquid_scalar.specs.Refusal.{plain, located, with_trace, with_context};
+ghost use Rattle.liquid_scalar.specs.Told.{entry_of, note_of, refusal_of};
+
+use crate::place::Place;
+use std::alloc::{AllocError, Global};
+
+/// A key and a value that say more of a message or a trace.
+#[derive(Debug, Drop)]
+pub struct Context {
+    pub(crate) key: String,
+    pub(crate) value: String,
+}
+
+/// What was being done when an error came, with its contexts, oldest first.
+#[derive(Debug, Drop)]
+pub struct Trace {
+    pub(crate) text: String,
+    pub(crate) contexts: Vec<Context>,
+}
+
+/// What a Liquid error says.
+#[derive(Debug, Drop)]
+pub struct Report {
+    pub(crate) message: String,
+    pub(crate) contexts: Vec<Context>,
+    pub(crate) traces: Vec<Trace>,
+    pub(crate) place: Option<Place>,
+}
+
+impl Context {
+    fn new(alloc: Global, key: &str, value: &str) -> Result<Context, AllocError>
+        ensures { IfOk result (λ c. entry_of c ≡ (key.now, value.now)) }
+    {
+        Ok(Context {
+            key: String::from_str(alloc, key)?,
+            value: String::from_str(alloc, value)?,
+        })
+    }
+}
+
+impl Trace {
+    fn note(&mut self, context: Context) -> Result<(), AllocError>
+        ensures { OnOk result (note_of self.new ≡ record (note_of self.old) { contexts = (note_of self.old).contexts ++ entry_of context ∷ [] }) }
+    {
+        self.contexts.push(context)?;
+        Ok(())
+    }
+}
+
+impl Report {
+    pub(crate) fn new(alloc: Global, message: &str) -> Result<Report, AllocError>
+        ensures { IfOk result (λ r. refusal_of r ≡ plain message.now) }
+    {
+        Ok(Report {
+            message: String::from_str(alloc, message)?,
+            contexts: Vec::new(alloc),
+            traces: Vec::new(alloc),
+            place: None,
+        })
+    }
+
+    pub(crate) fn at_place(alloc: Global, message: &str, place: Place) -> Result<Report, AllocError>
+        ensures { IfOk result (λ r. refusal_of r ≡ located message.now place) }
+    {
+        let line = place.line;
+        let column = place.column;
+        let text = format!(in alloc; "{message} (line {line}, column {column})")?;
+        Ok(Report {
+            message: text,
+            contexts: Vec::new(alloc),
+            traces: Vec::new(alloc),
+            place: Some(place),
+        })
+    }
+
+    pub(crate) fn trace(mut self, alloc: Global, text: &str) -> Result<Report, AllocError>
+        ensures { IfOk result (λ r. refusal_of r ≡ with_trace text.now (refusal_of self)) }
+    {
+        let trace = Trace {
+            text: String::from_str(alloc, text)?,
+            contexts: Vec::new(alloc),
+        };
+        self.traces.push(trace)?;
+        Ok(self)
+    }
+
+    pub(crate) fn context(
+        mut self,
+        alloc: Global,
+        key: &str,
+        value: &str,
+    ) -> Result<Report, AllocError>
+        ensures { IfOk result (λ r. refusal_of r ≡ with_context key.now value.now (refusal_of self)) }
+    {
+        let context = Context::new(alloc, key, value)?;
+        match self.traces.pop() {
+            None => {
+                self.contexts.push(context)?;
+                Ok(self)
+            }
+            Some(mut newest) => {
+                newest.note(context)?;
+                self.traces.push(newest)?;
+                Ok(self)
+            }
+        }
+    }
+}
