@@ -2,6 +2,7 @@
 #![tactic(auto)]
 
 mod history;
+mod piece;
 mod sink;
 mod text_sink;
 mod writer_sink;

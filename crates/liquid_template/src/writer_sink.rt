@@ -20,6 +20,7 @@ impl<W: Write> WriterSink<W> {
     pub fn new(writer: W) -> WriterSink<W>
         ensures nothing { ⟦<WriterSink<W> as Sink>⟧.taken result ≡ [] }
         ensures none { ⟦<WriterSink<W> as Sink>⟧.failures result ≡ 0 }
+        ensures began { result.began.value ≡ writer }
     {
         let began = Snapshot::of(&writer);
         WriterSink {
