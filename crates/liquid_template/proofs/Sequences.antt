@@ -88,8 +88,3 @@ stop_first steps (Some r') rest a b t s = s
 -- the first run is not done: the other one adds nothing
 pub Outcome-first : (first rest : Run) (a b : Sunk) (e : Error) → Outcome first a b (Err e) → Outcome (and_then first rest) a b (Err e)
 Outcome-first first rest a b e s = stop_first first.steps first.refusal rest a b (told e) s
-
--- nothing is written, for the run's reason
-pub Outcome-refused : (r : Refusal) (a : Sunk) (e : Error) → IfSome (told e) (λ told_refusal. told_refusal ≡ r) → Outcome (refused r) a a (Err e)
-
-Outcome-refused r a e is = ?

@@ -1,3 +1,4 @@
 pub mod Put
 pub mod Run
 pub mod Outcome
+pub mod Template

@@ -2,11 +2,14 @@
 #![tactic(auto)]
 
 mod history;
+mod node;
 mod piece;
 mod sink;
+mod template;
 mod text_sink;
 mod writer_sink;
 
 pub use crate::sink::{Sink, SinkFault};
+pub use crate::template::Template;
 pub use crate::text_sink::TextSink;
 pub use crate::writer_sink::WriterSink;
