@@ -18,6 +18,7 @@ use std::alloc::Global;
 pub(crate) fn render_node<K: Sink, R: Runtime>(alloc: Global, node: &Node, sink: &mut K, runtime: &R) -> Result<(), Error>
     ensures outcome { Outcome (node_run (R.view runtime.now) (shape node.now)) (sunk (K.taken sink.old) (K.failures sink.old)) (sunk (K.taken sink.new) (K.failures sink.new)) result }
     ensures text { OnOk result (IsUtf8 (written (node_run (R.view runtime.now) (shape node.now)))) }
+    ensures behind { K.began sink.new ≡ K.began sink.old }
 {
     match node {
         Node::Text(text) => write_piece(alloc, sink, text.as_str()),
@@ -32,6 +33,7 @@ pub(crate) fn render_node<K: Sink, R: Runtime>(alloc: Global, node: &Node, sink:
 fn render_value<K: Sink>(alloc: Global, value: &Value, sink: &mut K) -> Result<(), Error>
     ensures outcome { Outcome (one_piece (render (tree_of value.now))) (sunk (K.taken sink.old) (K.failures sink.old)) (sunk (K.taken sink.new) (K.failures sink.new)) result }
     ensures text { OnOk result (IsUtf8 (render (tree_of value.now))) }
+    ensures behind { K.began sink.new ≡ K.began sink.old }
 {
     match value.to_kstr(alloc) {
         Ok(text) => write_piece(alloc, sink, text.as_str()),
@@ -43,6 +45,7 @@ fn render_value<K: Sink>(alloc: Global, value: &Value, sink: &mut K) -> Result<(
 pub(crate) fn render_nodes<K: Sink, R: Runtime>(alloc: Global, nodes: &[Node], sink: &mut K, runtime: &R) -> Result<(), Error>
     ensures outcome { Outcome (run (R.view runtime.now) (map shape nodes.now)) (sunk (K.taken sink.old) (K.failures sink.old)) (sunk (K.taken sink.new) (K.failures sink.new)) result }
     ensures text { OnOk result (IsUtf8 (written (run (R.view runtime.now) (map shape nodes.now)))) }
+    ensures behind { K.began sink.new ≡ K.began sink.old }
 {
     for node in nodes {
         match render_node(alloc, node, sink, runtime) {

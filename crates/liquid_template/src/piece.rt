@@ -11,6 +11,7 @@ use std::alloc::Global;
 pub(crate) fn write_piece<K: Sink>(alloc: Global, sink: &mut K, piece: &str) -> Result<(), Error>
     ensures outcome { Outcome (one_piece piece.now) (sunk (K.taken sink.old) (K.failures sink.old)) (sunk (K.taken sink.new) (K.failures sink.new)) result }
     ensures text { OnOk result (IsUtf8 piece.now) }
+    ensures behind { K.began sink.new ≡ K.began sink.old }
 {
     let mut rest = piece.as_bytes();
     while !rest.is_empty() {

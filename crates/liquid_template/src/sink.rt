@@ -1,5 +1,5 @@
 //! Where rendered bytes go.
-ghost use Rattle.std.specs.Prelude.{◌≡◌, ℕ, ◌+◌, ◌<◌, ◌≤◌, List, ◌++◌, length, IfOk};
+ghost use Rattle.std.specs.Prelude.{◌≡◌, ℕ, ◌+◌, ◌<◌, ◌≤◌, List, ◌++◌, length, None, Option, IfOk};
 ghost use Rattle.liquid_template.specs.Put.{taken_part, failure_count};
 
 use std::fmt;
@@ -30,19 +30,25 @@ pub trait Sink {
     // how many puts were answered by `SinkFault::Failed`
     ghost failures: { Self → ℕ };
 
+    // the bytes that lay behind the sink before its first put, where they are known
+    ghost began: { Self → Option (List ℕ) } = { λ _. None };
+
     /// Takes the first bytes of a piece, at least one, and answers how many; or takes nothing and answers why.
     fn put(&mut self, piece: &[u8]) -> Result<usize, SinkFault>
         requires { 0 < length piece.now }
         ensures some { IfOk result (λ count. 0 < count) }
         ensures bound { IfOk result (λ count. count ≤ length piece.now) }
         ensures bytes { taken self.new ≡ taken self.old ++ taken_part result piece.now }
-        ensures count { failures self.new ≡ failures self.old + failure_count result };
+        ensures count { failures self.new ≡ failures self.old + failure_count result }
+        ensures behind { began self.new ≡ began self.old };
 }
 
 impl<K: Sink> Sink for &mut K {
     ghost taken = { λ sink. K.taken sink.now };
 
     ghost failures = { λ sink. K.failures sink.now };
+
+    ghost began = { λ sink. K.began sink.now };
 
     fn put(&mut self, piece: &[u8]) -> Result<usize, SinkFault> {
         Sink::put(&mut **self, piece)

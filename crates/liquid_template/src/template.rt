@@ -34,6 +34,7 @@ impl Template {
     pub fn render_to<K: Sink, R: Runtime>(&self, alloc: Global, sink: &mut K, runtime: &mut R) -> Result<(), Error>
         ensures outcome { Outcome (run (R.view runtime.old) (template_shapes self.now)) (sunk (K.taken sink.old) (K.failures sink.old)) (sunk (K.taken sink.new) (K.failures sink.new)) result }
         ensures text { OnOk result (IsUtf8 (written (run (R.view runtime.old) (template_shapes self.now)))) }
+        ensures behind { K.began sink.new ≡ K.began sink.old }
         ensures runtime { R.view runtime.new ≡ R.view runtime.old }
     {
         render_nodes(alloc, self.nodes.as_slice(), sink, &*runtime)
