@@ -2,3 +2,4 @@ pub mod Put
 pub mod Run
 pub mod Outcome
 pub mod Template
+pub mod Rendering

@@ -5,11 +5,13 @@ mod history;
 mod node;
 mod piece;
 mod sink;
+mod source;
 mod template;
 mod text_sink;
 mod writer_sink;
 
 pub use crate::sink::{Sink, SinkFault};
+pub use crate::source::render_source;
 pub use crate::template::Template;
 pub use crate::text_sink::TextSink;
 pub use crate::writer_sink::WriterSink;
