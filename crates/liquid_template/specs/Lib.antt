@@ -1,0 +1,5 @@
+pub mod Put
+pub mod Run
+pub mod Outcome
+pub mod Template
+pub mod Rendering

@@ -1,0 +1,37 @@
+//! What a sink has taken so far, for clauses alone.
+ghost use Rattle.std.specs.Prelude.{◌≡◌, ℕ, ◌+◌, List, [], ◌++◌};
+ghost use Rattle.std.specs.Borrow.{ftrue};
+
+use std::marker::{Model, PhantomData};
+
+/// The bytes that a sink took and the count of its failures. It takes no memory, and its methods do nothing at run time.
+#[derive(Drop)]
+pub struct History {
+    marker: PhantomData<u8>,
+    pub ghost taken: { List ℕ },
+    pub ghost failures: { ℕ },
+}
+
+impl Model for History {
+    ghost also_owns = { λ _. ftrue };
+}
+
+impl History {
+    pub(crate) fn new() -> History
+        ensures { (result.taken ≡ []) × (result.failures ≡ 0) }
+    {
+        History {
+            marker: PhantomData,
+        }
+    }
+
+    /// Bytes were taken.
+    pub(crate) fn took(&mut self, _piece: &[u8])
+        ensures { self.new ≡ record self.old { taken = self.old.taken ++ _piece.now } }
+    {}
+
+    /// A put failed.
+    pub(crate) fn failed(&mut self)
+        ensures { self.new ≡ record self.old { failures = self.old.failures + 1 } }
+    {}
+}

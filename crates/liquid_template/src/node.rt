@@ -1,0 +1,57 @@
+//! Rendering one node.
+ghost use Rattle.std.specs.Prelude.{◌≡◌, IsUtf8, OnOk, map};
+ghost use Rattle.liquid_value.specs.View.{view as tree_of};
+ghost use Rattle.liquid_value.specs.Render.{render};
+ghost use Rattle.liquid_parser.specs.Tree.{shape};
+ghost use Rattle.liquid_template.specs.Outcome.{Outcome, sunk};
+ghost use Rattle.liquid_template.specs.Run.{node_run, one_piece, run, written};
+
+use crate::piece::write_piece;
+use crate::sink::Sink;
+use liquid_parser::Node;
+use liquid_runtime::Runtime;
+use liquid_scalar::Error;
+use liquid_value::Value;
+use std::alloc::Global;
+
+/// Writes what the node comes to.
+pub(crate) fn render_node<K: Sink, R: Runtime>(alloc: Global, node: &Node, sink: &mut K, runtime: &R) -> Result<(), Error>
+    ensures outcome { Outcome (node_run (R.view runtime.now) (shape node.now)) (sunk (K.taken sink.old) (K.failures sink.old)) (sunk (K.taken sink.new) (K.failures sink.new)) result }
+    ensures text { OnOk result (IsUtf8 (written (node_run (R.view runtime.now) (shape node.now)))) }
+    ensures behind { K.began sink.new ≡ K.began sink.old }
+{
+    match node {
+        Node::Text(text) => write_piece(alloc, sink, text.as_str()),
+        Node::Name(name) => match runtime.get_name(alloc, name.as_str()) {
+            Ok(value) => render_value(alloc, value, sink),
+            Err(error) => Err(error),
+        },
+    }
+}
+
+// Writes the text that the value renders as.
+fn render_value<K: Sink>(alloc: Global, value: &Value, sink: &mut K) -> Result<(), Error>
+    ensures outcome { Outcome (one_piece (render (tree_of value.now))) (sunk (K.taken sink.old) (K.failures sink.old)) (sunk (K.taken sink.new) (K.failures sink.new)) result }
+    ensures text { OnOk result (IsUtf8 (render (tree_of value.now))) }
+    ensures behind { K.began sink.new ≡ K.began sink.old }
+{
+    match value.to_kstr(alloc) {
+        Ok(text) => write_piece(alloc, sink, text.as_str()),
+        Err(_) => Err(Error::Memory),
+    }
+}
+
+/// Writes what the nodes come to, up to the first one that is refused.
+pub(crate) fn render_nodes<K: Sink, R: Runtime>(alloc: Global, nodes: &[Node], sink: &mut K, runtime: &R) -> Result<(), Error>
+    ensures outcome { Outcome (run (R.view runtime.now) (map shape nodes.now)) (sunk (K.taken sink.old) (K.failures sink.old)) (sunk (K.taken sink.new) (K.failures sink.new)) result }
+    ensures text { OnOk result (IsUtf8 (written (run (R.view runtime.now) (map shape nodes.now)))) }
+    ensures behind { K.began sink.new ≡ K.began sink.old }
+{
+    for node in nodes {
+        match render_node(alloc, node, sink, runtime) {
+            Ok(()) => {}
+            Err(error) => return Err(error),
+        }
+    }
+    Ok(())
+}

@@ -1,0 +1,56 @@
+//! Where rendered bytes go.
+ghost use Rattle.std.specs.Prelude.{◌≡◌, ℕ, ◌+◌, ◌<◌, ◌≤◌, List, ◌++◌, length, None, Option, IfOk};
+ghost use Rattle.liquid_template.specs.Put.{taken_part, failure_count};
+
+use std::fmt;
+
+/// Why a sink takes nothing of a piece.
+#[derive(Clone, Copy, Debug, PartialEq, Eq)]
+pub enum SinkFault {
+    /// The sink failed. It may take later pieces.
+    Failed,
+    /// The sink had no memory for the piece.
+    Memory,
+}
+
+impl fmt::Display for SinkFault {
+    fn fmt<W: fmt::Write>(&self, f: &mut fmt::Formatter<W>) -> fmt::Result {
+        match self {
+            SinkFault::Failed => f.write_str("sink failed"),
+            SinkFault::Memory => f.write_str("out of memory"),
+        }
+    }
+}
+
+/// A place that bytes are written to, which means the bytes taken so far and how often a put failed.
+pub trait Sink {
+    // every byte taken so far
+    ghost taken: { Self → List ℕ };
+
+    // how many puts were answered by `SinkFault::Failed`
+    ghost failures: { Self → ℕ };
+
+    // the bytes that lay behind the sink before its first put, where they are known
+    ghost began: { Self → Option (List ℕ) } = { λ _. None };
+
+    /// Takes the first bytes of a piece, at least one, and answers how many; or takes nothing and answers why.
+    fn put(&mut self, piece: &[u8]) -> Result<usize, SinkFault>
+        requires { 0 < length piece.now }
+        ensures some { IfOk result (λ count. 0 < count) }
+        ensures bound { IfOk result (λ count. count ≤ length piece.now) }
+        ensures bytes { taken self.new ≡ taken self.old ++ taken_part result piece.now }
+        ensures count { failures self.new ≡ failures self.old + failure_count result }
+        ensures behind { began self.new ≡ began self.old };
+}
+
+impl<K: Sink> Sink for &mut K {
+    ghost taken = { λ sink. K.taken sink.now };
+
+    ghost failures = { λ sink. K.failures sink.now };
+
+    ghost began = { λ sink. K.began sink.now };
+
+    fn put(&mut self, piece: &[u8]) -> Result<usize, SinkFault> {
+        Sink::put(&mut **self, piece)
+    }
+}

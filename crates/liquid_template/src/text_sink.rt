@@ -1,0 +1,52 @@
+//! A sink over memory.
+ghost use Rattle.std.specs.Prelude.{◌≡◌, [], IfOk, IsOk, string_bytes};
+ghost use Rattle.std.specs.Prelude.{IsUtf8};
+
+use crate::sink::{Sink, SinkFault};
+use std::alloc::Global;
+use std::string::FromUtf8Error;
+
+/// Gathers what it takes in memory. It never fails; it refuses a piece only for want of memory.
+#[derive(Drop)]
+pub struct TextSink {
+    bytes: Vec<u8>,
+}
+
+impl TextSink {
+    /// An empty sink, which takes no memory yet.
+    pub fn new(alloc: Global) -> TextSink
+        ensures { ⟦<TextSink as Sink>⟧.taken result ≡ [] }
+    {
+        TextSink {
+            bytes: Vec::new(alloc),
+        }
+    }
+
+    /// The bytes taken so far.
+    pub fn as_bytes(&self) -> &[u8]
+        ensures { result.now ≡ ⟦<TextSink as Sink>⟧.taken self.now }
+    {
+        self.bytes.as_slice()
+    }
+
+    /// The bytes taken as a text, refused where they are no UTF-8.
+    pub fn into_string(self) -> Result<String, FromUtf8Error>
+        ensures value { IfOk result (λ text. string_bytes text ≡ ⟦<TextSink as Sink>⟧.taken self) }
+        ensures succeeds { IsUtf8 (⟦<TextSink as Sink>⟧.taken self) → IsOk result }
+    {
+        String::from_utf8(self.bytes)
+    }
+}
+
+impl Sink for TextSink {
+    ghost taken = { λ sink. sink.bytes.items };
+
+    ghost failures = { λ _. 0 };
+
+    fn put(&mut self, piece: &[u8]) -> Result<usize, SinkFault> {
+        match self.bytes.extend_from_slice(piece) {
+            Ok(()) => Ok(piece.len()),
+            Err(_) => Err(SinkFault::Memory),
+        }
+    }
+}
