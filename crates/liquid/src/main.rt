@@ -4,5 +4,8 @@
 pub mod command;
 pub mod folder;
 pub mod globals;
+pub mod run;
+#[cfg(test)]
+mod tests;
 
 fn main() {}

@@ -1,4 +1,4 @@
-use crate::command::{Command, USAGE};
+use crate::command::Command;
 use crate::folder::{Folder, Unread};
 use crate::globals::globals;
 use liquid_core::parser::Language;
@@ -6,27 +6,14 @@ use liquid_core::runtime::RuntimeBuilder;
 use liquid_core::{Error, WriterSink, render_source};
 use std::alloc::Global;
 use std::io::Write;
-use thiserror::Error as Fault;
 
 /// Why the program stops.
-#[derive(Debug, Drop, Fault)]
-enum Stop<'w> {
-    #[error("usage: liquid render TEMPLATE [NAME=TEXT]...\n")]
-    Usage,
-    #[error("liquid: cannot read {0}\n")]
+#[derive(Debug, Drop, thiserror::Error)]
+pub enum Stop<'w> {
+    #[error("liquid: cannot read {0}")]
     Unreadable(&'w str),
     #[error("{0}")]
     Refused(Error),
-}
-
-impl Stop<'_> {
-    fn status(&self) -> u8 {
-        match self {
-            Stop::Refused(_) => 1,
-            Stop::Usage => 2,
-            Stop::Unreadable(_) => 3,
-        }
-    }
 }
 
 /// Runs the command that the words behind the program's name give: `render TEMPLATE [NAME=TEXT]...`
@@ -36,23 +23,62 @@ impl Stop<'_> {
 /// refused, with the error's text on `err`; 2 where the words are no command, with the usage on
 /// `err`; 3 where the template can't be read as UTF-8 text, with its path on `err`. What was written
 /// before a refusal stays written. A fault of `err` changes no status.
-pub fn run<F: Folder, W: Write, E: Write>(alloc: Global, words: &[String], files: &mut F, out: &mut W, err: &mut E) -> u8 {
-    match attempt(alloc, words, files, out) {
+pub fn run<F: Folder, W: Write, E: Write>(
+    alloc: Global,
+    words: &[String],
+    files: &mut F,
+    out: &mut W,
+    err: &mut E,
+) -> u8 {
+    let Some(command) = Command::from_words(words) else {
+        let _ = writeln!(err, "usage: liquid render TEMPLATE [NAME=TEXT]...");
+        return 2;
+    };
+    match attempt(alloc, command, files, out) {
         Ok(()) => 0,
-        Err(stop) => {
-            let _ = write!(err, "{stop}");
-            stop.status()
+        Err(Stop::Unreadable(path)) => {
+            let _ = writeln!(err, "liquid: cannot read {path}");
+            3
+        }
+        Err(Stop::Refused(error)) => {
+            let _ = write!(err, "{error}");
+            1
         }
     }
 }
 
-fn attempt<'w, F: Folder, W: Write>(alloc: Global, words: &'w [String], files: &mut F, out: &mut W) -> Result<(), Stop<'w>> {
-    let Some(command) = Command::from_words(words) else {
-        return Err(Stop::Usage);
+fn attempt<'w, F: Folder, W: Write>(
+    alloc: Global,
+    command: Command<'w>,
+    files: &mut F,
+    out: &mut W,
+) -> Result<(), Stop<'w>> {
+    let bytes = match files.read(alloc, command.template) {
+        Ok(bytes) => bytes,
+        Err(Unread::Fault) => return Err(Stop::Unreadable(command.template)),
+        Err(Unread::Memory) => return Err(Stop::Refused(Error::Memory)),
     };
-    let bytes = read(alloc, &command, files)?;
-    let Ok(text) = str::from_utf8(bytes.as_slice()) else {
-        return Err(Stop::Unreadable(command.template));
-    };
-    render(alloc, text, command.assignments, out).map_err(Stop::Refused)
+    match str::from_utf8(bytes.as_slice()) {
+        Ok(text) => match render(alloc, text, command.assignments, out) {
+            Ok(()) => Ok(()),
+            Err(error) => Err(Stop::Refused(error)),
+        },
+        Err(_) => Err(Stop::Unreadable(command.template)),
+    }
+}
+
+/// Writes what the text comes to, with the globals that the words set.
+fn render<W: Write>(
+    alloc: Global,
+    text: &str,
+    assignments: &[String],
+    out: &mut W,
+) -> Result<(), Error> {
+    let object = globals(alloc, assignments)?;
+    let mut runtime = RuntimeBuilder::new(alloc).set_globals(object).build();
+    let mut sink = WriterSink::new(&mut *out);
+    let language = Language::empty(alloc);
+    let rendered = render_source(alloc, text, &language, &mut runtime, &mut sink);
+    let _ = sink.into_inner();
+    rendered
 }
