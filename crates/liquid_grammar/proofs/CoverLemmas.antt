@@ -11,7 +11,7 @@ use Rattle.liquid_grammar.specs.Steps as read
 use Rattle.liquid_grammar.specs.Steps.{EndsRaw}
 use Rattle.liquid_grammar.proofs.RawLemmas.{opens, opens_from, closed_from}
 use Rattle.liquid_grammar.proofs.Exact.{same_match, none_begins, finds_none, option_cases, front_of}
-use Rattle.liquid_grammar.proofs.GrammarExact.{exact-white, exact-any_opener, exact-expression, exact-lone_brace}
+use Rattle.liquid_grammar.proofs.GrammarExact.{exact-white, exact-any_opener, exact-expression, exact-lone_brace, shrinks-expression, shrinks-lone_brace}
 
 -- braces begin with one `{`
 braces_front : (kind : ℕ) (s rest : List ℕ) (b : ℕ) → Braces kind s rest b → (middle : List ℕ) × (s ≡ 123 ∷ middle)
@@ -125,15 +125,15 @@ invalid_element s rest text o none e =
     let brace = exact-lone_brace.sound s rest text e in
     record { joined = brace.front; kind = record { opens = o; none = none_begins exact-expression s none; brace = brace } }
 
-pub raw_element : (s : List ℕ) (n : ℕ) → 0 < n → n ≤ length s → EndsRaw s n → IsElement s (drop n s) (raw (take n s))
-raw_element s n some within e =
+pub raw_element : (s : List ℕ) (n : ℕ) → 0 < n → n ≤ length s → ((k : ℕ) → k < n → ¬ (Opens (drop k s))) → (n < length s → Opens (drop n s)) → IsElement s (drop n s) (raw (take n s))
+raw_element s n some within closed stops =
     let len : length (take n s) ≡ n = length-take-le n s within in
     record {
       joined = sym (take-append-drop n s);
       kind = record {
         some = omega arith;
-        closed = λ k h. let before : k < n = omega arith in e.closed k before;
-        stops = λ h. let inside : n < length s = omega (arith, length-drop n s) in e.stops inside;
+        closed = λ k h. let before : k < n = omega arith in closed k before;
+        stops = λ h. let inside : n < length s = omega (arith, length-drop n s) in stops inside;
       };
     }
 
@@ -157,7 +157,7 @@ opened_next s o = go (read.expression s) refl
     go (Some x) e = record { element = expression x.0 (take (length s - length x.1) s); rest = x.1; is = expression_element s x.1 x.0 e }
     go None e = brace e
 
--- where raw text ends
+-- what raw text is, but for the cut between characters
 record EndsAt (s : List ℕ) (n : ℕ) : Type 0 where
   within : n ≤ length s
   closed : (k : ℕ) → k < n → ¬ (Opens (drop k s))
@@ -180,3 +180,60 @@ raw_ends (b ∷ s) = go (opens (b ∷ s)) refl (raw_ends s)
         closed_behind : (k : ℕ) → k < suc more_of.0 → opens (b ∷ s) ≡ false → ((j : ℕ) → j < more_of.0 → ¬ (Opens (drop j s))) → ¬ (Opens (drop k (b ∷ s)))
         closed_behind zero h e c = closed_from (b ∷ s) e
         closed_behind (suc k) h e c = c k (omega arith)
+
+-- an element takes something
+pub element_some : (s rest : List ℕ) (e : Element) → IsElement s rest e → length rest < length s
+element_some s rest (raw text) m = let some = m.kind.some in omega (arith, ap length m.joined, length-append text rest)
+element_some s rest (expression name text) m = shrinks-expression s rest name m.kind
+element_some s rest (invalid text) m = shrinks-lone_brace s rest text m.kind.brace
+
+-- some element stands at each text but the empty one
+next_of : (s : List ℕ) → 0 < length s → Next s
+next_of s some = go (raw_ends s)
+  where
+    go : (n : ℕ) × EndsAt s n → Next s
+    go m = elim (cases_lt 0 m.0) [
+      | inl front ↦ record {
+        element = raw (take m.0 s);
+        rest = drop m.0 s;
+        is = raw_element s m.0 front m.1.within m.1.closed m.1.stops;
+      }
+      | inr none ↦ (let none_left : m.0 ≡ 0 = omega arith in
+        opened_next s (subst (λ (k : ℕ). Opens (drop k s)) none_left (m.1.stops (omega arith))))
+    ]
+
+cover_by : (fuel : ℕ) (s : List ℕ) → length s < fuel → (es : List Element) × Cover s es
+cover_by zero s h = absurd (omega arith)
+cover_by (suc fuel) [] h = ([], done)
+cover_by (suc fuel) (b ∷ s) h =
+    let n = next_of (b ∷ s) (omega arith) in
+    let less = element_some (b ∷ s) n.rest n.element n.is in
+    let more_of = cover_by fuel n.rest (omega arith) in
+    (n.element ∷ more_of.0, next n.is more_of.1)
+
+-- no element stands in the empty text
+pub cover_empty : (es : List Element) → Cover [] es → es ≡ []
+cover_empty es done = refl
+cover_empty es (next {rest = rest} {e = e} m ms) = absurd (let h = element_some [] rest e m in omega arith)
+
+-- what covers a text begins with the element there, and goes on as a cover of the rest
+pub cover_after : (s rest : List ℕ) (e : Element) (es : List Element) → IsElement s rest e → Cover s es → (after : List Element) × (es ≡ e ∷ after) × Cover rest after
+cover_after s rest e es m done = absurd (let h = element_some [] rest e m in omega arith)
+cover_after s rest e es m (next {rest = r} {e = d} {es = ds} a c) =
+    let q = same_element s r rest d e a m in
+    (ds, ap (λ x. x.0 ∷ ds) q, subst (λ (x : List ℕ). Cover x ds) (ap (λ x. x.1) q) c)
+
+pub same_cover : (s : List ℕ) (es fs : List Element) → Cover s es → Cover s fs → es ≡ fs
+same_cover s es fs done c = sym (cover_empty fs c)
+same_cover s es fs (next {rest = r} {e = e} {es = more_of} a c) d =
+    let q = cover_after s r e fs a d in
+    ap (λ x. e ∷ x) (same_cover r more_of q.0 c q.2) ∙ sym q.1
+
+-- each text has one cover
+pub cover_of : (s : List ℕ) → OnlyCover s
+cover_of s = let c = cover_by (suc (length s)) s (omega arith) in record { elements = c.0; cover = c.1; only = λ fs d. same_cover s fs c.0 d c.1 }
+
+-- elements joined are the text
+pub joined_cover : (s : List ℕ) (es : List Element) → Cover s es → joined es ≡ s
+joined_cover s es done = refl
+joined_cover s es (next {rest = r} {e = e} {es = more_of} a c) = ap (λ x. text_of e ++ x) (joined_cover r more_of c) ∙ sym a.joined

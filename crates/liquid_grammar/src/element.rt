@@ -43,12 +43,12 @@ fn marked<'a>(s: &'a str) -> (Element<'a>, &'a str)
     requires { Opens s.now }
     ensures { IsElement s.now result.1.now (element_of result.0) }
 {
-    if let Some((found, rest)) = expression(s) {
-        return (Element::Expression(found, before(s, rest)), rest);
-    }
-    match lone_brace(s) {
-        Some((brace, rest)) => (Element::Invalid(brace), rest),
-        None => unreachable!(),
+    match expression(s) {
+        Some((found, rest)) => (Element::Expression(found, before(s, rest)), rest),
+        None => match lone_brace(s) {
+            Some((brace, rest)) => (Element::Invalid(brace), rest),
+            None => unreachable!(),
+        },
     }
 }
 
