@@ -1,5 +1,5 @@
 -- Rendering nodes one by one: from the outcome of what is left to the outcome of all.
-use Rattle.std.proofs.Common.{◌≡◌, ℕ, ◌+◌, ◌<◌, ◌≤◌, List, [], ◌∷◌, ◌++◌, length, drop, map, get_or, Option, None, Result, Ok, Err, refl, sym, add-one, drop-cons}
+use Rattle.std.proofs.Common.{◌≡◌, ℕ, ◌+◌, ◌<◌, ◌≤◌, List, length, drop, map, get_or, None, Result, Ok, Err, refl, sym, add-one, drop-cons}
 use Rattle.std.specs.Prelude.{IsUtf8}
 use Rattle.std.proofs.lemmas.List.{append-nil, drop_all}
 use Rattle.std.proofs.lemmas.Str.{IsUtf8-append}
@@ -17,9 +17,6 @@ pub record Continues (v : View) (nodes : List Node) (index : ℕ) (before now : 
   pub outcome : (after : Sunk) (answer : Result (Unit {0}) Error)
       → Outcome (run v (map shape (drop index nodes))) now after answer → Outcome (run v (map shape nodes)) before after answer
   pub text : IsUtf8 (written (run v (map shape (drop index nodes)))) → IsUtf8 (written (run v (map shape nodes)))
-
-pub Continues-start : (v : View) (nodes : List Node) (before : Sunk) → Continues v nodes 0 before before
-Continues-start v nodes before = record { outcome = λ after answer o. o; text = λ t. t }
 
 run-drop : (v : View) (nodes : List Node) (index : ℕ) (node : Node) → index < length nodes → node ≡ get_or nodes index node
     → run v (map shape (drop index nodes)) ≡ and_then (node_run v (shape node)) (run v (map shape (drop (index + 1) nodes)))

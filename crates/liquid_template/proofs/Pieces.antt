@@ -1,14 +1,12 @@
 -- How far one piece is written, and the outcomes of writing it.
-use Rattle.std.proofs.Common.{◌≡◌, ℕ, ◌+◌, ◌<◌, ◌⊎◌, List, [], ◌∷◌, ◌++◌, length, take, drop, Option, None, Some, Result, Ok, Err, refl, sym, ap, ◌∙◌, inl, inr, arith, append_assoc}
+use Rattle.std.proofs.Common.{◌≡◌, ℕ, ◌+◌, ◌<◌, ◌⊎◌, List, [], ◌∷◌, ◌++◌, length, Option, None, Some, Err, ap, ◌∙◌, inl, inr, arith}
 use Rattle.std.specs.Prelude.{MatchOption, IfSome}
-use Rattle.std.specs.List.{concat}
-use Rattle.std.proofs.lemmas.List.{append-nil, take-append-drop}
-use Rattle.std.proofs.lemmas.Grind.{common_steps}
+use Rattle.std.proofs.lemmas.List.{append-nil}
 use Rattle.liquid_scalar.specs.declared.error.Error.{Error}
 use Rattle.liquid_scalar.specs.Refusal.{Refusal}
 use Rattle.liquid_scalar.specs.Told.{told}
-use Rattle.liquid_template.specs.Run.{Run, one_piece, written}
-use Rattle.liquid_template.specs.Outcome.{Sunk, Whole, BrokenOff, Cut, Stopped, Outcome, failed_to_render}
+use Rattle.liquid_template.specs.Run.{one_piece}
+use Rattle.liquid_template.specs.Outcome.{Sunk, BrokenOff, Cut, Stopped, Outcome, failed_to_render}
 
 -- the sink took a part of the piece, and the rest is left
 pub record Partly (piece rest : List ℕ) (before now : Sunk) : Type 0 where
@@ -16,21 +14,6 @@ pub record Partly (piece rest : List ℕ) (before now : Sunk) : Type 0 where
   pub pieces : piece ≡ part ++ rest
   pub taken : now.taken ≡ before.taken ++ part
   pub failures : now.failures ≡ before.failures
-
-pub Partly-start : (piece : List ℕ) (before : Sunk) → Partly piece piece before before
-Partly-start piece before = record { part = []; pieces = refl; taken = sym (append-nil before.taken); failures = refl }
-
-pub Partly-put : (piece rest : List ℕ) (before now after : Sunk) (count : ℕ) → Partly piece rest before now
-    → after.taken ≡ now.taken ++ take count rest → after.failures ≡ now.failures + 0 → Partly piece (drop count rest) before after
-Partly-put piece rest before now after count p t f = record {
-  part = p.part ++ take count rest;
-  pieces = p.pieces ∙ rw (append_assoc, take-append-drop count rest);
-  taken = t ∙ rw (p.taken, append_assoc);
-  failures = omega (arith, f, p.failures);
-}
-
-pub Outcome-piece : (piece : List ℕ) (before now : Sunk) (done : Unit {0}) → Partly piece [] before now → Outcome (one_piece piece) before now (Ok done)
-Outcome-piece piece before now done p = (record { taken = p.taken ∙ rw (p.pieces, append-nil (p.part ++ []), append-nil p.part); failures = p.failures }, refl)
 
 piece_cut : (piece rest : List ℕ) (before now after : Sunk) → Partly piece rest before now
     → after.taken ≡ now.taken ++ [] → (after.failures ≡ now.failures + 0) ⊎ (after.failures ≡ now.failures + 1) → Cut (one_piece piece) before after
@@ -66,8 +49,3 @@ pub Outcome-failed : (piece rest : List ℕ) (before now after : Sunk) (e : Erro
     → after.taken ≡ now.taken ++ [] → after.failures ≡ now.failures + 1 → IfSome (told e) (λ r. r ≡ failed_to_render)
     → Outcome (one_piece piece) before after (Err e)
 Outcome-failed piece rest before now after e p some t f is = failed_cases piece rest before now after (told e) p some t f is
-
--- a put that found no memory cuts the piece
-pub Outcome-cut : (piece rest : List ℕ) (before now after : Sunk) (e : Error) → Partly piece rest before now
-    → after.taken ≡ now.taken ++ [] → after.failures ≡ now.failures + 0 → told e ≡ None → Outcome (one_piece piece) before after (Err e)
-Outcome-cut piece rest before now after e p t f none = rw none (piece_cut piece rest before now after p t (inl f))

@@ -1,14 +1,13 @@
 -- The outcome of one run and then another, from the outcomes of both.
-use Rattle.std.proofs.Common.{◌≡◌, ℕ, ◌+◌, ◌<◌, ◌⊎◌, List, [], ◌∷◌, ◌++◌, length, Option, None, Some, Result, Ok, Err, refl, sym, ap, ◌∙◌, subst, inl, inr, arith, append_assoc}
-use Rattle.std.specs.Prelude.{MatchOption, IfSome, IfNone}
+use Rattle.std.proofs.Common.{ℕ, List, ◌++◌, Option, None, Some, Result, Ok, Err, ◌∙◌, inl, inr, append_assoc}
+use Rattle.std.specs.Prelude.{MatchOption}
 use Rattle.std.specs.List.{concat}
-use Rattle.std.proofs.lemmas.List.{append-nil}
 use Rattle.std.proofs.lemmas.List.Folds.{concat-append}
 use Rattle.liquid_scalar.specs.declared.error.Error.{Error}
 use Rattle.liquid_scalar.specs.Refusal.{Refusal}
 use Rattle.liquid_scalar.specs.Told.{told}
-use Rattle.liquid_template.specs.Run.{Run, done, refused, goes_on, and_then, written}
-use Rattle.liquid_template.specs.Outcome.{Sunk, Whole, BrokenOff, Cut, Stopped, Outcome, failed_to_render}
+use Rattle.liquid_template.specs.Run.{Run, goes_on, and_then, written}
+use Rattle.liquid_template.specs.Outcome.{Sunk, Whole, BrokenOff, Cut, Stopped, Outcome}
 
 -- a run that was done, and then another one
 abbrev both : Run → Run → Run

@@ -1,5 +1,6 @@
-pub mod Put
-pub mod Run
+pub mod FaultText
 pub mod Outcome
-pub mod Template
+pub mod Put
 pub mod Rendering
+pub mod Run
+pub mod Template

@@ -1,5 +1,5 @@
 -- What writing a run to a sink comes to, by what the sink took and how often it failed.
-use Rattle.std.specs.Prelude.{◌≡◌, ℕ, ◌+◌, ◌<◌, ◌⊎◌, List, ◌∷◌, ◌++◌, length, Option, None, Some, Result, Ok, Err, MatchOption, codes}
+use Rattle.std.specs.Prelude.{◌≡◌, ℕ, ◌+◌, ◌<◌, ◌⊎◌, List, ◌∷◌, ◌++◌, length, None, Some, Result, Ok, Err, MatchOption, codes}
 use Rattle.std.specs.List.{concat}
 use Rattle.liquid_scalar.specs.declared.error.Error.{Error}
 use Rattle.liquid_scalar.specs.Refusal.{Refusal, plain}

@@ -4,7 +4,8 @@ ghost use Rattle.std.specs.Borrow.{ftrue};
 
 use std::marker::{Model, PhantomData};
 
-/// The bytes that a sink took and the count of its failures. It takes no memory, and its methods do nothing at run time.
+/// The bytes that a sink took and the count of its failures. It takes no memory, and its methods do
+/// nothing at run time.
 #[derive(Drop)]
 pub struct History {
     marker: PhantomData<u8>,
@@ -17,6 +18,8 @@ impl Model for History {
 }
 
 impl History {
+    /// Nothing has happened yet.
+    #[inline(always)]
     pub(crate) fn new() -> History
         ensures { (result.taken ≡ []) × (result.failures ≡ 0) }
     {
@@ -25,12 +28,14 @@ impl History {
         }
     }
 
-    /// Bytes were taken.
+    /// A piece was taken whole.
+    #[inline(always)]
     pub(crate) fn took(&mut self, _piece: &[u8])
         ensures { self.new ≡ record self.old { taken = self.old.taken ++ _piece.now } }
     {}
 
     /// A put failed.
+    #[inline(always)]
     pub(crate) fn failed(&mut self)
         ensures { self.new ≡ record self.old { failures = self.old.failures + 1 } }
     {}

@@ -1,4 +1,4 @@
-//! Rendering one node.
+//! Rendering nodes.
 ghost use Rattle.std.specs.Prelude.{◌≡◌, IsUtf8, OnOk, map};
 ghost use Rattle.liquid_value.specs.View.{view as tree_of};
 ghost use Rattle.liquid_value.specs.Render.{render};
@@ -14,11 +14,40 @@ use liquid_scalar::Error;
 use liquid_value::Value;
 use std::alloc::Global;
 
-/// Writes what the node comes to.
-pub(crate) fn render_node<K: Sink, R: Runtime>(alloc: Global, node: &Node, sink: &mut K, runtime: &R) -> Result<(), Error>
-    ensures outcome { Outcome (node_run (R.view runtime.now) (shape node.now)) (sunk (K.taken sink.old) (K.failures sink.old)) (sunk (K.taken sink.new) (K.failures sink.new)) result }
+/// Writes what the nodes come to, up to the first one that is refused.
+pub(crate) fn render_nodes<K: Sink, R: Runtime>(
+    alloc: Global,
+    nodes: &[Node],
+    sink: &mut K,
+    runtime: &R,
+) -> Result<(), Error>
+    ensures outcome { Outcome (run (R.view runtime.now) (map shape nodes.now))
+        (sunk (K.taken sink.old) (K.failures sink.old))
+        (sunk (K.taken sink.new) (K.failures sink.new)) result }
+    ensures text { OnOk result (IsUtf8 (written (run (R.view runtime.now) (map shape nodes.now)))) }
+    ensures began { K.began sink.new ≡ K.began sink.old }
+{
+    for node in nodes {
+        match render_node(alloc, node, sink, runtime) {
+            Ok(()) => {}
+            Err(error) => return Err(error),
+        }
+    }
+    Ok(())
+}
+
+// Writes what one node comes to.
+fn render_node<K: Sink, R: Runtime>(
+    alloc: Global,
+    node: &Node,
+    sink: &mut K,
+    runtime: &R,
+) -> Result<(), Error>
+    ensures outcome { Outcome (node_run (R.view runtime.now) (shape node.now))
+        (sunk (K.taken sink.old) (K.failures sink.old))
+        (sunk (K.taken sink.new) (K.failures sink.new)) result }
     ensures text { OnOk result (IsUtf8 (written (node_run (R.view runtime.now) (shape node.now)))) }
-    ensures behind { K.began sink.new ≡ K.began sink.old }
+    ensures began { K.began sink.new ≡ K.began sink.old }
 {
     match node {
         Node::Text(text) => write_piece(alloc, sink, text.as_str()),
@@ -31,27 +60,14 @@ pub(crate) fn render_node<K: Sink, R: Runtime>(alloc: Global, node: &Node, sink:
 
 // Writes the text that the value renders as.
 fn render_value<K: Sink>(alloc: Global, value: &Value, sink: &mut K) -> Result<(), Error>
-    ensures outcome { Outcome (one_piece (render (tree_of value.now))) (sunk (K.taken sink.old) (K.failures sink.old)) (sunk (K.taken sink.new) (K.failures sink.new)) result }
+    ensures outcome { Outcome (one_piece (render (tree_of value.now)))
+        (sunk (K.taken sink.old) (K.failures sink.old))
+        (sunk (K.taken sink.new) (K.failures sink.new)) result }
     ensures text { OnOk result (IsUtf8 (render (tree_of value.now))) }
-    ensures behind { K.began sink.new ≡ K.began sink.old }
+    ensures began { K.began sink.new ≡ K.began sink.old }
 {
     match value.to_kstr(alloc) {
         Ok(text) => write_piece(alloc, sink, text.as_str()),
         Err(_) => Err(Error::Memory),
     }
-}
-
-/// Writes what the nodes come to, up to the first one that is refused.
-pub(crate) fn render_nodes<K: Sink, R: Runtime>(alloc: Global, nodes: &[Node], sink: &mut K, runtime: &R) -> Result<(), Error>
-    ensures outcome { Outcome (run (R.view runtime.now) (map shape nodes.now)) (sunk (K.taken sink.old) (K.failures sink.old)) (sunk (K.taken sink.new) (K.failures sink.new)) result }
-    ensures text { OnOk result (IsUtf8 (written (run (R.view runtime.now) (map shape nodes.now)))) }
-    ensures behind { K.began sink.new ≡ K.began sink.old }
-{
-    for node in nodes {
-        match render_node(alloc, node, sink, runtime) {
-            Ok(()) => {}
-            Err(error) => return Err(error),
-        }
-    }
-    Ok(())
 }

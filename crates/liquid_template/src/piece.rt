@@ -7,11 +7,14 @@ use crate::sink::{Sink, SinkFault};
 use liquid_scalar::Error;
 use std::alloc::Global;
 
-/// Puts a piece until the sink has all of it; an empty piece makes no put. A failure of the sink is "Failed to render".
+/// Puts a piece until the sink has all of it; an empty piece makes no put. A failure of the sink is
+/// refused as "Failed to render".
 pub(crate) fn write_piece<K: Sink>(alloc: Global, sink: &mut K, piece: &str) -> Result<(), Error>
-    ensures outcome { Outcome (one_piece piece.now) (sunk (K.taken sink.old) (K.failures sink.old)) (sunk (K.taken sink.new) (K.failures sink.new)) result }
+    ensures outcome { Outcome (one_piece piece.now)
+        (sunk (K.taken sink.old) (K.failures sink.old))
+        (sunk (K.taken sink.new) (K.failures sink.new)) result }
     ensures text { OnOk result (IsUtf8 piece.now) }
-    ensures behind { K.began sink.new ≡ K.began sink.old }
+    ensures began { K.began sink.new ≡ K.began sink.old }
 {
     let mut rest = piece.as_bytes();
     while !rest.is_empty() {

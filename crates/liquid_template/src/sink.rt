@@ -1,8 +1,9 @@
 //! Where rendered bytes go.
-ghost use Rattle.std.specs.Prelude.{◌≡◌, ℕ, ◌+◌, ◌<◌, ◌≤◌, List, ◌++◌, length, None, Option, IfOk};
+ghost use Rattle.std.specs.Prelude.{◌≡◌, ℕ, ◌+◌, ◌<◌, ◌≤◌, List, ◌++◌, length, Option, None, Some, IfOk};
+ghost use Rattle.liquid_template.specs.FaultText.{fault_text};
 ghost use Rattle.liquid_template.specs.Put.{taken_part, failure_count};
 
-use std::fmt;
+use std::{error, fmt};
 
 /// Why a sink takes nothing of a piece.
 #[derive(Clone, Copy, Debug, PartialEq, Eq)]
@@ -14,6 +15,8 @@ pub enum SinkFault {
 }
 
 impl fmt::Display for SinkFault {
+    ghost output = { λ fault. Some (fault_text fault) };
+
     fn fmt<W: fmt::Write>(&self, f: &mut fmt::Formatter<W>) -> fmt::Result {
         match self {
             SinkFault::Failed => f.write_str("sink failed"),
@@ -22,7 +25,9 @@ impl fmt::Display for SinkFault {
     }
 }
 
-/// A place that bytes are written to, which means the bytes taken so far and how often a put failed.
+impl error::Error for SinkFault {}
+
+/// A place that bytes are written to. It means the bytes taken so far and how often a put failed.
 pub trait Sink {
     // every byte taken so far
     ghost taken: { Self → List ℕ };
@@ -33,14 +38,15 @@ pub trait Sink {
     // the bytes that lay behind the sink before its first put, where they are known
     ghost began: { Self → Option (List ℕ) } = { λ _. None };
 
-    /// Takes the first bytes of a piece, at least one, and answers how many; or takes nothing and answers why.
+    /// Takes the first bytes of a piece, at least one, and answers how many; or takes nothing and
+    /// answers why.
     fn put(&mut self, piece: &[u8]) -> Result<usize, SinkFault>
         requires { 0 < length piece.now }
         ensures some { IfOk result (λ count. 0 < count) }
         ensures bound { IfOk result (λ count. count ≤ length piece.now) }
         ensures bytes { taken self.new ≡ taken self.old ++ taken_part result piece.now }
         ensures count { failures self.new ≡ failures self.old + failure_count result }
-        ensures behind { began self.new ≡ began self.old };
+        ensures began { began self.new ≡ began self.old };
 }
 
 impl<K: Sink> Sink for &mut K {

@@ -13,8 +13,8 @@ use std::alloc::Global;
 
 /// Parses a text and writes what it comes to in the runtime's view.
 ///
-/// A text that is no template is refused before anything is written. What was written before any other refusal stays
-/// written, and a failure of the sink is refused as "Failed to render".
+/// A text that is no template is refused before anything is written. What was written before any
+/// other refusal stays written, and a failure of the sink is refused as "Failed to render".
 pub fn render_source<F, T, B, K: Sink, R: Runtime>(
     alloc: Global,
     text: &str,
@@ -22,10 +22,11 @@ pub fn render_source<F, T, B, K: Sink, R: Runtime>(
     runtime: &mut R,
     sink: &mut K,
 ) -> Result<(), Error>
-    ensures rendered { (answer : Answer) → Reads text.now answer
-        → Rendered answer (R.view runtime.old) (sunk (K.taken sink.old) (K.failures sink.old)) (sunk (K.taken sink.new) (K.failures sink.new)) result }
+    ensures rendered { (answer : Answer) → Reads text.now answer → Rendered answer (R.view runtime.old)
+        (sunk (K.taken sink.old) (K.failures sink.old))
+        (sunk (K.taken sink.new) (K.failures sink.new)) result }
     ensures runtime { R.view runtime.new ≡ R.view runtime.old }
-    ensures behind { K.began sink.new ≡ K.began sink.old }
+    ensures began { K.began sink.new ≡ K.began sink.old }
 {
     let nodes = parse(alloc, text, language)?;
     Template::new(nodes).render_to(alloc, sink, runtime)

@@ -30,11 +30,19 @@ impl Template {
 
     /// Writes what the template comes to in the runtime's view, piece by piece.
     ///
-    /// What was written before a refusal stays written. A failure of the sink is refused as "Failed to render".
-    pub fn render_to<K: Sink, R: Runtime>(&self, alloc: Global, sink: &mut K, runtime: &mut R) -> Result<(), Error>
-        ensures outcome { Outcome (run (R.view runtime.old) (template_shapes self.now)) (sunk (K.taken sink.old) (K.failures sink.old)) (sunk (K.taken sink.new) (K.failures sink.new)) result }
+    /// What was written before a refusal stays written. A failure of the sink is refused as
+    /// "Failed to render". At want of memory a beginning of the text is written.
+    pub fn render_to<K: Sink, R: Runtime>(
+        &self,
+        alloc: Global,
+        sink: &mut K,
+        runtime: &mut R,
+    ) -> Result<(), Error>
+        ensures outcome { Outcome (run (R.view runtime.old) (template_shapes self.now))
+            (sunk (K.taken sink.old) (K.failures sink.old))
+            (sunk (K.taken sink.new) (K.failures sink.new)) result }
         ensures text { OnOk result (IsUtf8 (written (run (R.view runtime.old) (template_shapes self.now)))) }
-        ensures behind { K.began sink.new ≡ K.began sink.old }
+        ensures began { K.began sink.new ≡ K.began sink.old }
         ensures runtime { R.view runtime.new ≡ R.view runtime.old }
     {
         render_nodes(alloc, self.nodes.as_slice(), sink, &*runtime)
@@ -42,7 +50,8 @@ impl Template {
 
     /// The text that the template comes to in the runtime's view.
     pub fn render<R: Runtime>(&self, alloc: Global, runtime: &mut R) -> Result<String, Error>
-        ensures value { Gives string_bytes result (whole_text (run (R.view runtime.old) (template_shapes self.now))) }
+        ensures value { Gives string_bytes result
+            (whole_text (run (R.view runtime.old) (template_shapes self.now))) }
         ensures runtime { R.view runtime.new ≡ R.view runtime.old }
     {
         let mut sink = TextSink::new(alloc);

@@ -15,7 +15,8 @@ pub struct WriterSink<W: Write> {
     first: Snapshot<W>,
     history: History,
     // where the writer tells its bytes, they are those that it began with and then those taken
-    ghost written: { (bytes : List ℕ) → W.contents first.value ≡ Some bytes → W.contents writer ≡ Some (bytes ++ history.taken) },
+    ghost written: { (bytes : List ℕ) → W.contents first.value ≡ Some bytes
+        → W.contents writer ≡ Some (bytes ++ history.taken) },
 }
 
 impl<W: Write> WriterSink<W> {
@@ -23,7 +24,7 @@ impl<W: Write> WriterSink<W> {
     pub fn new(writer: W) -> WriterSink<W>
         ensures nothing { ⟦<WriterSink<W> as Sink>⟧.taken result ≡ [] }
         ensures none { ⟦<WriterSink<W> as Sink>⟧.failures result ≡ 0 }
-        ensures behind { ⟦<WriterSink<W> as Sink>⟧.began result ≡ W.contents writer }
+        ensures began { ⟦<WriterSink<W> as Sink>⟧.began result ≡ W.contents writer }
     {
         let first = Snapshot::of(&writer);
         WriterSink {

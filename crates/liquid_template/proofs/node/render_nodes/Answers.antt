@@ -9,7 +9,7 @@ returns-in-Err-clause-outcome g c =
 pub loop-node-preserved : goal.loop-node-preserved
 loop-node-preserved g c = record {
   continues = Continues-next _ _ c.loop-node.node-index c.node-item.result _ _ _ tt c.loop-node-test.true c.node-item.is c.loop-node.invariant.continues c.in-Ok.ensures.outcome c.in-Ok.ensures.text;
-  behind = c.in-Ok.ensures.behind ∙ c.loop-node.invariant.behind;
+  began = c.in-Ok.ensures.began ∙ c.loop-node.invariant.began;
 }
 
 pub returns-clause-outcome : goal.returns-clause-outcome

@@ -7,5 +7,5 @@ abbrev pub invariant-loop-node : goal.invariant-loop-node
 invariant-loop-node g l = record {
   continues : Continues (g.R.Runtime.view l.runtime) l.nodes l.node-index
       (sunk (g.K.Sink.taken l.initial.sink) (g.K.Sink.failures l.initial.sink)) (sunk (g.K.Sink.taken l.sink) (g.K.Sink.failures l.sink));
-  behind : g.K.Sink.began l.sink ≡ g.K.Sink.began l.initial.sink
+  began : g.K.Sink.began l.sink ≡ g.K.Sink.began l.initial.sink;
 }

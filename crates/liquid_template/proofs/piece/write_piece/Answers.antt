@@ -1,4 +1,4 @@
-use Rattle.std.proofs.Common.{rules, ◌<◌, length, arith}
+use Rattle.std.proofs.Common.{rules}
 use Rattle.liquid_template.proofs.Pieces.{Outcome-failed}
 use Rattle.liquid_template.proofs.piece.write_piece.Goals as goal
 

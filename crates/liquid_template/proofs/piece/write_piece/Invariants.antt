@@ -6,7 +6,7 @@ use Rattle.liquid_template.proofs.piece.write_piece.Given as goal
 abbrev pub invariant-loop-rest : goal.invariant-loop-rest
 invariant-loop-rest g l = record {
   partly : Partly l.piece l.rest (sunk (g.K.Sink.taken l.initial.sink) (g.K.Sink.failures l.initial.sink)) (sunk (g.K.Sink.taken l.sink) (g.K.Sink.failures l.sink));
-  behind : g.K.Sink.began l.sink ≡ g.K.Sink.began l.initial.sink
+  began : g.K.Sink.began l.sink ≡ g.K.Sink.began l.initial.sink;
 }
 
 abbrev pub decreases-loop-rest : goal.decreases-loop-rest

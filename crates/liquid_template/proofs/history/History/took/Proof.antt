@@ -1,21 +1,19 @@
 -- An empty body. The borrow is opened and closed at another ghost value.
-use Rattle.std.proofs.Common.{ℕ, ◌<◌, ◌^◌, List, [], ◌∷◌, ◌++◌, refl, length, MutBor}
+use Rattle.std.proofs.Common.{[], ◌∷◌, ◌++◌, refl}
 use Rattle.std.proofs.raw_atomic.Walks.{proved}
 use base.Logic.{id⊢}
-use base.Fml.{Fml, ftrue, flft}
+use base.Fml.{ftrue, flft}
 use mir.Syntax.{named}
 use mir.Val.{vunit}
-use contract.Running.{tables}
-use types.Kit.{‵, ◌⊛◌, ◌$◌, ◌∵◌, !, qed, done, move, keep, use1, split, join, fsplit, fsplit3, fjoin, feq_i, suffices, frame, group}
+use types.Kit.{‵, ◌⊛◌, ◌$◌, ◌∵◌, !, qed, done, move, keep, use1, split, join, fsplit3, feq_i, suffices, frame, group}
 use types.Run.{enter, of_opd, unit_lit, returns}
 use types.ByLocal.{alloc_all, pass_all, free_all, look_at, sets}
 use denote.Builtin.{u8}
 use denote.Exit.{yes}
 use denote.Ref.{MutRef, mut_vals, mut_Tells}
-use denote.RattleType.{owns}
 use denote.Signature.{plain}
 use denote.Slice.{ShrSlice, shr_slice_vals, shr_slice_Tells}
-use denote.Steps.{nothing, opens, closes}
+use denote.Steps.{opens, closes}
 use denote.Triple.Walked.{Stays, walk_of, says, stay_ref, stay_none_slice, Goes-ref, Goes-none_slice, ends_at}
 use Rattle.liquid_template.specs.contracts.history.History.took as f
 use Rattle.liquid_template.specs.contracts.history.History.{the_row as R}
