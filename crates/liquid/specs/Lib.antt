@@ -1,3 +1,5 @@
 pub mod Command
 pub mod Files
 pub mod Globals
+pub mod Program
+pub mod Status

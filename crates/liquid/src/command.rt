@@ -2,9 +2,6 @@ ghost use Rattle.std.specs.Prelude.{◌≡◌, ◌++◌, ◌∷◌, [], ℕ, Lis
 ghost use Rattle.std.specs.List.{list_all};
 ghost use Rattle.liquid.specs.Command.{is_command, is_assignment, is_path, is_verb, name_of, text_of};
 
-/// The one line that says how the program is called.
-pub const USAGE: &str = "usage: liquid render TEMPLATE [NAME=TEXT]...";
-
 /// `render TEMPLATE [NAME=TEXT]...`: the path of a template, and the words that set globals.
 #[derive(Clone, Copy)]
 pub struct Command<'w> {

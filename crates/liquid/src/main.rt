@@ -2,6 +2,7 @@
 #![tactic(auto)]
 
 pub mod command;
+pub mod fault;
 pub mod folder;
 pub mod globals;
 pub mod run;

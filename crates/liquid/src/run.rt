@@ -1,4 +1,11 @@
+ghost use Rattle.std.specs.Prelude.{◌≡◌, ◌≢◌, ◌↔◌, false, true, map, string_bytes};
+ghost use Rattle.liquid.specs.Command.{is_command};
+ghost use Rattle.liquid.specs.Globals.{globals_of};
+ghost use Rattle.liquid.specs.Program.{Renders, Treats, Runs};
+ghost use Rattle.liquid.specs.Status.{exit_status};
+
 use crate::command::Command;
+use crate::fault::Fault;
 use crate::folder::{Folder, Unread};
 use crate::globals::globals;
 use liquid_core::parser::Language;
@@ -6,15 +13,6 @@ use liquid_core::runtime::RuntimeBuilder;
 use liquid_core::{Error, WriterSink, render_source};
 use std::alloc::Global;
 use std::io::Write;
-
-/// Why the program stops.
-#[derive(Debug, Drop, thiserror::Error)]
-pub enum Stop<'w> {
-    #[error("liquid: cannot read {0}")]
-    Unreadable(&'w str),
-    #[error("{0}")]
-    Refused(Error),
-}
 
 /// Runs the command that the words behind the program's name give: `render TEMPLATE [NAME=TEXT]...`
 /// writes the template at that path to `out`, with each NAME a global text.
@@ -29,41 +27,71 @@ pub fn run<F: Folder, W: Write, E: Write>(
     files: &mut F,
     out: &mut W,
     err: &mut E,
-) -> u8 {
-    let Some(command) = Command::from_words(words) else {
-        let _ = writeln!(err, "usage: liquid render TEMPLATE [NAME=TEXT]...");
-        return 2;
-    };
-    match attempt(alloc, command, files, out) {
+) -> u8
+    ensures usage { (result ≡ 2) ↔ (is_command (map string_bytes words.now) ≡ false) }
+    ensures runs { is_command (map string_bytes words.now) ≡ true
+        → Runs (map string_bytes words.now) (F.known files.old) (W.contents out.old) (W.contents out.new) result }
+{
+    match attempt(alloc, words, files, out) {
         Ok(()) => 0,
-        Err(Stop::Unreadable(path)) => {
-            let _ = writeln!(err, "liquid: cannot read {path}");
-            3
-        }
-        Err(Stop::Refused(error)) => {
-            let _ = write!(err, "{error}");
-            1
+        Err(fault) => {
+            let _ = write!(err, "{fault}");
+            fault.status()
         }
     }
 }
 
 fn attempt<'w, F: Folder, W: Write>(
     alloc: Global,
+    words: &'w [String],
+    files: &mut F,
+    out: &mut W,
+) -> Result<(), Fault<'w>>
+    ensures usage { (exit_status result ≡ 2) ↔ (is_command (map string_bytes words.now) ≡ false) }
+    ensures runs { is_command (map string_bytes words.now) ≡ true
+        → Runs (map string_bytes words.now) (F.known files.old) (W.contents out.old) (W.contents out.new) (exit_status result) }
+{
+    match Command::from_words(words) {
+        Some(command) => render_file(alloc, command, files, out),
+        None => Err(Fault::Usage),
+    }
+}
+
+/// Reads the template and writes what it comes to.
+fn render_file<'w, F: Folder, W: Write>(
+    alloc: Global,
     command: Command<'w>,
     files: &mut F,
     out: &mut W,
-) -> Result<(), Stop<'w>> {
-    let bytes = match files.read(alloc, command.template) {
-        Ok(bytes) => bytes,
-        Err(Unread::Fault) => return Err(Stop::Unreadable(command.template)),
-        Err(Unread::Memory) => return Err(Stop::Refused(Error::Memory)),
-    };
-    match str::from_utf8(bytes.as_slice()) {
+) -> Result<(), Fault<'w>>
+    ensures command { exit_status result ≢ 2 }
+    ensures treats { Treats (F.known files.old command.template.now) (globals_of (map string_bytes command.assignments.now))
+        (W.contents out.old) (W.contents out.new) (exit_status result) }
+{
+    match files.read(alloc, command.template) {
+        Ok(bytes) => render_bytes(alloc, bytes.as_slice(), command, out),
+        Err(Unread::Fault) => Err(Fault::Unreadable(command.template)),
+        Err(Unread::Memory) => Err(Fault::Refused(Error::Memory)),
+    }
+}
+
+/// Writes what the bytes of a template come to.
+fn render_bytes<'w, W: Write>(
+    alloc: Global,
+    bytes: &[u8],
+    command: Command<'w>,
+    out: &mut W,
+) -> Result<(), Fault<'w>>
+    ensures command { exit_status result ≢ 2 }
+    ensures treats { Treats (Some (Some bytes.now)) (globals_of (map string_bytes command.assignments.now))
+        (W.contents out.old) (W.contents out.new) (exit_status result) }
+{
+    match str::from_utf8(bytes) {
         Ok(text) => match render(alloc, text, command.assignments, out) {
             Ok(()) => Ok(()),
-            Err(error) => Err(Stop::Refused(error)),
+            Err(error) => Err(Fault::Refused(error)),
         },
-        Err(_) => Err(Stop::Unreadable(command.template)),
+        Err(_) => Err(Fault::Unreadable(command.template)),
     }
 }
 
@@ -73,7 +101,9 @@ fn render<W: Write>(
     text: &str,
     assignments: &[String],
     out: &mut W,
-) -> Result<(), Error> {
+) -> Result<(), Error>
+    ensures { Renders text.now (globals_of (map string_bytes assignments.now)) (W.contents out.old) (W.contents out.new) result }
+{
     let object = globals(alloc, assignments)?;
     let mut runtime = RuntimeBuilder::new(alloc).set_globals(object).build();
     let mut sink = WriterSink::new(&mut *out);

@@ -1,0 +1,13 @@
+-- The exit status of the program.
+use Rattle.std.specs.Prelude.{ℕ, Result, Ok, Err}
+use Rattle.liquid.specs.declared.fault.Fault.{Fault}
+use Rattle.liquid.specs.declared.fault.Fault.TheVariants.{Refused, Usage, Unreadable}
+
+abbrev pub fault_status : Fault → ℕ
+fault_status (Refused error) = 1
+fault_status Usage = 2
+fault_status (Unreadable path) = 3
+
+abbrev pub exit_status : Result (Unit {0}) Fault → ℕ
+exit_status (Ok _) = 0
+exit_status (Err fault) = fault_status fault
