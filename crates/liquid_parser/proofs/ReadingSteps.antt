@@ -1,5 +1,5 @@
 -- The reading of a text, element by element: what an unfinished reading keeps, how it goes on, and how it ends.
-use Rattle.std.proofs.Common.{◌≡◌, ℕ, ◌-◌, List, [], ◌∷◌, ◌++◌, length, take, Option, None, Some, Result, Ok, Err, IfSome, append_assoc, refl, sym, ap, ◌∙◌, subst}
+use Rattle.std.proofs.Common.{◌≡◌, ℕ, List, [], ◌∷◌, ◌++◌, Option, None, Some, Result, Ok, Err, IfSome, append_assoc, refl, sym, ap, ◌∙◌, subst}
 use Rattle.std.specs.Global.{Vec}
 use Rattle.std.proofs.lemmas.List.{append-nil}
 use Rattle.liquid_scalar.specs.declared.error.Error.{Error}
@@ -10,7 +10,7 @@ use Rattle.liquid_grammar.specs.CoverLaws.{cover_of}
 use Rattle.liquid_parser.specs.declared.node.Node.{Node}
 use Rattle.liquid_parser.specs.Tree.{NodeShape, text, name, shapes}
 use Rattle.liquid_parser.specs.Reading.{Answer, Answers, Reads, OneReading, answer, before_brace, invalid_liquid, with_node}
-use Rattle.liquid_parser.proofs.Brace.{Braced-from, front_of_brace}
+use Rattle.liquid_parser.proofs.Brace.{Braced-from}
 
 -- an answer behind nodes that are there already
 abbrev pub with_nodes : List NodeShape → Answer → Answer
@@ -52,8 +52,8 @@ Goes-node {nodes = nodes} {e = e} n g is gives = record {
   front = g.front ++ text_of e;
   joined = g.joined ∙ (ap (λ r. g.front ++ r) is.joined ∙ sym (append_assoc g.front (text_of e) _));
   onward = λ es c.
-    let w = g.onward (e ∷ es) (next is c) in
-    (w.0, w.1, w.2 ∙ (ap (with_nodes nodes) (answer-node g.front e n es gives) ∙ with_nodes-push nodes n _));
+      let w = g.onward (e ∷ es) (next is c) in
+      (w.0, w.1, w.2 ∙ (ap (with_nodes nodes) (answer-node g.front e n es gives) ∙ with_nodes-push nodes n _));
 }
 
 -- where nothing is left, the nodes are what the text is read as

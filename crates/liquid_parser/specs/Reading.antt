@@ -5,7 +5,7 @@ use Rattle.liquid_scalar.specs.declared.place.Place.{Place}
 use Rattle.liquid_scalar.specs.declared.error.Error.{Error}
 use Rattle.liquid_scalar.specs.Refusal.{Refusal, located}
 use Rattle.liquid_scalar.specs.Told.{told}
-use Rattle.liquid_grammar.specs.Cover.{Element, raw, expression, invalid, text_of, Cover}
+use Rattle.liquid_grammar.specs.Cover.{Element, raw, expression, invalid, Cover}
 use Rattle.liquid_grammar.specs.Place.{line_and_column}
 use Rattle.liquid_parser.specs.declared.node.Node.{Node}
 use Rattle.liquid_parser.specs.Tree.{NodeShape, text, name, shapes}

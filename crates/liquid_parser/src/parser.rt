@@ -26,8 +26,7 @@ pub fn parse<F, T, B>(
 /// Each text is read as exactly one answer.
 pub fn one_reading()
     ensures { OneReading }
-{
-}
+{}
 
 fn nodes_of(alloc: Global, text: &str) -> Result<Vec<Node>, Error>
     ensures { Answers text.now result }

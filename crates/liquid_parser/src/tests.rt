@@ -55,8 +55,9 @@ fn invalid_liquid_is_refused_at_its_brace(rt: HostRuntime) -> Result<(), Fail> {
             Err(error) => {
                 assert_eq!(rt; error.place(), Some(Place { line, column }), "at {text:?}");
                 let printed = format!(in rt.alloc(); "{error}")?;
-                let wanted =
-                    format!(in rt.alloc(); "liquid: Invalid liquid (line {line}, column {column})\n")?;
+                let wanted = format!(in rt.alloc();
+                    "liquid: Invalid liquid (line {line}, column {column})\n"
+                )?;
                 assert_eq!(rt; printed.as_str(), wanted.as_str());
             }
         }
