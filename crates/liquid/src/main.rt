@@ -5,8 +5,57 @@ pub mod command;
 pub mod fault;
 pub mod folder;
 pub mod globals;
+pub mod machine;
 pub mod run;
 #[cfg(test)]
 mod tests;
 
-fn main() {}
+use fault::Fault;
+use liquid_core::Error;
+use machine::Machine;
+use run::run;
+use std::io::{BufWriter, Write};
+use std::process::ExitCode;
+use std::{env, io};
+
+/// The words behind the program's name.
+fn words(rt: &HostRuntime) -> Result<Vec<String>, Fault<'static>> {
+    match env::args(rt) {
+        Ok(args) => match args.skip(1).collect(rt.alloc()) {
+            Ok(words) => Ok(words),
+            Err(_) => Err(Fault::Refused(Error::Memory)),
+        },
+        Err(error) => match error.kind() {
+            io::ErrorKind::OutOfMemory => Err(Fault::Refused(Error::Memory)),
+            _ => Err(Fault::Usage),
+        },
+    }
+}
+
+/// Runs the words over the machine's files and streams. Output is gathered, and written out at the
+/// end at the latest.
+fn serve(rt: &HostRuntime) -> Result<u8, Fault<'static>> {
+    let words = words(rt)?;
+    let output = rt.stdout();
+    let Ok(mut out) = BufWriter::new(rt.alloc(), io::writer(&output)) else {
+        return Err(Fault::Refused(Error::Memory));
+    };
+    let errors = rt.stderr();
+    let mut err = io::writer(&errors);
+    let mut files = Machine { rt };
+    let status = run(rt.alloc(), words.as_slice(), &mut files, &mut out, &mut err);
+    if out.flush().is_err() && status == 0 {
+        return Err(Fault::Refused(Error::with_msg(rt.alloc(), "Failed to render")));
+    }
+    Ok(status)
+}
+
+fn main(rt: HostRuntime) -> ExitCode {
+    match serve(&rt) {
+        Ok(status) => ExitCode::from(status),
+        Err(fault) => {
+            let _ = rt.eprint(format_args!("{fault}"));
+            ExitCode::from(fault.status())
+        }
+    }
+}

@@ -1,0 +1,41 @@
+//! The machine's own files.
+use crate::folder::{Folder, Unread};
+use std::alloc::Global;
+use std::rt::Files;
+use std::{fs, io};
+
+/// The files of the machine that the runtime stands for.
+#[derive(Drop)]
+pub struct Machine<'a, R> {
+    pub rt: &'a R,
+}
+
+fn unread(error: io::Error) -> Unread {
+    match error.kind() {
+        io::ErrorKind::OutOfMemory => Unread::Memory,
+        _ => Unread::Fault,
+    }
+}
+
+impl<R: Files + AllocGlobal + Clone + Drop> Folder for Machine<'_, R> {
+    fn read(&mut self, _alloc: Global, path: &str) -> Result<Vec<u8>, Unread> {
+        fs::read(self.rt, path).map_err(unread)
+    }
+
+    fn list(&mut self, alloc: Global, path: &str) -> Result<Vec<String>, Unread> {
+        let mut names = Vec::new(alloc);
+        for entry in fs::read_dir(self.rt, path).map_err(unread)? {
+            let entry = entry.map_err(unread)?;
+            if fs::metadata(self.rt, entry.path())
+                .map_err(unread)?
+                .is_file()
+            {
+                let name = String::from_str(alloc, entry.file_name());
+                names
+                    .push(name.map_err(|_| Unread::Memory)?)
+                    .map_err(|_| Unread::Memory)?;
+            }
+        }
+        Ok(names)
+    }
+}
