@@ -178,3 +178,48 @@ ahead_complete F s rest a m =
 
 pub exact-ahead : {A : Type 0} {f : Reader A} {R : Rule A} → Exact f R → Exact (ahead f) (Ahead R)
 exact-ahead F = record { sound = ahead_sound F; complete = ahead_complete F; cuts = λ s rest a m. ([], sym m.stays) }
+
+-- what an exact reader leaves is an end of the text
+pub leaves_end : {A : Type 0} {f : Reader A} {R : Rule A} → Exact f R → (s rest : List ℕ) → Some rest ≡ option_map (λ p. p.1) (f s) → (front : List ℕ) × (s ≡ front ++ rest)
+leaves_end {f = f} F s rest e =
+    option_map_some (λ p. p.1) (f s) rest (sym e) (λ x fx q.
+        let cut = F.cuts s x.1 x.0 (F.sound s x.1 x.0 fx) in
+        (cut.0, cut.1 ∙ ap (λ y. cut.0 ++ y) q))
+
+-- an end of an end is an end
+pub end_of_end : (s middle rest : List ℕ) → (front : List ℕ) × (s ≡ front ++ middle) → (front : List ℕ) × (middle ≡ front ++ rest) → s ≡ take (length s - length rest) s ++ rest
+end_of_end s middle rest a b =
+    let e : s ≡ (a.0 ++ b.0) ++ rest = a.1 ∙ ap (λ y. a.0 ++ y) b.1 ∙ sym (append_assoc a.0 b.0 rest) in
+    e ∙ ap (λ x. x ++ rest) (sym (front_of s (a.0 ++ b.0) rest e))
+
+-- a match takes something
+abbrev pub Shrinks : {A : Type 0} → Rule A → Type 0
+Shrinks {A} R = (s rest : List ℕ) (a : A) → R s rest a → length rest < length s
+
+cuts_le : {A : Type 0} {R : Rule A} → Cuts R → (s rest : List ℕ) (a : A) → R s rest a → length rest ≤ length s
+cuts_le cuts s rest a m = let cut = cuts s rest a m in omega (arith, ap length cut.1, length-append cut.0 rest)
+
+pub shrinks-one : (p : ℕ → Bool) → Shrinks (One p)
+shrinks-one p s rest b m = omega (arith, ap length m.front)
+
+pub shrinks-first : {A B : Type 0} {R : Rule A} {S : Rule B} → Shrinks R → Cuts S → Shrinks (Then R S)
+shrinks-first F G s rest a m =
+    let x = F s m.middle a.0 m.before in
+    let y = cuts_le G m.middle rest a.1 m.after in
+    omega arith
+
+pub shrinks-second : {A B : Type 0} {R : Rule A} {S : Rule B} → Cuts R → Shrinks S → Shrinks (Then R S)
+shrinks-second F G s rest a m =
+    let x = cuts_le F s m.middle a.0 m.before in
+    let y = G m.middle rest a.1 m.after in
+    omega arith
+
+pub shrinks-seen : {A B : Type 0} (h : A → B) {R : Rule A} → Shrinks R → Shrinks (Seen h R)
+shrinks-seen h F s rest b m = F s rest m.from m.match
+
+pub shrinks-else : {A : Type 0} {R S : Rule A} → Shrinks R → Shrinks S → Shrinks (Else R S)
+shrinks-else F G s rest a (here m) = F s rest a m
+shrinks-else F G s rest a (instead h m) = G s rest a m
+
+pub shrinks-text : {A : Type 0} {R : Rule A} → Shrinks R → Shrinks (Text R)
+shrinks-text F s rest t m = F s rest m.shape m.match

@@ -9,7 +9,7 @@ use Rattle.liquid_grammar.specs.Bytes.{is_white, starts_name, is_word}
 use Rattle.liquid_grammar.specs.Rules.{Rule, Begins, One, Then, Else, here, instead, Repeated, ends, more, Seen, Where, Text, Ahead, Byte, ◌▷◌, ◌◁◌}
 use Rattle.liquid_grammar.specs.Grammar.{White, Braces, Opener, Closer, AnyOpener, NameByte, Identifier, is_literal_word, Name, Expression, LoneBrace}
 use Rattle.liquid_grammar.specs.Steps.{Reader, one, byte, both, either, seen, only, text, ahead, right, left, run, white, braces, dashed_opener, opener, any_opener, dashed_closer, closer, is_name_byte, name_len, name_bytes, identifier, name, expression, lone_brace}
-use Rattle.liquid_grammar.proofs.Exact.{Exact, same_match, none_begins, finds_none, exact-one, exact-byte, exact-both, exact-either, exact-seen, exact-right, exact-left, exact-only, exact-text, exact-ahead}
+use Rattle.liquid_grammar.proofs.Exact.{Exact, same_match, none_begins, finds_none, exact-one, exact-byte, exact-both, exact-either, exact-seen, exact-right, exact-left, exact-only, exact-text, exact-ahead, Shrinks, shrinks-one, shrinks-first, shrinks-second, shrinks-seen, shrinks-else, shrinks-text}
 
 -- R takes one byte at a time, which is its shape
 abbrev pub TakesBytes : Rule ℕ → Type 0
@@ -121,7 +121,7 @@ takes_name_byte s rest b (here m) = m.front
 takes_name_byte s rest b (instead h m) =
     m.match.before.front ∙ ap₂ (λ x y. x ∷ y) (sym m.is) (sym m.match.after.stays)
 
-is_some-map : {A B : Type 0} (f : A → B) (o : Option A) → is_some (option_map f o) ≡ is_some o
+pub is_some-map : {A B : Type 0} (f : A → B) (o : Option A) → is_some (option_map f o) ≡ is_some o
 is_some-map f (Some x) = refl
 is_some-map f None = refl
 
@@ -171,3 +171,16 @@ exact-expression = exact-left (exact-left (exact-right (exact-right (exact-opene
 pub exact-lone_brace : Exact lone_brace LoneBrace
 unfolding lone_brace
 exact-lone_brace = exact-text (exact-both exact-white (exact-byte 123))
+
+-- rules that take something
+pub shrinks-opener : (kind : ℕ) → Shrinks (Opener kind)
+shrinks-opener kind =
+    shrinks-else (shrinks-seen (λ p. p.1) (shrinks-second (exact-right exact-white (exact-braces kind)).cuts (shrinks-one (λ c. c == 45))))
+    (shrinks-seen (λ p. p.1) (shrinks-first (shrinks-one (λ c. c == 123)) (exact-byte kind).cuts))
+
+pub shrinks-expression : Shrinks Expression
+shrinks-expression =
+    shrinks-seen (λ p. p.0) (shrinks-first (shrinks-seen (λ p. p.0) (shrinks-first (shrinks-seen (λ p. p.1) (shrinks-first (shrinks-seen (λ p. p.1) (shrinks-first (shrinks-opener 123) exact-white.cuts)) exact-name.cuts)) exact-white.cuts)) (exact-closer 125).cuts)
+
+pub shrinks-lone_brace : Shrinks LoneBrace
+shrinks-lone_brace = shrinks-text (shrinks-second exact-white.cuts (shrinks-one (λ c. c == 123)))

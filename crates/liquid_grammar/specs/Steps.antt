@@ -1,10 +1,11 @@
 -- Readers: what each rule finds, computed. They lead from code to rules, and no public clause names them.
-use Rattle.std.specs.Prelude.{◌≡◌, ℕ, ◌-◌, ◌+◌, ◌==◌, ◌&&◌, ◌||◌, Bool, cond, not, List, [], ◌∷◌, length, take, drop, slice_index, Option, Some, None, option_map, option_and_then, is_some}
+use Rattle.std.specs.Prelude.{◌≡◌, ℕ, ◌-◌, ◌+◌, ◌<◌, ◌==◌, ◌&&◌, ◌||◌, Bool, cond, not, List, [], ◌∷◌, length, take, drop, slice_index, Option, Some, None, option_map, option_and_then, is_some}
 use Rattle.std.specs.Option.{option_or}
 use Rattle.std.specs.List.{prefix_len}
+use Rattle.std.specs.Str.{IsCharBoundary}
 use Rattle.std.specs.Borrow.{Bor}
 use Rattle.liquid_grammar.specs.Bytes.{is_white, starts_name, is_word}
-use Rattle.liquid_grammar.specs.Grammar.{is_literal_word}
+use Rattle.liquid_grammar.specs.Grammar.{Opens, is_literal_word}
 
 -- a shape, and what is left of the text
 abbrev pub Reader : Type 0 → Type 0
@@ -91,6 +92,16 @@ expression = left (left (right (right (opener 123) white) name) white) (closer 1
 
 unfoldable pub lone_brace : Reader (List ℕ)
 lone_brace = text (both white (byte 123))
+
+-- `{{` or `{%` stands at the index
+abbrev pub begins_braces : List ℕ → ℕ → Bool
+begins_braces s at = slice_index s at == 123 && (slice_index s (at + 1) == 123 || slice_index s (at + 1) == 37)
+
+-- raw text at the beginning of s ends before the index n
+pub record EndsRaw (s : List ℕ) (n : ℕ) : Type 0 where
+  pub closed : (k : ℕ) → k < n → ¬ (Opens (drop k s))
+  pub stops : n < length s → Opens (drop n s)
+  pub boundary : IsCharBoundary s n
 
 -- the result is what the reader found
 abbrev pub Finds : Option (Bor (List ℕ) × Bor (List ℕ)) → Option (List ℕ × List ℕ) → Type 0

@@ -4,10 +4,12 @@ ghost use Rattle.liquid_grammar.specs.Grammar.{Opens};
 ghost use Rattle.liquid_grammar.specs.Cover as spec;
 ghost use Rattle.liquid_grammar.specs.Cover.{IsElement};
 ghost use Rattle.liquid_grammar.specs.Elements.{element_of, taken_of};
+ghost use Rattle.liquid_grammar.specs.Steps as read;
+ghost use Rattle.liquid_grammar.specs.Steps.{Finds};
 
 use crate::expression::expression;
 use crate::raw::raw_len;
-use crate::text::{before, eat, split_white};
+use crate::text::{before, eat, skip_white};
 
 /// A part of a template: text to be written as it stands, an expression, or what is neither.
 #[derive(Clone, Copy, Debug, PartialEq, Eq)]
@@ -43,10 +45,18 @@ fn marked<'a>(s: &'a str) -> (Element<'a>, &'a str)
 {
     match expression(s) {
         Some((found, rest)) => (Element::Expression(found, before(s, rest)), rest),
-        None => {
-            let (_, after) = split_white(s);
-            let rest = eat(after, b'{').unwrap_or(after);
-            (Element::Invalid(before(s, rest)), rest)
-        }
+        None => match lone_brace(s) {
+            Some((brace, rest)) => (Element::Invalid(brace), rest),
+            None => unreachable!(),
+        },
     }
+}
+
+/// White space and one `{`, and what follows them.
+#[tactic(auto, unfolding(crate::specs::Steps::lone_brace, crate::specs::Steps::white))]
+fn lone_brace(s: &str) -> Option<(&str, &str)>
+    ensures { Finds result (read.lone_brace s.now) }
+{
+    let rest = eat(skip_white(s), b'{')?;
+    Some((before(s, rest), rest))
 }

@@ -13,8 +13,8 @@ pub(crate) fn identifier(s: &str) -> Option<(&str, &str)>
     ensures shorter { IfSome result (λ x. length x.1.now < length s.now) }
 {
     let bytes = s.as_bytes();
-    if starts_name(byte_at(bytes, 0)) {
-        Some(s.split_at(1 + name_len(&bytes[1..])))
+    if bytes.len() > 0 && starts_name(bytes[0]) {
+        Some(s.split_at(1 + name_len(bytes.split_at(1).1)))
     } else {
         None
     }
@@ -47,6 +47,7 @@ pub(crate) fn is_literal_word(word: &str) -> bool
 }
 
 /// How many name bytes there are in front: a dash counts only where a word byte follows it.
+#[tactic(auto, using(crate::proofs::TextLemmas::name_len_turn, crate::proofs::TextLemmas::name_len_end))]
 fn name_len(bytes: &[u8]) -> usize
     ensures len { result ≡ read.name_len bytes.now }
     ensures within { result ≤ length bytes.now }
