@@ -58,3 +58,6 @@ found_in_object object q x below is = ap (λ o. option_or o below) (get-names_of
 -- a name that the object lacks is looked up below
 pub found_below_object : (object : BTreeMap (String Global) Value) (q : List ℕ) (below : Option Tree) → None ≡ get_by_text object q → option_or (get (names_of object) q) below ≡ below
 found_below_object object q below is = ap (λ o. option_or o below) (get-names_of object q ∙ ap (option_map view) (sym is))
+
+-- how the names of an object change with it
+pub ruleset changed_objects = (names_of-empty, names_of-insert)
