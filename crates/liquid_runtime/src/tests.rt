@@ -44,8 +44,7 @@ fn a_built_runtime_shows_its_globals(rt: HostRuntime) -> Result<(), Fail> {
 fn an_unknown_name_is_refused(rt: HostRuntime) -> Result<(), Fail> {
     let alloc = rt.alloc();
     let runtime = greeting_runtime(alloc)?;
-    assert_eq!(
-        rt;
+    assert_eq!(rt;
         answer(alloc, &runtime, "x")?.as_str(),
         "liquid: Unknown variable\n  with:\n    requested variable=x\n"
     );
