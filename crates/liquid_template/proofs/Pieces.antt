@@ -16,13 +16,13 @@ pub record Partly (piece rest : List ℕ) (before now : Sunk) : Type 0 where
   pub failures : now.failures ≡ before.failures
 
 piece_cut : (piece rest : List ℕ) (before now after : Sunk) → Partly piece rest before now
-    → after.taken ≡ now.taken ++ [] → (after.failures ≡ now.failures + 0) ⊎ (after.failures ≡ now.failures + 1) → Cut (one_piece piece) before after
+    → after.taken ≡ now.taken ++ [] → after.failures ≡ now.failures + 1 → Cut (one_piece piece) before after
 piece_cut piece rest before now after p t f = record {
   part = p.part;
   left = rest;
   pieces = append-nil piece ∙ p.pieces;
   taken = t ∙ append-nil now.taken ∙ p.taken;
-  failures = elim f [ inl s ↦ inl (omega (arith, s, p.failures)) | inr s ↦ inr (omega (arith, s, p.failures)) ];
+  failures = inr (omega (arith, f, p.failures));
 }
 
 piece_broken : (piece rest : List ℕ) (before now after : Sunk) → Partly piece rest before now → 0 < length rest
@@ -41,7 +41,7 @@ piece_broken piece rest before now after p some t f = record {
 failed_cases : (piece rest : List ℕ) (before now after : Sunk) (t : Option Refusal) → Partly piece rest before now → 0 < length rest
     → after.taken ≡ now.taken ++ [] → after.failures ≡ now.failures + 1 → IfSome t (λ r. r ≡ failed_to_render)
     → MatchOption t (Cut (one_piece piece) before after) (Stopped (one_piece piece) before after)
-failed_cases piece rest before now after None p some t f is = piece_cut piece rest before now after p t (inr f)
+failed_cases piece rest before now after None p some t f is = piece_cut piece rest before now after p t f
 failed_cases piece rest before now after (Some r) p some t f is = inr (piece_broken piece rest before now after p some t f, is)
 
 -- a put that failed ends the piece as broken off, or cut where the refusal found no memory

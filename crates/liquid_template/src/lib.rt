@@ -7,6 +7,8 @@ mod piece;
 mod sink;
 mod source;
 mod template;
+#[cfg(test)]
+mod tests;
 mod text_sink;
 mod writer_sink;
 
