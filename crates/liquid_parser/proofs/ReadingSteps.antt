@@ -6,7 +6,7 @@ use Rattle.liquid_scalar.specs.declared.error.Error.{Error}
 use Rattle.liquid_scalar.specs.Refusal.{Refusal}
 use Rattle.liquid_scalar.specs.Told.{told, Gives}
 use Rattle.liquid_grammar.specs.Cover.{Element, raw, expression, invalid, text_of, IsElement, Cover, done, next}
-use Rattle.liquid_grammar.specs.CoverLaws.{cover_of}
+use Rattle.liquid_grammar.proofs.CoverLemmas.{cover_of}
 use Rattle.liquid_parser.specs.declared.node.Node.{Node}
 use Rattle.liquid_parser.specs.Tree.{NodeShape, text, name, shapes}
 use Rattle.liquid_parser.specs.Reading.{Answer, Answers, Reads, OneReading, answer, before_brace, invalid_liquid, with_node}
