@@ -1,0 +1,5 @@
+pub mod TextLemmas
+pub mod Exact
+pub mod GrammarExact
+pub mod RawLemmas
+pub mod CoverLemmas

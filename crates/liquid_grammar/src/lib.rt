@@ -1,2 +1,18 @@
 //! The grammar of Liquid templates: rules, elements and places, matched without memory.
 #![tactic(auto)]
+
+mod bytes;
+mod element;
+mod expression;
+mod laws;
+mod name;
+mod opener;
+mod place;
+mod raw;
+#[cfg(test)]
+mod tests;
+mod text;
+
+pub use element::{Element, next_element};
+pub use laws::{elements_joined_are_the_text, no_opener_inside_raw, one_cover, one_element};
+pub use place::line_and_column;

@@ -1,0 +1,2 @@
+pub mod Brace
+pub mod ReadingSteps

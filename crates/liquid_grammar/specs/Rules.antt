@@ -1,0 +1,70 @@
+-- Rules of a grammar, and how rules are put together.
+-- A place in a text is what is left of the text there. So a rule relates a text, what its match leaves of it, and the shape of what was matched.
+use Rattle.std.specs.Prelude.{◌≡◌, ℕ, ◌==◌, Bool, true, List, [], ◌∷◌, ◌++◌}
+
+infixl 20 ◌▷◌
+infixl 20 ◌◁◌
+
+abbrev pub Rule : Type 0 → Type 1
+Rule A = List ℕ → List ℕ → A → Type 0
+
+-- some match of the rule begins here
+pub record Begins {A : Type 0} (R : Rule A) (s : List ℕ) : Type 0 where
+  pub rest : List ℕ
+  pub shape : A
+  pub match : R s rest shape
+
+-- one byte that passes the test
+pub record One (p : ℕ → Bool) (s rest : List ℕ) (byte : ℕ) : Type 0 where
+  pub front : s ≡ byte ∷ rest
+  pub passes : p byte ≡ true
+
+-- R, and S behind it
+pub record Then {A B : Type 0} (R : Rule A) (S : Rule B) (s rest : List ℕ) (shape : A × B) : Type 0 where
+  pub middle : List ℕ
+  pub before : R s middle shape.0
+  pub after : S middle rest shape.1
+
+-- R, or S where no match of R begins
+pub data Else {A : Type 0} (R S : Rule A) (s rest : List ℕ) (shape : A) : Type 0 where
+  here : R s rest shape → Else R S s rest shape
+  instead : ¬ (Begins R s) → S s rest shape → Else R S s rest shape
+
+-- R as often as its next match begins, and no less often
+pub data Repeated {A : Type 0} (R : Rule A) : List ℕ → List ℕ → List A → Type 0 where
+  ends : {s : List ℕ} → ¬ (Begins R s) → Repeated R s s []
+  more : {s middle rest : List ℕ} {shape : A} {shapes : List A} → R s middle shape → Repeated R middle rest shapes → Repeated R s rest (shape ∷ shapes)
+
+-- R, with what f makes of its shape
+pub record Seen {A B : Type 0} (f : A → B) (R : Rule A) (s rest : List ℕ) (shape : B) : Type 0 where
+  pub from : A
+  pub match : R s rest from
+  pub is : shape ≡ f from
+
+-- R, where its shape passes the test
+pub record Where {A : Type 0} (p : A → Bool) (R : Rule A) (s rest : List ℕ) (shape : A) : Type 0 where
+  pub match : R s rest shape
+  pub passes : p shape ≡ true
+
+-- R, and its shape is the text that it took
+pub record Text {A : Type 0} (R : Rule A) (s rest text : List ℕ) : Type 0 where
+  pub shape : A
+  pub match : R s rest shape
+  pub front : s ≡ text ++ rest
+
+-- nothing, where a match of R begins
+pub record Ahead {A : Type 0} (R : Rule A) (s rest : List ℕ) (shape : Unit {0}) : Type 0 where
+  pub stays : rest ≡ s
+  pub begins : Begins R s
+
+-- this byte
+abbrev pub Byte : ℕ → Rule ℕ
+Byte b = One (λ c. c == b)
+
+-- R and S, with the shape of S
+abbrev pub ◌▷◌ : {A B : Type 0} → Rule A → Rule B → Rule B
+R ▷ S = Seen (λ p. p.1) (Then R S)
+
+-- R and S, with the shape of R
+abbrev pub ◌◁◌ : {A B : Type 0} → Rule A → Rule B → Rule A
+R ◁ S = Seen (λ p. p.0) (Then R S)

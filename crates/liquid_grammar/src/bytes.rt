@@ -1,0 +1,35 @@
+//! The classes of bytes of the grammar.
+ghost use Rattle.std.specs.Prelude.{◌≡◌, slice_index};
+ghost use Rattle.liquid_grammar.specs.Bytes as spec;
+
+/// The byte at `index`, or 0 past the end.
+#[inline]
+pub(crate) fn byte_at(bytes: &[u8], index: usize) -> u8
+    ensures { result ≡ slice_index bytes.now index }
+{
+    bytes.get(index).copied().unwrap_or(0)
+}
+
+/// A space, a tab, a carriage return or a line feed.
+#[inline]
+pub(crate) fn is_white(byte: u8) -> bool
+    ensures { result ≡ spec.is_white byte }
+{
+    byte == b' ' || byte == b'\t' || byte == b'\r' || byte == b'\n'
+}
+
+/// A letter or `_`.
+#[inline]
+pub(crate) fn starts_name(byte: u8) -> bool
+    ensures { result ≡ spec.starts_name byte }
+{
+    byte.is_ascii_alphabetic() || byte == b'_'
+}
+
+/// A letter, a digit or `_`.
+#[inline]
+pub(crate) fn is_word(byte: u8) -> bool
+    ensures { result ≡ spec.is_word byte }
+{
+    byte.is_ascii_alphabetic() || byte.is_ascii_digit() || byte == b'_'
+}

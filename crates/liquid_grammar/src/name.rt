@@ -1,0 +1,62 @@
+//! Identifiers and names.
+ghost use Rattle.std.specs.Prelude.{◌≡◌, ◌<◌, ◌≤◌, length, IfSome};
+ghost use Rattle.liquid_grammar.specs.Grammar as spec;
+ghost use Rattle.liquid_grammar.specs.Steps as read;
+ghost use Rattle.liquid_grammar.specs.Steps.{Finds};
+
+use crate::bytes::{byte_at, is_word, starts_name};
+
+/// The longest identifier that the text begins with, and what follows it.
+#[tactic(auto, unfolding(crate::specs::Steps::identifier))]
+pub(crate) fn identifier(s: &str) -> Option<(&str, &str)>
+    ensures value { Finds result (read.identifier s.now) }
+    ensures shorter { IfSome result (λ x. length x.1.now < length s.now) }
+{
+    let bytes = s.as_bytes();
+    if bytes.len() > 0 && starts_name(bytes[0]) {
+        Some(s.split_at(1 + name_len(bytes.split_at(1).1)))
+    } else {
+        None
+    }
+}
+
+/// An identifier that is no literal word.
+#[tactic(auto, unfolding(crate::specs::Steps::name))]
+pub(crate) fn name(s: &str) -> Option<(&str, &str)>
+    ensures value { Finds result (read.name s.now) }
+    ensures shorter { IfSome result (λ x. length x.1.now < length s.now) }
+{
+    let (word, rest) = identifier(s)?;
+    if is_literal_word(word) {
+        None
+    } else {
+        Some((word, rest))
+    }
+}
+
+/// Whether the word stands for a literal.
+pub(crate) fn is_literal_word(word: &str) -> bool
+    ensures { result ≡ spec.is_literal_word word.now }
+{
+    word == "nil"
+        || word == "null"
+        || word == "empty"
+        || word == "blank"
+        || word == "true"
+        || word == "false"
+}
+
+/// How many name bytes there are in front: a dash counts only where a word byte follows it.
+#[tactic(auto, using(crate::proofs::TextLemmas::name_len_turn, crate::proofs::TextLemmas::name_len_end))]
+fn name_len(bytes: &[u8]) -> usize
+    ensures len { result ≡ read.name_len bytes.now }
+    ensures within { result ≤ length bytes.now }
+{
+    'bytes: for at in 0..bytes.len() {
+        let byte = bytes[at];
+        if !(is_word(byte) || (byte == b'-' && is_word(byte_at(bytes, at + 1)))) {
+            return at;
+        }
+    }
+    bytes.len()
+}
