@@ -1,5 +1,5 @@
 -- How far one piece is written, and the outcomes of writing it.
-use Rattle.std.proofs.Common.{◌≡◌, ℕ, ◌+◌, ◌<◌, ◌⊎◌, List, [], ◌∷◌, ◌++◌, length, Option, None, Some, Err, ap, ◌∙◌, inl, inr, arith}
+use Rattle.std.proofs.Common.{◌≡◌, ℕ, ◌+◌, ◌<◌, List, [], ◌∷◌, ◌++◌, length, Option, None, Some, Err, ap, ◌∙◌, inr, arith}
 use Rattle.std.specs.Prelude.{MatchOption, IfSome}
 use Rattle.std.proofs.lemmas.List.{append-nil}
 use Rattle.liquid_scalar.specs.declared.error.Error.{Error}

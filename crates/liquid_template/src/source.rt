@@ -28,6 +28,8 @@ pub fn render_source<F, T, B, K: Sink, R: Runtime>(
     ensures runtime { R.view runtime.new ≡ R.view runtime.old }
     ensures began { K.began sink.new ≡ K.began sink.old }
 {
-    let nodes = parse(alloc, text, language)?;
-    Template::new(nodes).render_to(alloc, sink, runtime)
+    match parse(alloc, text, language) {
+        Ok(nodes) => Template::new(nodes).render_to(alloc, sink, runtime),
+        Err(error) => Err(error),
+    }
 }

@@ -81,7 +81,10 @@ fn a_template_renders_to_a_text(rt: HostRuntime) -> Result<(), Fail> {
     nodes.push(name_node(alloc, "name")?)?;
     nodes.push(text_node(alloc, "!")?)?;
     let template = Template::new(nodes);
-    assert_eq!(rt; template.render(alloc, &mut runtime)?.as_str(), "Hello World!");
+    assert_eq!(rt;
+        template.render(alloc, &mut runtime)?.as_str(),
+        "Hello World!"
+    );
     Ok(())
 }
 
@@ -142,7 +145,10 @@ fn a_writer_that_takes_nothing_fails(rt: HostRuntime) -> Result<(), Fail> {
     assert_eq!(rt; sink.put(b"ab!"), Ok(2));
     assert_eq!(rt; sink.put(b"!"), Err(SinkFault::Failed));
     assert_eq!(rt; SinkFault::Failed.to_string(alloc)?.as_str(), "sink failed");
-    assert_eq!(rt; SinkFault::Memory.to_string(alloc)?.as_str(), "out of memory");
+    assert_eq!(rt;
+        SinkFault::Memory.to_string(alloc)?.as_str(),
+        "out of memory"
+    );
     Ok(())
 }
 
@@ -162,8 +168,7 @@ fn text_before_an_unknown_name_is_written(rt: HostRuntime) -> Result<(), Fail> {
     let mut sink = TextSink::new(alloc);
     let language = Language::empty(alloc);
     let answer = render_source(alloc, "a{{ x }}b", &language, &mut runtime, &mut sink);
-    assert_eq!(
-        rt;
+    assert_eq!(rt;
         refusal(alloc, answer)?.as_str(),
         "liquid: Unknown variable\n  with:\n    requested variable=x\n"
     );
@@ -198,8 +203,7 @@ fn a_text_that_is_no_template_writes_nothing(rt: HostRuntime) -> Result<(), Fail
     let mut sink = TextSink::new(alloc);
     let language = Language::empty(alloc);
     let answer = render_source(alloc, "Hello {{ ! }}", &language, &mut runtime, &mut sink);
-    assert_eq!(
-        rt;
+    assert_eq!(rt;
         refusal(alloc, answer)?.as_str(),
         "liquid: Invalid liquid (line 1, column 7)\n"
     );
