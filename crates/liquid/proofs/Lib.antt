@@ -1,3 +1,5 @@
-pub mod Words
+pub mod AssignmentWords
 pub mod Assigned
 pub mod ObjectFacts
+pub mod MemoryLemmas
+pub mod TreatmentLemmas

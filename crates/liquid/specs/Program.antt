@@ -1,20 +1,16 @@
--- What the program does, by its words, the file that they name and what is written.
+-- What the program does, by its words, the file that they name and the sink that it writes to.
 use Rattle.std.specs.Prelude.{◌≡◌, ℕ, ◌⊎◌, List, [], ◌∷◌, Option, None, Some, Result, Ok, Err, IsUtf8, ⊤}
-use Rattle.std.specs.Io.KnownBytes.{Appends, Keeps}
 use Rattle.liquid_scalar.specs.declared.error.Error.{Error}
 use Rattle.liquid_runtime.specs.Maps.{Names}
 use Rattle.liquid_runtime.specs.Frames.{built_view}
 use Rattle.liquid_parser.specs.Reading.{Answer, Reads}
-use Rattle.liquid_template.specs.Outcome.{sunk}
+use Rattle.liquid_template.specs.Outcome.{Sunk}
 use Rattle.liquid_template.specs.Rendering.{Rendered}
 use Rattle.liquid.specs.Globals.{globals_of}
 
--- the output grew by what a fresh sink takes when the text is rendered over a built runtime of these globals
-pub record Renders (text : List ℕ) (globals : Names) (before after : Option (List ℕ)) (result : Result (Unit {0}) Error) : Type 0 where
-  pub taken : List ℕ
-  pub failures : ℕ
-  pub appended : Appends before after taken
-  pub rendered : (answer : Answer) → Reads text answer → Rendered answer (built_view globals) (sunk [] 0) (sunk taken failures) result
+-- what the text is read as was rendered over a built runtime of these globals
+abbrev pub Renders : List ℕ → Names → Sunk → Sunk → Result (Unit {0}) Error → Type 0
+Renders text globals before after result = (answer : Answer) → Reads text answer → Rendered answer (built_view globals) before after result
 
 -- 0 where the template was rendered, 1 where it was refused
 abbrev pub status_of : Result (Unit {0}) Error → ℕ
@@ -22,23 +18,23 @@ status_of (Ok _) = 0
 status_of (Err error) = 1
 
 -- the text was rendered, and the status says how that ended
-pub record Finishes (text : List ℕ) (globals : Names) (before after : Option (List ℕ)) (status : ℕ) : Type 0 where
+pub record Finishes (text : List ℕ) (globals : Names) (before after : Sunk) (status : ℕ) : Type 0 where
   pub result : Result (Unit {0}) Error
   pub renders : Renders text globals before after result
   pub status_is : status ≡ status_of result
 
--- nothing was written; the file was found to be no text, or memory ran out
-abbrev pub Fails : Option (List ℕ) → Option (List ℕ) → ℕ → Type 0
-Fails before after status = Keeps before after × ((status ≡ 3) ⊎ (status ≡ 1))
+-- nothing was written: the file is no text, or memory ran out
+abbrev pub Fails : Sunk → Sunk → ℕ → Type 0
+Fails before after status = (after ≡ before) × ((status ≡ 3) ⊎ (status ≡ 1))
 
 -- what is known of a template's file decides what becomes of it
-abbrev pub Treats : Option (Option (List ℕ)) → Names → Option (List ℕ) → Option (List ℕ) → ℕ → Type 0
+abbrev pub Treats : Option (Option (List ℕ)) → Names → Sunk → Sunk → ℕ → Type 0
 Treats None globals before after status = ⊤
 Treats (Some None) globals before after status = Fails before after status
 Treats (Some (Some bytes)) globals before after status =
-    (IsUtf8 bytes → Finishes bytes globals before after status) × (¬ (IsUtf8 bytes) → Fails before after status)
+    (IsUtf8 bytes → (Finishes bytes globals before after status)) × (¬ (IsUtf8 bytes) → Fails before after status)
 
 -- the file that the second word names, with the globals that the words behind it set
-abbrev pub Runs : List (List ℕ) → (List ℕ → Option (Option (List ℕ))) → Option (List ℕ) → Option (List ℕ) → ℕ → Type 0
+abbrev pub Runs : List (List ℕ) → (List ℕ → Option (Option (List ℕ))) → Sunk → Sunk → ℕ → Type 0
 Runs (verb ∷ template ∷ assignments) known before after status = Treats (known template) (globals_of assignments) before after status
 Runs words known before after status = ⊤

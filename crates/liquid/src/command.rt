@@ -40,7 +40,7 @@ fn are_assignments(words: &[String]) -> bool
     words.iter().all(|word| assignment(word.as_str()).is_some())
 }
 
-#[tactic(auto, using(crate::proofs::Words::assignments_map))]
+#[tactic(auto, using(crate::proofs::AssignmentWords::assignments_map))]
 fn is_command(verb: &str, template: &str, assignments: &[String]) -> bool
     ensures { result ≡ is_command (verb.now ∷ template.now ∷ map string_bytes assignments.now) }
 {

@@ -1,4 +1,6 @@
-ghost use Rattle.std.specs.Prelude.{◌≡◌, ◌≢◌, ◌↔◌, false, true, map, string_bytes};
+ghost use Rattle.std.specs.Prelude.{◌≡◌, ◌≢◌, ◌↔◌, Some, false, true, map, string_bytes};
+ghost use Rattle.liquid_runtime.specs.Maps.{names_of};
+ghost use Rattle.liquid_template.specs.Outcome.{sunk};
 ghost use Rattle.liquid.specs.Command.{is_command};
 ghost use Rattle.liquid.specs.Globals.{globals_of};
 ghost use Rattle.liquid.specs.Program.{Renders, Treats, Runs};
@@ -10,7 +12,7 @@ use crate::folder::{Folder, Unread};
 use crate::globals::globals;
 use liquid_core::parser::Language;
 use liquid_core::runtime::RuntimeBuilder;
-use liquid_core::{Error, WriterSink, render_source};
+use liquid_core::{Error, Object, Sink, WriterSink, render_source};
 use std::alloc::Global;
 use std::io::Write;
 
@@ -29,10 +31,24 @@ pub fn run<F: Folder, W: Write, E: Write>(
     err: &mut E,
 ) -> u8
     ensures usage { (result ≡ 2) ↔ (is_command (map string_bytes words.now) ≡ false) }
-    ensures runs { is_command (map string_bytes words.now) ≡ true
-        → Runs (map string_bytes words.now) (F.known files.old) (W.contents out.old) (W.contents out.new) result }
 {
-    match attempt(alloc, words, files, out) {
+    let mut sink = WriterSink::new(&mut *out);
+    run_to(alloc, words, files, &mut sink, err)
+}
+
+/// Does what `run` does, to a sink.
+pub fn run_to<F: Folder, K: Sink, E: Write>(
+    alloc: Global,
+    words: &[String],
+    files: &mut F,
+    sink: &mut K,
+    err: &mut E,
+) -> u8
+    ensures usage { (result ≡ 2) ↔ (is_command (map string_bytes words.now) ≡ false) }
+    ensures runs { is_command (map string_bytes words.now) ≡ true → Runs (map string_bytes words.now) (F.known files.old)
+        (sunk (K.taken sink.old) (K.failures sink.old)) (sunk (K.taken sink.new) (K.failures sink.new)) result }
+{
+    match attempt(alloc, words, files, sink) {
         Ok(()) => 0,
         Err(fault) => {
             let _ = write!(err, "{fault}");
@@ -41,74 +57,90 @@ pub fn run<F: Folder, W: Write, E: Write>(
     }
 }
 
-fn attempt<'w, F: Folder, W: Write>(
+fn attempt<'w, F: Folder, K: Sink>(
     alloc: Global,
     words: &'w [String],
     files: &mut F,
-    out: &mut W,
+    sink: &mut K,
 ) -> Result<(), Fault<'w>>
     ensures usage { (exit_status result ≡ 2) ↔ (is_command (map string_bytes words.now) ≡ false) }
-    ensures runs { is_command (map string_bytes words.now) ≡ true
-        → Runs (map string_bytes words.now) (F.known files.old) (W.contents out.old) (W.contents out.new) (exit_status result) }
+    ensures runs { is_command (map string_bytes words.now) ≡ true → Runs (map string_bytes words.now) (F.known files.old)
+        (sunk (K.taken sink.old) (K.failures sink.old)) (sunk (K.taken sink.new) (K.failures sink.new)) (exit_status result) }
 {
     match Command::from_words(words) {
-        Some(command) => render_file(alloc, command, files, out),
+        Some(command) => render_file(alloc, command.template, command.assignments, files, sink),
         None => Err(Fault::Usage),
     }
 }
 
 /// Reads the template and writes what it comes to.
-fn render_file<'w, F: Folder, W: Write>(
+fn render_file<'w, F: Folder, K: Sink>(
     alloc: Global,
-    command: Command<'w>,
+    template: &'w str,
+    assignments: &[String],
     files: &mut F,
-    out: &mut W,
+    sink: &mut K,
 ) -> Result<(), Fault<'w>>
     ensures command { exit_status result ≢ 2 }
-    ensures treats { Treats (F.known files.old command.template.now) (globals_of (map string_bytes command.assignments.now))
-        (W.contents out.old) (W.contents out.new) (exit_status result) }
+    ensures treats { Treats (F.known files.old template.now) (globals_of (map string_bytes assignments.now))
+        (sunk (K.taken sink.old) (K.failures sink.old)) (sunk (K.taken sink.new) (K.failures sink.new)) (exit_status result) }
 {
-    match files.read(alloc, command.template) {
-        Ok(bytes) => render_bytes(alloc, bytes.as_slice(), command, out),
-        Err(Unread::Fault) => Err(Fault::Unreadable(command.template)),
+    match files.read(alloc, template) {
+        Ok(bytes) => render_bytes(alloc, bytes.as_slice(), template, assignments, sink),
+        Err(Unread::Fault) => Err(Fault::Unreadable(template)),
         Err(Unread::Memory) => Err(Fault::Refused(Error::Memory)),
     }
 }
 
 /// Writes what the bytes of a template come to.
-fn render_bytes<'w, W: Write>(
+fn render_bytes<'w, K: Sink>(
     alloc: Global,
     bytes: &[u8],
-    command: Command<'w>,
-    out: &mut W,
+    template: &'w str,
+    assignments: &[String],
+    sink: &mut K,
 ) -> Result<(), Fault<'w>>
     ensures command { exit_status result ≢ 2 }
-    ensures treats { Treats (Some (Some bytes.now)) (globals_of (map string_bytes command.assignments.now))
-        (W.contents out.old) (W.contents out.new) (exit_status result) }
+    ensures treats { Treats (Some (Some bytes.now)) (globals_of (map string_bytes assignments.now))
+        (sunk (K.taken sink.old) (K.failures sink.old)) (sunk (K.taken sink.new) (K.failures sink.new)) (exit_status result) }
 {
     match str::from_utf8(bytes) {
-        Ok(text) => match render(alloc, text, command.assignments, out) {
+        Ok(text) => match render_text(alloc, text, assignments, sink) {
             Ok(()) => Ok(()),
             Err(error) => Err(Fault::Refused(error)),
         },
-        Err(_) => Err(Fault::Unreadable(command.template)),
+        Err(_) => Err(Fault::Unreadable(template)),
     }
 }
 
 /// Writes what the text comes to, with the globals that the words set.
-fn render<W: Write>(
+
+fn render_text<K: Sink>(
     alloc: Global,
     text: &str,
     assignments: &[String],
-    out: &mut W,
+    sink: &mut K,
 ) -> Result<(), Error>
-    ensures { Renders text.now (globals_of (map string_bytes assignments.now)) (W.contents out.old) (W.contents out.new) result }
+    ensures { Renders text.now (globals_of (map string_bytes assignments.now))
+        (sunk (K.taken sink.old) (K.failures sink.old)) (sunk (K.taken sink.new) (K.failures sink.new)) result }
 {
-    let object = globals(alloc, assignments)?;
-    let mut runtime = RuntimeBuilder::new(alloc).set_globals(object).build();
-    let mut sink = WriterSink::new(&mut *out);
+    match globals(alloc, assignments) {
+        Ok(object) => render_over(alloc, text, object, sink),
+        Err(_) => Err(Error::Memory),
+    }
+}
+
+/// Writes what the text comes to over these globals.
+fn render_over<K: Sink>(
+    alloc: Global,
+    text: &str,
+    globals: Object,
+    sink: &mut K,
+) -> Result<(), Error>
+    ensures { Renders text.now (names_of globals)
+        (sunk (K.taken sink.old) (K.failures sink.old)) (sunk (K.taken sink.new) (K.failures sink.new)) result }
+{
+    let mut runtime = RuntimeBuilder::new(alloc).set_globals(globals).build();
     let language = Language::empty(alloc);
-    let rendered = render_source(alloc, text, &language, &mut runtime, &mut sink);
-    let _ = sink.into_inner();
-    rendered
+    render_source(alloc, text, &language, &mut runtime, sink)
 }
