@@ -1,0 +1,3 @@
+pub mod FrameLookups
+pub mod MapLaws
+pub mod ObjectNames

@@ -1,0 +1,5 @@
+pub mod Built
+pub mod Frames
+pub mod Laws
+pub mod Maps
+pub mod View
