@@ -39,9 +39,6 @@ module _ (s front rest : List ℕ) (is : s ≡ front ++ 123 ∷ rest) where
   brace_index : length s - length rest - 1 ≡ length front
   brace_index = let size = ap length is ∙ length-append front (123 ∷ rest) in omega arith
 
-  pub brace_fits : 1 ≤ length s - length rest
-  brace_fits = let size = ap length is ∙ length-append front (123 ∷ rest) in omega arith
-
   pub brace_at : get_or s (length s - length rest - 1) 0 ≡ 123
   brace_at = ap (λ i. get_or s i 0) brace_index ∙ (ap (λ t. get_or t (length front) 0) is ∙ get_or-append_seam front 123 rest 0)
 

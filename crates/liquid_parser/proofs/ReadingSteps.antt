@@ -17,10 +17,6 @@ abbrev pub with_nodes : List NodeShape → Answer → Answer
 with_nodes nodes (Ok more) = Ok (nodes ++ more)
 with_nodes nodes (Err refusal) = Err refusal
 
-with_nodes-nil : (a : Answer) → a ≡ with_nodes [] a
-with_nodes-nil (Ok nodes) = refl
-with_nodes-nil (Err refusal) = refl
-
 with_nodes-push : (nodes : List NodeShape) (n : NodeShape) (a : Answer) → with_nodes nodes (with_node n a) ≡ with_nodes (nodes ++ n ∷ []) a
 with_nodes-push nodes n (Ok more) = ap (λ ns. Ok ns) (sym (append_assoc nodes (n ∷ []) more))
 with_nodes-push nodes n (Err refusal) = refl
@@ -30,10 +26,6 @@ pub record Goes (s rest : List ℕ) (nodes : List NodeShape) : Type 0 where
   pub front : List ℕ
   pub joined : s ≡ front ++ rest
   pub onward : (es : List Element) → Cover rest es → (all : List Element) × Cover s all × (answer [] all ≡ with_nodes nodes (answer front es))
-
--- at the beginning all of the text is left
-pub Goes-start : (s : List ℕ) → Goes s s []
-Goes-start s = record { front = []; joined = refl; onward = λ es c. (es, c, with_nodes-nil (answer [] es)) }
 
 -- the node is what the element gives
 abbrev pub IsNodeOf : Element → NodeShape → Type 0

@@ -1,4 +1,4 @@
-ghost use Rattle.std.specs.Prelude.{◌≡◌, ℕ, ◌-◌, ◌<◌, length, take, slice_index, IfSome};
+ghost use Rattle.std.specs.Prelude.{◌≡◌, take, slice_index, IfSome};
 ghost use Rattle.liquid_scalar.specs.Told.{told, Gives};
 ghost use Rattle.liquid_parser.specs.Tree.{shapes};
 ghost use Rattle.liquid_parser.specs.Reading.{Answer, Answers, OneReading, Reads, invalid_liquid};
