@@ -1,7 +1,7 @@
 -- How far one piece is written, and the outcomes of writing it.
-use Rattle.std.proofs.Common.{◌≡◌, ℕ, ◌+◌, ◌<◌, List, [], ◌∷◌, ◌++◌, length, Option, None, Some, Err, ap, ◌∙◌, inr, arith}
+use Rattle.std.proofs.Common.{◌≡◌, ℕ, ◌+◌, ◌-◌, ◌<◌, List, [], ◌∷◌, ◌++◌, length, take, drop, Option, None, Some, Err, ap, ◌∙◌, inr, arith, append_assoc}
 use Rattle.std.specs.Prelude.{MatchOption, IfSome}
-use Rattle.std.proofs.lemmas.List.{append-nil}
+use Rattle.std.proofs.lemmas.List.{append-nil, length-drop, take_all, take-append-drop}
 use Rattle.liquid_scalar.specs.declared.error.Error.{Error}
 use Rattle.liquid_scalar.specs.Refusal.{Refusal}
 use Rattle.liquid_scalar.specs.Told.{told}
@@ -14,6 +14,16 @@ pub record Partly (piece rest : List ℕ) (before now : Sunk) : Type 0 where
   pub pieces : piece ≡ part ++ rest
   pub taken : now.taken ≡ before.taken ++ part
   pub failures : now.failures ≡ before.failures
+
+-- a put that took some of the rest leaves what stands behind it
+pub Partly-put : (piece rest : List ℕ) (before now after : Sunk) (count : ℕ) → Partly piece rest before now
+    → after.taken ≡ now.taken ++ take count rest → after.failures ≡ now.failures + 0 → Partly piece (take (length rest - count) (drop count rest)) before after
+Partly-put piece rest before now after count p t f = record {
+  part = p.part ++ take count rest;
+  pieces = p.pieces ∙ rw (take_all (length rest - count) (drop count rest) (omega (arith, length-drop count rest)), append_assoc, take-append-drop count rest);
+  taken = t ∙ rw (p.taken, append_assoc);
+  failures = omega (arith, f, p.failures);
+}
 
 piece_cut : (piece rest : List ℕ) (before now after : Sunk) → Partly piece rest before now
     → after.taken ≡ now.taken ++ [] → after.failures ≡ now.failures + 1 → Cut (one_piece piece) before after

@@ -1,4 +1,5 @@
 pub mod FaultText
+pub mod Grows
 pub mod Outcome
 pub mod Put
 pub mod Rendering

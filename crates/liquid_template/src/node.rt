@@ -3,6 +3,7 @@ ghost use Rattle.std.specs.Prelude.{◌≡◌, IsUtf8, OnOk, map};
 ghost use Rattle.liquid_value.specs.View.{view as tree_of};
 ghost use Rattle.liquid_value.specs.Render.{render};
 ghost use Rattle.liquid_parser.specs.Tree.{shape};
+ghost use Rattle.liquid_template.specs.Grows.{Grows};
 ghost use Rattle.liquid_template.specs.Outcome.{Outcome, sunk};
 ghost use Rattle.liquid_template.specs.Run.{node_run, one_piece, run, written};
 
@@ -25,7 +26,8 @@ pub(crate) fn render_nodes<K: Sink, R: Runtime>(
         (sunk (K.taken sink.old) (K.failures sink.old))
         (sunk (K.taken sink.new) (K.failures sink.new)) result }
     ensures text { OnOk result (IsUtf8 (written (run (R.view runtime.now) (map shape nodes.now)))) }
-    ensures began { K.began sink.new ≡ K.began sink.old }
+    ensures behind { Grows (K.taken sink.old) (K.behind sink.old) (K.taken sink.new) (K.behind sink.new) }
+    ensures lent { K.lent sink.new ≡ K.lent sink.old }
 {
     for node in nodes {
         match render_node(alloc, node, sink, runtime) {
@@ -47,7 +49,8 @@ fn render_node<K: Sink, R: Runtime>(
         (sunk (K.taken sink.old) (K.failures sink.old))
         (sunk (K.taken sink.new) (K.failures sink.new)) result }
     ensures text { OnOk result (IsUtf8 (written (node_run (R.view runtime.now) (shape node.now)))) }
-    ensures began { K.began sink.new ≡ K.began sink.old }
+    ensures behind { Grows (K.taken sink.old) (K.behind sink.old) (K.taken sink.new) (K.behind sink.new) }
+    ensures lent { K.lent sink.new ≡ K.lent sink.old }
 {
     match node {
         Node::Text(text) => write_piece(alloc, sink, text.as_str()),
@@ -64,7 +67,8 @@ fn render_value<K: Sink>(alloc: Global, value: &Value, sink: &mut K) -> Result<(
         (sunk (K.taken sink.old) (K.failures sink.old))
         (sunk (K.taken sink.new) (K.failures sink.new)) result }
     ensures text { OnOk result (IsUtf8 (render (tree_of value.now))) }
-    ensures began { K.began sink.new ≡ K.began sink.old }
+    ensures behind { Grows (K.taken sink.old) (K.behind sink.old) (K.taken sink.new) (K.behind sink.new) }
+    ensures lent { K.lent sink.new ≡ K.lent sink.old }
 {
     match value.to_kstr(alloc) {
         Ok(text) => write_piece(alloc, sink, text.as_str()),

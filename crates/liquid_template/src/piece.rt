@@ -1,5 +1,6 @@
 //! Writing one piece to a sink.
 ghost use Rattle.std.specs.Prelude.{◌≡◌, IsUtf8, OnOk};
+ghost use Rattle.liquid_template.specs.Grows.{Grows};
 ghost use Rattle.liquid_template.specs.Outcome.{Outcome, sunk};
 ghost use Rattle.liquid_template.specs.Run.{one_piece};
 
@@ -14,7 +15,8 @@ pub(crate) fn write_piece<K: Sink>(alloc: Global, sink: &mut K, piece: &str) -> 
         (sunk (K.taken sink.old) (K.failures sink.old))
         (sunk (K.taken sink.new) (K.failures sink.new)) result }
     ensures text { OnOk result (IsUtf8 piece.now) }
-    ensures began { K.began sink.new ≡ K.began sink.old }
+    ensures behind { Grows (K.taken sink.old) (K.behind sink.old) (K.taken sink.new) (K.behind sink.new) }
+    ensures lent { K.lent sink.new ≡ K.lent sink.old }
 {
     let mut rest = piece.as_bytes();
     while !rest.is_empty() {

@@ -1,5 +1,6 @@
 //! Where rendered bytes go.
-ghost use Rattle.std.specs.Prelude.{◌≡◌, ℕ, ◌+◌, ◌<◌, ◌≤◌, List, ◌++◌, length, Option, None, Some, IfOk};
+ghost use Rattle.std.specs.Prelude.{◌≡◌, ℕ, ◌+◌, ◌<◌, ◌≤◌, List, [], ◌∷◌, ◌++◌, length, Option, None, Some, IfOk};
+ghost use Rattle.std.specs.Io.KnownBytes.{Appends};
 ghost use Rattle.liquid_template.specs.FaultText.{fault_text};
 ghost use Rattle.liquid_template.specs.Put.{taken_part, failure_count};
 
@@ -35,8 +36,11 @@ pub trait Sink {
     // how many puts were answered by `SinkFault::Failed`
     ghost failures: { Self → ℕ };
 
-    // the bytes that lay behind the sink before its first put, where they are known
-    ghost began: { Self → Option (List ℕ) } = { λ _. None };
+    // the bytes that lie behind the sink, where they are known
+    ghost behind: { Self → Option (List ℕ) } = { λ _. None };
+
+    // the ghost names of what the sink borrows
+    ghost lent: { Self → List ℕ } = { λ _. [] };
 
     /// Takes the first bytes of a piece, at least one, and answers how many; or takes nothing and
     /// answers why.
@@ -46,7 +50,8 @@ pub trait Sink {
         ensures bound { IfOk result (λ count. count ≤ length piece.now) }
         ensures bytes { taken self.new ≡ taken self.old ++ taken_part result piece.now }
         ensures count { failures self.new ≡ failures self.old + failure_count result }
-        ensures began { began self.new ≡ began self.old };
+        ensures behind { Appends (behind self.old) (behind self.new) (taken_part result piece.now) }
+        ensures lent { lent self.new ≡ lent self.old };
 }
 
 impl<K: Sink> Sink for &mut K {
@@ -54,7 +59,9 @@ impl<K: Sink> Sink for &mut K {
 
     ghost failures = { λ sink. K.failures sink.now };
 
-    ghost began = { λ sink. K.began sink.now };
+    ghost behind = { λ sink. K.behind sink.now };
+
+    ghost lent = { λ sink. sink.ghost_name ∷ K.lent sink.now };
 
     fn put(&mut self, piece: &[u8]) -> Result<usize, SinkFault> {
         Sink::put(&mut **self, piece)

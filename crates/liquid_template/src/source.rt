@@ -1,6 +1,7 @@
 //! Rendering a text at once.
 ghost use Rattle.std.specs.Prelude.{◌≡◌};
 ghost use Rattle.liquid_parser.specs.Reading.{Answer, Reads};
+ghost use Rattle.liquid_template.specs.Grows.{Grows};
 ghost use Rattle.liquid_template.specs.Outcome.{sunk};
 ghost use Rattle.liquid_template.specs.Rendering.{Rendered};
 
@@ -26,7 +27,8 @@ pub fn render_source<F, T, B, K: Sink, R: Runtime>(
         (sunk (K.taken sink.old) (K.failures sink.old))
         (sunk (K.taken sink.new) (K.failures sink.new)) result }
     ensures runtime { R.view runtime.new ≡ R.view runtime.old }
-    ensures began { K.began sink.new ≡ K.began sink.old }
+    ensures behind { Grows (K.taken sink.old) (K.behind sink.old) (K.taken sink.new) (K.behind sink.new) }
+    ensures lent { K.lent sink.new ≡ K.lent sink.old }
 {
     match parse(alloc, text, language) {
         Ok(nodes) => Template::new(nodes).render_to(alloc, sink, runtime),

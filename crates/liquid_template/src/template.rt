@@ -2,6 +2,7 @@
 ghost use Rattle.std.specs.Prelude.{◌≡◌, IsUtf8, OnOk, string_bytes};
 ghost use Rattle.liquid_scalar.specs.Told.{Gives};
 ghost use Rattle.liquid_parser.specs.Tree.{shapes};
+ghost use Rattle.liquid_template.specs.Grows.{Grows};
 ghost use Rattle.liquid_template.specs.Outcome.{Outcome, sunk};
 ghost use Rattle.liquid_template.specs.Run.{run, whole_text, written};
 ghost use Rattle.liquid_template.specs.Template.{template_shapes};
@@ -42,7 +43,8 @@ impl Template {
             (sunk (K.taken sink.old) (K.failures sink.old))
             (sunk (K.taken sink.new) (K.failures sink.new)) result }
         ensures text { OnOk result (IsUtf8 (written (run (R.view runtime.old) (template_shapes self.now)))) }
-        ensures began { K.began sink.new ≡ K.began sink.old }
+        ensures behind { Grows (K.taken sink.old) (K.behind sink.old) (K.taken sink.new) (K.behind sink.new) }
+        ensures lent { K.lent sink.new ≡ K.lent sink.old }
         ensures runtime { R.view runtime.new ≡ R.view runtime.old }
     {
         render_nodes(alloc, self.nodes.as_slice(), sink, &*runtime)

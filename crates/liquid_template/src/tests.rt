@@ -129,11 +129,13 @@ fn an_empty_value_makes_no_put(rt: HostRuntime) -> Result<(), Fail> {
 fn a_writer_takes_a_text(rt: HostRuntime) -> Result<(), Fail> {
     let alloc = rt.alloc();
     let mut runtime = world(alloc)?;
-    let mut sink = WriterSink::new(b"> ".to_vec(alloc)?);
+    let mut bytes = b"> ".to_vec(alloc)?;
+    let mut sink = WriterSink::new(&mut bytes);
     let language = Language::empty(alloc);
     let text = "Hello {{ name }}!";
     render_source(alloc, text, &language, &mut runtime, &mut sink)?;
     assert_eq!(rt; sink.into_inner().as_slice(), b"> Hello World!".as_slice());
+    assert_eq!(rt; bytes.as_slice(), b"> Hello World!".as_slice());
     Ok(())
 }
 
@@ -141,7 +143,8 @@ fn a_writer_takes_a_text(rt: HostRuntime) -> Result<(), Fail> {
 fn a_writer_that_takes_nothing_fails(rt: HostRuntime) -> Result<(), Fail> {
     let alloc = rt.alloc();
     let mut room = [0; 2];
-    let mut sink = WriterSink::new(&mut room[..]);
+    let mut writer = &mut room[..];
+    let mut sink = WriterSink::new(&mut writer);
     assert_eq!(rt; sink.put(b"ab!"), Ok(2));
     assert_eq!(rt; sink.put(b"!"), Err(SinkFault::Failed));
     assert_eq!(rt; SinkFault::Failed.to_string(alloc)?.as_str(), "sink failed");

@@ -1,61 +1,53 @@
 //! A sink over any writer.
-ghost use Rattle.std.specs.Prelude.{◌≡◌, ℕ, [], ◌++◌, List, Some};
+ghost use Rattle.std.specs.Prelude.{◌≡◌, [], ◌∷◌};
 
 use crate::history::History;
 use crate::sink::{Sink, SinkFault};
 use std::io::Write;
-use std::snapshot::Snapshot;
 
-/// Hands each piece to a writer, one `write` a put. An error of the writer, and a write of nothing, is a failure.
+/// Hands each piece to a writer, one `write` a put. An error of the writer, and a write of nothing,
+/// is a failure.
 ///
 /// It takes no memory of its own.
 #[derive(Drop)]
-pub struct WriterSink<W: Write> {
-    writer: W,
-    first: Snapshot<W>,
+pub struct WriterSink<'w, W: Write> {
+    writer: &'w mut W,
     history: History,
-    // where the writer tells its bytes, they are those that it began with and then those taken
-    ghost written: { (bytes : List ℕ) → W.contents first.value ≡ Some bytes
-        → W.contents writer ≡ Some (bytes ++ history.taken) },
 }
 
-impl<W: Write> WriterSink<W> {
-    /// A sink that has taken nothing yet.
-    pub fn new(writer: W) -> WriterSink<W>
-        ensures nothing { ⟦<WriterSink<W> as Sink>⟧.taken result ≡ [] }
-        ensures none { ⟦<WriterSink<W> as Sink>⟧.failures result ≡ 0 }
-        ensures began { ⟦<WriterSink<W> as Sink>⟧.began result ≡ W.contents writer }
+impl<'w, W: Write> WriterSink<'w, W> {
+    /// A sink that has taken nothing yet. What lies behind it is what the writer tells.
+    pub fn new(writer: &'w mut W) -> WriterSink<'w, W>
+        ensures taken { ⟦<WriterSink<'w, W> as Sink>⟧.taken result ≡ [] }
+        ensures failures { ⟦<WriterSink<'w, W> as Sink>⟧.failures result ≡ 0 }
+        ensures behind { ⟦<WriterSink<'w, W> as Sink>⟧.behind result ≡ W.contents writer.entry.now }
+        ensures lent { ⟦<WriterSink<'w, W> as Sink>⟧.lent result ≡ writer.entry.ghost_name ∷ [] }
     {
-        let first = Snapshot::of(&writer);
         WriterSink {
             writer,
-            first,
             history: History::new(),
         }
     }
 
-    /// The writer. Where it tells its bytes, they are those that it began with and then those taken.
-    pub fn into_inner(self) -> W
-        ensures { (bytes : List ℕ) → ⟦<WriterSink<W> as Sink>⟧.began self ≡ Some bytes
-            → W.contents result ≡ Some (bytes ++ ⟦<WriterSink<W> as Sink>⟧.taken self) }
+    /// The writer, with what lies behind the sink.
+    pub fn into_inner(self) -> &'w mut W
+        ensures behind { W.contents result.now ≡ ⟦<WriterSink<'w, W> as Sink>⟧.behind self.entry }
+        ensures lent { result.ghost_name ∷ [] ≡ ⟦<WriterSink<'w, W> as Sink>⟧.lent self.entry }
     {
-        let WriterSink {
-            writer,
-            first,
-            history,
-        } = self;
-        drop(first);
+        let WriterSink { writer, history } = self;
         drop(history);
         writer
     }
 }
 
-impl<W: Write> Sink for WriterSink<W> {
+impl<'w, W: Write> Sink for WriterSink<'w, W> {
     ghost taken = { λ sink. sink.history.taken };
 
     ghost failures = { λ sink. sink.history.failures };
 
-    ghost began = { λ sink. W.contents sink.first.value };
+    ghost behind = { λ sink. W.contents sink.writer.now };
+
+    ghost lent = { λ sink. sink.writer.ghost_name ∷ [] };
 
     fn put(&mut self, piece: &[u8]) -> Result<usize, SinkFault> {
         match self.writer.write(piece) {
