@@ -3,3 +3,4 @@ pub mod Assigned
 pub mod ObjectFacts
 pub mod MemoryLemmas
 pub mod TreatmentLemmas
+pub mod UntouchedSinks

@@ -1,10 +1,11 @@
 -- What the program does, by its words, the file that they name and the sink that it writes to.
 use Rattle.std.specs.Prelude.{◌≡◌, ℕ, ◌⊎◌, List, [], ◌∷◌, Option, None, Some, Result, Ok, Err, IsUtf8, ⊤}
+use Rattle.std.specs.Io.KnownBytes.{Appends}
 use Rattle.liquid_scalar.specs.declared.error.Error.{Error}
 use Rattle.liquid_runtime.specs.Maps.{Names}
 use Rattle.liquid_runtime.specs.Frames.{built_view}
 use Rattle.liquid_parser.specs.Reading.{Answer, Reads}
-use Rattle.liquid_template.specs.Outcome.{Sunk}
+use Rattle.liquid_template.specs.Outcome.{Sunk, sunk}
 use Rattle.liquid_template.specs.Rendering.{Rendered}
 use Rattle.liquid.specs.Globals.{globals_of}
 
@@ -38,3 +39,10 @@ Treats (Some (Some bytes)) globals before after status =
 abbrev pub Runs : List (List ℕ) → (List ℕ → Option (Option (List ℕ))) → Sunk → Sunk → ℕ → Type 0
 Runs (verb ∷ template ∷ assignments) known before after status = Treats (known template) (globals_of assignments) before after status
 Runs words known before after status = ⊤
+
+-- what lies behind the output grew by what a fresh sink takes when the words are run
+pub record Prints (words : List (List ℕ)) (known : List ℕ → Option (Option (List ℕ))) (before after : Option (List ℕ)) (status : ℕ) : Type 0 where
+  pub taken : List ℕ
+  pub failures : ℕ
+  pub appended : Appends before after taken
+  pub runs : Runs words known (sunk [] 0) (sunk taken failures) status

@@ -1,9 +1,10 @@
 ghost use Rattle.std.specs.Prelude.{◌≡◌, ◌≢◌, ◌↔◌, Some, false, true, map, string_bytes};
 ghost use Rattle.liquid_runtime.specs.Maps.{names_of};
+ghost use Rattle.liquid_template.specs.Grows.{Grows};
 ghost use Rattle.liquid_template.specs.Outcome.{sunk};
 ghost use Rattle.liquid.specs.Command.{is_command};
 ghost use Rattle.liquid.specs.Globals.{globals_of};
-ghost use Rattle.liquid.specs.Program.{Renders, Treats, Runs};
+ghost use Rattle.liquid.specs.Program.{Prints, Renders, Treats, Runs};
 ghost use Rattle.liquid.specs.Status.{exit_status};
 
 use crate::command::Command;
@@ -31,9 +32,13 @@ pub fn run<F: Folder, W: Write, E: Write>(
     err: &mut E,
 ) -> u8
     ensures usage { (result ≡ 2) ↔ (is_command (map string_bytes words.now) ≡ false) }
+    ensures prints { is_command (map string_bytes words.now) ≡ true
+        → Prints (map string_bytes words.now) (F.known files.old) (W.contents out.old) (W.contents out.new) result }
 {
-    let mut sink = WriterSink::new(&mut *out);
-    run_to(alloc, words, files, &mut sink, err)
+    let mut sink = WriterSink::new(out);
+    let status = run_to(alloc, words, files, &mut sink, err);
+    let _ = sink.into_inner();
+    status
 }
 
 /// Does what `run` does, to a sink.
@@ -47,6 +52,8 @@ pub fn run_to<F: Folder, K: Sink, E: Write>(
     ensures usage { (result ≡ 2) ↔ (is_command (map string_bytes words.now) ≡ false) }
     ensures runs { is_command (map string_bytes words.now) ≡ true → Runs (map string_bytes words.now) (F.known files.old)
         (sunk (K.taken sink.old) (K.failures sink.old)) (sunk (K.taken sink.new) (K.failures sink.new)) result }
+    ensures behind { Grows (K.taken sink.old) (K.behind sink.old) (K.taken sink.new) (K.behind sink.new) }
+    ensures lent { K.lent sink.new ≡ K.lent sink.old }
 {
     match attempt(alloc, words, files, sink) {
         Ok(()) => 0,
@@ -57,6 +64,7 @@ pub fn run_to<F: Folder, K: Sink, E: Write>(
     }
 }
 
+#[tactic(auto, using(crate::proofs::UntouchedSinks::untouched))]
 fn attempt<'w, F: Folder, K: Sink>(
     alloc: Global,
     words: &'w [String],
@@ -66,6 +74,8 @@ fn attempt<'w, F: Folder, K: Sink>(
     ensures usage { (exit_status result ≡ 2) ↔ (is_command (map string_bytes words.now) ≡ false) }
     ensures runs { is_command (map string_bytes words.now) ≡ true → Runs (map string_bytes words.now) (F.known files.old)
         (sunk (K.taken sink.old) (K.failures sink.old)) (sunk (K.taken sink.new) (K.failures sink.new)) (exit_status result) }
+    ensures behind { Grows (K.taken sink.old) (K.behind sink.old) (K.taken sink.new) (K.behind sink.new) }
+    ensures lent { K.lent sink.new ≡ K.lent sink.old }
 {
     match Command::from_words(words) {
         Some(command) => render_file(alloc, command.template, command.assignments, files, sink),
@@ -74,6 +84,7 @@ fn attempt<'w, F: Folder, K: Sink>(
 }
 
 /// Reads the template and writes what it comes to.
+#[tactic(auto, using(crate::proofs::UntouchedSinks::untouched))]
 fn render_file<'w, F: Folder, K: Sink>(
     alloc: Global,
     template: &'w str,
@@ -84,6 +95,8 @@ fn render_file<'w, F: Folder, K: Sink>(
     ensures command { exit_status result ≢ 2 }
     ensures treats { Treats (F.known files.old template.now) (globals_of (map string_bytes assignments.now))
         (sunk (K.taken sink.old) (K.failures sink.old)) (sunk (K.taken sink.new) (K.failures sink.new)) (exit_status result) }
+    ensures behind { Grows (K.taken sink.old) (K.behind sink.old) (K.taken sink.new) (K.behind sink.new) }
+    ensures lent { K.lent sink.new ≡ K.lent sink.old }
 {
     match files.read(alloc, template) {
         Ok(bytes) => render_bytes(alloc, bytes.as_slice(), template, assignments, sink),
@@ -93,6 +106,7 @@ fn render_file<'w, F: Folder, K: Sink>(
 }
 
 /// Writes what the bytes of a template come to.
+#[tactic(auto, using(crate::proofs::UntouchedSinks::untouched))]
 fn render_bytes<'w, K: Sink>(
     alloc: Global,
     bytes: &[u8],
@@ -103,6 +117,8 @@ fn render_bytes<'w, K: Sink>(
     ensures command { exit_status result ≢ 2 }
     ensures treats { Treats (Some (Some bytes.now)) (globals_of (map string_bytes assignments.now))
         (sunk (K.taken sink.old) (K.failures sink.old)) (sunk (K.taken sink.new) (K.failures sink.new)) (exit_status result) }
+    ensures behind { Grows (K.taken sink.old) (K.behind sink.old) (K.taken sink.new) (K.behind sink.new) }
+    ensures lent { K.lent sink.new ≡ K.lent sink.old }
 {
     match str::from_utf8(bytes) {
         Ok(text) => match render_text(alloc, text, assignments, sink) {
@@ -115,14 +131,17 @@ fn render_bytes<'w, K: Sink>(
 
 /// Writes what the text comes to, with the globals that the words set.
 
+#[tactic(auto, using(crate::proofs::UntouchedSinks::untouched))]
 fn render_text<K: Sink>(
     alloc: Global,
     text: &str,
     assignments: &[String],
     sink: &mut K,
 ) -> Result<(), Error>
-    ensures { Renders text.now (globals_of (map string_bytes assignments.now))
+    ensures renders { Renders text.now (globals_of (map string_bytes assignments.now))
         (sunk (K.taken sink.old) (K.failures sink.old)) (sunk (K.taken sink.new) (K.failures sink.new)) result }
+    ensures behind { Grows (K.taken sink.old) (K.behind sink.old) (K.taken sink.new) (K.behind sink.new) }
+    ensures lent { K.lent sink.new ≡ K.lent sink.old }
 {
     match globals(alloc, assignments) {
         Ok(object) => render_over(alloc, text, object, sink),
@@ -137,8 +156,10 @@ fn render_over<K: Sink>(
     globals: Object,
     sink: &mut K,
 ) -> Result<(), Error>
-    ensures { Renders text.now (names_of globals)
+    ensures renders { Renders text.now (names_of globals)
         (sunk (K.taken sink.old) (K.failures sink.old)) (sunk (K.taken sink.new) (K.failures sink.new)) result }
+    ensures behind { Grows (K.taken sink.old) (K.behind sink.old) (K.taken sink.new) (K.behind sink.new) }
+    ensures lent { K.lent sink.new ≡ K.lent sink.old }
 {
     let mut runtime = RuntimeBuilder::new(alloc).set_globals(globals).build();
     let language = Language::empty(alloc);

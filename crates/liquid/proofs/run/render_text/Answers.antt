@@ -1,5 +1,5 @@
 use Rattle.liquid.proofs.MemoryLemmas.{nothing_rendered}
 use Rattle.liquid.proofs.run.render_text.Goals as goal
 
-pub returns-in-Err : goal.returns-in-Err
-returns-in-Err g c = nothing_rendered c.args.text.now _ _
+pub returns-in-Err-clause-renders : goal.returns-in-Err-clause-renders
+returns-in-Err-clause-renders g c = nothing_rendered c.args.text.now _ _
