@@ -20,7 +20,7 @@ impl Model for History {
 impl History {
     /// Nothing has happened yet.
     #[inline(always)]
-    pub(crate) fn new() -> History
+    pub fn new() -> History
         ensures { (result.taken ≡ []) × (result.failures ≡ 0) }
     {
         History {
@@ -30,13 +30,13 @@ impl History {
 
     /// A piece was taken whole.
     #[inline(always)]
-    pub(crate) fn took(&mut self, _piece: &[u8])
+    pub fn took(&mut self, _piece: &[u8])
         ensures { self.new ≡ record self.old { taken = self.old.taken ++ _piece.now } }
     {}
 
     /// A put failed.
     #[inline(always)]
-    pub(crate) fn failed(&mut self)
+    pub fn failed(&mut self)
         ensures { self.new ≡ record self.old { failures = self.old.failures + 1 } }
     {}
 }

@@ -12,6 +12,7 @@ mod tests;
 mod text_sink;
 mod writer_sink;
 
+pub use crate::history::History;
 pub use crate::sink::{Sink, SinkFault};
 pub use crate::source::render_source;
 pub use crate::template::Template;

@@ -1,0 +1,53 @@
+ghost use Rattle.std.specs.Prelude.{◌≡◌, []};
+
+use liquid_core::{History, Sink, SinkFault};
+use std::alloc::Global;
+
+/// A sink that takes one byte a put, and fails from a chosen put on.
+#[derive(Drop)]
+pub struct Dripping {
+    bytes: Vec<u8>,
+    puts_left: u64,
+    history: History,
+}
+
+impl Dripping {
+    /// A sink that takes `puts` bytes, one a put, and then fails at each put.
+    pub fn new(alloc: Global, puts: u64) -> Dripping
+        ensures taken { ⟦<Dripping as Sink>⟧.taken result ≡ [] }
+        ensures failures { ⟦<Dripping as Sink>⟧.failures result ≡ 0 }
+    {
+        Dripping {
+            bytes: Vec::new(alloc),
+            puts_left: puts,
+            history: History::new(),
+        }
+    }
+
+    /// The bytes taken so far.
+    pub fn as_bytes(&self) -> &[u8]
+        ensures { result.now ≡ ⟦<Dripping as Sink>⟧.taken self.now }
+    {
+        self.bytes.as_slice()
+    }
+}
+
+impl Sink for Dripping {
+    ghost taken = { λ sink. sink.bytes.items };
+
+    ghost failures = { λ sink. sink.history.failures };
+
+    fn put(&mut self, piece: &[u8]) -> Result<usize, SinkFault> {
+        if self.puts_left == 0 {
+            self.history.failed();
+            return Err(SinkFault::Failed);
+        }
+        match self.bytes.extend_from_slice(&piece[..1]) {
+            Ok(()) => {
+                self.puts_left -= 1;
+                Ok(1)
+            }
+            Err(_) => Err(SinkFault::Memory),
+        }
+    }
+}

@@ -1,0 +1,9 @@
+//! Sinks for tests, and the tests that cross the crates.
+#![tactic(auto)]
+
+pub mod dripping;
+
+pub use dripping::Dripping;
+
+#[cfg(test)]
+mod rows;

@@ -1,0 +1,246 @@
+//! Templates with what they come to, through the calls that users make.
+use crate::dripping::Dripping;
+use liquid_core::model::{Object, Scalar, Value};
+use liquid_core::parser::{Language, parse};
+use liquid_core::runtime::{BuiltRuntime, Runtime, RuntimeBuilder, Template};
+use liquid_core::{Error, TextSink, render_source};
+use std::alloc::{AllocError, Global};
+use std::test::Fail;
+
+/// A global: nil, a whole number or a text.
+#[derive(Clone, Copy)]
+enum Given {
+    Nil,
+    Number(i64),
+    Text(&'static str),
+}
+
+fn value_of(alloc: Global, given: Given) -> Result<Value, AllocError> {
+    Ok(match given {
+        Given::Nil => Value::Nil,
+        Given::Number(number) => Value::Scalar(Scalar::Integer(number)),
+        Given::Text(text) => Value::Scalar(Scalar::Str(String::from_str(alloc, text)?)),
+    })
+}
+
+fn runtime_of(
+    alloc: Global,
+    globals: &[(&'static str, Given)],
+) -> Result<BuiltRuntime, AllocError> {
+    let mut object = Object::new(alloc);
+    for (name, given) in globals {
+        object.insert(String::from_str(alloc, name)?, value_of(alloc, *given)?)?;
+    }
+    Ok(RuntimeBuilder::new(alloc).set_globals(object).build())
+}
+
+/// A template over globals, what is written, and the error's text, empty where there is none.
+struct Row {
+    template: &'static str,
+    globals: &'static [(&'static str, Given)],
+    written: &'static str,
+    error: &'static str,
+}
+
+const UNKNOWN_X: &str = "liquid: Unknown variable\n  with:\n    requested variable=x\n";
+
+const ROWS: [Row; 16] = [
+    Row {
+        template: "Hello {{ name }}!",
+        globals: &[("name", Given::Text("World"))],
+        written: "Hello World!",
+        error: "",
+    },
+    Row {
+        template: "",
+        globals: &[],
+        written: "",
+        error: "",
+    },
+    Row {
+        template: "    \n    {{ exp }}    \n    ",
+        globals: &[("exp", Given::Number(5))],
+        written: "    \n    5    \n    ",
+        error: "",
+    },
+    Row {
+        template: "    \n    {{- exp }}    \n    ",
+        globals: &[("exp", Given::Number(5))],
+        written: "5    \n    ",
+        error: "",
+    },
+    Row {
+        template: "    \n    {{ exp -}}    \n    ",
+        globals: &[("exp", Given::Number(5))],
+        written: "    \n    5",
+        error: "",
+    },
+    Row {
+        template: "    \n    {{- exp -}}    \n    ",
+        globals: &[("exp", Given::Number(5))],
+        written: "5",
+        error: "",
+    },
+    Row {
+        template: "a{{ x }}b",
+        globals: &[],
+        written: "a",
+        error: UNKNOWN_X,
+    },
+    Row {
+        template: "{{ ! }}",
+        globals: &[],
+        written: "",
+        error: "liquid: Invalid liquid (line 1, column 1)\n",
+    },
+    Row {
+        template: "a \n {{- ! }}",
+        globals: &[],
+        written: "",
+        error: "liquid: Invalid liquid (line 2, column 2)\n",
+    },
+    Row {
+        template: "é€😀{{ ! }}",
+        globals: &[],
+        written: "",
+        error: "liquid: Invalid liquid (line 1, column 4)\n",
+    },
+    Row {
+        template: "é{{ x }}😀\n{{ x }}",
+        globals: &[("x", Given::Text("ü€"))],
+        written: "éü€😀\nü€",
+        error: "",
+    },
+    Row {
+        template: "[{{ x }}]",
+        globals: &[("x", Given::Nil)],
+        written: "[]",
+        error: "",
+    },
+    Row {
+        template: "{{ x }} {{ y }}",
+        globals: &[
+            ("x", Given::Number(i64::MIN)),
+            ("y", Given::Number(i64::MAX)),
+        ],
+        written: "-9223372036854775808 9223372036854775807",
+        error: "",
+    },
+    Row {
+        template: "{{ post-title }}{{post_title}}",
+        globals: &[
+            ("post-title", Given::Text("a")),
+            ("post_title", Given::Text("b")),
+        ],
+        written: "ab",
+        error: "",
+    },
+    Row {
+        template: "{ {{ x }} }} } {",
+        globals: &[("x", Given::Text("y"))],
+        written: "{ y }} } {",
+        error: "",
+    },
+    Row {
+        template: "{{ nil }}",
+        globals: &[],
+        written: "",
+        error: "liquid: Invalid liquid (line 1, column 1)\n",
+    },
+];
+
+/// The error's text, empty where there is none.
+fn error_text(alloc: Global, answer: &Result<(), Error>) -> Result<String, AllocError> {
+    match answer {
+        Ok(()) => Ok(String::new(alloc)),
+        Err(error) => error.to_string(alloc),
+    }
+}
+
+#[test]
+fn rows_are_rendered_at_once(rt: HostRuntime) -> Result<(), Fail> {
+    let alloc = rt.alloc();
+    let language = Language::empty(alloc);
+    for row in &ROWS {
+        let mut runtime = runtime_of(alloc, row.globals)?;
+        let mut sink = TextSink::new(alloc);
+        let answer = render_source(alloc, row.template, &language, &mut runtime, &mut sink);
+        assert_eq!(rt; sink.as_bytes(), row.written.as_bytes(), "{}", row.template);
+        assert_eq!(rt;
+            error_text(alloc, &answer)?.as_str(),
+            row.error,
+            "{}",
+            row.template
+        );
+    }
+    Ok(())
+}
+
+#[test]
+fn rows_are_parsed_and_then_rendered(rt: HostRuntime) -> Result<(), Fail> {
+    let alloc = rt.alloc();
+    let language = Language::empty(alloc);
+    for row in &ROWS {
+        let mut runtime = runtime_of(alloc, row.globals)?;
+        let rendered = match parse(alloc, row.template, &language) {
+            Ok(nodes) => Template::new(nodes).render(alloc, &mut runtime),
+            Err(error) => Err(error),
+        };
+        match rendered {
+            Ok(text) => {
+                assert_eq!(rt; text.as_str(), row.written);
+                assert_eq!(rt; row.error, "", "{}", row.template);
+            }
+            Err(error) => assert_eq!(rt; error.to_string(alloc)?.as_str(), row.error),
+        }
+    }
+    Ok(())
+}
+
+#[test]
+fn a_sink_that_fails_keeps_the_beginning(rt: HostRuntime) -> Result<(), Fail> {
+    let alloc = rt.alloc();
+    let language = Language::empty(alloc);
+    let rows = [
+        (1, "", "liquid: Failed to render\n"),
+        (2, "H", "liquid: Failed to render\n"),
+        (3, "He", "liquid: Failed to render\n"),
+        (4, "Hel", "liquid: Failed to render\n"),
+        (5, "Hell", "liquid: Failed to render\n"),
+        (6, "Hello", ""),
+    ];
+    for (put, written, error) in rows {
+        let mut runtime = runtime_of(alloc, &[])?;
+        let mut sink = Dripping::new(alloc, put - 1);
+        let answer = render_source(alloc, "Hello", &language, &mut runtime, &mut sink);
+        assert_eq!(rt; sink.as_bytes(), written.as_bytes(), "put {put}");
+        assert_eq!(rt; error_text(alloc, &answer)?.as_str(), error, "put {put}");
+    }
+    Ok(())
+}
+
+#[test]
+fn an_empty_value_makes_no_put(rt: HostRuntime) -> Result<(), Fail> {
+    let alloc = rt.alloc();
+    let language = Language::empty(alloc);
+    let mut runtime = runtime_of(alloc, &[("x", Given::Text("")), ("y", Given::Nil)])?;
+    let mut sink = Dripping::new(alloc, 0);
+    render_source(alloc, "{{ x }}{{ y }}", &language, &mut runtime, &mut sink)?;
+    Ok(())
+}
+
+#[test]
+fn a_built_runtime_has_the_globals_alone(rt: HostRuntime) -> Result<(), Fail> {
+    let alloc = rt.alloc();
+    let runtime = runtime_of(alloc, &[("x", Given::Number(1))])?;
+    assert!(rt; runtime.try_get_name("x").is_some());
+    assert!(rt; runtime.try_get_name("y").is_none());
+    match runtime.get_name(alloc, "y") {
+        Ok(_) => Err(Fail::from("y has a value")),
+        Err(error) => {
+            assert!(rt; error.place().is_none());
+            assert!(rt; !error.is_memory());
+            Ok(())
+        }
+    }
+}
