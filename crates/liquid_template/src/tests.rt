@@ -105,7 +105,8 @@ fn a_sink_may_fail_at_each_put(rt: HostRuntime) -> Result<(), Fail> {
     ];
     for (put, taken, told) in rows {
         let mut sink = Dripping::new(alloc, put - 1);
-        let answer = template.render_to(alloc, &mut sink, &mut runtime);
+        let mut lent = &mut sink;
+        let answer = template.render_to(alloc, &mut lent, &mut runtime);
         assert_eq!(rt; refusal(alloc, answer)?.as_str(), told, "at put {put}");
         assert_eq!(rt; sink.bytes.as_slice(), taken.as_bytes(), "at put {put}");
     }
