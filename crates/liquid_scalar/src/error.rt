@@ -1,9 +1,10 @@
 ghost use Rattle.std.specs.Prelude.{◌≡◌, ◌↔◌, ◌++◌, IsTrue, IsNone, None, Some, IfOk, IfSome, option_map, option_and_then};
-ghost use Rattle.liquid_scalar.specs.Refusal.{plain, located, place_text, with_trace, with_context};
-ghost use Rattle.liquid_scalar.specs.Told.{told, refusal_of};
+ghost use Rattle.liquid_scalar.specs.Refusal.{plain, located, with_trace, with_context, with_cause, cause_of_told};
+ghost use Rattle.liquid_scalar.specs.Told.{told, reason_of, source_reason};
 
+use crate::cause::{Cause, CauseOf};
 use crate::place::Place;
-use crate::report::{Context, Report, Trace};
+use crate::report::Report;
 use std::alloc::{AllocError, AllocFailed, Global};
 
 /// The answer of a call that a Liquid error may end.
@@ -13,7 +14,7 @@ pub type Result<T> = std::result::Result<T, Error>;
 #[derive(Debug, Drop)]
 pub enum Error {
     Memory,
-    Liquid(Report),
+    Liquid(Report, Option<Cause>),
 }
 
 impl From<AllocError> for Error {
@@ -39,7 +40,7 @@ impl Error {
         ensures { IfSome (told result) (λ r. r ≡ plain message.now) }
     {
         match Report::new(alloc, message) {
-            Ok(report) => Error::Liquid(report),
+            Ok(report) => Error::Liquid(report, None),
             Err(_) => Error::Memory,
         }
     }
@@ -49,7 +50,7 @@ impl Error {
         ensures { IfSome (told result) (λ r. r ≡ located message.now place) }
     {
         match Report::at_place(alloc, message, place) {
-            Ok(report) => Error::Liquid(report),
+            Ok(report) => Error::Liquid(report, None),
             Err(_) => Error::Memory,
         }
     }
@@ -60,8 +61,8 @@ impl Error {
     {
         match self {
             Error::Memory => Error::Memory,
-            Error::Liquid(report) => match report.trace(alloc, text) {
-                Ok(report) => Error::Liquid(report),
+            Error::Liquid(report, cause) => match report.trace(alloc, text) {
+                Ok(report) => Error::Liquid(report, cause),
                 Err(_) => Error::Memory,
             },
         }
@@ -73,10 +74,30 @@ impl Error {
     {
         match self {
             Error::Memory => Error::Memory,
-            Error::Liquid(report) => match report.context(alloc, key, value) {
-                Ok(report) => Error::Liquid(report),
+            Error::Liquid(report, cause) => match report.context(alloc, key, value) {
+                Ok(report) => Error::Liquid(report, cause),
                 Err(_) => Error::Memory,
             },
+        }
+    }
+
+    /// Sets the direct cause of the error, in place of any other.
+    pub fn cause(self, cause: Cause) -> Error
+        ensures { told result ≡ option_map (with_cause (reason_of cause)) (told self) }
+    {
+        match self {
+            Error::Memory => Error::Memory,
+            Error::Liquid(report, _) => Error::Liquid(report, Some(cause)),
+        }
+    }
+
+    /// The direct cause of the error, if it has one.
+    pub fn source(&self) -> Option<&Cause>
+        ensures { source_reason result ≡ cause_of_told (told self.now) }
+    {
+        match self {
+            Error::Memory => None,
+            Error::Liquid(_, cause) => cause.as_ref(),
         }
     }
 
@@ -93,7 +114,7 @@ impl Error {
     {
         match self {
             Error::Memory => true,
-            Error::Liquid(_) => false,
+            Error::Liquid(_, _) => false,
         }
     }
 
@@ -103,7 +124,7 @@ impl Error {
     {
         match self {
             Error::Memory => None,
-            Error::Liquid(report) => report.place,
+            Error::Liquid(report, _) => report.place,
         }
     }
 }

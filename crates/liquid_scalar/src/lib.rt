@@ -1,12 +1,15 @@
 //! Errors and scalar values of Liquid templates.
 #![tactic(auto)]
 
+pub mod cause;
 pub mod error;
+mod error_clone;
 mod error_text;
 pub mod place;
 pub mod report;
 pub mod scalar;
 
+pub use cause::{Cause, CauseOf, CloneableError};
 pub use error::{Error, Result};
 pub use place::Place;
 pub use scalar::{Scalar, ScalarCow, ScalarOf, ScalarRender, ScalarSource, ScalarText};

@@ -107,3 +107,40 @@ impl Report {
         }
     }
 }
+
+impl Clone for Context {
+    ghost is_clone = { λ c copy. entry_of copy ≡ entry_of c };
+
+    fn clone(&self) -> Result<Context, AllocError> {
+        Ok(Context {
+            key: self.key.clone()?,
+            value: self.value.clone()?,
+        })
+    }
+}
+
+impl Clone for Trace {
+    ghost is_clone = { λ t copy. note_of copy ≡ note_of t };
+
+    fn clone(&self) -> Result<Trace, AllocError> {
+        let text = self.text.clone()?;
+        let contexts = self.contexts.clone()?;
+        Ok(Trace { text, contexts })
+    }
+}
+
+impl Clone for Report {
+    ghost is_clone = { λ r copy. refusal_of copy ≡ refusal_of r };
+
+    fn clone(&self) -> Result<Report, AllocError> {
+        let message = self.message.clone()?;
+        let contexts = self.contexts.clone()?;
+        let traces = self.traces.clone()?;
+        Ok(Report {
+            message,
+            contexts,
+            traces,
+            place: self.place,
+        })
+    }
+}
