@@ -5,3 +5,4 @@ pub mod Scalar
 pub mod ScalarCompare
 pub mod ScalarLaws
 pub mod ScalarLawProofs
+pub mod Helpers

@@ -49,6 +49,10 @@ abbrev pub source_reason : Option (Bor (CauseOf Error)) → Reason
 source_reason None = no_reason
 source_reason (Some cause) = reason_of cause.now
 
+-- what the new error tells is what the old one tells, changed; so an error that is made of want of memory tells nothing
+abbrev pub Becomes : (Refusal → Refusal) → Error → Error → Type 0
+Becomes change old new = IfSome (told new) (λ r. option_map change (told old) ≡ Some r)
+
 -- the call answers what is meant: the value, or the refusal; want of memory says nothing of the meaning
 abbrev pub Gives : {A B : Type 0} → (A → B) → Result A Error → Result B Refusal → Type 0
 Gives f (Ok x) meant = meant ≡ Ok (f x)
