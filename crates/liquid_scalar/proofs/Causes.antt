@@ -1,13 +1,13 @@
 -- What an error with a cause tells, and what a list of clones stands for.
-use Rattle.std.proofs.Common.{◌≡◌, rules, Option, Some, None, option_map, List, [], ◌∷◌, map, refl, sym, ◌∙◌, ap, ap₂, Box, Global}
+use Rattle.std.proofs.Common.{◌≡◌, rules, Option, Some, None, option_map, List, [], ◌∷◌, map, refl, sym, ◌∙◌, ap₂}
 use Rattle.std.specs.List.{AllZip}
 use Rattle.liquid_scalar.specs.declared.cause.CauseOf.{CauseOf}
 use Rattle.liquid_scalar.specs.declared.cause.CauseOf.TheVariants as cause_of
 use Rattle.liquid_scalar.specs.declared.error.Error.{Error, the_lemmas}
 use Rattle.liquid_scalar.specs.declared.error.Error.TheViews.{Liquid}
 use Rattle.liquid_scalar.specs.declared.report.Report.{Report}
-use Rattle.liquid_scalar.specs.Refusal.{Refusal, Reason, by_text, with_cause, reason_of_told}
-use Rattle.liquid_scalar.specs.Told.{told, reason_of, refusal_of, kept_text}
+use Rattle.liquid_scalar.specs.Refusal.{Refusal, Reason, with_cause}
+use Rattle.liquid_scalar.specs.Told.{told, reason_of, refusal_of}
 
 pub told_caused : (report : Report) (cause : CauseOf Error) → told (Liquid report (Some cause)) ≡ Some (with_cause (reason_of cause) (refusal_of report))
 told_caused report (cause_of.Error e) = search (rules, the_lemmas)

@@ -1,5 +1,5 @@
 -- What the helpers on results do: an Ok stays, an Err tells something else, and want of memory stays want of memory.
-use Rattle.std.specs.Prelude.{ℕ, List, ◌≡◌, Option, None, Some, Result, Ok, Err, IfSome, IsErrAnd, option_map}
+use Rattle.std.specs.Prelude.{ℕ, List, ◌≡◌, Some, Result, Ok, Err, IfSome, IsErrAnd, option_map}
 use Rattle.liquid_scalar.specs.declared.error.Error.{Error}
 use Rattle.liquid_scalar.specs.declared.result_ext.Key.{Key}
 use Rattle.liquid_scalar.specs.declared.result_ext.FnKey.{FnKey}

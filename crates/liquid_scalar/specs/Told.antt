@@ -1,5 +1,5 @@
 -- What an `Error` tells, and what a call that may fail answers.
-use Rattle.std.specs.Prelude.{◌≡◌, ℕ, List, [], ◌∷◌, Option, None, Some, Result, Ok, Err, map, string_bytes, IfSome, IsErrAnd, option_map, String}
+use Rattle.std.specs.Prelude.{◌≡◌, ℕ, List, Option, None, Some, Result, Ok, Err, map, string_bytes, IfSome, option_map}
 use Rattle.std.specs.Borrow.{Bor}
 use Rattle.liquid_scalar.specs.declared.cause.CauseOf.{CauseOf}
 use Rattle.liquid_scalar.specs.declared.cause.CauseOf.TheVariants as cause_of
@@ -9,7 +9,7 @@ use Rattle.liquid_scalar.specs.declared.error.Error.TheOpen.{Error-F}
 use Rattle.liquid_scalar.specs.declared.report.Context.{Context}
 use Rattle.liquid_scalar.specs.declared.report.Trace.{Trace}
 use Rattle.liquid_scalar.specs.declared.report.Report.{Report}
-use Rattle.liquid_scalar.specs.Refusal.{Entry, Note, Refusal, Reason, no_reason, by_text, by_memory, by_refusal, with_cause, reason_of_told}
+use Rattle.liquid_scalar.specs.Refusal.{Entry, Note, Refusal, Reason, no_reason, by_text, with_cause, reason_of_told}
 
 abbrev pub entry_of : Context → Entry
 entry_of c = (string_bytes c.key, string_bytes c.value)

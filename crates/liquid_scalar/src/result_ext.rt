@@ -1,7 +1,8 @@
 // Helpers that change the error of a result.
-ghost use Rattle.std.specs.Prelude.{◌≡◌, ForErr, string_bytes};
-ghost use Rattle.liquid_scalar.specs.Refusal.{plain, with_trace, with_context, chained};
-ghost use Rattle.liquid_scalar.specs.ErrorText.{lossy_chained};
+ghost use Rattle.std.specs.Prelude.{◌≡◌, String, string_bytes};
+ghost use Rattle.std.specs.declared.alloc.Global.{Global};
+ghost use Rattle.std.specs.Result.{ForErr};
+ghost use Rattle.liquid_scalar.specs.Refusal.{with_trace, with_context};
 ghost use Rattle.liquid_scalar.specs.Helpers.{ErrBecomes, ErrBecomesBy, key_result, key_text, fn_key_result, fn_key_maker};
 
 use crate::error::{Error, Result};
@@ -95,14 +96,17 @@ impl<'k, T> Key<'k, T> {
 
     /// Adds the context with a value that is made only for an error.
     pub fn value_with<F: FnOnce() -> MadeText + Drop>(self, alloc: Global, value: F) -> Result<T>
-        requires { ForErr (key_result self.entry) (λ _. F.pre value) }
+        requires { ForErr (key_result self) (λ _. F.pre value) }
         ensures { ErrBecomesBy (λ text. F.post value (Ok text)) (λ text. with_context (key_text self.entry) (string_bytes text)) (key_result self.entry) result }
     {
         let Key { builder, key } = self;
         match builder {
             Ok(done) => Ok(done),
             Err(error) => match value() {
-                Ok(text) => Err(error.context(alloc, key, text.as_str())),
+                Ok(text) => match String::from_str(alloc, key) {
+                    Ok(key) => Err(error.context_texts(key, text)),
+                    Err(_) => Err(Error::Memory),
+                },
                 Err(_) => Err(Error::Memory),
             },
         }
@@ -133,7 +137,10 @@ impl<T, F: FnOnce() -> MadeText + Drop> FnKey<T, F> {
         match builder {
             Ok(done) => Ok(done),
             Err(error) => match key() {
-                Ok(key) => Err(error.context(alloc, key.as_str(), value)),
+                Ok(key) => match String::from_str(alloc, value) {
+                    Ok(text) => Err(error.context_texts(key, text)),
+                    Err(_) => Err(Error::Memory),
+                },
                 Err(_) => Err(Error::Memory),
             },
         }
@@ -143,7 +150,7 @@ impl<T, F: FnOnce() -> MadeText + Drop> FnKey<T, F> {
     pub fn value_with<V: FnOnce() -> MadeText + Drop>(self, value: V) -> Result<T>
         requires key { ForErr (fn_key_result self) (λ _. F.pre (fn_key_maker self)) }
         requires value { ForErr (fn_key_result self) (λ _. V.pre value) }
-        ensures { ErrBecomesBy (λ made. F.post (fn_key_maker self) (Ok made.0) × V.post value (Ok made.1)) (λ made. with_context (string_bytes made.0) (string_bytes made.1)) (fn_key_result self) result }
+        ensures { ErrBecomesBy (λ (made : String Global × String Global). F.post (fn_key_maker self) (Ok made.0) × V.post value (Ok made.1)) (λ made. with_context (string_bytes made.0) (string_bytes made.1)) (fn_key_result self) result }
     {
         let FnKey { builder, key } = self;
         match builder {
