@@ -10,6 +10,8 @@ pub mod report;
 pub mod result_chain;
 pub mod result_ext;
 pub mod scalar;
+#[cfg(test)]
+mod tests;
 
 pub use cause::{Cause, CauseOf, CloneableError};
 pub use error::{Error, Result};
