@@ -75,7 +75,7 @@ impl<T> ResultLiquidChainExt<T> for std::result::Result<T, Error> {
         match self {
             Ok(value) => Ok(value),
             Err(error) => match message() {
-                Ok(message) => Err(error.chain_text(alloc, message)),
+                Ok(text) => Err(error.chain_text(alloc, text)),
                 Err(_) => Err(Error::Memory),
             },
         }
@@ -103,7 +103,7 @@ impl<T> ResultLiquidReplaceExt<T> for std::result::Result<T, Error> {
         match self {
             Ok(value) => Ok(value),
             Err(error) => match message() {
-                Ok(message) => Err(error.lossy_chain_text(alloc, message)),
+                Ok(text) => Err(error.lossy_chain_text(alloc, text)),
                 Err(_) => Err(Error::Memory),
             },
         }
@@ -123,7 +123,7 @@ impl<T> ResultLiquidReplaceExt<T> for std::result::Result<T, Error> {
         match self {
             Ok(value) => Ok(value),
             Err(error) => match message() {
-                Ok(message) => Err(error.replace_text(alloc, message)),
+                Ok(text) => Err(error.replace_text(alloc, text)),
                 Err(_) => Err(Error::Memory),
             },
         }

@@ -51,7 +51,7 @@ impl<T> ResultLiquidExt<T> for std::result::Result<T, Error> {
 
     fn trace_with<F: FnOnce() -> MadeText + Drop>(self, alloc: Global, trace: F) -> Result<T> {
         match self {
-            Ok(value) => Ok(value),
+            Ok(fine) => Ok(fine),
             Err(error) => match trace() {
                 Ok(text) => Err(error.trace_text(alloc, text)),
                 Err(_) => Err(Error::Memory),
@@ -104,7 +104,7 @@ impl<'k, T> Key<'k, T> {
             Ok(done) => Ok(done),
             Err(error) => match value() {
                 Ok(text) => match String::from_str(alloc, key) {
-                    Ok(key) => Err(error.context_texts(key, text)),
+                    Ok(copied) => Err(error.context_texts(copied, text)),
                     Err(_) => Err(Error::Memory),
                 },
                 Err(_) => Err(Error::Memory),
@@ -138,7 +138,7 @@ impl<T, F: FnOnce() -> MadeText + Drop> FnKey<T, F> {
             Ok(done) => Ok(done),
             Err(error) => match key() {
                 Ok(key) => match String::from_str(alloc, value) {
-                    Ok(text) => Err(error.context_texts(key, text)),
+                    Ok(copied) => Err(error.context_texts(key, copied)),
                     Err(_) => Err(Error::Memory),
                 },
                 Err(_) => Err(Error::Memory),

@@ -47,10 +47,10 @@ impl<T: AsStr> PartialEq for ScalarOf<T> {
 
     fn eq(&self, other: &Self) -> bool {
         match (self, other) {
-            (ScalarOf::Integer(left), ScalarOf::Integer(right)) => *left == *right,
-            (ScalarOf::Bool(left), ScalarOf::Bool(right)) => *left == *right,
-            (ScalarOf::Str(left), ScalarOf::Str(right)) => left.as_str() == right.as_str(),
-            _ => false,
+            (ScalarOf::Integer(mine), ScalarOf::Integer(theirs)) => *mine == *theirs,
+            (ScalarOf::Bool(mine), ScalarOf::Bool(theirs)) => *mine == *theirs,
+            (ScalarOf::Str(mine), ScalarOf::Str(theirs)) => mine.as_str() == theirs.as_str(),
+            (_, _) => false,
         }
     }
 }

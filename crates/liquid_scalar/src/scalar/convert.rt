@@ -86,9 +86,9 @@ impl<'s> Clone for ScalarOf<CowStr<'s>> {
 
     fn clone(&self) -> Result<ScalarCow<'s>, AllocError> {
         match self {
-            ScalarOf::Integer(number) => Ok(ScalarOf::Integer(*number)),
-            ScalarOf::Bool(truth) => Ok(ScalarOf::Bool(*truth)),
-            ScalarOf::Str(text) => Ok(ScalarOf::Str(text.clone()?)),
+            ScalarOf::Integer(whole) => Ok(ScalarOf::Integer(*whole)),
+            ScalarOf::Bool(flag) => Ok(ScalarOf::Bool(*flag)),
+            ScalarOf::Str(shown) => Ok(ScalarOf::Str(shown.clone()?)),
         }
     }
 }
