@@ -1,1 +1,4 @@
 pub mod Newest
+pub mod WholeNumber
+pub mod Causes
+pub mod Makers

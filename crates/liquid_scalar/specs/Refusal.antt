@@ -12,16 +12,26 @@ pub record Note : Type 0 where
   pub text : List ℕ
   pub contexts : List Entry
 
--- a refusal: its message with the contexts that were added to it, its traces, oldest first, and where in a text it lies
+-- what stands behind a refusal: nothing, the text of some error, want of memory, or another refusal, given by its
+-- message, contexts, traces and place, with what stands behind that
+pub data Reason : Type 0 where
+  no_reason : Reason
+  by_text : List ℕ → Reason
+  by_memory : Reason
+  by_refusal : List ℕ → List Entry → List Note → Option Place → Reason → Reason
+
+-- a refusal: its message with the contexts that were added to it, its traces, oldest first, where in a text it lies,
+-- and what caused it
 pub record Refusal : Type 0 where
   pub message : List ℕ
   pub contexts : List Entry
   pub traces : List Note
   pub place : Option Place
+  pub cause : Reason
 
 -- a message alone
 abbrev pub plain : List ℕ → Refusal
-plain message = record { message = message; contexts = []; traces = []; place = None }
+plain message = record { message = message; contexts = []; traces = []; place = None; cause = no_reason }
 
 -- ` (line L, column C)`
 abbrev pub place_text : Place → List ℕ
@@ -50,3 +60,21 @@ with_context key value r =
 -- a new trace without contexts
 abbrev pub with_trace : List ℕ → Refusal → Refusal
 with_trace text r = record r { traces = r.traces ++ record { text = text; contexts = [] } ∷ [] }
+
+-- the same refusal with this cause, in place of any other
+abbrev pub with_cause : Reason → Refusal → Refusal
+with_cause reason r = record r { cause = reason }
+
+-- a refusal as a cause, and want of memory where there is none
+abbrev pub reason_of_told : Option Refusal → Reason
+reason_of_told None = by_memory
+reason_of_told (Some r) = by_refusal r.message r.contexts r.traces r.place r.cause
+
+-- what caused the refusal, and nothing where there is no refusal
+abbrev pub cause_of_told : Option Refusal → Reason
+cause_of_told None = no_reason
+cause_of_told (Some r) = r.cause
+
+-- a new message, with the refusal as its cause
+abbrev pub chained : List ℕ → Refusal → Refusal
+chained message r = with_cause (reason_of_told (Some r)) (plain message)

@@ -76,7 +76,7 @@ impl fmt::Display for Error {
     fn fmt<W: fmt::Write>(&self, f: &mut fmt::Formatter<W>) -> fmt::Result {
         match self {
             Error::Memory => writeln!(f, "liquid: out of memory"),
-            Error::Liquid(report) => report.fmt(f),
+            Error::Liquid(report, _) => report.fmt(f),
         }
     }
 }

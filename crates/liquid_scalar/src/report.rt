@@ -1,4 +1,4 @@
-ghost use Rattle.std.specs.Prelude.{◌≡◌, ◌∷◌, ◌++◌, [], IfOk, OnOk};
+ghost use Rattle.std.specs.Prelude.{◌≡◌, ◌∷◌, ◌++◌, [], IfOk, OnOk, string_bytes};
 ghost use Rattle.liquid_scalar.specs.Refusal.{plain, located, with_trace, with_context};
 ghost use Rattle.liquid_scalar.specs.Told.{entry_of, note_of, refusal_of};
 
@@ -28,17 +28,6 @@ pub struct Report {
     pub(crate) place: Option<Place>,
 }
 
-impl Context {
-    fn new(alloc: Global, key: &str, value: &str) -> Result<Context, AllocError>
-        ensures { IfOk result (λ c. entry_of c ≡ (key.now, value.now)) }
-    {
-        Ok(Context {
-            key: String::from_str(alloc, key)?,
-            value: String::from_str(alloc, value)?,
-        })
-    }
-}
-
 impl Trace {
     fn note(&mut self, context: Context) -> Result<(), AllocError>
         ensures { OnOk result (note_of self.new ≡ record (note_of self.old) { contexts = (note_of self.old).contexts ++ entry_of context ∷ [] }) }
@@ -49,15 +38,15 @@ impl Trace {
 }
 
 impl Report {
-    pub(crate) fn new(alloc: Global, message: &str) -> Result<Report, AllocError>
-        ensures { IfOk result (λ r. refusal_of r ≡ plain message.now) }
+    pub(crate) fn new(alloc: Global, message: String) -> Report
+        ensures { refusal_of result ≡ plain (string_bytes message) }
     {
-        Ok(Report {
-            message: String::from_str(alloc, message)?,
+        Report {
+            message,
             contexts: Vec::new(alloc),
             traces: Vec::new(alloc),
             place: None,
-        })
+        }
     }
 
     pub(crate) fn at_place(alloc: Global, message: &str, place: Place) -> Result<Report, AllocError>
@@ -74,26 +63,21 @@ impl Report {
         })
     }
 
-    pub(crate) fn trace(mut self, alloc: Global, text: &str) -> Result<Report, AllocError>
-        ensures { IfOk result (λ r. refusal_of r ≡ with_trace text.now (refusal_of self)) }
+    pub(crate) fn trace(mut self, alloc: Global, text: String) -> Result<Report, AllocError>
+        ensures { IfOk result (λ r. refusal_of r ≡ with_trace (string_bytes text) (refusal_of self)) }
     {
         let trace = Trace {
-            text: String::from_str(alloc, text)?,
+            text,
             contexts: Vec::new(alloc),
         };
         self.traces.push(trace)?;
         Ok(self)
     }
 
-    pub(crate) fn context(
-        mut self,
-        alloc: Global,
-        key: &str,
-        value: &str,
-    ) -> Result<Report, AllocError>
-        ensures { IfOk result (λ r. refusal_of r ≡ with_context key.now value.now (refusal_of self)) }
+    pub(crate) fn context(mut self, key: String, value: String) -> Result<Report, AllocError>
+        ensures { IfOk result (λ r. refusal_of r ≡ with_context (string_bytes key) (string_bytes value) (refusal_of self)) }
     {
-        let context = Context::new(alloc, key, value)?;
+        let context = Context { key, value };
         match self.traces.pop() {
             None => {
                 self.contexts.push(context)?;
@@ -105,5 +89,42 @@ impl Report {
                 Ok(self)
             }
         }
+    }
+}
+
+impl Clone for Context {
+    ghost is_clone = { λ c copy. entry_of copy ≡ entry_of c };
+
+    fn clone(&self) -> Result<Context, AllocError> {
+        Ok(Context {
+            key: self.key.clone()?,
+            value: self.value.clone()?,
+        })
+    }
+}
+
+impl Clone for Trace {
+    ghost is_clone = { λ t copy. note_of copy ≡ note_of t };
+
+    fn clone(&self) -> Result<Trace, AllocError> {
+        let text = self.text.clone()?;
+        let contexts = self.contexts.clone()?;
+        Ok(Trace { text, contexts })
+    }
+}
+
+impl Clone for Report {
+    ghost is_clone = { λ r copy. refusal_of copy ≡ refusal_of r };
+
+    fn clone(&self) -> Result<Report, AllocError> {
+        let message = self.message.clone()?;
+        let contexts = self.contexts.clone()?;
+        let traces = self.traces.clone()?;
+        Ok(Report {
+            message,
+            contexts,
+            traces,
+            place: self.place,
+        })
     }
 }

@@ -1,0 +1,3 @@
+mod errors;
+mod helpers;
+mod scalars;
