@@ -1,3 +1,5 @@
 pub mod Tree
 pub mod View
+pub mod Kind
+pub mod ScalarSource
 pub mod Render

@@ -1,6 +1,12 @@
-//! Values of Liquid templates and the text that they render as.
+//! Values of Liquid templates, the texts that they render as, and their loose comparison.
 #![tactic(auto)]
 
+mod contents;
+pub mod render;
+mod scalar_state;
+mod scalar_text;
+pub mod state;
 pub mod value;
 
-pub use value::{Object, Value};
+pub use state::State;
+pub use value::{Array, Object, Value};
