@@ -1,5 +1,5 @@
 -- What a context does to a list of traces whose last is named.
-use Rattle.std.proofs.Common.{◌≡◌, List, [], ◌∷◌, ◌++◌, refl, ap, map, sym, ◌∙◌}
+use Rattle.std.proofs.Common.{◌≡◌, List, [], ◌∷◌, ◌++◌, refl, ap, map}
 use Rattle.std.proofs.lemmas.List.{map-append}
 use Rattle.liquid_scalar.specs.declared.report.Trace.{Trace}
 use Rattle.liquid_scalar.specs.Refusal.{Entry, Note, note_newest, note_message}

@@ -1,5 +1,5 @@
 -- What an `Error` tells, and what a call that may fail answers.
-use Rattle.std.specs.Prelude.{◌≡◌, ℕ, List, [], ◌∷◌, Option, None, Some, Result, Ok, Err, map, string_bytes, IfSome}
+use Rattle.std.specs.Prelude.{◌≡◌, Option, None, Some, Result, Ok, Err, map, string_bytes, IfSome}
 use Rattle.liquid_scalar.specs.declared.error.Error.{Error}
 use Rattle.liquid_scalar.specs.declared.error.Error.TheVariants.{Memory, Liquid}
 use Rattle.liquid_scalar.specs.declared.report.Context.{Context}

@@ -9,4 +9,4 @@ pub mod scalar;
 
 pub use error::{Error, Result};
 pub use place::Place;
-pub use scalar::{Scalar, ScalarOf};
+pub use scalar::{Scalar, ScalarCow, ScalarOf, ScalarRender, ScalarSource, ScalarText};

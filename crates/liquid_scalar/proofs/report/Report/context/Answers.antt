@@ -1,6 +1,5 @@
-use Rattle.std.proofs.Common.{◌≡◌, ◌++◌, ◌∷◌, [], List, refl, rules, sym, map, ap, ◌∙◌}
-use Rattle.liquid_scalar.specs.Told.{entry_of, note_of, refusal_of}
-use Rattle.liquid_scalar.specs.Refusal.{note_newest, note_message}
+use Rattle.std.proofs.Common.{◌≡◌, ◌++◌, ◌∷◌, [], refl, rules, map}
+use Rattle.liquid_scalar.specs.Told.{entry_of, note_of}
 use Rattle.liquid_scalar.proofs.Newest.{noted_newest, noted_message}
 use Rattle.liquid_scalar.proofs.report.Report.context.Goals as goal
 

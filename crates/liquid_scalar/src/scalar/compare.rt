@@ -1,0 +1,83 @@
+ghost use Rattle.std.specs.Prelude.{◌≡◌};
+ghost use Rattle.std.specs.Cmp.{on_equiv, on_per, partial_equiv_from_equiv};
+ghost use Rattle.liquid_scalar.specs.Scalar.{scal};
+ghost use Rattle.liquid_scalar.specs.ScalarCompare.{scalar_eq, scalar_cmp, same_scalar, scalar_hash};
+ghost use Rattle.liquid_scalar.specs.ScalarLawProofs.{same_scalar_equiv, hash_agrees};
+
+use super::ScalarOf;
+use std::cmp::Ordering;
+use std::convert::AsStr;
+use std::hash::{Hash, Hasher};
+
+impl<T: AsStr> ScalarOf<T> {
+    /// Loose equality: scalars of one kind by value, a truth value with another kind gives the truth value itself,
+    /// and other scalars are unequal.
+    pub fn scalar_eq<U: AsStr>(&self, other: &ScalarOf<U>) -> bool
+        ensures { result ≡ scalar_eq (scal T.text self.now) (scal U.text other.now) }
+    {
+        match (self, other) {
+            (ScalarOf::Integer(left), ScalarOf::Integer(right)) => *left == *right,
+            (ScalarOf::Bool(left), ScalarOf::Bool(right)) => *left == *right,
+            (ScalarOf::Str(left), ScalarOf::Str(right)) => left.as_str() == right.as_str(),
+            (ScalarOf::Bool(truth), _) => *truth,
+            (_, ScalarOf::Bool(truth)) => *truth,
+            _ => false,
+        }
+    }
+
+    /// Loose order: scalars of one kind by their order, false below true and texts by bytes; other scalars have no
+    /// order.
+    pub fn scalar_cmp<U: AsStr>(&self, other: &ScalarOf<U>) -> Option<Ordering>
+        ensures { result ≡ scalar_cmp (scal T.text self.now) (scal U.text other.now) }
+    {
+        match (self, other) {
+            (ScalarOf::Integer(left), ScalarOf::Integer(right)) => Some(left.cmp(right)),
+            (ScalarOf::Bool(left), ScalarOf::Bool(right)) => Some(left.cmp(right)),
+            (ScalarOf::Str(left), ScalarOf::Str(right)) => Some(left.as_str().cmp(right.as_str())),
+            _ => None,
+        }
+    }
+}
+
+/// Strict equality: the same kind and the same content.
+impl<T: AsStr> PartialEq for ScalarOf<T> {
+    ghost eq = { λ x y. same_scalar (scal T.text x) (scal T.text y) };
+
+    ghost laws = { on_per (scal T.text) (partial_equiv_from_equiv same_scalar_equiv) };
+
+    fn eq(&self, other: &Self) -> bool {
+        match (self, other) {
+            (ScalarOf::Integer(left), ScalarOf::Integer(right)) => *left == *right,
+            (ScalarOf::Bool(left), ScalarOf::Bool(right)) => *left == *right,
+            (ScalarOf::Str(left), ScalarOf::Str(right)) => left.as_str() == right.as_str(),
+            _ => false,
+        }
+    }
+}
+
+impl<T: AsStr> Eq for ScalarOf<T> {
+    ghost laws = { on_equiv (scal T.text) same_scalar_equiv };
+}
+
+impl<T: AsStr> Hash for ScalarOf<T> {
+    ghost hash_input = { λ x. scalar_hash (scal T.text x) };
+
+    ghost respects_eq = { λ x y same. hash_agrees (scal T.text x) (scal T.text y) same };
+
+    fn hash<H: Hasher>(&self, state: &mut H) {
+        match self {
+            ScalarOf::Integer(number) => {
+                state.write_u8(0);
+                number.hash(state);
+            }
+            ScalarOf::Bool(truth) => {
+                state.write_u8(1);
+                truth.hash(state);
+            }
+            ScalarOf::Str(text) => {
+                state.write_u8(2);
+                text.as_str().hash(state);
+            }
+        }
+    }
+}

@@ -1,0 +1,44 @@
+// The laws of the comparisons of scalars. Each function only states its law.
+ghost use Rattle.liquid_scalar.specs.ScalarLaws.{LooseEqualityIsReflexive, LooseEqualityIsSymmetric, OrderSwappedIsReversed, EqualInOrderIsLooselyEqual, StrictEqualityIsEquivalence, StrictlyEqualIsLooselyEqual, HashAgreesWithEquality};
+
+/// Each scalar loosely equals itself.
+#[tactic(auto, using(crate::specs::ScalarLawProofs::loose_refl))]
+pub fn loose_equality_is_reflexive()
+    ensures { LooseEqualityIsReflexive }
+{}
+
+/// Loose equality of scalars holds both ways.
+#[tactic(auto, using(crate::specs::ScalarLawProofs::loose_symm))]
+pub fn loose_equality_is_symmetric()
+    ensures { LooseEqualityIsSymmetric }
+{}
+
+/// The order of two scalars swapped is their order reversed, and none stays none.
+#[tactic(auto, using(crate::specs::ScalarLawProofs::order_swapped))]
+pub fn order_swapped_is_reversed()
+    ensures { OrderSwappedIsReversed }
+{}
+
+/// Scalars that compare as `Equal` are loosely equal.
+#[tactic(auto, using(crate::specs::ScalarLawProofs::equal_is_loose))]
+pub fn equal_in_order_is_loosely_equal()
+    ensures { EqualInOrderIsLooselyEqual }
+{}
+
+/// Strict equality is an equivalence.
+#[tactic(auto, using(crate::specs::ScalarLawProofs::same_scalar_equiv))]
+pub fn strict_equality_is_equivalence()
+    ensures { StrictEqualityIsEquivalence }
+{}
+
+/// Strictly equal scalars are loosely equal.
+#[tactic(auto, using(crate::specs::ScalarLawProofs::same_is_loose))]
+pub fn strictly_equal_is_loosely_equal()
+    ensures { StrictlyEqualIsLooselyEqual }
+{}
+
+/// Strictly equal scalars feed a hasher alike.
+#[tactic(auto, using(crate::specs::ScalarLawProofs::hash_agrees))]
+pub fn hash_agrees_with_equality()
+    ensures { HashAgreesWithEquality }
+{}
