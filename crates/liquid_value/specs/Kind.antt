@@ -1,7 +1,7 @@
 -- The kinds of values: their names, and the states that they are in.
 use Rattle.std.specs.Prelude.{ℕ, List, Bool, true, false, not, codes, length, ◌==◌}
 use Rattle.std.specs.Str.{trim}
-use Rattle.liquid_scalar.specs.Scalar.{Scal, integer, text}
+use Rattle.liquid_scalar.specs.Scalar.{Scal, boolean, text, scalar_type_name}
 use Rattle.liquid_value.specs.declared.state.State.{State}
 use Rattle.liquid_value.specs.declared.state.State.TheVariants.{Truthy, DefaultValue, Empty, Blank}
 use Rattle.liquid_value.specs.Tree.{Tree, nil, state, scalar, array, object, Items, no_items, item, Members, no_members, member}
@@ -13,16 +13,11 @@ state_name DefaultValue = codes "default"
 state_name Empty = codes "empty"
 state_name Blank = codes "blank"
 
--- the name of a scalar's type
-abbrev pub scalar_name : Scal → List ℕ
-scalar_name (integer n) = codes "whole number"
-scalar_name (text t) = codes "string"
-
 -- the name of a value's type
 abbrev pub type_name : Tree → List ℕ
 type_name nil = codes "nil"
 type_name (state s) = state_name s
-type_name (scalar s) = scalar_name s
+type_name (scalar s) = scalar_type_name s
 type_name (array items) = codes "array"
 type_name (object ms) = codes "object"
 
@@ -73,8 +68,9 @@ number_state Blank = false
 
 -- the states that a scalar is in
 abbrev pub scalar_state : Scal → State → Bool
-scalar_state (integer n) s = number_state s
+scalar_state (boolean b) s = boolean_state b s
 scalar_state (text t) s = text_state t s
+scalar_state other s = number_state s
 
 -- the states that a value is in
 abbrev pub query_state : Tree → State → Bool

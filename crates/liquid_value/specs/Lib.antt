@@ -1,5 +1,4 @@
 pub mod Tree
 pub mod View
 pub mod Kind
-pub mod ScalarSource
 pub mod Render

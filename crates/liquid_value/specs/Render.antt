@@ -1,9 +1,8 @@
 -- The text that a value renders as, and its source text.
 use Rattle.std.specs.Prelude.{ℕ, List, [], ◌++◌, codes}
-use Rattle.liquid_scalar.specs.Scalar.{render_scalar}
+use Rattle.liquid_scalar.specs.Scalar.{render_scalar, source_scalar}
 use Rattle.liquid_value.specs.Tree.{Tree, nil, state, scalar, array, object, Items, no_items, item, Members, no_members, member}
 use Rattle.liquid_value.specs.Kind.{type_name}
-use Rattle.liquid_value.specs.ScalarSource.{source_scalar}
 
 -- the rendered text: an array's items joined with nothing between, an object's keys and values likewise,
 -- and nothing for a state and for nil

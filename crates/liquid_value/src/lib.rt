@@ -4,7 +4,6 @@
 mod contents;
 pub mod render;
 mod scalar_state;
-mod scalar_text;
 pub mod state;
 pub mod value;
 

@@ -3,9 +3,9 @@ ghost use Rattle.std.specs.Fmt.{WritesOnOk};
 ghost use Rattle.liquid_value.specs.View.{view, items_view, members_view};
 ghost use Rattle.liquid_value.specs.Render.{render, render_items, render_members, source, listed_items, listed_member, listed_members};
 
-use crate::scalar_text::{write_scalar, write_scalar_source};
 use crate::value::{Array, Object, Value};
 use std::fmt;
+use std::fmt::Display;
 
 /// Displays the text that a value renders as.
 #[derive(Clone, Copy)]
@@ -34,7 +34,7 @@ pub(crate) fn write_value<W: fmt::Write>(value: &Value, f: &mut fmt::Formatter<W
     ensures { WritesOnOk W.write_str_gives f.old result (render (view value.now)) f.new }
 {
     match value {
-        Value::Scalar(scalar) => write_scalar(scalar, f),
+        Value::Scalar(scalar) => scalar.render().fmt(f),
         Value::Array(items) => write_items(items, f),
         Value::Object(members) => write_members(members, f),
         Value::State(_) | Value::Nil => Ok(()),
@@ -99,7 +99,7 @@ pub(crate) fn write_source<W: fmt::Write>(value: &Value, f: &mut fmt::Formatter<
     ensures { WritesOnOk W.write_str_gives f.old result (source (view value.now)) f.new }
 {
     match value {
-        Value::Scalar(scalar) => write_scalar_source(scalar, f),
+        Value::Scalar(scalar) => scalar.source().fmt(f),
         Value::Array(items) => {
             f.write_str("[")?;
             list_items(items, f)?;

@@ -1,25 +1,27 @@
 ghost use Rattle.std.specs.Prelude.{◌≡◌, string_bytes};
 ghost use Rattle.liquid_scalar.specs.Scalar.{scal};
-ghost use Rattle.liquid_value.specs.Kind.{scalar_name, scalar_state, text_state, number_state, container_state};
+ghost use Rattle.liquid_value.specs.Kind.{scalar_state, boolean_state, text_state, number_state, container_state};
 
 use crate::state::State;
 use liquid_scalar::Scalar;
-
-pub(crate) fn scalar_name(scalar: &Scalar) -> &'static str
-    ensures { result.now ≡ scalar_name (scal string_bytes scalar.now) }
-{
-    match scalar {
-        Scalar::Integer(_) => "whole number",
-        Scalar::Str(_) => "string",
-    }
-}
 
 pub(crate) fn scalar_state(scalar: &Scalar, state: State) -> bool
     ensures { result ≡ scalar_state (scal string_bytes scalar.now) state }
 {
     match scalar {
-        Scalar::Integer(_) => number_state(state),
+        Scalar::Bool(truth) => boolean_state(*truth, state),
         Scalar::Str(text) => text_state(text.as_str(), state),
+        Scalar::Integer(_) => number_state(state),
+    }
+}
+
+fn boolean_state(truth: bool, state: State) -> bool
+    ensures { result ≡ boolean_state truth state }
+{
+    match state {
+        State::Truthy => truth,
+        State::DefaultValue | State::Blank => !truth,
+        State::Empty => false,
     }
 }
 

@@ -6,7 +6,7 @@ ghost use Rattle.liquid_value.specs.Render.{render};
 
 use crate::contents::{is_empty_array, is_empty_object};
 use crate::render::ValueRender;
-use crate::scalar_state::{container_state, scalar_name, scalar_state};
+use crate::scalar_state::{container_state, scalar_state};
 use crate::state::State;
 use liquid_scalar::Scalar;
 use std::alloc::{AllocError, Global};
@@ -48,7 +48,7 @@ impl Value {
         ensures { result.now ≡ type_name (view self.now) }
     {
         match self {
-            Value::Scalar(scalar) => scalar_name(scalar),
+            Value::Scalar(scalar) => scalar.type_name(),
             Value::Array(_) => "array",
             Value::Object(_) => "object",
             Value::State(state) => state.type_name(),
