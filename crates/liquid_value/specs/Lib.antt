@@ -2,3 +2,5 @@ pub mod Tree
 pub mod View
 pub mod Kind
 pub mod Render
+pub mod Loose
+pub mod Order

@@ -1,7 +1,10 @@
 //! Values of Liquid templates, the texts that they render as, and their loose comparison.
 #![tactic(auto)]
 
+mod clone;
 mod contents;
+pub mod loose;
+pub mod order;
 pub mod render;
 mod scalar_state;
 pub mod state;
