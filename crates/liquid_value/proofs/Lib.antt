@@ -1,3 +1,4 @@
 pub mod Emptiness
 pub mod Walks
 pub mod Sizes
+pub mod Entries

@@ -4,3 +4,4 @@ pub mod Kind
 pub mod Render
 pub mod Loose
 pub mod Order
+pub mod Members
