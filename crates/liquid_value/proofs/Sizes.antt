@@ -2,6 +2,7 @@
 use Rattle.std.proofs.Common.{ℕ, ◌<◌, drop, Some, Less, subst, ◌≡◌, List, [], ◌∷◌, length, Bool, true, false, ◌&&◌, refl, ap, ◌∙◌, arith}
 use Rattle.liquid_value.specs.Loose.{facing, items_facing}
 use Rattle.liquid_value.specs.Order.{items_cmp}
+use Rattle.liquid_value.specs.Strict.{same_value, same_items}
 use Rattle.liquid_value.specs.View.{view, items_view}
 use Rattle.liquid_value.specs.declared.value.Value.{Value}
 
@@ -22,3 +23,10 @@ beginning (v ∷ vs) (w ∷ ws) shorter = beginning vs ws (omega arith)
 
 pub beginning_is_less : (vs ws : List Value) (n : ℕ) → n ≡ length vs → n < length ws → items_cmp (items_view (drop n vs)) (items_view (drop n ws)) ≡ Some Less
 beginning_is_less vs ws n whole shorter = rw whole (beginning vs ws (subst (λ m. m < length ws) whole shorter))
+
+pub same_items_uneven : (vs ws : List Value) → (length vs ≡ length ws → ⊥) → same_items (items_view vs) (items_view ws) ≡ false
+same_items_uneven [] [] uneven = absurd (uneven refl)
+same_items_uneven [] (w ∷ ws) uneven = refl
+same_items_uneven (v ∷ vs) [] uneven = refl
+same_items_uneven (v ∷ vs) (w ∷ ws) uneven =
+    ap (λ rest. same_value (view v) (view w) && rest) (same_items_uneven vs ws (λ even. uneven (omega (arith, even)))) ∙ and_false _

@@ -5,3 +5,6 @@ pub mod Render
 pub mod Loose
 pub mod Order
 pub mod Members
+pub mod Strict
+pub mod Conjunction
+pub mod StrictLawProofs

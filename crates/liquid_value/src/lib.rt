@@ -8,6 +8,7 @@ pub mod order;
 pub mod render;
 mod scalar_state;
 pub mod state;
+mod strict;
 pub mod value;
 
 pub use state::State;
