@@ -2,3 +2,5 @@ pub mod Emptiness
 pub mod Walks
 pub mod Sizes
 pub mod Entries
+pub mod LooseEquality
+pub mod LooseOrder

@@ -5,6 +5,7 @@ pub mod Render
 pub mod Loose
 pub mod Order
 pub mod Members
+pub mod LooseLaws
 pub mod Strict
 pub mod Conjunction
 pub mod StrictLawProofs

@@ -3,6 +3,7 @@
 
 mod clone;
 mod contents;
+pub mod laws;
 pub mod loose;
 pub mod order;
 pub mod render;

@@ -1,0 +1,26 @@
+// The laws of the comparisons of values. Each function only states its law.
+ghost use Rattle.liquid_value.specs.LooseLaws.{LooseEqualityIsReflexive, LooseEqualityIsSymmetric, OrderSwappedIsReversed, EqualInOrderIsLooselyEqual};
+
+/// Each value in which the state `Truthy` does not occur loosely equals itself.
+#[tactic(auto, using(crate::proofs::LooseEquality::value_eq_refl))]
+pub fn loose_equality_is_reflexive()
+    ensures { LooseEqualityIsReflexive }
+{}
+
+/// Between values in which the state `Truthy` does not occur, loose equality holds both ways.
+#[tactic(auto, using(crate::proofs::LooseEquality::value_eq_symm))]
+pub fn loose_equality_is_symmetric()
+    ensures { LooseEqualityIsSymmetric }
+{}
+
+/// The order of two values swapped is their order reversed, and none stays none.
+#[tactic(auto, using(crate::proofs::LooseOrder::order_swapped))]
+pub fn order_swapped_is_reversed()
+    ensures { OrderSwappedIsReversed }
+{}
+
+/// Values that compare as `Equal` are loosely equal.
+#[tactic(auto, using(crate::proofs::LooseOrder::equal_is_loose))]
+pub fn equal_in_order_is_loosely_equal()
+    ensures { EqualInOrderIsLooselyEqual }
+{}
