@@ -4,3 +4,4 @@ pub mod Sizes
 pub mod Entries
 pub mod LooseEquality
 pub mod LooseOrder
+pub mod LooseByName

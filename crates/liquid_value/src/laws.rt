@@ -1,5 +1,5 @@
 // The laws of the comparisons of values. Each function only states its law.
-ghost use Rattle.liquid_value.specs.LooseLaws.{LooseEqualityIsReflexive, LooseEqualityIsSymmetric, OrderSwappedIsReversed, EqualInOrderIsLooselyEqual};
+ghost use Rattle.liquid_value.specs.LooseLaws.{LooseEqualityIsReflexive, LooseEqualityIsSymmetric, OrderSwappedIsReversed, EqualInOrderIsLooselyEqual, LooseEqualityOfObjectsGoesByName};
 
 /// Each value in which the state `Truthy` does not occur loosely equals itself.
 #[tactic(auto, using(crate::proofs::LooseEquality::value_eq_refl))]
@@ -23,4 +23,11 @@ pub fn order_swapped_is_reversed()
 #[tactic(auto, using(crate::proofs::LooseOrder::equal_is_loose))]
 pub fn equal_in_order_is_loosely_equal()
     ensures { EqualInOrderIsLooselyEqual }
+{}
+
+/// Two objects are loosely equal where they have the same number of entries, each name of the left is in the right, and
+/// the values are loosely equal the other way round.
+#[tactic(auto, using(crate::proofs::LooseByName::by_name))]
+pub fn loose_equality_of_objects_goes_by_name()
+    ensures { LooseEqualityOfObjectsGoesByName }
 {}
