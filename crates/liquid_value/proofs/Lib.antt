@@ -5,3 +5,4 @@ pub mod Entries
 pub mod LooseEquality
 pub mod LooseOrder
 pub mod LooseByName
+pub mod Names

@@ -9,3 +9,7 @@ pub mod LooseLaws
 pub mod Strict
 pub mod Conjunction
 pub mod StrictLawProofs
+pub mod Parts
+pub mod Rows
+pub mod Cow
+pub mod StrictLaws

@@ -1,5 +1,10 @@
 // The laws of the comparisons of values. Each function only states its law.
-ghost use Rattle.liquid_value.specs.LooseLaws.{LooseEqualityIsReflexive, LooseEqualityIsSymmetric, OrderSwappedIsReversed, EqualInOrderIsLooselyEqual, LooseEqualityOfObjectsGoesByName};
+ghost use Rattle.liquid_value.specs.LooseLaws.{LooseEqualityIsReflexive, LooseEqualityIsSymmetric, OrderSwappedIsReversed, EqualInOrderIsLooselyEqual, LooseEqualityOfObjectsGoesByName, in_name_order};
+ghost use Rattle.liquid_value.specs.StrictLaws.{StrictEqualityIsEquivalence, HashAgreesWithEquality};
+ghost use Rattle.std.specs.Prelude.{◌≡◌, true};
+ghost use Rattle.liquid_value.specs.View.{members_view};
+
+use crate::value::Object;
 
 /// Each value in which the state `Truthy` does not occur loosely equals itself.
 #[tactic(auto, using(crate::proofs::LooseEquality::value_eq_refl))]
@@ -30,4 +35,24 @@ pub fn equal_in_order_is_loosely_equal()
 #[tactic(auto, using(crate::proofs::LooseByName::by_name))]
 pub fn loose_equality_of_objects_goes_by_name()
     ensures { LooseEqualityOfObjectsGoesByName }
+{}
+
+/// The entries of an object stand in byte order of their names, each name once.
+#[tactic(auto, using(crate::proofs::Names::entries_in_name_order))]
+pub fn entries_stand_in_name_order(object: &Object)
+    ensures { in_name_order (members_view object.now.entries) ≡ true }
+{
+    let _size = object.len();
+}
+
+/// Strict equality is an equivalence.
+#[tactic(auto, using(crate::specs::StrictLawProofs::same_value_equiv))]
+pub fn strict_equality_is_equivalence()
+    ensures { StrictEqualityIsEquivalence }
+{}
+
+/// Strictly equal values feed a hasher alike.
+#[tactic(auto, using(crate::specs::StrictLawProofs::hash_agrees))]
+pub fn hash_agrees_with_equality()
+    ensures { HashAgreesWithEquality }
 {}

@@ -2,7 +2,10 @@
 #![tactic(auto)]
 
 mod clone;
+pub mod compare;
 mod contents;
+pub mod cow;
+mod from;
 pub mod laws;
 pub mod loose;
 pub mod order;
@@ -12,5 +15,7 @@ pub mod state;
 mod strict;
 pub mod value;
 
+pub use compare::ValueViewCmp;
+pub use cow::ValueCow;
 pub use state::State;
 pub use value::{Array, Object, Value};
