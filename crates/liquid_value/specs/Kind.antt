@@ -40,10 +40,10 @@ absent_state Blank = true
 
 -- an array or an object is truthy, and in the other states where it is empty
 abbrev pub container_state : Bool → State → Bool
-container_state empty Truthy = true
-container_state empty DefaultValue = empty
-container_state empty Empty = empty
-container_state empty Blank = empty
+container_state is_empty Truthy = true
+container_state is_empty DefaultValue = is_empty
+container_state is_empty Empty = is_empty
+container_state is_empty Blank = is_empty
 
 -- a text is truthy, default and empty where it has no byte, and blank where it is white space alone
 abbrev pub text_state : List ℕ → State → Bool

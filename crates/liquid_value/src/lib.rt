@@ -10,7 +10,6 @@ pub mod laws;
 pub mod loose;
 pub mod order;
 pub mod render;
-mod scalar_state;
 pub mod state;
 mod strict;
 pub mod value;

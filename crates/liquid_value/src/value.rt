@@ -13,7 +13,6 @@ ghost use Rattle.liquid_value.specs.Render.{render};
 
 use crate::contents::{is_empty_array, is_empty_object};
 use crate::render::ValueRender;
-use crate::scalar_state::{container_state, scalar_state};
 use crate::state::State;
 use liquid_scalar::Scalar;
 use std::alloc::{AllocError, Global};
@@ -68,9 +67,9 @@ impl Value {
         ensures { result ≡ query_state (view self.now) state }
     {
         match self {
-            Value::Scalar(scalar) => scalar_state(scalar, state),
-            Value::Array(items) => container_state(is_empty_array(items), state),
-            Value::Object(members) => container_state(is_empty_object(members), state),
+            Value::Scalar(scalar) => state.holds_of_scalar(scalar),
+            Value::Array(items) => state.holds_of_container(is_empty_array(items)),
+            Value::Object(members) => state.holds_of_container(is_empty_object(members)),
             Value::State(_) | Value::Nil => state.holds_of_absent(),
         }
     }
