@@ -3,7 +3,7 @@
 
 mod clone;
 pub mod compare;
-mod contents;
+pub mod contents;
 pub mod cow;
 mod from;
 pub mod laws;
