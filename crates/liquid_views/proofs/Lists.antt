@@ -1,11 +1,12 @@
 -- A list beside the items that it means.
-use Rattle.std.proofs.Common.{◌≡◌, ℕ, zero, suc, ◌+◌, ◌<◌, ◌≤◌, List, [], ◌∷◌, ◌++◌, length, drop, get_or, Option, None, Some, refl, sym, ap, ◌∙◌, append_assoc, add-one, arith, rules}
-use Rattle.std.specs.Prelude.{◌==◌}
+use Rattle.std.proofs.Common.{Bor, ◌≡◌, ℕ, zero, suc, ◌+◌, ◌<◌, ◌≤◌, List, [], ◌∷◌, ◌++◌, length, drop, get_or, Option, None, Some, refl, sym, ap, ◌∙◌, append_assoc, add-one, arith, rules}
+use Rattle.std.specs.Prelude.{◌==◌, ℤ, option_map, option_and_then}
 use Rattle.std.proofs.Math.Seq.{drop-cons}
 use Rattle.liquid_value.specs.Kind.{has_no_items}
 use Rattle.liquid_value.specs.Members.{item_count}
 use Rattle.liquid_value.specs.Tree.{Tree, Items, item}
-use Rattle.liquid_views.specs.Place.{nth}
+use Rattle.std.specs.Slice.{IsItemAt}
+use Rattle.liquid_views.specs.Place.{nth, place_at, item_at}
 use Rattle.liquid_views.specs.Trees.{items_by}
 
 pub has_no_items_of_list : {T : Type 0} (tree : T → Tree) (xs : List T) → has_no_items (items_by tree xs) ≡ (length xs == 0)
@@ -25,3 +26,23 @@ pub list_turn : {T : Type 0} (tree : T → Tree) (text : Items → List ℕ) (pi
     → whole ≡ done ++ text (items_by tree (drop i xs)) → whole ≡ (done ++ piece (tree x)) ++ text (items_by tree (drop (i + 1) xs))
 list_turn tree text piece step whole done xs i x within is e =
     e ∙ ap (λ ts. done ++ text ts) (items_by-drop tree xs i x within is) ∙ ap (λ more. done ++ more) (step _ _) ∙ sym (append_assoc done (piece (tree x)) _)
+
+nth_within : {T : Type 0} (tree : T → Tree) (xs : List T) (k : ℕ) (x : T) → k < length xs → x ≡ get_or xs k x → Some (tree x) ≡ nth k (items_by tree xs)
+nth_within tree [] k x within is = absurd (omega arith)
+nth_within tree (y ∷ ys) zero x within is = ap (λ z. Some (tree z)) is
+nth_within tree (y ∷ ys) (suc k) x within is = nth_within tree ys k x (omega arith) is
+
+nth_past : {T : Type 0} (tree : T → Tree) (xs : List T) (k : ℕ) → length xs ≤ k → None ≡ nth k (items_by tree xs)
+nth_past tree [] k past = refl
+nth_past tree (y ∷ ys) zero past = absurd (omega arith)
+nth_past tree (y ∷ ys) (suc k) past = nth_past tree ys k (omega arith)
+
+-- what a slice gives at a place is the item at that place
+pub nth_of_slice : {T : Type 0} (tree : T → Tree) (xs : List T) (k : ℕ) (r : Option (Bor T)) → IsItemAt xs k r → option_map (λ (x : Bor T). tree x.now) r ≡ nth k (items_by tree xs)
+nth_of_slice tree xs k None found = nth_past tree xs k found.3
+nth_of_slice tree xs k (Some x) found = nth_within tree xs k x.now found.3.0 found.1
+
+-- the item at an index of a list
+pub item_at_of_list : {T : Type 0} (tree : T → Tree) (xs : List T) (index : ℤ) (length : ℕ) → length ≡ item_count (items_by tree xs)
+    → item_at index (items_by tree xs) ≡ option_and_then (λ place. nth place (items_by tree xs)) (place_at index length)
+item_at_of_list tree xs index length is = ap (λ n. option_and_then (λ place. nth place (items_by tree xs)) (place_at index n)) (sym is)

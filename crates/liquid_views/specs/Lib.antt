@@ -1,3 +1,4 @@
 pub mod Outline
 pub mod Place
+pub mod Names
 pub mod Trees

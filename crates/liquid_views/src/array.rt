@@ -70,6 +70,15 @@ fn place_at(index: i64, length: usize) -> Option<usize>
     }
 }
 
+fn item_at<T: ValueView>(items: &[T], index: i64) -> Option<&T>
+    ensures { option_map (λ x. T.tree x.now) result ≡ item_at index (items_by T.tree items.now) }
+{
+    match place_at(index, items.len()) {
+        Some(place) => items.get(place),
+        None => None,
+    }
+}
+
 impl<T: ValueView> ValueView for Vec<T> {
     ghost tree = { λ v. array (items_by T.tree v.items) };
 
@@ -138,10 +147,7 @@ impl<T: ValueView> ArrayView for Vec<T> {
     }
 
     fn get(&self, index: i64) -> Option<&T> {
-        match place_at(index, self.len()) {
-            Some(place) => self.as_slice().get(place),
-            None => None,
-        }
+        item_at(self.as_slice(), index)
     }
 }
 

@@ -38,7 +38,9 @@ impl<'v> ViewKind<'v> {
     {
         match self {
             ViewKind::Scalar(scalar) => state.holds_of_scalar(scalar),
-            ViewKind::Array(is_empty) | ViewKind::Object(is_empty) => state.holds_of_container(*is_empty),
+            ViewKind::Array(is_empty) | ViewKind::Object(is_empty) => state.holds_of_container(
+                *is_empty,
+            ),
             ViewKind::State(_) | ViewKind::Nil => state.holds_of_absent(),
         }
     }

@@ -128,7 +128,9 @@ pub trait ValueView {
         match self.kind() {
             ViewKind::Scalar(scalar) => scalar.into_cow_str(alloc),
             ViewKind::State(_) | ViewKind::Nil => Ok(CowStr::Borrowed("")),
-            ViewKind::Array(_) | ViewKind::Object(_) => Ok(CowStr::Owned(self.render().to_string(alloc)?)),
+            ViewKind::Array(_) | ViewKind::Object(_) => Ok(CowStr::Owned(
+                self.render().to_string(alloc)?,
+            )),
         }
     }
 
