@@ -1,10 +1,11 @@
 -- A list beside the items that it means.
 use Rattle.std.proofs.Common.{Bor, ◌≡◌, ℕ, zero, suc, ◌+◌, ◌<◌, ◌≤◌, List, [], ◌∷◌, ◌++◌, length, drop, get_or, Option, None, Some, refl, sym, ap, ◌∙◌, append_assoc, add-one, arith, rules}
-use Rattle.std.specs.Prelude.{◌==◌, ℤ, option_map, option_and_then}
+use borrow.Author.Tests.{ltb-true}
+use Rattle.std.specs.Prelude.{◌==◌, ◌-◌, Bool, true, false, nat_lt, is_some, if◌then◌else◌, ℤ, pos, negsuc, option_map, option_and_then}
 use Rattle.std.proofs.Math.Seq.{drop-cons}
 use Rattle.liquid_value.specs.Kind.{has_no_items}
 use Rattle.liquid_value.specs.Members.{item_count}
-use Rattle.liquid_value.specs.Tree.{Tree, Items, item}
+use Rattle.liquid_value.specs.Tree.{Tree, Items, no_items, item}
 use Rattle.std.specs.Slice.{IsItemAt}
 use Rattle.liquid_views.specs.Place.{nth, place_at, item_at}
 use Rattle.liquid_views.specs.Trees.{items_by}
@@ -46,3 +47,24 @@ nth_of_slice tree xs k (Some x) found = nth_within tree xs k x.now found.3.0 fou
 pub item_at_of_list : {T : Type 0} (tree : T → Tree) (xs : List T) (index : ℤ) (length : ℕ) → length ≡ item_count (items_by tree xs)
     → item_at index (items_by tree xs) ≡ option_and_then (λ place. nth place (items_by tree xs)) (place_at index length)
 item_at_of_list tree xs index length is = ap (λ n. option_and_then (λ place. nth place (items_by tree xs)) (place_at index n)) (sym is)
+
+there : (k : ℕ) (ts : Items) → k < item_count ts → is_some (nth k ts) ≡ true
+there k no_items within = absurd (omega arith)
+there zero (item t ts) within = refl
+there (suc k) (item t ts) within = there k ts (omega arith)
+
+within_count : (k n : ℕ) (b : Bool) → nat_lt k n ≡ b → (ts : Items) → item_count ts ≡ n → is_some (if b then Some k else None) ≡ is_some (option_and_then (λ place. nth place ts) (if b then Some k else None))
+within_count k n true e ts size = let within : k < item_count ts = rw size (ltb-true k n e) in sym (there k ts within)
+within_count k n false e ts size = refl
+
+behind_end : (k n : ℕ) (b : Bool) → nat_lt k n ≡ b → (ts : Items) → item_count ts ≡ n → is_some (if b then Some (n - suc k) else None) ≡ is_some (option_and_then (λ place. nth place ts) (if b then Some (n - suc k) else None))
+behind_end k n true e ts size =
+    let low : k < n = ltb-true k n e in
+    let within : n - suc k < item_count ts = rw size (omega arith) in
+    sym (there (n - suc k) ts within)
+behind_end k n false e ts size = refl
+
+-- an index is known exactly where there is an item at it
+pub contains_where_get : (index : ℤ) (ts : Items) → is_some (place_at index (item_count ts)) ≡ is_some (item_at index ts)
+contains_where_get (pos k) ts = within_count k (item_count ts) _ refl ts refl
+contains_where_get (negsuc k) ts = behind_end k (item_count ts) _ refl ts refl

@@ -7,6 +7,7 @@ ghost use Rattle.std.specs.Prelude.{◌++◌, codes};
 ghost use Rattle.liquid_views.specs.Place.{place_at, item_at};
 ghost use Rattle.liquid_views.specs.Trees.{items_by};
 
+use crate::build::array_of;
 use crate::kind::ViewKind;
 use crate::view::ValueView;
 use liquid_value::Value;
@@ -88,11 +89,7 @@ impl<T: ValueView> ValueView for Vec<T> {
     }
 
     fn to_value(&self, alloc: Global) -> Result<Value, AllocError> {
-        let mut copies = Vec::with_capacity(alloc, self.len())?;
-        for item in self {
-            copies.push(item.to_value(alloc)?)?;
-        }
-        Ok(Value::Array(copies))
+        Ok(Value::Array(array_of(alloc, self)?))
     }
 
     fn write_render<W: fmt::Write>(&self, f: &mut fmt::Formatter<W>) -> fmt::Result {

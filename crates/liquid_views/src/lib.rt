@@ -2,8 +2,10 @@
 #![tactic(auto)]
 
 mod array;
+mod build;
 mod index;
 mod kind;
+pub mod laws;
 mod numbers;
 mod object;
 mod scalars;
@@ -11,7 +13,8 @@ mod values;
 pub mod view;
 
 pub use array::ArrayView;
+pub use build::{array_of, object_of, scalar_of};
 pub use index::ObjectIndex;
 pub use kind::ViewKind;
-pub use object::ObjectView;
+pub use object::{ObjectRender, ObjectSource, ObjectView};
 pub use view::{ValueView, ViewRender, ViewSource};

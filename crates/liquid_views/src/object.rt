@@ -1,8 +1,8 @@
-ghost use Rattle.std.specs.Prelude.{◌≡◌, ◌++◌, ℕ, List, pos, refl, is_some, option_map, IfOk, map, string_bytes};
+ghost use Rattle.std.specs.Prelude.{◌≡◌, Some, ◌++◌, ℕ, List, pos, refl, is_some, option_map, IfOk, map, string_bytes};
 ghost use Rattle.std.specs.Fmt.{WritesOnOk};
 ghost use Rattle.liquid_value.specs.Cow.{cow_view};
 ghost use Rattle.liquid_value.specs.Members.{get_member, member_count};
-ghost use Rattle.liquid_value.specs.Render.{render, listed_member, listed_members};
+ghost use Rattle.liquid_value.specs.Render.{render, source, listed_member, listed_members};
 ghost use Rattle.liquid_value.specs.Tree.{Members, object};
 ghost use Rattle.liquid_value.specs.View.{members_view};
 ghost use Rattle.liquid_views.specs.Names.{names};
@@ -145,5 +145,72 @@ impl<V: ValueView> ObjectView for BTreeMap<String, V> {
             names.push(key.as_str())?;
         }
         Ok(names)
+    }
+}
+
+/// A map seen through a reference.
+impl<O: ObjectView> ObjectView for &O {
+    ghost members = { λ o. O.members o.now };
+
+    ghost holds = { λ o. O.holds o.now };
+
+    fn size(&self) -> i64 {
+        (**self).size()
+    }
+
+    fn contains_key(&self, index: &str) -> bool {
+        (**self).contains_key(index)
+    }
+
+    fn lookup(&self, alloc: Global, index: &str) -> Result<Option<ValueCow<'_>>, AllocError> {
+        (**self).lookup(alloc, index)
+    }
+
+    fn keys(&self, alloc: Global) -> Result<Vec<&str>, AllocError> {
+        (**self).keys(alloc)
+    }
+}
+
+/// Displays the source text of an object.
+#[derive(Drop)]
+pub struct ObjectSource<'s, O> {
+    object: &'s O,
+}
+
+impl<'s, O: ObjectView> ObjectSource<'s, O> {
+    pub fn new(object: &'s O) -> Self
+        ensures { result.object.now ≡ object.now }
+    {
+        ObjectSource { object }
+    }
+}
+
+impl<O: ObjectView> fmt::Display for ObjectSource<'_, O> {
+    ghost output = { λ d. Some (source (O.tree d.object.now)) };
+
+    fn fmt<W: fmt::Write>(&self, f: &mut fmt::Formatter<W>) -> fmt::Result {
+        self.object.write_source(f)
+    }
+}
+
+/// Displays the text that an object renders as.
+#[derive(Drop)]
+pub struct ObjectRender<'s, O> {
+    object: &'s O,
+}
+
+impl<'s, O: ObjectView> ObjectRender<'s, O> {
+    pub fn new(object: &'s O) -> Self
+        ensures { result.object.now ≡ object.now }
+    {
+        ObjectRender { object }
+    }
+}
+
+impl<O: ObjectView> fmt::Display for ObjectRender<'_, O> {
+    ghost output = { λ d. Some (render (O.tree d.object.now)) };
+
+    fn fmt<W: fmt::Write>(&self, f: &mut fmt::Formatter<W>) -> fmt::Result {
+        self.object.write_render(f)
     }
 }
