@@ -18,3 +18,6 @@ pub use index::ObjectIndex;
 pub use kind::ViewKind;
 pub use object::{ObjectRender, ObjectSource, ObjectView};
 pub use view::{ValueView, ViewRender, ViewSource};
+
+#[cfg(test)]
+mod tests;
