@@ -96,7 +96,7 @@ impl Value {
         ensures { option_map (λ v. items_view v.items) result ≡ as_array (view self) }
     {
         match self {
-            Value::Array(items) => Some(items),
+            Value::Array(array) => Some(array),
             _ => None,
         }
     }
@@ -106,7 +106,7 @@ impl Value {
         ensures { option_map (λ m. members_view m.entries) result ≡ as_object (view self) }
     {
         match self {
-            Value::Object(members) => Some(members),
+            Value::Object(object) => Some(object),
             _ => None,
         }
     }
@@ -147,7 +147,7 @@ impl Value {
         ensures value { option_map (λ v. items_view v.now.items) result ≡ as_array (view self.old) }
     {
         match self {
-            Value::Array(items) => Some(items),
+            Value::Array(list) => Some(list),
             _ => None,
         }
     }
@@ -158,7 +158,7 @@ impl Value {
         ensures value { option_map (λ m. members_view m.now.entries) result ≡ as_object (view self.old) }
     {
         match self {
-            Value::Object(members) => Some(members),
+            Value::Object(map) => Some(map),
             _ => None,
         }
     }
