@@ -1,3 +1,15 @@
 pub mod Tree
 pub mod View
+pub mod Kind
 pub mod Render
+pub mod Loose
+pub mod Order
+pub mod Members
+pub mod LooseLaws
+pub mod Strict
+pub mod Conjunction
+pub mod StrictLawProofs
+pub mod Parts
+pub mod Rows
+pub mod Cow
+pub mod StrictLaws

@@ -1,6 +1,23 @@
-//! Values of Liquid templates and the text that they render as.
+//! Values of Liquid templates, the texts that they render as, and their loose comparison.
 #![tactic(auto)]
 
+mod clone;
+pub mod compare;
+pub mod contents;
+pub mod cow;
+mod from;
+pub mod laws;
+pub mod loose;
+pub mod order;
+pub mod render;
+pub mod state;
+mod strict;
 pub mod value;
 
-pub use value::{Object, Value};
+pub use compare::ValueViewCmp;
+pub use cow::ValueCow;
+pub use state::State;
+pub use value::{Array, Object, Value};
+
+#[cfg(test)]
+mod tests;

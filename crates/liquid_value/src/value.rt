@@ -1,12 +1,26 @@
-ghost use Rattle.std.specs.Prelude.{◌≡◌, IfOk};
+ghost use Rattle.std.specs.Prelude.{◌≡◌, IfOk, option_map, string_bytes};
+ghost use Rattle.std.specs.Borrow.{LendsIf, sem};
 ghost use Rattle.std.specs.Cow.{cow_str_bytes};
-ghost use Rattle.liquid_value.specs.View.{view};
+ghost use Rattle.liquid_value.specs.Kind.{type_name, query_state};
+ghost use Rattle.liquid_scalar.specs.Scalar.{scal};
+ghost use Rattle.liquid_value.specs.contracts.value.Value.{the_row};
+ghost use Rattle.liquid_value.specs.declared.value.Value.{Array, Object};
+ghost use Rattle.liquid_value.specs.Parts.{as_scalar, as_array, as_object, as_state};
+ghost use Rattle.liquid_value.specs.Rows.{array_row, object_row};
+ghost use Rattle.liquid_value.specs.Tree.{nil, scalar};
+ghost use Rattle.liquid_value.specs.View.{view, items_view, members_view};
 ghost use Rattle.liquid_value.specs.Render.{render};
 
+use crate::contents::{is_empty_array, is_empty_object};
+use crate::render::ValueRender;
+use crate::state::State;
 use liquid_scalar::Scalar;
 use std::alloc::{AllocError, Global};
 use std::borrow::CowStr;
 use std::collections::BTreeMap;
+
+/// Values in order.
+pub type Array = Vec<Value>;
 
 /// Values by their names, in byte order of the names.
 pub type Object = BTreeMap<String, Value>;
@@ -15,6 +29,9 @@ pub type Object = BTreeMap<String, Value>;
 #[derive(Debug, Drop)]
 pub enum Value {
     Scalar(Scalar),
+    Array(Array),
+    Object(Object),
+    State(State),
     Nil,
 }
 
@@ -25,7 +42,133 @@ impl Value {
     {
         match self {
             Value::Scalar(scalar) => scalar.to_kstr(alloc),
-            Value::Nil => Ok(CowStr::Borrowed("")),
+            Value::State(_) | Value::Nil => Ok(CowStr::Borrowed("")),
+            Value::Array(_) | Value::Object(_) => Ok(CowStr::Owned(ValueRender::new(self).to_string(
+                alloc,
+            )?)),
         }
+    }
+
+    /// The name of the value's type, as `whole number`, `string`, `array` or `nil`.
+    pub fn type_name(&self) -> &'static str
+        ensures { result.now ≡ type_name (view self.now) }
+    {
+        match self {
+            Value::Scalar(scalar) => scalar.type_name(),
+            Value::Array(_) => "array",
+            Value::Object(_) => "object",
+            Value::State(state) => state.type_name(),
+            Value::Nil => "nil",
+        }
+    }
+
+    /// Whether the value is in the state.
+    pub fn query_state(&self, state: State) -> bool
+        ensures { result ≡ query_state (view self.now) state }
+    {
+        match self {
+            Value::Scalar(scalar) => state.holds_of_scalar(scalar),
+            Value::Array(items) => state.holds_of_container(is_empty_array(items)),
+            Value::Object(members) => state.holds_of_container(is_empty_object(members)),
+            Value::State(_) | Value::Nil => state.holds_of_absent(),
+        }
+    }
+
+    /// The value of a number, a truth value or a text.
+    pub fn scalar<T: Into<Scalar>>(value: T) -> Value
+        ensures { (s : _) × T.converts value s × (view result ≡ scalar (scal string_bytes s)) }
+    {
+        Value::Scalar(value.into())
+    }
+
+    /// The scalar, and none for any other value, which is dropped.
+    pub fn into_scalar(self) -> Option<Scalar>
+        ensures { option_map (scal string_bytes) result ≡ as_scalar (view self) }
+    {
+        match self {
+            Value::Scalar(scalar) => Some(scalar),
+            _ => None,
+        }
+    }
+
+    /// The list, and none for any other value, which is dropped.
+    pub fn into_array(self) -> Option<Array>
+        ensures { option_map (λ v. items_view v.items) result ≡ as_array (view self) }
+    {
+        match self {
+            Value::Array(array) => Some(array),
+            _ => None,
+        }
+    }
+
+    /// The map, and none for any other value, which is dropped.
+    pub fn into_object(self) -> Option<Object>
+        ensures { option_map (λ m. members_view m.entries) result ≡ as_object (view self) }
+    {
+        match self {
+            Value::Object(object) => Some(object),
+            _ => None,
+        }
+    }
+
+    /// The state, and none for any other value, which is dropped.
+    pub fn into_state(self) -> Option<State>
+        ensures { result ≡ as_state (view self) }
+    {
+        match self {
+            Value::State(state) => Some(state),
+            _ => None,
+        }
+    }
+
+    /// The list, and none for any other value.
+    pub fn as_array(&self) -> Option<&Array>
+        ensures { option_map (λ v. items_view v.now.items) result ≡ as_array (view self.now) }
+    {
+        match self {
+            Value::Array(items) => Some(items),
+            _ => None,
+        }
+    }
+
+    /// The map, and none for any other value.
+    pub fn as_object(&self) -> Option<&Object>
+        ensures { option_map (λ m. members_view m.now.entries) result ≡ as_object (view self.now) }
+    {
+        match self {
+            Value::Object(members) => Some(members),
+            _ => None,
+        }
+    }
+
+    /// The list, to be changed in place, and none for any other value.
+    pub fn as_array_mut(&mut self) -> Option<&mut Array>
+        ensures* writes_back { sem 𝓛 (LendsIf the_row array_row self.entry result Array self.old) }
+        ensures value { option_map (λ v. items_view v.now.items) result ≡ as_array (view self.old) }
+    {
+        match self {
+            Value::Array(list) => Some(list),
+            _ => None,
+        }
+    }
+
+    /// The map, to be changed in place, and none for any other value.
+    pub fn as_object_mut(&mut self) -> Option<&mut Object>
+        ensures* writes_back { sem 𝓛 (LendsIf the_row object_row self.entry result Object self.old) }
+        ensures value { option_map (λ m. members_view m.now.entries) result ≡ as_object (view self.old) }
+    {
+        match self {
+            Value::Object(map) => Some(map),
+            _ => None,
+        }
+    }
+}
+
+/// Nil.
+impl Default for Value {
+    ghost is_default = { λ v. view v ≡ nil };
+
+    fn default() -> Value {
+        Value::Nil
     }
 }

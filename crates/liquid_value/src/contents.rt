@@ -1,0 +1,21 @@
+ghost use Rattle.std.specs.Prelude.{◌≡◌};
+ghost use Rattle.liquid_value.specs.Kind.{has_no_items, has_no_members};
+ghost use Rattle.liquid_value.specs.View.{items_view, members_view};
+
+use crate::value::{Array, Object};
+
+/// Whether the list has no items.
+#[tactic(auto, using(crate::proofs::Emptiness::has_no_items_of_view))]
+pub fn is_empty_array(items: &Array) -> bool
+    ensures { result ≡ has_no_items (items_view items.now.items) }
+{
+    items.is_empty()
+}
+
+/// Whether the map has no entries.
+#[tactic(auto, using(crate::proofs::Emptiness::has_no_members_of_view))]
+pub fn is_empty_object(members: &Object) -> bool
+    ensures { result ≡ has_no_members (members_view members.now.entries) }
+{
+    members.is_empty()
+}

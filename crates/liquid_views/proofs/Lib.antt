@@ -1,0 +1,4 @@
+pub mod Outlines
+pub mod Lists
+pub mod Maps
+pub mod Pairs

@@ -1,0 +1,9 @@
+use Rattle.std.proofs.Common.{◌≡◌, ℕ, List, ◌++◌, drop}
+use Rattle.std.specs.Fmt.{HasWritten, IsPlainFormatter}
+use Rattle.liquid_value.specs.Render.{render_items}
+use Rattle.liquid_views.specs.Trees.{items_by}
+use Rattle.liquid_views.proofs.array.VecValueView.write_render.Given as goal
+
+abbrev pub invariant-loop-item : goal.invariant-loop-item
+invariant-loop-item g l =
+    (done : List ℕ) × (render_items (items_by g.T.ValueView.tree l.self.items) ≡ done ++ render_items (items_by g.T.ValueView.tree (drop l.item-index l.item-items))) × (IsPlainFormatter l.initial.f → HasWritten g.W.Write.write_str_gives l.initial.f done l.f)

@@ -1,0 +1,6 @@
+pub mod Outline
+pub mod Place
+pub mod Names
+pub mod Pairs
+pub mod ArrayLaws
+pub mod Trees

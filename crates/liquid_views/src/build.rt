@@ -1,0 +1,41 @@
+// Values from what the program has.
+ghost use Rattle.std.specs.Prelude.{◌≡◌, IfOk};
+ghost use Rattle.liquid_value.specs.Tree.{no_members};
+ghost use Rattle.liquid_value.specs.View.{items_view, members_view};
+ghost use Rattle.liquid_views.specs.Pairs.{put_pairs};
+ghost use Rattle.liquid_views.specs.Trees.{items_by};
+
+use crate::view::ValueView;
+use liquid_scalar::Scalar;
+use liquid_value::{Array, Object};
+use std::alloc::{AllocError, Global};
+
+/// The scalar of a number, a truth value or a text.
+pub fn scalar_of<T: Into<Scalar>>(value: T) -> Scalar
+    ensures { T.converts value result }
+{
+    value.into()
+}
+
+/// The list of these values, copied.
+pub fn array_of<V: ValueView>(alloc: Global, items: &[V]) -> Result<Array, AllocError>
+    ensures { IfOk result (λ v. items_view v.items ≡ items_by V.tree items.now) }
+{
+    let mut array = Vec::with_capacity(alloc, items.len())?;
+    for item in items {
+        array.push(item.to_value(alloc)?)?;
+    }
+    Ok(array)
+}
+
+/// The map of these pairs of name and value, copied. Of two pairs of one name the later wins.
+pub fn object_of<V: ValueView>(alloc: Global, pairs: &[(&str, V)]) -> Result<Object, AllocError>
+    ensures { IfOk result (λ m. members_view m.entries ≡ put_pairs V.tree pairs.now no_members) }
+{
+    let mut object = Object::new(alloc);
+    for pair in pairs {
+        let name = String::from_str(alloc, pair.0)?;
+        drop(object.insert(name, pair.1.to_value(alloc)?)?);
+    }
+    Ok(object)
+}

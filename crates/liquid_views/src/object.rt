@@ -1,0 +1,216 @@
+ghost use Rattle.std.specs.Prelude.{◌≡◌, Some, ◌++◌, ℕ, List, pos, refl, is_some, option_map, IfOk, map, string_bytes};
+ghost use Rattle.std.specs.Fmt.{WritesOnOk};
+ghost use Rattle.liquid_value.specs.Cow.{cow_view};
+ghost use Rattle.liquid_value.specs.Members.{get_member, member_count};
+ghost use Rattle.liquid_value.specs.Render.{render, source, listed_member, listed_members};
+ghost use Rattle.liquid_value.specs.Tree.{Members, object};
+ghost use Rattle.liquid_value.specs.View.{members_view};
+ghost use Rattle.liquid_views.specs.Names.{names};
+ghost use Rattle.liquid_views.specs.Trees.{members_by};
+
+use crate::kind::ViewKind;
+use crate::view::ValueView;
+use liquid_value::{Object, Value, ValueCow};
+use std::alloc::{AllocError, Global};
+use std::collections::BTreeMap;
+use std::fmt;
+
+/// A map from texts to values of one type.
+pub trait ObjectView: ValueView {
+    ghost members: { Self → Members };
+
+    /// How many entries there are.
+    fn size(&self) -> i64
+        ensures { result ≡ pos (member_count (members self.now)) };
+
+    /// Whether there is a value at the name. It takes no memory.
+    fn contains_key(&self, index: &str) -> bool
+        ensures { result ≡ is_some (get_member index.now (members self.now)) };
+
+    /// The value at the name, if there is one, borrowed where it stands as a `Value`.
+    fn lookup(&self, alloc: Global, index: &str) -> Result<Option<ValueCow<'_>>, AllocError>
+        ensures { IfOk result (λ found. option_map cow_view found ≡ get_member index.now (members self.now)) };
+
+    /// The names in byte order.
+    fn keys(&self, alloc: Global) -> Result<Vec<&str>, AllocError>
+        ensures { IfOk result (λ keys. map (λ key. key.now) keys.items ≡ names (members self.now)) };
+
+    // the members are those of the value
+    ghost holds: { (s : Self) → Self.tree s ≡ object (members s) };
+}
+
+impl<V: ValueView> ValueView for BTreeMap<String, V> {
+    ghost tree = { λ m. object (members_by V.tree m.entries) };
+
+    #[tactic(auto, using(crate::proofs::Maps::has_no_members_of_map))]
+    fn kind(&self) -> ViewKind<'_> {
+        ViewKind::Object(self.is_empty())
+    }
+
+    fn to_value(&self, alloc: Global) -> Result<Value, AllocError> {
+        Ok(Value::Object(copy_members(alloc, self)?))
+    }
+
+    fn write_render<W: fmt::Write>(&self, f: &mut fmt::Formatter<W>) -> fmt::Result {
+        for (key, value) in self.iter() {
+            write_member(key.as_str(), value, f)?;
+        }
+        Ok(())
+    }
+
+    fn write_source<W: fmt::Write>(&self, f: &mut fmt::Formatter<W>) -> fmt::Result {
+        f.write_str("{")?;
+        list_members(self, f)?;
+        f.write_str("}")
+    }
+}
+
+fn copy_members<V: ValueView>(
+    alloc: Global,
+    members: &BTreeMap<String, V>,
+) -> Result<Object, AllocError>
+    ensures { IfOk result (λ m. members_view m.entries ≡ members_by V.tree members.now.entries) }
+{
+    let mut copies = Object::new(alloc);
+    for (key, member) in members.iter() {
+        let name = key.clone()?;
+        drop(copies.insert(name, member.to_value(alloc)?)?);
+    }
+    Ok(copies)
+}
+
+fn write_member<V: ValueView, W: fmt::Write>(
+    key: &str,
+    value: &V,
+    f: &mut fmt::Formatter<W>,
+) -> fmt::Result
+    ensures { WritesOnOk W.write_str_gives f.old result (key.now ++ render (V.tree value.now)) f.new }
+{
+    f.write_str(key)?;
+    value.write_render(f)
+}
+
+fn list_members<V: ValueView, W: fmt::Write>(
+    members: &BTreeMap<String, V>,
+    f: &mut fmt::Formatter<W>,
+) -> fmt::Result
+    ensures { WritesOnOk W.write_str_gives f.old result (listed_members (members_by V.tree members.now.entries)) f.new }
+{
+    for (key, value) in members.iter() {
+        list_member(key.as_str(), value, f)?;
+    }
+    Ok(())
+}
+
+fn list_member<V: ValueView, W: fmt::Write>(
+    key: &str,
+    value: &V,
+    f: &mut fmt::Formatter<W>,
+) -> fmt::Result
+    ensures { WritesOnOk W.write_str_gives f.old result (listed_member key.now (V.tree value.now)) f.new }
+{
+    f.write_str("\"")?;
+    f.write_str(key)?;
+    f.write_str("\": ")?;
+    value.write_render(f)?;
+    f.write_str(", ")
+}
+
+impl<V: ValueView> ObjectView for BTreeMap<String, V> {
+    ghost members = { λ m. members_by V.tree m.entries };
+
+    ghost holds = { λ m. refl };
+
+    #[tactic(auto, using(crate::proofs::Maps::count_of_map))]
+    fn size(&self) -> i64 {
+        self.len() as i64
+    }
+
+    #[tactic(auto, using(crate::proofs::Maps::found_of_map))]
+    fn contains_key(&self, index: &str) -> bool {
+        BTreeMap::contains_key(self, index)
+    }
+
+    #[tactic(auto, using(crate::proofs::Maps::value_of_map))]
+    fn lookup(&self, alloc: Global, index: &str) -> Result<Option<ValueCow<'_>>, AllocError> {
+        match self.get(index) {
+            Some(value) => Ok(Some(value.to_cow(alloc)?)),
+            None => Ok(None),
+        }
+    }
+
+    fn keys(&self, alloc: Global) -> Result<Vec<&str>, AllocError> {
+        let mut names = Vec::with_capacity(alloc, self.len())?;
+        for (key, _) in self.iter() {
+            names.push(key.as_str())?;
+        }
+        Ok(names)
+    }
+}
+
+/// A map seen through a reference.
+impl<O: ObjectView> ObjectView for &O {
+    ghost members = { λ o. O.members o.now };
+
+    ghost holds = { λ o. O.holds o.now };
+
+    fn size(&self) -> i64 {
+        (**self).size()
+    }
+
+    fn contains_key(&self, index: &str) -> bool {
+        (**self).contains_key(index)
+    }
+
+    fn lookup(&self, alloc: Global, index: &str) -> Result<Option<ValueCow<'_>>, AllocError> {
+        (**self).lookup(alloc, index)
+    }
+
+    fn keys(&self, alloc: Global) -> Result<Vec<&str>, AllocError> {
+        (**self).keys(alloc)
+    }
+}
+
+/// Displays the source text of an object.
+#[derive(Drop)]
+pub struct ObjectSource<'s, O> {
+    object: &'s O,
+}
+
+impl<'s, O: ObjectView> ObjectSource<'s, O> {
+    pub fn new(object: &'s O) -> Self
+        ensures { result.object.now ≡ object.now }
+    {
+        ObjectSource { object }
+    }
+}
+
+impl<O: ObjectView> fmt::Display for ObjectSource<'_, O> {
+    ghost output = { λ d. Some (source (O.tree d.object.now)) };
+
+    fn fmt<W: fmt::Write>(&self, f: &mut fmt::Formatter<W>) -> fmt::Result {
+        self.object.write_source(f)
+    }
+}
+
+/// Displays the text that an object renders as.
+#[derive(Drop)]
+pub struct ObjectRender<'s, O> {
+    object: &'s O,
+}
+
+impl<'s, O: ObjectView> ObjectRender<'s, O> {
+    pub fn new(object: &'s O) -> Self
+        ensures { result.object.now ≡ object.now }
+    {
+        ObjectRender { object }
+    }
+}
+
+impl<O: ObjectView> fmt::Display for ObjectRender<'_, O> {
+    ghost output = { λ d. Some (render (O.tree d.object.now)) };
+
+    fn fmt<W: fmt::Write>(&self, f: &mut fmt::Formatter<W>) -> fmt::Result {
+        self.object.write_render(f)
+    }
+}
