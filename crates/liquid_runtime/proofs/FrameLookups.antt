@@ -1,18 +1,10 @@
 -- What the layers of a view answer, frame by frame.
-use Rattle.std.proofs.Common.{◌≡◌, ℕ, Bool, true, false, cond, List, [], ◌∷◌, ◌++◌, Option, Some, None, map, refl, ap, sym, ◌∙◌}
-use Rattle.std.specs.Prelude.{String, string_bytes, unwrap_or}
-use Rattle.std.specs.Option.{option_or, option_map}
-use Rattle.std.specs.Ordering.{nat_cmp, is_eq}
-use Rattle.std.specs.Cmp.Lexicographic.{slice_cmp, nat_list_cmp_total}
-use Rattle.std.specs.BTreeMap.{BTreeMap, IsEmpty, get_by_text}
-use Rattle.std.specs.Map.{lookup as lookup_entry}
-use Rattle.std.specs.FinMap.{get, empty, from_entries, get-empty, get-from_entries}
-use Rattle.std.specs.FinMap.Entries.{find}
-use Rattle.std.specs.declared.alloc.Global.{Global}
-use Rattle.liquid_value.specs.Tree.{Tree}
-use Rattle.liquid_value.specs.View.{view}
-use Rattle.liquid_value.specs.declared.value.Value.{Value}
-use Rattle.liquid_runtime.specs.Maps.{Names, names_of, over}
+use Rattle.std.proofs.Common.{◌≡◌, ℕ, List, None, ap, sym, ◌∙◌}
+use Rattle.std.specs.Option.{option_or}
+use Rattle.std.specs.Ordering.{nat_cmp}
+use Rattle.std.specs.Cmp.Lexicographic.{slice_cmp}
+use Rattle.std.specs.FinMap.{get, empty, get-empty}
+use Rattle.liquid_runtime.specs.Maps.{Names, over}
 use Rattle.liquid_runtime.specs.View.{View, names_seen, lookup}
 use Rattle.liquid_runtime.specs.Frames.{core_view, indexed_view, stack_view, assigned_view, global_view, built_view}
 use Rattle.liquid_runtime.proofs.MapLaws.{get-over, empty-over, over-empty, over-over}

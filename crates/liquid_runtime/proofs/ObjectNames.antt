@@ -1,6 +1,6 @@
 -- What the names of an object answer, and what a change to the object makes of them.
-use Rattle.std.proofs.Common.{◌≡◌, ℕ, Bool, true, false, cond, List, [], ◌∷◌, ◌++◌, Option, Some, None, map, refl, ap, sym, ◌∙◌}
-use Rattle.std.specs.Prelude.{String, string_bytes, unwrap_or}
+use Rattle.std.proofs.Common.{◌≡◌, ℕ, Bool, true, false, cond, List, [], ◌∷◌, Option, Some, None, map, refl, ap, sym, ◌∙◌}
+use Rattle.std.specs.Prelude.{String, string_bytes}
 use Rattle.std.specs.Option.{option_or, option_map}
 use Rattle.std.specs.Ordering.{nat_cmp, is_eq, eq_by_cmp}
 use Rattle.std.specs.Cmp.Lexicographic.{slice_cmp, nat_list_cmp_total}
@@ -10,16 +10,14 @@ use Rattle.std.specs.Str.{bytes_eq}
 use Rattle.std.specs.String.{string_cmp}
 use Rattle.std.proofs.lemmas.Map.Text.{is_eq-slice_cmp, btree_map_updates_text}
 use Rattle.std.specs.Map.{lookup as lookup_entry}
-use Rattle.std.specs.FinMap.{get, insert, get-insert, empty, from_entries, get-empty, get-from_entries}
+use Rattle.std.specs.FinMap.{get, insert, get-insert, empty, from_entries, get-from_entries}
 use Rattle.std.specs.FinMap.Entries.{find}
 use Rattle.std.specs.declared.alloc.Global.{Global}
 use Rattle.liquid_value.specs.Tree.{Tree}
 use Rattle.liquid_value.specs.View.{view}
 use Rattle.liquid_value.specs.declared.value.Value.{Value}
-use Rattle.liquid_runtime.specs.Maps.{Names, names_of, over}
-use Rattle.liquid_runtime.specs.View.{View, names_seen, lookup}
-use Rattle.liquid_runtime.specs.Frames.{core_view, indexed_view, stack_view, assigned_view, global_view, built_view}
-use Rattle.liquid_runtime.proofs.MapLaws.{same_names, get-over, empty-over, over-empty, over-over}
+use Rattle.liquid_runtime.specs.Maps.{names_of}
+use Rattle.liquid_runtime.proofs.MapLaws.{same_names}
 
 option_map-cond : {X Y : Type 0} (f : X → Y) (b : Bool) (x : X) (rest : Option X) → cond b (Some (f x)) (option_map f rest) ≡ option_map f (cond b (Some x) rest)
 option_map-cond f true x rest = refl
@@ -45,7 +43,7 @@ names_of-empty object none = ap (λ es. from_entries (map (λ e. (string_bytes e
 pub names_of-insert : (old new : BTreeMap (String Global) Value) (k : String Global) (x : Value) → Updates string_cmp old new k (Some x) → names_of new ≡ insert (names_of old) (string_bytes k) (view x)
 names_of-insert old new k x updates = same_names _ _ (λ q.
     let same : bytes_eq (string_bytes k) q ≡ eq_by_cmp (slice_cmp nat_cmp) q (string_bytes k) =
-        sym (is_eq-slice_cmp (string_bytes k) q) ∙ (eq_by_cmp_equiv nat_list_cmp_total).symm (string_bytes k) q in
+    sym (is_eq-slice_cmp (string_bytes k) q) ∙ (eq_by_cmp_equiv nat_list_cmp_total).symm (string_bytes k) q in
     get-names_of new q
     ∙ ap (option_map view) (btree_map_updates_text (string_bytes k) old new (Some x) updates q)
     ∙ sym (option_map-cond view (bytes_eq (string_bytes k) q) x (get_by_text old q))
@@ -60,3 +58,6 @@ found_in_object object q x below is = ap (λ o. option_or o below) (get-names_of
 -- a name that the object lacks is looked up below
 pub found_below_object : (object : BTreeMap (String Global) Value) (q : List ℕ) (below : Option Tree) → None ≡ get_by_text object q → option_or (get (names_of object) q) below ≡ below
 found_below_object object q below is = ap (λ o. option_or o below) (get-names_of object q ∙ ap (option_map view) (sym is))
+
+-- how the names of an object change with it
+pub ruleset changed_objects = (names_of-empty, names_of-insert)

@@ -1,5 +1,5 @@
 -- What each frame makes of the view below it.
-use Rattle.std.specs.Prelude.{Option, Some, None, unwrap_or}
+use Rattle.std.specs.Prelude.{Some, None, unwrap_or}
 use Rattle.std.specs.FinMap.{empty}
 use Rattle.liquid_runtime.specs.Maps.{Names, over}
 use Rattle.liquid_runtime.specs.View.{View}
@@ -25,7 +25,7 @@ abbrev pub assigned_view : Names → View → View
 assigned_view assigned v = record v {
   locals = empty;
   globals = Some assigned;
-  base = over v.locals (over (unwrap_or v.globals empty) v.base)
+  base = over v.locals (over (unwrap_or v.globals empty) v.base);
 }
 
 -- a fresh global frame

@@ -1,5 +1,5 @@
 -- Finite maps from names, as their bytes, and one map laid over another.
-use Rattle.std.specs.Prelude.{ℕ, List, ◌++◌, String, map, string_bytes}
+use Rattle.std.specs.Prelude.{◌++◌, String, map, string_bytes}
 use Rattle.std.specs.Ordering.{nat_cmp}
 use Rattle.std.specs.Cmp.Lexicographic.{slice_cmp}
 use Rattle.std.specs.BTreeMap.{BTreeMap}

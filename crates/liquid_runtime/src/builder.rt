@@ -37,13 +37,11 @@ impl RuntimeBuilder {
     }
 
     /// The builder with these globals in place of those that it had.
-    pub fn set_globals(self, globals: Object) -> Self
+    pub fn set_globals(mut self, globals: Object) -> Self
         ensures { globals_of result ≡ names_of globals }
     {
-        RuntimeBuilder {
-            alloc: self.alloc,
-            globals,
-        }
+        self.globals = globals;
+        self
     }
 
     /// The runtime in which a template sees the builder's globals.

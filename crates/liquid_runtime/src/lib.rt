@@ -16,3 +16,6 @@ pub use laws::{global_frame_keeps_names, globals_are_seen, left_names_first, sta
 pub use runtime::Runtime;
 pub use runtime_core::RuntimeCore;
 pub use stack_frame::StackFrame;
+
+#[cfg(test)]
+mod tests;
