@@ -1,5 +1,7 @@
 //! A sink over any writer.
-ghost use Rattle.std.specs.Prelude.{◌≡◌, [], ◌∷◌};
+ghost use Rattle.std.specs.Prelude.{◌≡◌, ◌+◌, ◌<◌, ◌≤◌, [], ◌∷◌, ◌++◌, length, IfOk, IfErr};
+ghost use Rattle.std.specs.Io.KnownBytes.{Appends};
+ghost use Rattle.liquid_template.specs.Put.{taken_part, failure_count};
 
 use crate::history::History;
 use crate::sink::{Sink, SinkFault};
@@ -49,7 +51,17 @@ impl<'w, W: Write> Sink for WriterSink<'w, W> {
 
     ghost lent = { λ sink. sink.writer.ghost_name ∷ [] };
 
-    fn put(&mut self, piece: &[u8]) -> Result<usize, SinkFault> {
+    /// Takes no memory, and so the one fault is `SinkFault::Failed`.
+    fn put(&mut self, piece: &[u8]) -> Result<usize, SinkFault>
+        ensures some { IfOk result (λ count. 0 < count) }
+        ensures bound { IfOk result (λ count. count ≤ length piece.now) }
+        ensures bytes { self.new.history.taken ≡ self.old.history.taken ++ taken_part result piece.now }
+        ensures count { self.new.history.failures ≡ self.old.history.failures + failure_count result }
+        ensures behind { Appends (W.contents self.old.writer.now) (W.contents self.new.writer.now)
+            (taken_part result piece.now) }
+        ensures lent { self.new.writer.ghost_name ∷ [] ≡ self.old.writer.ghost_name ∷ [] }
+        ensures fault { IfErr result (λ fault. fault ≡ SinkFault.Failed) }
+    {
         match self.writer.write(piece) {
             Ok(0) | Err(_) => {
                 self.history.failed();
