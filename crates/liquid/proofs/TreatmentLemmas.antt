@@ -1,10 +1,10 @@
 -- What a read of the template's file leaves to be shown.
 use Rattle.std.proofs.Common.{◌≡◌, ℕ, List, Option, None, Some, Result, Ok, Err, refl, subst, inr, ◌∙◌}
-use Rattle.liquid_scalar.specs.declared.error.Error.TheVariants.{Memory}
+use Rattle.liquid_scalar.specs.declared.error.Error.{Error}
+use Rattle.liquid_scalar.specs.Told.{told}
 use Rattle.liquid_runtime.specs.Maps.{Names}
 use Rattle.liquid_template.specs.Outcome.{Sunk}
 use Rattle.liquid.specs.declared.folder.Unread.{Unread}
-use Rattle.liquid.specs.declared.folder.Unread.TheVariants.{Memory as NoMemory}
 use Rattle.liquid.specs.Files.{Reads}
 use Rattle.liquid.specs.Program.{Treats}
 use Rattle.liquid.proofs.MemoryLemmas.{nothing_rendered}
@@ -17,8 +17,8 @@ treats_read bytes (Some (Some file)) v slice globals before after status same re
     subst (λ (b : List ℕ). Treats (Some (Some b)) globals before after status) (same ∙ reads) treats
 
 -- memory ran out before a byte was read
-pub treats_memory : (known : Option (Option (List ℕ))) (globals : Names) (at : Sunk) → Treats known globals at at 1
-treats_memory None globals at = tt
-treats_memory (Some None) globals at = (refl, inr refl)
-treats_memory (Some (Some file)) globals at =
-    (λ is_text. record { result = Err Memory; renders = nothing_rendered file globals at; status_is = refl }, λ no_text. (refl, inr refl))
+pub treats_memory : (known : Option (Option (List ℕ))) (globals : Names) (at : Sunk) (error : Error) → told error ≡ None → Treats known globals at at 1
+treats_memory None globals at error memory = tt
+treats_memory (Some None) globals at error memory = (refl, inr refl)
+treats_memory (Some (Some file)) globals at error memory =
+    (λ is_text. record { result = Err error; renders = nothing_rendered file globals at error memory; status_is = refl }, λ no_text. (refl, inr refl))

@@ -2,6 +2,7 @@ ghost use Rattle.std.specs.Prelude.{◌≡◌, IfOk, OnOk, map, string_bytes};
 ghost use Rattle.std.specs.FinMap.{insert};
 ghost use Rattle.liquid_scalar.specs.Scalar.{text as bytes};
 ghost use Rattle.liquid_value.specs.Tree.{scalar};
+ghost use Rattle.liquid_value.specs.View.{view};
 ghost use Rattle.liquid_runtime.specs.Maps.{names_of};
 ghost use Rattle.liquid.specs.Globals.{assigned, globals_of};
 
@@ -35,7 +36,14 @@ fn assign(alloc: Global, object: &mut Object, word: &str) -> Result<(), AllocErr
 fn put_text(alloc: Global, object: &mut Object, name: &str, text: &str) -> Result<(), AllocError>
     ensures { OnOk result (names_of object.new ≡ insert (names_of object.old) name.now (scalar (bytes text.now))) }
 {
-    let value = Value::Scalar(Scalar::Str(String::from_str(alloc, text)?));
+    let value = text_value(alloc, text)?;
     object.insert(String::from_str(alloc, name)?, value)?;
     Ok(())
+}
+
+fn text_value(alloc: Global, text: &str) -> Result<Value, AllocError>
+    ensures { IfOk result (λ value. view value ≡ scalar (bytes text.now)) }
+{
+    let scalar = Scalar::Str(String::from_str(alloc, text)?);
+    Ok(Value::from(scalar))
 }
