@@ -1,7 +1,7 @@
 // Maps without an order of their own: they are told in byte order of their names.
-ghost use Rattle.std.specs.Prelude.{◌≡◌, ◌++◌, IfOk};
+ghost use Rattle.std.specs.Prelude.{◌≡◌, IfOk};
 ghost use Rattle.std.specs.Fmt.{WritesOnOk};
-ghost use Rattle.liquid_value.specs.Render.{render, source, render_members, listed_member, listed_members};
+ghost use Rattle.liquid_value.specs.Render.{source, render_members, listed_members};
 ghost use Rattle.liquid_value.specs.Tree.{no_members, object};
 ghost use Rattle.liquid_value.specs.View.{members_view};
 ghost use Rattle.liquid_views.specs.Entries.{put_entries, index_members};
@@ -67,7 +67,10 @@ fn index_of<'m, V: ValueView>(
     Ok(index)
 }
 
-fn write_index<V: ValueView, W: fmt::Write>(index: &BTreeMap<&str, &V>, f: &mut fmt::Formatter<W>) -> fmt::Result
+fn write_index<V: ValueView, W: fmt::Write>(
+    index: &BTreeMap<&str, &V>,
+    f: &mut fmt::Formatter<W>,
+) -> fmt::Result
     ensures { WritesOnOk W.write_str_gives f.old result (render_members (index_members V.tree index.now.entries)) f.new }
 {
     for (key, member) in index.iter() {
@@ -76,7 +79,10 @@ fn write_index<V: ValueView, W: fmt::Write>(index: &BTreeMap<&str, &V>, f: &mut 
     Ok(())
 }
 
-fn list_index<V: ValueView, W: fmt::Write>(index: &BTreeMap<&str, &V>, f: &mut fmt::Formatter<W>) -> fmt::Result
+fn list_index<V: ValueView, W: fmt::Write>(
+    index: &BTreeMap<&str, &V>,
+    f: &mut fmt::Formatter<W>,
+) -> fmt::Result
     ensures { WritesOnOk W.write_str_gives f.old result (listed_members (index_members V.tree index.now.entries)) f.new }
 {
     for (key, member) in index.iter() {
@@ -85,7 +91,10 @@ fn list_index<V: ValueView, W: fmt::Write>(index: &BTreeMap<&str, &V>, f: &mut f
     Ok(())
 }
 
-fn write_index_source<V: ValueView, W: fmt::Write>(index: &BTreeMap<&str, &V>, f: &mut fmt::Formatter<W>) -> fmt::Result
+fn write_index_source<V: ValueView, W: fmt::Write>(
+    index: &BTreeMap<&str, &V>,
+    f: &mut fmt::Formatter<W>,
+) -> fmt::Result
     ensures { WritesOnOk W.write_str_gives f.old result (source (object (index_members V.tree index.now.entries))) f.new }
 {
     f.write_str("{")?;
