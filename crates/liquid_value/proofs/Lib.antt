@@ -6,3 +6,4 @@ pub mod LooseEquality
 pub mod LooseOrder
 pub mod LooseByName
 pub mod Names
+pub mod Listed

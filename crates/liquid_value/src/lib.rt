@@ -8,6 +8,7 @@ pub mod cow;
 mod from;
 pub mod laws;
 pub mod loose;
+pub mod map;
 pub mod order;
 pub mod render;
 pub mod state;

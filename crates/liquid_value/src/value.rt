@@ -1,5 +1,7 @@
 ghost use Rattle.std.specs.Prelude.{◌≡◌, IfOk, option_map, string_bytes};
 ghost use Rattle.std.specs.Borrow.{LendsIf, sem};
+ghost use Rattle.std.specs.Iterator.{IsFinite};
+ghost use Rattle.std.specs.Iterator.Runs.{WholeRun};
 ghost use Rattle.std.specs.Cow.{cow_str_bytes};
 ghost use Rattle.liquid_value.specs.Kind.{type_name, query_state};
 ghost use Rattle.liquid_scalar.specs.Scalar.{scal};
@@ -7,7 +9,7 @@ ghost use Rattle.liquid_value.specs.contracts.value.Value.{the_row};
 ghost use Rattle.liquid_value.specs.declared.value.Value.{Array, Object};
 ghost use Rattle.liquid_value.specs.Parts.{as_scalar, as_array, as_object, as_state};
 ghost use Rattle.liquid_value.specs.Rows.{array_row, object_row};
-ghost use Rattle.liquid_value.specs.Tree.{nil, scalar};
+ghost use Rattle.liquid_value.specs.Tree.{nil, scalar, array};
 ghost use Rattle.liquid_value.specs.View.{view, items_view, members_view};
 ghost use Rattle.liquid_value.specs.Render.{render};
 
@@ -79,6 +81,18 @@ impl Value {
         ensures { (s : _) × T.converts value s × (view result ≡ scalar (scal string_bytes s)) }
     {
         Value::Scalar(value.into())
+    }
+
+    /// The array of the items of an iterator that ends.
+    pub fn array<I: Iterator<Item = Value>>(alloc: Global, items: I) -> Result<Value, AllocError>
+    where
+        I: Drop,
+        requires can { I.can_next items }
+        requires ends { IsFinite (I.remaining items) }
+        ensures { IfOk result (λ v. WholeRun I.next_gives items (λ run. view v ≡ array (items_view run.items))) }
+    {
+        let values: Array = items.collect(alloc)?;
+        Ok(Value::Array(values))
     }
 
     /// The scalar, and none for any other value, which is dropped.

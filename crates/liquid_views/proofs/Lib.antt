@@ -2,3 +2,4 @@ pub mod Outlines
 pub mod Lists
 pub mod Maps
 pub mod Pairs
+pub mod HashMaps

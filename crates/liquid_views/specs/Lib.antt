@@ -3,4 +3,5 @@ pub mod Place
 pub mod Names
 pub mod Pairs
 pub mod ArrayLaws
+pub mod Entries
 pub mod Trees

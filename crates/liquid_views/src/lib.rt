@@ -3,6 +3,7 @@
 
 mod array;
 mod build;
+mod hash_map;
 mod index;
 mod kind;
 pub mod laws;

@@ -79,7 +79,7 @@ fn copy_members<V: ValueView>(
     Ok(copies)
 }
 
-fn write_member<V: ValueView, W: fmt::Write>(
+pub(crate) fn write_member<V: ValueView, W: fmt::Write>(
     key: &str,
     value: &V,
     f: &mut fmt::Formatter<W>,
@@ -102,7 +102,7 @@ fn list_members<V: ValueView, W: fmt::Write>(
     Ok(())
 }
 
-fn list_member<V: ValueView, W: fmt::Write>(
+pub(crate) fn list_member<V: ValueView, W: fmt::Write>(
     key: &str,
     value: &V,
     f: &mut fmt::Formatter<W>,

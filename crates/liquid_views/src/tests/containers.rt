@@ -1,7 +1,7 @@
 use super::{Fail, shows};
 use crate::{ArrayView, ObjectRender, ObjectSource, ObjectView, ValueView, array_of, object_of};
 use liquid_value::{State, Value};
-use std::collections::BTreeMap;
+use std::collections::{BTreeMap, HashMap};
 
 #[test]
 fn lists_are_arrays(rt: HostRuntime) -> Result<(), Fail> {
@@ -70,5 +70,26 @@ fn later_pairs_win(rt: HostRuntime) -> Result<(), Fail> {
     let object = object_of(alloc, &[("a", 1i64), ("b", 2), ("a", 3)])?;
     assert!(rt; shows(alloc, &object, "a3b2", "{\"a\": 3, \"b\": 2, }", "object")?);
     assert!(rt; ObjectView::contains_key(&&object, "b"));
+    Ok(())
+}
+
+#[test]
+fn maps_without_order_are_told_by_name(rt: HostRuntime) -> Result<(), Fail> {
+    let alloc = rt.alloc();
+    let mut map: HashMap<String, i64> = HashMap::new(alloc);
+    drop(map.insert(String::from_str(alloc, "b")?, 2)?);
+    drop(map.insert(String::from_str(alloc, "c")?, 3)?);
+    drop(map.insert(String::from_str(alloc, "a")?, 1)?);
+    assert!(rt;
+        shows(
+            alloc,
+            &map,
+            "a1b2c3",
+            "{\"a\": 1, \"b\": 2, \"c\": 3, }",
+            "object"
+        )?
+    );
+    let nothing: HashMap<String, i64> = HashMap::new(alloc);
+    assert!(rt; shows(alloc, &nothing, "", "{}", "object")?);
     Ok(())
 }
