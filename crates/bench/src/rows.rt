@@ -1,25 +1,51 @@
 //! Templates with what they come to, through the calls that users make.
 use crate::dripping::Dripping;
-use liquid_core::model::{Object, Scalar, Value};
+use liquid_core::model::{Array, Object, State, Value};
 use liquid_core::parser::{Language, parse};
 use liquid_core::runtime::{BuiltRuntime, Runtime, RuntimeBuilder, Template};
 use liquid_core::{Error, TextSink, render_source};
 use std::alloc::{AllocError, Global};
 use std::test::Fail;
 
-/// A global: nil, a whole number or a text.
+/// A global.
 #[derive(Clone, Copy)]
 enum Given {
     Nil,
     Number(i64),
+    Flag(bool),
     Text(&'static str),
+    State(State),
+    /// The array of 1, `a` and nil.
+    Items,
+    /// The object of `b`, which is 2, and `a`, which is `x`.
+    Pairs,
+}
+
+fn items(alloc: Global) -> Result<Array, AllocError> {
+    let mut items = Array::new(alloc);
+    items.push(Value::scalar(1i64))?;
+    items.push(Value::scalar(String::from_str(alloc, "a")?))?;
+    items.push(Value::Nil)?;
+    Ok(items)
+}
+
+fn pairs(alloc: Global) -> Result<Object, AllocError> {
+    let mut object = Object::new(alloc);
+    object.insert(String::from_str(alloc, "b")?, Value::scalar(2i64))?;
+    let text = Value::scalar(String::from_str(alloc, "x")?);
+    object.insert(String::from_str(alloc, "a")?, text)?;
+    Ok(object)
 }
 
 fn value_of(alloc: Global, given: Given) -> Result<Value, AllocError> {
     Ok(match given {
         Given::Nil => Value::Nil,
-        Given::Number(number) => Value::Scalar(Scalar::Integer(number)),
-        Given::Text(text) => Value::Scalar(Scalar::Str(String::from_str(alloc, text)?)),
+        Given::Number(number) => Value::scalar(number),
+        Given::Flag(flag) => Value::scalar(flag),
+        Given::Text(text) => Value::scalar(String::from_str(alloc, text)?),
+        Given::State(state) => Value::State(state),
+        Given::Items => Value::Array(items(alloc)?),
+        Given::Pairs => Value::Object(pairs(alloc)?),
     })
 }
 
@@ -44,7 +70,7 @@ struct Row {
 
 const UNKNOWN_X: &str = "liquid: Unknown variable\n  with:\n    requested variable=x\n";
 
-const ROWS: [Row; 16] = [
+const ROWS: [Row; 18] = [
     Row {
         template: "Hello {{ name }}!",
         globals: &[("name", Given::Text("World"))],
@@ -139,6 +165,22 @@ const ROWS: [Row; 16] = [
         template: "{ {{ x }} }} } {",
         globals: &[("x", Given::Text("y"))],
         written: "{ y }} } {",
+        error: "",
+    },
+    Row {
+        template: "{{ items }} {{ pairs }}",
+        globals: &[("items", Given::Items), ("pairs", Given::Pairs)],
+        written: "1a axb2",
+        error: "",
+    },
+    Row {
+        template: "{{ yes }} {{ no }} [{{ blank_state }}]",
+        globals: &[
+            ("yes", Given::Flag(true)),
+            ("no", Given::Flag(false)),
+            ("blank_state", Given::State(State::Blank)),
+        ],
+        written: "true false []",
         error: "",
     },
     Row {

@@ -7,13 +7,20 @@
 
 /// Errors.
 pub mod error {
-    pub use liquid_scalar::{Error, Place, Result};
+    pub use liquid_scalar::{
+        Cause, CauseOf, CloneableError, Error, FnKey, Key, MadeText, Place, Result,
+        ResultLiquidChainExt, ResultLiquidExt, ResultLiquidReplaceExt,
+    };
 }
 
 /// Values.
 pub mod model {
-    pub use liquid_scalar::{Scalar, ScalarOf};
-    pub use liquid_value::{Object, Value};
+    pub use liquid_scalar::{Scalar, ScalarCow, ScalarOf};
+    pub use liquid_value::{Array, Object, State, Value, ValueCow, ValueViewCmp};
+    pub use liquid_views::{
+        ArrayView, ObjectIndex, ObjectRender, ObjectSource, ObjectView, ValueView, ViewKind,
+        array_of, object_of, scalar_of,
+    };
 }
 
 /// From text to nodes.
@@ -33,4 +40,5 @@ pub use liquid_parser::{Language, Node};
 pub use liquid_runtime::{Runtime, RuntimeBuilder};
 pub use liquid_scalar::{Error, Result};
 pub use liquid_template::{History, Sink, SinkFault, Template, TextSink, WriterSink, render_source};
-pub use liquid_value::{Object, Value};
+pub use liquid_value::{Object, Value, ValueCow};
+pub use liquid_views::{ObjectView, ValueView};
