@@ -1,10 +1,10 @@
 -- Steps over a text: runs of bytes, names, and where a text may be cut.
-use Rattle.std.proofs.Common.{◌≡◌, ℕ, zero, suc, ◌+◌, ◌-◌, ◌<◌, ◌≤◌, Bool, true, false, cond, not, ◌&&◌, ◌||◌, ◌==◌, List, [], ◌∷◌, ◌++◌, length, get_or, take, drop, IsUtf8, refl, sym, ap, ◌∙◌, subst, inl, inr, arith, add-one, add-zero, get_or-drop, take_at, drop_at, eqb-true, length-take-le, length-drop, slice_index, drop_of_length-le}
+use Rattle.std.proofs.Common.{◌≡◌, ℕ, zero, suc, ◌+◌, ◌-◌, ◌<◌, ◌≤◌, Bool, true, false, cond, ◌&&◌, ◌||◌, ◌==◌, List, [], ◌∷◌, ◌++◌, length, get_or, take, drop, IsUtf8, refl, sym, ap, ◌∙◌, subst, inl, inr, arith, add-one, add-zero, get_or-drop, eqb-true, length-take-le, length-drop, slice_index, drop_of_length-le}
 use Rattle.std.proofs.lemmas.Bool.{cases_lt, and_parts}
 use Rattle.std.proofs.lemmas.Bool.Decides.{nat_tests}
 use Rattle.std.proofs.lemmas.List.{drop_more, get_or_past}
-use Rattle.std.proofs.lemmas.List.Sums.{prefix_len-le-length, prefix_len_passes, prefix_len_stops}
-use Rattle.std.proofs.lemmas.Str.{IsCharBoundary-start, IsCharBoundary-end, IsCharBoundary-before_ascii, IsCharBoundary-after_ascii, IsCharBoundary-at_seam}
+use Rattle.std.proofs.lemmas.List.Sums.{prefix_len-le-length, prefix_len_passes}
+use Rattle.std.proofs.lemmas.Str.{IsCharBoundary-start, IsCharBoundary-after_ascii, IsCharBoundary-at_seam}
 use Rattle.std.specs.List.{prefix_len}
 use Rattle.std.specs.Str.{IsCharBoundary}
 use Rattle.liquid_grammar.specs.Bytes.{is_white, starts_name, is_word}
@@ -45,8 +45,10 @@ name_byte_ascii b s e = go (is_word b) refl e
   where
     word_ascii : is_word b ≡ true → b < 128
     word_ascii h = grind (arith, nat_tests)
+
     dash_ascii : (t : Bool) → (b == 45 && t) ≡ true → b < 128
     dash_ascii t h = omega (arith, eqb-true b 45 (and_parts (b == 45) t h).0)
+
     go : (t : Bool) → is_word b ≡ t → (t || (b == 45 && is_word (slice_index s 0))) ≡ true → b < 128
     go true h e = word_ascii h
     go false h e = dash_ascii _ e
@@ -80,6 +82,7 @@ IsCharBoundary-identifier s utf8 e = go (name_len (drop 1 s)) refl
   where
     some : 0 < length s
     some = within_from_byte s 0 (starts_name_ascii (get_or s 0 0) e).0
+
     go : (n : ℕ) → name_len (drop 1 s) ≡ n → IsCharBoundary s (1 + n)
     go zero h = IsCharBoundary-after_ascii s 0 utf8 some (starts_name_ascii (get_or s 0 0) e).1
     go (suc n) h =

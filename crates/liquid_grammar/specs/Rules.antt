@@ -4,7 +4,6 @@ use Rattle.std.specs.Prelude.{◌≡◌, ℕ, ◌==◌, Bool, true, List, [], �
 
 infixl 20 ◌▷◌
 infixl 20 ◌◁◌
-
 abbrev pub Rule : Type 0 → Type 1
 Rule A = List ℕ → List ℕ → A → Type 0
 

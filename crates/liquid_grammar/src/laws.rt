@@ -8,25 +8,21 @@ ghost use Rattle.liquid_grammar.specs.Elements.{Taken};
 #[tactic(auto, using(crate::proofs::CoverLemmas::cover_of))]
 pub fn one_cover()
     ensures { (s : List ℕ) → OnlyCover s }
-{
-}
+{}
 
 /// At most one element stands at a place, and it leaves one rest.
 #[tactic(auto, using(crate::proofs::CoverLemmas::same_element))]
 pub fn one_element()
     ensures { (s r₁ r₂ : List ℕ) (e₁ e₂ : Element) → IsElement s r₁ e₁ → IsElement s r₂ e₂ → ◌≡◌ {A = Taken} (e₁, r₁) (e₂, r₂) }
-{
-}
+{}
 
 /// The texts of the elements of a cover, joined, are the text.
 #[tactic(auto, using(crate::proofs::CoverLemmas::joined_cover))]
 pub fn elements_joined_are_the_text()
     ensures { (s : List ℕ) (es : List Element) → Cover s es → joined es ≡ s }
-{
-}
+{}
 
 /// No opener begins inside raw text.
 pub fn no_opener_inside_raw()
     ensures { (s rest text : List ℕ) (k : ℕ) → IsElement s rest (raw text) → k < length text → ¬ (Opens (drop k s)) }
-{
-}
+{}
