@@ -5,3 +5,6 @@ pub mod Cover
 pub mod Elements
 pub mod Place
 pub mod Steps
+pub mod Literals
+pub mod Values
+pub mod Tokens
