@@ -3,3 +3,4 @@ pub mod Exact
 pub mod GrammarExact
 pub mod RawLemmas
 pub mod CoverLemmas
+pub mod ExactRepeated

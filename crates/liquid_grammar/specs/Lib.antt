@@ -8,3 +8,4 @@ pub mod Steps
 pub mod Literals
 pub mod Values
 pub mod Tokens
+pub mod TokenSteps
