@@ -4,3 +4,4 @@ pub mod GrammarExact
 pub mod RawLemmas
 pub mod CoverLemmas
 pub mod ExactRepeated
+pub mod TokenExact

@@ -105,3 +105,21 @@ chain_of = at (both value (repeated (behind 124 filter)))
 
 unfoldable pub dots : Reader ℕ
 dots = left (right (right white (byte 46)) (byte 46)) white
+
+unfoldable pub ranged : Reader (Value × Value)
+ranged = left (left (right (right (byte 40) white) (both (left value dots) value)) white) (byte 41)
+
+abbrev pub any : Reader ℕ
+any = one (λ b. true)
+
+unfoldable pub symbol_of : Reader (List ℕ)
+symbol_of = either (text (only is_double (both any any))) (text (one is_single))
+
+unfoldable pub token : Reader Token
+token = either (seen range (at ranged)) (either (seen chain chain_of) (seen symbol (at symbol_of)))
+
+unfoldable pub full_expression : Reader Chain
+full_expression = left (left (right (right (opener 123) white) chain_of) white) (closer 125)
+
+unfoldable pub tag : Reader (List ℕ × List Token)
+tag = left (left (right (right (opener 37) white) (both identifier (repeated (right white token)))) white) (closer 37)

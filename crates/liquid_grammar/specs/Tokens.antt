@@ -27,9 +27,13 @@ pub data Token : Type 0 where
 abbrev pub ArgumentRule : Rule Argument
 ArgumentRule = Else (Seen (λ p. keyword p.0 p.1) (Then (Identifier ◁ White ◁ Byte 58 ◁ White) ValueRule)) (Seen positional ValueRule)
 
+-- the separator between white space, and R behind it
+abbrev pub Behind : {A : Type 0} → ℕ → Rule A → Rule A
+Behind separator R = White ▷ Byte separator ▷ White ▷ R
+
 -- `:` with an argument, and further ones behind commas
 abbrev pub Arguments : Rule (List Argument)
-Arguments = Seen (λ p. p.0 ∷ p.1) (Then (White ▷ Byte 58 ▷ White ▷ ArgumentRule) (Repeated (White ▷ Byte 44 ▷ White ▷ ArgumentRule)))
+Arguments = Seen (λ p. p.0 ∷ p.1) (Then (Behind 58 ArgumentRule) (Repeated (Behind 44 ArgumentRule)))
 
 -- the arguments that were found, or none
 abbrev pub arguments_of : Option (List Argument) → List Argument
@@ -42,11 +46,15 @@ FilterRule = At (Seen (λ p. (p.0, arguments_of p.1)) (Then Identifier (Optional
 
 -- a value, and all filters behind `|`
 abbrev pub ChainRule : Rule Chain
-ChainRule = At (Then ValueRule (Repeated (White ▷ Byte 124 ▷ White ▷ FilterRule)))
+ChainRule = At (Then ValueRule (Repeated (Behind 124 FilterRule)))
+
+-- `..` between white space
+abbrev pub Dots : Rule ℕ
+Dots = White ▷ Byte 46 ▷ Byte 46 ◁ White
 
 -- two values with `..` between them, in parentheses
 abbrev pub RangeRule : Rule (Value × Value)
-RangeRule = Byte 40 ▷ White ▷ Then (ValueRule ◁ White ◁ Byte 46 ◁ Byte 46 ◁ White) ValueRule ◁ White ◁ Byte 41
+RangeRule = Byte 40 ▷ White ▷ Then (ValueRule ◁ Dots) ValueRule ◁ White ◁ Byte 41
 
 -- `<=`, `>=`, `==`, `!=` or `<>`
 abbrev pub is_double : ℕ × ℕ → Bool
