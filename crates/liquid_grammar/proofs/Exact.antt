@@ -195,7 +195,7 @@ end_of_end s middle rest a b =
 abbrev pub Shrinks : {A : Type 0} → Rule A → Type 0
 Shrinks {A} R = (s rest : List ℕ) (a : A) → R s rest a → length rest < length s
 
-cuts_le : {A : Type 0} {R : Rule A} → Cuts R → (s rest : List ℕ) (a : A) → R s rest a → length rest ≤ length s
+pub cuts_le : {A : Type 0} {R : Rule A} → Cuts R → (s rest : List ℕ) (a : A) → R s rest a → length rest ≤ length s
 cuts_le cuts s rest a m = let cut = cuts s rest a m in omega (arith, ap length cut.1, length-append cut.0 rest)
 
 pub shrinks-one : (p : ℕ → Bool) → Shrinks (One p)

@@ -5,3 +5,4 @@ pub mod RawLemmas
 pub mod CoverLemmas
 pub mod ExactRepeated
 pub mod TokenExact
+pub mod ValueLaw

@@ -148,3 +148,54 @@ exact-token = exact-either (exact-seen range (exact-at exact-range)) (exact-eith
 pub exact-full_expression : Exact read.full_expression ExpressionRule
 unfolding read.full_expression
 exact-full_expression = exact-left (exact-left (exact-right (exact-right (exact-opener 123) exact-white) exact-chain) exact-white) (exact-closer 125)
+
+shrinks-digits : Shrinks Digits
+shrinks-digits = shrinks-text (shrinks-first (shrinks-one is_ascii_digit) (exact-run is_ascii_digit).cuts)
+
+shrinks-whole : Shrinks Whole
+shrinks-whole = shrinks-text (shrinks-second exact-sign.cuts shrinks-digits)
+
+shrinks-number : Shrinks Number
+shrinks-number =
+    shrinks-seen (λ p. p.0) (shrinks-first (shrinks-else (shrinks-seen decimal (shrinks-text (shrinks-first shrinks-whole (exact-both (exact-byte 46) exact-digits).cuts))) (shrinks-seen integer shrinks-whole)) (exact-not_ahead (exact-one starts_name)).cuts)
+
+shrinks-quoted : (quote : ℕ) → Shrinks (Quoted quote)
+shrinks-quoted quote =
+    shrinks-seen (λ p. p.0) (shrinks-second (exact-right (exact-byte quote) (exact-run (λ b. not (b == quote)))).cuts (shrinks-one (λ c. c == quote)))
+
+pub shrinks-literal : Shrinks LiteralRule
+shrinks-literal =
+    shrinks-else (shrinks-seen word_literal (λ s rest a m. shrinks-identifier s rest a m.match))
+    (shrinks-else (shrinks-seen text_literal (shrinks-else (shrinks-quoted 39) (shrinks-quoted 34))) shrinks-number)
+
+shrinks-value_over : {f : Reader Value} {R : Rule Value} → Exact f R → Shrinks (ValueOver R)
+shrinks-value_over F =
+    shrinks-else (shrinks-seen placed_literal (λ s rest a m. shrinks-literal s rest a.what m.match))
+    (shrinks-seen placed_variable (λ s rest a m. shrinks-first shrinks-name (exact-indexes F).cuts s rest a.what m.match))
+
+pub shrinks-value : Shrinks ValueRule
+unfolding Nested
+shrinks-value s rest a m = shrinks-value_over (exact-nested (length s)) s rest a m
+
+pub shrinks-chain : Shrinks ChainRule
+shrinks-chain s rest a m = shrinks-first shrinks-value exact-filters.cuts s rest a.what m.match
+
+shrinks-range : Shrinks RangeRule
+shrinks-range =
+    shrinks-seen (λ p. p.0) (shrinks-second (exact-left (exact-right (exact-right (exact-byte 40) exact-white) (exact-both (exact-left exact-value exact-dots) exact-value)) exact-white).cuts (shrinks-one (λ c. c == 41)))
+
+shrinks-symbol : Shrinks SymbolRule
+shrinks-symbol =
+    shrinks-else (shrinks-text (λ s rest a m. shrinks-first (shrinks-one (λ b. true)) exact-any.cuts s rest a m.match)) (shrinks-text (shrinks-one is_single))
+
+pub shrinks-token : Shrinks TokenRule
+shrinks-token =
+    shrinks-else (shrinks-seen range (λ s rest a m. shrinks-range s rest a.what m.match))
+    (shrinks-else (shrinks-seen chain shrinks-chain) (shrinks-seen symbol (λ s rest a m. shrinks-symbol s rest a.what m.match)))
+
+pub exact-tokens : Exact (read.repeated (right white read.token)) (Repeated (White ▷ TokenRule))
+exact-tokens = exact-repeated (exact-right exact-white exact-token) (shrinks-seen (λ p. p.1) (shrinks-second exact-white.cuts shrinks-token))
+
+pub exact-tag : Exact read.tag TagRule
+unfolding read.tag
+exact-tag = exact-left (exact-left (exact-right (exact-right (exact-opener 37) exact-white) (exact-both exact-identifier exact-tokens)) exact-white) (exact-closer 37)
