@@ -178,18 +178,26 @@ ahead_complete F s rest a m =
 pub exact-ahead : {A : Type 0} {f : Reader A} {R : Rule A} → Exact f R → Exact (ahead f) (Ahead R)
 exact-ahead F = record { sound = ahead_sound F; complete = ahead_complete F; cuts = λ s rest a m. ([], sym m.stays) }
 
+-- rest is an end of the text
+abbrev pub IsEnd : List ℕ → List ℕ → Type 0
+IsEnd s rest = (front : List ℕ) × (s ≡ front ++ rest)
+
 -- what an exact reader leaves is an end of the text
-pub leaves_end : {A : Type 0} {f : Reader A} {R : Rule A} → Exact f R → (s rest : List ℕ) → Some rest ≡ option_map (λ p. p.1) (f s) → (front : List ℕ) × (s ≡ front ++ rest)
+pub leaves_end : {A : Type 0} {f : Reader A} {R : Rule A} → Exact f R → (s rest : List ℕ) → Some rest ≡ option_map (λ p. p.1) (f s) → IsEnd s rest
 leaves_end {f = f} F s rest e =
     option_map_some (λ p. p.1) (f s) rest (sym e) (λ x fx q.
-    let cut = F.cuts s x.1 x.0 (F.sound s x.1 x.0 fx) in
-    (cut.0, cut.1 ∙ ap (λ y. cut.0 ++ y) q))
+        let cut = F.cuts s x.1 x.0 (F.sound s x.1 x.0 fx) in
+        (cut.0, cut.1 ∙ ap (λ y. cut.0 ++ y) q))
+
+pub found_end : {A : Type 0} {f : Reader A} {R : Rule A} → Exact f R → (s rest : List ℕ) (a : A) → Some (a, rest) ≡ f s → IsEnd s rest
+found_end F s rest a e = F.cuts s rest a (F.sound s rest a (sym e))
 
 -- an end of an end is an end
-pub end_of_end : (s middle rest : List ℕ) → (front : List ℕ) × (s ≡ front ++ middle) → (front : List ℕ) × (middle ≡ front ++ rest) → s ≡ take (length s - length rest) s ++ rest
-end_of_end s middle rest a b =
-    let e : s ≡ (a.0 ++ b.0) ++ rest = a.1 ∙ ap (λ y. a.0 ++ y) b.1 ∙ sym (append_assoc a.0 b.0 rest) in
-    e ∙ ap (λ x. x ++ rest) (sym (front_of s (a.0 ++ b.0) rest e))
+pub end_join : (s middle rest : List ℕ) → IsEnd s middle → IsEnd middle rest → IsEnd s rest
+end_join s middle rest a b = (a.0 ++ b.0, a.1 ∙ ap (λ y. a.0 ++ y) b.1 ∙ sym (append_assoc a.0 b.0 rest))
+
+pub before_end : (s rest : List ℕ) → IsEnd s rest → s ≡ take (length s - length rest) s ++ rest
+before_end s rest a = a.1 ∙ ap (λ x. x ++ rest) (sym (front_of s a.0 rest a.1))
 
 -- a match takes something
 abbrev pub Shrinks : {A : Type 0} → Rule A → Type 0

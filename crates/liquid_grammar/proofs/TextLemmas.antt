@@ -1,10 +1,11 @@
 -- Steps over a text: runs of bytes, names, and where a text may be cut.
-use Rattle.std.proofs.Common.{◌≡◌, ℕ, zero, suc, ◌+◌, ◌-◌, ◌<◌, ◌≤◌, Bool, true, false, cond, ◌&&◌, ◌||◌, ◌==◌, List, [], ◌∷◌, ◌++◌, length, get_or, take, drop, IsUtf8, refl, sym, ap, ◌∙◌, subst, inl, inr, arith, add-one, add-zero, get_or-drop, eqb-true, length-take-le, length-drop, slice_index, drop_of_length-le}
+use Rattle.std.proofs.Common.{◌≡◌, ℕ, zero, suc, ◌+◌, ◌-◌, ◌<◌, ◌≤◌, Bool, true, false, cond, not, ◌&&◌, ◌||◌, ◌==◌, List, [], ◌∷◌, ◌++◌, length, get_or, take, drop, IsUtf8, refl, sym, ap, ◌∙◌, subst, inl, inr, arith, add-one, add-zero, get_or-drop, eqb-true, length-take-le, length-drop, slice_index, drop_of_length-le}
 use Rattle.std.proofs.lemmas.Bool.{cases_lt, and_parts}
 use Rattle.std.proofs.lemmas.Bool.Decides.{nat_tests}
 use Rattle.std.proofs.lemmas.List.{drop_more, get_or_past}
-use Rattle.std.proofs.lemmas.List.Sums.{prefix_len-le-length, prefix_len_passes}
-use Rattle.std.proofs.lemmas.Str.{IsCharBoundary-start, IsCharBoundary-after_ascii, IsCharBoundary-at_seam}
+use Rattle.std.proofs.lemmas.List.Sums.{prefix_len-le-length, prefix_len_passes, prefix_len_stops}
+use Rattle.std.proofs.lemmas.Str.{IsCharBoundary-start, IsCharBoundary-end, IsCharBoundary-before_ascii, IsCharBoundary-after_ascii, IsCharBoundary-at_seam}
+use Rattle.std.specs.Char.{is_ascii_digit}
 use Rattle.std.specs.List.{prefix_len}
 use Rattle.std.specs.Str.{IsCharBoundary}
 use Rattle.liquid_grammar.specs.Bytes.{is_white, starts_name, is_word}
@@ -103,3 +104,27 @@ pub identifier_cut : (s bytes tail : List ℕ) (n : ℕ) → IsUtf8 s → bytes 
 identifier_cut s bytes tail n utf8 same rest len start =
     let count : name_len (drop 1 s) ≡ n = ap (λ x. name_len (drop 1 x)) (sym same) ∙ ap name_len (sym rest) ∙ sym len in
     subst (λ (k : ℕ). IsCharBoundary s (1 + k)) count (IsCharBoundary-identifier s utf8 (ap (λ x. starts_name (get_or x 0 0)) (sym same) ∙ start))
+
+-- a run that only an ASCII byte stops ends where a character does
+pub IsCharBoundary-wide_run : (p : ℕ → Bool) (bs : List ℕ) → ((c : ℕ) → p c ≡ false → c < 128) → IsCharBoundary bs (prefix_len p bs)
+IsCharBoundary-wide_run p bs ascii =
+    elim (cases_lt (prefix_len p bs) (length bs)) [
+      | inl within ↦ IsCharBoundary-before_ascii bs _ within (ascii _ (prefix_len_stops p bs 0 within))
+      | inr past ↦ subst (IsCharBoundary bs) (omega (arith, prefix_len-le-length p bs)) (IsCharBoundary-end bs)
+    ]
+
+-- the same, of what was read on the way
+pub quoted_cut : (s bytes : List ℕ) (quote n : ℕ) → quote < 128 → bytes ≡ s → n ≡ prefix_len (λ b. not (b == quote)) bytes → IsCharBoundary s n
+quoted_cut s bytes quote n low same len =
+    let stop : (c : ℕ) → not (c == quote) ≡ false → c < 128 = λ c e. quote_ascii c quote low e in
+    subst (IsCharBoundary s) (sym (len ∙ ap (prefix_len (λ b. not (b == quote))) same)) (IsCharBoundary-wide_run (λ b. not (b == quote)) s stop)
+  where
+    quote_ascii : (c quote : ℕ) → quote < 128 → not (c == quote) ≡ false → c < 128
+    quote_ascii c quote low e = grind (arith, nat_tests)
+
+pub digits_cut : (s bytes : List ℕ) (n : ℕ) → IsUtf8 s → bytes ≡ s → n ≡ prefix_len is_ascii_digit bytes → IsCharBoundary s n
+digits_cut s bytes n utf8 same len =
+    subst (IsCharBoundary s) (sym (len ∙ ap (prefix_len is_ascii_digit) same)) (IsCharBoundary-ascii_run is_ascii_digit s utf8 (λ c e. digit_ascii c e))
+  where
+    digit_ascii : (c : ℕ) → is_ascii_digit c ≡ true → c < 128
+    digit_ascii c e = grind (arith, nat_tests)

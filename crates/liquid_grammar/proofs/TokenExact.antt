@@ -7,7 +7,7 @@ use Rattle.liquid_grammar.specs.Bytes.{starts_name}
 use Rattle.liquid_grammar.specs.Rules.{Rule, Begins, One, Then, Else, Repeated, Seen, Where, Text, Not, At, Byte, Optional, ◌▷◌, ◌◁◌}
 use Rattle.liquid_grammar.specs.Grammar.{White, Identifier, Name, is_literal_word}
 use Rattle.liquid_grammar.specs.Literals.{Literal, word_literal, text_literal, integer, decimal, Word, Quoted, Digits, Whole, Fractional, Number, LiteralRule}
-use Rattle.liquid_grammar.specs.Values.{Value, Index, named_index, placed_literal, placed_variable, placed_bracket, Bracketed, IndexOver, VariableOver, ValueOver, Nested, ValueRule, IndexRule, VariableRule}
+use Rattle.liquid_grammar.specs.Values.{Value, Index, named_index, placed_literal, placed_variable, placed_bracket, OpenBracket, CloseBracket, Bracketed, IndexOver, VariableOver, ValueOver, Nested, ValueRule, IndexRule, VariableRule}
 use Rattle.liquid_grammar.specs.Tokens.{Argument, positional, keyword, Token, range, chain, symbol, arguments_of, is_double, is_single, ArgumentRule, Behind, Arguments, FilterRule, ChainRule, Dots, RangeRule, SymbolRule, TokenRule, ExpressionRule, TagRule}
 use Rattle.liquid_grammar.specs.Steps.{Reader, one, byte, both, either, seen, only, text, right, left, run, white, identifier, name}
 use Rattle.liquid_grammar.specs.TokenSteps as read
@@ -53,11 +53,22 @@ shrinks-identifier = shrinks-text (shrinks-first (shrinks-one starts_name) exact
 pub shrinks-name : Shrinks Name
 shrinks-name s rest a m = shrinks-identifier s rest a m.match
 
+pub exact-open_bracket : Exact read.open_bracket OpenBracket
+unfolding read.open_bracket
+exact-open_bracket = exact-right (exact-byte 91) exact-white
+
+pub shrinks-open_bracket : Shrinks OpenBracket
+shrinks-open_bracket = shrinks-seen (λ p. p.1) (shrinks-first (shrinks-one (λ c. c == 91)) exact-white.cuts)
+
+pub exact-close_bracket : Exact read.close_bracket CloseBracket
+unfolding read.close_bracket
+exact-close_bracket = exact-right exact-white (exact-byte 93)
+
 pub exact-bracketed : {f : Reader Value} {R : Rule Value} → Exact f R → Exact (read.bracketed_over f) (Bracketed R)
-exact-bracketed F = exact-left (exact-left (exact-right (exact-right (exact-byte 91) exact-white) F) exact-white) (exact-byte 93)
+exact-bracketed F = exact-left (exact-right exact-open_bracket F) exact-close_bracket
 
 pub shrinks-bracketed : {f : Reader Value} {R : Rule Value} → Exact f R → Shrinks (Bracketed R)
-shrinks-bracketed F = shrinks-seen (λ p. p.0) (shrinks-second (exact-left (exact-right (exact-right (exact-byte 91) exact-white) F) exact-white).cuts (shrinks-one (λ c. c == 93)))
+shrinks-bracketed F = shrinks-seen (λ p. p.0) (shrinks-first (shrinks-seen (λ p. p.1) (shrinks-first shrinks-open_bracket F.cuts)) exact-close_bracket.cuts)
 
 pub exact-named : Exact read.named (Byte 46 ▷ Identifier)
 unfolding read.named

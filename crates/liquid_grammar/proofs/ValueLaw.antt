@@ -2,14 +2,13 @@
 use Rattle.std.proofs.Common.{◌≡◌, ℕ, zero, suc, ◌+◌, ◌-◌, ◌<◌, ◌≤◌, List, [], ◌∷◌, ◌++◌, length, Option, Some, None, option_map, option_and_then, refl, sym, ap, ap₂, ◌∙◌, subst, arith, length-append, ◌↔◌, ◌==◌}
 use Rattle.std.proofs.lemmas.Option.{none-some}
 use Rattle.std.specs.Option.{option_or}
-use Rattle.liquid_grammar.specs.Rules.{Rule, Placed, Byte, ◌▷◌}
-use Rattle.liquid_grammar.specs.Grammar.{White}
+use Rattle.liquid_grammar.specs.Rules.{Rule, Placed}
 use Rattle.liquid_grammar.specs.Values.{Value, Index, named_index, placed_literal, placed_variable, placed_bracket, ValueOver, IndexOver, Nested, ValueRule}
 use Rattle.liquid_grammar.specs.Steps.{Reader, byte, both, either, seen, right, left, white, name}
-use Rattle.liquid_grammar.specs.TokenSteps.{at, placed, repeat_turn, repeated_by, repeated, bracketed_over, named, index_over, variable_over, literal, value_over, value_by, value}
+use Rattle.liquid_grammar.specs.TokenSteps.{at, placed, repeat_turn, repeated_by, repeated, close_bracket, bracketed_over, named, index_over, variable_over, literal, value_over, value_by, value}
 use Rattle.liquid_grammar.proofs.Exact.{Exact, Cuts, Shrinks, cuts_le, exact-byte, exact-right, shrinks-one, shrinks-first, shrinks-seen}
 use Rattle.liquid_grammar.proofs.GrammarExact.{exact-white, exact-name}
-use Rattle.liquid_grammar.proofs.TokenExact.{exact-index, exact-nested, exact-value, exact-value_over, shrinks-name}
+use Rattle.liquid_grammar.proofs.TokenExact.{exact-index, exact-nested, exact-value, exact-value_over, shrinks-name, exact-open_bracket, shrinks-open_bracket}
 
 -- two readers find the same in each text that is shorter
 abbrev Agree : {A : Type 0} → ℕ → Reader A → Reader A → Type 0
@@ -41,17 +40,14 @@ agree_repeated {A} m f g G agree (suc n) s h =
         let l = cuts_le G.cuts s x.1 x.0 (G.sound s x.1 x.0 e) in
         ap (option_map (λ b. (x.0 ∷ b.0, b.1))) (rec x.1 (omega arith))
 
-shrinks-open : Shrinks (Byte 91 ▷ White)
-shrinks-open = shrinks-seen (λ p. p.1) (shrinks-first (shrinks-one (λ c. c == 91)) exact-white.cuts)
-
 -- what closes brackets behind what was found in them
 abbrev closed : Option (Value × List ℕ) → Option (Value × List ℕ)
-closed o = option_map (λ a. (a.0.0, a.1)) (option_and_then (and_behind (byte 93)) (option_map (λ a. (a.0.0, a.1)) (option_and_then (and_behind white) o)))
+closed o = option_map (λ a. (a.0.0, a.1)) (option_and_then (and_behind close_bracket) o)
 
 agree_bracketed : (m : ℕ) (f g : Reader Value) → Agree m f g → (s : List ℕ) → length s ≤ m → bracketed_over f s ≡ bracketed_over g s
 agree_bracketed m f g agree s h =
     let inner : (List ℕ × Value) × List ℕ → Value × List ℕ = λ a. (a.0.1, a.1) in
-    ap (λ o. closed (option_map inner o)) (agree_behind m f g (exact-right (exact-byte 91) exact-white) shrinks-open agree s h)
+    ap (λ o. closed (option_map inner o)) (agree_behind m f g exact-open_bracket shrinks-open_bracket agree s h)
 
 agree_index : (m : ℕ) (f g : Reader Value) → Agree m f g → (s : List ℕ) → length s ≤ m → index_over f s ≡ index_over g s
 agree_index m f g agree s h =

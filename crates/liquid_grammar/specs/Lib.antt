@@ -9,3 +9,5 @@ pub mod Literals
 pub mod Values
 pub mod Tokens
 pub mod TokenSteps
+pub mod Faults
+pub mod Meanings

@@ -43,6 +43,9 @@ word = seen word_literal (only is_literal_word identifier)
 unfoldable pub quoted : ℕ → Reader (List ℕ)
 quoted quote = left (right (byte quote) (run (λ b. not (b == quote)))) (byte quote)
 
+abbrev pub text_of_quotes : Reader (List ℕ)
+text_of_quotes = either (quoted 39) (quoted 34)
+
 unfoldable pub digits : Reader (List ℕ)
 digits = text (both (one is_ascii_digit) (run is_ascii_digit))
 
@@ -59,11 +62,17 @@ unfoldable pub number : Reader Literal
 number = left (either (seen decimal fractional) (seen integer whole)) (not_ahead (one starts_name))
 
 unfoldable pub literal : Reader Literal
-literal = either word (either (seen text_literal (either (quoted 39) (quoted 34))) number)
+literal = either word (either (seen text_literal text_of_quotes) number)
 
 -- the readers of a value, over that of the values in its brackets
+unfoldable pub open_bracket : Reader (List ℕ)
+open_bracket = right (byte 91) white
+
+unfoldable pub close_bracket : Reader ℕ
+close_bracket = right white (byte 93)
+
 abbrev pub bracketed_over : Reader Value → Reader Value
-bracketed_over inner = left (left (right (right (byte 91) white) inner) white) (byte 93)
+bracketed_over inner = left (right open_bracket inner) close_bracket
 
 unfoldable pub named : Reader (List ℕ)
 named = right (byte 46) identifier

@@ -31,11 +31,19 @@ placed_variable p = variable_value p.place p.behind p.what.0 (gather p.what.1)
 abbrev pub placed_bracket : Placed Value → Index
 placed_bracket p = bracketed_index p.place p.behind p.what
 
+-- `[` and the white space behind it
+abbrev pub OpenBracket : Rule (List ℕ)
+OpenBracket = Byte 91 ▷ White
+
+-- `]` and the white space before it
+abbrev pub CloseBracket : Rule ℕ
+CloseBracket = White ▷ Byte 93
+
 -- the rules of a value, over the rule of the values in its brackets
 module _ (Inner : Rule Value) where
   -- a value in brackets
   abbrev pub Bracketed : Rule Value
-  Bracketed = Byte 91 ▷ White ▷ Inner ◁ White ◁ Byte 93
+  Bracketed = OpenBracket ▷ Inner ◁ CloseBracket
 
   -- `.` and an identifier, or brackets
   abbrev pub IndexOver : Rule Index

@@ -5,6 +5,7 @@ mod bytes;
 mod element;
 mod expression;
 mod laws;
+mod literal;
 mod name;
 mod opener;
 mod place;
@@ -14,5 +15,6 @@ mod tests;
 mod text;
 
 pub use element::{Element, next_element};
+pub use literal::Literal;
 pub use laws::{elements_joined_are_the_text, no_opener_inside_raw, one_cover, one_element};
 pub use place::line_and_column;
