@@ -6,3 +6,5 @@ pub mod CoverLemmas
 pub mod ExactRepeated
 pub mod TokenExact
 pub mod ValueLaw
+pub mod FlatBrackets
+pub mod IntegerLemmas

@@ -44,6 +44,10 @@ literal_fault place _ = None
 abbrev pub bracket_limit : ℕ
 bracket_limit = 100
 
+-- the fault of a bracket that opens inside so many open ones
+abbrev pub deep_fault : ℕ → List ℕ → Option Fault
+deep_fault depth place = if nat_lt depth bracket_limit then None else Some (nested_too_deep, place)
+
 -- the first fault of a value in as many open brackets
 abbrev mutual
   pub fault_within : ℕ → Value → Option Fault
@@ -53,7 +57,7 @@ abbrev mutual
   pub index_fault : ℕ → Index → Option Fault
   index_fault depth (named_index name) = None
   index_fault depth (bracketed_index place behind value) =
-      if nat_lt depth bracket_limit then fault_within (suc depth) value else Some (nested_too_deep, place)
+      option_or (deep_fault depth place) (fault_within (suc depth) value)
 
   pub indexes_fault : ℕ → Indexes → Option Fault
   indexes_fault depth no_index = None

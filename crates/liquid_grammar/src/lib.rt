@@ -4,6 +4,7 @@
 mod bytes;
 mod element;
 mod expression;
+mod fault;
 mod laws;
 mod literal;
 mod name;
@@ -13,8 +14,10 @@ mod raw;
 #[cfg(test)]
 mod tests;
 mod text;
+mod value;
 
 pub use element::{Element, next_element};
+pub use fault::{Fault, FaultKind, integer_of};
 pub use literal::Literal;
 pub use laws::{elements_joined_are_the_text, no_opener_inside_raw, one_cover, one_element};
 pub use place::line_and_column;
