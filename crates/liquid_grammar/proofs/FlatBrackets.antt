@@ -1,5 +1,5 @@
 -- Brackets inside one another, matched by a count of those that are open.
-use Rattle.std.proofs.Common.{◌≡◌, ℕ, zero, suc, ◌+◌, ◌-◌, ◌<◌, ◌≤◌, Bool, true, false, cond, not, ◌==◌, nat_lt, List, [], ◌∷◌, ◌++◌, length, take, drop, Option, Some, None, is_some, option_map, option_and_then, refl, sym, ap, ap₂, ◌∙◌, subst, arith, eqb-true}
+use Rattle.std.proofs.Common.{◌≡◌, ℕ, zero, suc, pred, ◌+◌, ◌-◌, ◌<◌, ◌≤◌, Bool, true, false, cond, not, ◌==◌, nat_lt, List, [], ◌∷◌, ◌++◌, length, take, drop, Option, Some, None, is_some, option_map, option_and_then, MatchOption, refl, sym, ap, ap₂, ◌∙◌, subst, arith, eqb-true}
 use Rattle.std.proofs.lemmas.Option.{same_Some, none-some}
 use Rattle.std.specs.Option.{option_or}
 use Rattle.std.specs.List.{prefix_len}
@@ -8,37 +8,17 @@ use Rattle.liquid_grammar.specs.Rules.{Rule, Placed}
 use Rattle.liquid_grammar.specs.Literals.{Literal}
 use Rattle.liquid_grammar.specs.Values.{Value, literal_value, variable_value, Index, named_index, bracketed_index, Indexes, gather, placed_literal, placed_variable, placed_bracket}
 use Rattle.liquid_grammar.specs.Faults.{Fault, literal_fault, fault_within, index_fault, indexes_fault, deep_fault}
-use Rattle.liquid_grammar.specs.Meanings.{Scanned, scan}
+use Rattle.liquid_grammar.specs.declared.fault.Fault.{Fault as CodeFault}
+use Rattle.liquid_grammar.specs.Meanings.{Scanned, scan, faults_of}
 use Rattle.liquid_grammar.specs.Steps.{Reader, one, byte, both, either, seen, right, left, white, name}
+use Rattle.liquid_grammar.specs.BracketSteps.{adds, index, indexes, bracket_index, closing, resume, starts, awaited, going}
+use Rattle.liquid_grammar.specs.declared.bracket.Await.{Await}
+use Rattle.liquid_grammar.specs.declared.bracket.Open.{Open}
 use Rattle.liquid_grammar.specs.TokenSteps.{at, placed, repeated, literal, value, value_over, variable_over, index_over, bracketed_over, named, open_bracket, close_bracket}
 use Rattle.liquid_grammar.proofs.Exact.{Exact, option_cases}
 use Rattle.liquid_grammar.proofs.ExactRepeated.{repeated_more, repeated_end}
 use Rattle.liquid_grammar.proofs.TokenExact.{exact-value, exact-index, shrinks-index, exact-indexes}
 use Rattle.liquid_grammar.proofs.ValueLaw.{value_reads}
-
--- with a fault before what was scanned
-abbrev pub adds : Option Fault → Option Scanned → Option Scanned
-adds fault found = option_map (λ c. (option_or fault c.0, c.1)) found
-
-abbrev index : Reader Index
-index = index_over value
-
-abbrev pub indexes : Reader (List Index)
-indexes = repeated index
-
--- with a close bracket, and go on behind it
-abbrev closing : (List ℕ → Option Scanned) → List ℕ → Option Scanned
-closing next s = option_and_then (λ a. next a.1) (close_bracket s)
-
--- what is still to be found behind a name inside as many open brackets: its indexes, a close bracket, and what is behind that
-unfoldable pub resume : ℕ → List ℕ → Option Scanned
-resume zero s = Some (None, s)
-resume (suc depth) s = option_and_then (λ b. adds (indexes_fault (suc depth) (gather b.0)) (closing (resume depth) b.1)) (indexes s)
-
--- the same where a value begins inside the brackets
-unfoldable pub starts : ℕ → List ℕ → Option Scanned
-starts zero s = None
-starts (suc depth) s = option_and_then (λ v. adds (fault_within (suc depth) v.0) (closing (resume depth) v.1)) (value s)
 
 pub adds_none : (o : Option Scanned) → adds None o ≡ o
 adds_none (Some x) = refl
@@ -94,10 +74,6 @@ bracketed_none s e =
     let close : Value × List ℕ → Option ((Value × ℕ) × List ℕ) = λ a. option_map (λ b. ((a.0, b.0), b.1)) (close_bracket a.1) in
     let keep : (Value × ℕ) × List ℕ → Value × List ℕ = λ a. (a.0.0, a.1) in
     ap (λ o. option_map keep (option_and_then close (option_map second (option_and_then first o)))) e
-
--- an index in brackets
-abbrev bracket_index : Reader Index
-bracket_index = seen placed_bracket (at (bracketed_over value))
 
 -- what the brackets' index leaves to be scanned
 start_shape : (s : List ℕ) (o : Option (Value × List ℕ))
@@ -286,3 +262,82 @@ closing_none next s e = let go : ℕ × List ℕ → Option Scanned = λ a. next
 pub resume_zero : (s : List ℕ) → resume 0 s ≡ Some (None, s)
 unfolding resume
 resume_zero s = refl
+
+-- what a call left is what the reader left
+left_some : {A : Type 0} (o : Option (A × List ℕ)) (rest : List ℕ) → Some rest ≡ option_map (λ p. p.1) o → (x : A × List ℕ) × (o ≡ Some x) × (x.1 ≡ rest)
+left_some (Some x) rest e = (x, refl, sym (same_Some _ _ e))
+left_some None rest e = absurd (none-some _ (sym e))
+
+left_none : {A : Type 0} (o : Option (A × List ℕ)) → None ≡ option_map (λ p. p.1) o → o ≡ None
+left_none (Some x) e = absurd (none-some _ e)
+left_none None e = refl
+
+pub faults_or : (a b : Option CodeFault) → faults_of (option_or a b) ≡ option_or (faults_of a) (faults_of b)
+faults_or (Some x) b = refl
+faults_or None b = refl
+
+-- the turns of the matcher, each by what it found
+pub turn_literal : (f : Option Fault) (d : ℕ) (s rest : List ℕ) (l : Literal) → 0 < d → Some (l, rest) ≡ literal s → adds f (starts d s) ≡ adds (option_or f (literal_fault s l)) (closing (resume (pred d)) rest)
+turn_literal f zero s rest l h e = absurd (omega arith)
+turn_literal f (suc d) s rest l h e = ap (adds f) (starts_literal d s (l, rest) (sym e)) ∙ adds_adds f (literal_fault s l) (closing (resume d) rest)
+
+pub turn_name : (f : Option Fault) (d : ℕ) (s rest n : List ℕ) → 0 < d → None ≡ literal s → Some (n, rest) ≡ name s → adds f (starts d s) ≡ adds f (resume d rest)
+turn_name f zero s rest n h none e = absurd (omega arith)
+turn_name f (suc d) s rest n h none e = ap (adds f) (starts_name d s (n, rest) (sym none) (sym e))
+
+pub turn_no_value : (f : Option Fault) (d : ℕ) (s : List ℕ) → 0 < d → None ≡ literal s → None ≡ name s → adds f (starts d s) ≡ None
+turn_no_value f zero s h none e = absurd (omega arith)
+turn_no_value f (suc d) s h none e = ap (adds f) (starts_none d s (sym none) (sym e))
+
+pub turn_named : (f : Option Fault) (d : ℕ) (s rest : List ℕ) → 0 < d → Some rest ≡ option_map (λ p. p.1) (named s) → adds f (resume d s) ≡ adds f (resume d rest)
+turn_named f zero s rest h e = absurd (omega arith)
+turn_named f (suc d) s rest h e =
+    let x = left_some (named s) rest e in
+    ap (adds f) (resume_named d s x.0 x.1 ∙ ap (resume (suc d)) x.2)
+
+pub turn_open : (f : Option Fault) (d : ℕ) (s rest : List ℕ) → 0 < d → None ≡ option_map (λ p. p.1) (named s) → Some rest ≡ option_map (λ p. p.1) (open_bracket s) → adds f (resume d s) ≡ adds (option_or f (deep_fault d s)) (starts (d + 1) rest)
+turn_open f zero s rest h none e = absurd (omega arith)
+turn_open f (suc d) s rest h none e =
+    let x = left_some (open_bracket s) rest e in
+    let more_open : suc (suc d) ≡ suc d + 1 = omega arith in
+    ap (adds f) (resume_open d s x.0 (left_none (named s) none) x.1) ∙ adds_adds f (deep_fault (suc d) s) (starts (suc (suc d)) x.0.1)
+    ∙ ap₂ (λ n t. adds (option_or f (deep_fault (suc d) s)) (starts n t)) more_open x.2
+
+pub turn_to_close : (f : Option Fault) (d : ℕ) (s : List ℕ) → 0 < d → None ≡ option_map (λ p. p.1) (named s) → None ≡ option_map (λ p. p.1) (open_bracket s) → adds f (resume d s) ≡ adds f (closing (resume (pred d)) s)
+turn_to_close f zero s h none e = absurd (omega arith)
+turn_to_close f (suc d) s h none e = ap (adds f) (resume_close d s (left_none (named s) none) (left_none (open_bracket s) e))
+
+pub turn_closed : (f : Option Fault) (d : ℕ) (s rest : List ℕ) → 0 < d → Some rest ≡ option_map (λ p. p.1) (close_bracket s) → adds f (closing (resume (pred d)) s) ≡ adds f (resume (d - 1) rest)
+turn_closed f zero s rest h e = absurd (omega arith)
+turn_closed f (suc d) s rest h e =
+    let x = left_some (close_bracket s) rest e in
+    let fewer : d ≡ suc d - 1 = omega arith in
+    ap (adds f) (closing_found (resume d) s x.0 x.1) ∙ ap₂ (λ n t. adds f (resume n t)) fewer x.2
+
+pub turn_unclosed : (f : Option Fault) (d : ℕ) (s : List ℕ) → None ≡ option_map (λ p. p.1) (close_bracket s) → adds f (closing (resume (pred d)) s) ≡ None
+turn_unclosed f d s e = ap (adds f) (closing_none (resume (pred d)) s (left_none (close_bracket s) e))
+
+-- where the matcher begins and where it ends
+pub bracket_opens : (s rest : List ℕ) → Some rest ≡ option_map (λ p. p.1) (open_bracket s) → scan (index_fault 0) (bracket_index s) ≡ adds None (starts 1 rest)
+bracket_opens s rest e = let x = left_some (open_bracket s) rest e in scan_open s x.0 x.1 ∙ ap (starts 1) x.2 ∙ sym (adds_none (starts 1 rest))
+
+pub no_bracket_opens : (s : List ℕ) → None ≡ option_map (λ p. p.1) (open_bracket s) → scan (index_fault 0) (bracket_index s) ≡ None
+no_bracket_opens s e = scan_none s (left_none (open_bracket s) e)
+
+pub all_closed : (f : Option Fault) (d : ℕ) (s : List ℕ) → d ≡ 0 → adds f (resume d s) ≡ Some (f, s)
+all_closed f d s e =
+    let w : Option Fault → Option Scanned = λ y. Some (y, s) in
+    ap (λ n. adds f (resume n s)) e ∙ ap (adds f) (resume_zero s) ∙ ap w (or_none f)
+
+-- what the matcher still has to find, by what it awaits
+pub going_at : (o : Open) (a : Await) → o.awaits ≡ a → going o ≡ adds (faults_of o.fault) (awaited a o.depth o.rest.now)
+going_at o a e = ap (λ x. adds (faults_of o.fault) (awaited x o.depth o.rest.now)) e
+
+pub fault_added : (a b r : Option CodeFault) (g : Option Fault) → r ≡ option_or a b → faults_of b ≡ g → option_or (faults_of a) g ≡ faults_of r
+fault_added a b r g e f = sym (ap faults_of e ∙ faults_or a b ∙ ap (option_or (faults_of a)) f)
+
+pub match_none : {X : Type 0} (o : Option X) (P : Type 0) (Q : X → Type 0) → o ≡ None → P → MatchOption o P Q
+match_none {X} o P Q e h = subst (λ (x : Option X). MatchOption x P Q) (sym e) h
+
+pub adds_found : (f : Option Fault) (s : List ℕ) → adds f (Some (None, s)) ≡ Some (f, s)
+adds_found f s = let w : Option Fault → Option Scanned = λ y. Some (y, s) in ap w (or_none f)

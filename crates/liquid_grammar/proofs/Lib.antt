@@ -8,3 +8,5 @@ pub mod TokenExact
 pub mod ValueLaw
 pub mod FlatBrackets
 pub mod IntegerLemmas
+pub mod ValueScan
+pub mod Scanning

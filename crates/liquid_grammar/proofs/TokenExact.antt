@@ -112,10 +112,10 @@ pub exact-argument : Exact read.argument ArgumentRule
 unfolding read.argument
 exact-argument = exact-either (exact-seen (λ p. keyword p.0 p.1) (exact-both exact-keyword_start exact-value)) (exact-seen positional exact-value)
 
-exact-behind : {A : Type 0} {f : Reader A} {R : Rule A} (separator : ℕ) → Exact f R → Exact (read.behind separator f) (Behind separator R)
+pub exact-behind : {A : Type 0} {f : Reader A} {R : Rule A} (separator : ℕ) → Exact f R → Exact (read.behind separator f) (Behind separator R)
 exact-behind separator F = exact-right (exact-right (exact-right exact-white (exact-byte separator)) exact-white) F
 
-shrinks-behind : {A : Type 0} {f : Reader A} {R : Rule A} (separator : ℕ) → Exact f R → Shrinks (Behind separator R)
+pub shrinks-behind : {A : Type 0} {f : Reader A} {R : Rule A} (separator : ℕ) → Exact f R → Shrinks (Behind separator R)
 shrinks-behind separator F =
     shrinks-seen (λ p. p.1) (shrinks-first (shrinks-seen (λ p. p.1) (shrinks-first (shrinks-seen (λ p. p.1) (shrinks-second exact-white.cuts (shrinks-one (λ c. c == separator)))) exact-white.cuts)) F.cuts)
 

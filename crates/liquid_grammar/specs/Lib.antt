@@ -11,3 +11,4 @@ pub mod Tokens
 pub mod TokenSteps
 pub mod Faults
 pub mod Meanings
+pub mod BracketSteps

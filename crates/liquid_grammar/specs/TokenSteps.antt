@@ -96,12 +96,18 @@ value s = value_by (suc (length s)) s
 unfoldable pub keyword_start : Reader (List ℕ)
 keyword_start = left (left (left identifier white) (byte 58)) white
 
+abbrev pub keyword_argument : Reader Argument
+keyword_argument = seen (λ p. keyword p.0 p.1) (both keyword_start value)
+
 unfoldable pub argument : Reader Argument
-argument = either (seen (λ p. keyword p.0 p.1) (both keyword_start value)) (seen positional value)
+argument = either keyword_argument (seen positional value)
+
+abbrev pub separated : ℕ → Reader (List ℕ)
+separated separator = right (right white (byte separator)) white
 
 -- a separator between white space, and what stands behind it
 abbrev pub behind : {A : Type 0} → ℕ → Reader A → Reader A
-behind separator f = right (right (right white (byte separator)) white) f
+behind separator f = right (separated separator) f
 
 unfoldable pub arguments : Reader (List Argument)
 arguments = seen (λ p. p.0 ∷ p.1) (both (behind 58 argument) (repeated (behind 44 argument)))

@@ -1,10 +1,12 @@
 //! The grammar of Liquid templates: rules, elements and places, matched without memory.
 #![tactic(auto)]
 
+mod bracket;
 mod bytes;
 mod element;
 mod expression;
 mod fault;
+mod filter;
 mod laws;
 mod literal;
 mod name;
@@ -16,6 +18,7 @@ mod tests;
 mod text;
 mod value;
 
+pub use bracket::BRACKET_LIMIT;
 pub use element::{Element, next_element};
 pub use fault::{Fault, FaultKind, integer_of};
 pub use literal::Literal;
