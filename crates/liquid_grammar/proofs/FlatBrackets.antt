@@ -264,11 +264,11 @@ unfolding resume
 resume_zero s = refl
 
 -- what a call left is what the reader left
-left_some : {A : Type 0} (o : Option (A × List ℕ)) (rest : List ℕ) → Some rest ≡ option_map (λ p. p.1) o → (x : A × List ℕ) × (o ≡ Some x) × (x.1 ≡ rest)
+pub left_some : {A : Type 0} (o : Option (A × List ℕ)) (rest : List ℕ) → Some rest ≡ option_map (λ p. p.1) o → (x : A × List ℕ) × (o ≡ Some x) × (x.1 ≡ rest)
 left_some (Some x) rest e = (x, refl, sym (same_Some _ _ e))
 left_some None rest e = absurd (none-some _ (sym e))
 
-left_none : {A : Type 0} (o : Option (A × List ℕ)) → None ≡ option_map (λ p. p.1) o → o ≡ None
+pub left_none : {A : Type 0} (o : Option (A × List ℕ)) → None ≡ option_map (λ p. p.1) o → o ≡ None
 left_none (Some x) e = absurd (none-some _ e)
 left_none None e = refl
 

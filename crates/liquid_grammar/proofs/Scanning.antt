@@ -3,14 +3,16 @@ use Rattle.std.proofs.Common.{◌≡◌, ℕ, List, [], ◌∷◌, Option, Some,
 use Rattle.std.proofs.lemmas.Option.{same_Some, none-some}
 use Rattle.std.specs.Option.{option_or}
 use Rattle.liquid_grammar.specs.Rules.{Rule}
-use Rattle.liquid_grammar.specs.Faults.{Fault, first_fault}
+use Rattle.liquid_grammar.specs.Tokens.{Argument}
+use Rattle.liquid_grammar.specs.Faults.{Fault, first_fault, value_fault, argument_fault, filter_fault, chain_fault, range_fault}
 use Rattle.liquid_grammar.specs.Meanings.{Scanned, scan}
-use Rattle.liquid_grammar.specs.Steps.{Reader, both, right}
-use Rattle.liquid_grammar.specs.TokenSteps.{repeated}
+use Rattle.liquid_grammar.specs.Steps.{Reader, both, right, left}
+use Rattle.liquid_grammar.specs.TokenSteps.{placed, repeated, separated, behind, argument, arguments, value, filter, chain_of, range_start, dots, range_end, ranged}
 use Rattle.liquid_grammar.specs.BracketSteps.{adds}
 use Rattle.liquid_grammar.proofs.Exact.{Exact, Shrinks}
 use Rattle.liquid_grammar.proofs.ExactRepeated.{repeated_more, repeated_end}
 use Rattle.liquid_grammar.proofs.ValueScan.{scan_some, scan_none}
+use Rattle.liquid_grammar.proofs.FlatBrackets.{left_some}
 
 more_shape : {A : Type 0} (fault : A → Option Fault) (x : A) (o : Option (List A × List ℕ))
     → let cons : List A × List ℕ → List A × List ℕ = λ b. (x ∷ b.0, b.1) in
@@ -28,3 +30,63 @@ repeated_scan_more {f = f} F less fault s rest g e =
 
 pub repeated_scan_end : {A : Type 0} (f : Reader A) (fault : A → Option Fault) (s : List ℕ) → None ≡ scan fault (f s) → scan (first_fault fault) (repeated f s) ≡ Some (None, s)
 repeated_scan_end f fault s e = ap (scan (first_fault fault)) (repeated_end f s (scan_none fault (f s) e))
+
+-- what readers one behind the other find
+pub both_some : {A B : Type 0} (f : Reader A) (g : Reader B) (s : List ℕ) (a : A × List ℕ) (b : B × List ℕ) → f s ≡ Some a → g a.1 ≡ Some b → both f g s ≡ Some ((a.0, b.0), b.1)
+both_some {A} {B} f g s a b e h =
+    let next : A × List ℕ → Option ((A × B) × List ℕ) = λ x. option_map (λ y. ((x.0, y.0), y.1)) (g x.1) in
+    ap (option_and_then next) e ∙ ap (option_map (λ y. ((a.0, y.0), y.1))) h
+
+pub right_some : {A B : Type 0} (f : Reader A) (g : Reader B) (s : List ℕ) (a : A × List ℕ) (b : B × List ℕ) → f s ≡ Some a → g a.1 ≡ Some b → right f g s ≡ Some b
+right_some {A} {B} f g s a b e h =
+    let second : (A × B) × List ℕ → B × List ℕ = λ x. (x.0.1, x.1) in
+    ap (option_map second) (both_some f g s a b e h)
+
+pub left_found : {A B : Type 0} (f : Reader A) (g : Reader B) (s : List ℕ) (a : A × List ℕ) (b : B × List ℕ) → f s ≡ Some a → g a.1 ≡ Some b → left f g s ≡ Some (a.0, b.1)
+left_found {A} {B} f g s a b e h =
+    let first : (A × B) × List ℕ → A × List ℕ = λ x. (x.0.0, x.1) in
+    ap (option_map first) (both_some f g s a b e h)
+
+-- an argument, and those behind commas
+pub arguments_scan : (s r₀ r₁ r₂ : List ℕ) (g h : Option Fault) → Some r₀ ≡ option_map (λ p. p.1) (separated 58 s) → Some (g, r₁) ≡ scan argument_fault (argument r₀)
+    → Some (h, r₂) ≡ scan (first_fault argument_fault) (repeated (behind 44 argument) r₁) → Some (option_or g h, r₂) ≡ scan (first_fault argument_fault) (arguments s)
+unfolding arguments
+arguments_scan s r₀ r₁ r₂ g h e₀ e₁ e₂ =
+    let x₀ = left_some (separated 58 s) r₀ e₀ in
+    let x₁ = scan_some argument_fault (argument r₀) g r₁ e₁ in
+    let x₂ = scan_some (first_fault argument_fault) (repeated (behind 44 argument) r₁) h r₂ e₂ in
+    let first = right_some (separated 58) argument s x₀.0 x₁.0 x₀.1 (ap argument x₀.2 ∙ x₁.1) in
+    let both_found = both_some (behind 58 argument) (repeated (behind 44 argument)) s x₁.0 x₂.0 first (ap (repeated (behind 44 argument)) x₁.3 ∙ x₂.1) in
+    let make : (Argument × List Argument) × List ℕ → List Argument × List ℕ = λ a. (a.0.0 ∷ a.0.1, a.1) in
+    let w : Option Fault → Option Fault → List ℕ → Option Scanned = λ a b t. Some (option_or a b, t) in
+    sym (ap (λ o. scan (first_fault argument_fault) (option_map make o)) both_found ∙ ap (λ t. w (argument_fault x₁.0.0) (first_fault argument_fault x₂.0.0) t) x₂.3
+      ∙ ap₂ (λ a b. w a b r₂) x₁.2 x₂.2)
+
+-- a value, and filters behind it
+pub chain_scan : (s r₁ r₂ : List ℕ) (g h : Option Fault) → Some (g, r₁) ≡ scan value_fault (value s)
+    → Some (h, r₂) ≡ scan (first_fault filter_fault) (repeated (behind 124 filter) r₁) → Some (option_or g h, r₂) ≡ scan chain_fault (chain_of s)
+unfolding chain_of
+chain_scan s r₁ r₂ g h e₁ e₂ =
+    let x₁ = scan_some value_fault (value s) g r₁ e₁ in
+    let x₂ = scan_some (first_fault filter_fault) (repeated (behind 124 filter) r₁) h r₂ e₂ in
+    let both_found = both_some value (repeated (behind 124 filter)) s x₁.0 x₂.0 x₁.1 (ap (repeated (behind 124 filter)) x₁.3 ∙ x₂.1) in
+    let w : Option Fault → Option Fault → List ℕ → Option Scanned = λ a b t. Some (option_or a b, t) in
+    sym (ap (λ o. scan chain_fault (option_map (placed s) o)) both_found ∙ ap (λ t. w (value_fault x₁.0.0) (first_fault filter_fault x₂.0.0) t) x₂.3 ∙ ap₂ (λ a b. w a b r₂) x₁.2 x₂.2)
+
+-- two values of a range
+pub range_scan : (s r₀ r₁ r₂ r₃ r₄ : List ℕ) (g h : Option Fault) → Some r₀ ≡ option_map (λ p. p.1) (range_start s) → Some (g, r₁) ≡ scan value_fault (value r₀)
+    → Some r₂ ≡ option_map (λ p. p.1) (dots r₁) → Some (h, r₃) ≡ scan value_fault (value r₂) → Some r₄ ≡ option_map (λ p. p.1) (range_end r₃)
+    → Some (option_or g h, r₄) ≡ scan range_fault (ranged s)
+unfolding ranged
+range_scan s r₀ r₁ r₂ r₃ r₄ g h e₀ e₁ e₂ e₃ e₄ =
+    let x₀ = left_some (range_start s) r₀ e₀ in
+    let x₁ = scan_some value_fault (value r₀) g r₁ e₁ in
+    let x₂ = left_some (dots r₁) r₂ e₂ in
+    let x₃ = scan_some value_fault (value r₂) h r₃ e₃ in
+    let x₄ = left_some (range_end r₃) r₄ e₄ in
+    let first = left_found value dots r₀ x₁.0 x₂.0 x₁.1 (ap dots x₁.3 ∙ x₂.1) in
+    let values = both_some (left value dots) value r₀ (x₁.0.0, x₂.0.1) x₃.0 first (ap value x₂.2 ∙ x₃.1) in
+    let inner = right_some range_start (both (left value dots) value) s x₀.0 ((x₁.0.0, x₃.0.0), x₃.0.1) x₀.1 (ap (both (left value dots) value) x₀.2 ∙ values) in
+    let whole = left_found (right range_start (both (left value dots) value)) range_end s ((x₁.0.0, x₃.0.0), x₃.0.1) x₄.0 inner (ap range_end x₃.3 ∙ x₄.1) in
+    let w : Option Fault → Option Fault → List ℕ → Option Scanned = λ a b t. Some (option_or a b, t) in
+    sym (ap (scan range_fault) whole ∙ ap (λ t. w (value_fault x₁.0.0) (value_fault x₃.0.0) t) x₄.2 ∙ ap₂ (λ a b. w a b r₄) x₁.2 x₃.2)

@@ -8,7 +8,7 @@ use Rattle.liquid_grammar.specs.Rules.{Rule, Begins, One, Then, Else, Repeated, 
 use Rattle.liquid_grammar.specs.Grammar.{White, Identifier, Name, is_literal_word}
 use Rattle.liquid_grammar.specs.Literals.{Literal, word_literal, text_literal, integer, decimal, Word, Quoted, Digits, Whole, Fractional, Number, LiteralRule}
 use Rattle.liquid_grammar.specs.Values.{Value, Index, named_index, placed_literal, placed_variable, placed_bracket, OpenBracket, CloseBracket, Bracketed, IndexOver, VariableOver, ValueOver, Nested, ValueRule, IndexRule, VariableRule}
-use Rattle.liquid_grammar.specs.Tokens.{Argument, positional, keyword, Token, range, chain, symbol, arguments_of, is_double, is_single, ArgumentRule, Behind, Arguments, FilterRule, ChainRule, Dots, RangeRule, SymbolRule, TokenRule, ExpressionRule, TagRule}
+use Rattle.liquid_grammar.specs.Tokens.{Argument, positional, keyword, Token, range, chain, symbol, arguments_of, is_double, is_single, ArgumentRule, Behind, Arguments, FilterRule, ChainRule, Dots, RangeStart, RangeEnd, RangeRule, SymbolRule, TokenRule, ExpressionRule, TagRule}
 use Rattle.liquid_grammar.specs.Steps.{Reader, one, byte, both, either, seen, only, text, right, left, run, white, identifier, name}
 use Rattle.liquid_grammar.specs.TokenSteps as read
 use Rattle.liquid_grammar.proofs.Exact.{Exact, Cuts, Shrinks, exact-one, exact-byte, exact-both, exact-either, exact-seen, exact-right, exact-left, exact-only, exact-text, shrinks-one, shrinks-first, shrinks-second, shrinks-seen, shrinks-else, shrinks-text}
@@ -141,9 +141,17 @@ exact-dots : Exact read.dots Dots
 unfolding read.dots
 exact-dots = exact-left (exact-right (exact-right exact-white (exact-byte 46)) (exact-byte 46)) exact-white
 
+exact-range_start : Exact read.range_start RangeStart
+unfolding read.range_start
+exact-range_start = exact-right (exact-byte 40) exact-white
+
+exact-range_end : Exact read.range_end RangeEnd
+unfolding read.range_end
+exact-range_end = exact-right exact-white (exact-byte 41)
+
 pub exact-range : Exact read.ranged RangeRule
 unfolding read.ranged
-exact-range = exact-left (exact-left (exact-right (exact-right (exact-byte 40) exact-white) (exact-both (exact-left exact-value exact-dots) exact-value)) exact-white) (exact-byte 41)
+exact-range = exact-left (exact-right exact-range_start (exact-both (exact-left exact-value exact-dots) exact-value)) exact-range_end
 
 exact-any : Exact read.any (One (λ b. true))
 exact-any = exact-one (λ b. true)
@@ -193,7 +201,7 @@ shrinks-chain s rest a m = shrinks-first shrinks-value exact-filters.cuts s rest
 
 shrinks-range : Shrinks RangeRule
 shrinks-range =
-    shrinks-seen (λ p. p.0) (shrinks-second (exact-left (exact-right (exact-right (exact-byte 40) exact-white) (exact-both (exact-left exact-value exact-dots) exact-value)) exact-white).cuts (shrinks-one (λ c. c == 41)))
+    shrinks-seen (λ p. p.0) (shrinks-first (shrinks-seen (λ p. p.1) (shrinks-first (shrinks-seen (λ p. p.1) (shrinks-first (shrinks-one (λ c. c == 40)) exact-white.cuts)) (exact-both (exact-left exact-value exact-dots) exact-value).cuts)) exact-range_end.cuts)
 
 shrinks-symbol : Shrinks SymbolRule
 shrinks-symbol =
@@ -204,8 +212,14 @@ shrinks-token =
     shrinks-else (shrinks-seen range (λ s rest a m. shrinks-range s rest a.what m.match))
     (shrinks-else (shrinks-seen chain shrinks-chain) (shrinks-seen symbol (λ s rest a m. shrinks-symbol s rest a.what m.match)))
 
+pub exact-next_token : Exact (right white read.token) (White ▷ TokenRule)
+exact-next_token = exact-right exact-white exact-token
+
+pub shrinks-next_token : Shrinks (White ▷ TokenRule)
+shrinks-next_token = shrinks-seen (λ p. p.1) (shrinks-second exact-white.cuts shrinks-token)
+
 pub exact-tokens : Exact (read.repeated (right white read.token)) (Repeated (White ▷ TokenRule))
-exact-tokens = exact-repeated (exact-right exact-white exact-token) (shrinks-seen (λ p. p.1) (shrinks-second exact-white.cuts shrinks-token))
+exact-tokens = exact-repeated exact-next_token shrinks-next_token
 
 pub exact-tag : Exact read.tag TagRule
 unfolding read.tag

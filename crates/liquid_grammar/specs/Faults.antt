@@ -81,8 +81,11 @@ filter_fault filter = first_fault argument_fault filter.what.1
 abbrev pub chain_fault : Chain → Option Fault
 chain_fault c = option_or (value_fault c.what.0) (first_fault filter_fault c.what.1)
 
+abbrev pub range_fault : Value × Value → Option Fault
+range_fault r = option_or (value_fault r.0) (value_fault r.1)
+
 abbrev pub token_fault : Token → Option Fault
-token_fault (range r) = option_or (value_fault r.what.0) (value_fault r.what.1)
+token_fault (range r) = range_fault r.what
 token_fault (chain c) = chain_fault c
 token_fault (symbol s) = None
 

@@ -121,8 +121,14 @@ chain_of = at (both value (repeated (behind 124 filter)))
 unfoldable pub dots : Reader ℕ
 dots = left (right (right white (byte 46)) (byte 46)) white
 
+unfoldable pub range_start : Reader (List ℕ)
+range_start = right (byte 40) white
+
+unfoldable pub range_end : Reader ℕ
+range_end = right white (byte 41)
+
 unfoldable pub ranged : Reader (Value × Value)
-ranged = left (left (right (right (byte 40) white) (both (left value dots) value)) white) (byte 41)
+ranged = left (right range_start (both (left value dots) value)) range_end
 
 abbrev pub any : Reader ℕ
 any = one (λ b. true)

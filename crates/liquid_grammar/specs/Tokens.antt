@@ -52,9 +52,17 @@ ChainRule = At (Then ValueRule (Repeated (Behind 124 FilterRule)))
 abbrev pub Dots : Rule ℕ
 Dots = White ▷ Byte 46 ▷ Byte 46 ◁ White
 
+-- `(` and the white space behind it
+abbrev pub RangeStart : Rule (List ℕ)
+RangeStart = Byte 40 ▷ White
+
+-- `)` and the white space before it
+abbrev pub RangeEnd : Rule ℕ
+RangeEnd = White ▷ Byte 41
+
 -- two values with `..` between them, in parentheses
 abbrev pub RangeRule : Rule (Value × Value)
-RangeRule = Byte 40 ▷ White ▷ Then (ValueRule ◁ Dots) ValueRule ◁ White ◁ Byte 41
+RangeRule = RangeStart ▷ Then (ValueRule ◁ Dots) ValueRule ◁ RangeEnd
 
 -- `<=`, `>=`, `==`, `!=` or `<>`
 abbrev pub is_double : ℕ × ℕ → Bool

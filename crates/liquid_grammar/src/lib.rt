@@ -16,6 +16,7 @@ mod raw;
 #[cfg(test)]
 mod tests;
 mod text;
+mod token;
 mod value;
 
 pub use bracket::BRACKET_LIMIT;
