@@ -3,16 +3,18 @@ use Rattle.std.proofs.Common.{◌≡◌, ℕ, List, [], ◌∷◌, Option, Some,
 use Rattle.std.proofs.lemmas.Option.{same_Some, none-some}
 use Rattle.std.specs.Option.{option_or}
 use Rattle.liquid_grammar.specs.Rules.{Rule}
+use Rattle.liquid_grammar.specs.Values.{Value}
 use Rattle.liquid_grammar.specs.Tokens.{Argument}
+use Rattle.liquid_grammar.specs.declared.fault.Fault.{Fault as CodeFault}
 use Rattle.liquid_grammar.specs.Faults.{Fault, first_fault, value_fault, argument_fault, filter_fault, chain_fault, range_fault}
-use Rattle.liquid_grammar.specs.Meanings.{Scanned, scan}
+use Rattle.liquid_grammar.specs.Meanings.{Scanned, scan, faults_of}
 use Rattle.liquid_grammar.specs.Steps.{Reader, both, right, left}
 use Rattle.liquid_grammar.specs.TokenSteps.{placed, repeated, separated, behind, argument, arguments, value, filter, chain_of, range_start, dots, range_end, ranged}
 use Rattle.liquid_grammar.specs.BracketSteps.{adds}
 use Rattle.liquid_grammar.proofs.Exact.{Exact, Shrinks}
 use Rattle.liquid_grammar.proofs.ExactRepeated.{repeated_more, repeated_end}
 use Rattle.liquid_grammar.proofs.ValueScan.{scan_some, scan_none}
-use Rattle.liquid_grammar.proofs.FlatBrackets.{left_some}
+use Rattle.liquid_grammar.proofs.FlatBrackets.{left_some, left_none, faults_or}
 
 more_shape : {A : Type 0} (fault : A → Option Fault) (x : A) (o : Option (List A × List ℕ))
     → let cons : List A × List ℕ → List A × List ℕ = λ b. (x ∷ b.0, b.1) in
@@ -90,3 +92,74 @@ range_scan s r₀ r₁ r₂ r₃ r₄ g h e₀ e₁ e₂ e₃ e₄ =
     let whole = left_found (right range_start (both (left value dots) value)) range_end s ((x₁.0.0, x₃.0.0), x₃.0.1) x₄.0 inner (ap range_end x₃.3 ∙ x₄.1) in
     let w : Option Fault → Option Fault → List ℕ → Option Scanned = λ a b t. Some (option_or a b, t) in
     sym (ap (scan range_fault) whole ∙ ap (λ t. w (value_fault x₁.0.0) (value_fault x₃.0.0) t) x₄.2 ∙ ap₂ (λ a b. w a b r₄) x₁.2 x₃.2)
+
+-- the first of two faults, as the program and as the definitions have it
+pub joined_fault : (a b r : Option CodeFault) (t : List ℕ) → r ≡ option_or a b → ◌≡◌ {A = Option Scanned} (Some (faults_of r, t)) (Some (option_or (faults_of a) (faults_of b), t))
+joined_fault a b r t e = let w : Option Fault → Option Scanned = λ y. Some (y, t) in ap w (ap faults_of e ∙ faults_or a b)
+
+-- nothing is found where one of two readers finds nothing
+pub both_none : {A B : Type 0} (f : Reader A) (g : Reader B) (s : List ℕ) → f s ≡ None → both f g s ≡ None
+both_none {A} {B} f g s e =
+    let next : A × List ℕ → Option ((A × B) × List ℕ) = λ x. option_map (λ y. ((x.0, y.0), y.1)) (g x.1) in
+    ap (option_and_then next) e
+
+pub both_none_behind : {A B : Type 0} (f : Reader A) (g : Reader B) (s : List ℕ) (a : A × List ℕ) → f s ≡ Some a → g a.1 ≡ None → both f g s ≡ None
+both_none_behind {A} {B} f g s a e h =
+    let next : A × List ℕ → Option ((A × B) × List ℕ) = λ x. option_map (λ y. ((x.0, y.0), y.1)) (g x.1) in
+    ap (option_and_then next) e ∙ ap (option_map (λ y. ((a.0, y.0), y.1))) h
+
+right_of_none : {A B : Type 0} (f : Reader A) (g : Reader B) (s : List ℕ) → both f g s ≡ None → right f g s ≡ None
+right_of_none {A} {B} f g s e = let second : (A × B) × List ℕ → B × List ℕ = λ x. (x.0.1, x.1) in ap (option_map second) e
+
+left_of_none : {A B : Type 0} (f : Reader A) (g : Reader B) (s : List ℕ) → both f g s ≡ None → left f g s ≡ None
+left_of_none {A} {B} f g s e = let first : (A × B) × List ℕ → A × List ℕ = λ x. (x.0.0, x.1) in ap (option_map first) e
+
+-- what stands between the parentheses of a range
+abbrev range_values : Reader (Value × Value)
+range_values = both (left value dots) value
+
+not_ranged : (s : List ℕ) → right range_start range_values s ≡ None → None ≡ scan range_fault (ranged s)
+unfolding ranged
+not_ranged s e = sym (ap (scan range_fault) (left_of_none (right range_start range_values) range_end s (both_none (right range_start range_values) range_end s e)))
+
+pub range_no_start : (s : List ℕ) → None ≡ option_map (λ p. p.1) (range_start s) → None ≡ scan range_fault (ranged s)
+range_no_start s e = not_ranged s (right_of_none range_start range_values s (both_none range_start range_values s (left_none (range_start s) e)))
+
+no_values : (s r₀ : List ℕ) → Some r₀ ≡ option_map (λ p. p.1) (range_start s) → range_values r₀ ≡ None → None ≡ scan range_fault (ranged s)
+no_values s r₀ e h =
+    let x = left_some (range_start s) r₀ e in
+    not_ranged s (right_of_none range_start range_values s (both_none_behind range_start range_values s x.0 x.1 (ap range_values x.2 ∙ h)))
+
+pub range_no_first : (s r₀ : List ℕ) → Some r₀ ≡ option_map (λ p. p.1) (range_start s) → None ≡ scan value_fault (value r₀) → None ≡ scan range_fault (ranged s)
+range_no_first s r₀ e h =
+    let none = left_of_none value dots r₀ (both_none value dots r₀ (scan_none value_fault (value r₀) h)) in
+    no_values s r₀ e (both_none (left value dots) value r₀ none)
+
+pub range_no_dots : (s r₀ r₁ : List ℕ) (g : Option Fault) → Some r₀ ≡ option_map (λ p. p.1) (range_start s) → Some (g, r₁) ≡ scan value_fault (value r₀) → None ≡ option_map (λ p. p.1) (dots r₁) → None ≡ scan range_fault (ranged s)
+range_no_dots s r₀ r₁ g e f h =
+    let x = scan_some value_fault (value r₀) g r₁ f in
+    let none = left_of_none value dots r₀ (both_none_behind value dots r₀ x.0 x.1 (ap dots x.3 ∙ left_none (dots r₁) h)) in
+    no_values s r₀ e (both_none (left value dots) value r₀ none)
+
+first_value : (r₀ r₁ r₂ : List ℕ) (g : Option Fault) → Some (g, r₁) ≡ scan value_fault (value r₀) → Some r₂ ≡ option_map (λ p. p.1) (dots r₁) → (v : Value × List ℕ) × (left value dots r₀ ≡ Some v) × (v.1 ≡ r₂)
+first_value r₀ r₁ r₂ g f h =
+    let x = scan_some value_fault (value r₀) g r₁ f in
+    let y = left_some (dots r₁) r₂ h in
+    ((x.0.0, y.0.1), left_found value dots r₀ x.0 y.0 x.1 (ap dots x.3 ∙ y.1), y.2)
+
+pub range_no_second : (s r₀ r₁ r₂ : List ℕ) (g : Option Fault) → Some r₀ ≡ option_map (λ p. p.1) (range_start s) → Some (g, r₁) ≡ scan value_fault (value r₀) → Some r₂ ≡ option_map (λ p. p.1) (dots r₁)
+    → None ≡ scan value_fault (value r₂) → None ≡ scan range_fault (ranged s)
+range_no_second s r₀ r₁ r₂ g e f h k =
+    let v = first_value r₀ r₁ r₂ g f h in
+    no_values s r₀ e (both_none_behind (left value dots) value r₀ v.0 v.1 (ap value v.2 ∙ scan_none value_fault (value r₂) k))
+
+pub range_no_end : (s r₀ r₁ r₂ r₃ : List ℕ) (g h : Option Fault) → Some r₀ ≡ option_map (λ p. p.1) (range_start s) → Some (g, r₁) ≡ scan value_fault (value r₀) → Some r₂ ≡ option_map (λ p. p.1) (dots r₁)
+    → Some (h, r₃) ≡ scan value_fault (value r₂) → None ≡ option_map (λ p. p.1) (range_end r₃) → None ≡ scan range_fault (ranged s)
+unfolding ranged
+range_no_end s r₀ r₁ r₂ r₃ g h e₀ e₁ e₂ e₃ e₄ =
+    let x₀ = left_some (range_start s) r₀ e₀ in
+    let v = first_value r₀ r₁ r₂ g e₁ e₂ in
+    let x₃ = scan_some value_fault (value r₂) h r₃ e₃ in
+    let values = both_some (left value dots) value r₀ v.0 x₃.0 v.1 (ap value v.2 ∙ x₃.1) in
+    let inner = right_some range_start range_values s x₀.0 ((v.0.0, x₃.0.0), x₃.0.1) x₀.1 (ap range_values x₀.2 ∙ values) in
+    sym (ap (scan range_fault) (left_of_none (right range_start range_values) range_end s (both_none_behind (right range_start range_values) range_end s ((v.0.0, x₃.0.0), x₃.0.1) inner (ap range_end x₃.3 ∙ left_none (range_end r₃) e₄))))

@@ -9,6 +9,7 @@ use Rattle.std.specs.Char.{is_ascii_digit}
 use Rattle.std.specs.List.{prefix_len}
 use Rattle.std.specs.Str.{IsCharBoundary}
 use Rattle.liquid_grammar.specs.Bytes.{is_white, starts_name, is_word}
+use Rattle.liquid_grammar.specs.Tokens.{is_single, is_double}
 use Rattle.liquid_grammar.specs.Steps.{is_name_byte, name_len}
 
 -- a byte that is not 0 was read inside the text
@@ -128,3 +129,20 @@ digits_cut s bytes n utf8 same len =
   where
     digit_ascii : (c : ℕ) → is_ascii_digit c ≡ true → c < 128
     digit_ascii c e = grind (arith, nat_tests)
+
+-- a text may be cut behind a symbol
+pub symbol_cut : (s bytes : List ℕ) → IsUtf8 s → bytes ≡ s → 0 < length bytes → is_single (get_or bytes 0 0) ≡ true → IsCharBoundary s 1
+symbol_cut s bytes utf8 same some e =
+    let low : get_or bytes 0 0 < 128 = single_ascii (get_or bytes 0 0) e in
+    IsCharBoundary-after_ascii s 0 utf8 (subst (λ (x : List ℕ). 0 < length x) same some) (subst (λ (x : List ℕ). get_or x 0 0 < 128) same low)
+  where
+    single_ascii : (b : ℕ) → is_single b ≡ true → b < 128
+    single_ascii b e = grind (arith, nat_tests)
+
+pub double_cut : (s bytes : List ℕ) → IsUtf8 s → bytes ≡ s → 1 < length bytes → is_double (get_or bytes 0 0, get_or bytes 1 0) ≡ true → IsCharBoundary s 2
+double_cut s bytes utf8 same some e =
+    let low : get_or bytes 1 0 < 128 = double_ascii (get_or bytes 0 0) (get_or bytes 1 0) e in
+    IsCharBoundary-after_ascii s 1 utf8 (subst (λ (x : List ℕ). 1 < length x) same some) (subst (λ (x : List ℕ). get_or x 1 0 < 128) same low)
+  where
+    double_ascii : (a b : ℕ) → is_double (a, b) ≡ true → b < 128
+    double_ascii a b e = grind (arith, nat_tests)
