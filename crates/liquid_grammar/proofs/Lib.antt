@@ -10,3 +10,4 @@ pub mod FlatBrackets
 pub mod IntegerLemmas
 pub mod ValueScan
 pub mod Scanning
+pub mod MatchLemmas

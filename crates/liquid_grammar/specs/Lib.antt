@@ -12,3 +12,4 @@ pub mod TokenSteps
 pub mod Faults
 pub mod Meanings
 pub mod BracketSteps
+pub mod Matches

@@ -45,7 +45,7 @@ fn next_filter<'a>(s: &'a str) -> Option<(Option<Fault<'a>>, &'a str)>
 }
 
 #[tactic(auto, unfolding(crate::specs::TokenSteps::filter))]
-fn filter<'a>(s: &'a str) -> Option<(Option<Fault<'a>>, &'a str)>
+pub(crate) fn filter<'a>(s: &'a str) -> Option<(Option<Fault<'a>>, &'a str)>
     ensures value { Scans filter_fault result (read.filter s.now) }
     ensures shorter { IfSome result (λ x. length x.1.now < length s.now) }
 {
@@ -88,7 +88,7 @@ fn next_argument<'a>(s: &'a str) -> Option<(Option<Fault<'a>>, &'a str)>
 }
 
 #[tactic(auto, unfolding(crate::specs::TokenSteps::argument))]
-fn argument<'a>(s: &'a str) -> Option<(Option<Fault<'a>>, &'a str)>
+pub(crate) fn argument<'a>(s: &'a str) -> Option<(Option<Fault<'a>>, &'a str)>
     ensures value { Scans argument_fault result (read.argument s.now) }
     ensures shorter { IfSome result (λ x. length x.1.now < length s.now) }
 {

@@ -9,6 +9,7 @@ mod fault;
 mod filter;
 mod laws;
 mod literal;
+mod matching;
 mod name;
 mod opener;
 mod place;
@@ -23,5 +24,9 @@ pub use bracket::BRACKET_LIMIT;
 pub use element::{Element, next_element};
 pub use fault::{Fault, FaultKind, integer_of};
 pub use literal::Literal;
-pub use laws::{elements_joined_are_the_text, no_opener_inside_raw, one_cover, one_element};
+pub use laws::{elements_joined_are_the_text, no_opener_inside_raw, one_cover, one_element, one_match, value_law};
+pub use matching::{
+    match_argument, match_chain, match_expression, match_filter, match_identifier, match_index, match_literal, match_tag, match_token, match_value,
+    match_variable,
+};
 pub use place::line_and_column;

@@ -58,7 +58,7 @@ fn next_token<'a>(s: &'a str) -> Option<(Option<Fault<'a>>, &'a str)>
 }
 
 #[tactic(auto, unfolding(crate::specs::TokenSteps::token))]
-fn token<'a>(s: &'a str) -> Option<(Option<Fault<'a>>, &'a str)>
+pub(crate) fn token<'a>(s: &'a str) -> Option<(Option<Fault<'a>>, &'a str)>
     ensures value { Scans token_fault result (read.token s.now) }
     ensures shorter { IfSome result (λ x. length x.1.now < length s.now) }
 {

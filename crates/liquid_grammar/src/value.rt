@@ -23,7 +23,7 @@ pub(crate) fn value<'a>(s: &'a str) -> Option<(Option<Fault<'a>>, &'a str)>
     }
 }
 
-fn variable<'a>(s: &'a str) -> Option<(Option<Fault<'a>>, &'a str)>
+pub(crate) fn variable<'a>(s: &'a str) -> Option<(Option<Fault<'a>>, &'a str)>
     ensures value { Scans value_fault result (read.variable_over read.value s.now) }
     ensures shorter { IfSome result (λ x. length x.1.now < length s.now) }
 {
@@ -44,7 +44,7 @@ fn indexes<'a>(s: &'a str) -> (Option<Fault<'a>>, &'a str)
     (fault, rest)
 }
 
-fn index<'a>(s: &'a str) -> Option<(Option<Fault<'a>>, &'a str)>
+pub(crate) fn index<'a>(s: &'a str) -> Option<(Option<Fault<'a>>, &'a str)>
     ensures value { Scans (index_fault 0) result (read.index_over read.value s.now) }
     ensures shorter { IfSome result (λ x. length x.1.now < length s.now) }
 {
