@@ -15,6 +15,8 @@ mod opener;
 mod place;
 mod raw;
 #[cfg(test)]
+mod matching_tests;
+#[cfg(test)]
 mod tests;
 mod text;
 mod token;
