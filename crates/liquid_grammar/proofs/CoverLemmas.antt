@@ -1,17 +1,17 @@
 -- The elements of a text: one stands at each place, and so each text has one cover.
-use Rattle.std.proofs.Common.{◌≡◌, ℕ, zero, suc, ◌+◌, ◌-◌, ◌<◌, ◌≤◌, Bool, true, false, cond, List, [], ◌∷◌, ◌++◌, length, take, drop, Option, Some, None, is_some, refl, sym, ap, ap₂, ◌∙◌, ◌⊎◌, inl, inr, subst, arith, take_at, drop_at, length-append, append_assoc, eqb-true, take-append-drop, length-take-le, length-drop}
+use Rattle.std.proofs.Common.{◌≡◌, ℕ, zero, suc, ◌-◌, ◌<◌, ◌≤◌, Bool, true, false, List, [], ◌∷◌, ◌++◌, length, take, drop, Option, Some, None, refl, sym, ap, ap₂, ◌∙◌, inl, inr, subst, arith, take_at, drop_at, length-append, append_assoc, eqb-true, take-append-drop, length-take-le, length-drop}
 use Rattle.std.proofs.lemmas.Bool.{cases_lt}
-use Rattle.std.proofs.lemmas.List.{append_cancel_left, append_cancel_right}
+use Rattle.std.proofs.lemmas.List.{append_cancel_right}
 use Rattle.liquid_grammar.specs.Bytes.{is_white}
-use Rattle.liquid_grammar.specs.Rules.{Rule, Begins, One, Then, Else, here, instead, Repeated, ends, more, Seen, Text, Byte, ◌▷◌, ◌◁◌}
+use Rattle.liquid_grammar.specs.Rules.{Begins, One, here, instead, ends, Byte}
 use Rattle.liquid_grammar.specs.Grammar.{White, Braces, Opener, Opens, AnyOpener, Expression, LoneBrace}
-use Rattle.liquid_grammar.specs.Cover.{Element, raw, expression, invalid, text_of, Raw, Invalid, IsElement, Cover, done, next, OnlyCover, joined}
+use Rattle.liquid_grammar.specs.Cover.{Element, raw, expression, invalid, text_of, Raw, IsElement, Cover, done, next, OnlyCover, joined}
 use Rattle.liquid_grammar.specs.Elements.{Taken}
 use Rattle.liquid_grammar.specs.Steps as read
 use Rattle.liquid_grammar.specs.Steps.{EndsRaw}
 use Rattle.liquid_grammar.proofs.RawLemmas.{opens, opens_from, closed_from}
-use Rattle.liquid_grammar.proofs.Exact.{same_match, none_begins, finds_none, option_cases, front_of}
-use Rattle.liquid_grammar.proofs.GrammarExact.{exact-white, exact-any_opener, exact-expression, exact-lone_brace, shrinks-expression, shrinks-lone_brace}
+use Rattle.liquid_grammar.proofs.Exact.{same_match, none_begins, option_cases, front_of}
+use Rattle.liquid_grammar.proofs.GrammarExact.{exact-white, exact-expression, exact-lone_brace, shrinks-expression, shrinks-lone_brace}
 
 -- braces begin with one `{`
 braces_front : (kind : ℕ) (s rest : List ℕ) (b : ℕ) → Braces kind s rest b → (middle : List ℕ) × (s ≡ 123 ∷ middle)
@@ -80,9 +80,10 @@ same_raw s r₁ r₂ t₁ t₂ e f a b =
         | inl k ↦ absurd (raw_not_shorter s r₂ r₁ t₂ t₁ f e b a k)
         | inr k ↦ omega arith
       ])
-    ] in
-    (sym (take_at t₁ r₁ (length t₂) len) ∙ ap (take (length t₂)) (sym e ∙ f) ∙ take_at t₂ r₂ (length t₂) refl,
-      sym (drop_at t₁ r₁ (length t₂) len) ∙ ap (drop (length t₂)) (sym e ∙ f) ∙ drop_at t₂ r₂ (length t₂) refl)
+    ] in (
+      sym (take_at t₁ r₁ (length t₂) len) ∙ ap (take (length t₂)) (sym e ∙ f) ∙ take_at t₂ r₂ (length t₂) refl,
+      sym (drop_at t₁ r₁ (length t₂) len) ∙ ap (drop (length t₂)) (sym e ∙ f) ∙ drop_at t₂ r₂ (length t₂) refl,
+    )
 
 -- raw text doesn't begin where an opener does
 raw_closed : (s rest text : List ℕ) → Raw s rest text → ¬ (Opens s)
@@ -153,6 +154,7 @@ opened_next s o = go (read.expression s) refl
     brace : read.expression s ≡ None → Next s
     brace none =
         option_cases (read.lone_brace s) (λ x e. record { element = invalid x.0; rest = x.1; is = invalid_element s x.1 x.0 o none e }) (λ e. absurd (brace_found s o e))
+
     go : (r : Option (List ℕ × List ℕ)) → read.expression s ≡ r → Next s
     go (Some x) e = record { element = expression x.0 (take (length s - length x.1) s); rest = x.1; is = expression_element s x.1 x.0 e }
     go None e = brace e
@@ -170,12 +172,14 @@ raw_ends (b ∷ s) = go (opens (b ∷ s)) refl (raw_ends s)
     go : (t : Bool) → opens (b ∷ s) ≡ t → (n : ℕ) × EndsAt s n → (n : ℕ) × EndsAt (b ∷ s) n
     go true e more_of = (0, record { within = omega arith; closed = λ k h. absurd (omega arith); stops = λ h. opens_from (b ∷ s) e })
     go false e more_of =
-        let m = more_of.1 in
-        (suc more_of.0, record {
-          within = omega (arith, m.within);
-          closed = λ k h. closed_behind k h e m.closed;
-          stops = λ h. m.stops (omega arith);
-        })
+        let m = more_of.1 in (
+          suc more_of.0,
+          record {
+            within = omega (arith, m.within);
+            closed = λ k h. closed_behind k h e m.closed;
+            stops = λ h. m.stops (omega arith);
+          },
+        )
       where
         closed_behind : (k : ℕ) → k < suc more_of.0 → opens (b ∷ s) ≡ false → ((j : ℕ) → j < more_of.0 → ¬ (Opens (drop j s))) → ¬ (Opens (drop k (b ∷ s)))
         closed_behind zero h e c = closed_from (b ∷ s) e
@@ -199,7 +203,7 @@ next_of s some = go (raw_ends s)
         is = raw_element s m.0 front m.1.within m.1.closed m.1.stops;
       }
       | inr none ↦ (let none_left : m.0 ≡ 0 = omega arith in
-        opened_next s (subst (λ (k : ℕ). Opens (drop k s)) none_left (m.1.stops (omega arith))))
+          opened_next s (subst (λ (k : ℕ). Opens (drop k s)) none_left (m.1.stops (omega arith))))
     ]
 
 cover_by : (fuel : ℕ) (s : List ℕ) → length s < fuel → (es : List Element) × Cover s es

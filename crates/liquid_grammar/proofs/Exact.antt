@@ -1,10 +1,9 @@
 -- A reader is exact for a rule where it finds just what the rule relates.
-use Rattle.std.proofs.Common.{◌≡◌, ℕ, zero, suc, ◌+◌, ◌-◌, ◌<◌, ◌≤◌, Bool, true, false, cond, ◌==◌, List, [], ◌∷◌, ◌++◌, length, take, drop, Option, Some, None, is_some, option_map, option_and_then, refl, sym, ap, ◌∙◌, subst, inl, inr, arith, append_assoc, take_at, drop_at, length-append}
+use Rattle.std.proofs.Common.{◌≡◌, ℕ, ◌-◌, ◌<◌, ◌≤◌, Bool, true, false, cond, ◌==◌, List, [], ◌∷◌, ◌++◌, length, take, Option, Some, None, is_some, option_map, option_and_then, refl, sym, ap, ◌∙◌, subst, arith, append_assoc, take_at, length-append}
 use Rattle.std.proofs.lemmas.Option.{same_Some, none-some, option_and_then_some, cond_some}
 use Rattle.std.specs.Option.{option_or}
-use Rattle.std.specs.List.{prefix_len}
-use Rattle.liquid_grammar.specs.Rules.{Rule, Begins, One, Then, Else, here, instead, Repeated, ends, more, Seen, Where, Text, Ahead, Byte, ◌▷◌, ◌◁◌}
-use Rattle.liquid_grammar.specs.Steps.{Reader, one, byte, both, either, seen, only, text, ahead, right, left, run}
+use Rattle.liquid_grammar.specs.Rules.{Rule, Begins, One, Then, Else, here, instead, Seen, Where, Text, Ahead, Byte, ◌▷◌, ◌◁◌}
+use Rattle.liquid_grammar.specs.Steps.{Reader, one, byte, both, either, seen, only, text, ahead, right, left}
 
 -- what R takes is the beginning of the text
 abbrev pub Cuts : {A : Type 0} → Rule A → Type 0
@@ -67,10 +66,10 @@ exact-byte b = exact-one (λ c. c == b)
 both_sound : {A B : Type 0} {f : Reader A} {g : Reader B} {R : Rule A} {S : Rule B} → Exact f R → Exact g S → (s rest : List ℕ) (a : A × B) → both f g s ≡ Some (a, rest) → Then R S s rest a
 both_sound {A} {B} {f = f} {g = g} {R = R} {S = S} F G s rest a e =
     option_and_then_some (λ x. option_map (λ y. ((x.0, y.0), y.1)) (g x.1)) (f s) (a, rest) e (λ x fx gx.
-        option_map_some (λ y. ((x.0, y.0), y.1)) (g x.1) (a, rest) gx (λ y gy q.
-            let m : S x.1 y.1 y.0 = G.sound x.1 y.1 y.0 gy in
-            let t : Then R S s y.1 (x.0, y.0) = record { middle = x.1; before = F.sound s x.1 x.0 fx; after = m } in
-            subst (λ (z : (A × B) × List ℕ). Then R S s z.1 z.0) q t))
+    option_map_some (λ y. ((x.0, y.0), y.1)) (g x.1) (a, rest) gx (λ y gy q.
+    let m : S x.1 y.1 y.0 = G.sound x.1 y.1 y.0 gy in
+    let t : Then R S s y.1 (x.0, y.0) = record { middle = x.1; before = F.sound s x.1 x.0 fx; after = m } in
+    subst (λ (z : (A × B) × List ℕ). Then R S s z.1 z.0) q t))
 
 both_complete : {A B : Type 0} {f : Reader A} {g : Reader B} {R : Rule A} {S : Rule B} → Exact f R → Exact g S → (s rest : List ℕ) (a : A × B) → Then R S s rest a → both f g s ≡ Some (a, rest)
 both_complete {A} {B} {f = f} {g = g} F G s rest a m =
@@ -107,8 +106,8 @@ exact-either F G = record { sound = either_sound F G; complete = either_complete
 seen_sound : {A B : Type 0} (h : A → B) {f : Reader A} {R : Rule A} → Exact f R → (s rest : List ℕ) (b : B) → seen h f s ≡ Some (b, rest) → Seen h R s rest b
 seen_sound {A} {B} h {f = f} {R = R} F s rest b e =
     option_map_some (λ x. (h x.0, x.1)) (f s) (b, rest) e (λ x fx q.
-        let t : Seen h R s x.1 (h x.0) = record { from = x.0; match = F.sound s x.1 x.0 fx; is = refl } in
-        subst (λ (z : B × List ℕ). Seen h R s z.1 z.0) q t)
+    let t : Seen h R s x.1 (h x.0) = record { from = x.0; match = F.sound s x.1 x.0 fx; is = refl } in
+    subst (λ (z : B × List ℕ). Seen h R s z.1 z.0) q t)
 
 seen_complete : {A B : Type 0} (h : A → B) {f : Reader A} {R : Rule A} → Exact f R → (s rest : List ℕ) (b : B) → Seen h R s rest b → seen h f s ≡ Some (b, rest)
 seen_complete {A} {B} h F s rest b m =
@@ -128,9 +127,9 @@ exact-left F G = exact-seen (λ p. p.0) (exact-both F G)
 only_sound : {A : Type 0} (p : A → Bool) {f : Reader A} {R : Rule A} → Exact f R → (s rest : List ℕ) (a : A) → only p f s ≡ Some (a, rest) → Where p R s rest a
 only_sound {A} p {f = f} {R = R} F s rest a e =
     option_and_then_some (λ x. cond (p x.0) (Some x) None) (f s) (a, rest) e (λ x fx gx.
-        let r = cond_some (p x.0) x (a, rest) gx in
-        let t : Where p R s x.1 x.0 = record { match = F.sound s x.1 x.0 fx; passes = r.0 } in
-        subst (λ (z : A × List ℕ). Where p R s z.1 z.0) r.1 t)
+    let r = cond_some (p x.0) x (a, rest) gx in
+    let t : Where p R s x.1 x.0 = record { match = F.sound s x.1 x.0 fx; passes = r.0 } in
+    subst (λ (z : A × List ℕ). Where p R s z.1 z.0) r.1 t)
 
 only_complete : {A : Type 0} (p : A → Bool) {f : Reader A} {R : Rule A} → Exact f R → (s rest : List ℕ) (a : A) → Where p R s rest a → only p f s ≡ Some (a, rest)
 only_complete {A} p F s rest a m =
@@ -150,10 +149,10 @@ front_of s front rest e =
 text_sound : {A : Type 0} {f : Reader A} {R : Rule A} → Exact f R → (s rest t : List ℕ) → text f s ≡ Some (t, rest) → Text R s rest t
 text_sound {A} {f = f} {R = R} F s rest t e =
     option_map_some (λ x. (take (length s - length x.1) s, x.1)) (f s) (t, rest) e (λ x fx q.
-        let m = F.sound s x.1 x.0 fx in
-        let c = F.cuts s x.1 x.0 m in
-        let w : Text R s x.1 (take (length s - length x.1) s) = record { shape = x.0; match = m; front = c.1 ∙ ap (λ z. z ++ x.1) (sym (front_of s c.0 x.1 c.1)) } in
-        subst (λ (z : List ℕ × List ℕ). Text R s z.1 z.0) q w)
+    let m = F.sound s x.1 x.0 fx in
+    let c = F.cuts s x.1 x.0 m in
+    let w : Text R s x.1 (take (length s - length x.1) s) = record { shape = x.0; match = m; front = c.1 ∙ ap (λ z. z ++ x.1) (sym (front_of s c.0 x.1 c.1)) } in
+    subst (λ (z : List ℕ × List ℕ). Text R s z.1 z.0) q w)
 
 text_complete : {A : Type 0} {f : Reader A} {R : Rule A} → Exact f R → (s rest t : List ℕ) → Text R s rest t → text f s ≡ Some (t, rest)
 text_complete {A} F s rest t m =
@@ -179,24 +178,32 @@ ahead_complete F s rest a m =
 pub exact-ahead : {A : Type 0} {f : Reader A} {R : Rule A} → Exact f R → Exact (ahead f) (Ahead R)
 exact-ahead F = record { sound = ahead_sound F; complete = ahead_complete F; cuts = λ s rest a m. ([], sym m.stays) }
 
+-- rest is an end of the text
+abbrev pub IsEnd : List ℕ → List ℕ → Type 0
+IsEnd s rest = (front : List ℕ) × (s ≡ front ++ rest)
+
 -- what an exact reader leaves is an end of the text
-pub leaves_end : {A : Type 0} {f : Reader A} {R : Rule A} → Exact f R → (s rest : List ℕ) → Some rest ≡ option_map (λ p. p.1) (f s) → (front : List ℕ) × (s ≡ front ++ rest)
+pub leaves_end : {A : Type 0} {f : Reader A} {R : Rule A} → Exact f R → (s rest : List ℕ) → Some rest ≡ option_map (λ p. p.1) (f s) → IsEnd s rest
 leaves_end {f = f} F s rest e =
     option_map_some (λ p. p.1) (f s) rest (sym e) (λ x fx q.
         let cut = F.cuts s x.1 x.0 (F.sound s x.1 x.0 fx) in
         (cut.0, cut.1 ∙ ap (λ y. cut.0 ++ y) q))
 
+pub found_end : {A : Type 0} {f : Reader A} {R : Rule A} → Exact f R → (s rest : List ℕ) (a : A) → Some (a, rest) ≡ f s → IsEnd s rest
+found_end F s rest a e = F.cuts s rest a (F.sound s rest a (sym e))
+
 -- an end of an end is an end
-pub end_of_end : (s middle rest : List ℕ) → (front : List ℕ) × (s ≡ front ++ middle) → (front : List ℕ) × (middle ≡ front ++ rest) → s ≡ take (length s - length rest) s ++ rest
-end_of_end s middle rest a b =
-    let e : s ≡ (a.0 ++ b.0) ++ rest = a.1 ∙ ap (λ y. a.0 ++ y) b.1 ∙ sym (append_assoc a.0 b.0 rest) in
-    e ∙ ap (λ x. x ++ rest) (sym (front_of s (a.0 ++ b.0) rest e))
+pub end_join : (s middle rest : List ℕ) → IsEnd s middle → IsEnd middle rest → IsEnd s rest
+end_join s middle rest a b = (a.0 ++ b.0, a.1 ∙ ap (λ y. a.0 ++ y) b.1 ∙ sym (append_assoc a.0 b.0 rest))
+
+pub before_end : (s rest : List ℕ) → IsEnd s rest → s ≡ take (length s - length rest) s ++ rest
+before_end s rest a = a.1 ∙ ap (λ x. x ++ rest) (sym (front_of s a.0 rest a.1))
 
 -- a match takes something
 abbrev pub Shrinks : {A : Type 0} → Rule A → Type 0
 Shrinks {A} R = (s rest : List ℕ) (a : A) → R s rest a → length rest < length s
 
-cuts_le : {A : Type 0} {R : Rule A} → Cuts R → (s rest : List ℕ) (a : A) → R s rest a → length rest ≤ length s
+pub cuts_le : {A : Type 0} {R : Rule A} → Cuts R → (s rest : List ℕ) (a : A) → R s rest a → length rest ≤ length s
 cuts_le cuts s rest a m = let cut = cuts s rest a m in omega (arith, ap length cut.1, length-append cut.0 rest)
 
 pub shrinks-one : (p : ℕ → Bool) → Shrinks (One p)

@@ -1,15 +1,13 @@
 -- The reader of each rule is exact.
-use Rattle.std.proofs.Common.{◌≡◌, ℕ, zero, suc, ◌+◌, ◌-◌, ◌<◌, ◌≤◌, Bool, true, false, cond, not, ◌&&◌, ◌||◌, ◌==◌, List, [], ◌∷◌, ◌++◌, length, get_or, take, drop, Option, Some, None, is_some, option_map, option_and_then, slice_index, refl, sym, ap, ◌∙◌, ◌⊎◌, subst, ap₂, arith, take-append-drop}
-use Rattle.std.proofs.lemmas.Bool.Decides.{nat_tests}
-use Rattle.std.proofs.lemmas.Bool.{false≢true}
+use Rattle.std.proofs.Common.{◌≡◌, ℕ, suc, ◌+◌, Bool, true, false, cond, not, ◌&&◌, ◌||◌, ◌==◌, List, [], ◌∷◌, ◌++◌, take, drop, Option, Some, None, is_some, option_map, option_and_then, slice_index, refl, sym, ap, ◌∙◌, subst, ap₂, arith, take-append-drop}
 use Rattle.std.proofs.lemmas.Option.{same_Some}
 use Rattle.std.specs.Option.{option_or}
 use Rattle.std.specs.List.{prefix_len}
 use Rattle.liquid_grammar.specs.Bytes.{is_white, starts_name, is_word}
-use Rattle.liquid_grammar.specs.Rules.{Rule, Begins, One, Then, Else, here, instead, Repeated, ends, more, Seen, Where, Text, Ahead, Byte, ◌▷◌, ◌◁◌}
+use Rattle.liquid_grammar.specs.Rules.{Rule, Begins, One, here, instead, Repeated, ends, more, Byte, ◌▷◌, ◌◁◌}
 use Rattle.liquid_grammar.specs.Grammar.{White, Braces, Opener, Closer, AnyOpener, NameByte, Identifier, is_literal_word, Name, Expression, LoneBrace}
-use Rattle.liquid_grammar.specs.Steps.{Reader, one, byte, both, either, seen, only, text, ahead, right, left, run, white, braces, dashed_opener, opener, any_opener, dashed_closer, closer, is_name_byte, name_len, name_bytes, identifier, name, expression, lone_brace}
-use Rattle.liquid_grammar.proofs.Exact.{Exact, same_match, none_begins, finds_none, exact-one, exact-byte, exact-both, exact-either, exact-seen, exact-right, exact-left, exact-only, exact-text, exact-ahead, Shrinks, shrinks-one, shrinks-first, shrinks-second, shrinks-seen, shrinks-else, shrinks-text}
+use Rattle.liquid_grammar.specs.Steps.{Reader, one, byte, either, ahead, left, run, white, braces, dashed_opener, opener, any_opener, dashed_closer, closer, is_name_byte, name_len, name_bytes, identifier, name, expression, lone_brace}
+use Rattle.liquid_grammar.proofs.Exact.{Exact, none_begins, finds_none, exact-one, exact-byte, exact-both, exact-either, exact-right, exact-left, exact-only, exact-text, exact-ahead, Shrinks, shrinks-one, shrinks-first, shrinks-second, shrinks-seen, shrinks-else, shrinks-text}
 
 -- R takes one byte at a time, which is its shape
 abbrev pub TakesBytes : Rule ℕ → Type 0
@@ -48,6 +46,7 @@ repeated_complete {f = f} {R = R} n F one_byte r s rest a (ends stop) = go s (fi
   where
     at : (t : List ℕ) → n t ≡ 0 → counted n t ≡ Some ([], t)
     at t e = ap (λ (k : ℕ). let x : Option (List ℕ × List ℕ) = Some (take k t, drop k t) in x) e
+
     go : (t : List ℕ) → f t ≡ None → counted n t ≡ Some ([], t)
     go [] h = at [] r.0
     go (b ∷ t) h = at (b ∷ t) (r.1 b t ∙ ap (λ o. cond (is_some o) (1 + n t) 0) h)

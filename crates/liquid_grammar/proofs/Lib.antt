@@ -3,3 +3,11 @@ pub mod Exact
 pub mod GrammarExact
 pub mod RawLemmas
 pub mod CoverLemmas
+pub mod ExactRepeated
+pub mod TokenExact
+pub mod ValueLaw
+pub mod FlatBrackets
+pub mod IntegerLemmas
+pub mod ValueScan
+pub mod Scanning
+pub mod MatchLemmas

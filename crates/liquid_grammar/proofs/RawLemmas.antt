@@ -1,18 +1,16 @@
 -- Where an opener begins, in one pass over a text.
-use Rattle.std.proofs.Common.{◌≡◌, ℕ, zero, suc, ◌+◌, ◌-◌, ◌<◌, ◌≤◌, Bool, true, false, cond, not, ◌&&◌, ◌||◌, ◌==◌, List, [], ◌∷◌, ◌++◌, length, get_or, take, drop, slice_index, Option, Some, None, is_some, option_map, option_and_then, refl, sym, ap, ap₂, ◌∙◌, ◌⊎◌, inl, inr, subst, arith, add-one, add-zero, get_or-drop, drop_of_length-le, eqb-true, eq-eqb, ne_eqb}
+use Rattle.std.proofs.Common.{◌≡◌, ℕ, suc, ◌+◌, ◌<◌, ◌≤◌, Bool, true, false, cond, ◌&&◌, ◌||◌, ◌==◌, List, [], ◌∷◌, length, get_or, take, drop, slice_index, Option, Some, None, is_some, option_map, option_and_then, refl, sym, ap, ap₂, ◌∙◌, inl, inr, subst, arith, add-zero, get_or-drop, drop_of_length-le, eqb-true, eq-eqb, ne_eqb}
 use Rattle.std.proofs.lemmas.Bool.{cases_lt, and_parts}
 use Rattle.std.proofs.lemmas.Bool.Decides.{nat_tests}
 use Rattle.std.proofs.lemmas.List.{drop_more}
 use Rattle.std.proofs.lemmas.Str.{IsCharBoundary-before_ascii, IsCharBoundary-end}
 use Rattle.std.specs.Option.{option_or}
 use Rattle.std.specs.List.{prefix_len}
-use Rattle.std.specs.Str.{IsCharBoundary}
 use Rattle.liquid_grammar.specs.Bytes.{is_white}
-use Rattle.liquid_grammar.specs.Rules.{Begins}
 use Rattle.liquid_grammar.specs.Grammar.{Opens}
-use Rattle.liquid_grammar.specs.Steps.{Reader, one, byte, both, either, right, white, braces, dashed_opener, opener, any_opener, begins_braces, EndsRaw}
+use Rattle.liquid_grammar.specs.Steps.{Reader, byte, right, white, braces, dashed_opener, opener, any_opener, begins_braces, EndsRaw}
 use Rattle.liquid_grammar.proofs.TextLemmas.{is_white_ascii}
-use Rattle.liquid_grammar.proofs.Exact.{option_cases, begins_found, found_begins}
+use Rattle.liquid_grammar.proofs.Exact.{begins_found, found_begins}
 use Rattle.liquid_grammar.proofs.GrammarExact.{is_some-map, exact-any_opener}
 
 -- an opener begins here
@@ -175,9 +173,10 @@ turn_other b s e =
     let at = b == 123 in
     let x = slice_index s 0 == 123 in
     let y = slice_index s 0 == 37 in
-    let d = slice_index s 1 == 45 in
-    (opens_parts (b ∷ s) ∙ ap₂ (λ p q. p || q) (ap₂ (λ p q. p || q) (f 123) (braces_flag 123 b s refl)) (ap₂ (λ p q. p || q) (f 37) (braces_flag 37 b s refl)) ∙ dashed_or_not at x y d,
-      ap₂ (λ p q. p || q) (f 123) (f 37) ∙ either_kind at x y d)
+    let d = slice_index s 1 == 45 in (
+      opens_parts (b ∷ s) ∙ ap₂ (λ p q. p || q) (ap₂ (λ p q. p || q) (f 123) (braces_flag 123 b s refl)) (ap₂ (λ p q. p || q) (f 37) (braces_flag 37 b s refl)) ∙ dashed_or_not at x y d,
+      ap₂ (λ p q. p || q) (f 123) (f 37) ∙ either_kind at x y d,
+    )
 
 next_byte : (s : List ℕ) (i : ℕ) → get_or (drop (i + 1) s) 0 0 ≡ get_or s (i + 1) 0
 next_byte s i = rw (get_or-drop (i + 1) s 0 0, add-zero)
@@ -198,8 +197,8 @@ other_at s i h e =
     let t = turn_other (get_or s i 0) (drop (i + 1) s) e in
     let m = sym (drop_more s i 0 h) in
     let P : List ℕ → ℕ → ℕ → Type 0 = λ x b d.
-        let t = (get_or s i 0 == 123) && (b == 123 || b == 37) in
-        (opens x ≡ t) × (dashed x ≡ (t && (d == 45))) in
+    let t = (get_or s i 0 == 123) && (b == 123 || b == 37) in
+    (opens x ≡ t) × (dashed x ≡ (t && (d == 45))) in
     subst (λ (d : ℕ). P (drop i s) (get_or s (i + 1) 0) d) (second_byte s i)
     (subst (λ (b : ℕ). P (drop i s) b (get_or (drop (i + 1) s) 1 0)) (next_byte s i)
     (subst (λ (x : List ℕ). P x (get_or (drop (i + 1) s) 0 0) (get_or (drop (i + 1) s) 1 0)) m t))

@@ -39,7 +39,7 @@ Identifier = Text (Then (One starts_name) (Repeated NameByte))
 abbrev pub is_literal_word : List ℕ → Bool
 is_literal_word word =
     ((((bytes_eq word (codes "nil") || bytes_eq word (codes "null")) || bytes_eq word (codes "empty")) || bytes_eq word (codes "blank"))
-        || bytes_eq word (codes "true"))
+    || bytes_eq word (codes "true"))
     || bytes_eq word (codes "false")
 
 -- an identifier that is no literal

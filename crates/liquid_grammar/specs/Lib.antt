@@ -5,3 +5,11 @@ pub mod Cover
 pub mod Elements
 pub mod Place
 pub mod Steps
+pub mod Literals
+pub mod Values
+pub mod Tokens
+pub mod TokenSteps
+pub mod Faults
+pub mod Meanings
+pub mod BracketSteps
+pub mod Matches

@@ -1,10 +1,9 @@
 -- Rules of a grammar, and how rules are put together.
 -- A place in a text is what is left of the text there. So a rule relates a text, what its match leaves of it, and the shape of what was matched.
-use Rattle.std.specs.Prelude.{◌≡◌, ℕ, ◌==◌, Bool, true, List, [], ◌∷◌, ◌++◌}
+use Rattle.std.specs.Prelude.{◌≡◌, ℕ, ◌==◌, Bool, true, List, [], ◌∷◌, ◌++◌, Option, Some, None}
 
 infixl 20 ◌▷◌
 infixl 20 ◌◁◌
-
 abbrev pub Rule : Type 0 → Type 1
 Rule A = List ℕ → List ℕ → A → Type 0
 
@@ -56,6 +55,32 @@ pub record Text {A : Type 0} (R : Rule A) (s rest text : List ℕ) : Type 0 wher
 pub record Ahead {A : Type 0} (R : Rule A) (s rest : List ℕ) (shape : Unit {0}) : Type 0 where
   pub stays : rest ≡ s
   pub begins : Begins R s
+
+-- nothing, where no match of R begins
+pub record Not {A : Type 0} (R : Rule A) (s rest : List ℕ) (shape : Unit {0}) : Type 0 where
+  pub stays : rest ≡ s
+  pub none : ¬ (Begins R s)
+
+-- nothing, with this shape
+pub record Nothing {A : Type 0} (a : A) (s rest : List ℕ) (shape : A) : Type 0 where
+  pub stays : rest ≡ s
+  pub is : shape ≡ a
+
+-- a shape with the place where its match begins and the place behind it
+pub record Placed (A : Type 0) : Type 0 where
+  pub place : List ℕ
+  pub behind : List ℕ
+  pub what : A
+
+-- R, with the places of its match
+pub record At {A : Type 0} (R : Rule A) (s rest : List ℕ) (shape : Placed A) : Type 0 where
+  pub begins : shape.place ≡ s
+  pub ends : shape.behind ≡ rest
+  pub match : R s rest shape.what
+
+-- R, where a match of it begins
+abbrev pub Optional : {A : Type 0} → Rule A → Rule (Option A)
+Optional R = Else (Seen Some R) (Nothing None)
 
 -- this byte
 abbrev pub Byte : ℕ → Rule ℕ

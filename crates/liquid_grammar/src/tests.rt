@@ -30,9 +30,17 @@ fn expressions(rt: HostRuntime) {
     covers(
         &rt,
         "Hello {{ name }}!",
-        &[Element::Raw("Hello "), Element::Expression("name", "{{ name }}"), Element::Raw("!")],
+        &[
+            Element::Raw("Hello "),
+            Element::Expression("name", "{{ name }}"),
+            Element::Raw("!"),
+        ],
     );
-    covers(&rt, "{{a-b_1}}", &[Element::Expression("a-b_1", "{{a-b_1}}")]);
+    covers(
+        &rt,
+        "{{a-b_1}}",
+        &[Element::Expression("a-b_1", "{{a-b_1}}")],
+    );
     covers(&rt, "{{nila}}", &[Element::Expression("nila", "{{nila}}")]);
     covers(&rt, "{{_ -}}", &[Element::Expression("_", "{{_ -}}")]);
 }
@@ -42,22 +50,74 @@ fn dashes_take_white_space(rt: HostRuntime) {
     covers(
         &rt,
         "a \n {{- b -}} \t c",
-        &[Element::Raw("a"), Element::Expression("b", " \n {{- b -}} \t "), Element::Raw("c")],
+        &[
+            Element::Raw("a"),
+            Element::Expression("b", " \n {{- b -}} \t "),
+            Element::Raw("c"),
+        ],
     );
-    covers(&rt, " {{-b}} ", &[Element::Expression("b", " {{-b}}"), Element::Raw(" ")]);
-    covers(&rt, " {{b-}} ", &[Element::Raw(" "), Element::Expression("b", "{{b-}} ")]);
+    covers(
+        &rt,
+        " {{-b}} ",
+        &[Element::Expression("b", " {{-b}}"), Element::Raw(" ")],
+    );
+    covers(
+        &rt,
+        " {{b-}} ",
+        &[Element::Raw(" "), Element::Expression("b", "{{b-}} ")],
+    );
 }
 
 #[test]
 fn invalid_openers(rt: HostRuntime) {
-    covers(&rt, "{{ ! }}", &[Element::Invalid("{"), Element::Raw("{ ! }}")]);
-    covers(&rt, "a \n {{- ! }}", &[Element::Raw("a"), Element::Invalid(" \n {"), Element::Raw("{- ! }}")]);
-    covers(&rt, "{{ nil }}", &[Element::Invalid("{"), Element::Raw("{ nil }}")]);
-    covers(&rt, "{% tag %}", &[Element::Invalid("{"), Element::Raw("% tag %}")]);
-    covers(&rt, "{{{", &[Element::Invalid("{"), Element::Invalid("{"), Element::Raw("{")]);
-    covers(&rt, "{{a--}}", &[Element::Invalid("{"), Element::Raw("{a--}}")]);
-    covers(&rt, "{{a b}}", &[Element::Invalid("{"), Element::Raw("{a b}}")]);
-    covers(&rt, "{{1a}}", &[Element::Invalid("{"), Element::Raw("{1a}}")]);
+    covers(
+        &rt,
+        "{{ ! }}",
+        &[Element::Invalid("{"), Element::Raw("{ ! }}")],
+    );
+    covers(
+        &rt,
+        "a \n {{- ! }}",
+        &[
+            Element::Raw("a"),
+            Element::Invalid(" \n {"),
+            Element::Raw("{- ! }}"),
+        ],
+    );
+    covers(
+        &rt,
+        "{{ nil }}",
+        &[Element::Invalid("{"), Element::Raw("{ nil }}")],
+    );
+    covers(
+        &rt,
+        "{% tag %}",
+        &[Element::Invalid("{"), Element::Raw("% tag %}")],
+    );
+    covers(
+        &rt,
+        "{{{",
+        &[
+            Element::Invalid("{"),
+            Element::Invalid("{"),
+            Element::Raw("{"),
+        ],
+    );
+    covers(
+        &rt,
+        "{{a--}}",
+        &[Element::Invalid("{"), Element::Raw("{a--}}")],
+    );
+    covers(
+        &rt,
+        "{{a b}}",
+        &[Element::Invalid("{"), Element::Raw("{a b}}")],
+    );
+    covers(
+        &rt,
+        "{{1a}}",
+        &[Element::Invalid("{"), Element::Raw("{1a}}")],
+    );
 }
 
 #[test]

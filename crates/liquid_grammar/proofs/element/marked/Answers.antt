@@ -1,4 +1,4 @@
-use Rattle.std.proofs.Common.{◌≡◌, ℕ, ◌-◌, List, length, take, sym, ap, subst}
+use Rattle.std.proofs.Common.{ℕ, List, sym, subst}
 use Rattle.liquid_grammar.specs.Cover.{IsElement, expression}
 use Rattle.liquid_grammar.proofs.CoverLemmas.{expression_ends, expression_element, invalid_element, brace_found}
 use Rattle.liquid_grammar.proofs.element.marked.Goals as goal

@@ -1,4 +1,4 @@
-use Rattle.std.proofs.Common.{◌≡◌, ℕ, ◌<◌, List, Some, length, take, drop, ap, sym, ◌∙◌, arith, eqb-true, subst₂}
+use Rattle.std.proofs.Common.{ℕ, ◌<◌, List, Some, length, ap, sym, ◌∙◌, arith, eqb-true, subst₂}
 use Rattle.std.proofs.lemmas.Bool.{eqb-false}
 use Rattle.liquid_grammar.specs.Cover.{IsElement, raw}
 use Rattle.liquid_grammar.specs.Elements.{Taken}

@@ -1,4 +1,4 @@
-use Rattle.std.proofs.Common.{◌≡◌, ◌+◌, ◌≤◌, take, length}
+use Rattle.std.proofs.Common.{◌≡◌, ◌+◌, ◌≤◌, take}
 use Rattle.liquid_grammar.specs.Place.{line_and_column}
 use Rattle.liquid_grammar.proofs.place.line_and_column.Given as goal
 

@@ -1,6 +1,3 @@
-use Rattle.std.proofs.Common.{◌-◌, length, take, subst, arith, length-take}
-use Rattle.std.specs.Str.{IsCharBoundary}
-use Rattle.std.proofs.lemmas.Str.{IsCharBoundary-at_seam}
 use Rattle.liquid_grammar.proofs.TextLemmas.{IsCharBoundary-before_rest}
 use Rattle.liquid_grammar.proofs.text.before.Goals as goal
 

@@ -1,0 +1,21 @@
+use Rattle.std.proofs.Common.{◌≡◌, ◌+◌, ◌*◌, ◌<◌, ◌≤◌, ◌^◌, length, None}
+use denote.Text.{Utf8}
+use denote.Shadow.{shadow}
+use Rattle.liquid_grammar.specs.Faults.{index_fault}
+use Rattle.liquid_grammar.specs.Meanings.{scan}
+use Rattle.liquid_grammar.specs.BracketSteps.{going, rank, bracket_index}
+use Rattle.liquid_grammar.specs.declared.bracket.Await.TheVariants.{Index}
+use Rattle.liquid_grammar.proofs.bracket.bracketed.Given as goal
+
+abbrev pub invariant-brackets : goal.invariant-brackets
+invariant-brackets l =
+    shadow (Utf8 l.open.rest.now)
+    × record {
+      same : scan (index_fault 0) (bracket_index l.s) ≡ going l.open;
+      less : length l.open.rest.now < length l.s;
+      room : l.open.depth + length l.open.rest.now ≤ length l.s;
+      whole : l.open.depth ≡ 0 → l.open.awaits ≡ Index;
+    }
+
+abbrev pub decreases-brackets : goal.decreases-brackets
+decreases-brackets l = 2 * length l.open.rest.now + rank l.open.awaits

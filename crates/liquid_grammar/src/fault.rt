@@ -1,0 +1,45 @@
+//! Faults of literals and brackets, and the number of an integer literal.
+ghost use Rattle.std.specs.Prelude.{◌≡◌, option_map};
+ghost use Rattle.liquid_grammar.specs.Faults as spec;
+ghost use Rattle.liquid_grammar.specs.Meanings.{literal_of, faults_of};
+
+use crate::literal::Literal;
+
+/// What is wrong with a literal or a bracket of a matched text.
+#[derive(Clone, Copy, Debug, PartialEq, Eq)]
+pub enum FaultKind {
+    /// An integer of more than 64 bits with its sign.
+    IntegerOutOfRange,
+    /// A number with a fraction.
+    DecimalNotSupported,
+    /// A bracket inside a hundred open ones.
+    NestedTooDeep,
+}
+
+/// A fault, and the text from the place where its literal or bracket begins.
+#[derive(Clone, Copy, Debug, PartialEq, Eq)]
+pub struct Fault<'a> {
+    pub kind: FaultKind,
+    pub place: &'a str,
+}
+
+/// The number that a sign and digits write. None if the text is none of these, or the number is no `i64`.
+pub fn integer_of(text: &str) -> Option<i64>
+    ensures { result ≡ spec.integer_of text.now }
+{
+    text.parse::<i64>().ok()
+}
+
+/// The fault of a literal that stands at this place, if it has one.
+pub(crate) fn literal_fault<'a>(place: &'a str, literal: Literal) -> Option<Fault<'a>>
+    ensures { faults_of result ≡ spec.literal_fault place.now (literal_of literal.entry) }
+{
+    match literal {
+        Literal::Integer(text) => match integer_of(text) {
+            Some(_) => None,
+            None => Some(Fault { kind: FaultKind::IntegerOutOfRange, place }),
+        },
+        Literal::Decimal(_) => Some(Fault { kind: FaultKind::DecimalNotSupported, place }),
+        _ => None,
+    }
+}

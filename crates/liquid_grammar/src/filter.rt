@@ -1,0 +1,124 @@
+//! Arguments, filters and chains.
+ghost use Rattle.std.specs.Prelude.{◌≡◌, ◌<◌, ◌≤◌, length, Some, IfSome};
+ghost use Rattle.liquid_grammar.specs.Tokens as spec;
+ghost use Rattle.liquid_grammar.specs.Faults.{argument_fault, filter_fault, chain_fault, first_fault};
+ghost use Rattle.liquid_grammar.specs.Meanings.{Scans};
+ghost use Rattle.liquid_grammar.specs.Steps.{Leaves};
+ghost use Rattle.liquid_grammar.specs.Steps as step;
+ghost use Rattle.liquid_grammar.specs.TokenSteps as read;
+
+use crate::fault::Fault;
+use crate::name::identifier;
+use crate::text::{eat, skip_white};
+use crate::value::value;
+
+/// The first fault of the chain that the text begins with, and what follows it.
+#[tactic(auto, unfolding(crate::specs::TokenSteps::chain_of))]
+pub(crate) fn chain<'a>(s: &'a str) -> Option<(Option<Fault<'a>>, &'a str)>
+    ensures value { Scans chain_fault result (read.chain_of s.now) }
+    ensures shorter { IfSome result (λ x. length x.1.now < length s.now) }
+{
+    let (first, rest) = value(s)?;
+    let (others, rest) = filters(rest);
+    Some((first.or(others), rest))
+}
+
+/// The first fault of all filters that stand here, each behind `|`.
+fn filters<'a>(s: &'a str) -> (Option<Fault<'a>>, &'a str)
+    ensures value { Scans (first_fault filter_fault) (Some result) (read.repeated (read.behind 124 read.filter) s.now) }
+    ensures shorter { length result.1.now ≤ length s.now }
+{
+    let mut fault = None;
+    let mut rest = s;
+    'filters: while let Some((found, after)) = next_filter(rest) {
+        fault = fault.or(found);
+        rest = after;
+    }
+    (fault, rest)
+}
+
+fn next_filter<'a>(s: &'a str) -> Option<(Option<Fault<'a>>, &'a str)>
+    ensures value { Scans filter_fault result (read.behind 124 read.filter s.now) }
+    ensures shorter { IfSome result (λ x. length x.1.now < length s.now) }
+{
+    filter(behind(s, b'|')?)
+}
+
+#[tactic(auto, unfolding(crate::specs::TokenSteps::filter))]
+pub(crate) fn filter<'a>(s: &'a str) -> Option<(Option<Fault<'a>>, &'a str)>
+    ensures value { Scans filter_fault result (read.filter s.now) }
+    ensures shorter { IfSome result (λ x. length x.1.now < length s.now) }
+{
+    let (_, rest) = identifier(s)?;
+    match arguments(rest) {
+        Some(found) => Some(found),
+        None => Some((None, rest)),
+    }
+}
+
+#[tactic(auto, unfolding(crate::specs::TokenSteps::arguments))]
+fn arguments<'a>(s: &'a str) -> Option<(Option<Fault<'a>>, &'a str)>
+    ensures value { Scans (first_fault argument_fault) result (read.arguments s.now) }
+    ensures shorter { IfSome result (λ x. length x.1.now < length s.now) }
+{
+    let (first, rest) = argument(behind(s, b':')?)?;
+    let (others, rest) = more_arguments(rest);
+    Some((first.or(others), rest))
+}
+
+/// The first fault of all further arguments, each behind a comma.
+fn more_arguments<'a>(s: &'a str) -> (Option<Fault<'a>>, &'a str)
+    ensures value { Scans (first_fault argument_fault) (Some result) (read.repeated (read.behind 44 read.argument) s.now) }
+    ensures shorter { length result.1.now ≤ length s.now }
+{
+    let mut fault = None;
+    let mut rest = s;
+    'arguments: while let Some((found, after)) = next_argument(rest) {
+        fault = fault.or(found);
+        rest = after;
+    }
+    (fault, rest)
+}
+
+fn next_argument<'a>(s: &'a str) -> Option<(Option<Fault<'a>>, &'a str)>
+    ensures value { Scans argument_fault result (read.behind 44 read.argument s.now) }
+    ensures shorter { IfSome result (λ x. length x.1.now < length s.now) }
+{
+    argument(behind(s, b',')?)
+}
+
+#[tactic(auto, unfolding(crate::specs::TokenSteps::argument))]
+pub(crate) fn argument<'a>(s: &'a str) -> Option<(Option<Fault<'a>>, &'a str)>
+    ensures value { Scans argument_fault result (read.argument s.now) }
+    ensures shorter { IfSome result (λ x. length x.1.now < length s.now) }
+{
+    match keyword(s) {
+        Some(found) => Some(found),
+        None => value(s),
+    }
+}
+
+fn keyword<'a>(s: &'a str) -> Option<(Option<Fault<'a>>, &'a str)>
+    ensures value { Scans argument_fault result (read.keyword_argument s.now) }
+    ensures shorter { IfSome result (λ x. length x.1.now < length s.now) }
+{
+    value(keyword_start(s)?)
+}
+
+/// What follows an identifier and `:` between white space.
+#[tactic(auto, unfolding(crate::specs::TokenSteps::keyword_start))]
+fn keyword_start(s: &str) -> Option<&str>
+    ensures value { Leaves result (read.keyword_start s.now) }
+    ensures shorter { IfSome result (λ rest. length rest.now < length s.now) }
+{
+    Some(skip_white(eat(skip_white(identifier(s)?.1), b':')?))
+}
+
+/// What follows a separator between white space.
+fn behind(s: &str, separator: u8) -> Option<&str>
+    requires { separator < 128 }
+    ensures value { Leaves result (read.separated separator s.now) }
+    ensures shorter { IfSome result (λ rest. length rest.now < length s.now) }
+{
+    Some(skip_white(eat(skip_white(s), separator)?))
+}

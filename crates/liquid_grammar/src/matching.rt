@@ -1,0 +1,104 @@
+//! Matches of single rules. Each call takes no memory and no stack that grows with the text.
+ghost use Rattle.std.specs.Prelude.{◌<◌, length, IfSome};
+ghost use Rattle.liquid_grammar.specs.Grammar.{Identifier};
+ghost use Rattle.liquid_grammar.specs.Literals.{LiteralRule};
+ghost use Rattle.liquid_grammar.specs.Values.{ValueRule, VariableRule, IndexRule};
+ghost use Rattle.liquid_grammar.specs.Tokens.{ArgumentRule, FilterRule, ChainRule, TokenRule, ExpressionRule, TagRule};
+ghost use Rattle.liquid_grammar.specs.Faults.{value_fault, index_fault, argument_fault, filter_fault, chain_fault, token_fault, tag_fault};
+ghost use Rattle.liquid_grammar.specs.Matches.{Matches, Finds};
+ghost use Rattle.liquid_grammar.specs.Meanings.{literal_of};
+
+use crate::fault::Fault;
+use crate::filter::{argument, chain, filter};
+use crate::literal::{Literal, read_literal};
+use crate::name::identifier;
+use crate::token::{full_expression, tag, token};
+use crate::value::{index, value, variable};
+
+/// The longest identifier that the text begins with, and what follows it.
+pub fn match_identifier(s: &str) -> Option<(&str, &str)>
+    ensures value { Finds Identifier (λ x. x.now) s.now result }
+    ensures shorter { IfSome result (λ x. length x.1.now < length s.now) }
+{
+    identifier(s)
+}
+
+/// The literal that the text begins with, and what follows it.
+pub fn match_literal(s: &str) -> Option<(Literal<'_>, &str)>
+    ensures value { Finds LiteralRule literal_of s.now result }
+    ensures shorter { IfSome result (λ x. length x.1.now < length s.now) }
+{
+    read_literal(s)
+}
+
+/// The value that the text begins with: its first fault, and what follows it.
+pub fn match_value<'a>(s: &'a str) -> Option<(Option<Fault<'a>>, &'a str)>
+    ensures value { Matches ValueRule value_fault s.now result }
+    ensures shorter { IfSome result (λ x. length x.1.now < length s.now) }
+{
+    value(s)
+}
+
+/// The variable that the text begins with: its first fault, and what follows it.
+pub fn match_variable<'a>(s: &'a str) -> Option<(Option<Fault<'a>>, &'a str)>
+    ensures value { Matches VariableRule value_fault s.now result }
+    ensures shorter { IfSome result (λ x. length x.1.now < length s.now) }
+{
+    variable(s)
+}
+
+/// The index that the text begins with: its first fault, and what follows it.
+pub fn match_index<'a>(s: &'a str) -> Option<(Option<Fault<'a>>, &'a str)>
+    ensures value { Matches IndexRule (index_fault 0) s.now result }
+    ensures shorter { IfSome result (λ x. length x.1.now < length s.now) }
+{
+    index(s)
+}
+
+/// The argument that the text begins with: its first fault, and what follows it.
+pub fn match_argument<'a>(s: &'a str) -> Option<(Option<Fault<'a>>, &'a str)>
+    ensures value { Matches ArgumentRule argument_fault s.now result }
+    ensures shorter { IfSome result (λ x. length x.1.now < length s.now) }
+{
+    argument(s)
+}
+
+/// The filter that the text begins with: its first fault, and what follows it.
+pub fn match_filter<'a>(s: &'a str) -> Option<(Option<Fault<'a>>, &'a str)>
+    ensures value { Matches FilterRule filter_fault s.now result }
+    ensures shorter { IfSome result (λ x. length x.1.now < length s.now) }
+{
+    filter(s)
+}
+
+/// The chain that the text begins with: its first fault, and what follows it.
+pub fn match_chain<'a>(s: &'a str) -> Option<(Option<Fault<'a>>, &'a str)>
+    ensures value { Matches ChainRule chain_fault s.now result }
+    ensures shorter { IfSome result (λ x. length x.1.now < length s.now) }
+{
+    chain(s)
+}
+
+/// The token that the text begins with: its first fault, and what follows it.
+pub fn match_token<'a>(s: &'a str) -> Option<(Option<Fault<'a>>, &'a str)>
+    ensures value { Matches TokenRule token_fault s.now result }
+    ensures shorter { IfSome result (λ x. length x.1.now < length s.now) }
+{
+    token(s)
+}
+
+/// The expression over a chain that the text begins with: its first fault, and what follows it.
+pub fn match_expression<'a>(s: &'a str) -> Option<(Option<Fault<'a>>, &'a str)>
+    ensures value { Matches ExpressionRule chain_fault s.now result }
+    ensures shorter { IfSome result (λ x. length x.1.now < length s.now) }
+{
+    full_expression(s)
+}
+
+/// The tag that the text begins with: its first fault, and what follows it.
+pub fn match_tag<'a>(s: &'a str) -> Option<(Option<Fault<'a>>, &'a str)>
+    ensures value { Matches TagRule tag_fault s.now result }
+    ensures shorter { IfSome result (λ x. length x.1.now < length s.now) }
+{
+    tag(s)
+}

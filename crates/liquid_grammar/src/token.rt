@@ -1,0 +1,135 @@
+//! Tokens, expressions and tags.
+ghost use Rattle.std.specs.Prelude.{◌≡◌, ◌<◌, ◌≤◌, length, Some, IfSome};
+ghost use Rattle.liquid_grammar.specs.Tokens as spec;
+ghost use Rattle.liquid_grammar.specs.Faults.{chain_fault, range_fault, token_fault, tag_fault, first_fault};
+ghost use Rattle.liquid_grammar.specs.Meanings.{Scans};
+ghost use Rattle.liquid_grammar.specs.Steps.{Leaves};
+ghost use Rattle.liquid_grammar.specs.Steps as step;
+ghost use Rattle.liquid_grammar.specs.TokenSteps as read;
+
+use crate::bytes::byte_at;
+use crate::fault::Fault;
+use crate::filter::chain;
+use crate::name::identifier;
+use crate::opener::{closer, opener};
+use crate::text::{eat, skip_white};
+use crate::value::value;
+
+/// The first fault of the tag that the text begins with, and what follows it.
+#[tactic(auto, unfolding(crate::specs::TokenSteps::tag))]
+pub(crate) fn tag<'a>(s: &'a str) -> Option<(Option<Fault<'a>>, &'a str)>
+    ensures value { Scans tag_fault result (read.tag s.now) }
+    ensures shorter { IfSome result (λ x. length x.1.now < length s.now) }
+{
+    let (_, rest) = identifier(skip_white(opener(s, b'%')?))?;
+    let (fault, rest) = tokens(rest);
+    Some((fault, closer(skip_white(rest), b'%')?))
+}
+
+/// The first fault of the expression that the text begins with, and what follows it.
+#[tactic(auto, unfolding(crate::specs::TokenSteps::full_expression))]
+pub(crate) fn full_expression<'a>(s: &'a str) -> Option<(Option<Fault<'a>>, &'a str)>
+    ensures value { Scans chain_fault result (read.full_expression s.now) }
+    ensures shorter { IfSome result (λ x. length x.1.now < length s.now) }
+{
+    let (fault, rest) = chain(skip_white(opener(s, b'{')?))?;
+    Some((fault, closer(skip_white(rest), b'}')?))
+}
+
+/// The first fault of all tokens that stand here, each behind white space or none.
+fn tokens<'a>(s: &'a str) -> (Option<Fault<'a>>, &'a str)
+    ensures value { Scans (first_fault token_fault) (Some result) (read.repeated (step.right step.white read.token) s.now) }
+    ensures shorter { length result.1.now ≤ length s.now }
+{
+    let mut fault = None;
+    let mut rest = s;
+    'tokens: while let Some((found, after)) = next_token(rest) {
+        fault = fault.or(found);
+        rest = after;
+    }
+    (fault, rest)
+}
+
+fn next_token<'a>(s: &'a str) -> Option<(Option<Fault<'a>>, &'a str)>
+    ensures value { Scans token_fault result (step.right step.white read.token s.now) }
+    ensures shorter { IfSome result (λ x. length x.1.now < length s.now) }
+{
+    token(skip_white(s))
+}
+
+#[tactic(auto, unfolding(crate::specs::TokenSteps::token))]
+pub(crate) fn token<'a>(s: &'a str) -> Option<(Option<Fault<'a>>, &'a str)>
+    ensures value { Scans token_fault result (read.token s.now) }
+    ensures shorter { IfSome result (λ x. length x.1.now < length s.now) }
+{
+    match range(s) {
+        Some(found) => Some(found),
+        None => match chain(s) {
+            Some(found) => Some(found),
+            None => Some((None, symbol(s)?)),
+        },
+    }
+}
+
+fn range<'a>(s: &'a str) -> Option<(Option<Fault<'a>>, &'a str)>
+    ensures value { Scans range_fault result (read.ranged s.now) }
+    ensures shorter { IfSome result (λ x. length x.1.now < length s.now) }
+{
+    let (start, rest) = value(range_start(s)?)?;
+    let (stop, rest) = value(dots(rest)?)?;
+    let rest = range_end(rest)?;
+    Some((start.or(stop), rest))
+}
+
+#[tactic(auto, unfolding(crate::specs::TokenSteps::range_start))]
+fn range_start(s: &str) -> Option<&str>
+    ensures value { Leaves result (read.range_start s.now) }
+    ensures shorter { IfSome result (λ rest. length rest.now < length s.now) }
+{
+    Some(skip_white(eat(s, b'(')?))
+}
+
+#[tactic(auto, unfolding(crate::specs::TokenSteps::range_end))]
+fn range_end(s: &str) -> Option<&str>
+    ensures value { Leaves result (read.range_end s.now) }
+    ensures shorter { IfSome result (λ rest. length rest.now < length s.now) }
+{
+    eat(skip_white(s), b')')
+}
+
+#[tactic(auto, unfolding(crate::specs::TokenSteps::dots))]
+fn dots(s: &str) -> Option<&str>
+    ensures value { Leaves result (read.dots s.now) }
+    ensures shorter { IfSome result (λ rest. length rest.now < length s.now) }
+{
+    Some(skip_white(eat(eat(skip_white(s), b'.')?, b'.')?))
+}
+
+/// What follows the longest symbol that stands here.
+#[tactic(auto, unfolding(crate::specs::TokenSteps::symbol_of))]
+fn symbol(s: &str) -> Option<&str>
+    ensures value { Leaves result (read.symbol_of s.now) }
+    ensures shorter { IfSome result (λ rest. length rest.now < length s.now) }
+{
+    let bytes = s.as_bytes();
+    if bytes.len() > 1 && is_double(bytes[0], bytes[1]) {
+        Some(&s[2..])
+    } else if bytes.len() > 0 && is_single(bytes[0]) {
+        Some(&s[1..])
+    } else {
+        None
+    }
+}
+
+fn is_double(first: u8, second: u8) -> bool
+    ensures { result ≡ spec.is_double (first, second) }
+{
+    second == b'=' && (first == b'<' || first == b'>' || first == b'=' || first == b'!')
+        || first == b'<' && second == b'>'
+}
+
+fn is_single(byte: u8) -> bool
+    ensures { result ≡ spec.is_single byte }
+{
+    byte == b'<' || byte == b'>' || byte == b'=' || byte == b',' || byte == b':'
+}

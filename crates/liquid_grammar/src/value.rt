@@ -1,0 +1,64 @@
+//! Values: literals, and variables with their indexes.
+ghost use Rattle.std.specs.Prelude.{◌≡◌, ◌<◌, ◌≤◌, length, Some, IfSome};
+ghost use Rattle.liquid_grammar.specs.Values.{gather};
+ghost use Rattle.liquid_grammar.specs.Faults.{value_fault, indexes_fault, index_fault};
+ghost use Rattle.liquid_grammar.specs.Meanings.{Scans};
+ghost use Rattle.liquid_grammar.specs.Steps.{Leaves};
+ghost use Rattle.liquid_grammar.specs.TokenSteps as read;
+
+use crate::bracket::bracketed;
+use crate::fault::{Fault, literal_fault};
+use crate::literal::read_literal;
+use crate::name::{identifier, name};
+use crate::text::eat;
+
+/// The first fault of the value that the text begins with, and what follows it.
+pub(crate) fn value<'a>(s: &'a str) -> Option<(Option<Fault<'a>>, &'a str)>
+    ensures value { Scans value_fault result (read.value s.now) }
+    ensures shorter { IfSome result (λ x. length x.1.now < length s.now) }
+{
+    match read_literal(s) {
+        Some((literal, rest)) => Some((literal_fault(s, literal), rest)),
+        None => variable(s),
+    }
+}
+
+pub(crate) fn variable<'a>(s: &'a str) -> Option<(Option<Fault<'a>>, &'a str)>
+    ensures value { Scans value_fault result (read.variable_over read.value s.now) }
+    ensures shorter { IfSome result (λ x. length x.1.now < length s.now) }
+{
+    Some(indexes(name(s)?.1))
+}
+
+/// The first fault of all indexes that stand here, and what follows them.
+fn indexes<'a>(s: &'a str) -> (Option<Fault<'a>>, &'a str)
+    ensures value { Scans (λ x. indexes_fault 0 (gather x)) (Some result) (read.repeated (read.index_over read.value) s.now) }
+    ensures shorter { length result.1.now ≤ length s.now }
+{
+    let mut fault = None;
+    let mut rest = s;
+    'indexes: while let Some((found, after)) = index(rest) {
+        fault = fault.or(found);
+        rest = after;
+    }
+    (fault, rest)
+}
+
+pub(crate) fn index<'a>(s: &'a str) -> Option<(Option<Fault<'a>>, &'a str)>
+    ensures value { Scans (index_fault 0) result (read.index_over read.value s.now) }
+    ensures shorter { IfSome result (λ x. length x.1.now < length s.now) }
+{
+    match named(s) {
+        Some(rest) => Some((None, rest)),
+        None => bracketed(s),
+    }
+}
+
+/// What follows `.` and an identifier.
+#[tactic(auto, unfolding(crate::specs::TokenSteps::named))]
+pub(crate) fn named(s: &str) -> Option<&str>
+    ensures value { Leaves result (read.named s.now) }
+    ensures shorter { IfSome result (λ rest. length rest.now < length s.now) }
+{
+    Some(identifier(eat(s, b'.')?)?.1)
+}
