@@ -39,6 +39,8 @@ pub mod runtime {
 pub use liquid_parser::{Language, Node};
 pub use liquid_runtime::{Runtime, RuntimeBuilder};
 pub use liquid_scalar::{Error, Result};
-pub use liquid_template::{History, Sink, SinkFault, Template, TextSink, WriterSink, render_source};
+pub use liquid_template::{
+    History, Sink, SinkFault, Template, TextSink, WriterSink, render_source,
+};
 pub use liquid_value::{Object, Value, ValueCow};
 pub use liquid_views::{ObjectView, ValueView};

@@ -37,7 +37,12 @@ pub(crate) fn bracketed<'a>(s: &'a str) -> Option<(Option<Fault<'a>>, &'a str)>
     ensures value { Scans (index_fault 0) result (bracket_index s.now) }
     ensures shorter { IfSome result (λ x. length x.1.now < length s.now) }
 {
-    let mut open = Open { rest: open_bracket(s)?, depth: 1, fault: None, awaits: Await::Value };
+    let mut open = Open {
+        rest: open_bracket(s)?,
+        depth: 1,
+        fault: None,
+        awaits: Await::Value,
+    };
     'brackets: while open.depth > 0 {
         open = turn(open)?;
     }
@@ -59,23 +64,48 @@ fn turn<'a>(open: Open<'a>) -> Option<Open<'a>>
         Await::Value => match read_literal(rest) {
             Some((literal, after)) => {
                 let fault = open.fault.or(literal_fault(rest, literal));
-                Some(Open { rest: after, fault, awaits: Await::Close, ..open })
+                Some(Open {
+                    rest: after,
+                    fault,
+                    awaits: Await::Close,
+                    ..open
+                })
             }
-            None => Some(Open { rest: name(rest)?.1, awaits: Await::Index, ..open }),
+            None => Some(Open {
+                rest: name(rest)?.1,
+                awaits: Await::Index,
+                ..open
+            }),
         },
         Await::Index => match named(rest) {
-            Some(after) => Some(Open { rest: after, ..open }),
+            Some(after) => Some(Open {
+                rest: after,
+                ..open
+            }),
             None => match open_bracket(rest) {
                 Some(after) => {
                     let fault = open.fault.or(depth_fault(rest, open.depth));
-                    Some(Open { rest: after, depth: open.depth + 1, fault, awaits: Await::Value })
+                    Some(Open {
+                        rest: after,
+                        depth: open.depth + 1,
+                        fault,
+                        awaits: Await::Value,
+                    })
                 }
-                None => Some(Open { awaits: Await::Close, ..open }),
+                None => Some(Open {
+                    awaits: Await::Close,
+                    ..open
+                }),
             },
         },
         Await::Close => {
             let after = close_bracket(rest)?;
-            Some(Open { rest: after, depth: open.depth - 1, awaits: Await::Index, ..open })
+            Some(Open {
+                rest: after,
+                depth: open.depth - 1,
+                awaits: Await::Index,
+                ..open
+            })
         }
     }
 }
@@ -87,7 +117,10 @@ fn depth_fault<'a>(place: &'a str, depth: usize) -> Option<Fault<'a>>
     if depth < BRACKET_LIMIT {
         None
     } else {
-        Some(Fault { kind: FaultKind::NestedTooDeep, place })
+        Some(Fault {
+            kind: FaultKind::NestedTooDeep,
+            place,
+        })
     }
 }
 
