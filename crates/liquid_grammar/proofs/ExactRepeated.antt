@@ -113,3 +113,8 @@ repeated_more {f = f} F less s a e =
 pub repeated_end : {A : Type 0} (f : Reader A) (s : List ℕ) → f s ≡ None → repeated f s ≡ Some ([], s)
 unfolding repeated repeated_by
 repeated_end f s e = ap (λ o. repeat_turn o s (repeated_by (length s) f)) e
+
+-- a repetition finds something everywhere
+pub repeated_total : {A : Type 0} (f : Reader A) (s : List ℕ) → (x : List A × List ℕ) × (repeated f s ≡ Some x)
+unfolding repeated
+repeated_total f s = repeated_by_total f (suc (length s)) s

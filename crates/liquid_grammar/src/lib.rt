@@ -7,6 +7,7 @@ mod element;
 mod expression;
 mod fault;
 mod filter;
+mod kind;
 mod laws;
 mod literal;
 mod matching;
@@ -25,6 +26,7 @@ mod value;
 pub use bracket::BRACKET_LIMIT;
 pub use element::{Element, next_element};
 pub use fault::{Fault, FaultKind, integer_of};
+pub use kind::{TokenKind, token_kind};
 pub use literal::Literal;
 pub use laws::{elements_joined_are_the_text, no_opener_inside_raw, one_cover, one_element, one_match, value_law};
 pub use matching::{

@@ -1,7 +1,7 @@
 //! Texts with what the written rules match at their beginning: what is left, and the first fault.
 use crate::{
-    Element, FaultKind, Literal, integer_of, match_argument, match_chain, match_expression, match_filter, match_identifier,
-    match_index, match_literal, match_tag, match_token, match_value, match_variable, next_element,
+    Element, FaultKind, Literal, TokenKind, integer_of, match_argument, match_chain, match_expression, match_filter, match_identifier,
+    match_index, match_literal, match_tag, match_token, match_value, match_variable, next_element, token_kind,
 };
 use std::alloc::{AllocError, Global};
 use std::process::Abort;
@@ -185,4 +185,17 @@ fn hostile_sizes(rt: HostRuntime) -> Result<(), AllocError> {
     }
     assert!(rt; next_element(rest) == Some((Element::Raw("{"), "")));
     Ok(())
+}
+
+#[test]
+fn kinds(rt: HostRuntime) {
+    assert!(rt; token_kind("a ") == Some(TokenKind::Identifier("a")));
+    assert!(rt; token_kind("a.b") == Some(TokenKind::Variable));
+    assert!(rt; token_kind("a['b']") == Some(TokenKind::Variable));
+    assert!(rt; token_kind("'a' b") == Some(TokenKind::Literal(Literal::Text("a"))));
+    assert!(rt; token_kind("nil") == Some(TokenKind::Literal(Literal::Nil)));
+    assert!(rt; token_kind("a | f") == Some(TokenKind::Filtered));
+    assert!(rt; token_kind("(1..a)") == Some(TokenKind::Range));
+    assert!(rt; token_kind("<=") == Some(TokenKind::Symbol));
+    assert!(rt; token_kind("!").is_none());
 }
