@@ -3,3 +3,4 @@ pub mod Lists
 pub mod Maps
 pub mod Pairs
 pub mod HashMaps
+pub mod EntryLookups

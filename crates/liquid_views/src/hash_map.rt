@@ -1,5 +1,7 @@
 // Maps without an order of their own: they are told in byte order of their names.
-ghost use Rattle.std.specs.Prelude.{◌≡◌, IfOk};
+ghost use Rattle.std.specs.Prelude.{◌≡◌, refl, map, option_map, IfOk};
+ghost use Rattle.liquid_views.specs.Names.{names};
+ghost use Rattle.liquid_value.specs.Members.{get_member};
 ghost use Rattle.std.specs.Fmt.{WritesOnOk};
 ghost use Rattle.liquid_value.specs.Render.{source, render_members, listed_members};
 ghost use Rattle.liquid_value.specs.Tree.{no_members, object};
@@ -7,9 +9,9 @@ ghost use Rattle.liquid_value.specs.View.{members_view};
 ghost use Rattle.liquid_views.specs.Entries.{put_entries, index_members};
 
 use crate::kind::ViewKind;
-use crate::object::{list_member, write_member};
+use crate::object::{ObjectView, list_member, write_member};
 use crate::view::ValueView;
-use liquid_value::{Object, Value};
+use liquid_value::{Object, Value, ValueCow};
 use std::alloc::{AllocError, Global};
 use std::collections::{BTreeMap, HashMap};
 use std::fmt;
@@ -100,4 +102,51 @@ fn write_index_source<V: ValueView, W: fmt::Write>(
     f.write_str("{")?;
     list_index(index, f)?;
     f.write_str("}")
+}
+
+impl<V: ValueView> ObjectView for HashMap<String, V> {
+    ghost members = { λ m. put_entries V.tree m.entries no_members };
+
+    ghost holds = { λ m. refl };
+
+    #[tactic(auto, using(crate::proofs::EntryLookups::count_of_entries))]
+    fn size(&self) -> i64 {
+        self.len() as i64
+    }
+
+    fn contains_key(&self, index: &str) -> bool {
+        value_at(self, index).is_some()
+    }
+
+    fn lookup(&self, alloc: Global, index: &str) -> Result<Option<ValueCow<'_>>, AllocError> {
+        match value_at(self, index) {
+            Some(value) => Ok(Some(value.to_cow(alloc)?)),
+            None => Ok(None),
+        }
+    }
+
+    fn keys(&self, alloc: Global) -> Result<Vec<&str>, AllocError> {
+        index_names(alloc, &index_of(alloc, self)?)
+    }
+}
+
+// The map's size is asked since its clause says that each name stands once.
+fn value_at<'m, V: ValueView>(map: &'m HashMap<String, V>, name: &str) -> Option<&'m V>
+    ensures { option_map (λ v. V.tree v.now) result ≡ get_member name.now (put_entries V.tree map.now.entries no_members) }
+{
+    let _size = map.len();
+    map.get(name)
+}
+
+fn index_names<'m, V: ValueView>(
+    alloc: Global,
+    index: &BTreeMap<&'m str, &'m V>,
+) -> Result<Vec<&'m str>, AllocError>
+    ensures { IfOk result (λ keys. map (λ key. key.now) keys.items ≡ names (index_members V.tree index.now.entries)) }
+{
+    let mut names = Vec::with_capacity(alloc, index.len())?;
+    for (key, _) in index.iter() {
+        names.push(*key)?;
+    }
+    Ok(names)
 }

@@ -89,6 +89,13 @@ fn maps_without_order_are_told_by_name(rt: HostRuntime) -> Result<(), Fail> {
             "object"
         )?
     );
+    assert_eq!(rt; map.size(), 3);
+    assert!(rt; ObjectView::contains_key(&map, "b"));
+    assert!(rt; !ObjectView::contains_key(&map, "d"));
+    let found = map.lookup(alloc, "c")?.ok_or("no value")?;
+    assert!(rt; *found.as_view() == Value::scalar(3i64));
+    let names = ObjectView::keys(&map, alloc)?;
+    assert_eq!(rt; names.as_slice(), ["a", "b", "c"].as_slice());
     let nothing: HashMap<String, i64> = HashMap::new(alloc);
     assert!(rt; shows(alloc, &nothing, "", "{}", "object")?);
     Ok(())
