@@ -1,0 +1,2 @@
+pub mod IsoWeekLemmas
+pub mod InstantLemmas

@@ -1,0 +1,3 @@
+pub mod ErrorText
+pub mod IsoWeek
+pub mod Instant

@@ -1,0 +1,10 @@
+//! Dates and date times of Liquid templates: their parts, their texts, and `strftime` patterns.
+#![tactic(auto)]
+
+mod date;
+mod date_time;
+mod error;
+
+pub use date::Date;
+pub use date_time::DateTime;
+pub use error::{DateError, DateFormatError};
