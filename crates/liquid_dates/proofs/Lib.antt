@@ -1,2 +1,3 @@
 pub mod IsoWeekLemmas
 pub mod InstantLemmas
+pub mod FractionLemmas

@@ -9,12 +9,16 @@ ghost use Rattle.jiff_core.specs.Date.{ordinal};
 ghost use Rattle.jiff_core.specs.DateTime.{IsCivilNanos};
 ghost use Rattle.jiff_core.specs.Time.{time_nanos};
 ghost use Rattle.jiff_core.specs.Timestamp.{IsOffsetSeconds, nanos_of_seconds};
+ghost use Rattle.std.specs.String.{string_bytes};
 ghost use Rattle.liquid_dates.specs.IsoWeek.{iso_week};
+ghost use Rattle.liquid_dates.specs.Printed.{rfc2822_text, HasRfc2822Form, IsRfc2822Refusal};
 ghost use Rattle.liquid_dates.specs.Instant.{civil_date, civil_time, offset_seconds, nanosecond, instant, IsClockTime, HasParts, IsInstant, IsOffsetRefusal};
 
+use crate::printed::Rfc2822;
 use crate::{Date, DateError};
 use jiff::civil;
 use jiff::tz::Offset;
+use std::alloc::Global;
 use std::cmp::Ordering;
 use std::hash::{Hash, Hasher};
 
@@ -149,6 +153,19 @@ impl DateTime {
         }
     }
 
+    /// The form of RFC 2822, as `Tue, 16 Feb 2016 10:00:00 +0100`. There is none for a year below
+    /// 1900 and for an offset with seconds.
+    pub fn to_rfc2822(self, alloc: Global) -> Result<String, DateError>
+        ensures text { IfOk result (λ s. string_bytes s ≡ rfc2822_text self) }
+        ensures has_form { IsOk result → HasRfc2822Form self }
+        ensures refused { IfErr result (λ e. IsRfc2822Refusal self e) }
+    {
+        if self.year() < 1900 || self.offset() % 60 != 0 {
+            return Err(DateError::NoRfc2822Form);
+        }
+        Ok(Rfc2822 { date_time: self }.to_string(alloc)?)
+    }
+
     /// Nanoseconds since 1970-01-01 00:00:00 +0000.
     #[tactic(auto, using(crate::proofs::InstantLemmas::instant_is))]
     pub fn instant(self) -> i128
@@ -230,9 +247,18 @@ impl DateTime {
 
     /// How far the clock is ahead of UTC, in seconds.
     pub fn offset(&self) -> i32
-        ensures { result ≡ offset_seconds self.now }
+        ensures value { result ≡ offset_seconds self.now }
+        ensures bound { IsOffsetSeconds result }
     {
-        self.offset.seconds()
+        self.offset.to_plain().seconds
+    }
+
+    /// What the clock shows.
+    pub(crate) fn local(&self) -> civil::DateTime
+        ensures date { result.date ≡ civil_date self.now }
+        ensures time { result.time ≡ civil_time self.now }
+    {
+        self.local
     }
 }
 

@@ -3,7 +3,11 @@
 
 mod date;
 mod date_time;
+mod directive;
 mod error;
+mod flags;
+mod names;
+mod printed;
 
 pub use date::Date;
 pub use date_time::DateTime;
