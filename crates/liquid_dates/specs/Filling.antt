@@ -1,5 +1,5 @@
 -- Numbers and texts filled up to a width.
-use Rattle.std.specs.Prelude.{ℕ, ◌+◌, ◌-◌, Bool, true, false, ℤ, pos, negsuc, unsigned_abs, List, [], ◌∷◌, ◌++◌, length, replicate, map}
+use Rattle.std.specs.Prelude.{ℕ, ◌+◌, ◌-◌, nat_lt, ◌&&◌, Bool, true, false, ℤ, pos, negsuc, unsigned_abs, List, [], ◌∷◌, ◌++◌, length, replicate, map}
 use Rattle.std.specs.Char.{to_ascii_uppercase}
 use Rattle.std.specs.Fmt.{decimal}
 use Rattle.liquid_dates.specs.declared.flags.Filling.{Filling}
@@ -42,3 +42,8 @@ abbrev pub cased : Case → List ℕ → List ℕ
 cased Plain text = text
 cased Upper text = map to_ascii_uppercase text
 cased Change text = map to_ascii_uppercase text
+
+-- a text of ASCII characters alone
+abbrev pub is_ascii_text : List ℕ → Bool
+is_ascii_text [] = true
+is_ascii_text (c ∷ cs) = nat_lt c 128 && is_ascii_text cs

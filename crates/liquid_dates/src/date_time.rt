@@ -12,7 +12,7 @@ ghost use Rattle.jiff_core.specs.Timestamp.{IsOffsetSeconds, nanos_of_seconds};
 ghost use Rattle.std.specs.String.{string_bytes};
 ghost use Rattle.liquid_dates.specs.IsoWeek.{iso_week};
 ghost use Rattle.liquid_dates.specs.Printed.{rfc2822_text, HasRfc2822Form, IsRfc2822Refusal};
-ghost use Rattle.liquid_dates.specs.Instant.{civil_date, civil_time, offset_seconds, nanosecond, instant, IsClockTime, HasParts, IsInstant, IsOffsetRefusal};
+ghost use Rattle.liquid_dates.specs.Instant.{civil_date, civil_time, offset_seconds, nanosecond, unix_seconds, instant, IsClockTime, HasParts, IsInstant, IsOffsetRefusal};
 
 use crate::printed::Rfc2822;
 use crate::{Date, DateError};
@@ -173,6 +173,14 @@ impl DateTime {
         ensures bound { IsInstant result }
     {
         self.local.to_plain().to_nanosecond() - self.offset.to_plain().to_nanosecond()
+    }
+
+    /// Whole seconds since 1970-01-01 00:00:00 +0000.
+    #[tactic(auto, using(crate::proofs::InstantLemmas::unix_seconds_is))]
+    pub(crate) fn unix_seconds(self) -> i64
+        ensures { result ≡ unix_seconds self }
+    {
+        self.local.to_plain().to_second() - i64::from(self.offset.to_plain().seconds)
     }
 
     /// The civil date.

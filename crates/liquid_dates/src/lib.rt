@@ -7,7 +7,9 @@ mod directive;
 mod error;
 mod flags;
 mod names;
+mod numbers;
 mod printed;
+mod writing;
 
 pub use date::Date;
 pub use date_time::DateTime;
