@@ -1,13 +1,16 @@
 //! Dates and date times of Liquid templates: their parts, their texts, and `strftime` patterns.
 #![tactic(auto)]
 
+mod composites;
 mod date;
 mod date_time;
 mod directive;
+mod directive_text;
 mod error;
 mod flags;
 mod names;
 mod numbers;
+mod offset_text;
 mod printed;
 mod writing;
 

@@ -1,4 +1,5 @@
-ghost use Rattle.std.specs.Prelude.{◌≡◌, ◌<◌, ◌≤◌};
+ghost use Rattle.std.specs.Prelude.{◌≡◌, ◌<◌, true};
+ghost use Rattle.liquid_dates.specs.Filling.{is_ascii_text};
 ghost use Rattle.std.specs.Int.{IsInRange};
 ghost use Rattle.liquid_dates.specs.Names as Spec;
 
@@ -6,7 +7,8 @@ ghost use Rattle.liquid_dates.specs.Names as Spec;
 #[tactic(auto, unfolding(crate::specs::Names::month_name))]
 pub(crate) fn month_name(month: u8) -> &'static str
     requires { IsInRange 1 12 month }
-    ensures { result.now ≡ Spec.month_name month }
+    ensures value { result.now ≡ Spec.month_name month }
+    ensures ascii { is_ascii_text result.now ≡ true }
 {
     match month {
         1 => "January",
@@ -28,7 +30,8 @@ pub(crate) fn month_name(month: u8) -> &'static str
 #[tactic(auto, unfolding(crate::specs::Names::short_month_name, crate::specs::Names::month_name))]
 pub(crate) fn short_month_name(month: u8) -> &'static str
     requires { IsInRange 1 12 month }
-    ensures { result.now ≡ Spec.short_month_name month }
+    ensures value { result.now ≡ Spec.short_month_name month }
+    ensures ascii { is_ascii_text result.now ≡ true }
 {
     match month {
         1 => "Jan",
@@ -50,7 +53,8 @@ pub(crate) fn short_month_name(month: u8) -> &'static str
 #[tactic(auto, unfolding(crate::specs::Names::weekday_name))]
 pub(crate) fn weekday_name(weekday: u8) -> &'static str
     requires { weekday < 7 }
-    ensures { result.now ≡ Spec.weekday_name weekday }
+    ensures value { result.now ≡ Spec.weekday_name weekday }
+    ensures ascii { is_ascii_text result.now ≡ true }
 {
     match weekday {
         0 => "Monday",
@@ -67,7 +71,8 @@ pub(crate) fn weekday_name(weekday: u8) -> &'static str
 #[tactic(auto, unfolding(crate::specs::Names::short_weekday_name, crate::specs::Names::weekday_name))]
 pub(crate) fn short_weekday_name(weekday: u8) -> &'static str
     requires { weekday < 7 }
-    ensures { result.now ≡ Spec.short_weekday_name weekday }
+    ensures value { result.now ≡ Spec.short_weekday_name weekday }
+    ensures ascii { is_ascii_text result.now ≡ true }
 {
     match weekday {
         0 => "Mon",
