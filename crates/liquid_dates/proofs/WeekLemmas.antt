@@ -1,5 +1,5 @@
 -- How often a weekday has passed in the days that end with a day.
-use Rattle.std.proofs.Common.{◌≡◌, ℕ, zero, suc, ◌+◌, ◌-◌, ◌/◌, ◌%◌, ◌<◌, ◌≤◌, Bool, true, false, refl, arith, ap, ◌∙◌, sym, ℤ, pos, ◌+ℤ◌, ◌-ℤ◌, eqb, cond, add-one}
+use Rattle.std.proofs.Common.{◌≡◌, ℕ, zero, suc, ◌+◌, ◌-◌, ◌/◌, ◌%◌, ◌<◌, arith, ℤ, pos, ◌+ℤ◌, ◌-ℤ◌, eqb, cond}
 use Rattle.jiff_core.specs.Calendar.{weekday_number}
 use Rattle.jiff_core.proofs.CalendarLemmas.{weekday_number-add, weekday_number_bound}
 use Rattle.jiff_core.proofs.SignedLemmas.{signed_arith}

@@ -104,11 +104,15 @@ named_date dt =
     filled_number true 2 (pos (civil_date dt).day)
     ++ (45 ∷ (cased Upper (short_month_name (civil_date dt).month) ++ (45 ∷ year_of_four dt)))
 
--- `MM/DD/YY`, of the remainder of the year by 100
+-- the remainder of the year by 100, filled by zeros to two characters with its sign
+unfoldable pub year_of_two : DateTime → List ℕ
+year_of_two dt = filled_number false 2 (int_rem (civil_date dt).year (pos 100))
+
+-- `MM/DD/YY`
 unfoldable pub slashed_date : DateTime → List ℕ
 slashed_date dt =
     two (civil_date dt).month ++ (47 ∷ (two (civil_date dt).day
-    ++ (47 ∷ filled_number false 2 (int_rem (civil_date dt).year (pos 100)))))
+    ++ (47 ∷ year_of_two dt)))
 
 -- `Www Mon `, and the day filled by a space to two characters
 unfoldable pub named_day : Case → DateTime → List ℕ

@@ -73,11 +73,20 @@ pub(crate) fn write_two(out: &mut String, number: u8) -> Result<(), AllocError>
     write_number(out, false, 2, i64::from(number))
 }
 
-fn write_year(out: &mut String, date_time: DateTime) -> Result<(), AllocError>
+fn write_year(out: &mut String, date_time: &DateTime) -> Result<(), AllocError>
     ensures { OnOk result
-        (string_bytes out.new ≡ string_bytes out.old ++ Spec.year_of_four date_time) }
+        (string_bytes out.new ≡ string_bytes out.old ++ Spec.year_of_four date_time.now) }
 {
     write_number(out, false, 4, i64::from(date_time.year()))
+}
+
+// Appends the remainder of the year by 100, filled by zeros to two characters.
+#[tactic(auto, unfolding(crate::specs::DirectiveText::year_of_two))]
+fn write_short_year(out: &mut String, date_time: &DateTime) -> Result<(), AllocError>
+    ensures { OnOk result
+        (string_bytes out.new ≡ string_bytes out.old ++ Spec.year_of_two date_time.now) }
+{
+    write_number(out, false, 2, i64::from(date_time.year()) % 100)
 }
 
 #[tactic(auto, unfolding(crate::specs::DirectiveText::hour_minute_of))]
@@ -120,7 +129,7 @@ fn dashed_date(out: &mut String, date_time: DateTime) -> Result<(), AllocError>
     ensures { OnOk result
         (string_bytes out.new ≡ string_bytes out.old ++ Spec.dashed_date date_time) }
 {
-    write_year(out, date_time)?;
+    write_year(out, &date_time)?;
     out.push_str("-")?;
     write_two(out, date_time.month())?;
     out.push_str("-")?;
@@ -136,7 +145,7 @@ fn named_date(out: &mut String, date_time: DateTime) -> Result<(), AllocError>
     out.push_str("-")?;
     write_short_month(out, Case::Upper, date_time)?;
     out.push_str("-")?;
-    write_year(out, date_time)
+    write_year(out, &date_time)
 }
 
 #[tactic(auto, unfolding(crate::specs::DirectiveText::slashed_date))]
@@ -148,7 +157,7 @@ fn slashed_date(out: &mut String, date_time: DateTime) -> Result<(), AllocError>
     out.push_str("/")?;
     write_two(out, date_time.day())?;
     out.push_str("/")?;
-    write_number(out, false, 2, i64::from(date_time.year()) % 100)
+    write_short_year(out, &date_time)
 }
 
 #[tactic(auto, unfolding(crate::specs::DirectiveText::date_and_time))]
@@ -160,7 +169,7 @@ fn date_and_time(out: &mut String, case: Case, date_time: DateTime) -> Result<()
     out.push_str(" ")?;
     clock(out, date_time)?;
     out.push_str(" ")?;
-    write_year(out, date_time)
+    write_year(out, &date_time)
 }
 
 #[tactic(auto, unfolding(crate::specs::DirectiveText::named_day))]
