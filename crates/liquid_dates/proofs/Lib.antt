@@ -4,3 +4,5 @@ pub mod FractionLemmas
 pub mod DecimalLemmas
 pub mod AsciiLemmas
 pub mod WeekLemmas
+pub mod CharLemmas
+pub mod PatternReaderLemmas

@@ -8,4 +8,5 @@ pub mod Letters
 pub mod Names
 pub mod Numbers
 pub mod Pattern
+pub mod PatternReader
 pub mod Printed

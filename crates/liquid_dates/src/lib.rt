@@ -11,6 +11,7 @@ mod flags;
 mod names;
 mod numbers;
 mod offset_text;
+mod pattern;
 mod printed;
 mod writing;
 
