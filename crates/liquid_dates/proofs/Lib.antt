@@ -6,3 +6,4 @@ pub mod AsciiLemmas
 pub mod WeekLemmas
 pub mod CharLemmas
 pub mod PatternReaderLemmas
+pub mod PatternLemmas

@@ -1,6 +1,5 @@
 -- A reader of patterns, item by item. It is a bridge between the code and the relation of `Pattern`: what it reads is proved to be what that relation says.
-use Rattle.std.specs.Prelude.{ℕ, ◌+◌, ◌-◌, ◌*◌, ◌^◌, Bool, nat_lt, ◌==◌, if◌then◌else◌, List, [], ◌∷◌, drop, Option, Some, None, Result, Ok, Err, ◌≡◌, IsOkAnd, ◌++◌}
-use Rattle.liquid_dates.specs.declared.date_time.DateTime.{DateTime}
+use Rattle.std.specs.Prelude.{ℕ, ◌+◌, ◌-◌, ◌*◌, ◌^◌, Bool, nat_lt, ◌==◌, if◌then◌else◌, List, [], ◌∷◌, Result, Ok, Err, ◌≡◌}
 use Rattle.liquid_dates.specs.declared.flags.Flags.{Flags}
 use Rattle.liquid_dates.specs.declared.pattern.Width.{Width}
 use Rattle.liquid_dates.specs.declared.pattern.Width.TheVariants.{Unset, Given, TooGreat}
@@ -11,7 +10,7 @@ use Rattle.liquid_dates.specs.Flags.{is_flag, with_flag, flags_of, is_digit, dig
 use Rattle.std.specs.Str.{chars, IsUtf8}
 use Rattle.std.specs.Borrow.{Bor}
 use Rattle.liquid_dates.specs.Letters.{directive_of}
-use Rattle.liquid_dates.specs.Pattern.{Item, literal, directive, item_print}
+use Rattle.liquid_dates.specs.Pattern.{Item, literal, directive}
 
 -- the characters at the front that pass, and what is behind them
 abbrev pub front : (ℕ → Bool) → List ℕ → List ℕ
