@@ -1,12 +1,14 @@
 -- The reader reads what the relation of patterns says, and nothing else.
-use Rattle.std.proofs.Common.{◌≡◌, ◌≢◌, ◌⊎◌, inl, inr, ℕ, ◌^◌, ◌<◌, ◌≤◌, Bool, true, false, cond, ◌&&◌, List, [], ◌∷◌, ◌++◌, refl, sym, ap, ◌∙◌, arith, eqb, Ok, Err, nat_lt, append_assoc, subst, append-nil}
+use Rattle.std.proofs.Common.{◌≡◌, ◌≢◌, ◌⊎◌, inl, inr, ℕ, zero, suc, ◌+◌, ◌^◌, ◌<◌, ◌≤◌, Bool, true, false, cond, ◌&&◌, List, [], ◌∷◌, ◌++◌, length, refl, sym, ap, ◌∙◌, arith, eqb, Option, Some, None, Result, Ok, Err, nat_lt, lt-ltb, append_assoc, length-append, eq-eqb, ne_eqb, subst, append-nil}
 use Rattle.std.specs.List.{list_all}
 use Rattle.std.proofs.lemmas.Bool.{eqb-true, ltb-true}
 use Rattle.std.proofs.lemmas.Bool.Decides.{nat_tests}
-use Rattle.liquid_dates.specs.declared.error.DateFormatError.TheVariants.{InvalidWidth}
+use Rattle.liquid_dates.specs.declared.error.DateFormatError.{DateFormatError}
+use Rattle.liquid_dates.specs.declared.error.DateFormatError.TheVariants.{NoFormatSpecifier, NoFormatSpecifierAfterModifier, InvalidWidth, Memory}
 use Rattle.liquid_dates.specs.Flags.{is_flag, is_digit, digits_number, is_modifier}
-use Rattle.liquid_dates.specs.Pattern.{literal, directive, spelling, begins, IsRun, IsModifier, IsLetter, IsItem, IsRefused}
-use Rattle.liquid_dates.specs.PatternReader.{front, behind, after_second_colon, behind_second_colon, after_colon, behind_colon, letter_front, letter_behind, Read, letter_at, behind_modifier, modifier_at, behind_width, directive_at, item_at}
+use Rattle.liquid_dates.specs.Pattern.{Item, literal, directive, spelling, begins, IsRun, IsModifier, IsLetter, IsDirective, IsItem, EndsBehindWidth, EndsBehindModifier, HasGreatWidth, IsRefused, IsEnd, IsFront, IsReading}
+use Rattle.liquid_dates.specs.PatternReader.{front, behind, after_second_colon, behind_second_colon, after_colon, behind_colon, letter_front, letter_behind, Read, letter_at, behind_modifier, modifier_at, behind_width, behind_flags, directive_at, item_at}
+use Rattle.liquid_dates.proofs.PatternReaderLemmas.{behind_width_fits, behind_width_great}
 
 -- the front and what is behind it are the text
 front_join_test : (p : ℕ → Bool) (c : ℕ) (cs : List ℕ) (b : Bool) → front p cs ++ behind p cs ≡ cs → cond b (c ∷ front p cs) [] ++ cond b (behind p cs) (c ∷ cs) ≡ c ∷ cs
@@ -152,3 +154,140 @@ item_describes_test c cs false t = (refl, λ s. grind (arith, nat_tests))
 pub item_describes : (c : ℕ) (cs : List ℕ) → Describes (c ∷ cs) (item_at c cs)
 unfolding item_at
 item_describes c cs = item_describes_test c cs _ refl
+
+-- what the reader says of a text that is not empty
+abbrev pub read_at : List ℕ → Option Read
+read_at [] = None
+read_at (c ∷ cs) = Some (item_at c cs)
+
+modifier_read : (f w m t rest : List ℕ) → IsModifier m (t ++ rest) → IsLetterRead t rest → digits_number w < 2 ^ 64 → behind_width f w (m ++ (t ++ rest)) ≡ Ok (directive f w m t, rest)
+modifier_read f w [] t rest h letter fits =
+    let none : is_modifier letter.first ≡ false = rw letter.is at h in
+    rw (letter.is, behind_width_fits f w letter.first letter.more fits, none, letter.front_is, letter.behind_is) refl
+modifier_read f w (a ∷ []) t rest h letter fits =
+    rw (behind_width_fits f w a (t ++ rest) fits, h, letter.is, letter.front_is, letter.behind_is) refl
+modifier_read f w (a ∷ b ∷ m) t rest h letter fits = absurd h
+
+pub directive_read : (f w m t rest : List ℕ) → IsDirective f w m t rest → directive_at (f ++ (w ++ (m ++ (t ++ rest)))) ≡ Ok (directive f w m t, rest)
+unfolding directive_at
+directive_read f w m t rest h =
+    let flags = run_front is_flag f (w ++ (m ++ (t ++ rest))) h.of_flags.passes h.of_flags.ends in
+    let digits = run_front is_digit w (m ++ (t ++ rest)) h.of_digits.passes h.of_digits.ends in
+    rw (flags.0, flags.1, digits.0, digits.1) (modifier_read f w m t rest h.of_modifier (letter_read t rest h.of_letter) h.of_width)
+
+-- an item before a rest is read as that item
+pub item_read : (i : Item) (rest : List ℕ) → IsItem i rest → read_at (spelling i ++ rest) ≡ Some (Ok (i, rest))
+unfolding spelling item_at
+item_read (literal c) rest h = ap Some (rw (ne_eqb c 37 h) refl)
+item_read (directive f w m t) rest h =
+    let text : f ++ (w ++ (m ++ t)) ++ rest ≡ f ++ (w ++ (m ++ (t ++ rest))) = simp append_assoc in
+    ap Some (rw text (directive_read f w m t rest h))
+
+-- a rest that is refused is read as that refusal
+refused_read : (e : DateFormatError) (text : List ℕ) → IsRefused e text → read_at text ≡ Some (Err e)
+unfolding item_at directive_at
+refused_read NoFormatSpecifier text h =
+    let flags = run_front is_flag h.flags h.digits h.of_flags.passes h.of_flags.ends in
+    let digits = run_front is_digit h.digits [] h.of_digits.passes h.of_digits.ends in
+    let none = append-nil h.digits in
+    let front_is : front is_digit h.digits ≡ h.digits = ap (front is_digit) (sym none) ∙ digits.0 in
+    let behind_is : behind is_digit h.digits ≡ [] = ap (behind is_digit) (sym none) ∙ digits.1 in
+    rw h.is (ap Some (rw (flags.0, flags.1, front_is, behind_is) refl))
+refused_read NoFormatSpecifierAfterModifier text h =
+    let flags = run_front is_flag h.flags (h.digits ++ (h.modifier ∷ [])) h.of_flags.passes h.of_flags.ends in
+    let digits = run_front is_digit h.digits (h.modifier ∷ []) h.of_digits.passes h.of_digits.ends in
+    rw h.is (ap Some (rw (flags.0, flags.1, digits.0, digits.1, behind_width_fits h.flags h.digits h.modifier [] h.of_width, h.of_modifier) refl))
+refused_read InvalidWidth text h =
+    let flags = run_front is_flag h.flags (h.digits ++ (h.next ∷ h.rest)) h.of_flags.passes h.of_flags.ends in
+    let digits = run_front is_digit h.digits (h.next ∷ h.rest) h.of_digits.passes h.of_digits.ends in
+    rw h.is (ap Some (rw (flags.0, flags.1, digits.0, digits.1, behind_width_great h.flags h.digits h.next h.rest h.of_width) refl))
+refused_read Memory text h = absurd h
+
+-- a reading's first step, as the reader says it
+abbrev Begins : List ℕ → List Item → Option DateFormatError → Type 0
+Begins text [] None = read_at text ≡ None
+Begins text [] (Some e) = read_at text ≡ Some (Err e)
+Begins text (i ∷ items) end = (more : List ℕ) × (read_at text ≡ Some (Ok (i, more))) × IsReading more items end
+
+begins_is : (text : List ℕ) (items : List Item) (end : Option DateFormatError) → IsReading text items end → Begins text items end
+unfolding IsFront
+begins_is text [] None (rest, is, ends) = ap read_at (is ∙ ends)
+begins_is text [] (Some e) (rest, is, ends) = rw is (refused_read e rest ends)
+begins_is text (i ∷ items) end (rest, (more, is, item, front), ends) =
+    (more, rw is (item_read i more item), (rest, front, ends))
+
+-- the item and the rest of what was read
+item_or : Item → Option Read → Item
+item_or other None = other
+item_or other (Some (Err e)) = other
+item_or other (Some (Ok (i, more))) = i
+
+rest_or : List ℕ → Option Read → List ℕ
+rest_or other None = other
+rest_or other (Some (Err e)) = other
+rest_or other (Some (Ok (i, more))) = more
+
+-- a text has one reading at most
+abbrev pub Same : List Item → Option DateFormatError → List Item → Option DateFormatError → Type 0
+Same items end items₂ end₂ = (items ≡ items₂) × (end ≡ end₂)
+
+pub one_reading : (text : List ℕ) (items items₂ : List Item) (end end₂ : Option DateFormatError) → IsReading text items end → IsReading text items₂ end₂ → Same items end items₂ end₂
+unfolding item_or rest_or
+one_reading text [] [] None None h k = (refl, refl)
+one_reading text [] [] None (Some e₂) h k =
+    let a = begins_is text [] None h in let b = begins_is text [] (Some e₂) k in cc
+one_reading text [] [] (Some e) None h k =
+    let a = begins_is text [] (Some e) h in let b = begins_is text [] None k in cc
+one_reading text [] [] (Some e) (Some e₂) h k =
+    let a = begins_is text [] (Some e) h in let b = begins_is text [] (Some e₂) k in (refl, cc)
+one_reading text [] (j ∷ items₂) None end₂ h k =
+    let a = begins_is text [] None h in let b = (begins_is text (j ∷ items₂) end₂ k).1 in cc
+one_reading text [] (j ∷ items₂) (Some e) end₂ h k =
+    let a = begins_is text [] (Some e) h in let b = (begins_is text (j ∷ items₂) end₂ k).1 in cc
+one_reading text (i ∷ items) [] end None h k =
+    let a = (begins_is text (i ∷ items) end h).1 in let b = begins_is text [] None k in cc
+one_reading text (i ∷ items) [] end (Some e₂) h k =
+    let a = (begins_is text (i ∷ items) end h).1 in let b = begins_is text [] (Some e₂) k in cc
+one_reading text (i ∷ items) (j ∷ items₂) end end₂ h k =
+    let (more, a, h') = begins_is text (i ∷ items) end h in
+    let (more₂, b, k') = begins_is text (j ∷ items₂) end₂ k in
+    let item : i ≡ j = ap (item_or i) (sym a ∙ b) in
+    let rest : more ≡ more₂ = ap (rest_or more) (sym a ∙ b) in
+    let same = one_reading more items items₂ end end₂ h' (rw rest k') in
+    (rw (item, same.0) refl, same.1)
+
+-- and it has one
+pub record Reading (text : List ℕ) : Type 0 where
+  pub items : List Item
+  pub end : Option DateFormatError
+  pub is : IsReading text items end
+
+shorter : (i : Item) (rest : List ℕ) → length rest < length (spelling i ++ rest)
+unfolding spelling
+shorter (literal c) rest = omega arith
+shorter (directive f w m t) rest = omega (arith, length-append (f ++ (w ++ (m ++ t))) rest)
+
+reading_from : (text : List ℕ) (r : Read) → Describes text r → ((i : Item) (more : List ℕ) → length more < length text → Reading more) → Reading text
+unfolding IsFront
+reading_from text (Ok (i, more)) h next =
+    let rest = next i more (rw h.0 (shorter i more)) in
+    let (last, front, ends) = rest.is in
+    record { items = i ∷ rest.items; end = rest.end; is = (last, (more, h.0, h.1, front), ends) }
+reading_from text (Err e) h next = record { items = []; end = Some e; is = (text, refl, h) }
+
+reading_below : (n : ℕ) (text : List ℕ) → length text ≤ n → Reading text
+unfolding IsFront
+reading_below n [] h = record { items = []; end = None; is = ([], refl, refl) }
+reading_below zero (c ∷ cs) h = absurd (omega arith)
+reading_below (suc n) (c ∷ cs) h =
+    reading_from (c ∷ cs) (item_at c cs) (item_describes c cs) (λ i more l. reading_below n more (omega arith))
+
+pub some_reading : (text : List ℕ) → Reading text
+some_reading text = reading_below (length text) text (omega arith)
+
+-- one item more of a front
+pub front_more : (text : List ℕ) (items : List Item) (rest : List ℕ) (i : Item) (more : List ℕ) → IsFront text items rest → rest ≡ spelling i ++ more → IsItem i more → IsFront text (items ++ (i ∷ [])) more
+unfolding IsFront
+front_more text [] rest i more front is item = (more, front ∙ is, item, refl)
+front_more text (j ∷ items) rest i more (next, joined, first, front) is item =
+    (next, joined, first, front_more next items rest i more front is item)

@@ -4,6 +4,7 @@ pub mod Filling
 pub mod Flags
 pub mod Instant
 pub mod IsoWeek
+pub mod Laws
 pub mod Letters
 pub mod Names
 pub mod Numbers
