@@ -7,3 +7,5 @@ pub mod WeekLemmas
 pub mod CharLemmas
 pub mod PatternReaderLemmas
 pub mod PatternLemmas
+pub mod FrontLemmas
+pub mod FormatLemmas

@@ -8,6 +8,7 @@ mod directive;
 mod directive_text;
 mod error;
 mod flags;
+mod format;
 mod laws;
 mod names;
 mod numbers;
