@@ -29,7 +29,10 @@ impl DateTime {
         let mut out = String::new(alloc);
         let mut rest = pattern;
         'items: while let Some((first, after)) = split_first(rest) {
-            rest = write_item(&mut out, self, rest, first, after)?;
+            match write_item(&mut out, self, rest, first, after) {
+                Ok(more) => rest = more,
+                Err(error) => return Err(error),
+            }
         }
         Ok(out)
     }
