@@ -9,3 +9,4 @@ pub mod PatternReaderLemmas
 pub mod PatternLemmas
 pub mod FrontLemmas
 pub mod FormatLemmas
+pub mod ReaderLemmas

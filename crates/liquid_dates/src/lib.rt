@@ -15,6 +15,7 @@ mod numbers;
 mod offset_text;
 mod pattern;
 mod printed;
+mod reading;
 mod writing;
 
 pub use date::Date;
