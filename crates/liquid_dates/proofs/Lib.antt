@@ -10,3 +10,4 @@ pub mod PatternLemmas
 pub mod FrontLemmas
 pub mod FormatLemmas
 pub mod ReaderLemmas
+pub mod DateTextLemmas
