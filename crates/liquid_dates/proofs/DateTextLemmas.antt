@@ -1,5 +1,5 @@
 -- The readers of date texts read what the forms relate, and nothing else.
-use Rattle.std.proofs.Common.{◌≡◌, ◌≢◌, ◌⊎◌, inl, inr, ℕ, zero, suc, ◌+◌, ◌-◌, ◌*◌, ◌/◌, ◌%◌, ◌<◌, ◌≤◌, Bool, true, false, cond, ◌&&◌, List, [], ◌∷◌, ◌++◌, length, take, drop, refl, sym, ap, ◌∙◌, arith, eqb, Option, Some, None, option_map, nat_lt, append_assoc, append-nil, ℤ, pos, neg_ℤ, subst}
+use Rattle.std.proofs.Common.{◌≡◌, ◌≢◌, ◌⊎◌, inl, inr, ℕ, zero, suc, ◌+◌, ◌-◌, ◌*◌, ◌/◌, ◌%◌, ◌<◌, ◌≤◌, Bool, true, false, cond, ◌&&◌, List, [], ◌∷◌, ◌++◌, length, take, drop, refl, sym, ap, ◌∙◌, arith, eqb, Option, Some, None, option_map, nat_lt, append_assoc, append-nil, ℤ, pos, neg_ℤ, subst, unwrap_or}
 use Rattle.std.specs.Option.{option_and_then}
 use Rattle.std.specs.Str.{bytes_eq}
 use Rattle.std.specs.Int.{IsInRange}
@@ -200,3 +200,151 @@ year_reads = record {
       let plain : eqb (48 + n / 100 / 10) 45 ≡ false = grind (arith, nat_tests) in
       rw (is, value, plain, four_at_digits n rest h) refl
   year_complete front y rest n h (inr (is, value)) = rw (is, value, four_at_digits n rest h) refl
+
+-- a name that was found is the name of a number in the range
+find_some : (name : ℕ → List ℕ) (front : List ℕ) (n m k : ℕ) → find_name name front n m ≡ Some k → (m ≤ k) × (k < m + n) × (name k ≡ front)
+unfolding find_name
+find_some name front zero m k e = cc
+find_some name front (suc n) m k e = by_test (find_some name front n (m + 1) k) (bytes_eq (name m) front) refl e
+  where
+  by_test : (find_name name front n (m + 1) ≡ Some k → (m + 1 ≤ k) × (k < m + 1 + n) × (name k ≡ front)) → (b : Bool) → bytes_eq (name m) front ≡ b → cond b (Some m) (find_name name front n (m + 1)) ≡ Some k → (m ≤ k) × (k < m + suc n) × (name k ≡ front)
+  by_test next true t e =
+      let same : m ≡ k = ap (λ (o : Option ℕ). unwrap_or o m) e in
+      (omega arith, omega arith, ap name (sym same) ∙ (bytes_eq-Decides (name m) front).0 t)
+  by_test next false t e = let later = next e in (omega arith, omega arith, later.2)
+
+short_name_sound : (name : ℕ → List ℕ) (count m : ℕ) (text : List ℕ) (k : ℕ) (rest : List ℕ) → short_name_at name count m text ≡ Some (k, rest) → (text ≡ name k ++ rest) × (m ≤ k) × (k < m + count)
+unfolding short_name_at
+short_name_sound name count m [] k rest e = cc
+short_name_sound name count m (a ∷ []) k rest e = cc
+short_name_sound name count m (a ∷ b ∷ []) k rest e = cc
+short_name_sound name count m (a ∷ b ∷ c ∷ cs) k rest e =
+    let (j, ej, e1) = map_some (find_name name (a ∷ b ∷ c ∷ []) count m) _ _ e in
+    let found = find_some name (a ∷ b ∷ c ∷ []) count m j ej in
+    let pair = some_pair j k cs rest (Some (j, cs)) (Some (k, rest)) refl refl (ap Some e1) in
+    (ap (λ t. t ++ cs) (sym found.2) ∙ ap (λ i. name i ++ cs) pair.0 ∙ ap (λ t. name k ++ t) pair.1, omega (arith, pair.0), omega (arith, pair.0))
+
+short_month_here : (m : ℕ) (rest : List ℕ) → 1 ≤ m → m ≤ 12 → short_month_at (short_month_name m ++ rest) ≡ Some (m, rest)
+unfolding short_name_at find_name short_month_name month_name
+short_month_here zero rest l h = absurd (omega arith)
+short_month_here (suc zero) rest l h = refl
+short_month_here (suc (suc zero)) rest l h = refl
+short_month_here (suc (suc (suc zero))) rest l h = refl
+short_month_here (suc (suc (suc (suc zero)))) rest l h = refl
+short_month_here (suc (suc (suc (suc (suc zero))))) rest l h = refl
+short_month_here (suc (suc (suc (suc (suc (suc zero)))))) rest l h = refl
+short_month_here (suc (suc (suc (suc (suc (suc (suc zero))))))) rest l h = refl
+short_month_here (suc (suc (suc (suc (suc (suc (suc (suc zero)))))))) rest l h = refl
+short_month_here (suc (suc (suc (suc (suc (suc (suc (suc (suc zero))))))))) rest l h = refl
+short_month_here (suc (suc (suc (suc (suc (suc (suc (suc (suc (suc zero)))))))))) rest l h = refl
+short_month_here (suc (suc (suc (suc (suc (suc (suc (suc (suc (suc (suc zero))))))))))) rest l h = refl
+short_month_here (suc (suc (suc (suc (suc (suc (suc (suc (suc (suc (suc (suc zero)))))))))))) rest l h = refl
+short_month_here (suc (suc (suc (suc (suc (suc (suc (suc (suc (suc (suc (suc (suc m))))))))))))) rest l h = absurd (omega arith)
+
+month_here : (m : ℕ) (rest : List ℕ) → 1 ≤ m → m ≤ 12 → month_at (month_name m ++ rest) ≡ Some (m, rest)
+unfolding month_at behind_text short_name_at find_name short_month_name month_name
+month_here zero rest l h = absurd (omega arith)
+month_here (suc zero) rest l h = refl
+month_here (suc (suc zero)) rest l h = refl
+month_here (suc (suc (suc zero))) rest l h = refl
+month_here (suc (suc (suc (suc zero)))) rest l h = refl
+month_here (suc (suc (suc (suc (suc zero))))) rest l h = refl
+month_here (suc (suc (suc (suc (suc (suc zero)))))) rest l h = refl
+month_here (suc (suc (suc (suc (suc (suc (suc zero))))))) rest l h = refl
+month_here (suc (suc (suc (suc (suc (suc (suc (suc zero)))))))) rest l h = refl
+month_here (suc (suc (suc (suc (suc (suc (suc (suc (suc zero))))))))) rest l h = refl
+month_here (suc (suc (suc (suc (suc (suc (suc (suc (suc (suc zero)))))))))) rest l h = refl
+month_here (suc (suc (suc (suc (suc (suc (suc (suc (suc (suc (suc zero))))))))))) rest l h = refl
+month_here (suc (suc (suc (suc (suc (suc (suc (suc (suc (suc (suc (suc zero)))))))))))) rest l h = refl
+month_here (suc (suc (suc (suc (suc (suc (suc (suc (suc (suc (suc (suc (suc m))))))))))))) rest l h = absurd (omega arith)
+
+weekday_here : (w : ℕ) (rest : List ℕ) → w < 7 → weekday_at (short_weekday_name w ++ rest) ≡ Some (w, rest)
+unfolding short_name_at find_name short_weekday_name weekday_name
+weekday_here zero rest h = refl
+weekday_here (suc zero) rest h = refl
+weekday_here (suc (suc zero)) rest h = refl
+weekday_here (suc (suc (suc zero))) rest h = refl
+weekday_here (suc (suc (suc (suc zero)))) rest h = refl
+weekday_here (suc (suc (suc (suc (suc zero))))) rest h = refl
+weekday_here (suc (suc (suc (suc (suc (suc zero)))))) rest h = refl
+weekday_here (suc (suc (suc (suc (suc (suc (suc w))))))) rest h = absurd (omega arith)
+
+pub short_month_reads : Reads (month_form short_month_name) short_month_at
+short_month_reads = record {
+  sound = λ text m rest e. let s = short_name_sound short_month_name 12 1 text m rest e in (short_month_name m, s.0, ((s.1, omega (arith, s.2)), refl));
+  complete = λ front m rest f ends. rw f.1 (short_month_here m rest f.0.0 f.0.1);
+}
+
+pub weekday_reads : Reads weekday_form weekday_at
+weekday_reads = record {
+  sound = λ text w rest e. let s = short_name_sound short_weekday_name 7 0 text w rest e in (short_weekday_name w, s.0, (omega (arith, s.2), refl));
+  complete = λ front w rest f ends. rw f.1 (weekday_here w rest f.0);
+}
+
+behind_text_is : (text all rest : List ℕ) → behind_text text all ≡ Some rest → all ≡ text ++ rest
+unfolding behind_text
+behind_text_is text all rest e = by_test (bytes_eq (take (length text) all) text) refl e
+  where
+  by_test : (b : Bool) → bytes_eq (take (length text) all) text ≡ b → cond b (Some (drop (length text) all)) None ≡ Some rest → all ≡ text ++ rest
+  by_test false t e = cc
+  by_test true t e =
+      let same : drop (length text) all ≡ rest = ap (λ (o : Option (List ℕ)). unwrap_or o rest) e in
+      sym (take-append-drop (length text) all) ∙ ap (λ u. u ++ drop (length text) all) ((bytes_eq-Decides (take (length text) all) text).0 t) ∙ ap (λ u. text ++ u) same
+
+month_sound : (text : List ℕ) (m : ℕ) (rest : List ℕ) → month_at text ≡ Some (m, rest) → (text ≡ month_name m ++ rest) × (1 ≤ m) × (m < 13)
+unfolding month_at short_month_name
+month_sound text m rest e =
+    let (x, ex, e1) = bind_some (short_month_at text) _ _ e in
+    let (more, em, e2) = bind_some (behind_text (drop 3 (month_name x.0)) x.1) _ _ e1 in
+    let pair = some_pair x.0 m more rest (Some (x.0, more)) (Some (m, rest)) refl refl e2 in
+    let s = short_name_sound short_month_name 12 1 text x.0 x.1 ex in
+    let tail = behind_text_is (drop 3 (month_name x.0)) x.1 more em in
+    let name : take 3 (month_name x.0) ++ drop 3 (month_name x.0) ≡ month_name x.0 = take-append-drop 3 (month_name x.0) in (
+      s.0 ∙ ap (λ t. take 3 (month_name x.0) ++ t) tail ∙ sym (append_assoc (take 3 (month_name x.0)) (drop 3 (month_name x.0)) more)
+      ∙ ap (λ t. t ++ more) name ∙ ap (λ i. month_name i ++ more) pair.0 ∙ ap (λ t. month_name m ++ t) pair.1,
+      omega (arith, pair.0, s.1),
+      omega (arith, pair.0, s.2),
+    )
+
+pub month_reads : Reads (month_form month_name) month_at
+month_reads = record {
+  sound = λ text m rest e. let s = month_sound text m rest e in (month_name m, s.0, ((s.1, omega (arith, s.2)), refl));
+  complete = λ front m rest f ends. rw f.1 (month_here m rest f.0.0 f.0.1);
+}
+
+-- the forms of a date, and the clock
+pub dashed_reads : Reads dashed dashed_at
+unfolding dashed_at
+dashed_reads =
+    let two = two_reads 100 (omega arith) in
+    joined_reads year_form year_at 45 (joined (two_below 100) 45 (two_below 100)) (joined_at (two_at 100) 45 (two_at 100)) year_reads
+    (joined_reads (two_below 100) (two_at 100) 45 (two_below 100) (two_at 100) two two refl) refl
+
+pub long_reads : Reads (day_month month_name) long_at
+unfolding long_at
+long_reads =
+    let two = two_reads 100 (omega arith) in
+    joined_reads (two_below 100) (two_at 100) 32 (joined (month_form month_name) 32 year_form) (joined_at month_at 32 year_at) two
+    (joined_reads (month_form month_name) month_at 32 year_form year_at month_reads year_reads refl) refl
+
+pub short_reads : Reads (day_month short_month_name) short_at
+unfolding short_at
+short_reads =
+    let two = two_reads 100 (omega arith) in
+    joined_reads (two_below 100) (two_at 100) 32 (joined (month_form short_month_name) 32 year_form) (joined_at short_month_at 32 year_at) two
+    (joined_reads (month_form short_month_name) short_month_at 32 year_form year_at short_month_reads year_reads refl) refl
+
+pub slashed_reads : Reads slashed slashed_at
+unfolding slashed_at
+slashed_reads =
+    let two = two_reads 100 (omega arith) in
+    joined_reads (two_below 100) (two_at 100) 47 (joined (two_below 100) 47 year_form) (joined_at (two_at 100) 47 year_at) two
+    (joined_reads (two_below 100) (two_at 100) 47 year_form year_at two year_reads refl) refl
+
+pub clock_reads : Reads clock clock_at
+unfolding clock_at
+clock_reads =
+    let hour = two_reads 24 (omega arith) in
+    let sixty = two_reads 60 (omega arith) in
+    joined_reads (two_below 24) (two_at 24) 58 (joined (two_below 60) 58 (two_below 60)) (joined_at (two_at 60) 58 (two_at 60)) hour
+    (joined_reads (two_below 60) (two_at 60) 58 (two_below 60) (two_at 60) sixty sixty refl) refl

@@ -11,3 +11,4 @@ pub mod FrontLemmas
 pub mod FormatLemmas
 pub mod ReaderLemmas
 pub mod DateTextLemmas
+pub mod WholeLemmas

@@ -2,6 +2,7 @@
 use Rattle.std.specs.Prelude.{◌≡◌, ℕ, zero, suc, ◌+◌, ◌-◌, ◌*◌, ◌^◌, Bool, ◌&&◌, ◌==◌, nat_lt, if◌then◌else◌, ℤ, pos, neg_ℤ, List, [], ◌∷◌, take, drop, length, Option, Some, None, option_map, option_and_then}
 use Rattle.std.specs.Borrow.{Bor}
 use Rattle.std.specs.Str.{bytes_eq}
+use Rattle.jiff_core.specs.declared.civil.date.Date.{Date as CivilDate}
 use Rattle.liquid_dates.specs.declared.reading.Ymd.{Ymd}
 use Rattle.liquid_dates.specs.Flags.{is_digit, digits_number}
 use Rattle.liquid_dates.specs.Names.{month_name, short_month_name, short_weekday_name}
@@ -111,3 +112,9 @@ by_day p = ((p.0.day, (p.0.month, p.0.year)), p.1)
 
 abbrev pub by_month : Ymd × List ℕ → (ℕ × (ℕ × ℤ)) × List ℕ
 by_month p = ((p.0.month, (p.0.day, p.0.year)), p.1)
+
+-- the whole text was read as the parts of the date
+abbrev pub IsWholeDate : Option (Ymd × Bor (List ℕ)) → CivilDate → Type 0
+IsWholeDate None d = ⊥
+IsWholeDate (Some (ymd, rest)) d =
+    (rest.now ≡ []) × (ymd.year ≡ d.year) × (ymd.month ≡ d.month) × (ymd.day ≡ d.day)

@@ -3,6 +3,7 @@
 
 mod composites;
 mod date;
+mod date_text;
 mod date_time;
 mod directive;
 mod directive_text;
