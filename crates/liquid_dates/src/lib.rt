@@ -17,6 +17,7 @@ mod offset_text;
 mod pattern;
 mod printed;
 mod reading;
+mod stamps;
 mod writing;
 
 pub use date::Date;
