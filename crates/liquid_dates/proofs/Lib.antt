@@ -12,3 +12,4 @@ pub mod FormatLemmas
 pub mod ReaderLemmas
 pub mod DateTextLemmas
 pub mod WholeLemmas
+pub mod TimedLemmas

@@ -1,8 +1,10 @@
 -- Readers of date texts. They are a bridge between the code and the forms of `DateText`: what they read is proved to be what those forms relate.
-use Rattle.std.specs.Prelude.{◌≡◌, ℕ, zero, suc, ◌+◌, ◌-◌, ◌*◌, ◌^◌, Bool, ◌&&◌, ◌==◌, nat_lt, if◌then◌else◌, ℤ, pos, neg_ℤ, List, [], ◌∷◌, take, drop, length, Option, Some, None, option_map, option_and_then}
+use Rattle.std.specs.Prelude.{true, false, ◌≡◌, ℕ, zero, suc, ◌+◌, ◌-◌, ◌*◌, ◌^◌, Bool, ◌&&◌, ◌==◌, nat_lt, if◌then◌else◌, ℤ, pos, neg_ℤ, List, [], ◌∷◌, take, drop, length, Option, Some, None, option_map, option_and_then}
 use Rattle.std.specs.Borrow.{Bor}
 use Rattle.std.specs.Str.{bytes_eq}
 use Rattle.jiff_core.specs.declared.civil.date.Date.{Date as CivilDate}
+use Rattle.liquid_dates.specs.declared.date_time.DateTime.{DateTime}
+use Rattle.liquid_dates.specs.Instant.{civil_date, civil_time, nanosecond, offset_seconds}
 use Rattle.liquid_dates.specs.declared.reading.Ymd.{Ymd}
 use Rattle.liquid_dates.specs.declared.stamps.Clock.{Clock}
 use Rattle.liquid_dates.specs.declared.stamps.Stamp.{Stamp}
@@ -206,3 +208,27 @@ stamp_by_month p = (((p.0.date.month, (p.0.date.day, p.0.date.year)), stamp_cloc
 abbrev pub stamp_by_weekday : (ℕ × Stamp) × List ℕ → (ℕ × (ℕ × (ℕ × ((ℕ × (ℕ × ℕ)) × ℤ)))) × List ℕ
 stamp_by_weekday p =
     ((p.0.0, (p.0.1.date.month, (p.0.1.date.day, (stamp_clock p.0.1, p.0.1.date.year)))), p.1)
+
+-- an offset behind a space
+abbrev pub space_offset : List ℕ → Read ℤ
+space_offset text = option_and_then offset_at (after_byte 32 text)
+
+-- the offset of what is left behind a date with a time: given there, or 0 where nothing is left
+abbrev pub offset_end : Bool → List ℕ → Option ℤ
+offset_end true rest = whole_of (space_offset rest)
+offset_end false [] = Some (pos 0)
+offset_end false (c ∷ cs) = None
+
+-- the parts of a stamp are those of the date time
+abbrev pub HasStamp : Stamp → DateTime → Type 0
+HasStamp s dt =
+    (s.date.year ≡ (civil_date dt).year) × (s.date.month ≡ (civil_date dt).month) × (s.date.day ≡ (civil_date dt).day)
+    × (s.clock.hour ≡ (civil_time dt).hour) × (s.clock.minute ≡ (civil_time dt).minute) × (s.clock.second ≡ (civil_time dt).second)
+    × (s.nanosecond ≡ nanosecond dt)
+
+-- the whole text was read as the parts of the date time
+abbrev pub IsStamped : Bool → Option (Stamp × Bor (List ℕ)) → DateTime → Type 0
+IsStamped given None dt = ⊥
+IsStamped given (Some (s, rest)) dt =
+    (offset_end given rest.now ≡ Some (offset_seconds dt)) × HasStamp s dt
+

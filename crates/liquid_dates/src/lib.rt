@@ -5,6 +5,7 @@ mod composites;
 mod date;
 mod date_text;
 mod date_time;
+mod date_time_text;
 mod directive;
 mod directive_text;
 mod error;

@@ -114,6 +114,7 @@ fn one_digit_at(text: &[u8]) -> Option<(u8, &[u8])>
 #[tactic(auto, unfolding(crate::specs::DateReader::timed_dashed_at))]
 pub(crate) fn timed_dashed_at(text: &[u8]) -> Option<(Stamp, &[u8])>
     ensures value { option_map stamp_by_year (read_of result) ≡ Reader.timed_dashed_at text.now }
+    ensures whole { IfSome result (λ p. p.0.nanosecond ≡ 0) }
 {
     let (date, rest) = dashed_at(text)?;
     let rest = after_byte(b' ', rest)?;
@@ -137,6 +138,7 @@ fn whole_second(date: Ymd, clock: Clock) -> Stamp
 #[tactic(auto, unfolding(crate::specs::DateReader::timed_long_at))]
 pub(crate) fn timed_long_at(text: &[u8]) -> Option<(Stamp, &[u8])>
     ensures value { option_map stamp_by_day (read_of result) ≡ Reader.timed_long_at text.now }
+    ensures whole { IfSome result (λ p. p.0.nanosecond ≡ 0) }
 {
     let (date, rest) = long_at(text)?;
     let rest = after_byte(b' ', rest)?;
@@ -148,6 +150,7 @@ pub(crate) fn timed_long_at(text: &[u8]) -> Option<(Stamp, &[u8])>
 #[tactic(auto, unfolding(crate::specs::DateReader::timed_short_at))]
 pub(crate) fn timed_short_at(text: &[u8]) -> Option<(Stamp, &[u8])>
     ensures value { option_map stamp_by_day (read_of result) ≡ Reader.timed_short_at text.now }
+    ensures whole { IfSome result (λ p. p.0.nanosecond ≡ 0) }
 {
     let (date, rest) = short_at(text)?;
     let rest = after_byte(b' ', rest)?;
@@ -159,6 +162,7 @@ pub(crate) fn timed_short_at(text: &[u8]) -> Option<(Stamp, &[u8])>
 #[tactic(auto, unfolding(crate::specs::DateReader::timed_slashed_at))]
 pub(crate) fn timed_slashed_at(text: &[u8]) -> Option<(Stamp, &[u8])>
     ensures value { option_map stamp_by_month (read_of result) ≡ Reader.timed_slashed_at text.now }
+    ensures whole { IfSome result (λ p. p.0.nanosecond ≡ 0) }
 {
     let (date, rest) = slashed_at(text)?;
     let rest = after_byte(b' ', rest)?;
@@ -190,6 +194,7 @@ pub(crate) fn timed_fraction_at(text: &[u8]) -> Option<(Stamp, &[u8])>
 pub(crate) fn timed_weekday_at(text: &[u8]) -> Option<((u8, Stamp), &[u8])>
     ensures value { option_map stamp_by_weekday (read_of result)
         ≡ Reader.timed_weekday_at text.now }
+    ensures whole { IfSome result (λ p. p.0.1.nanosecond ≡ 0) }
 {
     let (weekday, rest) = weekday_at(text)?;
     let rest = after_byte(b' ', rest)?;
