@@ -13,3 +13,4 @@ pub mod ReaderLemmas
 pub mod DateTextLemmas
 pub mod WholeLemmas
 pub mod TimedLemmas
+pub mod DateTimeForms

@@ -213,6 +213,9 @@ append_cancel (x ∷ xs) (u ∷ us) ys vs e l =
     let more = append_cancel xs us ys vs rest l in
     (rw (first, more.0) refl, more.1)
 
+signs_apart : (a b : ℕ) → a ≡ b → a ≡ 43 → b ≡ 45 → ⊥
+signs_apart a b e f g = omega arith
+
 -- the offset that is put behind a text is 0
 zero_offset : (z : ℤ) → offset_form (codes "+0000") z → z ≡ pos 0
 zero_offset z (h, m, a, b, inl (is, value)) =
@@ -223,7 +226,7 @@ zero_offset z (h, m, a, b, inl (is, value)) =
     let none : h * 3600 + m * 60 ≡ 0 = omega arith in
     value ∙ ap pos none
 zero_offset z (h, m, a, b, inr (is, value)) =
-    let sign : 43 ≡ 45 = ap (λ (t : List ℕ). get_or t 0 0) is in absurd (omega arith)
+    absurd (signs_apart 43 45 (ap (λ (t : List ℕ). get_or t 0 0) is) refl refl)
 
 -- a stamp and its offset are the joined form of the text, with its offset or the one put behind it
 pub stamped_found : {A : Type 0} (F : List ℕ → A → Type 0) (r : List ℕ → Read A) → Reads F r → (given : Bool) (text : List ℕ) (a : A) (rest : List ℕ) (z : ℤ) → r text ≡ Some (a, rest) → offset_end given rest ≡ Some z → joined F 32 offset_form (with_given_offset given text) (a, z)
@@ -264,3 +267,10 @@ stamped_whole F r reads false text a z (s, u, is, f, o) =
   length_offset : (u : List ℕ) (z : ℤ) → offset_form u z → length u ≡ 5
   length_offset u z (h, m, a, b, inl (is, value)) = ap length is
   length_offset u z (h, m, a, b, inr (is, value)) = ap length is
+
+-- a text has one value of a form with an offset
+pub joined_once : {A : Type 0} (F : List ℕ → A → Type 0) (r : List ℕ → Read A) → Reads F r → (text : List ℕ) (a b : A) (y z : ℤ) → joined F 32 offset_form text (a, y) → joined F 32 offset_form text (b, z) → (a ≡ b) × (y ≡ z)
+joined_once {A = A} F r reads text a b y z h k =
+    let both = joined_reads F r 32 offset_form offset_at reads offset_reads refl in
+    let e = sym (whole_complete (joined F 32 offset_form) (joined_at r 32 offset_at) both text (a, y) h) ∙ whole_complete (joined F 32 offset_form) (joined_at r 32 offset_at) both text (b, z) k in
+    (ap (λ (o : Option (A × ℤ)). (unwrap_or o (a, y)).0) e, ap (λ (o : Option (A × ℤ)). (unwrap_or o (a, y)).1) e)

@@ -159,10 +159,12 @@ weekday_date_time text dt =
     (w : ℕ) × joined timed_weekday 32 offset_form text ((w, ((civil_date dt).month, ((civil_date dt).day, (hms dt.local, (civil_date dt).year)))), offset_seconds dt)
     × (nanosecond dt ≡ 0)
 
+-- the forms that begin with a day, a month or a weekday
+abbrev pub day_forms : Form DateTime
+day_forms = first long_date_time (first short_date_time (first slashed_date_time weekday_date_time))
+
 abbrev pub date_time_forms : Form DateTime
-date_time_forms =
-    first dashed_date_time (first fraction_date_time (first long_date_time (first short_date_time
-    (first slashed_date_time weekday_date_time))))
+date_time_forms = first dashed_date_time (first fraction_date_time day_forms)
 
 -- a sign, `0` or `1`, and three digits
 abbrev pub is_offset_end : List ℕ → Bool
