@@ -14,3 +14,4 @@ pub mod DateTextLemmas
 pub mod WholeLemmas
 pub mod TimedLemmas
 pub mod DateTimeForms
+pub mod UnixTimeLemmas

@@ -1,4 +1,6 @@
 ghost use Rattle.std.specs.Prelude.{◌≡◌, ℤ, IfSome, IfNone, IsSomeAnd, IsTrue, ◌↔◌, option_map};
+ghost use Rattle.jiff_core.specs.Calendar.{IsWithin};
+ghost use Rattle.jiff_core.specs.Timestamp.{nanos_of_seconds};
 ghost use Rattle.liquid_dates.specs.declared.date_time.DateTime.{DateTime};
 ghost use Rattle.liquid_dates.specs.DateReader.{offset_end, HasStamp, IsStamped, whole_of, without_weekday};
 ghost use Rattle.liquid_dates.specs.DateReader as Reader;
@@ -167,7 +169,7 @@ fn weekday_date_time(given: bool, text: &[u8]) -> Option<DateTime>
 }
 
 fn forget_weekday(read: Option<((u8, Stamp), &[u8])>) -> Option<(Stamp, &[u8])>
-    ensures { result.exit ≡ option_map without_weekday read.entry }
+    ensures { result ≡ option_map without_weekday read.entry }
 {
     match read {
         Some(((_, stamp), rest)) => Some((stamp, rest)),
@@ -221,10 +223,18 @@ fn at_unix_seconds(seconds: i64) -> Option<DateTime>
     ensures found { IfSome result (λ dt. IsUnixTime seconds dt) }
     ensures none { IfNone result ((dt : DateTime) → ¬ (IsUnixTime seconds dt)) }
 {
-    match DateTime::now(i128::from(seconds) * 1_000_000_000) {
+    let nanoseconds = in_nanoseconds(seconds);
+    match DateTime::now(nanoseconds) {
         Ok(date_time) => Some(date_time),
         Err(_) => None,
     }
+}
+
+fn in_nanoseconds(seconds: i64) -> i128
+    ensures value { result ≡ nanos_of_seconds seconds }
+    ensures bound { IsWithin 10_000_000_000_000_000_000_000_000_000 result }
+{
+    i128::from(seconds) * 1_000_000_000
 }
 
 impl DateTime {
