@@ -19,6 +19,8 @@ mod pattern;
 mod printed;
 mod reading;
 mod stamps;
+#[cfg(test)]
+mod tests;
 mod writing;
 
 pub use date::Date;
