@@ -1,5 +1,5 @@
 -- Printing item by item is printing the reading.
-use Rattle.std.proofs.Common.{◌≡◌, ℕ, ◌<◌, ◌≤◌, List, [], ◌∷◌, ◌++◌, length, refl, sym, ap, ◌∙◌, arith, Option, Some, None, Result, Ok, Err, append_assoc, append-nil}
+use Rattle.std.proofs.Common.{◌≡◌, ℕ, ◌<◌, List, [], ◌∷◌, ◌++◌, length, refl, sym, ap, ◌∙◌, Option, Some, None, Result, Ok, Err, append_assoc, append-nil}
 use Rattle.std.specs.Prelude.{encode_utf8_all}
 use Rattle.std.specs.Str.{chars, IsUtf8}
 use Rattle.std.specs.Borrow.{Bor}
@@ -10,7 +10,7 @@ use Rattle.liquid_dates.specs.declared.error.DateFormatError.{DateFormatError}
 use Rattle.liquid_dates.specs.declared.error.DateFormatError.TheVariants.{NoFormatSpecifier, NoFormatSpecifierAfterModifier, InvalidWidth, Memory}
 use Rattle.liquid_dates.specs.Flags.{flags_of, width_of}
 use Rattle.liquid_dates.specs.Letters.{directive_of}
-use Rattle.liquid_dates.specs.Pattern.{Item, literal, directive, spelling, IsItem, IsFront, IsReading, IsRefused, item_print, directive_print, print, answer_of, FormatsTo}
+use Rattle.liquid_dates.specs.Pattern.{Item, literal, directive, spelling, IsItem, IsFront, IsRefused, item_print, directive_print, print, answer_of, FormatsTo}
 use Rattle.liquid_dates.specs.PatternReader.{Read, directive_at, item_at, IsReadAs, IsPrinted, HasRest, OnRefusal, conversion_of, conversion_print}
 use Rattle.liquid_dates.proofs.PatternLemmas.{Describes, directive_describes, item_describes, front_more, one_reading, shorter}
 

@@ -1,13 +1,13 @@
 -- The reader reads what the relation of patterns says, and nothing else.
-use Rattle.std.proofs.Common.{◌≡◌, ◌≢◌, ◌⊎◌, inl, inr, ℕ, zero, suc, ◌+◌, ◌^◌, ◌<◌, ◌≤◌, Bool, true, false, cond, ◌&&◌, List, [], ◌∷◌, ◌++◌, length, refl, sym, ap, ◌∙◌, arith, eqb, Option, Some, None, Result, Ok, Err, nat_lt, lt-ltb, append_assoc, length-append, eq-eqb, ne_eqb, subst, append-nil}
+use Rattle.std.proofs.Common.{◌≡◌, ◌≢◌, ◌⊎◌, inl, inr, ℕ, zero, suc, ◌^◌, ◌<◌, ◌≤◌, Bool, true, false, cond, ◌&&◌, List, [], ◌∷◌, ◌++◌, length, refl, sym, ap, ◌∙◌, arith, eqb, Option, Some, None, Ok, Err, nat_lt, append_assoc, length-append, ne_eqb, subst, append-nil}
 use Rattle.std.specs.List.{list_all}
 use Rattle.std.proofs.lemmas.Bool.{eqb-true, ltb-true}
 use Rattle.std.proofs.lemmas.Bool.Decides.{nat_tests}
 use Rattle.liquid_dates.specs.declared.error.DateFormatError.{DateFormatError}
 use Rattle.liquid_dates.specs.declared.error.DateFormatError.TheVariants.{NoFormatSpecifier, NoFormatSpecifierAfterModifier, InvalidWidth, Memory}
 use Rattle.liquid_dates.specs.Flags.{is_flag, is_digit, digits_number, is_modifier}
-use Rattle.liquid_dates.specs.Pattern.{Item, literal, directive, spelling, begins, IsRun, IsModifier, IsLetter, IsDirective, IsItem, EndsBehindWidth, EndsBehindModifier, HasGreatWidth, IsRefused, IsEnd, IsFront, IsReading}
-use Rattle.liquid_dates.specs.PatternReader.{front, behind, after_second_colon, behind_second_colon, after_colon, behind_colon, letter_front, letter_behind, Read, letter_at, behind_modifier, modifier_at, behind_width, behind_flags, directive_at, item_at}
+use Rattle.liquid_dates.specs.Pattern.{Item, literal, directive, spelling, begins, IsRun, IsModifier, IsLetter, IsDirective, IsItem, IsRefused, IsFront, IsReading}
+use Rattle.liquid_dates.specs.PatternReader.{front, behind, after_second_colon, behind_second_colon, after_colon, behind_colon, letter_front, letter_behind, Read, letter_at, behind_modifier, modifier_at, behind_width, directive_at, item_at}
 use Rattle.liquid_dates.proofs.PatternReaderLemmas.{behind_width_fits, behind_width_great}
 
 -- the front and what is behind it are the text

@@ -1,5 +1,5 @@
 -- Names found one by one.
-use Rattle.std.proofs.Common.{◌≡◌, ℕ, zero, suc, ◌+◌, ◌-◌, ◌<◌, ◌≤◌, Bool, true, false, List, refl, arith, ap, ◌∙◌, Option, Some, None}
+use Rattle.std.proofs.Common.{◌≡◌, ℕ, suc, ◌+◌, ◌-◌, ◌<◌, ◌≤◌, true, false, List, refl, arith, ◌∙◌, Some, None}
 use Rattle.std.specs.Str.{bytes_eq}
 use Rattle.liquid_dates.specs.DateReader.{find_name}
 

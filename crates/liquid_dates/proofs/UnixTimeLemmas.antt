@@ -1,18 +1,14 @@
 -- Whole seconds since 1970, and the cases of a date time's text.
-use Rattle.std.proofs.Common.{◌≡◌, ◌≢◌, ◌⊎◌, inl, inr, ℕ, ◌<◌, List, [], ◌∷◌, length, refl, sym, ap, ◌∙◌, arith, true, false, nat_eq, Option, Some, None, ℤ, pos, ◌*ℤ◌, ◌-ℤ◌, IfSome, IfNone, IsSomeAnd, Result, Ok, Err}
-use Rattle.std.specs.Prelude.{IsTrue, ◌↔◌, codes}
-use Rattle.std.specs.Int.{w64}
-use Rattle.std.specs.Str.Parse.{ParsesSigned}
+use Rattle.std.proofs.Common.{◌≡◌, ◌≢◌, inl, inr, ℕ, List, [], ◌∷◌, length, refl, sym, ◌∙◌, arith, false, nat_eq, Option, Some, None, ℤ, pos, IfSome, IfNone, IsSomeAnd}
+use Rattle.std.specs.Prelude.{IsTrue, ◌↔◌}
 use Rattle.jiff_core.specs.DateTime.{civil_nanos, IsCivilNanos}
-use Rattle.jiff_core.specs.Date.{epoch_day}
-use Rattle.jiff_core.specs.Time.{time_nanos}
 use Rattle.jiff_core.specs.Timestamp.{nanos_of_seconds}
 use Rattle.jiff_core.proofs.SignedLemmas.{signed_arith}
 use Rattle.jiff_core.proofs.DateTimeLemmas.{civil_nanos_range, civil_nanos_injective, time_nanos_injective}
 use Rattle.jiff_core.proofs.DateLemmas.{epoch_day_injective}
 use Rattle.liquid_dates.specs.declared.date_time.DateTime.{DateTime}
-use Rattle.liquid_dates.specs.Instant.{instant, unix_seconds, nanosecond, offset_seconds, civil_date, civil_time}
-use Rattle.liquid_dates.specs.DateText.{hms, IsNow, IsWholeNumber, IsUnixTime, IsDateTimeText, SameDate, SameDateTime, date_time_forms, ends_in_offset, with_given_offset}
+use Rattle.liquid_dates.specs.Instant.{instant, offset_seconds, civil_date, civil_time}
+use Rattle.liquid_dates.specs.DateText.{IsNow, IsWholeNumber, IsUnixTime, IsDateTimeText, SameDateTime, date_time_forms, ends_in_offset, with_given_offset}
 use Rattle.liquid_dates.proofs.InstantLemmas.{instant_is}
 use Rattle.liquid_dates.proofs.DateTimeForms.{date_time_once}
 

@@ -1,12 +1,12 @@
 -- Whole texts that are dates.
-use Rattle.std.proofs.Common.{◌≡◌, ◌⊎◌, inl, inr, ℕ, List, [], ◌∷◌, refl, sym, ap, ◌∙◌, Option, Some, None, option_map, ℤ, subst, unwrap_or, IfSome, IfNone, IsSomeAnd}
+use Rattle.std.proofs.Common.{◌≡◌, inl, inr, ℕ, List, [], ◌∷◌, refl, sym, ap, ◌∙◌, Option, Some, None, option_map, ℤ, unwrap_or, IfSome, IfNone, IsSomeAnd}
 use Rattle.std.specs.Borrow.{Bor}
 use Rattle.jiff_core.specs.declared.civil.date.Date.{Date as CivilDate}
 use Rattle.liquid_dates.specs.declared.reading.Ymd.{Ymd}
 use Rattle.liquid_dates.specs.Names.{month_name, short_month_name}
-use Rattle.liquid_dates.specs.DateText.{dashed, day_month, slashed, dashed_date, long_date, short_date, date_forms, SameDate}
-use Rattle.liquid_dates.specs.DateReader.{Read, read_of, whole_of, by_day, by_year, by_month, long_at, short_at, dashed_at, IsWholeDate}
-use Rattle.liquid_dates.proofs.DateTextLemmas.{Reads, whole_sound, whole_complete, long_reads, short_reads, dashed_reads}
+use Rattle.liquid_dates.specs.DateText.{dashed, day_month, dashed_date, long_date, short_date, date_forms, SameDate}
+use Rattle.liquid_dates.specs.DateReader.{Read, read_of, whole_of, by_day, by_year, long_at, short_at, dashed_at, IsWholeDate}
+use Rattle.liquid_dates.proofs.DateTextLemmas.{whole_sound, whole_complete, long_reads, short_reads, dashed_reads}
 
 pub whole_some : {A : Type 0} (a v : A) (rest : List ℕ) → whole_of (Some (a, rest)) ≡ Some v → (rest ≡ []) × (a ≡ v)
 whole_some a v [] e = (refl, ap (λ o. unwrap_or o a) e)

@@ -8,7 +8,7 @@ use Rattle.liquid_dates.specs.Instant.{civil_date, civil_time, nanosecond, offse
 use Rattle.liquid_dates.specs.declared.reading.Ymd.{Ymd}
 use Rattle.liquid_dates.specs.declared.stamps.Clock.{Clock}
 use Rattle.liquid_dates.specs.declared.stamps.Stamp.{Stamp}
-use Rattle.liquid_dates.specs.Flags.{is_digit, digits_number}
+use Rattle.liquid_dates.specs.Flags.{is_digit}
 use Rattle.liquid_dates.specs.Names.{month_name, short_month_name, short_weekday_name}
 
 -- a value, and what is behind it

@@ -1,4 +1,3 @@
-use Rattle.std.proofs.Common.{sym}
 use Rattle.liquid_dates.proofs.WholeLemmas.{found_weaker, none_weaker}
 use Rattle.liquid_dates.proofs.DateTimeForms.{weekday_found, weekday_whole}
 use Rattle.liquid_dates.proofs.date_time_text.weekday_date_time.Goals as goal

@@ -1,4 +1,4 @@
-use Rattle.std.proofs.Common.{◌≡◌, ◌∙◌}
+use Rattle.std.proofs.Common.{◌∙◌}
 use Rattle.liquid_dates.proofs.FrontLemmas.{bytes_split, rest_shorter, front_taken, front_boundary}
 use Rattle.liquid_dates.proofs.format.front_of.Goals as goal
 

@@ -1,4 +1,4 @@
-use Rattle.std.proofs.Common.{◌≡◌, ◌∙◌, sym}
+use Rattle.std.proofs.Common.{◌∙◌}
 use Rattle.std.specs.Str.{chars}
 use Rattle.liquid_dates.proofs.FormatLemmas.{spelled, directive_printed}
 use Rattle.liquid_dates.proofs.format.write_directive_at.Goals as goal

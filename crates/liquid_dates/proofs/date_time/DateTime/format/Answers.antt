@@ -1,4 +1,4 @@
-use Rattle.std.proofs.Common.{◌≡◌, ◌∙◌, [], refl, sym}
+use Rattle.std.proofs.Common.{[], refl}
 use Rattle.std.specs.Str.{chars}
 use Rattle.liquid_dates.specs.Pattern.{IsFront, print}
 use Rattle.liquid_dates.proofs.FormatLemmas.{printed_item, printed_more, printed_shorter, refuses, prints, formats_once, refuses_only}

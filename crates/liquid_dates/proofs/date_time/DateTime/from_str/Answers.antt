@@ -1,7 +1,5 @@
-use Rattle.std.proofs.Common.{◌≡◌, ◌∙◌, sym, FitsSigned, w64, ℤ, IfSome, IfNone, ap}
+use Rattle.std.proofs.Common.{◌∙◌, sym, FitsSigned, w64}
 use Rattle.std.proofs.lemmas.Int.{to_z-of_z}
-use Rattle.liquid_dates.specs.declared.date_time.DateTime.{DateTime}
-use Rattle.liquid_dates.specs.DateText.{IsUnixTime, IsWholeNumber, date_time_forms, with_given_offset, ends_in_offset}
 use Rattle.liquid_dates.proofs.UnixTimeLemmas.{not_empty, not_now, whole_text, whole_only, forms_text, forms_only}
 use Rattle.liquid_dates.proofs.date_time.DateTime.from_str.Goals as goal
 
