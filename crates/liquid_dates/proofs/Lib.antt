@@ -15,3 +15,4 @@ pub mod WholeLemmas
 pub mod TimedLemmas
 pub mod DateTimeForms
 pub mod UnixTimeLemmas
+pub mod ReadBackLemmas
