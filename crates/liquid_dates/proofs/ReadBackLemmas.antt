@@ -46,8 +46,8 @@ unfolding date_text dashed_date long_date short_date
 date_read_back d moment =
     let behind = 45 ∷ (two_digits d.month ++ (45 ∷ two_digits d.day)) in
     let no_day : (name : ℕ → List ℕ) (v : ℕ × (ℕ × ℤ)) → day_month name (date_text d) v → ⊥ = λ name v f. let s = day_first name (date_text d) v f in printed_no_day d.year behind s.0 s.1 in (
-      inr (
-        λ today. printed_no_word d.year behind d.year_in (ap (λ (t : List ℕ). get_or t 0 0) today),
-        inr (λ b f. no_day month_name (b.day, (b.month, b.year)) f, inr (λ b f. no_day short_month_name (b.day, (b.month, b.year)) f, dashed_printed d)),
-      )
+    inr (
+      λ today. printed_no_word d.year behind d.year_in (ap (λ (t : List ℕ). get_or t 0 0) today),
+      inr (λ b f. no_day month_name (b.day, (b.month, b.year)) f, inr (λ b f. no_day short_month_name (b.day, (b.month, b.year)) f, dashed_printed d)),
+    )
     )

@@ -17,7 +17,6 @@ PatternsHaveOneReading =
     (text : List ℕ) (items items₂ : List Item) (end end₂ : Option DateFormatError)
     → IsReading text items end → IsReading text items₂ end₂ → (items ≡ items₂) × (end ≡ end₂)
 
-
 -- a printed date is read back as itself, at every moment
 abbrev pub PrintedDatesAreRead : Type 0
 PrintedDatesAreRead = (d : CivilDate) (moment : DateTime) → IsDateText (date_text d) moment d

@@ -7,12 +7,9 @@ ghost use Rattle.liquid_dates.specs.Laws.{PatternsHaveReadings, PatternsHaveOneR
 pub fn patterns_have_one_reading()
     ensures some { PatternsHaveReadings }
     ensures one { PatternsHaveOneReading }
-{
-}
-
+{}
 
 /// A printed date is read back as itself.
 pub fn printed_dates_are_read_back()
     ensures { PrintedDatesAreRead }
-{
-}
+{}

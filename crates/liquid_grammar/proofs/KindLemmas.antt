@@ -140,8 +140,8 @@ chain_has_kind s kind none e =
     let x = kind_some (chain_of s) (token_kind_of kind) e in
     let symbols = option_map as_symbol (option_map (placed s) (symbol_of s)) in
     let t =
-        token_parts s ∙ ap (λ o. option_or (option_map as_range (option_map (placed s) o)) (option_or (option_map as_chain (chain_of s)) symbols)) (scan_none range_fault (ranged s) none)
-        ∙ ap (λ o. option_or (option_map as_chain o) symbols) x.1
+    token_parts s ∙ ap (λ o. option_or (option_map as_range (option_map (placed s) o)) (option_or (option_map as_chain (chain_of s)) symbols)) (scan_none range_fault (ranged s) none)
+    ∙ ap (λ o. option_or (option_map as_chain o) symbols) x.1
     in
     record { rest = x.0.1; shape = chain x.0.0; match = exact-token.sound s x.0.1 _ t; is = x.2 }
 

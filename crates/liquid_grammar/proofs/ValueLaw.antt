@@ -59,7 +59,7 @@ unfolding repeated
 agree_value m f g G agree s h =
     let make : Placed (List ℕ × List Index) × List ℕ → Value × List ℕ = λ a. (placed_variable a.0, a.1) in
     let indexes : Agree m (repeated (index_over f)) (repeated (index_over g)) =
-        λ t l. agree_repeated m (index_over f) (index_over g) (exact-index G) (λ u k. agree_index m f g agree u (omega arith)) (suc (length t)) t l
+    λ t l. agree_repeated m (index_over f) (index_over g) (exact-index G) (λ u k. agree_index m f g agree u (omega arith)) (suc (length t)) t l
     in
     ap (λ o. option_or (seen placed_literal (at literal) s) (option_map make (option_map (placed s) o)))
     (agree_behind m (repeated (index_over f)) (repeated (index_over g)) exact-name shrinks-name indexes s h)
