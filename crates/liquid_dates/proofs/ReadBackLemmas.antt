@@ -80,12 +80,12 @@ offset_printed (negsuc n) small whole =
 offset_ends : (s h m : ℕ) → (s ≡ 43) ⊎ (s ≡ 45) → h < 20 → m < 60 → is_offset_end (s ∷ (two_digits h ++ two_digits m)) ≡ true
 offset_ends s h m (inl e) small sixty = rw e (ends_test h m small sixty)
   where
-  ends_test : (h m : ℕ) → h < 20 → m < 60 → ((eqb (48 + h / 10) 48 || eqb (48 + h / 10) 49) && (is_digit (48 + h % 10) && (is_digit (48 + m / 10) && is_digit (48 + m % 10)))) ≡ true
-  ends_test h m small sixty = grind (arith, nat_tests)
+    ends_test : (h m : ℕ) → h < 20 → m < 60 → ((eqb (48 + h / 10) 48 || eqb (48 + h / 10) 49) && (is_digit (48 + h % 10) && (is_digit (48 + m / 10) && is_digit (48 + m % 10)))) ≡ true
+    ends_test h m small sixty = grind (arith, nat_tests)
 offset_ends s h m (inr e) small sixty = rw e (ends_test h m small sixty)
   where
-  ends_test : (h m : ℕ) → h < 20 → m < 60 → ((eqb (48 + h / 10) 48 || eqb (48 + h / 10) 49) && (is_digit (48 + h % 10) && (is_digit (48 + m / 10) && is_digit (48 + m % 10)))) ≡ true
-  ends_test h m small sixty = grind (arith, nat_tests)
+    ends_test : (h m : ℕ) → h < 20 → m < 60 → ((eqb (48 + h / 10) 48 || eqb (48 + h / 10) 49) && (is_digit (48 + h % 10) && (is_digit (48 + m / 10) && is_digit (48 + m % 10)))) ≡ true
+    ends_test h m small sixty = grind (arith, nat_tests)
 
 sign_is : (z : ℤ) → (sign_of z ≡ 43) ⊎ (sign_of z ≡ 45)
 sign_is (pos n) = inl refl
@@ -128,8 +128,8 @@ fraction_more k n q r ds small e more =
       value = e ∙ rw (q0, left, fold_digits q ds) (sum_of q (10 ^ length ds) (10 ^ (k - length ds)) (fold (λ n c. n * 10 + (c - 48)) 0 ds) r (10 ^ k) whole more.value);
     }
   where
-  sum_of : (q a b v r p : ℕ) → p ≡ a * b → r ≡ v * b → q * p + r ≡ (q * a + v) * b
-  sum_of q a b v r p e f = rw (e, f, add-mul (q * a) v b, mul_assoc q a b) refl
+    sum_of : (q a b v r p : ℕ) → p ≡ a * b → r ≡ v * b → q * p + r ≡ (q * a + v) * b
+    sum_of q a b v r p e f = rw (e, f, add-mul (q * a) v b, mul_assoc q a b) refl
 
 fraction_test : (k n q r p : ℕ) (t : Bool) → eqb r 0 ≡ t → p ≡ 10 ^ k → n ≡ q * p + r → q < 10 → (0 < r → IsFraction k r (fraction_digits k r)) → IsFraction (suc k) n ((48 + q) ∷ cond t [] (fraction_digits k r))
 fraction_test k n q r p false t e value small more =
@@ -191,5 +191,5 @@ not_now_first c cs low high now =
       | inr t ↦ apart c 116 (omega arith) (sym lower ∙ ap (λ (t : List ℕ). get_or t 0 0) (sym (ap (map to_ascii_lowercase) e) ∙ t))
     ]
   where
-  apart : (c w : ℕ) → (c < w) → c ≡ w → ⊥
-  apart c w h e = omega arith
+    apart : (c w : ℕ) → (c < w) → c ≡ w → ⊥
+    apart c w h e = omega arith
