@@ -1,6 +1,7 @@
 -- What is printed is read back.
-use Rattle.std.proofs.Common.{◌≡◌, ◌≢◌, ◌⊎◌, inl, inr, ℕ, suc, ◌+◌, ◌-◌, ◌*◌, ◌/◌, ◌%◌, ◌<◌, ◌≤◌, List, [], ◌∷◌, ◌++◌, refl, sym, ap, ◌∙◌, arith, get_or, ℤ, pos, negsuc, neg_ℤ, unsigned_abs, Bool, true, false, cond, ◌&&◌, ◌||◌, eqb, length, length-append, fold, zero, ◌^◌, drop, mul_assoc, nat_lt, pow-add}
+use Rattle.std.proofs.Common.{◌≡◌, ◌≢◌, ◌⊎◌, inl, inr, ℕ, suc, ◌+◌, ◌-◌, ◌*◌, ◌/◌, ◌%◌, ◌<◌, ◌≤◌, List, [], ◌∷◌, ◌++◌, refl, sym, ap, subst, ◌∙◌, arith, get_or, ℤ, pos, negsuc, neg_ℤ, unsigned_abs, Bool, true, false, cond, ◌&&◌, ◌||◌, eqb, length, length-append, fold, zero, ◌^◌, drop, mul_assoc, nat_lt, pow-add, append_assoc, Option, Some}
 use Rattle.std.specs.List.{list_all}
+use Rattle.std.specs.Str.Parse.{AllDigits, IsNumeral, without_leading_sign}
 use Rattle.std.specs.Str.{chars, trim, trim_start, trim_end, drop_trailing_whitespace}
 use Rattle.std.specs.Char.{is_whitespace, to_ascii_lowercase}
 use Rattle.std.proofs.lemmas.Str.{encode_ascii}
@@ -17,7 +18,11 @@ use Rattle.liquid_dates.specs.declared.date_time.DateTime.{DateTime}
 use Rattle.liquid_dates.specs.Names.{month_name, short_month_name}
 use Rattle.liquid_dates.specs.Flags.{is_digit, digits_number}
 use Rattle.liquid_dates.specs.Printed.{two_digits, four_digits, year_text, date_text, clock_text, fraction_digits, fraction_text, sign_of, offset_text, date_time_text}
-use Rattle.liquid_dates.specs.DateText.{joined, two_below, year_form, dashed, day_month, dashed_date, long_date, short_date, clock, offset_form, is_offset_end, ends_in_offset, IsNow, IsDateText}
+use Rattle.liquid_dates.specs.Instant.{civil_date, civil_time, offset_seconds, nanosecond}
+use Rattle.liquid_dates.specs.DateText.{joined, two_below, year_form, dashed, day_month, dashed_date, long_date, short_date, clock, offset_form, fraction_form, timed_dashed, timed_fraction, dashed_date_time, fraction_date_time, day_forms, date_time_forms, with_given_offset, is_offset_end, ends_in_offset, IsNow, IsWholeNumber, IsDateText, IsDateTimeText}
+use Rattle.liquid_dates.specs.DateReader.{timed_dashed_at, offset_end}
+use Rattle.liquid_dates.proofs.DateTextLemmas.{Reads, some_pair}
+use Rattle.liquid_dates.proofs.TimedLemmas.{IsStampRead, stamped_whole, timed_dashed_reads}
 
 -- a printed year is a year's form
 pub year_printed : (y : ℤ) → IsYear y → year_form (year_text y) y
@@ -191,5 +196,150 @@ not_now_first c cs low high now =
       | inr t ↦ apart c 116 (omega arith) (sym lower ∙ ap (λ (t : List ℕ). get_or t 0 0) (sym (ap (map to_ascii_lowercase) e) ∙ t))
     ]
   where
+<<<<<<< HEAD
     apart : (c w : ℕ) → (c < w) → c ≡ w → ⊥
     apart c w h e = omega arith
+=======
+  apart : (c w : ℕ) → (c < w) → c ≡ w → ⊥
+  apart c w h e = omega arith
+
+-- nor a whole number: behind the year stands `-`
+four_no_number : (a b c d : ℕ) (rest : List ℕ) → ¬ (AllDigits 10 (a ∷ b ∷ c ∷ d ∷ 45 ∷ rest))
+four_no_number a b c d rest h = omega (arith, h.1.1.1.1.0)
+
+signless : (a : ℕ) (rest : List ℕ) → 48 ≤ a → without_leading_sign (a ∷ rest) ≡ a ∷ rest
+signless a rest low =
+    let minus : eqb a 45 ≡ false = grind (arith, nat_tests) in
+    let plus : eqb a 43 ≡ false = grind (arith, nat_tests) in
+    rw (minus, plus) refl
+
+year_no_number : (y : ℤ) (rest : List ℕ) → ¬ (IsNumeral 10 (without_leading_sign (year_text y ++ (45 ∷ rest))))
+unfolding year_text
+year_no_number (pos n) rest h =
+    let a = 48 + n / 100 / 10 in
+    let more = (48 + n / 100 % 10) ∷ (48 + n % 100 / 10) ∷ (48 + n % 100 % 10) ∷ 45 ∷ rest in
+    let low : 48 ≤ a = omega arith in
+    let plain : IsNumeral 10 (a ∷ more) = subst (λ t. IsNumeral 10 t) (signless a more low) h in
+    four_no_number a (48 + n / 100 % 10) (48 + n % 100 / 10) (48 + n % 100 % 10) rest plain.1
+year_no_number (negsuc n) rest h =
+    four_no_number (48 + suc n / 100 / 10) (48 + suc n / 100 % 10) (48 + suc n % 100 / 10) (48 + suc n % 100 % 10) rest h.1
+
+year_not_now : (y : ℤ) (rest : List ℕ) → IsYear y → ¬ (IsNow (year_text y ++ rest))
+unfolding year_text
+year_not_now (pos n) rest h =
+    not_now_first (48 + n / 100 / 10) ((48 + n / 100 % 10) ∷ (two_digits (n % 100) ++ rest)) (omega arith) (omega (arith, signed_arith))
+year_not_now (negsuc n) rest h = not_now_first 45 (four_digits (suc n) ++ rest) (omega arith) (omega arith)
+
+year_some : (y : ℤ) (rest : List ℕ) → year_text y ++ rest ≢ []
+unfolding year_text
+year_some (pos n) rest e = cc
+year_some (negsuc n) rest e = cc
+
+-- the date and the time of a text are those of the dashed form
+stamp_printed : (d : CivilDate) (t : CivilTime) → timed_dashed (date_text d ++ (32 ∷ clock_text t)) ((d.year, (d.month, d.day)), (t.hour, (t.minute, t.second)))
+stamp_printed d t = (date_text d, clock_text t, refl, dashed_printed d, clock_printed t)
+
+-- whole seconds are in the dashed form
+no_fraction : (nano : ℕ) → nano ≡ 0 → fraction_text nano ≡ []
+unfolding fraction_text
+no_fraction nano e = rw e refl
+
+seconds_printed : (dt : DateTime) → unsigned_abs (offset_seconds dt) < 72_000 → unsigned_abs (offset_seconds dt) % 60 ≡ 0 → nanosecond dt ≡ 0 → dashed_date_time (date_time_text dt) dt
+unfolding dashed_date_time
+seconds_printed dt small whole none =
+    let d = date_text (civil_date dt) in
+    let c = clock_text (civil_time dt) in
+    let o = 32 ∷ offset_text (offset_seconds dt) in
+    let all : d ++ (32 ∷ (c ++ o)) ≡ (d ++ (32 ∷ c)) ++ o = sym (append_assoc d (32 ∷ c) o) in
+    let text : date_time_text dt ≡ (d ++ (32 ∷ c)) ++ o = ap (λ t. d ++ (32 ∷ (c ++ (t ++ o)))) (no_fraction (nanosecond dt) none) ∙ all in
+    ((d ++ (32 ∷ c), offset_text (offset_seconds dt), text, stamp_printed (civil_date dt) (civil_time dt), offset_printed (offset_seconds dt) small whole), none)
+
+-- other times in the form with a fraction, and no dashed form is there
+fraction_is : (nano : ℕ) (ds : List ℕ) → IsFraction 9 nano ds → fraction_form ds nano
+unfolding digits_number
+fraction_is nano ds f = (f.passes, (f.some, f.short), f.value)
+
+fraction_text_some : (nano : ℕ) (t : Bool) → eqb nano 0 ≡ t → 0 < nano → fraction_text nano ≡ 46 ∷ fraction_digits 9 nano
+unfolding fraction_text
+fraction_text_some nano false t some = rw t refl
+fraction_text_some nano true t some = absurd (grind (arith, nat_tests))
+
+with_fraction : (dt : DateTime) → 0 < nanosecond dt → date_time_text dt ≡ (date_text (civil_date dt) ++ (32 ∷ clock_text (civil_time dt))) ++ (46 ∷ (fraction_digits 9 (nanosecond dt) ++ (32 ∷ offset_text (offset_seconds dt))))
+with_fraction dt some =
+    let d = date_text (civil_date dt) in
+    let c = clock_text (civil_time dt) in
+    let f = fraction_digits 9 (nanosecond dt) in
+    let o = 32 ∷ offset_text (offset_seconds dt) in
+    let all : d ++ (32 ∷ (c ++ (46 ∷ (f ++ o)))) ≡ (d ++ (32 ∷ c)) ++ (46 ∷ (f ++ o)) = sym (append_assoc d (32 ∷ c) (46 ∷ (f ++ o))) in
+    ap (λ t. d ++ (32 ∷ (c ++ (t ++ o)))) (fraction_text_some (nanosecond dt) _ refl some) ∙ all
+
+fraction_printed : (dt : DateTime) → unsigned_abs (offset_seconds dt) < 72_000 → unsigned_abs (offset_seconds dt) % 60 ≡ 0 → 0 < nanosecond dt → fraction_date_time (date_time_text dt) dt
+unfolding fraction_date_time
+fraction_printed dt small whole some =
+    let d = date_text (civil_date dt) in
+    let c = clock_text (civil_time dt) in
+    let f = fraction_digits 9 (nanosecond dt) in
+    let o = 32 ∷ offset_text (offset_seconds dt) in
+    let digits = fraction_printed_at 9 (nanosecond dt) some dt.local.time.subsec_in in
+    let inner : c ++ (46 ∷ (f ++ o)) ≡ (c ++ (46 ∷ f)) ++ o = sym (append_assoc c (46 ∷ f) o) in
+    let outer : d ++ (32 ∷ ((c ++ (46 ∷ f)) ++ o)) ≡ (d ++ (32 ∷ (c ++ (46 ∷ f)))) ++ o = sym (append_assoc d (32 ∷ (c ++ (46 ∷ f))) o) in
+    let text : date_time_text dt ≡ (d ++ (32 ∷ (c ++ (46 ∷ f)))) ++ o = ap (λ t. d ++ (32 ∷ (c ++ (t ++ o)))) (fraction_text_some (nanosecond dt) _ refl some) ∙ ap (λ t. d ++ (32 ∷ t)) inner ∙ outer in
+    (d ++ (32 ∷ (c ++ (46 ∷ f))), offset_text (offset_seconds dt), text, (d, c ++ (46 ∷ f), refl, dashed_printed (civil_date dt), (c, f, refl, clock_printed (civil_time dt), fraction_is (nanosecond dt) f digits)), offset_printed (offset_seconds dt) small whole)
+
+not_dashed : (dt b : DateTime) → 0 < nanosecond dt → ¬ (dashed_date_time (date_time_text dt) b)
+unfolding dashed_date_time
+not_dashed dt b some (form, none) =
+    let s = stamped_whole timed_dashed timed_dashed_at timed_dashed_reads true (date_time_text dt) _ _ form in
+    let d = civil_date dt in
+    let t = civil_time dt in
+    let behind = 46 ∷ (fraction_digits 9 (nanosecond dt) ++ (32 ∷ offset_text (offset_seconds dt))) in
+    let v : (ℤ × (ℕ × ℕ)) × (ℕ × (ℕ × ℕ)) = ((d.year, (d.month, d.day)), (t.hour, (t.minute, t.second))) in
+    let read : timed_dashed_at (date_time_text dt) ≡ Some (v, behind) = ap timed_dashed_at (with_fraction dt some) ∙ timed_dashed_reads.complete (date_text d ++ (32 ∷ clock_text t)) v behind (stamp_printed d t) refl in
+    let same = some_pair _ _ _ _ _ _ read s.read refl in
+    no_offset (fraction_digits 9 (nanosecond dt) ++ (32 ∷ offset_text (offset_seconds dt))) _ (ap (offset_end true) same.1 ∙ s.ends)
+  where
+  no_offset : (more : List ℕ) (z : ℤ) → offset_end true (46 ∷ more) ≡ Some z → ⊥
+  no_offset more z e = cc
+
+-- a printed date time is read back as itself
+forms_printed : (dt : DateTime) (t : Bool) → eqb (nanosecond dt) 0 ≡ t → unsigned_abs (offset_seconds dt) < 72_000 → unsigned_abs (offset_seconds dt) % 60 ≡ 0 → date_time_forms (date_time_text dt) dt
+forms_printed dt true t small whole = inl (seconds_printed dt small whole (grind (arith, nat_tests)))
+forms_printed dt false t small whole =
+    let some : 0 < nanosecond dt = grind (arith, nat_tests) in
+    inr ((λ b. not_dashed dt b some), inl (fraction_printed dt small whole some))
+
+text_ends : (dt : DateTime) → (front : List ℕ) × (date_time_text dt ≡ front ++ offset_text (offset_seconds dt))
+text_ends dt =
+    let d = date_text (civil_date dt) in
+    let c = clock_text (civil_time dt) in
+    let f = fraction_text (nanosecond dt) in
+    let o = offset_text (offset_seconds dt) in
+    let inner : f ++ (32 ∷ o) ≡ (f ++ (32 ∷ [])) ++ o = sym (append_assoc f (32 ∷ []) o) in
+    let middle : c ++ ((f ++ (32 ∷ [])) ++ o) ≡ (c ++ (f ++ (32 ∷ []))) ++ o = sym (append_assoc c (f ++ (32 ∷ [])) o) in
+    let outer : d ++ (32 ∷ ((c ++ (f ++ (32 ∷ []))) ++ o)) ≡ (d ++ (32 ∷ (c ++ (f ++ (32 ∷ []))))) ++ o = sym (append_assoc d (32 ∷ (c ++ (f ++ (32 ∷ [])))) o) in
+    (d ++ (32 ∷ (c ++ (f ++ (32 ∷ [])))), ap (λ t. d ++ (32 ∷ (c ++ t))) inner ∙ ap (λ t. d ++ (32 ∷ t)) middle ∙ outer)
+
+-- the text is its year, `-` and more
+text_begins : (dt : DateTime) → (more : List ℕ) × (date_time_text dt ≡ year_text (civil_date dt).year ++ (45 ∷ more))
+unfolding date_text
+text_begins dt =
+    let d = civil_date dt in
+    let behind = 45 ∷ (two_digits d.month ++ (45 ∷ two_digits d.day)) in
+    let more = 32 ∷ (clock_text (civil_time dt) ++ (fraction_text (nanosecond dt) ++ (32 ∷ offset_text (offset_seconds dt)))) in
+    (two_digits d.month ++ (45 ∷ (two_digits d.day ++ more)), append_assoc (year_text d.year) behind more)
+
+read_as : (text more : List ℕ) (moment dt : DateTime) → text ≡ year_text (civil_date dt).year ++ (45 ∷ more) → ends_in_offset text ≡ true → date_time_forms text dt → IsDateTimeText text moment dt
+read_as text more moment dt e given forms =
+    let y = (civil_date dt).year in
+    (
+      rw e (year_some y (45 ∷ more)),
+      inr (rw e (year_not_now y (45 ∷ more) (civil_date dt).year_in), inr (λ z number. year_no_number y more (rw (← e) number.0), rw given forms)),
+    )
+
+pub date_time_read_back : (dt moment : DateTime) → unsigned_abs (offset_seconds dt) < 72_000 → unsigned_abs (offset_seconds dt) % 60 ≡ 0 → IsDateTimeText (date_time_text dt) moment dt
+date_time_read_back dt moment small whole =
+    let (front, end) = text_ends dt in
+    let (more, start) = text_begins dt in
+    let given : ends_in_offset (date_time_text dt) ≡ true = rw end (given_printed front (offset_seconds dt) small) in
+    read_as (date_time_text dt) more moment dt start given (forms_printed dt _ refl small whole)
+>>>>>>> dates

@@ -1,15 +1,32 @@
 //! Laws over the definitions of `specs/`: each is the clause of a function that does nothing.
 ghost use Rattle.std.specs.Prelude.{◌≡◌, ℕ, List, Option};
-ghost use Rattle.liquid_dates.specs.Laws.{PatternsHaveReadings, PatternsHaveOneReading, PrintedDatesAreRead};
+ghost use Rattle.liquid_dates.specs.Laws.{PatternsHaveReadings, PatternsHaveOneReading, PrintedDatesAreRead, PrintedDateTimesAreRead};
 
 /// A pattern has exactly one reading: the items whose spellings joined are the text, or such items
 /// for a beginning and a rest that is refused.
 pub fn patterns_have_one_reading()
     ensures some { PatternsHaveReadings }
     ensures one { PatternsHaveOneReading }
+<<<<<<< HEAD
 {}
+=======
+{
+}
+>>>>>>> dates
 
 /// A printed date is read back as itself.
 pub fn printed_dates_are_read_back()
     ensures { PrintedDatesAreRead }
+<<<<<<< HEAD
 {}
+=======
+{
+}
+
+/// A printed date time is read back as itself, where its offset is whole minutes below 20 h: of
+/// other offsets what is printed is another one, or is not seen as one.
+pub fn printed_date_times_are_read_back()
+    ensures { PrintedDateTimesAreRead }
+{
+}
+>>>>>>> dates
