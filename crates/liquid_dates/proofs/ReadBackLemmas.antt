@@ -196,12 +196,8 @@ not_now_first c cs low high now =
       | inr t ↦ apart c 116 (omega arith) (sym lower ∙ ap (λ (t : List ℕ). get_or t 0 0) (sym (ap (map to_ascii_lowercase) e) ∙ t))
     ]
   where
-<<<<<<< HEAD
     apart : (c w : ℕ) → (c < w) → c ≡ w → ⊥
     apart c w h e = omega arith
-=======
-  apart : (c w : ℕ) → (c < w) → c ≡ w → ⊥
-  apart c w h e = omega arith
 
 -- nor a whole number: behind the year stands `-`
 four_no_number : (a b c d : ℕ) (rest : List ℕ) → ¬ (AllDigits 10 (a ∷ b ∷ c ∷ d ∷ 45 ∷ rest))
@@ -298,8 +294,8 @@ not_dashed dt b some (form, none) =
     let same = some_pair _ _ _ _ _ _ read s.read refl in
     no_offset (fraction_digits 9 (nanosecond dt) ++ (32 ∷ offset_text (offset_seconds dt))) _ (ap (offset_end true) same.1 ∙ s.ends)
   where
-  no_offset : (more : List ℕ) (z : ℤ) → offset_end true (46 ∷ more) ≡ Some z → ⊥
-  no_offset more z e = cc
+    no_offset : (more : List ℕ) (z : ℤ) → offset_end true (46 ∷ more) ≡ Some z → ⊥
+    no_offset more z e = cc
 
 -- a printed date time is read back as itself
 forms_printed : (dt : DateTime) (t : Bool) → eqb (nanosecond dt) 0 ≡ t → unsigned_abs (offset_seconds dt) < 72_000 → unsigned_abs (offset_seconds dt) % 60 ≡ 0 → date_time_forms (date_time_text dt) dt
@@ -330,8 +326,7 @@ text_begins dt =
 
 read_as : (text more : List ℕ) (moment dt : DateTime) → text ≡ year_text (civil_date dt).year ++ (45 ∷ more) → ends_in_offset text ≡ true → date_time_forms text dt → IsDateTimeText text moment dt
 read_as text more moment dt e given forms =
-    let y = (civil_date dt).year in
-    (
+    let y = (civil_date dt).year in (
       rw e (year_some y (45 ∷ more)),
       inr (rw e (year_not_now y (45 ∷ more) (civil_date dt).year_in), inr (λ z number. year_no_number y more (rw (← e) number.0), rw given forms)),
     )
@@ -342,4 +337,3 @@ date_time_read_back dt moment small whole =
     let (more, start) = text_begins dt in
     let given : ends_in_offset (date_time_text dt) ≡ true = rw end (given_printed front (offset_seconds dt) small) in
     read_as (date_time_text dt) more moment dt start given (forms_printed dt _ refl small whole)
->>>>>>> dates

@@ -1,8 +1,8 @@
 -- The number of an integer literal.
-use Rattle.std.proofs.Common.{◌≡◌, ℕ, ◌^◌, ◌<◌, ◌≤◌, ◌==◌, ◌&&◌, ◌||◌, Bool, true, false, cond, List, length, drop, get_or, Option, Some, None, Result, Ok, Err, ℤ, pos, neg_ℤ, nat_lt, rules, refl, sym, ap, ap₂, ◌∙◌, arith, w64, OkIff, eqb-true}
+use Rattle.std.proofs.Common.{◌≡◌, ℕ, ◌^◌, ◌<◌, ◌≤◌, ◌==◌, ◌&&◌, Bool, true, false, cond, List, length, drop, get_or, Option, Some, None, Result, Ok, Err, ℤ, pos, neg_ℤ, rules, refl, sym, ap, ap₂, ◌∙◌, arith, w64, OkIff, eqb-true}
 use Rattle.std.specs.Result.{result_ok}
 use Rattle.std.specs.Str.{all_ascii_digits}
-use Rattle.std.specs.Str.Parse.{ParsesSigned, digits_value, starts_with_minus}
+use Rattle.std.specs.Str.Parse.{ParsesSigned, digits_value}
 use Rattle.std.proofs.lemmas.Str.Parse.{IsNumeralModel, numerals_by_value, parse_signed_minus, parse_signed_plus, parse_signed_plain}
 use Rattle.std.proofs.lemmas.Bool.{false≢true, eqb-false}
 use Rattle.std.proofs.lemmas.Bool.Decides.{nat_tests}

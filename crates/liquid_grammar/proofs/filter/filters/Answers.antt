@@ -1,4 +1,4 @@
-use Rattle.std.proofs.Common.{◌≡◌, Option, ap, sym, ◌∙◌, arith, rules, refl}
+use Rattle.std.proofs.Common.{Option, ap, sym, ◌∙◌, arith, rules, refl}
 use Rattle.liquid_grammar.specs.Faults.{Fault, first_fault, filter_fault}
 use Rattle.liquid_grammar.specs.Meanings.{scan, faults_of, Scanned}
 use Rattle.liquid_grammar.specs.TokenSteps.{repeated, behind, filter}

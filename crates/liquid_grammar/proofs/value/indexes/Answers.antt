@@ -1,6 +1,5 @@
-use Rattle.std.proofs.Common.{◌≡◌, List, Option, ap, sym, ◌∙◌, arith, rules, refl}
-use Rattle.liquid_grammar.specs.Values.{Index, gather}
-use Rattle.liquid_grammar.specs.Faults.{Fault, indexes_fault}
+use Rattle.std.proofs.Common.{Option, ap, sym, ◌∙◌, arith, rules, refl}
+use Rattle.liquid_grammar.specs.Faults.{Fault}
 use Rattle.liquid_grammar.specs.Meanings.{scan, faults_of, Scanned}
 use Rattle.liquid_grammar.specs.BracketSteps.{adds, indexes}
 use Rattle.liquid_grammar.proofs.FlatBrackets.{adds_adds, fault_added, adds_found}
