@@ -105,15 +105,17 @@ joined_sound {A = A} {B = B} F r byte G q hf hg text a b rest e =
       (front, back, refl, subst (λ (v : A). F front v) first f, subst (λ (v : B). G back v) second g),
     )
   where
-  pair_first : A → Option ((A × B) × List ℕ) → A
-  pair_first other None = other
-  pair_first other (Some p) = p.0.0
-  pair_second : B → Option ((A × B) × List ℕ) → B
-  pair_second other None = other
-  pair_second other (Some p) = p.0.1
-  pair_rest : List ℕ → Option ((A × B) × List ℕ) → List ℕ
-  pair_rest other None = other
-  pair_rest other (Some p) = p.1
+    pair_first : A → Option ((A × B) × List ℕ) → A
+    pair_first other None = other
+    pair_first other (Some p) = p.0.0
+
+    pair_second : B → Option ((A × B) × List ℕ) → B
+    pair_second other None = other
+    pair_second other (Some p) = p.0.1
+
+    pair_rest : List ℕ → Option ((A × B) × List ℕ) → List ℕ
+    pair_rest other None = other
+    pair_rest other (Some p) = p.1
 
 joined_complete : {A B : Type 0} (F : List ℕ → A → Type 0) (r : List ℕ → Read A) (byte : ℕ) (G : List ℕ → B → Type 0) (q : List ℕ → Read B) → Reads F r → Reads G q → is_digit byte ≡ false → (front : List ℕ) (a : A) (b : B) (rest : List ℕ) → joined F byte G front (a, b) → begins is_digit rest ≡ false → joined_at r byte q (front ++ rest) ≡ Some ((a, b), rest)
 joined_complete F r byte G q hf hg apart front a b rest (s, u, is, f, g) ends =
@@ -130,13 +132,13 @@ joined_reads F r byte G q hf hg apart = record {
 pub whole_sound : {A : Type 0} (F : List ℕ → A → Type 0) (r : List ℕ → Read A) → Reads F r → (text : List ℕ) (a : A) → whole_of (r text) ≡ Some a → F text a
 whole_sound {A = A} F r h text a e = by_cases (r text) refl e
   where
-  by_cases : (o : Read A) → r text ≡ o → whole_of o ≡ Some a → F text a
-  by_cases None t e = cc
-  by_cases (Some (x, c ∷ cs)) t e = cc
-  by_cases (Some (x, [])) t e =
-      let (front, is, f) = h.sound text x [] t in
-      let same : x ≡ a = cc in
-      subst (λ (v : A). F text v) same (subst (λ (s : List ℕ). F s x) (sym (is ∙ append-nil front)) f)
+    by_cases : (o : Read A) → r text ≡ o → whole_of o ≡ Some a → F text a
+    by_cases None t e = cc
+    by_cases (Some (x, c ∷ cs)) t e = cc
+    by_cases (Some (x, [])) t e =
+        let (front, is, f) = h.sound text x [] t in
+        let same : x ≡ a = cc in
+        subst (λ (v : A). F text v) same (subst (λ (s : List ℕ). F s x) (sym (is ∙ append-nil front)) f)
 
 pub whole_complete : {A : Type 0} (F : List ℕ → A → Type 0) (r : List ℕ → Read A) → Reads F r → (text : List ℕ) (a : A) → F text a → whole_of (r text) ≡ Some a
 whole_complete F r h text a f =
@@ -194,11 +196,11 @@ year_reads = record {
   complete = λ front y rest f ends. year_complete front y rest f.0 f.1 f.2;
 }
   where
-  year_complete : (front : List ℕ) (y : ℤ) (rest : List ℕ) (n : ℕ) → n < 10000 → ((front ≡ four_digits n) × (y ≡ pos n)) ⊎ ((front ≡ 45 ∷ four_digits n) × (y ≡ neg_ℤ (pos n))) → year_at (front ++ rest) ≡ Some (y, rest)
-  year_complete front y rest n h (inl (is, value)) =
-      let plain : eqb (48 + n / 100 / 10) 45 ≡ false = grind (arith, nat_tests) in
-      rw (is, value, plain, four_at_digits n rest h) refl
-  year_complete front y rest n h (inr (is, value)) = rw (is, value, four_at_digits n rest h) refl
+    year_complete : (front : List ℕ) (y : ℤ) (rest : List ℕ) (n : ℕ) → n < 10000 → ((front ≡ four_digits n) × (y ≡ pos n)) ⊎ ((front ≡ 45 ∷ four_digits n) × (y ≡ neg_ℤ (pos n))) → year_at (front ++ rest) ≡ Some (y, rest)
+    year_complete front y rest n h (inl (is, value)) =
+        let plain : eqb (48 + n / 100 / 10) 45 ≡ false = grind (arith, nat_tests) in
+        rw (is, value, plain, four_at_digits n rest h) refl
+    year_complete front y rest n h (inr (is, value)) = rw (is, value, four_at_digits n rest h) refl
 
 -- a name that was found is the name of a number in the range
 find_some : (name : ℕ → List ℕ) (front : List ℕ) (n m k : ℕ) → find_name name front n m ≡ Some k → (m ≤ k) × (k < m + n) × (name k ≡ front)
@@ -206,11 +208,11 @@ unfolding find_name
 find_some name front zero m k e = cc
 find_some name front (suc n) m k e = by_test (find_some name front n (m + 1) k) (bytes_eq (name m) front) refl e
   where
-  by_test : (find_name name front n (m + 1) ≡ Some k → (m + 1 ≤ k) × (k < m + 1 + n) × (name k ≡ front)) → (b : Bool) → bytes_eq (name m) front ≡ b → cond b (Some m) (find_name name front n (m + 1)) ≡ Some k → (m ≤ k) × (k < m + suc n) × (name k ≡ front)
-  by_test next true t e =
-      let same : m ≡ k = ap (λ (o : Option ℕ). unwrap_or o m) e in
-      (omega arith, omega arith, ap name (sym same) ∙ (bytes_eq-Decides (name m) front).0 t)
-  by_test next false t e = let later = next e in (omega arith, omega arith, later.2)
+    by_test : (find_name name front n (m + 1) ≡ Some k → (m + 1 ≤ k) × (k < m + 1 + n) × (name k ≡ front)) → (b : Bool) → bytes_eq (name m) front ≡ b → cond b (Some m) (find_name name front n (m + 1)) ≡ Some k → (m ≤ k) × (k < m + suc n) × (name k ≡ front)
+    by_test next true t e =
+        let same : m ≡ k = ap (λ (o : Option ℕ). unwrap_or o m) e in
+        (omega arith, omega arith, ap name (sym same) ∙ (bytes_eq-Decides (name m) front).0 t)
+    by_test next false t e = let later = next e in (omega arith, omega arith, later.2)
 
 short_name_sound : (name : ℕ → List ℕ) (count m : ℕ) (text : List ℕ) (k : ℕ) (rest : List ℕ) → short_name_at name count m text ≡ Some (k, rest) → (text ≡ name k ++ rest) × (m ≤ k) × (k < m + count)
 unfolding short_name_at
@@ -284,11 +286,11 @@ behind_text_is : (text all rest : List ℕ) → behind_text text all ≡ Some re
 unfolding behind_text
 behind_text_is text all rest e = by_test (bytes_eq (take (length text) all) text) refl e
   where
-  by_test : (b : Bool) → bytes_eq (take (length text) all) text ≡ b → cond b (Some (drop (length text) all)) None ≡ Some rest → all ≡ text ++ rest
-  by_test false t e = cc
-  by_test true t e =
-      let same : drop (length text) all ≡ rest = ap (λ (o : Option (List ℕ)). unwrap_or o rest) e in
-      sym (take-append-drop (length text) all) ∙ ap (λ u. u ++ drop (length text) all) ((bytes_eq-Decides (take (length text) all) text).0 t) ∙ ap (λ u. text ++ u) same
+    by_test : (b : Bool) → bytes_eq (take (length text) all) text ≡ b → cond b (Some (drop (length text) all)) None ≡ Some rest → all ≡ text ++ rest
+    by_test false t e = cc
+    by_test true t e =
+        let same : drop (length text) all ≡ rest = ap (λ (o : Option (List ℕ)). unwrap_or o rest) e in
+        sym (take-append-drop (length text) all) ∙ ap (λ u. u ++ drop (length text) all) ((bytes_eq-Decides (take (length text) all) text).0 t) ∙ ap (λ u. text ++ u) same
 
 month_sound : (text : List ℕ) (m : ℕ) (rest : List ℕ) → month_at text ≡ Some (m, rest) → (text ≡ month_name m ++ rest) × (1 ≤ m) × (m < 13)
 unfolding month_at short_month_name
@@ -300,7 +302,7 @@ month_sound text m rest e =
     let tail = behind_text_is (drop 3 (month_name x.0)) x.1 more em in
     let name : take 3 (month_name x.0) ++ drop 3 (month_name x.0) ≡ month_name x.0 = take-append-drop 3 (month_name x.0) in (
       s.0 ∙ ap (λ t. take 3 (month_name x.0) ++ t) tail ∙ sym (append_assoc (take 3 (month_name x.0)) (drop 3 (month_name x.0)) more)
-      ∙ ap (λ t. t ++ more) name ∙ ap (λ i. month_name i ++ more) pair.0 ∙ ap (λ t. month_name m ++ t) pair.1,
+          ∙ ap (λ t. t ++ more) name ∙ ap (λ i. month_name i ++ more) pair.0 ∙ ap (λ t. month_name m ++ t) pair.1,
       omega (arith, pair.0, s.1),
       omega (arith, pair.0, s.2),
     )

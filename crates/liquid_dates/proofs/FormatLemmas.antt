@@ -18,9 +18,9 @@ use Rattle.liquid_dates.proofs.PatternLemmas.{Describes, directive_describes, it
 pub spelled : (cs : List ℕ) (conversion : Conversion) (rest : Bor (List ℕ)) → IsReadAs (Ok (conversion, rest)) (directive_at cs) → HasRest (37 ∷ cs) (chars rest.now)
 spelled cs conversion rest h = by_cases _ (directive_describes cs) h
   where
-  by_cases : (r : Read) → Describes (37 ∷ cs) r → IsReadAs (Ok (conversion, rest)) r → HasRest (37 ∷ cs) (chars rest.now)
-  by_cases (Ok (item, more)) d h = (spelling item, rw h.1 d.0)
-  by_cases (Err e) d h = absurd h
+    by_cases : (r : Read) → Describes (37 ∷ cs) r → IsReadAs (Ok (conversion, rest)) r → HasRest (37 ∷ cs) (chars rest.now)
+    by_cases (Ok (item, more)) d h = (spelling item, rw h.1 d.0)
+    by_cases (Err e) d h = absurd h
 
 conversion_prints : (dt : DateTime) (item : Item) (conversion : Conversion) (text : List ℕ) → conversion_of item conversion → text ≡ encode_utf8_all (spelling item) → conversion_print dt conversion.flags conversion.width conversion.directive text ≡ item_print dt item
 unfolding item_print
@@ -28,26 +28,26 @@ conversion_prints dt (literal c) conversion text h e = absurd h
 conversion_prints dt (directive flags digits modifier letter) conversion text h e =
     rw (h.0, h.1, h.2) (by_letter (directive_of letter))
   where
-  by_letter : (d : Option Directive) → conversion_print dt (flags_of flags) (width_of digits) d text ≡ directive_print dt (directive flags digits modifier letter) d flags digits
-  by_letter None = e
-  by_letter (Some d) = refl
+    by_letter : (d : Option Directive) → conversion_print dt (flags_of flags) (width_of digits) d text ≡ directive_print dt (directive flags digits modifier letter) d flags digits
+    by_letter None = e
+    by_letter (Some d) = refl
 
 -- what the code prints of it is what the item prints
 pub directive_printed : (dt : DateTime) (cs : List ℕ) (conversion : Conversion) (rest : Bor (List ℕ)) (text old new : List ℕ) → IsReadAs (Ok (conversion, rest)) (directive_at cs) → ((front : List ℕ) → 37 ∷ cs ≡ front ++ chars rest.now → text ≡ encode_utf8_all front) → new ≡ old ++ conversion_print dt conversion.flags conversion.width conversion.directive text → IsPrinted dt (directive_at cs) (chars rest.now) old new
 directive_printed dt cs conversion rest text old new h front is = by_cases _ (directive_describes cs) h
   where
-  by_cases : (r : Read) → Describes (37 ∷ cs) r → IsReadAs (Ok (conversion, rest)) r → IsPrinted dt r (chars rest.now) old new
-  by_cases (Ok (item, more)) d h =
-      let e : text ≡ encode_utf8_all (spelling item) = front (spelling item) (rw h.1 d.0) in
-      (sym h.1, is ∙ ap (λ t. old ++ t) (conversion_prints dt item conversion text h.0 e))
-  by_cases (Err e) d h = absurd h
+    by_cases : (r : Read) → Describes (37 ∷ cs) r → IsReadAs (Ok (conversion, rest)) r → IsPrinted dt r (chars rest.now) old new
+    by_cases (Ok (item, more)) d h =
+        let e : text ≡ encode_utf8_all (spelling item) = front (spelling item) (rw h.1 d.0) in
+        (sym h.1, is ∙ ap (λ t. old ++ t) (conversion_prints dt item conversion text h.0 e))
+    by_cases (Err e) d h = absurd h
 
 pub read_utf8 : (cs : List ℕ) (conversion : Conversion) (rest : Bor (List ℕ)) → IsReadAs (Ok (conversion, rest)) (directive_at cs) → IsUtf8 rest.now
 read_utf8 cs conversion rest h = by_cases (directive_at cs) h
   where
-  by_cases : (r : Read) → IsReadAs (Ok (conversion, rest)) r → IsUtf8 rest.now
-  by_cases (Ok (item, more)) h = h.2
-  by_cases (Err e) h = absurd h
+    by_cases : (r : Read) → IsReadAs (Ok (conversion, rest)) r → IsUtf8 rest.now
+    by_cases (Ok (item, more)) h = h.2
+    by_cases (Err e) h = absurd h
 
 on_refusal : (e : DateFormatError) (P : Type 0) → P → OnRefusal e P
 on_refusal Memory P h = tt
@@ -58,9 +58,9 @@ on_refusal InvalidWidth P h = h
 pub read_refused : (cs : List ℕ) (e : DateFormatError) → IsReadAs (Err e) (directive_at cs) → OnRefusal e (directive_at cs ≡ Err e)
 read_refused cs e h = by_cases (directive_at cs) h
   where
-  by_cases : (r : Read) → IsReadAs (Err e) r → OnRefusal e (r ≡ Err e)
-  by_cases (Ok q) h = absurd h
-  by_cases (Err r) h = on_refusal e (Err r ≡ Err e) (ap Err (sym h))
+    by_cases : (r : Read) → IsReadAs (Err e) r → OnRefusal e (r ≡ Err e)
+    by_cases (Ok q) h = absurd h
+    by_cases (Err r) h = on_refusal e (Err r ≡ Err e) (ap Err (sym h))
 
 -- the print of one item more
 pub print_more : (dt : DateTime) (items : List Item) (i : Item) → print dt (items ++ (i ∷ [])) ≡ print dt items ++ item_print dt i
@@ -79,10 +79,10 @@ pub record Printed (dt : DateTime) (text rest old new : List ℕ) : Type 0 where
 pub printed_item : (dt : DateTime) (text : List ℕ) (c : ℕ) (cs rest old new : List ℕ) → text ≡ c ∷ cs → IsPrinted dt (item_at c cs) rest old new → Printed dt text rest old new
 printed_item dt text c cs rest old new e h = by_cases (item_at c cs) (item_describes c cs) h
   where
-  by_cases : (r : Read) → Describes (c ∷ cs) r → IsPrinted dt r rest old new → Printed dt text rest old new
-  by_cases (Ok (item, more)) d h =
-      record { item = item; joined = e ∙ rw h.0 at d.0; is = rw h.0 at d.1; prints = h.1 }
-  by_cases (Err r) d h = absurd h
+    by_cases : (r : Read) → Describes (c ∷ cs) r → IsPrinted dt r rest old new → Printed dt text rest old new
+    by_cases (Ok (item, more)) d h =
+        record { item = item; joined = e ∙ rw h.0 at d.0; is = rw h.0 at d.1; prints = h.1 }
+    by_cases (Err r) d h = absurd h
 
 -- one item more of what is printed
 abbrev pub IsPrintedFront : DateTime → List ℕ → List ℕ → List ℕ → Type 0

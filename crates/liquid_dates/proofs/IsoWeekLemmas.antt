@@ -26,17 +26,17 @@ start_later : (a b : ℤ) → IsYear a → IsYear b → a <ℤ b → iso_year_st
 start_later a b ya yb h =
     by_lt_z (a +ℤ pos 1) b
     (λ lt.
-      let next : IsBetween (neg_ℤ (pos 9999)) (pos 10000) (a +ℤ pos 1) = omega (arith, signed_arith) in
-      let last : IsBetween (neg_ℤ (pos 9999)) (pos 10000) b = omega (arith, signed_arith) in
-      let low : neg_ℤ (pos 10000) ≤ℤ (a +ℤ pos 1) = omega (arith, signed_arith) in
-      let far = day_count-later_year (a +ℤ pos 1) b low lt in
-      let long = (days_in_year_bounds (a +ℤ pos 1)).1 in
-      let near = iso_year_start_near (a +ℤ pos 1) next in
-      let near_b = iso_year_start_near b last in
-      omega (arith, signed_arith, days_from_civil-day_count (a +ℤ pos 1) 1 1, days_from_civil-day_count b 1 1, near.0, near_b.1))
+    let next : IsBetween (neg_ℤ (pos 9999)) (pos 10000) (a +ℤ pos 1) = omega (arith, signed_arith) in
+    let last : IsBetween (neg_ℤ (pos 9999)) (pos 10000) b = omega (arith, signed_arith) in
+    let low : neg_ℤ (pos 10000) ≤ℤ (a +ℤ pos 1) = omega (arith, signed_arith) in
+    let far = day_count-later_year (a +ℤ pos 1) b low lt in
+    let long = (days_in_year_bounds (a +ℤ pos 1)).1 in
+    let near = iso_year_start_near (a +ℤ pos 1) next in
+    let near_b = iso_year_start_near b last in
+    omega (arith, signed_arith, days_from_civil-day_count (a +ℤ pos 1) 1 1, days_from_civil-day_count b 1 1, near.0, near_b.1))
     (λ ge.
-      let e : a +ℤ pos 1 ≡ b = omega (arith, signed_arith) in
-      rw e (omega (arith, signed_arith)))
+    let e : a +ℤ pos 1 ≡ b = omega (arith, signed_arith) in
+    rw e (omega (arith, signed_arith)))
 
 -- so a day lies in the weeks of one year
 year_only : (a b day : ℤ) → IsInYear a day → IsInYear b day → a ≡ b
@@ -44,8 +44,8 @@ year_only a b day h k =
     by_lt_z a b
     (λ lt. absurd (omega (arith, signed_arith, start_later a b h.year k.year lt, h.before, k.start)))
     (λ ge. by_lt_z b a
-      (λ gt. absurd (omega (arith, signed_arith, start_later b a k.year h.year gt, k.before, h.start)))
-      (λ le. omega (arith, signed_arith)))
+    (λ gt. absurd (omega (arith, signed_arith, start_later b a k.year h.year gt, k.before, h.start)))
+    (λ le. omega (arith, signed_arith)))
 
 -- the year that the definition picks
 picked : (d : Date) → (a b : Bool) → int_lt (epoch_day d) (iso_year_start d.year) ≡ a → int_lt (epoch_day d) (iso_year_start (d.year +ℤ pos 1)) ≡ b → IsInYear (if a then d.year -ℤ pos 1 else (if b then d.year else d.year +ℤ pos 1)) (epoch_day d)

@@ -62,23 +62,23 @@ width_from_unset (c ∷ cs) = width_first c cs _ refl (width_from_bounded (add_d
 bounded_given : (n k : ℕ) → bounded_width n ≡ Given k → (n ≡ k) × (n < 2 ^ 64)
 bounded_given n k e = by_test n k _ refl e
   where
-  by_test : (n k : ℕ) (b : Bool) → nat_lt n (2 ^ 64) ≡ b → cond b (Given n) TooGreat ≡ Given k → (n ≡ k) × (n < 2 ^ 64)
-  by_test n k true t e = (cc, ltb-true _ _ t)
-  by_test n k false t e = cc
+    by_test : (n k : ℕ) (b : Bool) → nat_lt n (2 ^ 64) ≡ b → cond b (Given n) TooGreat ≡ Given k → (n ≡ k) × (n < 2 ^ 64)
+    by_test n k true t e = (cc, ltb-true _ _ t)
+    by_test n k false t e = cc
 
 bounded_great : (n : ℕ) → bounded_width n ≡ TooGreat → 2 ^ 64 ≤ n
 bounded_great n e = by_test n _ refl e
   where
-  by_test : (n : ℕ) (b : Bool) → nat_lt n (2 ^ 64) ≡ b → cond b (Given n) TooGreat ≡ TooGreat → 2 ^ 64 ≤ n
-  by_test n true t e = cc
-  by_test n false t e = grind (arith, nat_tests)
+    by_test : (n : ℕ) (b : Bool) → nat_lt n (2 ^ 64) ≡ b → cond b (Given n) TooGreat ≡ TooGreat → 2 ^ 64 ≤ n
+    by_test n true t e = cc
+    by_test n false t e = grind (arith, nat_tests)
 
 bounded_set : (n : ℕ) → bounded_width n ≡ Unset → ⊥
 bounded_set n e = by_test n _ e
   where
-  by_test : (n : ℕ) (b : Bool) → cond b (Given n) TooGreat ≡ Unset → ⊥
-  by_test n true e = cc
-  by_test n false e = cc
+    by_test : (n : ℕ) (b : Bool) → cond b (Given n) TooGreat ≡ Unset → ⊥
+    by_test n true e = cc
+    by_test n false e = cc
 
 pub read_unset : (ds : List ℕ) → width_read ds ≡ Unset → (None ≡ width_of ds) × (digits_number ds < 2 ^ 64)
 unfolding width_of digits_number

@@ -60,10 +60,10 @@ unfolding date_text dashed_date long_date short_date
 date_read_back d moment =
     let behind = 45 ∷ (two_digits d.month ++ (45 ∷ two_digits d.day)) in
     let no_day : (name : ℕ → List ℕ) (v : ℕ × (ℕ × ℤ)) → day_month name (date_text d) v → ⊥ = λ name v f. let s = day_first name (date_text d) v f in printed_no_day d.year behind s.0 s.1 in (
-      inr (
-        λ today. printed_no_word d.year behind d.year_in (ap (λ (t : List ℕ). get_or t 0 0) today),
-        inr (λ b f. no_day month_name (b.day, (b.month, b.year)) f, inr (λ b f. no_day short_month_name (b.day, (b.month, b.year)) f, dashed_printed d)),
-      )
+    inr (
+      λ today. printed_no_word d.year behind d.year_in (ap (λ (t : List ℕ). get_or t 0 0) today),
+      inr (λ b f. no_day month_name (b.day, (b.month, b.year)) f, inr (λ b f. no_day short_month_name (b.day, (b.month, b.year)) f, dashed_printed d)),
+    )
     )
 
 -- a clock and an offset that are printed
@@ -85,12 +85,12 @@ offset_printed (negsuc n) small whole =
 offset_ends : (s h m : ℕ) → (s ≡ 43) ⊎ (s ≡ 45) → h < 20 → m < 60 → is_offset_end (s ∷ (two_digits h ++ two_digits m)) ≡ true
 offset_ends s h m (inl e) small sixty = rw e (ends_test h m small sixty)
   where
-  ends_test : (h m : ℕ) → h < 20 → m < 60 → ((eqb (48 + h / 10) 48 || eqb (48 + h / 10) 49) && (is_digit (48 + h % 10) && (is_digit (48 + m / 10) && is_digit (48 + m % 10)))) ≡ true
-  ends_test h m small sixty = grind (arith, nat_tests)
+    ends_test : (h m : ℕ) → h < 20 → m < 60 → ((eqb (48 + h / 10) 48 || eqb (48 + h / 10) 49) && (is_digit (48 + h % 10) && (is_digit (48 + m / 10) && is_digit (48 + m % 10)))) ≡ true
+    ends_test h m small sixty = grind (arith, nat_tests)
 offset_ends s h m (inr e) small sixty = rw e (ends_test h m small sixty)
   where
-  ends_test : (h m : ℕ) → h < 20 → m < 60 → ((eqb (48 + h / 10) 48 || eqb (48 + h / 10) 49) && (is_digit (48 + h % 10) && (is_digit (48 + m / 10) && is_digit (48 + m % 10)))) ≡ true
-  ends_test h m small sixty = grind (arith, nat_tests)
+    ends_test : (h m : ℕ) → h < 20 → m < 60 → ((eqb (48 + h / 10) 48 || eqb (48 + h / 10) 49) && (is_digit (48 + h % 10) && (is_digit (48 + m / 10) && is_digit (48 + m % 10)))) ≡ true
+    ends_test h m small sixty = grind (arith, nat_tests)
 
 sign_is : (z : ℤ) → (sign_of z ≡ 43) ⊎ (sign_of z ≡ 45)
 sign_is (pos n) = inl refl
@@ -133,8 +133,8 @@ fraction_more k n q r ds small e more =
       value = e ∙ rw (q0, left, fold_digits q ds) (sum_of q (10 ^ length ds) (10 ^ (k - length ds)) (fold (λ n c. n * 10 + (c - 48)) 0 ds) r (10 ^ k) whole more.value);
     }
   where
-  sum_of : (q a b v r p : ℕ) → p ≡ a * b → r ≡ v * b → q * p + r ≡ (q * a + v) * b
-  sum_of q a b v r p e f = rw (e, f, add-mul (q * a) v b, mul_assoc q a b) refl
+    sum_of : (q a b v r p : ℕ) → p ≡ a * b → r ≡ v * b → q * p + r ≡ (q * a + v) * b
+    sum_of q a b v r p e f = rw (e, f, add-mul (q * a) v b, mul_assoc q a b) refl
 
 fraction_test : (k n q r p : ℕ) (t : Bool) → eqb r 0 ≡ t → p ≡ 10 ^ k → n ≡ q * p + r → q < 10 → (0 < r → IsFraction k r (fraction_digits k r)) → IsFraction (suc k) n ((48 + q) ∷ cond t [] (fraction_digits k r))
 fraction_test k n q r p false t e value small more =
@@ -196,8 +196,8 @@ not_now_first c cs low high now =
       | inr t ↦ apart c 116 (omega arith) (sym lower ∙ ap (λ (t : List ℕ). get_or t 0 0) (sym (ap (map to_ascii_lowercase) e) ∙ t))
     ]
   where
-  apart : (c w : ℕ) → (c < w) → c ≡ w → ⊥
-  apart c w h e = omega arith
+    apart : (c w : ℕ) → (c < w) → c ≡ w → ⊥
+    apart c w h e = omega arith
 
 -- nor a whole number: behind the year stands `-`
 four_no_number : (a b c d : ℕ) (rest : List ℕ) → ¬ (AllDigits 10 (a ∷ b ∷ c ∷ d ∷ 45 ∷ rest))
@@ -294,8 +294,8 @@ not_dashed dt b some (form, none) =
     let same = some_pair _ _ _ _ _ _ read s.read refl in
     no_offset (fraction_digits 9 (nanosecond dt) ++ (32 ∷ offset_text (offset_seconds dt))) _ (ap (offset_end true) same.1 ∙ s.ends)
   where
-  no_offset : (more : List ℕ) (z : ℤ) → offset_end true (46 ∷ more) ≡ Some z → ⊥
-  no_offset more z e = cc
+    no_offset : (more : List ℕ) (z : ℤ) → offset_end true (46 ∷ more) ≡ Some z → ⊥
+    no_offset more z e = cc
 
 -- a printed date time is read back as itself
 forms_printed : (dt : DateTime) (t : Bool) → eqb (nanosecond dt) 0 ≡ t → unsigned_abs (offset_seconds dt) < 72_000 → unsigned_abs (offset_seconds dt) % 60 ≡ 0 → date_time_forms (date_time_text dt) dt
@@ -326,8 +326,7 @@ text_begins dt =
 
 read_as : (text more : List ℕ) (moment dt : DateTime) → text ≡ year_text (civil_date dt).year ++ (45 ∷ more) → ends_in_offset text ≡ true → date_time_forms text dt → IsDateTimeText text moment dt
 read_as text more moment dt e given forms =
-    let y = (civil_date dt).year in
-    (
+    let y = (civil_date dt).year in (
       rw e (year_some y (45 ∷ more)),
       inr (rw e (year_not_now y (45 ∷ more) (civil_date dt).year_in), inr (λ z number. year_no_number y more (rw (← e) number.0), rw given forms)),
     )

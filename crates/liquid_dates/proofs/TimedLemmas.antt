@@ -87,9 +87,9 @@ one_digit_alone n (c ∷ cs) ends =
     let test : (is_digit (48 + n) && (is_digit c && nat_lt (10 * (48 + n - 48) + (c - 48)) 100)) ≡ false = rw ends (and_false (is_digit (48 + n))) in
     rw test refl
   where
-  and_false : (b : Bool) → (b && false) ≡ false
-  and_false true = refl
-  and_false false = refl
+    and_false : (b : Bool) → (b && false) ≡ false
+    and_false true = refl
+    and_false false = refl
 
 short_day_complete : (front : List ℕ) (n : ℕ) (rest : List ℕ) → short_day front n → begins is_digit rest ≡ false → short_day_at (front ++ rest) ≡ Some (n, rest)
 unfolding short_day_at
@@ -233,11 +233,11 @@ stamped_found F r reads true text a rest z e o =
     let (s, is, f) = reads.sound text a rest e in
     by_space (after_byte 32 rest) refl o
   where
-  by_space : (more : Option (List ℕ)) → after_byte 32 rest ≡ more → whole_of (option_and_then offset_at more) ≡ Some z → joined F 32 offset_form text (a, z)
-  by_space None t o = cc
-  by_space (Some more) t o =
-      let (s, is, f) = reads.sound text a rest e in
-      (s, more, is ∙ ap (λ u. s ++ u) (after_byte_is 32 rest more t), f, whole_sound offset_form offset_at offset_reads more z o)
+    by_space : (more : Option (List ℕ)) → after_byte 32 rest ≡ more → whole_of (option_and_then offset_at more) ≡ Some z → joined F 32 offset_form text (a, z)
+    by_space None t o = cc
+    by_space (Some more) t o =
+        let (s, is, f) = reads.sound text a rest e in
+        (s, more, is ∙ ap (λ u. s ++ u) (after_byte_is 32 rest more t), f, whole_sound offset_form offset_at offset_reads more z o)
 stamped_found F r reads false text a [] z e o =
     let (s, is, f) = reads.sound text a [] e in
     let all : text ≡ s = is ∙ append-nil s in
@@ -263,9 +263,9 @@ stamped_whole F r reads false text a z (s, u, is, f, o) =
     let z0 : z ≡ pos 0 = zero_offset z (rw back o) in
     record { rest = []; read = rw same.0 (ap r (sym (append-nil s)) ∙ reads.complete s a [] f refl); ends = ap Some (sym z0) }
   where
-  length_offset : (u : List ℕ) (z : ℤ) → offset_form u z → length u ≡ 5
-  length_offset u z (h, m, a, b, inl (is, value)) = ap length is
-  length_offset u z (h, m, a, b, inr (is, value)) = ap length is
+    length_offset : (u : List ℕ) (z : ℤ) → offset_form u z → length u ≡ 5
+    length_offset u z (h, m, a, b, inl (is, value)) = ap length is
+    length_offset u z (h, m, a, b, inr (is, value)) = ap length is
 
 -- a text has one value of a form with an offset
 pub joined_once : {A : Type 0} (F : List ℕ → A → Type 0) (r : List ℕ → Read A) → Reads F r → (text : List ℕ) (a b : A) (y z : ℤ) → joined F 32 offset_form text (a, y) → joined F 32 offset_form text (b, z) → (a ≡ b) × (y ≡ z)

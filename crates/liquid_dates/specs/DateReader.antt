@@ -232,7 +232,6 @@ IsStamped given None dt = ⊥
 IsStamped given (Some (s, rest)) dt =
     (offset_end given rest.now ≡ Some (offset_seconds dt)) × HasStamp s dt
 
-
 -- what is left of a stamp when its weekday is forgotten
 abbrev pub without_weekday : (ℕ × Stamp) × Bor (List ℕ) → Stamp × Bor (List ℕ)
 without_weekday p = (p.0.1, p.1)

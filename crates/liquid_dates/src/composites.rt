@@ -185,13 +185,13 @@ fn named_day(out: &mut String, case: Case, date_time: DateTime) -> Result<(), Al
     write_number(out, true, 2, i64::from(date.day))
 }
 
-fn write_short_month(
-    out: &mut String,
-    case: Case,
-    date_time: DateTime,
-) -> Result<(), AllocError>
+fn write_short_month(out: &mut String, case: Case, date_time: DateTime) -> Result<(), AllocError>
     ensures { OnOk result (string_bytes out.new
         ≡ string_bytes out.old ++ cased case (Names.short_month_name (civil_date date_time).month)) }
 {
-    write_cased(out, short_month_name(date_time.local().to_plain().date.month), case)
+    write_cased(
+        out,
+        short_month_name(date_time.local().to_plain().date.month),
+        case,
+    )
 }

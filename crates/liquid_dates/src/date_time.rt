@@ -277,7 +277,9 @@ impl Default for DateTime {
     #[tactic(auto, using(crate::proofs::InstantLemmas::instant_is))]
     fn default() -> DateTime {
         DateTime {
-            local: civil::DateTime::from_plain(jiff_core::civil::DateTime::from_nanosecond_in_range(0)),
+            local: civil::DateTime::from_plain(jiff_core::civil::DateTime::from_nanosecond_in_range(
+                0,
+            )),
             offset: Offset::UTC,
         }
     }

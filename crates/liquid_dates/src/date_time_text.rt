@@ -50,11 +50,7 @@ fn whole_offset(text: &[u8]) -> Option<i32>
     ensures { result ≡ whole_of (Reader.offset_at text.now) }
 {
     let (seconds, rest) = offset_at(text)?;
-    if rest.is_empty() {
-        Some(seconds)
-    } else {
-        None
-    }
+    if rest.is_empty() { Some(seconds) } else { None }
 }
 
 // The date time of a stamp at an offset, if the calendar and the offsets have them.

@@ -102,7 +102,11 @@ fn name_text(
     ensures { OnOk result (string_bytes out.new
         ≡ string_bytes out.old ++ Spec.name_text flags width name date_time) }
 {
-    let width = if flags.unfilled { 0 } else { width.unwrap_or(0) };
+    let width = if flags.unfilled {
+        0
+    } else {
+        width.unwrap_or(0)
+    };
     let filler = text_filler(flags.filling);
     let (text, case) = name_of(flags.case, name, date_time);
     fill(out, width.saturating_sub(text.len()), filler)?;
@@ -172,7 +176,12 @@ fn fraction_of(out: &mut String, digits: usize, nanosecond: u32) -> Result<(), A
     ensures { OnOk result
         (string_bytes out.new ≡ string_bytes out.old ++ Spec.fraction_of digits nanosecond) }
 {
-    write_number(out, false, digits.min(9), i64::from(nanosecond / unit_of(digits)))?;
+    write_number(
+        out,
+        false,
+        digits.min(9),
+        i64::from(nanosecond / unit_of(digits)),
+    )?;
     fill(out, digits.saturating_sub(9), '0')
 }
 

@@ -93,7 +93,13 @@ fn write_conversion(
 {
     match conversion.directive {
         Some(directive) => {
-            write_directive(out, date_time, conversion.flags, conversion.width, directive)
+            write_directive(
+                out,
+                date_time,
+                conversion.flags,
+                conversion.width,
+                directive,
+            )
         }
         None => out.push_str(spelling),
     }

@@ -7,18 +7,15 @@ ghost use Rattle.liquid_dates.specs.Laws.{PatternsHaveReadings, PatternsHaveOneR
 pub fn patterns_have_one_reading()
     ensures some { PatternsHaveReadings }
     ensures one { PatternsHaveOneReading }
-{
-}
+{}
 
 /// A printed date is read back as itself.
 pub fn printed_dates_are_read_back()
     ensures { PrintedDatesAreRead }
-{
-}
+{}
 
 /// A printed date time is read back as itself, where its offset is whole minutes below 20 h: of
 /// other offsets what is printed is another one, or is not seen as one.
 pub fn printed_date_times_are_read_back()
     ensures { PrintedDateTimesAreRead }
-{
-}
+{}

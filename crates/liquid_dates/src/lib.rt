@@ -26,4 +26,6 @@ mod writing;
 pub use date::Date;
 pub use date_time::DateTime;
 pub use error::{DateError, DateFormatError};
-pub use laws::{patterns_have_one_reading, printed_date_times_are_read_back, printed_dates_are_read_back};
+pub use laws::{
+    patterns_have_one_reading, printed_date_times_are_read_back, printed_dates_are_read_back,
+};

@@ -56,7 +56,11 @@ fn signed_hours(
         Filling::Unset => zero_filled_hours(out, width, seconds),
         Filling::Zeros => zero_filled_hours(out, width, seconds),
         Filling::Spaces => {
-            fill(out, width.saturating_sub(1 + digit_count(u64::from(hours))), ' ')?;
+            fill(
+                out,
+                width.saturating_sub(1 + digit_count(u64::from(hours))),
+                ' ',
+            )?;
             write_sign(out, seconds)?;
             write!(out, "{hours}")
         }

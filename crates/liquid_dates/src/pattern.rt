@@ -151,12 +151,7 @@ fn is_modifier(c: char) -> bool
 }
 
 // A directive from its letter on, and what is behind it.
-fn with_letter(
-    flags: Flags,
-    width: Option<usize>,
-    letter: char,
-    text: &str,
-) -> (Conversion, &str)
+fn with_letter(flags: Flags, width: Option<usize>, letter: char, text: &str) -> (Conversion, &str)
     ensures flags { result.0.flags ≡ flags }
     ensures width { result.0.width ≡ width }
     ensures directive { result.0.directive

@@ -62,10 +62,7 @@ impl fmt::Display for Rfc2822 {
 }
 
 #[tactic(auto, unfolding(crate::specs::Printed::mail_date_text))]
-fn mail_date<W: fmt::Write>(
-    f: &mut fmt::Formatter<W>,
-    date: jiff_core::civil::Date,
-) -> fmt::Result
+fn mail_date<W: fmt::Write>(f: &mut fmt::Formatter<W>, date: jiff_core::civil::Date) -> fmt::Result
     ensures { WritesOnOk W.write_str_gives f.old result (Spec.mail_date_text date) f.new }
 {
     mail_day(f, date)?;

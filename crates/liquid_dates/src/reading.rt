@@ -22,13 +22,7 @@ pub(crate) fn after_byte(byte: u8, text: &[u8]) -> Option<&[u8]>
     ensures { option_copied result ≡ Reader.after_byte byte text.now }
 {
     match text {
-        [first, rest @ ..] => {
-            if *first == byte {
-                Some(rest)
-            } else {
-                None
-            }
-        }
+        [first, rest @ ..] => { if *first == byte { Some(rest) } else { None } }
         [] => None,
     }
 }

@@ -255,7 +255,10 @@ fn dates_are_read(rt: HostRuntime) -> Result<(), Fail> {
         assert_eq!(rt; Date::from_str(text, moment), Some(march));
     }
     assert_eq!(rt; Date::from_str("today", moment), Some(moment.date()));
-    assert_eq!(rt; Date::from_str("-0020-06-13", moment), Some(Date::from_ymd(-20, 6, 13)?));
+    assert_eq!(rt;
+        Date::from_str("-0020-06-13", moment),
+        Some(Date::from_ymd(-20, 6, 13)?)
+    );
     for text in ["", "Today", "1 Mar 2022", "2022-02-29", "2022-03-01 "] {
         assert!(rt; Date::from_str(text, moment).is_none());
     }
@@ -265,13 +268,25 @@ fn dates_are_read(rt: HostRuntime) -> Result<(), Fail> {
 #[test]
 fn date_times_are_printed(rt: HostRuntime) -> Result<(), Fail> {
     let moment = november()?;
-    assert_eq!(rt; moment.to_string(rt.alloc())?.as_str(), "2022-11-03 07:56:37.666777888 +0600");
+    assert_eq!(rt;
+        moment.to_string(rt.alloc())?.as_str(),
+        "2022-11-03 07:56:37.666777888 +0600"
+    );
     assert_eq!(rt; moment.date().to_string(rt.alloc())?.as_str(), "2022-11-03");
     let early = DateTime::from_ymd(-20, 6, 13)?.with_offset(-1830)?;
-    assert_eq!(rt; early.to_string(rt.alloc())?.as_str(), "-0020-06-12 23:29:30 -0030");
+    assert_eq!(rt;
+        early.to_string(rt.alloc())?.as_str(),
+        "-0020-06-12 23:29:30 -0030"
+    );
     let mail = DateTime::from_str("2016-02-16 10:00:00 +0100", moment).ok_or("no date time")?;
-    assert_eq!(rt; mail.to_rfc2822(rt.alloc())?.as_str(), "Tue, 16 Feb 2016 10:00:00 +0100");
-    assert_eq!(rt; early.to_rfc2822(rt.alloc()).err(), Some(DateError::NoRfc2822Form));
+    assert_eq!(rt;
+        mail.to_rfc2822(rt.alloc())?.as_str(),
+        "Tue, 16 Feb 2016 10:00:00 +0100"
+    );
+    assert_eq!(rt;
+        early.to_rfc2822(rt.alloc()).err(),
+        Some(DateError::NoRfc2822Form)
+    );
     Ok(())
 }
 
@@ -285,11 +300,17 @@ fn parts_and_changes(rt: HostRuntime) -> Result<(), Fail> {
     assert_eq!(rt; new_year.iso_week(), 53);
     assert_eq!(rt; moment.with_date(new_year).date(), new_year);
     assert_eq!(rt; moment.with_offset(0)?, moment);
-    assert_eq!(rt; moment.with_offset(93_600).err(), Some(DateError::PartOutOfRange));
+    assert_eq!(rt;
+        moment.with_offset(93_600).err(),
+        Some(DateError::PartOutOfRange)
+    );
     assert_eq!(rt; DateTime::now(0)?, DateTime::default());
     let last = DateTime::from_ymd(9999, 12, 31)?.with_offset(86_400);
     assert_eq!(rt; last.err(), Some(DateError::OutsideYears));
-    assert_eq!(rt; Date::from_ymd(2022, 2, 29).err(), Some(DateError::PartOutOfRange));
+    assert_eq!(rt;
+        Date::from_ymd(2022, 2, 29).err(),
+        Some(DateError::PartOutOfRange)
+    );
     assert!(rt; Date::from_ymd(-1, 12, 31)? < Date::from_ymd(0, 1, 1)?);
     Ok(())
 }
