@@ -1,5 +1,5 @@
 -- What is printed is read back.
-use Rattle.std.proofs.Common.{◌≡◌, ◌≢◌, ◌⊎◌, inl, inr, ℕ, suc, ◌+◌, ◌-◌, ◌*◌, ◌/◌, ◌%◌, ◌<◌, ◌≤◌, List, [], ◌∷◌, ◌++◌, refl, sym, ap, subst, ◌∙◌, arith, get_or, ℤ, pos, negsuc, neg_ℤ, unsigned_abs, Bool, true, false, cond, ◌&&◌, ◌||◌, eqb, length, length-append, fold, zero, ◌^◌, drop, mul_assoc, nat_lt, pow-add, append_assoc, Option, Some}
+use Rattle.std.proofs.Common.{◌≡◌, ◌≢◌, ◌⊎◌, inl, inr, ℕ, suc, ◌+◌, ◌-◌, ◌*◌, ◌/◌, ◌%◌, ◌<◌, ◌≤◌, List, [], ◌∷◌, ◌++◌, refl, sym, ap, subst, ◌∙◌, arith, get_or, ℤ, pos, negsuc, neg_ℤ, unsigned_abs, Bool, true, false, cond, ◌&&◌, ◌||◌, eqb, length, length-append, fold, zero, ◌^◌, mul_assoc, nat_lt, pow-add, append_assoc, Some}
 use Rattle.std.specs.List.{list_all}
 use Rattle.std.specs.Str.Parse.{AllDigits, IsNumeral, without_leading_sign}
 use Rattle.std.specs.Str.{chars, trim, trim_start, trim_end, drop_trailing_whitespace}
@@ -9,7 +9,7 @@ use Rattle.std.proofs.Math.Seq.{drop-append_seam}
 use Rattle.std.proofs.Math.Nat.{pow-suc, add-mul, one-le-pow}
 use Rattle.std.proofs.lemmas.Bool.Decides.{nat_tests}
 use Rattle.jiff_core.specs.declared.civil.time.Time.{Time as CivilTime}
-use Rattle.std.specs.Prelude.{codes, encode_utf8_all, map}
+use Rattle.std.specs.Prelude.{encode_utf8_all, map}
 use Rattle.jiff_core.specs.declared.civil.date.Date.{Date as CivilDate}
 use Rattle.jiff_core.specs.Calendar.{IsYear}
 use Rattle.jiff_core.proofs.SignedLemmas.{signed_arith}
@@ -19,10 +19,10 @@ use Rattle.liquid_dates.specs.Names.{month_name, short_month_name}
 use Rattle.liquid_dates.specs.Flags.{is_digit, digits_number}
 use Rattle.liquid_dates.specs.Printed.{two_digits, four_digits, year_text, date_text, clock_text, fraction_digits, fraction_text, sign_of, offset_text, date_time_text}
 use Rattle.liquid_dates.specs.Instant.{civil_date, civil_time, offset_seconds, nanosecond}
-use Rattle.liquid_dates.specs.DateText.{joined, two_below, year_form, dashed, day_month, dashed_date, long_date, short_date, clock, offset_form, fraction_form, timed_dashed, timed_fraction, dashed_date_time, fraction_date_time, day_forms, date_time_forms, with_given_offset, is_offset_end, ends_in_offset, IsNow, IsWholeNumber, IsDateText, IsDateTimeText}
+use Rattle.liquid_dates.specs.DateText.{year_form, dashed, day_month, dashed_date, long_date, short_date, clock, offset_form, fraction_form, timed_dashed, dashed_date_time, fraction_date_time, date_time_forms, is_offset_end, ends_in_offset, IsNow, IsDateText, IsDateTimeText}
 use Rattle.liquid_dates.specs.DateReader.{timed_dashed_at, offset_end}
-use Rattle.liquid_dates.proofs.DateTextLemmas.{Reads, some_pair}
-use Rattle.liquid_dates.proofs.TimedLemmas.{IsStampRead, stamped_whole, timed_dashed_reads}
+use Rattle.liquid_dates.proofs.DateTextLemmas.{some_pair}
+use Rattle.liquid_dates.proofs.TimedLemmas.{stamped_whole, timed_dashed_reads}
 
 -- a printed year is a year's form
 pub year_printed : (y : ℤ) → IsYear y → year_form (year_text y) y
