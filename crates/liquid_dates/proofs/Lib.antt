@@ -1,0 +1,9 @@
+pub mod IsoWeekLemmas
+pub mod InstantLemmas
+pub mod FractionLemmas
+pub mod DecimalLemmas
+pub mod AsciiLemmas
+pub mod WeekLemmas
+pub mod CharLemmas
+pub mod PatternReaderLemmas
+pub mod PatternLemmas

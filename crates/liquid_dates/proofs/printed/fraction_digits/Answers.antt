@@ -1,0 +1,29 @@
+use Rattle.std.proofs.Common.{◌≡◌, ◌+◌, ◌/◌, ◌^◌, [], ◌∷◌, ◌++◌, refl, sym, ap, ◌∙◌, rules, arith, append_assoc}
+use Rattle.std.proofs.Output.{has_written_append, has_written_of_eq}
+use Rattle.liquid_dates.specs.Printed.{fraction_digits}
+use Rattle.liquid_dates.proofs.FractionLemmas.{fraction_digits_last, fraction_digits_more}
+use Rattle.liquid_dates.proofs.printed.fraction_digits.Goals as goal
+
+pub digits-init : goal.digits-init
+digits-init g c = (8, refl, omega arith, omega arith, [], refl, search rules)
+
+pub returns-then-left-eq0 : goal.returns-then-left-eq0
+returns-then-left-eq0 g c plain ok =
+    let (k, place, _, _, done, whole, wrote) = c.digits.invariant in
+    let last = fraction_digits_last k c.digits.left c.digits.place place c.if-left-eq0.true in
+    let text : done ++ (48 + c.digits.left / c.digits.place) ∷ [] ≡ fraction_digits 9 c.args.nanosecond = ap (λ t. done ++ t) (sym last) ∙ whole in
+    has_written_of_eq _ _ _ _ _ text (has_written_append _ _ _ _ _ _ (wrote plain) (search rules))
+
+pub digits-preserved : goal.digits-preserved
+digits-preserved g c =
+    let (k, place, _, _, done, whole, wrote) = c.digits.invariant in
+    let (j, tenfold, more) = fraction_digits_more k c.digits.left c.digits.place place c.if-left-eq0.false in
+    let power = 10 ^ j in (
+      j,
+      omega arith,
+      omega arith,
+      omega arith,
+      done ++ (48 + c.digits.left / c.digits.place) ∷ [],
+      append_assoc done _ _ ∙ ap (λ t. done ++ t) (sym more) ∙ whole,
+      λ plain. has_written_append _ _ _ _ _ _ (wrote plain) (search rules),
+    )

@@ -1,0 +1,10 @@
+use Rattle.std.proofs.Common.{◌≡◌, ◌<◌, ◌+◌, length, ◌^◌}
+use Rattle.std.specs.Fmt.{decimal}
+use Rattle.liquid_dates.proofs.writing.digit_count.Given as goal
+
+abbrev pub invariant-loop-left : goal.invariant-loop-left
+invariant-loop-left l =
+    (l.count + length (decimal l.left) ≡ length (decimal l.number) + 1) × (l.left < 2 ^ 64)
+
+abbrev pub decreases-loop-left : goal.decreases-loop-left
+decreases-loop-left l = l.left

@@ -1,0 +1,49 @@
+-- Numbers and texts filled up to a width.
+use Rattle.std.specs.Prelude.{ℕ, ◌+◌, ◌-◌, nat_lt, ◌&&◌, Bool, true, false, ℤ, pos, negsuc, unsigned_abs, List, [], ◌∷◌, ◌++◌, length, replicate, map}
+use Rattle.std.specs.Char.{to_ascii_uppercase}
+use Rattle.std.specs.Fmt.{decimal}
+use Rattle.liquid_dates.specs.declared.flags.Filling.{Filling}
+use Rattle.liquid_dates.specs.declared.flags.Filling.TheVariants.{Unset, Zeros, Spaces}
+use Rattle.liquid_dates.specs.declared.flags.Case.{Case}
+use Rattle.liquid_dates.specs.declared.flags.Case.TheVariants.{Plain, Upper, Change}
+
+-- `-` for a negative number
+abbrev pub minus : ℤ → List ℕ
+minus (pos n) = []
+minus (negsuc n) = 45 ∷ []
+
+-- how many characters are missing from a number's sign and digits to the width
+abbrev pub missing : ℕ → ℤ → ℕ
+missing width z = width - (length (minus z) + length (decimal (unsigned_abs z)))
+
+-- a number filled up to a width: by spaces before the sign, or by zeros behind it
+unfoldable pub filled_number : Bool → ℕ → ℤ → List ℕ
+filled_number true width z = replicate (missing width z) 32 ++ (minus z ++ decimal (unsigned_abs z))
+filled_number false width z = minus z ++ (replicate (missing width z) 48 ++ decimal (unsigned_abs z))
+
+-- a text behind what fills it up to a width, where it counts as so many characters
+unfoldable pub filled_text : ℕ → ℕ → ℕ → List ℕ → List ℕ
+filled_text filler width count text = replicate (width - count) filler ++ text
+
+-- whether a number is filled by spaces
+abbrev pub fills_by_spaces : Filling → Bool → Bool
+fills_by_spaces Unset spaced = spaced
+fills_by_spaces Zeros spaced = false
+fills_by_spaces Spaces spaced = true
+
+-- what a text is filled by
+abbrev pub text_filler : Filling → ℕ
+text_filler Unset = 32
+text_filler Zeros = 48
+text_filler Spaces = 32
+
+-- a name in upper case where a flag asks for it
+abbrev pub cased : Case → List ℕ → List ℕ
+cased Plain text = text
+cased Upper text = map to_ascii_uppercase text
+cased Change text = map to_ascii_uppercase text
+
+-- a text of ASCII characters alone
+abbrev pub is_ascii_text : List ℕ → Bool
+is_ascii_text [] = true
+is_ascii_text (c ∷ cs) = nat_lt c 128 && is_ascii_text cs

@@ -1,0 +1,42 @@
+-- What stands between the per cent of a directive and its letter: flags, a width, a modifier.
+use Rattle.std.specs.Prelude.{ℕ, ◌+◌, ◌-◌, ◌*◌, Bool, ◌&&◌, ◌||◌, ◌==◌, nat_le, if◌then◌else◌, List, [], ◌∷◌, Option, Some, None, fold, true, false}
+use Rattle.liquid_dates.specs.declared.flags.Flags.{Flags}
+use Rattle.liquid_dates.specs.declared.flags.Filling.TheVariants.{Unset, Zeros, Spaces}
+use Rattle.liquid_dates.specs.declared.flags.Case.TheVariants.{Plain, Upper, Change}
+
+-- `-`, `_`, `0`, `^` or `#`
+abbrev pub is_flag : ℕ → Bool
+is_flag c = (c == 45) || ((c == 95) || ((c == 48) || ((c == 94) || (c == 35))))
+
+-- no flag is given
+abbrev pub no_flags : Flags
+no_flags = record { unfilled = false; filling = Unset; case = Plain }
+
+-- one flag more: `-` stays once given, a later `_` or `0` counts before an earlier one, and so of `^` and `#`
+abbrev pub with_flag : Flags → ℕ → Flags
+with_flag flags c =
+    if c == 45 then record flags { unfilled = true }
+    else (if c == 95 then record flags { filling = Spaces }
+    else (if c == 48 then record flags { filling = Zeros }
+    else (if c == 94 then record flags { case = Upper } else record flags { case = Change })))
+
+-- what the flags say together
+unfoldable pub flags_of : List ℕ → Flags
+flags_of flags = fold with_flag no_flags flags
+
+-- `0` to `9`
+abbrev pub is_digit : ℕ → Bool
+is_digit c = nat_le 48 c && nat_le c 57
+
+-- the number that decimal digits write
+unfoldable pub digits_number : List ℕ → ℕ
+digits_number digits = fold (λ n c. n * 10 + (c - 48)) 0 digits
+
+-- the width that the digits give, if there are any
+unfoldable pub width_of : List ℕ → Option ℕ
+width_of [] = None
+width_of (d ∷ ds) = Some (digits_number (d ∷ ds))
+
+-- `E` or `O`, which change nothing
+abbrev pub is_modifier : ℕ → Bool
+is_modifier c = (c == 69) || (c == 79)

@@ -1,0 +1,122 @@
+-- A reader of patterns, item by item. It is a bridge between the code and the relation of `Pattern`: what it reads is proved to be what that relation says.
+use Rattle.std.specs.Prelude.{ℕ, ◌+◌, ◌-◌, ◌*◌, ◌^◌, Bool, nat_lt, ◌==◌, if◌then◌else◌, List, [], ◌∷◌, Result, Ok, Err, ◌≡◌}
+use Rattle.liquid_dates.specs.declared.flags.Flags.{Flags}
+use Rattle.liquid_dates.specs.declared.pattern.Width.{Width}
+use Rattle.liquid_dates.specs.declared.pattern.Width.TheVariants.{Unset, Given, TooGreat}
+use Rattle.liquid_dates.specs.declared.pattern.Conversion.{Conversion}
+use Rattle.liquid_dates.specs.declared.error.DateFormatError.{DateFormatError}
+use Rattle.liquid_dates.specs.declared.error.DateFormatError.TheVariants.{NoFormatSpecifier, NoFormatSpecifierAfterModifier, InvalidWidth, Memory}
+use Rattle.liquid_dates.specs.Flags.{is_flag, with_flag, flags_of, is_digit, digits_number, width_of, is_modifier}
+use Rattle.std.specs.Str.{chars, IsUtf8}
+use Rattle.std.specs.Borrow.{Bor}
+use Rattle.liquid_dates.specs.Letters.{directive_of}
+use Rattle.liquid_dates.specs.Pattern.{Item, literal, directive}
+
+-- the characters at the front that pass, and what is behind them
+abbrev pub front : (ℕ → Bool) → List ℕ → List ℕ
+front p [] = []
+front p (c ∷ cs) = if p c then c ∷ front p cs else []
+
+abbrev pub behind : (ℕ → Bool) → List ℕ → List ℕ
+behind p [] = []
+behind p (c ∷ cs) = if p c then behind p cs else c ∷ cs
+
+-- the flags at the front, added to those before
+abbrev pub flags_from : Flags → List ℕ → Flags
+flags_from flags [] = flags
+flags_from flags (c ∷ cs) = if is_flag c then flags_from (with_flag flags c) cs else flags
+
+-- a width as a number of 64 bits
+abbrev pub bounded_width : ℕ → Width
+bounded_width n = if nat_lt n (2 ^ 64) then Given n else TooGreat
+
+-- a width with one digit more
+abbrev pub with_digit : Width → ℕ → Width
+with_digit Unset c = Given (c - 48)
+with_digit (Given n) c = bounded_width (n * 10 + (c - 48))
+with_digit TooGreat c = TooGreat
+
+-- the digits at the front, behind those before
+abbrev pub width_from : Width → List ℕ → Width
+width_from width [] = width
+width_from width (c ∷ cs) = if is_digit c then width_from (with_digit width c) cs else width
+
+-- the letter at the front: up to three characters behind a `:`
+abbrev pub after_second_colon : List ℕ → List ℕ
+after_second_colon [] = []
+after_second_colon (c ∷ cs) = c ∷ []
+
+abbrev pub after_colon : List ℕ → List ℕ
+after_colon [] = []
+after_colon (c ∷ cs) = if c == 58 then 58 ∷ after_second_colon cs else c ∷ []
+
+abbrev pub letter_front : ℕ → List ℕ → List ℕ
+letter_front c cs = if c == 58 then 58 ∷ after_colon cs else c ∷ []
+
+-- what is behind it
+abbrev pub behind_second_colon : List ℕ → List ℕ
+behind_second_colon [] = []
+behind_second_colon (c ∷ cs) = cs
+
+abbrev pub behind_colon : List ℕ → List ℕ
+behind_colon [] = []
+behind_colon (c ∷ cs) = if c == 58 then behind_second_colon cs else cs
+
+abbrev pub letter_behind : ℕ → List ℕ → List ℕ
+letter_behind c cs = if c == 58 then behind_colon cs else cs
+
+-- an item and what is behind it, or a refusal
+abbrev pub Read : Type 0
+Read = Result (Item × List ℕ) DateFormatError
+
+-- a directive from its letter on
+abbrev pub letter_at : List ℕ → List ℕ → List ℕ → ℕ → List ℕ → Read
+letter_at flags digits modifier c cs =
+    Ok (directive flags digits modifier (letter_front c cs), letter_behind c cs)
+
+-- from behind its modifier on
+abbrev pub behind_modifier : List ℕ → List ℕ → ℕ → List ℕ → Read
+behind_modifier flags digits modifier [] = Err NoFormatSpecifierAfterModifier
+behind_modifier flags digits modifier (c ∷ cs) = letter_at flags digits (modifier ∷ []) c cs
+
+-- from its modifier on
+abbrev pub modifier_at : List ℕ → List ℕ → ℕ → List ℕ → Read
+modifier_at flags digits c cs =
+    if is_modifier c then behind_modifier flags digits c cs else letter_at flags digits [] c cs
+
+-- from behind its width on
+abbrev pub behind_width : List ℕ → List ℕ → List ℕ → Read
+behind_width flags digits [] = Err NoFormatSpecifier
+behind_width flags digits (c ∷ cs) =
+    if nat_lt (digits_number digits) (2 ^ 64) then modifier_at flags digits c cs else Err InvalidWidth
+
+-- from behind its flags on
+abbrev pub behind_flags : List ℕ → List ℕ → Read
+behind_flags flags text = behind_width flags (front is_digit text) (behind is_digit text)
+
+-- from behind its per cent on
+unfoldable pub directive_at : List ℕ → Read
+directive_at text = behind_flags (front is_flag text) (behind is_flag text)
+
+-- the item at the front of a text that begins with the character
+unfoldable pub item_at : ℕ → List ℕ → Read
+item_at c cs = if c == 37 then directive_at cs else Ok (literal c, cs)
+
+-- what the code keeps of a directive
+abbrev pub conversion_of : Item → Conversion → Type 0
+conversion_of (literal c) conversion = ⊥
+conversion_of (directive flags digits modifier letter) conversion =
+    (conversion.flags ≡ flags_of flags) × (conversion.width ≡ width_of digits) × (conversion.directive ≡ directive_of letter)
+
+-- a fact for a refusal that is no want of memory
+abbrev pub OnRefusal : DateFormatError → Type 0 → Type 0
+OnRefusal Memory P = Unit {0}
+OnRefusal NoFormatSpecifier P = P
+OnRefusal NoFormatSpecifierAfterModifier P = P
+OnRefusal InvalidWidth P = P
+
+-- a directive and the text behind it are what the reader says
+abbrev pub IsReadAs : Result (Conversion × Bor (List ℕ)) DateFormatError → Read → Type 0
+IsReadAs (Ok (conversion, rest)) (Ok (item, more)) = conversion_of item conversion × (chars rest.now ≡ more) × IsUtf8 rest.now
+IsReadAs (Err e) (Err r) = e ≡ r
+IsReadAs _ _ = ⊥

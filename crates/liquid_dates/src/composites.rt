@@ -1,0 +1,197 @@
+ghost use Rattle.std.specs.Prelude.{◌≡◌, ◌<◌, ◌++◌, OnOk, pos};
+ghost use Rattle.std.specs.String.{string_bytes};
+ghost use Rattle.liquid_dates.specs.DirectiveText as Spec;
+ghost use Rattle.liquid_dates.specs.Filling.{cased};
+ghost use Rattle.liquid_dates.specs.Instant.{civil_date};
+ghost use Rattle.liquid_dates.specs.Names as Names;
+
+use crate::DateTime;
+use crate::directive::Composite;
+use crate::directive_text::{text_filler, upper_half};
+use crate::flags::{Case, Flags};
+use crate::names::{short_month_name, short_weekday_name};
+use crate::numbers::hour_of_12;
+use crate::writing::{fill, write_cased, write_number};
+use std::alloc::AllocError;
+
+/// Appends a composite as its flags and its width say.
+#[tactic(auto, unfolding(crate::specs::DirectiveText::composite_text, crate::specs::Filling::filled_text))]
+pub(crate) fn composite_text(
+    out: &mut String,
+    date_time: DateTime,
+    flags: Flags,
+    width: Option<usize>,
+    composite: Composite,
+) -> Result<(), AllocError>
+    ensures { OnOk result (string_bytes out.new
+        ≡ string_bytes out.old ++ Spec.composite_text flags width composite date_time) }
+{
+    let missing = width.unwrap_or(0).saturating_sub(counted(composite));
+    fill(out, missing, text_filler(flags.filling))?;
+    composite_of(out, flags.case, composite, date_time)
+}
+
+fn counted(composite: Composite) -> usize
+    ensures { result ≡ Spec.counted composite }
+{
+    match composite {
+        Composite::DashedDate => 10,
+        Composite::NamedDate => 11,
+        Composite::HourMinute => 5,
+        Composite::SlashedDate => 8,
+        Composite::Clock => 8,
+        Composite::ClockOf12 => 11,
+        Composite::DateAndTime => 24,
+    }
+}
+
+#[tactic(auto, unfolding(crate::specs::DirectiveText::composite_of))]
+fn composite_of(
+    out: &mut String,
+    case: Case,
+    composite: Composite,
+    date_time: DateTime,
+) -> Result<(), AllocError>
+    ensures { OnOk result (string_bytes out.new
+        ≡ string_bytes out.old ++ Spec.composite_of case composite date_time) }
+{
+    match composite {
+        Composite::DashedDate => dashed_date(out, date_time),
+        Composite::NamedDate => named_date(out, date_time),
+        Composite::HourMinute => hour_minute(out, date_time),
+        Composite::SlashedDate => slashed_date(out, date_time),
+        Composite::Clock => clock(out, date_time),
+        Composite::ClockOf12 => clock_of_12(out, date_time),
+        Composite::DateAndTime => date_and_time(out, case, date_time),
+    }
+}
+
+/// Appends a number, filled by zeros to two characters.
+pub(crate) fn write_two(out: &mut String, number: u8) -> Result<(), AllocError>
+    ensures { OnOk result (string_bytes out.new ≡ string_bytes out.old ++ Spec.two number) }
+{
+    write_number(out, false, 2, i64::from(number))
+}
+
+fn write_year(out: &mut String, date_time: &DateTime) -> Result<(), AllocError>
+    ensures { OnOk result
+        (string_bytes out.new ≡ string_bytes out.old ++ Spec.year_of_four date_time.now) }
+{
+    write_number(out, false, 4, i64::from(date_time.year()))
+}
+
+// Appends the remainder of the year by 100, filled by zeros to two characters.
+#[tactic(auto, unfolding(crate::specs::DirectiveText::year_of_two))]
+fn write_short_year(out: &mut String, date_time: &DateTime) -> Result<(), AllocError>
+    ensures { OnOk result
+        (string_bytes out.new ≡ string_bytes out.old ++ Spec.year_of_two date_time.now) }
+{
+    write_number(out, false, 2, i64::from(date_time.year()) % 100)
+}
+
+#[tactic(auto, unfolding(crate::specs::DirectiveText::hour_minute_of))]
+fn hour_minute(out: &mut String, date_time: DateTime) -> Result<(), AllocError>
+    ensures { OnOk result
+        (string_bytes out.new ≡ string_bytes out.old ++ Spec.hour_minute_of date_time) }
+{
+    write_two(out, date_time.hour())?;
+    out.push_str(":")?;
+    write_two(out, date_time.minute())
+}
+
+#[tactic(auto, unfolding(crate::specs::DirectiveText::clock_of))]
+fn clock(out: &mut String, date_time: DateTime) -> Result<(), AllocError>
+    ensures { OnOk result
+        (string_bytes out.new ≡ string_bytes out.old ++ Spec.clock_of date_time) }
+{
+    hour_minute(out, date_time)?;
+    out.push_str(":")?;
+    write_two(out, date_time.second())
+}
+
+#[tactic(auto, unfolding(crate::specs::DirectiveText::clock_of_12))]
+fn clock_of_12(out: &mut String, date_time: DateTime) -> Result<(), AllocError>
+    ensures { OnOk result
+        (string_bytes out.new ≡ string_bytes out.old ++ Spec.clock_of_12 date_time) }
+{
+    let time = date_time.local().to_plain().time;
+    write_two(out, hour_of_12(time))?;
+    out.push_str(":")?;
+    write_two(out, time.minute)?;
+    out.push_str(":")?;
+    write_two(out, time.second)?;
+    out.push_str(" ")?;
+    out.push_str(upper_half(time))
+}
+
+#[tactic(auto, unfolding(crate::specs::DirectiveText::dashed_date))]
+fn dashed_date(out: &mut String, date_time: DateTime) -> Result<(), AllocError>
+    ensures { OnOk result
+        (string_bytes out.new ≡ string_bytes out.old ++ Spec.dashed_date date_time) }
+{
+    write_year(out, &date_time)?;
+    out.push_str("-")?;
+    write_two(out, date_time.month())?;
+    out.push_str("-")?;
+    write_two(out, date_time.day())
+}
+
+#[tactic(auto, unfolding(crate::specs::DirectiveText::named_date))]
+fn named_date(out: &mut String, date_time: DateTime) -> Result<(), AllocError>
+    ensures { OnOk result
+        (string_bytes out.new ≡ string_bytes out.old ++ Spec.named_date date_time) }
+{
+    write_number(out, true, 2, i64::from(date_time.day()))?;
+    out.push_str("-")?;
+    write_short_month(out, Case::Upper, date_time)?;
+    out.push_str("-")?;
+    write_year(out, &date_time)
+}
+
+#[tactic(auto, unfolding(crate::specs::DirectiveText::slashed_date))]
+fn slashed_date(out: &mut String, date_time: DateTime) -> Result<(), AllocError>
+    ensures { OnOk result
+        (string_bytes out.new ≡ string_bytes out.old ++ Spec.slashed_date date_time) }
+{
+    write_two(out, date_time.month())?;
+    out.push_str("/")?;
+    write_two(out, date_time.day())?;
+    out.push_str("/")?;
+    write_short_year(out, &date_time)
+}
+
+#[tactic(auto, unfolding(crate::specs::DirectiveText::date_and_time))]
+fn date_and_time(out: &mut String, case: Case, date_time: DateTime) -> Result<(), AllocError>
+    ensures { OnOk result
+        (string_bytes out.new ≡ string_bytes out.old ++ Spec.date_and_time case date_time) }
+{
+    named_day(out, case, date_time)?;
+    out.push_str(" ")?;
+    clock(out, date_time)?;
+    out.push_str(" ")?;
+    write_year(out, &date_time)
+}
+
+#[tactic(auto, unfolding(crate::specs::DirectiveText::named_day))]
+fn named_day(out: &mut String, case: Case, date_time: DateTime) -> Result<(), AllocError>
+    ensures { OnOk result
+        (string_bytes out.new ≡ string_bytes out.old ++ Spec.named_day case date_time) }
+{
+    let date = date_time.local().to_plain().date;
+    write_cased(out, short_weekday_name(date.weekday().index()), case)?;
+    out.push_str(" ")?;
+    write_short_month(out, case, date_time)?;
+    out.push_str(" ")?;
+    write_number(out, true, 2, i64::from(date.day))
+}
+
+fn write_short_month(
+    out: &mut String,
+    case: Case,
+    date_time: DateTime,
+) -> Result<(), AllocError>
+    ensures { OnOk result (string_bytes out.new
+        ≡ string_bytes out.old ++ cased case (Names.short_month_name (civil_date date_time).month)) }
+{
+    write_cased(out, short_month_name(date_time.local().to_plain().date.month), case)
+}

@@ -1,0 +1,93 @@
+ghost use Rattle.std.specs.Prelude.{◌≡◌, ◌↔◌, IsOk, IfOk, IfErr};
+ghost use Rattle.jiff_core.specs.declared.civil.date.Date.{Date as CivilDate};
+ghost use Rattle.jiff_core.specs.Calendar.{IsCivilDate};
+ghost use Rattle.jiff_core.specs.Date.{ordinal};
+ghost use Rattle.liquid_dates.specs.IsoWeek.{iso_week};
+
+use crate::DateError;
+use jiff::civil;
+use std::marker::Model;
+
+/// A day of the calendar, from -9999-01-01 to 9999-12-31.
+#[derive(Clone, Copy, PartialEq, Eq, PartialOrd, Ord, Hash)]
+pub struct Date {
+    inner: civil::Date,
+}
+
+impl Model for Date {
+    ghost Value = { CivilDate };
+
+    ghost view = { λ a. a.inner };
+
+    ghost inverse = { λ d. record { inner = d } };
+}
+
+impl Date {
+    /// The date with these parts, if the calendar has it.
+    pub fn from_ymd(year: i32, month: u8, day: u8) -> Result<Date, DateError>
+        ensures succeeds { IsOk result ↔ IsCivilDate year month day }
+        ensures value { IfOk result
+            (λ d. (d.year ≡ year) × (d.month ≡ month) × (d.day ≡ day)) }
+        ensures err { IfErr result (λ e. e ≡ DateError.PartOutOfRange) }
+    {
+        if year < -9999 || year > 9999 || month < 1 || month > 12 || day < 1 {
+            return Err(DateError::PartOutOfRange);
+        }
+        let year = year as i16;
+        if day > jiff_core::civil::days_in_month(year, month) {
+            return Err(DateError::PartOutOfRange);
+        }
+        let plain = jiff_core::civil::Date { year, month, day };
+        Ok(Date::from_civil(civil::Date::from_plain(plain)))
+    }
+
+    /// The year.
+    pub fn year(&self) -> i32
+        ensures { result ≡ self.now.year }
+    {
+        i32::from(self.inner.year())
+    }
+
+    /// The month, from 1.
+    pub fn month(&self) -> u8
+        ensures { result ≡ self.now.month }
+    {
+        self.inner.to_plain().month
+    }
+
+    /// The day of the month, from 1.
+    pub fn day(&self) -> u8
+        ensures { result ≡ self.now.day }
+    {
+        self.inner.to_plain().day
+    }
+
+    /// The place in the year, from 1.
+    pub fn ordinal(&self) -> u16
+        ensures { result ≡ ordinal self.now }
+    {
+        self.inner.to_plain().day_of_year()
+    }
+
+    /// The week of the ISO 8601 year, from 1.
+    #[tactic(auto, using(crate::proofs::IsoWeekLemmas::week_date_is))]
+    pub fn iso_week(&self) -> u8
+        ensures { result ≡ iso_week self.now }
+    {
+        self.inner.iso_week_date().to_plain().week
+    }
+
+    /// From the civil date that it is.
+    pub(crate) fn from_civil(inner: civil::Date) -> Date
+        ensures { result ≡ inner }
+    {
+        Date { inner }
+    }
+
+    /// The civil date that it is.
+    pub(crate) fn to_civil(self) -> civil::Date
+        ensures { result ≡ self }
+    {
+        self.inner
+    }
+}

@@ -1,0 +1,196 @@
+ghost use Rattle.std.specs.Prelude.{◌≡◌, ◌-◌, ◌^◌, ◌<◌, ◌++◌, OnOk, true};
+ghost use Rattle.std.specs.Int.{IsInRange};
+ghost use Rattle.std.specs.String.{string_bytes};
+ghost use Rattle.liquid_dates.specs.DirectiveText as Spec;
+ghost use Rattle.liquid_dates.specs.Filling.{is_ascii_text, cased, fills_by_spaces, text_filler};
+
+use crate::DateTime;
+use crate::composites::composite_text;
+use crate::directive::{Directive, Name, Number};
+use crate::flags::{Case, Filling, Flags};
+use crate::names::{month_name, short_month_name, short_weekday_name, weekday_name};
+use crate::numbers::{default_width, number_value};
+use crate::offset_text::offset_of;
+use crate::writing::{fill, write_cased, write_number};
+use jiff_core::civil::Time;
+use std::alloc::AllocError;
+
+/// Appends what a directive prints of a date time.
+#[tactic(auto, unfolding(crate::specs::DirectiveText::directive_text))]
+pub(crate) fn write_directive(
+    out: &mut String,
+    date_time: DateTime,
+    flags: Flags,
+    width: Option<usize>,
+    directive: Directive,
+) -> Result<(), AllocError>
+    ensures { OnOk result (string_bytes out.new
+        ≡ string_bytes out.old ++ Spec.directive_text date_time flags width directive) }
+{
+    match directive {
+        Directive::OfNumber(number, spaced) => {
+            number_text(out, date_time, flags, width, number, spaced)
+        }
+        Directive::OfName(name) => name_text(out, date_time, flags, width, name),
+        Directive::OfComposite(composite) => {
+            composite_text(out, date_time, flags, width, composite)
+        }
+        Directive::OfFraction(digits) => {
+            fraction_of(out, width.unwrap_or(digits), date_time.nanosecond())
+        }
+        Directive::OfOffset(offset) => offset_of(out, date_time, flags, width, offset),
+    }
+}
+
+#[tactic(auto, unfolding(crate::specs::DirectiveText::number_text))]
+fn number_text(
+    out: &mut String,
+    date_time: DateTime,
+    flags: Flags,
+    width: Option<usize>,
+    number: Number,
+    spaced: bool,
+) -> Result<(), AllocError>
+    ensures { OnOk result (string_bytes out.new
+        ≡ string_bytes out.old ++ Spec.number_text flags width spaced number date_time) }
+{
+    let value = number_value(number, date_time);
+    let width = number_width(flags, width, number, value);
+    write_number(out, fills_by_spaces(flags.filling, spaced), width, value)
+}
+
+fn number_width(flags: Flags, width: Option<usize>, number: Number, value: i64) -> usize
+    ensures { result ≡ Spec.number_width flags width number value }
+{
+    if flags.unfilled {
+        return 0;
+    }
+    let default = default_width(number);
+    width.unwrap_or(if value < 0 { default + 1 } else { default })
+}
+
+fn fills_by_spaces(filling: Filling, spaced: bool) -> bool
+    ensures { result ≡ fills_by_spaces filling spaced }
+{
+    match filling {
+        Filling::Unset => spaced,
+        Filling::Zeros => false,
+        Filling::Spaces => true,
+    }
+}
+
+/// What a text is filled by.
+pub(crate) fn text_filler(filling: Filling) -> char
+    ensures value { result ≡ text_filler filling }
+    ensures ascii { result < 128 }
+{
+    match filling {
+        Filling::Unset => ' ',
+        Filling::Zeros => '0',
+        Filling::Spaces => ' ',
+    }
+}
+
+#[tactic(auto, unfolding(crate::specs::DirectiveText::name_text, crate::specs::Filling::filled_text))]
+fn name_text(
+    out: &mut String,
+    date_time: DateTime,
+    flags: Flags,
+    width: Option<usize>,
+    name: Name,
+) -> Result<(), AllocError>
+    ensures { OnOk result (string_bytes out.new
+        ≡ string_bytes out.old ++ Spec.name_text flags width name date_time) }
+{
+    let width = if flags.unfilled { 0 } else { width.unwrap_or(0) };
+    let filler = text_filler(flags.filling);
+    let (text, case) = name_of(flags.case, name, date_time);
+    fill(out, width.saturating_sub(text.len()), filler)?;
+    write_cased(out, text, case)
+}
+
+// A name's text, and the case in which it is written.
+#[tactic(auto, unfolding(crate::specs::DirectiveText::name_of))]
+fn name_of(case: Case, name: Name, date_time: DateTime) -> (&'static str, Case)
+    ensures value { cased result.1 result.0.now ≡ Spec.name_of case name date_time }
+    ensures ascii { is_ascii_text result.0.now ≡ true }
+{
+    let local = date_time.local().to_plain();
+    match name {
+        Name::ShortMonth => (short_month_name(local.date.month), case),
+        Name::WholeMonth => (month_name(local.date.month), case),
+        Name::ShortWeekday => (short_weekday_name(local.date.weekday().index()), case),
+        Name::WholeWeekday => (weekday_name(local.date.weekday().index()), case),
+        Name::UpperHalf => (upper_half_as(case, local.time), Case::Plain),
+        Name::LowerHalf => (lower_half_as(case, local.time), Case::Plain),
+        Name::LineFeed => ("\n", Case::Plain),
+        Name::Tab => ("\t", Case::Plain),
+        Name::Percent => ("%", Case::Plain),
+    }
+}
+
+/// `AM` before noon, `PM` from then on.
+pub(crate) fn upper_half(time: Time) -> &'static str
+    ensures value { result.now ≡ Spec.upper_half time.hour }
+    ensures ascii { is_ascii_text result.now ≡ true }
+{
+    if time.hour < 12 { "AM" } else { "PM" }
+}
+
+fn lower_half(time: Time) -> &'static str
+    ensures value { result.now ≡ Spec.lower_half time.hour }
+    ensures ascii { is_ascii_text result.now ≡ true }
+{
+    if time.hour < 12 { "am" } else { "pm" }
+}
+
+fn upper_half_as(case: Case, time: Time) -> &'static str
+    ensures value { result.now ≡ Spec.upper_half_as case time.hour }
+    ensures ascii { is_ascii_text result.now ≡ true }
+{
+    match case {
+        Case::Plain => upper_half(time),
+        Case::Upper => upper_half(time),
+        Case::Change => lower_half(time),
+    }
+}
+
+fn lower_half_as(case: Case, time: Time) -> &'static str
+    ensures value { result.now ≡ Spec.lower_half_as case time.hour }
+    ensures ascii { is_ascii_text result.now ≡ true }
+{
+    match case {
+        Case::Plain => lower_half(time),
+        Case::Upper => upper_half(time),
+        Case::Change => upper_half(time),
+    }
+}
+
+#[tactic(auto, unfolding(crate::specs::DirectiveText::fraction_of))]
+fn fraction_of(out: &mut String, digits: usize, nanosecond: u32) -> Result<(), AllocError>
+    requires { nanosecond < 1_000_000_000 }
+    ensures { OnOk result
+        (string_bytes out.new ≡ string_bytes out.old ++ Spec.fraction_of digits nanosecond) }
+{
+    write_number(out, false, digits.min(9), i64::from(nanosecond / unit_of(digits)))?;
+    fill(out, digits.saturating_sub(9), '0')
+}
+
+// What the last of so many digits of the fraction counts, in nanoseconds.
+fn unit_of(digits: usize) -> u32
+    ensures value { result ≡ 10 ^ (9 - digits) }
+    ensures bound { IsInRange 1 1_000_000_000 result }
+{
+    match digits {
+        0 => 1_000_000_000,
+        1 => 100_000_000,
+        2 => 10_000_000,
+        3 => 1_000_000,
+        4 => 100_000,
+        5 => 10_000,
+        6 => 1_000,
+        7 => 100,
+        8 => 10,
+        _ => 1,
+    }
+}

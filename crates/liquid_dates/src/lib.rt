@@ -1,0 +1,22 @@
+//! Dates and date times of Liquid templates: their parts, their texts, and `strftime` patterns.
+#![tactic(auto)]
+
+mod composites;
+mod date;
+mod date_time;
+mod directive;
+mod directive_text;
+mod error;
+mod flags;
+mod laws;
+mod names;
+mod numbers;
+mod offset_text;
+mod pattern;
+mod printed;
+mod writing;
+
+pub use date::Date;
+pub use date_time::DateTime;
+pub use error::{DateError, DateFormatError};
+pub use laws::patterns_have_one_reading;

@@ -1,0 +1,106 @@
+ghost use Rattle.std.specs.Prelude.{◌≡◌, ◌/◌, ◌++◌, OnOk, [], ◌∷◌, false, pos, unsigned_abs};
+ghost use Rattle.std.specs.String.{string_bytes};
+ghost use Rattle.jiff_core.specs.Timestamp.{IsOffsetSeconds};
+ghost use Rattle.liquid_dates.specs.DirectiveText as Spec;
+ghost use Rattle.liquid_dates.specs.Filling.{filled_number};
+ghost use Rattle.liquid_dates.specs.Printed.{sign_of};
+
+use crate::DateTime;
+use crate::composites::write_two;
+use crate::directive::Offset;
+use crate::flags::{Filling, Flags};
+use crate::writing::{digit_count, fill, write_number};
+use std::alloc::AllocError;
+
+/// Appends the offset as its flags and its width say.
+#[tactic(auto, unfolding(crate::specs::DirectiveText::offset_of))]
+pub(crate) fn offset_of(
+    out: &mut String,
+    date_time: DateTime,
+    flags: Flags,
+    width: Option<usize>,
+    offset: Offset,
+) -> Result<(), AllocError>
+    ensures { OnOk result (string_bytes out.new
+        ≡ string_bytes out.old ++ Spec.offset_of flags width offset date_time) }
+{
+    let seconds = date_time.offset();
+    signed_hours(out, flags.filling, hours_width(width, offset), seconds)?;
+    offset_minutes(out, offset, seconds)
+}
+
+fn hours_width(width: Option<usize>, offset: Offset) -> usize
+    ensures { result ≡ Spec.hours_width width offset }
+{
+    let length = match offset {
+        Offset::Joined => 5,
+        Offset::Minutes => 6,
+        Offset::Seconds => 9,
+    };
+    2 + width.unwrap_or(0).saturating_sub(length)
+}
+
+#[tactic(auto, unfolding(crate::specs::DirectiveText::signed_hours))]
+fn signed_hours(
+    out: &mut String,
+    filling: Filling,
+    width: usize,
+    seconds: i32,
+) -> Result<(), AllocError>
+    requires { IsOffsetSeconds seconds }
+    ensures { OnOk result (string_bytes out.new
+        ≡ string_bytes out.old ++ Spec.signed_hours filling width seconds) }
+{
+    let hours = seconds.unsigned_abs() / 3600;
+    match filling {
+        Filling::Unset => zero_filled_hours(out, width, seconds),
+        Filling::Zeros => zero_filled_hours(out, width, seconds),
+        Filling::Spaces => {
+            fill(out, width.saturating_sub(1 + digit_count(u64::from(hours))), ' ')?;
+            write_sign(out, seconds)?;
+            write!(out, "{hours}")
+        }
+    }
+}
+
+fn zero_filled_hours(out: &mut String, width: usize, seconds: i32) -> Result<(), AllocError>
+    requires { IsOffsetSeconds seconds }
+    ensures { OnOk result (string_bytes out.new ≡ string_bytes out.old
+        ++ (sign_of seconds ∷ filled_number false width (pos (unsigned_abs seconds / 3600)))) }
+{
+    write_sign(out, seconds)?;
+    write_number(out, false, width, i64::from(seconds.unsigned_abs() / 3600))
+}
+
+fn write_sign(out: &mut String, seconds: i32) -> Result<(), AllocError>
+    ensures { OnOk result
+        (string_bytes out.new ≡ string_bytes out.old ++ sign_of seconds ∷ []) }
+{
+    if seconds < 0 {
+        return out.push_str("-");
+    }
+    out.push_str("+")
+}
+
+#[tactic(auto, unfolding(crate::specs::DirectiveText::offset_minutes))]
+fn offset_minutes(out: &mut String, offset: Offset, seconds: i32) -> Result<(), AllocError>
+    requires { IsOffsetSeconds seconds }
+    ensures { OnOk result (string_bytes out.new
+        ≡ string_bytes out.old ++ Spec.offset_minutes offset seconds) }
+{
+    let size = seconds.unsigned_abs();
+    let minutes = (size / 60 % 60) as u8;
+    match offset {
+        Offset::Joined => write_two(out, minutes),
+        Offset::Minutes => {
+            out.push_str(":")?;
+            write_two(out, minutes)
+        }
+        Offset::Seconds => {
+            out.push_str(":")?;
+            write_two(out, minutes)?;
+            out.push_str(":")?;
+            write_two(out, (size % 60) as u8)
+        }
+    }
+}

@@ -1,0 +1,209 @@
+ghost use Rattle.std.specs.Prelude.{◌≡◌, ℕ, List, ◌+◌, ◌*◌, ◌<◌, ◌==◌, if◌then◌else◌, true, [], ◌∷◌, length, IfSome, MatchOption};
+ghost use Rattle.std.specs.Str.{chars, IsUtf8};
+ghost use Rattle.liquid_dates.specs.Flags.{is_flag, is_digit, is_modifier, no_flags, flags_of, width_of};
+ghost use Rattle.liquid_dates.specs.Letters.{directive_of};
+ghost use Rattle.liquid_dates.specs.PatternReader as Reader;
+ghost use Rattle.liquid_dates.specs.PatternReader.{IsReadAs};
+
+use crate::DateFormatError;
+use crate::directive::{Directive, Offset, letter_directive};
+use crate::flags::{Flags, is_flag};
+
+/// The width of a directive.
+#[derive(Clone, Copy)]
+pub(crate) enum Width {
+    /// No digit is given.
+    Unset,
+    Given(usize),
+    /// No `usize` holds the number.
+    TooGreat,
+}
+
+/// A directive as its flags, its width and its letter say. There is no directive for a letter
+/// that stands for nothing.
+#[derive(Clone, Copy)]
+pub(crate) struct Conversion {
+    pub flags: Flags,
+    pub width: Option<usize>,
+    pub directive: Option<Directive>,
+}
+
+/// The first character of a text, and what is behind it.
+pub(crate) fn split_first(text: &str) -> Option<(char, &str)>
+    ensures cases { MatchOption result (chars text.now ≡ [])
+        (λ p. chars text.now ≡ p.0 ∷ chars p.1.now) }
+    ensures shorter { IfSome result (λ p. length p.1.now < length text.now) }
+    ensures utf8 { IfSome result (λ p. IsUtf8 p.1.now) }
+{
+    let mut characters = text.chars();
+    match characters.next() {
+        Some(first) => Some((first, characters.as_str())),
+        None => None,
+    }
+}
+
+// The flags at the front, and what is behind them.
+fn read_flags(text: &str) -> (Flags, &str)
+    ensures flags { result.0 ≡ Reader.flags_from no_flags (chars text.now) }
+    ensures rest { chars result.1.now ≡ Reader.behind is_flag (chars text.now) }
+    ensures utf8 { IsUtf8 result.1.now }
+{
+    let mut flags = Flags::NONE;
+    let mut rest = text;
+    'flags: while let Some((c, after)) = split_first(rest) {
+        if !is_flag(c) {
+            break;
+        }
+        flags = flags.with(c);
+        rest = after;
+    }
+    (flags, rest)
+}
+
+impl Width {
+    // The width with one digit more.
+    fn with(self, digit: char) -> Width
+        requires { is_digit digit ≡ true }
+        ensures { result ≡ Reader.with_digit self digit }
+    {
+        let value = digit as usize - 48;
+        match self {
+            Width::Unset => Width::Given(value),
+            Width::Given(number) => with_value(number, value),
+            Width::TooGreat => Width::TooGreat,
+        }
+    }
+}
+
+fn with_value(number: usize, value: usize) -> Width
+    requires { value < 10 }
+    ensures { result ≡ Reader.bounded_width (number * 10 + value) }
+{
+    match number.checked_mul(10) {
+        Some(tenfold) => match tenfold.checked_add(value) {
+            Some(sum) => Width::Given(sum),
+            None => Width::TooGreat,
+        },
+        None => Width::TooGreat,
+    }
+}
+
+// The digits at the front, and what is behind them.
+fn read_width(text: &str) -> (Width, &str)
+    ensures width { result.0 ≡ Reader.width_from Width.Unset (chars text.now) }
+    ensures rest { chars result.1.now ≡ Reader.behind is_digit (chars text.now) }
+    ensures utf8 { IsUtf8 result.1.now }
+{
+    let mut width = Width::Unset;
+    let mut rest = text;
+    'digits: while let Some((c, after)) = split_first(rest) {
+        if !is_digit(c) {
+            break;
+        }
+        width = width.with(c);
+        rest = after;
+    }
+    (width, rest)
+}
+
+fn is_digit(c: char) -> bool
+    ensures { result ≡ is_digit c }
+{
+    c >= '0' && c <= '9'
+}
+
+// What a letter stands for, and what is behind it. A `:` takes the next character, and a second
+// one takes one more.
+#[tactic(auto, unfolding(crate::specs::Letters::directive_of), using(crate::proofs::CharLemmas::colon_letter))]
+fn read_letter(first: char, text: &str) -> (Option<Directive>, &str)
+    ensures directive { result.0 ≡ directive_of (Reader.letter_front first (chars text.now)) }
+    ensures rest { chars result.1.now ≡ Reader.letter_behind first (chars text.now) }
+    ensures utf8 { IsUtf8 result.1.now }
+{
+    if first != ':' {
+        return (letter_directive(first), text);
+    }
+    let Some((second, after)) = split_first(text) else {
+        return (None, text);
+    };
+    if second != ':' {
+        return (offset_if_z(second, Offset::Minutes), after);
+    }
+    match split_first(after) {
+        Some((third, rest)) => (offset_if_z(third, Offset::Seconds), rest),
+        None => (None, after),
+    }
+}
+
+fn offset_if_z(letter: char, offset: Offset) -> Option<Directive>
+    ensures { result ≡ if letter == 122 then Some (Directive.OfOffset offset) else None }
+{
+    if letter == 'z' {
+        return Some(Directive::OfOffset(offset));
+    }
+    None
+}
+
+fn is_modifier(c: char) -> bool
+    ensures { result ≡ is_modifier c }
+{
+    c == 'E' || c == 'O'
+}
+
+// A directive from its letter on, and what is behind it.
+fn with_letter(
+    flags: Flags,
+    width: Option<usize>,
+    letter: char,
+    text: &str,
+) -> (Conversion, &str)
+    ensures flags { result.0.flags ≡ flags }
+    ensures width { result.0.width ≡ width }
+    ensures directive { result.0.directive
+        ≡ directive_of (Reader.letter_front letter (chars text.now)) }
+    ensures rest { chars result.1.now ≡ Reader.letter_behind letter (chars text.now) }
+    ensures utf8 { IsUtf8 result.1.now }
+{
+    let (directive, rest) = read_letter(letter, text);
+    let conversion = Conversion {
+        flags,
+        width,
+        directive,
+    };
+    (conversion, rest)
+}
+
+// A directive from behind its width on, where its first character is taken.
+fn from_modifier(
+    flags: Flags,
+    width: Option<usize>,
+    first: char,
+    text: &str,
+) -> Result<(Conversion, &str), DateFormatError>
+    ensures { (fs ds : List ℕ) → flags ≡ flags_of fs → width ≡ width_of ds
+        → IsReadAs result (Reader.modifier_at fs ds first (chars text.now)) }
+{
+    if !is_modifier(first) {
+        return Ok(with_letter(flags, width, first, text));
+    }
+    let Some((letter, after)) = split_first(text) else {
+        return Err(DateFormatError::NoFormatSpecifierAfterModifier);
+    };
+    Ok(with_letter(flags, width, letter, after))
+}
+
+/// A directive, from behind its per cent on, and what is behind it.
+pub(crate) fn read_conversion(text: &str) -> Result<(Conversion, &str), DateFormatError>
+    ensures { IsReadAs result (Reader.directive_at (chars text.now)) }
+{
+    let (flags, behind_flags) = read_flags(text);
+    let (width, behind_width) = read_width(behind_flags);
+    let Some((first, after)) = split_first(behind_width) else {
+        return Err(DateFormatError::NoFormatSpecifier);
+    };
+    match width {
+        Width::Unset => from_modifier(flags, None, first, after),
+        Width::Given(number) => from_modifier(flags, Some(number), first, after),
+        Width::TooGreat => Err(DateFormatError::InvalidWidth),
+    }
+}

@@ -1,0 +1,108 @@
+ghost use Rattle.std.specs.Prelude.{◌≡◌, ◌<◌, ◌++◌, OnOk, length, replicate};
+ghost use Rattle.std.specs.Fmt.{decimal};
+ghost use Rattle.std.specs.String.{string_bytes};
+ghost use Rattle.liquid_dates.specs.Filling as Spec;
+ghost use Rattle.liquid_dates.specs.Filling.{is_ascii_text};
+ghost use Rattle.std.specs.Prelude.{true};
+
+use crate::flags::Case;
+use std::alloc::AllocError;
+
+/// Appends that many copies of an ASCII character. Room for all of them is made first.
+pub(crate) fn fill(out: &mut String, count: usize, filler: char) -> Result<(), AllocError>
+    requires { filler < 128 }
+    ensures { OnOk result (string_bytes out.new ≡ string_bytes out.old ++ replicate count filler) }
+{
+    out.reserve(count)?;
+    'fill: for _ in 0..count {
+        out.push(filler)?;
+    }
+    Ok(())
+}
+
+/// Appends a number filled up to a width: by spaces before its sign, or by zeros behind it.
+#[tactic(auto, unfolding(crate::specs::Filling::filled_number))]
+pub(crate) fn write_number(
+    out: &mut String,
+    spaces: bool,
+    width: usize,
+    value: i64,
+) -> Result<(), AllocError>
+    ensures { OnOk result
+        (string_bytes out.new ≡ string_bytes out.old ++ Spec.filled_number spaces width value) }
+{
+    let size = value.unsigned_abs();
+    let missing = missing(width, value);
+    if spaces {
+        fill(out, missing, ' ')?;
+        write_sign(out, value)?;
+        return write_digits(out, size);
+    }
+    write_sign(out, value)?;
+    fill(out, missing, '0')?;
+    write_digits(out, size)
+}
+
+// How many characters a number lacks to a width.
+fn missing(width: usize, value: i64) -> usize
+    ensures { result ≡ Spec.missing width value }
+{
+    let digits = digit_count(value.unsigned_abs());
+    if value < 0 {
+        return width.saturating_sub(1 + digits);
+    }
+    width.saturating_sub(digits)
+}
+
+fn write_sign(out: &mut String, value: i64) -> Result<(), AllocError>
+    ensures { OnOk result (string_bytes out.new ≡ string_bytes out.old ++ Spec.minus value) }
+{
+    if value < 0 {
+        return out.push('-');
+    }
+    Ok(())
+}
+
+fn write_digits(out: &mut String, number: u64) -> Result<(), AllocError>
+    ensures { OnOk result (string_bytes out.new ≡ string_bytes out.old ++ decimal number) }
+{
+    write!(out, "{number}")
+}
+
+/// How many decimal digits a number has.
+pub(crate) fn digit_count(number: u64) -> usize
+    ensures value { result ≡ length (decimal number) }
+    ensures bound { result < 21 }
+{
+    let mut left = number;
+    let mut count = 1;
+    while left >= 10 {
+        left /= 10;
+        count += 1;
+    }
+    count
+}
+
+/// Appends an ASCII text, in upper case where a flag asks for it.
+pub(crate) fn write_cased(out: &mut String, text: &str, case: Case) -> Result<(), AllocError>
+    requires { is_ascii_text text.now ≡ true }
+    ensures { OnOk result
+        (string_bytes out.new ≡ string_bytes out.old ++ Spec.cased case text.now) }
+{
+    match case {
+        Case::Plain => out.push_str(text),
+        Case::Upper => write_upper(out, text),
+        Case::Change => write_upper(out, text),
+    }
+}
+
+fn write_upper(out: &mut String, text: &str) -> Result<(), AllocError>
+    requires { is_ascii_text text.now ≡ true }
+    ensures { OnOk result
+        (string_bytes out.new ≡ string_bytes out.old ++ Spec.cased Case.Upper text.now) }
+{
+    for byte in text.as_bytes() {
+        out.push(char::from(byte.to_ascii_uppercase()))?;
+    }
+    Ok(())
+}
