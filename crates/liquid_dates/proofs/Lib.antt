@@ -7,3 +7,8 @@ pub mod WeekLemmas
 pub mod CharLemmas
 pub mod PatternReaderLemmas
 pub mod PatternLemmas
+pub mod FrontLemmas
+pub mod FormatLemmas
+pub mod ReaderLemmas
+pub mod DateTextLemmas
+pub mod WholeLemmas

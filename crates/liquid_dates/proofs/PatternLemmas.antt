@@ -262,7 +262,7 @@ pub record Reading (text : List ℕ) : Type 0 where
   pub end : Option DateFormatError
   pub is : IsReading text items end
 
-shorter : (i : Item) (rest : List ℕ) → length rest < length (spelling i ++ rest)
+pub shorter : (i : Item) (rest : List ℕ) → length rest < length (spelling i ++ rest)
 unfolding spelling
 shorter (literal c) rest = omega arith
 shorter (directive f w m t) rest = omega (arith, length-append (f ++ (w ++ (m ++ t))) rest)

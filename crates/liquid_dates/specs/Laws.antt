@@ -12,3 +12,4 @@ abbrev pub PatternsHaveOneReading : Type 0
 PatternsHaveOneReading =
     (text : List ℕ) (items items₂ : List Item) (end end₂ : Option DateFormatError)
     → IsReading text items end → IsReading text items₂ end₂ → (items ≡ items₂) × (end ≡ end₂)
+

@@ -1,3 +1,5 @@
+pub mod DateReader
+pub mod DateText
 pub mod DirectiveText
 pub mod ErrorText
 pub mod Filling

@@ -1,5 +1,9 @@
 -- A reader of patterns, item by item. It is a bridge between the code and the relation of `Pattern`: what it reads is proved to be what that relation says.
-use Rattle.std.specs.Prelude.{ℕ, ◌+◌, ◌-◌, ◌*◌, ◌^◌, Bool, nat_lt, ◌==◌, if◌then◌else◌, List, [], ◌∷◌, Result, Ok, Err, ◌≡◌}
+use Rattle.std.specs.Prelude.{ℕ, ◌+◌, ◌-◌, ◌*◌, ◌^◌, Bool, nat_lt, ◌==◌, if◌then◌else◌, List, [], ◌∷◌, ◌++◌, Result, Ok, Err, ◌≡◌}
+use Rattle.std.specs.Prelude.{String, string_bytes, Option, Some, None}
+use Rattle.liquid_dates.specs.declared.date_time.DateTime.{DateTime}
+use Rattle.liquid_dates.specs.declared.directive.Directive.{Directive}
+use Rattle.liquid_dates.specs.DirectiveText.{directive_text}
 use Rattle.liquid_dates.specs.declared.flags.Flags.{Flags}
 use Rattle.liquid_dates.specs.declared.pattern.Width.{Width}
 use Rattle.liquid_dates.specs.declared.pattern.Width.TheVariants.{Unset, Given, TooGreat}
@@ -10,7 +14,7 @@ use Rattle.liquid_dates.specs.Flags.{is_flag, with_flag, flags_of, is_digit, dig
 use Rattle.std.specs.Str.{chars, IsUtf8}
 use Rattle.std.specs.Borrow.{Bor}
 use Rattle.liquid_dates.specs.Letters.{directive_of}
-use Rattle.liquid_dates.specs.Pattern.{Item, literal, directive}
+use Rattle.liquid_dates.specs.Pattern.{Item, literal, directive, item_print}
 
 -- the characters at the front that pass, and what is behind them
 abbrev pub front : (ℕ → Bool) → List ℕ → List ℕ
@@ -120,3 +124,22 @@ abbrev pub IsReadAs : Result (Conversion × Bor (List ℕ)) DateFormatError → 
 IsReadAs (Ok (conversion, rest)) (Ok (item, more)) = conversion_of item conversion × (chars rest.now ≡ more) × IsUtf8 rest.now
 IsReadAs (Err e) (Err r) = e ≡ r
 IsReadAs _ _ = ⊥
+
+-- what the code prints of a directive
+abbrev pub conversion_print : DateTime → Flags → Option ℕ → Option Directive → List ℕ → List ℕ
+conversion_print dt flags width None spelling = spelling
+conversion_print dt flags width (Some d) spelling = directive_text dt flags width d
+
+-- a text has the rest at its end
+abbrev pub HasRest : List ℕ → List ℕ → Type 0
+HasRest text rest = (front : List ℕ) × (text ≡ front ++ rest)
+
+-- the item that was read is printed, and the rest behind it is left
+abbrev pub IsPrinted : DateTime → Read → List ℕ → List ℕ → List ℕ → Type 0
+IsPrinted dt (Ok (item, more)) rest old new = (more ≡ rest) × (new ≡ old ++ item_print dt item)
+IsPrinted dt (Err e) rest old new = ⊥
+
+-- the result is the answer, or want of memory
+abbrev pub IsAnswer : {A : Type 0} → Result (String A) DateFormatError → Result (List ℕ) DateFormatError → Type 0
+IsAnswer (Ok s) answer = answer ≡ Ok (string_bytes s)
+IsAnswer (Err e) answer = OnRefusal e (answer ≡ Err e)

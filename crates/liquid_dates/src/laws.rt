@@ -9,3 +9,4 @@ pub fn patterns_have_one_reading()
     ensures one { PatternsHaveOneReading }
 {
 }
+

@@ -3,17 +3,20 @@
 
 mod composites;
 mod date;
+mod date_text;
 mod date_time;
 mod directive;
 mod directive_text;
 mod error;
 mod flags;
+mod format;
 mod laws;
 mod names;
 mod numbers;
 mod offset_text;
 mod pattern;
 mod printed;
+mod reading;
 mod writing;
 
 pub use date::Date;

@@ -1,4 +1,4 @@
-ghost use Rattle.std.specs.Prelude.{◌≡◌, ◌<◌, true};
+ghost use Rattle.std.specs.Prelude.{◌≡◌, ◌<◌, ◌≤◌, length, true};
 ghost use Rattle.liquid_dates.specs.Filling.{is_ascii_text};
 ghost use Rattle.std.specs.Int.{IsInRange};
 ghost use Rattle.liquid_dates.specs.Names as Spec;
@@ -9,6 +9,7 @@ pub(crate) fn month_name(month: u8) -> &'static str
     requires { IsInRange 1 12 month }
     ensures value { result.now ≡ Spec.month_name month }
     ensures ascii { is_ascii_text result.now ≡ true }
+    ensures long { 3 ≤ length result.now }
 {
     match month {
         1 => "January",

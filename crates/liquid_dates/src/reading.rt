@@ -1,0 +1,232 @@
+ghost use Rattle.std.specs.Prelude.{◌≡◌, ◌<◌, pos, neg_ℤ, option_map, IfSome};
+ghost use Rattle.std.specs.Int.{IsInRange};
+ghost use Rattle.std.specs.Option.{option_copied};
+ghost use Rattle.std.specs.Str.{bytes_eq};
+ghost use Rattle.liquid_dates.specs.DateReader as Reader;
+ghost use Rattle.liquid_dates.specs.DateReader.{read_of, by_year, by_day, by_month};
+ghost use Rattle.liquid_dates.specs.Names.{short_month_name, short_weekday_name};
+ghost use Rattle.liquid_dates.specs.Flags.{is_digit};
+
+use crate::names::{month_name, short_month_name, short_weekday_name};
+
+/// The parts of a date that a text writes. The calendar need not have the day.
+#[derive(Clone, Copy)]
+pub(crate) struct Ymd {
+    pub year: i16,
+    pub month: u8,
+    pub day: u8,
+}
+
+/// What is behind a byte at the front.
+pub(crate) fn after_byte(byte: u8, text: &[u8]) -> Option<&[u8]>
+    ensures { option_copied result ≡ Reader.after_byte byte text.now }
+{
+    match text {
+        [first, rest @ ..] => {
+            if *first == byte {
+                Some(rest)
+            } else {
+                None
+            }
+        }
+        [] => None,
+    }
+}
+
+fn is_digit(byte: u8) -> bool
+    ensures { result ≡ is_digit byte }
+{
+    byte >= b'0' && byte <= b'9'
+}
+
+/// Two digits of a number below a limit.
+#[tactic(auto, unfolding(crate::specs::DateReader::two_at))]
+pub(crate) fn two_at(limit: u8, text: &[u8]) -> Option<(u8, &[u8])>
+    ensures value { read_of result ≡ Reader.two_at limit text.now }
+    ensures bound { IfSome result (λ p. p.0 < limit) }
+{
+    let [tens, ones, rest @ ..] = text else {
+        return None;
+    };
+    if !is_digit(*tens) || !is_digit(*ones) {
+        return None;
+    }
+    let number = 10 * (*tens - b'0') + (*ones - b'0');
+    if number >= limit {
+        return None;
+    }
+    Some((number, rest))
+}
+
+// Four digits.
+#[tactic(auto, unfolding(crate::specs::DateReader::four_at))]
+fn four_at(text: &[u8]) -> Option<(u16, &[u8])>
+    ensures value { read_of result ≡ Reader.four_at text.now }
+    ensures bound { IfSome result (λ p. p.0 < 10000) }
+{
+    let (century, rest) = two_at(100, text)?;
+    let (year, rest) = two_at(100, rest)?;
+    Some((100 * u16::from(century) + u16::from(year), rest))
+}
+
+// A year, which may stand behind `-`.
+#[tactic(auto, unfolding(crate::specs::DateReader::year_at))]
+fn year_at(text: &[u8]) -> Option<(i16, &[u8])>
+    ensures value { read_of result ≡ Reader.year_at text.now }
+{
+    match after_byte(b'-', text) {
+        Some(behind) => {
+            let (number, rest) = four_at(behind)?;
+            Some((negative(number), rest))
+        }
+        None => {
+            let (number, rest) = four_at(text)?;
+            Some((not_negative(number), rest))
+        }
+    }
+}
+
+fn negative(number: u16) -> i16
+    requires { number < 10000 }
+    ensures { result ≡ neg_ℤ (pos number) }
+{
+    -(number as i16)
+}
+
+fn not_negative(number: u16) -> i16
+    requires { number < 10000 }
+    ensures { result ≡ pos number }
+{
+    number as i16
+}
+
+// Whether two texts are the same.
+fn is_same(left: &[u8], right: &[u8]) -> bool
+    ensures { result ≡ bytes_eq left.now right.now }
+{
+    left == right
+}
+
+// The month whose short name that is.
+fn find_month(name: &[u8]) -> Option<u8>
+    ensures value { result ≡ Reader.find_name short_month_name name.now 12 1 }
+    ensures bound { IfSome result (λ m. IsInRange 1 12 m) }
+{
+    'months: for month in 1..13u8 {
+        if is_same(short_month_name(month).as_bytes(), name) {
+            return Some(month);
+        }
+    }
+    None
+}
+
+// The weekday whose short name that is, from 0 for Monday.
+fn find_weekday(name: &[u8]) -> Option<u8>
+    ensures { result ≡ Reader.find_name short_weekday_name name.now 7 0 }
+{
+    'weekdays: for weekday in 0..7u8 {
+        if is_same(short_weekday_name(weekday).as_bytes(), name) {
+            return Some(weekday);
+        }
+    }
+    None
+}
+
+// The short name of a month.
+#[tactic(auto, unfolding(crate::specs::DateReader::short_name_at))]
+fn short_month_at(text: &[u8]) -> Option<(u8, &[u8])>
+    ensures value { read_of result ≡ Reader.short_month_at text.now }
+    ensures bound { IfSome result (λ p. IsInRange 1 12 p.0) }
+{
+    let [a, b, c, rest @ ..] = text else {
+        return None;
+    };
+    let month = find_month(&[*a, *b, *c])?;
+    Some((month, rest))
+}
+
+/// The short name of a weekday.
+#[tactic(auto, unfolding(crate::specs::DateReader::short_name_at))]
+pub(crate) fn weekday_at(text: &[u8]) -> Option<(u8, &[u8])>
+    ensures value { read_of result ≡ Reader.weekday_at text.now }
+{
+    let [a, b, c, rest @ ..] = text else {
+        return None;
+    };
+    let weekday = find_weekday(&[*a, *b, *c])?;
+    Some((weekday, rest))
+}
+
+// What is behind a text at the front.
+#[tactic(auto, unfolding(crate::specs::DateReader::behind_text))]
+fn behind_text<'a>(front: &[u8], text: &'a [u8]) -> Option<&'a [u8]>
+    ensures { option_copied result ≡ Reader.behind_text front.now text.now }
+{
+    if text.len() < front.len() || &text[..front.len()] != front {
+        return None;
+    }
+    Some(&text[front.len()..])
+}
+
+// The name of a month.
+#[tactic(auto, unfolding(crate::specs::DateReader::month_at))]
+fn month_at(text: &[u8]) -> Option<(u8, &[u8])>
+    ensures value { read_of result ≡ Reader.month_at text.now }
+{
+    let (month, rest) = short_month_at(text)?;
+    let name = month_name(month).as_bytes();
+    let behind = behind_text(&name[3..], rest)?;
+    Some((month, behind))
+}
+
+/// `YYYY-MM-DD`.
+#[tactic(auto, unfolding(crate::specs::DateReader::dashed_at))]
+pub(crate) fn dashed_at(text: &[u8]) -> Option<(Ymd, &[u8])>
+    ensures value { option_map by_year (read_of result) ≡ Reader.dashed_at text.now }
+{
+    let (year, rest) = year_at(text)?;
+    let rest = after_byte(b'-', rest)?;
+    let (month, rest) = two_at(100, rest)?;
+    let rest = after_byte(b'-', rest)?;
+    let (day, rest) = two_at(100, rest)?;
+    Some((Ymd { year, month, day }, rest))
+}
+
+/// `DD Month YYYY`.
+#[tactic(auto, unfolding(crate::specs::DateReader::long_at))]
+pub(crate) fn long_at(text: &[u8]) -> Option<(Ymd, &[u8])>
+    ensures value { option_map by_day (read_of result) ≡ Reader.long_at text.now }
+{
+    let (day, rest) = two_at(100, text)?;
+    let rest = after_byte(b' ', rest)?;
+    let (month, rest) = month_at(rest)?;
+    let rest = after_byte(b' ', rest)?;
+    let (year, rest) = year_at(rest)?;
+    Some((Ymd { year, month, day }, rest))
+}
+
+/// `DD Mon YYYY`.
+#[tactic(auto, unfolding(crate::specs::DateReader::short_at))]
+pub(crate) fn short_at(text: &[u8]) -> Option<(Ymd, &[u8])>
+    ensures value { option_map by_day (read_of result) ≡ Reader.short_at text.now }
+{
+    let (day, rest) = two_at(100, text)?;
+    let rest = after_byte(b' ', rest)?;
+    let (month, rest) = short_month_at(rest)?;
+    let rest = after_byte(b' ', rest)?;
+    let (year, rest) = year_at(rest)?;
+    Some((Ymd { year, month, day }, rest))
+}
+
+/// `MM/DD/YYYY`.
+#[tactic(auto, unfolding(crate::specs::DateReader::slashed_at))]
+pub(crate) fn slashed_at(text: &[u8]) -> Option<(Ymd, &[u8])>
+    ensures value { option_map by_month (read_of result) ≡ Reader.slashed_at text.now }
+{
+    let (month, rest) = two_at(100, text)?;
+    let rest = after_byte(b'/', rest)?;
+    let (day, rest) = two_at(100, rest)?;
+    let rest = after_byte(b'/', rest)?;
+    let (year, rest) = year_at(rest)?;
+    Some((Ymd { year, month, day }, rest))
+}
