@@ -4,6 +4,7 @@ ghost use Rattle.liquid_scalar.specs.Scalar.{scal, to_integer, to_bool};
 
 mod compare;
 mod convert;
+mod dates;
 mod from;
 mod laws;
 mod text;
