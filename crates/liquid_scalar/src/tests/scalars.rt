@@ -137,3 +137,14 @@ fn dates_and_date_times(rt: HostRuntime) -> Result<(), Fail> {
     assert_eq!(rt; next.to_kstr(alloc)?.as_str(), "2016-02-17");
     Ok(())
 }
+
+#[test]
+fn scalars_convert_to_dates(rt: HostRuntime) -> Result<(), Fail> {
+    let day = Date::from_ymd(2016, 6, 13)?;
+    let moment = DateTime::from_parts(day, 10, 0, 0, 0, 0)?;
+    assert!(rt; ScalarCow::new("13 Jun 2016").to_date(moment) == Some(day));
+    assert!(rt; ScalarCow::new("today").to_date(moment) == Some(day));
+    assert!(rt; ScalarCow::new(moment).to_date(moment) == Some(day));
+    assert!(rt; ScalarCow::new(5i64).to_date(moment).is_none());
+    Ok(())
+}
