@@ -142,9 +142,18 @@ fn dates_and_date_times(rt: HostRuntime) -> Result<(), Fail> {
 fn scalars_convert_to_dates(rt: HostRuntime) -> Result<(), Fail> {
     let day = Date::from_ymd(2016, 6, 13)?;
     let moment = DateTime::from_parts(day, 10, 0, 0, 0, 0)?;
-    assert!(rt; ScalarCow::new("13 Jun 2016").to_date(moment) == Some(day));
-    assert!(rt; ScalarCow::new("today").to_date(moment) == Some(day));
-    assert!(rt; ScalarCow::new(moment).to_date(moment) == Some(day));
-    assert!(rt; ScalarCow::new(5i64).to_date(moment).is_none());
+    for (scalar, found) in [
+        (ScalarCow::new("13 Jun 2016"), true),
+        (ScalarCow::new("today"), true),
+        (ScalarCow::new(moment), true),
+        (ScalarCow::new("14 Jun 2016"), false),
+        (ScalarCow::new(5i64), false),
+    ] {
+        let same = match scalar.to_date(moment) {
+            Some(date) => date == day,
+            None => false,
+        };
+        assert_eq!(rt; same, found);
+    }
     Ok(())
 }
