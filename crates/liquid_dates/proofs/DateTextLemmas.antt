@@ -77,7 +77,7 @@ two_at_digits limit n rest h l =
     let test : (is_digit (48 + n / 10) && (is_digit (48 + n % 10) && nat_lt n limit)) ≡ true = grind (arith, nat_tests) in
     rw (value, test) refl
 
-two_sound : (limit : ℕ) (text : List ℕ) (n : ℕ) (rest : List ℕ) → two_at limit text ≡ Some (n, rest) → (front : List ℕ) × (text ≡ front ++ rest) × two_below limit front n
+pub two_sound : (limit : ℕ) (text : List ℕ) (n : ℕ) (rest : List ℕ) → two_at limit text ≡ Some (n, rest) → (front : List ℕ) × (text ≡ front ++ rest) × two_below limit front n
 unfolding two_at
 two_sound limit [] n rest e = cc
 two_sound limit (a ∷ []) n rest e = cc

@@ -12,3 +12,6 @@ pub mod FormatLemmas
 pub mod ReaderLemmas
 pub mod DateTextLemmas
 pub mod WholeLemmas
+pub mod TimedLemmas
+pub mod DateTimeForms
+pub mod UnixTimeLemmas

@@ -95,3 +95,112 @@ IsDateText text moment d =
 -- two dates have the same parts
 abbrev pub SameDate : CivilDate → CivilDate → Type 0
 SameDate a b = (a.year ≡ b.year) × (a.month ≡ b.month) × (a.day ≡ b.day)
+
+-- `+` or `-`, two digits of hours and two of minutes
+abbrev pub offset_form : Form ℤ
+offset_form text z =
+    (h : ℕ) × (m : ℕ) × (h < 100) × (m < 60)
+    × (((text ≡ 43 ∷ (two_digits h ++ two_digits m)) × (z ≡ pos (h * 3600 + m * 60)))
+    ⊎ ((text ≡ 45 ∷ (two_digits h ++ two_digits m)) × (z ≡ neg_ℤ (pos (h * 3600 + m * 60)))))
+
+-- the hour, the minute and the second
+abbrev pub hms : CivilDateTime → ℕ × (ℕ × ℕ)
+hms dt = (dt.time.hour, (dt.time.minute, dt.time.second))
+
+-- the forms of a date with a time, without the offset
+abbrev pub timed_dashed : Form ((ℤ × (ℕ × ℕ)) × (ℕ × (ℕ × ℕ)))
+timed_dashed = joined dashed 32 clock
+
+abbrev pub timed_fraction : Form ((ℤ × (ℕ × ℕ)) × ((ℕ × (ℕ × ℕ)) × ℕ))
+timed_fraction = joined dashed 32 (joined clock 46 fraction_form)
+
+abbrev pub timed_day_month : (ℕ → List ℕ) → Form ((ℕ × (ℕ × ℤ)) × (ℕ × (ℕ × ℕ)))
+timed_day_month name = joined (day_month name) 32 clock
+
+abbrev pub timed_slashed : Form ((ℕ × (ℕ × ℤ)) × (ℕ × (ℕ × ℕ)))
+timed_slashed = joined slashed 32 clock
+
+abbrev pub timed_weekday : Form (ℕ × (ℕ × (ℕ × ((ℕ × (ℕ × ℕ)) × ℤ))))
+timed_weekday =
+    joined weekday_form 32 (joined (month_form short_month_name) 32 (joined short_day 32 (joined clock 32 year_form)))
+
+-- `YYYY-MM-DD HH:MM:SS off`
+unfoldable pub dashed_date_time : Form DateTime
+dashed_date_time text dt =
+    joined timed_dashed 32 offset_form text ((((civil_date dt).year, ((civil_date dt).month, (civil_date dt).day)), hms dt.local), offset_seconds dt)
+    × (nanosecond dt ≡ 0)
+
+-- `YYYY-MM-DD HH:MM:SS.fraction off`
+unfoldable pub fraction_date_time : Form DateTime
+fraction_date_time text dt =
+    joined timed_fraction 32 offset_form text ((((civil_date dt).year, ((civil_date dt).month, (civil_date dt).day)), (hms dt.local, nanosecond dt)), offset_seconds dt)
+
+-- `DD Month YYYY HH:MM:SS off` and `DD Mon YYYY HH:MM:SS off`
+abbrev pub day_month_date_time : (ℕ → List ℕ) → Form DateTime
+day_month_date_time name text dt =
+    joined (timed_day_month name) 32 offset_form text ((((civil_date dt).day, ((civil_date dt).month, (civil_date dt).year)), hms dt.local), offset_seconds dt)
+    × (nanosecond dt ≡ 0)
+
+unfoldable pub long_date_time : Form DateTime
+long_date_time = day_month_date_time month_name
+
+unfoldable pub short_date_time : Form DateTime
+short_date_time = day_month_date_time short_month_name
+
+-- `MM/DD/YYYY HH:MM:SS off`
+unfoldable pub slashed_date_time : Form DateTime
+slashed_date_time text dt =
+    joined timed_slashed 32 offset_form text ((((civil_date dt).month, ((civil_date dt).day, (civil_date dt).year)), hms dt.local), offset_seconds dt)
+    × (nanosecond dt ≡ 0)
+
+-- `Www Mon D HH:MM:SS YYYY off`, of any weekday
+unfoldable pub weekday_date_time : Form DateTime
+weekday_date_time text dt =
+    (w : ℕ) × joined timed_weekday 32 offset_form text ((w, ((civil_date dt).month, ((civil_date dt).day, (hms dt.local, (civil_date dt).year)))), offset_seconds dt)
+    × (nanosecond dt ≡ 0)
+
+-- the forms that begin with a day, a month or a weekday
+abbrev pub day_forms : Form DateTime
+day_forms = first long_date_time (first short_date_time (first slashed_date_time weekday_date_time))
+
+abbrev pub date_time_forms : Form DateTime
+date_time_forms = first dashed_date_time (first fraction_date_time day_forms)
+
+-- a sign, `0` or `1`, and three digits
+abbrev pub is_offset_end : List ℕ → Bool
+is_offset_end (a ∷ b ∷ c ∷ d ∷ e ∷ []) =
+    ((a == 43) || (a == 45)) && (((b == 48) || (b == 49)) && (is_digit c && (is_digit d && is_digit e)))
+is_offset_end _ = false
+
+-- the text ends so
+abbrev pub ends_in_offset : List ℕ → Bool
+ends_in_offset text = is_offset_end (drop (length text - 5) text)
+
+-- the text, with ` +0000` behind it where none is given
+abbrev pub with_given_offset : Bool → List ℕ → List ℕ
+with_given_offset given text = if given then text else text ++ codes " +0000"
+
+-- `now` or `today` in any case, with white space at both ends
+abbrev pub IsNow : List ℕ → Type 0
+IsNow text =
+    (map to_ascii_lowercase (trim text) ≡ codes "now") ⊎ (map to_ascii_lowercase (trim text) ≡ codes "today")
+
+-- the decimal number of 64 bits that a text writes
+abbrev pub IsWholeNumber : List ℕ → ℤ → Type 0
+IsWholeNumber text z =
+    IsNumeral 10 (without_leading_sign text) × FitsSigned w64 (signed_digits_value 10 text) × (z ≡ signed_digits_value 10 text)
+
+-- whole seconds since 1970 at offset 0
+abbrev pub IsUnixTime : ℤ → DateTime → Type 0
+IsUnixTime z dt = (unix_seconds dt ≡ z) × (nanosecond dt ≡ 0) × (offset_seconds dt ≡ pos 0)
+
+-- the date time of a text that is not empty: the moment for `now` and `today`, else unix seconds, else the first form
+abbrev pub IsDateTimeText : List ℕ → DateTime → DateTime → Type 0
+IsDateTimeText text moment dt =
+    (text ≢ []) × ((IsNow text × (dt ≡ moment)) ⊎ ((¬ (IsNow text)) × (((z : ℤ) × IsWholeNumber text z × IsUnixTime z dt)
+    ⊎ (((z : ℤ) → ¬ (IsWholeNumber text z)) × date_time_forms (with_given_offset (ends_in_offset text) text) dt))))
+
+-- two date times have the same parts
+abbrev pub SameDateTime : DateTime → DateTime → Type 0
+SameDateTime a b =
+    SameDate (civil_date a) (civil_date b) × (hms a.local ≡ hms b.local) × (nanosecond a ≡ nanosecond b) × (offset_seconds a ≡ offset_seconds b)

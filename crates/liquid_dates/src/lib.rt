@@ -5,6 +5,7 @@ mod composites;
 mod date;
 mod date_text;
 mod date_time;
+mod date_time_text;
 mod directive;
 mod directive_text;
 mod error;
@@ -17,6 +18,7 @@ mod offset_text;
 mod pattern;
 mod printed;
 mod reading;
+mod stamps;
 mod writing;
 
 pub use date::Date;

@@ -33,7 +33,7 @@ pub(crate) fn after_byte(byte: u8, text: &[u8]) -> Option<&[u8]>
     }
 }
 
-fn is_digit(byte: u8) -> bool
+pub(crate) fn is_digit(byte: u8) -> bool
     ensures { result ≡ is_digit byte }
 {
     byte >= b'0' && byte <= b'9'
@@ -71,7 +71,7 @@ fn four_at(text: &[u8]) -> Option<(u16, &[u8])>
 
 // A year, which may stand behind `-`.
 #[tactic(auto, unfolding(crate::specs::DateReader::year_at))]
-fn year_at(text: &[u8]) -> Option<(i16, &[u8])>
+pub(crate) fn year_at(text: &[u8]) -> Option<(i16, &[u8])>
     ensures value { read_of result ≡ Reader.year_at text.now }
 {
     match after_byte(b'-', text) {
@@ -134,7 +134,7 @@ fn find_weekday(name: &[u8]) -> Option<u8>
 
 // The short name of a month.
 #[tactic(auto, unfolding(crate::specs::DateReader::short_name_at))]
-fn short_month_at(text: &[u8]) -> Option<(u8, &[u8])>
+pub(crate) fn short_month_at(text: &[u8]) -> Option<(u8, &[u8])>
     ensures value { read_of result ≡ Reader.short_month_at text.now }
     ensures bound { IfSome result (λ p. IsInRange 1 12 p.0) }
 {

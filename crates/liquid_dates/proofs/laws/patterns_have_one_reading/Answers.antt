@@ -1,4 +1,4 @@
-use Rattle.liquid_dates.proofs.DateTextLemmas.{two_reads}
+use Rattle.liquid_dates.proofs.DateTimeForms.{date_time_once}
 use Rattle.liquid_dates.proofs.PatternLemmas.{one_reading, some_reading}
 use Rattle.liquid_dates.proofs.laws.patterns_have_one_reading.Goals as goal
 
