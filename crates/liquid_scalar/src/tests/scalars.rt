@@ -138,22 +138,41 @@ fn dates_and_date_times(rt: HostRuntime) -> Result<(), Fail> {
     Ok(())
 }
 
+fn has_date(scalar: &ScalarCow<'_>, moment: &DateTime, day: &Date) -> bool {
+    match scalar.to_date(*moment) {
+        Some(date) => date == *day,
+        None => false,
+    }
+}
+
+fn has_date_time(scalar: &ScalarCow<'_>, moment: &DateTime, wanted: &DateTime) -> bool {
+    match scalar.to_date_time(*moment) {
+        Some(date_time) => date_time == *wanted,
+        None => false,
+    }
+}
+
 #[test]
 fn scalars_convert_to_dates(rt: HostRuntime) -> Result<(), Fail> {
     let day = Date::from_ymd(2016, 6, 13)?;
-    let moment = DateTime::from_parts(day, 10, 0, 0, 0, 0)?;
-    for (scalar, found) in [
-        (ScalarCow::new("13 Jun 2016"), true),
-        (ScalarCow::new("today"), true),
-        (ScalarCow::new(moment), true),
-        (ScalarCow::new("14 Jun 2016"), false),
-        (ScalarCow::new(5i64), false),
+    let moment = DateTime::from_ymd(2016, 6, 13)?;
+    for (text, found) in [
+        ("13 Jun 2016", true),
+        ("today", true),
+        ("14 Jun 2016", false),
     ] {
-        let same = match scalar.to_date(moment) {
-            Some(date) => date == day,
-            None => false,
-        };
-        assert_eq!(rt; same, found);
+        assert_eq!(rt; has_date(&ScalarCow::new(text), &moment, &day), found);
     }
+    for (text, found) in [
+        ("2016-06-13 02:00:00 +0200", true),
+        ("Now", true),
+        ("13", false),
+    ] {
+        assert_eq!(rt;
+            has_date_time(&ScalarCow::new(text), &moment, &moment),
+            found
+        );
+    }
+    assert!(rt; !has_date(&ScalarCow::new(5i64), &moment, &day));
     Ok(())
 }
