@@ -19,7 +19,8 @@ impl fmt::Display for Context {
 }
 
 fn write_entries<W: fmt::Write>(contexts: &[Context], f: &mut fmt::Formatter<W>) -> fmt::Result
-    ensures { WritesOnOk W.write_str_gives f.old result (flat_map entry_line (map entry_of contexts.now)) f.new }
+    ensures { WritesOnOk W.write_str_gives f.old result
+        (flat_map entry_line (map entry_of contexts.now)) f.new }
 {
     for context in contexts {
         write!(f, "{context}")?;
@@ -28,7 +29,8 @@ fn write_entries<W: fmt::Write>(contexts: &[Context], f: &mut fmt::Formatter<W>)
 }
 
 fn write_contexts<W: fmt::Write>(contexts: &[Context], f: &mut fmt::Formatter<W>) -> fmt::Result
-    ensures { WritesOnOk W.write_str_gives f.old result (contexts_text (map entry_of contexts.now)) f.new }
+    ensures { WritesOnOk W.write_str_gives f.old result
+        (contexts_text (map entry_of contexts.now)) f.new }
 {
     if contexts.is_empty() {
         return Ok(());
@@ -48,7 +50,8 @@ impl fmt::Display for Trace {
 }
 
 fn write_traces<W: fmt::Write>(traces: &[Trace], f: &mut fmt::Formatter<W>) -> fmt::Result
-    ensures { WritesOnOk W.write_str_gives f.old result (flat_map note_text (map note_of traces.now)) f.new }
+    ensures { WritesOnOk W.write_str_gives f.old result
+        (flat_map note_text (map note_of traces.now)) f.new }
 {
     for trace in traces {
         write!(f, "{trace}")?;

@@ -30,7 +30,8 @@ pub struct Report {
 
 impl Trace {
     fn note(&mut self, context: Context) -> Result<(), AllocError>
-        ensures { OnOk result (note_of self.new ≡ record (note_of self.old) { contexts = (note_of self.old).contexts ++ entry_of context ∷ [] }) }
+        ensures { OnOk result (note_of self.new
+            ≡ record (note_of self.old) { contexts = (note_of self.old).contexts ++ entry_of context ∷ [] }) }
     {
         self.contexts.push(context)?;
         Ok(())
@@ -64,7 +65,8 @@ impl Report {
     }
 
     pub(crate) fn trace(mut self, alloc: Global, text: String) -> Result<Report, AllocError>
-        ensures { IfOk result (λ r. refusal_of r ≡ with_trace (string_bytes text) (refusal_of self)) }
+        ensures { IfOk result
+            (λ r. refusal_of r ≡ with_trace (string_bytes text) (refusal_of self)) }
     {
         let trace = Trace {
             text,
@@ -75,7 +77,8 @@ impl Report {
     }
 
     pub(crate) fn context(mut self, key: String, value: String) -> Result<Report, AllocError>
-        ensures { IfOk result (λ r. refusal_of r ≡ with_context (string_bytes key) (string_bytes value) (refusal_of self)) }
+        ensures { IfOk result
+            (λ r. refusal_of r ≡ with_context (string_bytes key) (string_bytes value) (refusal_of self)) }
     {
         let context = Context { key, value };
         match self.traces.pop() {

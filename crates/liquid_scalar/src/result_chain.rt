@@ -24,7 +24,8 @@ pub trait ResultLiquidChainExt<T>: Sized {
     /// The same with a message that is made only for an error.
     fn chain_with<F: FnOnce() -> MadeText + Drop>(self, alloc: Global, message: F) -> Result<T>
         requires { ForErr (outcome self) (λ _. F.pre message) }
-        ensures { ErrBecomesBy (λ text. F.post message (Ok text)) (λ text. chained (string_bytes text)) (outcome self) result };
+        ensures { ErrBecomesBy (λ text. F.post message (Ok text))
+            (λ text. chained (string_bytes text)) (outcome self) result };
 }
 
 /// Gives a result a new message, with the old text as its cause or with no cause. An `Ok` stays as it is, and want of
@@ -46,7 +47,8 @@ pub trait ResultLiquidReplaceExt<T>: Sized {
         message: F,
     ) -> Result<T>
         requires { ForErr (outcome self) (λ _. F.pre message) }
-        ensures { ErrBecomesBy (λ text. F.post message (Ok text)) (λ text. lossy_chained (string_bytes text)) (outcome self) result };
+        ensures { ErrBecomesBy (λ text. F.post message (Ok text))
+            (λ text. lossy_chained (string_bytes text)) (outcome self) result };
 
     /// A new error with this message and no cause.
     fn replace(self, alloc: Global, message: &str) -> Result<T>
@@ -55,7 +57,8 @@ pub trait ResultLiquidReplaceExt<T>: Sized {
     /// The same with a message that is made only for an error.
     fn replace_with<F: FnOnce() -> MadeText + Drop>(self, alloc: Global, message: F) -> Result<T>
         requires { ForErr (outcome self) (λ _. F.pre message) }
-        ensures { ErrBecomesBy (λ text. F.post message (Ok text)) (λ text _. plain (string_bytes text)) (outcome self) result };
+        ensures { ErrBecomesBy (λ text. F.post message (Ok text))
+            (λ text _. plain (string_bytes text)) (outcome self) result };
 }
 
 impl<T> ResultLiquidChainExt<T> for std::result::Result<T, Error> {

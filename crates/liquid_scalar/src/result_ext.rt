@@ -26,7 +26,8 @@ pub trait ResultLiquidExt<T>: Sized {
     /// Adds a trace that is made only for an error.
     fn trace_with<F: FnOnce() -> MadeText + Drop>(self, alloc: Global, trace: F) -> Result<T>
         requires { ForErr (outcome self) (λ _. F.pre trace) }
-        ensures { ErrBecomesBy (λ text. F.post trace (Ok text)) (λ text. with_trace (string_bytes text)) (outcome self) result };
+        ensures { ErrBecomesBy (λ text. F.post trace (Ok text))
+            (λ text. with_trace (string_bytes text)) (outcome self) result };
 
     /// Begins a context with this key. The `Key` takes the value.
     fn context_key<'k>(self, key: &'k str) -> Key<'k, T>
@@ -85,7 +86,8 @@ impl<'k, T> Key<'k, T> {
 
     /// Adds the context with this value to the error.
     pub fn value(self, alloc: Global, value: &str) -> Result<T>
-        ensures { ErrBecomes (with_context (key_text self.entry) value.now) (key_result self.entry) result }
+        ensures { ErrBecomes (with_context (key_text self.entry) value.now)
+            (key_result self.entry) result }
     {
         let Key { builder, key } = self;
         match builder {
@@ -97,7 +99,9 @@ impl<'k, T> Key<'k, T> {
     /// Adds the context with a value that is made only for an error.
     pub fn value_with<F: FnOnce() -> MadeText + Drop>(self, alloc: Global, value: F) -> Result<T>
         requires { ForErr (key_result self) (λ _. F.pre value) }
-        ensures { ErrBecomesBy (λ text. F.post value (Ok text)) (λ text. with_context (key_text self.entry) (string_bytes text)) (key_result self.entry) result }
+        ensures { ErrBecomesBy (λ text. F.post value (Ok text))
+            (λ text. with_context (key_text self.entry) (string_bytes text))
+            (key_result self.entry) result }
     {
         let Key { builder, key } = self;
         match builder {
@@ -131,7 +135,8 @@ impl<T, F: FnOnce() -> MadeText + Drop> FnKey<T, F> {
     /// Adds the context with this value to the error.
     pub fn value(self, alloc: Global, value: &str) -> Result<T>
         requires { ForErr (fn_key_result self) (λ _. F.pre (fn_key_maker self)) }
-        ensures { ErrBecomesBy (λ key. F.post (fn_key_maker self) (Ok key)) (λ key. with_context (string_bytes key) value.now) (fn_key_result self) result }
+        ensures { ErrBecomesBy (λ key. F.post (fn_key_maker self) (Ok key))
+            (λ key. with_context (string_bytes key) value.now) (fn_key_result self) result }
     {
         let FnKey { builder, key } = self;
         match builder {
@@ -150,7 +155,11 @@ impl<T, F: FnOnce() -> MadeText + Drop> FnKey<T, F> {
     pub fn value_with<V: FnOnce() -> MadeText + Drop>(self, value: V) -> Result<T>
         requires key { ForErr (fn_key_result self) (λ _. F.pre (fn_key_maker self)) }
         requires value { ForErr (fn_key_result self) (λ _. V.pre value) }
-        ensures { ErrBecomesBy (λ (made : String Global × String Global). F.post (fn_key_maker self) (Ok made.0) × V.post value (Ok made.1)) (λ made. with_context (string_bytes made.0) (string_bytes made.1)) (fn_key_result self) result }
+        ensures { ErrBecomesBy
+            (λ (made : String Global × String Global).
+            F.post (fn_key_maker self) (Ok made.0) × V.post value (Ok made.1))
+            (λ made. with_context (string_bytes made.0) (string_bytes made.1))
+            (fn_key_result self) result }
     {
         let FnKey { builder, key } = self;
         match builder {
