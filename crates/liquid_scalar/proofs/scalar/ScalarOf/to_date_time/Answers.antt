@@ -2,7 +2,6 @@ use Rattle.std.proofs.Common.{◌≡◌, ap, sym, ◌∙◌, subst, IfSome}
 use Rattle.std.specs.Prelude.{IsSomeAnd}
 use Rattle.liquid_dates.specs.declared.date_time.DateTime.{DateTime}
 use Rattle.liquid_dates.specs.DateText.{SameDateTime}
-use Rattle.liquid_scalar.specs.declared.scalar.ScalarOf.{ScalarOf}
 use Rattle.liquid_scalar.specs.Scalar.{Scal, text, scal}
 use Rattle.liquid_scalar.specs.ScalarDates.{IsDateTimeOf}
 use Rattle.liquid_scalar.proofs.scalar.ScalarOf.to_date_time.Goals as goal
