@@ -4,7 +4,6 @@
 mod bracket;
 mod bytes;
 mod element;
-mod expression;
 mod fault;
 mod filter;
 mod laws;
@@ -23,7 +22,7 @@ mod token;
 mod value;
 
 pub use bracket::BRACKET_LIMIT;
-pub use element::{Element, next_element};
+pub use element::{ChainText, Element, TagText, next_element};
 pub use fault::{Fault, FaultKind, integer_of};
 pub use literal::Literal;
 pub use laws::{elements_joined_are_the_text, no_opener_inside_raw, one_cover, one_element, one_match, value_law};

@@ -12,7 +12,7 @@ use crate::fault::Fault;
 use crate::filter::{argument, chain, filter};
 use crate::literal::{Literal, read_literal};
 use crate::name::identifier;
-use crate::token::{full_expression, tag, token};
+use crate::token::{expression, tag, token};
 use crate::value::{index, value, variable};
 
 /// The longest identifier that the text begins with, and what follows it.
@@ -87,12 +87,15 @@ pub fn match_token<'a>(s: &'a str) -> Option<(Option<Fault<'a>>, &'a str)>
     token(s)
 }
 
-/// The expression over a chain that the text begins with: its first fault, and what follows it.
+/// The expression that the text begins with: its first fault, and what follows it.
 pub fn match_expression<'a>(s: &'a str) -> Option<(Option<Fault<'a>>, &'a str)>
     ensures value { Matches ExpressionRule chain_fault s.now result }
     ensures shorter { IfSome result (λ x. length x.1.now < length s.now) }
 {
-    full_expression(s)
+    match expression(s) {
+        Some((_, fault, rest)) => Some((fault, rest)),
+        None => None,
+    }
 }
 
 /// The tag that the text begins with: its first fault, and what follows it.
@@ -100,5 +103,8 @@ pub fn match_tag<'a>(s: &'a str) -> Option<(Option<Fault<'a>>, &'a str)>
     ensures value { Matches TagRule tag_fault s.now result }
     ensures shorter { IfSome result (λ x. length x.1.now < length s.now) }
 {
-    tag(s)
+    match tag(s) {
+        Some((_, _, fault, rest)) => Some((fault, rest)),
+        None => None,
+    }
 }
