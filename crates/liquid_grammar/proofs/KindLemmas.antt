@@ -1,22 +1,22 @@
 -- The kind of a token, from what begins it.
-use Rattle.std.proofs.Common.{◌≡◌, ℕ, List, [], ◌∷◌, Option, Some, None, option_map, option_and_then, refl, sym, ap, ap₂, ◌∙◌, subst}
+use Rattle.std.proofs.Common.{◌≡◌, ℕ, List, [], ◌∷◌, Option, Some, None, option_map, option_and_then, refl, sym, ap, ◌∙◌}
 use Rattle.std.proofs.lemmas.Option.{same_Some, none-some}
 use Rattle.std.specs.Option.{option_or}
 use Rattle.liquid_grammar.specs.Rules.{Placed, Begins}
 use Rattle.liquid_grammar.specs.Literals.{Literal}
-use Rattle.liquid_grammar.specs.Values.{Value, Index, gather, placed_literal, placed_variable}
+use Rattle.liquid_grammar.specs.Values.{Value, Index, placed_literal, placed_variable}
 use Rattle.liquid_grammar.specs.Tokens.{Filter, Chain, Token, range, chain, symbol, TokenRule}
 use Rattle.liquid_grammar.specs.Faults.{Fault, value_fault, filter_fault, index_fault, range_fault}
-use Rattle.liquid_grammar.specs.Kinds.{Kind, literal_kind, variable_kind, identifier_kind, filtered_kind, symbol_kind, range_kind, value_kind, chain_kind, kind_of}
+use Rattle.liquid_grammar.specs.Kinds.{Kind, literal_kind, variable_kind, identifier_kind, filtered_kind, value_kind, chain_kind}
 use Rattle.liquid_grammar.specs.declared.kind.TokenKind.{TokenKind}
 use Rattle.liquid_grammar.specs.declared.kind.TokenKind.TheVariants.{Range, Symbol}
 use Rattle.liquid_grammar.specs.KindMeanings.{token_kind_of, HasKind}
 use Rattle.liquid_grammar.specs.Meanings.{scan}
-use Rattle.liquid_grammar.specs.Steps.{Reader, both, name}
+use Rattle.liquid_grammar.specs.Steps.{Reader, name}
 use Rattle.liquid_grammar.specs.TokenSteps.{placed, repeated, behind, literal, value, variable_over, filter, chain_of, ranged, symbol_of, token}
 use Rattle.liquid_grammar.specs.BracketSteps.{index, indexes}
 use Rattle.liquid_grammar.proofs.ExactRepeated.{repeated_more, repeated_end, repeated_total}
-use Rattle.liquid_grammar.proofs.TokenExact.{exact-value, exact-index, shrinks-index, exact-behind, shrinks-behind, exact-filter, exact-filters, exact-token, exact-chain}
+use Rattle.liquid_grammar.proofs.TokenExact.{exact-value, exact-index, shrinks-index, exact-behind, shrinks-behind, exact-filter, exact-token}
 use Rattle.liquid_grammar.proofs.ValueLaw.{value_reads}
 use Rattle.liquid_grammar.proofs.ValueScan.{scan_some, scan_none}
 use Rattle.liquid_grammar.proofs.FlatBrackets.{left_some, left_none}
@@ -140,8 +140,8 @@ chain_has_kind s kind none e =
     let x = kind_some (chain_of s) (token_kind_of kind) e in
     let symbols = option_map as_symbol (option_map (placed s) (symbol_of s)) in
     let t =
-        token_parts s ∙ ap (λ o. option_or (option_map as_range (option_map (placed s) o)) (option_or (option_map as_chain (chain_of s)) symbols)) (scan_none range_fault (ranged s) none)
-        ∙ ap (λ o. option_or (option_map as_chain o) symbols) x.1
+    token_parts s ∙ ap (λ o. option_or (option_map as_range (option_map (placed s) o)) (option_or (option_map as_chain (chain_of s)) symbols)) (scan_none range_fault (ranged s) none)
+    ∙ ap (λ o. option_or (option_map as_chain o) symbols) x.1
     in
     record { rest = x.0.1; shape = chain x.0.0; match = exact-token.sound s x.0.1 _ t; is = x.2 }
 

@@ -37,7 +37,12 @@ pub(crate) fn bracketed<'a>(s: &'a str) -> Option<(Option<Fault<'a>>, &'a str)>
     ensures value { Scans (index_fault 0) result (bracket_index s.now) }
     ensures shorter { IfSome result (λ x. length x.1.now < length s.now) }
 {
-    let mut state = Open { rest: open_bracket(s)?, depth: 1, fault: None, awaits: Await::Value };
+    let mut state = Open {
+        rest: open_bracket(s)?,
+        depth: 1,
+        fault: None,
+        awaits: Await::Value,
+    };
     'brackets: while state.depth > 0 {
         state = turn(state)?;
     }
@@ -59,23 +64,48 @@ fn turn<'a>(state: Open<'a>) -> Option<Open<'a>>
         Await::Value => match read_literal(rest) {
             Some((literal, after)) => {
                 let fault = state.fault.or(literal_fault(rest, literal));
-                Some(Open { rest: after, fault, awaits: Await::Close, ..state })
+                Some(Open {
+                    rest: after,
+                    fault,
+                    awaits: Await::Close,
+                    ..state
+                })
             }
-            None => Some(Open { rest: name(rest)?.1, awaits: Await::Index, ..state }),
+            None => Some(Open {
+                rest: name(rest)?.1,
+                awaits: Await::Index,
+                ..state
+            }),
         },
         Await::Index => match named(rest) {
-            Some(after) => Some(Open { rest: after, ..state }),
+            Some(after) => Some(Open {
+                rest: after,
+                ..state
+            }),
             None => match open_bracket(rest) {
                 Some(after) => {
                     let fault = state.fault.or(depth_fault(rest, state.depth));
-                    Some(Open { rest: after, depth: state.depth + 1, fault, awaits: Await::Value })
+                    Some(Open {
+                        rest: after,
+                        depth: state.depth + 1,
+                        fault,
+                        awaits: Await::Value,
+                    })
                 }
-                None => Some(Open { awaits: Await::Close, ..state }),
+                None => Some(Open {
+                    awaits: Await::Close,
+                    ..state
+                }),
             },
         },
         Await::Close => {
             let after = close_bracket(rest)?;
-            Some(Open { rest: after, depth: state.depth - 1, awaits: Await::Index, ..state })
+            Some(Open {
+                rest: after,
+                depth: state.depth - 1,
+                awaits: Await::Index,
+                ..state
+            })
         }
     }
 }
@@ -87,7 +117,10 @@ fn depth_fault<'a>(place: &'a str, depth: usize) -> Option<Fault<'a>>
     if depth < BRACKET_LIMIT {
         None
     } else {
-        Some(Fault { kind: FaultKind::NestedTooDeep, place })
+        Some(Fault {
+            kind: FaultKind::NestedTooDeep,
+            place,
+        })
     }
 }
 

@@ -1,4 +1,4 @@
-use Rattle.std.proofs.Common.{◌≡◌, sym, ap, ◌∙◌, arith, rules}
+use Rattle.std.proofs.Common.{◌≡◌, sym, ◌∙◌, arith, rules}
 use Rattle.liquid_grammar.specs.declared.bracket.Await.TheVariants.{Index}
 use Rattle.liquid_grammar.proofs.FlatBrackets.{bracket_opens, all_closed, going_at}
 use Rattle.liquid_grammar.proofs.bracket.bracketed.Goals as goal

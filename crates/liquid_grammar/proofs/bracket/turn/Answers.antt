@@ -1,5 +1,5 @@
-use Rattle.std.proofs.Common.{◌≡◌, ◌+◌, pred, Option, None, sym, ap, ◌∙◌}
-use Rattle.liquid_grammar.specs.declared.bracket.Await.TheVariants.{Value, Index, Close}
+use Rattle.std.proofs.Common.{◌+◌, pred, Option, sym, ap, ◌∙◌}
+use Rattle.liquid_grammar.specs.declared.bracket.Await.TheVariants.{Value, Index}
 use Rattle.liquid_grammar.specs.Faults.{Fault}
 use Rattle.liquid_grammar.specs.Meanings.{literal_of}
 use Rattle.liquid_grammar.specs.BracketSteps.{adds, starts, resume, closing}
