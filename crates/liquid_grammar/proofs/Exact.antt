@@ -186,8 +186,8 @@ IsEnd s rest = (front : List ℕ) × (s ≡ front ++ rest)
 pub leaves_end : {A : Type 0} {f : Reader A} {R : Rule A} → Exact f R → (s rest : List ℕ) → Some rest ≡ option_map (λ p. p.1) (f s) → IsEnd s rest
 leaves_end {f = f} F s rest e =
     option_map_some (λ p. p.1) (f s) rest (sym e) (λ x fx q.
-        let cut = F.cuts s x.1 x.0 (F.sound s x.1 x.0 fx) in
-        (cut.0, cut.1 ∙ ap (λ y. cut.0 ++ y) q))
+    let cut = F.cuts s x.1 x.0 (F.sound s x.1 x.0 fx) in
+    (cut.0, cut.1 ∙ ap (λ y. cut.0 ++ y) q))
 
 pub found_end : {A : Type 0} {f : Reader A} {R : Rule A} → Exact f R → (s rest : List ℕ) (a : A) → Some (a, rest) ≡ f s → IsEnd s rest
 found_end F s rest a e = F.cuts s rest a (F.sound s rest a (sym e))

@@ -1,11 +1,10 @@
 -- More readers that are exact for their rules: repeated, optional, placed, and not ahead.
-use Rattle.std.proofs.Common.{◌≡◌, ℕ, zero, suc, ◌+◌, ◌-◌, ◌<◌, ◌≤◌, Bool, true, false, cond, List, [], ◌∷◌, ◌++◌, length, Option, Some, None, is_some, option_map, option_and_then, refl, sym, ap, ap₂, ◌∙◌, subst, arith, append_assoc, length-append}
+use Rattle.std.proofs.Common.{◌≡◌, ℕ, zero, suc, ◌<◌, cond, List, [], ◌∷◌, ◌++◌, length, Option, Some, None, is_some, option_map, refl, sym, ap, ap₂, ◌∙◌, subst, arith, append_assoc}
 use Rattle.std.proofs.lemmas.Option.{same_Some, none-some}
-use Rattle.std.specs.Option.{option_or}
-use Rattle.liquid_grammar.specs.Rules.{Rule, Begins, Then, Else, Repeated, ends, more, Seen, Not, Nothing, Placed, At, Optional}
-use Rattle.liquid_grammar.specs.Steps.{Reader, both, either, seen, right, left}
+use Rattle.liquid_grammar.specs.Rules.{Rule, Repeated, ends, more, Not, Nothing, Placed, At, Optional}
+use Rattle.liquid_grammar.specs.Steps.{Reader}
 use Rattle.liquid_grammar.specs.TokenSteps.{not_ahead, nothing, optional, placed, at, repeat_turn, repeated_by, repeated}
-use Rattle.liquid_grammar.proofs.Exact.{Exact, Cuts, Shrinks, option_cases, option_map_some, none_begins, finds_none, found_begins, exact-either, exact-seen}
+use Rattle.liquid_grammar.proofs.Exact.{Exact, Cuts, Shrinks, option_map_some, none_begins, finds_none, exact-either, exact-seen}
 
 not_ahead_sound : {A : Type 0} {f : Reader A} {R : Rule A} → Exact f R → (s rest : List ℕ) (a : Unit {0}) → not_ahead f s ≡ Some (a, rest) → Not R s rest a
 not_ahead_sound {A} {f = f} {R = R} F s rest a = go (f s) refl
@@ -36,8 +35,8 @@ exact-optional F = exact-either (exact-seen Some F) (exact-nothing None)
 at_sound : {A : Type 0} {f : Reader A} {R : Rule A} → Exact f R → (s rest : List ℕ) (a : Placed A) → at f s ≡ Some (a, rest) → At R s rest a
 at_sound {A} {f = f} {R = R} F s rest a e =
     option_map_some (placed s) (f s) (a, rest) e (λ x fx q.
-        let t : At R s x.1 (record { place = s; behind = x.1; what = x.0 }) = record { begins = refl; ends = refl; match = F.sound s x.1 x.0 fx } in
-        subst (λ (z : Placed A × List ℕ). At R s z.1 z.0) q t)
+    let t : At R s x.1 (record { place = s; behind = x.1; what = x.0 }) = record { begins = refl; ends = refl; match = F.sound s x.1 x.0 fx } in
+    subst (λ (z : Placed A × List ℕ). At R s z.1 z.0) q t)
 
 at_complete : {A : Type 0} {f : Reader A} {R : Rule A} → Exact f R → (s rest : List ℕ) (a : Placed A) → At R s rest a → at f s ≡ Some (a, rest)
 at_complete {A} F s rest a m =
@@ -61,8 +60,8 @@ repeated_by_sound {A} {f = f} {R = R} F less (suc n) s rest found h e = go (f s)
         let m = F.sound s x.1 x.0 fx in
         let l = less s x.1 x.0 m in
         option_map_some (λ b. (x.0 ∷ b.0, b.1)) (repeated_by n f x.1) (found, rest) q (λ y gy w.
-            let t : Repeated R s y.1 (x.0 ∷ y.0) = more m (rec x.1 y.1 y.0 (omega arith) gy) in
-            subst (λ (z : List A × List ℕ). Repeated R s z.1 z.0) w t)
+        let t : Repeated R s y.1 (x.0 ∷ y.0) = more m (rec x.1 y.1 y.0 (omega arith) gy) in
+        subst (λ (z : List A × List ℕ). Repeated R s z.1 z.0) w t)
 
 repeated_by_complete : {A : Type 0} {f : Reader A} {R : Rule A} → Exact f R → Shrinks R → (n : ℕ) (s rest : List ℕ) (found : List A) → Repeated R s rest found → length s < n → repeated_by n f s ≡ Some (found, rest)
 unfolding repeated_by
@@ -113,3 +112,8 @@ repeated_more {f = f} F less s a e =
 pub repeated_end : {A : Type 0} (f : Reader A) (s : List ℕ) → f s ≡ None → repeated f s ≡ Some ([], s)
 unfolding repeated repeated_by
 repeated_end f s e = ap (λ o. repeat_turn o s (repeated_by (length s) f)) e
+
+-- a repetition finds something everywhere
+pub repeated_total : {A : Type 0} (f : Reader A) (s : List ℕ) → (x : List A × List ℕ) × (repeated f s ≡ Some x)
+unfolding repeated
+repeated_total f s = repeated_by_total f (suc (length s)) s

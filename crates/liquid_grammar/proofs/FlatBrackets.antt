@@ -1,23 +1,20 @@
 -- Brackets inside one another, matched by a count of those that are open.
-use Rattle.std.proofs.Common.{◌≡◌, ℕ, zero, suc, pred, ◌+◌, ◌-◌, ◌<◌, ◌≤◌, Bool, true, false, cond, not, ◌==◌, nat_lt, List, [], ◌∷◌, ◌++◌, length, take, drop, Option, Some, None, is_some, option_map, option_and_then, MatchOption, refl, sym, ap, ap₂, ◌∙◌, subst, arith, eqb-true}
+use Rattle.std.proofs.Common.{◌≡◌, ℕ, zero, suc, pred, ◌+◌, ◌-◌, ◌<◌, Bool, true, false, cond, ◌==◌, List, [], ◌∷◌, Option, Some, None, option_map, option_and_then, MatchOption, refl, sym, ap, ap₂, ◌∙◌, subst, arith, eqb-true}
 use Rattle.std.proofs.lemmas.Option.{same_Some, none-some}
 use Rattle.std.specs.Option.{option_or}
-use Rattle.std.specs.List.{prefix_len}
-use Rattle.liquid_grammar.specs.Bytes.{is_white}
-use Rattle.liquid_grammar.specs.Rules.{Rule, Placed}
+use Rattle.liquid_grammar.specs.Rules.{Placed}
 use Rattle.liquid_grammar.specs.Literals.{Literal}
-use Rattle.liquid_grammar.specs.Values.{Value, literal_value, variable_value, Index, named_index, bracketed_index, Indexes, gather, placed_literal, placed_variable, placed_bracket}
+use Rattle.liquid_grammar.specs.Values.{Value, Index, named_index, bracketed_index, gather, placed_literal, placed_variable, placed_bracket}
 use Rattle.liquid_grammar.specs.Faults.{Fault, literal_fault, fault_within, index_fault, indexes_fault, deep_fault}
 use Rattle.liquid_grammar.specs.declared.fault.Fault.{Fault as CodeFault}
 use Rattle.liquid_grammar.specs.Meanings.{Scanned, scan, faults_of}
-use Rattle.liquid_grammar.specs.Steps.{Reader, one, byte, both, either, seen, right, left, white, name}
+use Rattle.liquid_grammar.specs.Steps.{Reader, white, name}
 use Rattle.liquid_grammar.specs.BracketSteps.{adds, index, indexes, bracket_index, closing, resume, starts, awaited, going}
 use Rattle.liquid_grammar.specs.declared.bracket.Await.{Await}
 use Rattle.liquid_grammar.specs.declared.bracket.Open.{Open}
-use Rattle.liquid_grammar.specs.TokenSteps.{at, placed, repeated, literal, value, value_over, variable_over, index_over, bracketed_over, named, open_bracket, close_bracket}
-use Rattle.liquid_grammar.proofs.Exact.{Exact, option_cases}
+use Rattle.liquid_grammar.specs.TokenSteps.{placed, literal, value, variable_over, bracketed_over, named, open_bracket, close_bracket}
 use Rattle.liquid_grammar.proofs.ExactRepeated.{repeated_more, repeated_end}
-use Rattle.liquid_grammar.proofs.TokenExact.{exact-value, exact-index, shrinks-index, exact-indexes}
+use Rattle.liquid_grammar.proofs.TokenExact.{exact-value, exact-index, shrinks-index}
 use Rattle.liquid_grammar.proofs.ValueLaw.{value_reads}
 
 pub adds_none : (o : Option Scanned) → adds None o ≡ o
@@ -224,18 +221,25 @@ resume_open depth s x none e = by_value (value x.1) refl
   where
     more_of : List Index × List ℕ → Option Scanned
     more_of b = adds (indexes_fault (suc depth) (gather b.0)) (closing (resume depth) b.1)
+
     next : Value × List ℕ → Option Scanned
     next v = adds (fault_within (suc (suc depth)) v.0) (closing (resume (suc depth)) v.1)
+
     no_close : closing (resume depth) s ≡ None
     no_close = let go : ℕ × List ℕ → Option Scanned = λ a. resume depth a.1 in ap (option_and_then go) (open_not_close s x e)
+
     ended : bracketed_over value s ≡ None → resume (suc depth) s ≡ None
     ended h = resume_end depth s (index_none s none h) ∙ no_close
+
     behind : Value × List ℕ → Option (Value × List ℕ)
     behind v = option_map (λ c. (v.0, c.1)) (close_bracket v.1)
+
     found : (v : Value × List ℕ) → value x.1 ≡ Some v → bracketed_over value s ≡ option_map (λ c. (v.0, c.1)) (close_bracket v.1)
     found v h = bracketed_is s x e ∙ ap (option_and_then behind) h
+
     deep : Option Scanned → Option Scanned
     deep = adds (deep_fault (suc depth) s)
+
     by_close : (v : Value × List ℕ) → value x.1 ≡ Some v → (o : Option (ℕ × List ℕ)) → close_bracket v.1 ≡ o → resume (suc depth) s ≡ deep (adds (fault_within (suc (suc depth)) v.0) (closing (resume (suc depth)) v.1))
     by_close v h None k =
         let keep : ℕ × List ℕ → Value × List ℕ = λ c. (v.0, c.1) in
@@ -248,6 +252,7 @@ resume_open depth s x none e = by_value (value x.1) refl
         ap (option_and_then more_of) (repeated_more (exact-index exact-value) (shrinks-index exact-value) s (bracketed_index s c.1 v.0, c.1) here)
         ∙ opened_shape depth s v c (indexes c.1)
         ∙ sym (ap (λ o. deep (adds (fault_within (suc (suc depth)) v.0) (option_and_then go o))) k)
+
     by_value : (o : Option (Value × List ℕ)) → value x.1 ≡ o → resume (suc depth) s ≡ adds (deep_fault (suc depth) s) (starts (suc (suc depth)) x.1)
     by_value None h = ended (bracketed_is s x e ∙ ap (option_and_then behind) h) ∙ sym (ap (λ o. deep (option_and_then next o)) h)
     by_value (Some v) h = by_close v h (close_bracket v.1) refl ∙ sym (ap (λ o. deep (option_and_then next o)) h)

@@ -1,8 +1,8 @@
 -- The number of an integer literal.
-use Rattle.std.proofs.Common.{◌≡◌, ℕ, ◌^◌, ◌<◌, ◌≤◌, ◌==◌, ◌&&◌, ◌||◌, Bool, true, false, cond, List, length, drop, get_or, Option, Some, None, Result, Ok, Err, ℤ, pos, neg_ℤ, nat_lt, rules, refl, sym, ap, ap₂, ◌∙◌, arith, w64, OkIff, eqb-true}
+use Rattle.std.proofs.Common.{◌≡◌, ℕ, ◌^◌, ◌<◌, ◌≤◌, ◌==◌, ◌&&◌, Bool, true, false, cond, List, length, drop, get_or, Option, Some, None, Result, Ok, Err, ℤ, pos, neg_ℤ, rules, refl, sym, ap, ap₂, ◌∙◌, arith, w64, OkIff, eqb-true}
 use Rattle.std.specs.Result.{result_ok}
 use Rattle.std.specs.Str.{all_ascii_digits}
-use Rattle.std.specs.Str.Parse.{ParsesSigned, digits_value, starts_with_minus}
+use Rattle.std.specs.Str.Parse.{ParsesSigned, digits_value}
 use Rattle.std.proofs.lemmas.Str.Parse.{IsNumeralModel, numerals_by_value, parse_signed_minus, parse_signed_plus, parse_signed_plain}
 use Rattle.std.proofs.lemmas.Bool.{false≢true, eqb-false}
 use Rattle.std.proofs.lemmas.Bool.Decides.{nat_tests}
@@ -45,12 +45,16 @@ integer_from_parse {E} bs r h = go (get_or bs 0 0 == 45) (get_or bs 0 0 == 43) r
   where
     minus : get_or bs 0 0 ≡ 45 → read_integer true (drop 1 bs) ≡ result_ok r
     minus e = by_test (test true (drop 1 bs)) _ _ r (test_low (drop 1 bs)) (low_test (drop 1 bs)) (parse_signed_minus own w64 bs r h e)
+
     plus : get_or bs 0 0 ≡ 43 → read_integer false (drop 1 bs) ≡ result_ok r
     plus e = by_test (test false (drop 1 bs)) _ _ r (test_high (drop 1 bs)) (high_test (drop 1 bs)) (parse_signed_plus own w64 bs r h e)
+
     plain : ¬ (get_or bs 0 0 ≡ 43) → ¬ (get_or bs 0 0 ≡ 45) → read_integer false bs ≡ result_ok r
     plain e f = by_test (test false bs) _ _ r (test_high bs) (high_test bs) (parse_signed_plain own w64 bs r h e f)
+
     read : Bool → Bool → Option ℤ
     read m p = read_integer m (cond m (drop 1 bs) (drop (cond p 1 0) bs))
+
     go : (m p : Bool) → (get_or bs 0 0 == 45) ≡ m → (get_or bs 0 0 == 43) ≡ p → read (get_or bs 0 0 == 45) (get_or bs 0 0 == 43) ≡ result_ok r
     go true p e f = ap₂ read e f ∙ minus (eqb-true _ 45 e)
     go false true e f = ap₂ read e f ∙ plus (eqb-true _ 43 f)

@@ -11,3 +11,4 @@ pub mod IntegerLemmas
 pub mod ValueScan
 pub mod Scanning
 pub mod MatchLemmas
+pub mod KindLemmas

@@ -1,6 +1,5 @@
 -- The faults of lists of parts, and of parts behind something else.
-use Rattle.std.proofs.Common.{◌≡◌, ℕ, List, [], ◌∷◌, Option, Some, None, option_map, option_and_then, refl, sym, ap, ap₂, ◌∙◌}
-use Rattle.std.proofs.lemmas.Option.{same_Some, none-some}
+use Rattle.std.proofs.Common.{◌≡◌, ℕ, List, ◌∷◌, Option, Some, None, option_map, option_and_then, refl, sym, ap, ap₂, ◌∙◌}
 use Rattle.std.specs.Option.{option_or}
 use Rattle.liquid_grammar.specs.Rules.{Rule}
 use Rattle.liquid_grammar.specs.Values.{Value}
@@ -62,7 +61,7 @@ arguments_scan s r₀ r₁ r₂ g h e₀ e₁ e₂ =
     let make : (Argument × List Argument) × List ℕ → List Argument × List ℕ = λ a. (a.0.0 ∷ a.0.1, a.1) in
     let w : Option Fault → Option Fault → List ℕ → Option Scanned = λ a b t. Some (option_or a b, t) in
     sym (ap (λ o. scan (first_fault argument_fault) (option_map make o)) both_found ∙ ap (λ t. w (argument_fault x₁.0.0) (first_fault argument_fault x₂.0.0) t) x₂.3
-      ∙ ap₂ (λ a b. w a b r₂) x₁.2 x₂.2)
+    ∙ ap₂ (λ a b. w a b r₂) x₁.2 x₂.2)
 
 -- a value, and filters behind it
 pub chain_scan : (s r₁ r₂ : List ℕ) (g h : Option Fault) → Some (g, r₁) ≡ scan value_fault (value s)

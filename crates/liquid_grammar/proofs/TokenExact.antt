@@ -1,18 +1,17 @@
 -- The readers of literals, values, filters, chains, tokens and tags are exact.
-use Rattle.std.proofs.Common.{◌≡◌, ℕ, zero, suc, ◌+◌, ◌-◌, ◌<◌, ◌≤◌, Bool, true, false, cond, not, ◌||◌, ◌==◌, List, [], ◌∷◌, ◌++◌, length, Option, Some, None, is_some, option_map, option_and_then, refl, sym, ap, ap₂, ◌∙◌, subst, arith}
+use Rattle.std.proofs.Common.{ℕ, zero, suc, true, not, ◌||◌, ◌==◌, ◌∷◌, length}
 use Rattle.std.proofs.lemmas.Option.{none-some}
-use Rattle.std.specs.Option.{option_or}
 use Rattle.std.specs.Char.{is_ascii_digit}
 use Rattle.liquid_grammar.specs.Bytes.{starts_name}
-use Rattle.liquid_grammar.specs.Rules.{Rule, Begins, One, Then, Else, Repeated, Seen, Where, Text, Not, At, Byte, Optional, ◌▷◌, ◌◁◌}
+use Rattle.liquid_grammar.specs.Rules.{Rule, One, Repeated, Byte, Optional, ◌▷◌, ◌◁◌}
 use Rattle.liquid_grammar.specs.Grammar.{White, Identifier, Name, is_literal_word}
 use Rattle.liquid_grammar.specs.Literals.{Literal, word_literal, text_literal, integer, decimal, Word, Quoted, Digits, Whole, Fractional, Number, LiteralRule}
 use Rattle.liquid_grammar.specs.Values.{Value, Index, named_index, placed_literal, placed_variable, placed_bracket, OpenBracket, CloseBracket, Bracketed, IndexOver, VariableOver, ValueOver, Nested, ValueRule, IndexRule, VariableRule}
 use Rattle.liquid_grammar.specs.Tokens.{Argument, positional, keyword, Token, range, chain, symbol, arguments_of, is_double, is_single, ArgumentRule, Behind, Arguments, FilterRule, ChainRule, Dots, RangeStart, RangeEnd, RangeRule, SymbolRule, TokenRule, ExpressionStart, ExpressionRule, TagStart, TagRule}
 use Rattle.liquid_grammar.specs.Steps.{Reader, one, byte, both, either, seen, only, text, right, left, run, white, identifier, name}
 use Rattle.liquid_grammar.specs.TokenSteps as read
-use Rattle.liquid_grammar.proofs.Exact.{Exact, Cuts, Shrinks, exact-one, exact-byte, exact-both, exact-either, exact-seen, exact-right, exact-left, exact-only, exact-text, shrinks-one, shrinks-first, shrinks-second, shrinks-seen, shrinks-else, shrinks-text}
-use Rattle.liquid_grammar.proofs.GrammarExact.{exact-white, exact-run, exact-identifier, exact-name, exact-opener, exact-closer, shrinks-opener, exact-name_bytes}
+use Rattle.liquid_grammar.proofs.Exact.{Exact, Shrinks, exact-one, exact-byte, exact-both, exact-either, exact-seen, exact-right, exact-left, exact-only, exact-text, shrinks-one, shrinks-first, shrinks-second, shrinks-seen, shrinks-else, shrinks-text}
+use Rattle.liquid_grammar.proofs.GrammarExact.{exact-white, exact-run, exact-identifier, exact-name, exact-opener, exact-closer, exact-name_bytes}
 use Rattle.liquid_grammar.proofs.ExactRepeated.{exact-not_ahead, exact-optional, exact-at, exact-repeated}
 
 pub exact-word : Exact read.word Word

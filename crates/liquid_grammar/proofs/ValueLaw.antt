@@ -1,13 +1,12 @@
 -- The rule of values is the rule over itself: how often brackets stand in one another doesn't matter.
-use Rattle.std.proofs.Common.{◌≡◌, ℕ, zero, suc, ◌+◌, ◌-◌, ◌<◌, ◌≤◌, List, [], ◌∷◌, ◌++◌, length, Option, Some, None, option_map, option_and_then, refl, sym, ap, ap₂, ◌∙◌, subst, arith, length-append, ◌↔◌, ◌==◌}
-use Rattle.std.proofs.lemmas.Option.{none-some}
+use Rattle.std.proofs.Common.{◌≡◌, ℕ, zero, suc, ◌<◌, ◌≤◌, List, ◌∷◌, length, Option, Some, None, option_map, option_and_then, refl, sym, ap, ◌∙◌, arith, ◌↔◌}
 use Rattle.std.specs.Option.{option_or}
 use Rattle.liquid_grammar.specs.Rules.{Rule, Placed}
-use Rattle.liquid_grammar.specs.Values.{Value, Index, named_index, placed_literal, placed_variable, placed_bracket, ValueOver, IndexOver, Nested, ValueRule}
-use Rattle.liquid_grammar.specs.Steps.{Reader, byte, both, either, seen, right, left, white, name}
-use Rattle.liquid_grammar.specs.TokenSteps.{at, placed, repeat_turn, repeated_by, repeated, close_bracket, bracketed_over, named, index_over, variable_over, literal, value_over, value_by, value}
-use Rattle.liquid_grammar.proofs.Exact.{Exact, Cuts, Shrinks, cuts_le, exact-byte, exact-right, shrinks-one, shrinks-first, shrinks-seen}
-use Rattle.liquid_grammar.proofs.GrammarExact.{exact-white, exact-name}
+use Rattle.liquid_grammar.specs.Values.{Value, Index, named_index, placed_literal, placed_variable, placed_bracket, ValueOver, ValueRule}
+use Rattle.liquid_grammar.specs.Steps.{Reader, both, seen}
+use Rattle.liquid_grammar.specs.TokenSteps.{at, placed, repeat_turn, repeated_by, repeated, close_bracket, bracketed_over, named, index_over, literal, value_over, value_by, value}
+use Rattle.liquid_grammar.proofs.Exact.{Exact, Shrinks, cuts_le}
+use Rattle.liquid_grammar.proofs.GrammarExact.{exact-name}
 use Rattle.liquid_grammar.proofs.TokenExact.{exact-index, exact-nested, exact-value, exact-value_over, shrinks-name, exact-open_bracket, shrinks-open_bracket}
 
 -- two readers find the same in each text that is shorter
@@ -59,7 +58,7 @@ unfolding repeated
 agree_value m f g G agree s h =
     let make : Placed (List ℕ × List Index) × List ℕ → Value × List ℕ = λ a. (placed_variable a.0, a.1) in
     let indexes : Agree m (repeated (index_over f)) (repeated (index_over g)) =
-        λ t l. agree_repeated m (index_over f) (index_over g) (exact-index G) (λ u k. agree_index m f g agree u (omega arith)) (suc (length t)) t l
+    λ t l. agree_repeated m (index_over f) (index_over g) (exact-index G) (λ u k. agree_index m f g agree u (omega arith)) (suc (length t)) t l
     in
     ap (λ o. option_or (seen placed_literal (at literal) s) (option_map make (option_map (placed s) o)))
     (agree_behind m (repeated (index_over f)) (repeated (index_over g)) exact-name shrinks-name indexes s h)

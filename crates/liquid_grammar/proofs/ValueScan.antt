@@ -1,5 +1,5 @@
 -- The faults of values and of their indexes, found from left to right.
-use Rattle.std.proofs.Common.{◌≡◌, ℕ, List, [], ◌∷◌, Option, Some, None, option_map, option_and_then, refl, sym, ap, ap₂, ◌∙◌}
+use Rattle.std.proofs.Common.{◌≡◌, ℕ, List, ◌∷◌, Option, Some, None, option_map, option_and_then, refl, sym, ap, ap₂, ◌∙◌}
 use Rattle.std.proofs.lemmas.Option.{same_Some, none-some}
 use Rattle.std.specs.Option.{option_or}
 use Rattle.liquid_grammar.specs.Rules.{Placed}
@@ -7,7 +7,7 @@ use Rattle.liquid_grammar.specs.Literals.{Literal}
 use Rattle.liquid_grammar.specs.Values.{Value, Index, gather, placed_literal, placed_variable}
 use Rattle.liquid_grammar.specs.Faults.{Fault, literal_fault, index_fault, indexes_fault, value_fault}
 use Rattle.liquid_grammar.specs.Meanings.{Scanned, scan}
-use Rattle.liquid_grammar.specs.Steps.{Reader, name}
+use Rattle.liquid_grammar.specs.Steps.{name}
 use Rattle.liquid_grammar.specs.TokenSteps.{placed, literal, value, variable_over}
 use Rattle.liquid_grammar.specs.BracketSteps.{adds, index, indexes}
 use Rattle.liquid_grammar.proofs.ExactRepeated.{repeated_more, repeated_end}

@@ -1,5 +1,5 @@
 -- Brackets inside one another, by a count of those that are open. No public clause names these.
-use Rattle.std.specs.Prelude.{◌≡◌, ℕ, zero, suc, pred, List, Option, Some, None, option_map, option_and_then}
+use Rattle.std.specs.Prelude.{ℕ, zero, suc, pred, List, Option, Some, None, option_map, option_and_then}
 use Rattle.std.specs.Option.{option_or}
 use Rattle.liquid_grammar.specs.declared.bracket.Await.{Await}
 use Rattle.liquid_grammar.specs.declared.bracket.Await.TheVariants.{Value, Index, Close}

@@ -1,9 +1,8 @@
 -- The first fault of literals and brackets, from left to right, and the number of an integer literal.
-use Rattle.std.specs.Prelude.{◌≡◌, ℕ, suc, ◌^◌, ◌==◌, ◌&&◌, ◌||◌, Bool, nat_lt, if◌then◌else◌, List, [], ◌∷◌, length, Option, Some, None, ℤ}
+use Rattle.std.specs.Prelude.{ℕ, suc, ◌^◌, ◌==◌, ◌&&◌, ◌||◌, Bool, nat_lt, if◌then◌else◌, List, [], ◌∷◌, length, Option, Some, None, ℤ}
 use Rattle.std.specs.Option.{option_or}
 use Rattle.std.specs.Str.{all_ascii_digits}
 use Rattle.std.specs.Str.Parse.{digits_value, without_leading_sign, starts_with_minus, signed_digits_value}
-use Rattle.liquid_grammar.specs.Rules.{Placed}
 use Rattle.liquid_grammar.specs.Literals.{Literal, integer, decimal}
 use Rattle.liquid_grammar.specs.Values.{Value, literal_value, variable_value, Index, named_index, bracketed_index, Indexes, no_index, more_indexes}
 use Rattle.liquid_grammar.specs.Tokens.{Argument, positional, keyword, Filter, Chain, Tag, Token, range, chain, symbol}

@@ -13,3 +13,5 @@ pub mod Faults
 pub mod Meanings
 pub mod BracketSteps
 pub mod Matches
+pub mod Kinds
+pub mod KindMeanings

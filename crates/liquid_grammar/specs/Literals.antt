@@ -1,5 +1,5 @@
 -- Literals: words, texts and numbers.
-use Rattle.std.specs.Prelude.{ℕ, Bool, true, false, not, ◌||◌, ◌==◌, List, Option, codes, bytes_eq, if◌then◌else◌}
+use Rattle.std.specs.Prelude.{ℕ, Bool, not, ◌||◌, ◌==◌, List, codes, bytes_eq, if◌then◌else◌}
 use Rattle.std.specs.Char.{is_ascii_digit}
 use Rattle.liquid_grammar.specs.Bytes.{starts_name}
 use Rattle.liquid_grammar.specs.Rules.{Rule, One, Then, Else, Repeated, Seen, Where, Text, Not, Byte, Optional, ◌▷◌, ◌◁◌}

@@ -1,6 +1,5 @@
 -- Readers of literals, values, filters, chains, tokens and tags. Like those of Steps, no public clause names them.
-use Rattle.std.specs.Prelude.{◌≡◌, ℕ, zero, suc, ◌-◌, ◌+◌, ◌<◌, ◌==◌, ◌&&◌, ◌||◌, Bool, true, cond, not, nat_lt, List, [], ◌∷◌, length, take, drop, slice_index, Option, Some, None, option_map, option_and_then, is_some}
-use Rattle.std.specs.List.{prefix_len}
+use Rattle.std.specs.Prelude.{ℕ, zero, suc, ◌==◌, ◌||◌, true, cond, not, List, [], ◌∷◌, length, Option, Some, None, option_map, is_some}
 use Rattle.std.specs.Char.{is_ascii_digit}
 use Rattle.liquid_grammar.specs.Bytes.{starts_name}
 use Rattle.liquid_grammar.specs.Rules.{Placed}

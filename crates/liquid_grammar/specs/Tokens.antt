@@ -1,5 +1,5 @@
 -- Arguments, filters, chains, tokens, expressions and tags.
-use Rattle.std.specs.Prelude.{◌≡◌, ℕ, Bool, true, ◌||◌, ◌&&◌, ◌==◌, List, [], ◌∷◌, Option, Some, None}
+use Rattle.std.specs.Prelude.{ℕ, Bool, true, ◌||◌, ◌&&◌, ◌==◌, List, [], ◌∷◌, Option, Some, None}
 use Rattle.liquid_grammar.specs.Rules.{Rule, Placed, One, Then, Else, Repeated, Seen, Where, Text, At, Byte, Optional, ◌▷◌, ◌◁◌}
 use Rattle.liquid_grammar.specs.Grammar.{White, Opener, Closer, Identifier}
 use Rattle.liquid_grammar.specs.Values.{Value, ValueRule}

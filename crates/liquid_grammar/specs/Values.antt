@@ -1,5 +1,5 @@
 -- Values: literals, and variables with their indexes.
-use Rattle.std.specs.Prelude.{◌≡◌, ℕ, suc, zero, List, [], ◌∷◌, length}
+use Rattle.std.specs.Prelude.{ℕ, suc, zero, List, [], ◌∷◌, length}
 use Rattle.liquid_grammar.specs.Rules.{Rule, Placed, Then, Else, Repeated, Seen, At, Byte, ◌▷◌, ◌◁◌}
 use Rattle.liquid_grammar.specs.Grammar.{White, Identifier, Name}
 use Rattle.liquid_grammar.specs.Literals.{Literal, LiteralRule}

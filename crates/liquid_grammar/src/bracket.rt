@@ -37,45 +37,75 @@ pub(crate) fn bracketed<'a>(s: &'a str) -> Option<(Option<Fault<'a>>, &'a str)>
     ensures value { Scans (index_fault 0) result (bracket_index s.now) }
     ensures shorter { IfSome result (λ x. length x.1.now < length s.now) }
 {
-    let mut open = Open { rest: open_bracket(s)?, depth: 1, fault: None, awaits: Await::Value };
-    'brackets: while open.depth > 0 {
-        open = turn(open)?;
+    let mut state = Open {
+        rest: open_bracket(s)?,
+        depth: 1,
+        fault: None,
+        awaits: Await::Value,
+    };
+    'brackets: while state.depth > 0 {
+        state = turn(state)?;
     }
-    Some((open.fault, open.rest))
+    Some((state.fault, state.rest))
 }
 
 /// One step inside the brackets.
-fn turn<'a>(open: Open<'a>) -> Option<Open<'a>>
-    requires some { 0 < open.depth }
-    requires fits { open.depth + length open.rest.now < 2 ^ 64 }
-    ensures same { MatchOption result (going open.entry ≡ None) (λ next. going open.entry ≡ going next) }
-    ensures room { IfSome result (λ next. next.depth + length next.rest.now ≤ open.entry.depth + length open.entry.rest.now) }
-    ensures ends { IfSome result (λ next. 2 * length next.rest.now + rank next.awaits < 2 * length open.entry.rest.now + rank open.entry.awaits) }
-    ensures within { IfSome result (λ next. length next.rest.now ≤ length open.entry.rest.now) }
+fn turn<'a>(state: Open<'a>) -> Option<Open<'a>>
+    requires some { 0 < state.depth }
+    requires fits { state.depth + length state.rest.now < 2 ^ 64 }
+    ensures same { MatchOption result (going state.entry ≡ None) (λ next. going state.entry ≡ going next) }
+    ensures room { IfSome result (λ next. next.depth + length next.rest.now ≤ state.entry.depth + length state.entry.rest.now) }
+    ensures ends { IfSome result (λ next. 2 * length next.rest.now + rank next.awaits < 2 * length state.entry.rest.now + rank state.entry.awaits) }
+    ensures within { IfSome result (λ next. length next.rest.now ≤ length state.entry.rest.now) }
     ensures whole { IfSome result (λ next. next.depth ≡ 0 → next.awaits ≡ Await.Index) }
 {
-    let rest = open.rest;
-    match open.awaits {
+    let rest = state.rest;
+    match state.awaits {
         Await::Value => match read_literal(rest) {
             Some((literal, after)) => {
-                let fault = open.fault.or(literal_fault(rest, literal));
-                Some(Open { rest: after, fault, awaits: Await::Close, ..open })
+                let fault = state.fault.or(literal_fault(rest, literal));
+                Some(Open {
+                    rest: after,
+                    fault,
+                    awaits: Await::Close,
+                    ..state
+                })
             }
-            None => Some(Open { rest: name(rest)?.1, awaits: Await::Index, ..open }),
+            None => Some(Open {
+                rest: name(rest)?.1,
+                awaits: Await::Index,
+                ..state
+            }),
         },
         Await::Index => match named(rest) {
-            Some(after) => Some(Open { rest: after, ..open }),
+            Some(after) => Some(Open {
+                rest: after,
+                ..state
+            }),
             None => match open_bracket(rest) {
                 Some(after) => {
-                    let fault = open.fault.or(depth_fault(rest, open.depth));
-                    Some(Open { rest: after, depth: open.depth + 1, fault, awaits: Await::Value })
+                    let fault = state.fault.or(depth_fault(rest, state.depth));
+                    Some(Open {
+                        rest: after,
+                        depth: state.depth + 1,
+                        fault,
+                        awaits: Await::Value,
+                    })
                 }
-                None => Some(Open { awaits: Await::Close, ..open }),
+                None => Some(Open {
+                    awaits: Await::Close,
+                    ..state
+                }),
             },
         },
         Await::Close => {
             let after = close_bracket(rest)?;
-            Some(Open { rest: after, depth: open.depth - 1, awaits: Await::Index, ..open })
+            Some(Open {
+                rest: after,
+                depth: state.depth - 1,
+                awaits: Await::Index,
+                ..state
+            })
         }
     }
 }
@@ -87,7 +117,10 @@ fn depth_fault<'a>(place: &'a str, depth: usize) -> Option<Fault<'a>>
     if depth < BRACKET_LIMIT {
         None
     } else {
-        Some(Fault { kind: FaultKind::NestedTooDeep, place })
+        Some(Fault {
+            kind: FaultKind::NestedTooDeep,
+            place,
+        })
     }
 }
 

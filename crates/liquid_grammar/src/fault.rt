@@ -37,9 +37,15 @@ pub(crate) fn literal_fault<'a>(place: &'a str, literal: Literal) -> Option<Faul
     match literal {
         Literal::Integer(text) => match integer_of(text) {
             Some(_) => None,
-            None => Some(Fault { kind: FaultKind::IntegerOutOfRange, place }),
+            None => Some(Fault {
+                kind: FaultKind::IntegerOutOfRange,
+                place,
+            }),
         },
-        Literal::Decimal(_) => Some(Fault { kind: FaultKind::DecimalNotSupported, place }),
+        Literal::Decimal(_) => Some(Fault {
+            kind: FaultKind::DecimalNotSupported,
+            place,
+        }),
         _ => None,
     }
 }

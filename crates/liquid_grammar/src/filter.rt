@@ -37,7 +37,7 @@ fn filters<'a>(s: &'a str) -> (Option<Fault<'a>>, &'a str)
     (fault, rest)
 }
 
-fn next_filter<'a>(s: &'a str) -> Option<(Option<Fault<'a>>, &'a str)>
+pub(crate) fn next_filter<'a>(s: &'a str) -> Option<(Option<Fault<'a>>, &'a str)>
     ensures value { Scans filter_fault result (read.behind 124 read.filter s.now) }
     ensures shorter { IfSome result (λ x. length x.1.now < length s.now) }
 {

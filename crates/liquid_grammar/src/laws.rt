@@ -43,12 +43,10 @@ pub fn one_match()
     ensures tokens { Single TokenRule }
     ensures expressions { Single ExpressionRule }
     ensures tags { Single TagRule }
-{
-}
+{}
 
 /// A value is a literal or a variable over values: how often brackets stand in one another doesn't matter.
 #[tactic(auto, using(crate::proofs::ValueLaw::value_law))]
 pub fn value_law()
     ensures { (s rest : List ℕ) (v : Value) → ValueRule s rest v ↔ ValueOver ValueRule s rest v }
-{
-}
+{}

@@ -6,15 +6,16 @@ mod bytes;
 mod element;
 mod fault;
 mod filter;
+mod kind;
 mod laws;
 mod literal;
 mod matching;
+#[cfg(test)]
+mod matching_tests;
 mod name;
 mod opener;
 mod place;
 mod raw;
-#[cfg(test)]
-mod matching_tests;
 #[cfg(test)]
 mod tests;
 mod text;
@@ -24,10 +25,14 @@ mod value;
 pub use bracket::BRACKET_LIMIT;
 pub use element::{ChainText, Element, TagText, next_element};
 pub use fault::{Fault, FaultKind, integer_of};
+pub use kind::{TokenKind, token_kind};
+pub use laws::{
+    elements_joined_are_the_text, no_opener_inside_raw, one_cover, one_element, one_match,
+    value_law,
+};
 pub use literal::Literal;
-pub use laws::{elements_joined_are_the_text, no_opener_inside_raw, one_cover, one_element, one_match, value_law};
 pub use matching::{
-    match_argument, match_chain, match_expression, match_filter, match_identifier, match_index, match_literal, match_tag, match_token, match_value,
-    match_variable,
+    match_argument, match_chain, match_expression, match_filter, match_identifier, match_index,
+    match_literal, match_tag, match_token, match_value, match_variable,
 };
 pub use place::line_and_column;

@@ -149,7 +149,11 @@ fn digits(s: &str) -> Option<(&str, &str)>
     ensures shorter { IfSome result (λ x. length x.1.now < length s.now) }
 {
     let len = digit_len(s.as_bytes());
-    if len == 0 { None } else { Some(s.split_at(len)) }
+    if len == 0 {
+        None
+    } else {
+        Some(s.split_at(len))
+    }
 }
 
 fn digit_len(bytes: &[u8]) -> usize

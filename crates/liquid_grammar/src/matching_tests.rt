@@ -1,7 +1,8 @@
 //! Texts with what the written rules match at their beginning: what is left, and the first fault.
 use crate::{
-    Element, FaultKind, Literal, integer_of, match_argument, match_chain, match_expression, match_filter, match_identifier,
-    match_index, match_literal, match_tag, match_token, match_value, match_variable, next_element,
+    Element, FaultKind, Literal, TokenKind, integer_of, match_argument, match_chain,
+    match_expression, match_filter, match_identifier, match_index, match_literal, match_tag,
+    match_token, match_value, match_variable, next_element, token_kind,
 };
 use std::alloc::{AllocError, Global};
 use std::process::Abort;
@@ -20,7 +21,12 @@ fn leaves(rt: &impl Abort, found: Option<(Option<crate::Fault>, &str)>, rest: Op
 }
 
 /// Asserts the first fault of a match, and where it is.
-fn faults(rt: &impl Abort, found: Option<(Option<crate::Fault>, &str)>, kind: FaultKind, place: &str) {
+fn faults(
+    rt: &impl Abort,
+    found: Option<(Option<crate::Fault>, &str)>,
+    kind: FaultKind,
+    place: &str,
+) {
     match found {
         Some((Some(fault), _)) => {
             assert!(rt; fault.kind == kind);
@@ -79,12 +85,32 @@ fn values(rt: HostRuntime) {
 
 #[test]
 fn faults_from_left_to_right(rt: HostRuntime) {
-    faults(&rt, match_value("9223372036854775808"), FaultKind::IntegerOutOfRange, "9223372036854775808");
+    faults(
+        &rt,
+        match_value("9223372036854775808"),
+        FaultKind::IntegerOutOfRange,
+        "9223372036854775808",
+    );
     leaves(&rt, match_value("-9223372036854775808"), Some(""));
     leaves(&rt, match_value("9223372036854775807"), Some(""));
-    faults(&rt, match_chain("a[1.5] | f: 2.5"), FaultKind::DecimalNotSupported, "1.5] | f: 2.5");
-    faults(&rt, match_tag("{% a 1 (2..3.0) %}"), FaultKind::DecimalNotSupported, "3.0) %}");
-    faults(&rt, match_expression("{{ a | f: b, c: 99999999999999999999 }}"), FaultKind::IntegerOutOfRange, "99999999999999999999 }}");
+    faults(
+        &rt,
+        match_chain("a[1.5] | f: 2.5"),
+        FaultKind::DecimalNotSupported,
+        "1.5] | f: 2.5",
+    );
+    faults(
+        &rt,
+        match_tag("{% a 1 (2..3.0) %}"),
+        FaultKind::DecimalNotSupported,
+        "3.0) %}",
+    );
+    faults(
+        &rt,
+        match_expression("{{ a | f: b, c: 99999999999999999999 }}"),
+        FaultKind::IntegerOutOfRange,
+        "99999999999999999999 }}",
+    );
     assert!(rt; integer_of("-7") == Some(-7));
     assert!(rt; integer_of("+7") == Some(7));
     assert!(rt; integer_of("9223372036854775808").is_none());
@@ -185,4 +211,17 @@ fn hostile_sizes(rt: HostRuntime) -> Result<(), AllocError> {
     }
     assert!(rt; next_element(rest) == Some((Element::Raw("{"), "")));
     Ok(())
+}
+
+#[test]
+fn kinds(rt: HostRuntime) {
+    assert!(rt; token_kind("a ") == Some(TokenKind::Identifier("a")));
+    assert!(rt; token_kind("a.b") == Some(TokenKind::Variable));
+    assert!(rt; token_kind("a['b']") == Some(TokenKind::Variable));
+    assert!(rt; token_kind("'a' b") == Some(TokenKind::Literal(Literal::Text("a"))));
+    assert!(rt; token_kind("nil") == Some(TokenKind::Literal(Literal::Nil)));
+    assert!(rt; token_kind("a | f") == Some(TokenKind::Filtered));
+    assert!(rt; token_kind("(1..a)") == Some(TokenKind::Range));
+    assert!(rt; token_kind("<=") == Some(TokenKind::Symbol));
+    assert!(rt; token_kind("!").is_none());
 }

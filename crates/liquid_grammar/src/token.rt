@@ -89,7 +89,7 @@ pub(crate) fn token<'a>(s: &'a str) -> Option<(Option<Fault<'a>>, &'a str)>
     }
 }
 
-fn range<'a>(s: &'a str) -> Option<(Option<Fault<'a>>, &'a str)>
+pub(crate) fn range<'a>(s: &'a str) -> Option<(Option<Fault<'a>>, &'a str)>
     ensures value { Scans range_fault result (read.ranged s.now) }
     ensures shorter { IfSome result (λ x. length x.1.now < length s.now) }
 {
@@ -125,7 +125,7 @@ fn dots(s: &str) -> Option<&str>
 
 /// What follows the longest symbol that stands here.
 #[tactic(auto, unfolding(crate::specs::TokenSteps::symbol_of))]
-fn symbol(s: &str) -> Option<&str>
+pub(crate) fn symbol(s: &str) -> Option<&str>
     ensures value { Leaves result (read.symbol_of s.now) }
     ensures shorter { IfSome result (λ rest. length rest.now < length s.now) }
 {

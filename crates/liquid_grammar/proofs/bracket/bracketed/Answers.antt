@@ -1,4 +1,4 @@
-use Rattle.std.proofs.Common.{◌≡◌, sym, ap, ◌∙◌, arith, rules}
+use Rattle.std.proofs.Common.{◌≡◌, sym, ◌∙◌, arith, rules}
 use Rattle.liquid_grammar.specs.declared.bracket.Await.TheVariants.{Index}
 use Rattle.liquid_grammar.proofs.FlatBrackets.{bracket_opens, all_closed, going_at}
 use Rattle.liquid_grammar.proofs.bracket.bracketed.Goals as goal
@@ -10,6 +10,6 @@ brackets-init c =
 
 pub returns-clause-value : goal.returns-clause-value
 returns-clause-value c =
-    let closed : c.brackets.open.depth ≡ 0 = omega arith in
+    let closed : c.brackets.state.depth ≡ 0 = omega arith in
     let kept = c.brackets.invariant.1 in
-    sym (kept.same ∙ going_at c.brackets.open Index (kept.whole closed) ∙ all_closed _ c.brackets.open.depth _ closed)
+    sym (kept.same ∙ going_at c.brackets.state Index (kept.whole closed) ∙ all_closed _ c.brackets.state.depth _ closed)

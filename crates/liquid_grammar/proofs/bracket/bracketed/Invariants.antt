@@ -1,4 +1,4 @@
-use Rattle.std.proofs.Common.{◌≡◌, ◌+◌, ◌*◌, ◌<◌, ◌≤◌, ◌^◌, length, None}
+use Rattle.std.proofs.Common.{◌≡◌, ◌+◌, ◌*◌, ◌<◌, ◌≤◌, length}
 use denote.Text.{Utf8}
 use denote.Shadow.{shadow}
 use Rattle.liquid_grammar.specs.Faults.{index_fault}
@@ -9,13 +9,13 @@ use Rattle.liquid_grammar.proofs.bracket.bracketed.Given as goal
 
 abbrev pub invariant-brackets : goal.invariant-brackets
 invariant-brackets l =
-    shadow (Utf8 l.open.rest.now)
+    shadow (Utf8 l.state.rest.now)
     × record {
-      same : scan (index_fault 0) (bracket_index l.s) ≡ going l.open;
-      less : length l.open.rest.now < length l.s;
-      room : l.open.depth + length l.open.rest.now ≤ length l.s;
-      whole : l.open.depth ≡ 0 → l.open.awaits ≡ Index;
+      same : scan (index_fault 0) (bracket_index l.s) ≡ going l.state;
+      less : length l.state.rest.now < length l.s;
+      room : l.state.depth + length l.state.rest.now ≤ length l.s;
+      whole : l.state.depth ≡ 0 → l.state.awaits ≡ Index;
     }
 
 abbrev pub decreases-brackets : goal.decreases-brackets
-decreases-brackets l = 2 * length l.open.rest.now + rank l.open.awaits
+decreases-brackets l = 2 * length l.state.rest.now + rank l.state.awaits

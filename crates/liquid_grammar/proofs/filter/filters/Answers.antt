@@ -1,4 +1,4 @@
-use Rattle.std.proofs.Common.{◌≡◌, Option, ap, sym, ◌∙◌, arith, rules, refl}
+use Rattle.std.proofs.Common.{Option, ap, sym, ◌∙◌, arith, rules, refl}
 use Rattle.liquid_grammar.specs.Faults.{Fault, first_fault, filter_fault}
 use Rattle.liquid_grammar.specs.Meanings.{scan, faults_of, Scanned}
 use Rattle.liquid_grammar.specs.TokenSteps.{repeated, behind, filter}
@@ -12,14 +12,16 @@ pub filters-preserved : goal.filters-preserved
 filters-preserved c =
     let kept = c.filters.invariant.1 in
     let shorter = c.in-Some.ensures.shorter in
-    let after : Option Scanned = scan (first_fault filter_fault) (repeated (behind 124 filter) c.in-Some.after.now) in
-    (search rules, record {
-      same = kept.same
-      ∙ ap (adds (faults_of c.filters.fault)) (repeated_scan_more (exact-behind 124 exact-filter) (shrinks-behind 124 exact-filter) filter_fault _ _ (faults_of c.in-Some.found) c.in-Some.ensures.value)
-      ∙ adds_adds (faults_of c.filters.fault) (faults_of c.in-Some.found) after
-      ∙ ap (λ (f : Option Fault). adds f after) (fault_added c.filters.fault c.in-Some.found _ _ c.or-fault.ensures refl);
-      within = omega (arith, shorter, kept.within);
-    })
+    let after : Option Scanned = scan (first_fault filter_fault) (repeated (behind 124 filter) c.in-Some.after.now) in (
+      search rules,
+      record {
+        same = kept.same
+            ∙ ap (adds (faults_of c.filters.fault)) (repeated_scan_more (exact-behind 124 exact-filter) (shrinks-behind 124 exact-filter) filter_fault _ _ (faults_of c.in-Some.found) c.in-Some.ensures.value)
+            ∙ adds_adds (faults_of c.filters.fault) (faults_of c.in-Some.found) after
+            ∙ ap (λ (f : Option Fault). adds f after) (fault_added c.filters.fault c.in-Some.found _ _ c.or-fault.ensures refl);
+        within = omega (arith, shorter, kept.within);
+      },
+    )
 
 pub returns-clause-value : goal.returns-clause-value
 returns-clause-value c =

@@ -1,4 +1,4 @@
-use Rattle.std.proofs.Common.{◌≡◌, Option, ap, sym, ◌∙◌, arith, rules, refl}
+use Rattle.std.proofs.Common.{Option, ap, sym, ◌∙◌, arith, rules, refl}
 use Rattle.liquid_grammar.specs.Faults.{Fault, first_fault, argument_fault}
 use Rattle.liquid_grammar.specs.Meanings.{scan, faults_of, Scanned}
 use Rattle.liquid_grammar.specs.TokenSteps.{repeated, behind, argument}
@@ -12,14 +12,16 @@ pub arguments-preserved : goal.arguments-preserved
 arguments-preserved c =
     let kept = c.arguments.invariant.1 in
     let shorter = c.in-Some.ensures.shorter in
-    let after : Option Scanned = scan (first_fault argument_fault) (repeated (behind 44 argument) c.in-Some.after.now) in
-    (search rules, record {
-      same = kept.same
-      ∙ ap (adds (faults_of c.arguments.fault)) (repeated_scan_more (exact-behind 44 exact-argument) (shrinks-behind 44 exact-argument) argument_fault _ _ (faults_of c.in-Some.found) c.in-Some.ensures.value)
-      ∙ adds_adds (faults_of c.arguments.fault) (faults_of c.in-Some.found) after
-      ∙ ap (λ (f : Option Fault). adds f after) (fault_added c.arguments.fault c.in-Some.found _ _ c.or-fault.ensures refl);
-      within = omega (arith, shorter, kept.within);
-    })
+    let after : Option Scanned = scan (first_fault argument_fault) (repeated (behind 44 argument) c.in-Some.after.now) in (
+      search rules,
+      record {
+        same = kept.same
+            ∙ ap (adds (faults_of c.arguments.fault)) (repeated_scan_more (exact-behind 44 exact-argument) (shrinks-behind 44 exact-argument) argument_fault _ _ (faults_of c.in-Some.found) c.in-Some.ensures.value)
+            ∙ adds_adds (faults_of c.arguments.fault) (faults_of c.in-Some.found) after
+            ∙ ap (λ (f : Option Fault). adds f after) (fault_added c.arguments.fault c.in-Some.found _ _ c.or-fault.ensures refl);
+        within = omega (arith, shorter, kept.within);
+      },
+    )
 
 pub returns-clause-value : goal.returns-clause-value
 returns-clause-value c =

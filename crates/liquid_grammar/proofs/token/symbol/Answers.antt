@@ -1,4 +1,4 @@
-use Rattle.std.proofs.Common.{sym, ◌∙◌, arith}
+use Rattle.std.proofs.Common.{sym, ◌∙◌}
 use Rattle.liquid_grammar.proofs.TextLemmas.{symbol_cut, double_cut}
 use Rattle.liquid_grammar.proofs.token.symbol.Goals as goal
 

@@ -1,5 +1,3 @@
-use Rattle.std.proofs.Common.{◌≡◌, sym, ap, ◌∙◌}
-use Rattle.liquid_grammar.specs.Meanings.{literal_of}
 use Rattle.liquid_grammar.proofs.ValueScan.{value_literal, value_variable}
 use Rattle.liquid_grammar.proofs.value.value.Goals as goal
 
