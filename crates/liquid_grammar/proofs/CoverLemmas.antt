@@ -221,9 +221,11 @@ opened_next s o = by_tag (read_tag s) refl
     brace : ¬ (Begins TagRule s) → ¬ (Begins ExpressionRule s) → Next s
     brace t c =
         option_cases (read.lone_brace s) (λ x e. record { element = invalid x.0; rest = x.1; is = invalid_is s x.1 x.0 o t c e }) (λ e. absurd (brace_found s o e))
+
     by_expression : ¬ (Begins TagRule s) → (r : Option (Chain × List ℕ)) → full_expression s ≡ r → Next s
     by_expression t (Some x) e = record { element = expression x.0 (take (length s - length x.1) s); rest = x.1; is = expression_is s x.1 x.0 t (exact-full_expression.sound s x.1 x.0 e) }
     by_expression t None e = brace t (none_begins exact-full_expression s e)
+
     by_tag : (r : Option (Tag × List ℕ)) → read_tag s ≡ r → Next s
     by_tag (Some x) e = record { element = tag_element x.0 (take (length s - length x.1) s); rest = x.1; is = tag_element_is s x.1 x.0 (exact-tag.sound s x.1 x.0 e) }
     by_tag None e = by_expression (none_begins exact-tag s e) (full_expression s) refl

@@ -11,7 +11,7 @@ use Rattle.liquid_grammar.specs.Tokens.{Argument, positional, keyword, Token, ra
 use Rattle.liquid_grammar.specs.Steps.{Reader, one, byte, both, either, seen, only, text, right, left, run, white, identifier, name}
 use Rattle.liquid_grammar.specs.TokenSteps as read
 use Rattle.liquid_grammar.proofs.Exact.{Exact, Shrinks, exact-one, exact-byte, exact-both, exact-either, exact-seen, exact-right, exact-left, exact-only, exact-text, shrinks-one, shrinks-first, shrinks-second, shrinks-seen, shrinks-else, shrinks-text}
-use Rattle.liquid_grammar.proofs.GrammarExact.{exact-white, exact-run, exact-identifier, exact-name, exact-opener, exact-closer, exact-name_bytes}
+use Rattle.liquid_grammar.proofs.GrammarExact.{shrinks-opener, exact-white, exact-run, exact-identifier, exact-name, exact-opener, exact-closer, exact-name_bytes}
 use Rattle.liquid_grammar.proofs.ExactRepeated.{exact-not_ahead, exact-optional, exact-at, exact-repeated}
 
 pub exact-word : Exact read.word Word

@@ -70,9 +70,24 @@ fn marked<'a>(s: &'a str) -> (Element<'a>, &'a str)
     ensures { (e : spec.Element) × IsElement s.now result.1.now e × Means result.0 e }
 {
     match tag(s) {
-        Some((name, tokens, fault, rest)) => (Element::Tag(TagText { name, tokens, text: before(s, rest), fault }), rest),
+        Some((name, tokens, fault, rest)) => (
+            Element::Tag(TagText {
+                name,
+                tokens,
+                text: before(s, rest),
+                fault,
+            }),
+            rest,
+        ),
         None => match expression(s) {
-            Some((chain, fault, rest)) => (Element::Expression(ChainText { chain, text: before(s, rest), fault }), rest),
+            Some((chain, fault, rest)) => (
+                Element::Expression(ChainText {
+                    chain,
+                    text: before(s, rest),
+                    fault,
+                }),
+                rest,
+            ),
             None => match lone_brace(s) {
                 Some((brace, rest)) => (Element::Invalid(brace), rest),
                 None => unreachable!(),

@@ -37,9 +37,17 @@ fn raw_text(rt: HostRuntime) {
 
 #[test]
 fn expressions_and_tags(rt: HostRuntime) {
-    covers(&rt, "Hello {{ name | upcase }}!", &["Hello ", "exp:{{ name | upcase }}", "!"]);
+    covers(
+        &rt,
+        "Hello {{ name | upcase }}!",
+        &["Hello ", "exp:{{ name | upcase }}", "!"],
+    );
     covers(&rt, "{{ nil }}{{'{{'}}", &["exp:{{ nil }}", "exp:{{'{{'}}"]);
-    covers(&rt, "{%if a<=b%}c{% endif %}", &["tag:{%if a<=b%}", "c", "tag:{% endif %}"]);
+    covers(
+        &rt,
+        "{%if a<=b%}c{% endif %}",
+        &["tag:{%if a<=b%}", "c", "tag:{% endif %}"],
+    );
     match next_element(" {%- if a %} b") {
         Some((Element::Tag(tag), rest)) => {
             assert!(rt; tag.name == "if");
@@ -63,7 +71,11 @@ fn expressions_and_tags(rt: HostRuntime) {
 
 #[test]
 fn dashes_take_white_space(rt: HostRuntime) {
-    covers(&rt, "a \n {{- b -}} \t c", &["a", "exp: \n {{- b -}} \t ", "c"]);
+    covers(
+        &rt,
+        "a \n {{- b -}} \t c",
+        &["a", "exp: \n {{- b -}} \t ", "c"],
+    );
     covers(&rt, " {%-b%} ", &["tag: {%-b%}", " "]);
     covers(&rt, " {{b-}} ", &[" ", "exp:{{b-}} "]);
 }
@@ -76,12 +88,20 @@ fn invalid_openers(rt: HostRuntime) {
     covers(&rt, "{{{", &["bad:{", "bad:{", "{"]);
     covers(&rt, "{{a--}}", &["bad:{", "{a--}}"]);
     covers(&rt, "{{a b}}", &["bad:{", "{a b}}"]);
-    covers(&rt, "{{ \"a\" | append, \"b\" }}", &["bad:{", "{ \"a\" | append, \"b\" }}"]);
+    covers(
+        &rt,
+        "{{ \"a\" | append, \"b\" }}",
+        &["bad:{", "{ \"a\" | append, \"b\" }}"],
+    );
 }
 
 #[test]
 fn longer_characters(rt: HostRuntime) {
-    covers(&rt, "é{{ 'é漢' }}漢\u{1F600}{{ é }}", &["é", "exp:{{ 'é漢' }}", "漢\u{1F600}", "bad:{", "{ é }}"]);
+    covers(
+        &rt,
+        "é{{ 'é漢' }}漢\u{1F600}{{ é }}",
+        &["é", "exp:{{ 'é漢' }}", "漢\u{1F600}", "bad:{", "{ é }}"],
+    );
 }
 
 #[test]
