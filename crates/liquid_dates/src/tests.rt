@@ -229,20 +229,46 @@ fn patterns_are_refused(rt: HostRuntime) -> Result<(), Fail> {
     Ok(())
 }
 
+fn check_instant_and_offset(rt: &impl Abort, text: &str, offset: i32) -> Result<(), Fail> {
+    let read = DateTime::from_str(text, november()?).ok_or("no date time")?;
+    assert_eq!(rt; read.instant(), 1_455_613_200_000_000_000);
+    assert_eq!(rt; read.offset(), offset);
+    Ok(())
+}
+
+fn is_read(text: &str) -> Result<bool, Fail> {
+    Ok(DateTime::from_str(text, november()?).is_some())
+}
+
 #[test]
 fn date_times_are_read(rt: HostRuntime) -> Result<(), Fail> {
-    let moment = november()?;
     for case in TEXTS {
-        let read = DateTime::from_str(case.0, moment).ok_or("no date time")?;
-        assert_eq!(rt; read.instant(), 1_455_613_200_000_000_000);
-        assert_eq!(rt; read.offset(), case.1);
+        check_instant_and_offset(&rt, case.0, case.1)?;
     }
+    Ok(())
+}
+
+#[test]
+fn other_texts_are_no_date_times(rt: HostRuntime) -> Result<(), Fail> {
     for text in NO_DATE_TIME {
-        assert!(rt; DateTime::from_str(text, moment).is_none());
+        assert!(rt; !is_read(text)?);
     }
-    assert_eq!(rt; DateTime::from_str(" Now ", moment), Some(moment));
-    assert_eq!(rt; DateTime::from_str("TODAY", moment), Some(moment));
-    let fraction = DateTime::from_str("2016-02-16 10:00:00.5", moment).ok_or("no date time")?;
+    Ok(())
+}
+
+#[test]
+fn the_moment_is_read(rt: HostRuntime) -> Result<(), Fail> {
+    let read = DateTime::from_str(" Now ", november()?);
+    assert_eq!(rt; read, Some(november()?));
+    let read = DateTime::from_str("TODAY", november()?);
+    assert_eq!(rt; read, Some(november()?));
+    Ok(())
+}
+
+#[test]
+fn a_fraction_is_read(rt: HostRuntime) -> Result<(), Fail> {
+    let text = "2016-02-16 10:00:00.5";
+    let fraction = DateTime::from_str(text, november()?).ok_or("no date time")?;
     assert_eq!(rt; fraction.nanosecond(), 500_000_000);
     Ok(())
 }
