@@ -1,17 +1,25 @@
 -- The elements of a text: one stands at each place, and so each text has one cover.
-use Rattle.std.proofs.Common.{◌≡◌, ℕ, zero, suc, ◌-◌, ◌<◌, ◌≤◌, Bool, true, false, List, [], ◌∷◌, ◌++◌, length, take, drop, Option, Some, None, refl, sym, ap, ap₂, ◌∙◌, inl, inr, subst, arith, take_at, drop_at, length-append, append_assoc, eqb-true, take-append-drop, length-take-le, length-drop}
+use Rattle.std.proofs.Common.{◌≡◌, ℕ, zero, suc, ◌-◌, ◌<◌, ◌≤◌, Bool, true, false, List, [], ◌∷◌, ◌++◌, length, take, drop, Option, Some, None, is_some, option_map, refl, sym, ap, ap₂, ◌∙◌, inl, inr, subst, arith, take_at, drop_at, length-append, append_assoc, eqb-true, take-append-drop, length-take-le, length-drop}
 use Rattle.std.proofs.lemmas.Bool.{cases_lt}
 use Rattle.std.proofs.lemmas.List.{append_cancel_right}
+use Rattle.std.proofs.lemmas.Option.{same_Some, none-some}
+use Rattle.std.specs.Option.{option_or}
 use Rattle.liquid_grammar.specs.Bytes.{is_white}
 use Rattle.liquid_grammar.specs.Rules.{Begins, One, here, instead, ends, Byte}
-use Rattle.liquid_grammar.specs.Grammar.{White, Braces, Opener, Opens, AnyOpener, Expression, LoneBrace}
-use Rattle.liquid_grammar.specs.Cover.{Element, raw, expression, invalid, text_of, Raw, IsElement, Cover, done, next, OnlyCover, joined}
-use Rattle.liquid_grammar.specs.Elements.{Taken}
+use Rattle.liquid_grammar.specs.Grammar.{White, Braces, Opener, Opens, AnyOpener, LoneBrace}
+use Rattle.liquid_grammar.specs.Cover.{Element, raw, tag_element, expression, invalid, text_of, Raw, IsElement, Cover, done, next, OnlyCover, joined}
+use Rattle.liquid_grammar.specs.declared.element.Element.{Element as CodeElement}
+use Rattle.liquid_grammar.specs.Elements.{Taken, Means}
+use Rattle.liquid_grammar.specs.Tokens.{Tag, Chain, TagRule, ExpressionRule}
+use Rattle.liquid_grammar.specs.Faults.{Fault, tag_fault, chain_fault}
+use Rattle.liquid_grammar.specs.Meanings.{TagSeen, tag_seen, ChainSeen, chain_seen}
+use Rattle.liquid_grammar.specs.TokenSteps.{full_expression, tag as read_tag}
 use Rattle.liquid_grammar.specs.Steps as read
 use Rattle.liquid_grammar.specs.Steps.{EndsRaw}
 use Rattle.liquid_grammar.proofs.RawLemmas.{opens, opens_from, closed_from}
-use Rattle.liquid_grammar.proofs.Exact.{same_match, none_begins, option_cases, front_of}
-use Rattle.liquid_grammar.proofs.GrammarExact.{exact-white, exact-expression, exact-lone_brace, shrinks-expression, shrinks-lone_brace}
+use Rattle.liquid_grammar.proofs.Exact.{same_match, none_begins, option_cases, before_end}
+use Rattle.liquid_grammar.proofs.GrammarExact.{exact-white, exact-opener, exact-lone_brace, shrinks-lone_brace}
+use Rattle.liquid_grammar.proofs.TokenExact.{exact-tag, exact-full_expression, shrinks-tag, shrinks-full_expression}
 
 -- braces begin with one `{`
 braces_front : (kind : ℕ) (s rest : List ℕ) (b : ℕ) → Braces kind s rest b → (middle : List ℕ) × (s ≡ 123 ∷ middle)
@@ -55,11 +63,23 @@ brace_begins s o = go o.match
     go (here m) = opener_brace 123 s o.rest o.shape m
     go (instead h m) = opener_brace 37 s o.rest o.shape m
 
--- an expression begins with an opener
-pub expression_opens : (s rest name : List ℕ) → Expression s rest name → Opens s
-expression_opens s rest name m =
+-- a tag and an expression begin with an opener
+pub expression_opens : (s rest : List ℕ) (chain : Chain) → ExpressionRule s rest chain → Opens s
+expression_opens s rest chain m =
     let behind = m.match.before.match.before.match.before.match in
     record { rest = behind.middle; shape = m.match.before.match.before.match.before.from.0; match = here behind.before }
+
+or_some : {A : Type 0} (o p : Option A) (x : A) → p ≡ Some x → is_some (option_or o p) ≡ true
+or_some (Some y) p x e = refl
+or_some None p x e = ap is_some e
+
+pub tag_opens : (s rest : List ℕ) (tag : Tag) → TagRule s rest tag → Opens s
+unfolding read.any_opener
+tag_opens s rest tag m =
+    let start = m.match.before.match.before.before in
+    let behind = start.match.before.match in
+    let found = (exact-opener 37).complete s behind.middle start.match.before.from.0 behind.before in
+    opens_from s (or_some (read.opener 123 s) (read.opener 37 s) _ found)
 
 -- two ends of one text leave the same
 same_front : (s t₁ t₂ rest : List ℕ) → s ≡ t₁ ++ rest → s ≡ t₂ ++ rest → t₁ ≡ t₂
@@ -95,36 +115,83 @@ taken e rest = (e, rest)
 -- at most one element stands at a place
 pub same_element : (s r₁ r₂ : List ℕ) (e₁ e₂ : Element) → IsElement s r₁ e₁ → IsElement s r₂ e₂ → ◌≡◌ {A = Taken} (e₁, r₁) (e₂, r₂)
 same_element s r₁ r₂ (raw t₁) (raw t₂) a b = let q = same_raw s r₁ r₂ t₁ t₂ a.joined b.joined a.kind b.kind in ap₂ (λ x y. taken (raw x) y) q.0 q.1
-same_element s r₁ r₂ (raw t₁) (expression n₂ t₂) a b = absurd (raw_closed s r₁ t₁ a.kind (expression_opens s r₂ n₂ b.kind))
+same_element s r₁ r₂ (raw t₁) (tag_element n₂ t₂) a b = absurd (raw_closed s r₁ t₁ a.kind (tag_opens s r₂ n₂ b.kind))
+same_element s r₁ r₂ (raw t₁) (expression n₂ t₂) a b = absurd (raw_closed s r₁ t₁ a.kind (expression_opens s r₂ n₂ b.kind.match))
 same_element s r₁ r₂ (raw t₁) (invalid t₂) a b = absurd (raw_closed s r₁ t₁ a.kind b.kind.opens)
-same_element s r₁ r₂ (expression n₁ t₁) (raw t₂) a b = absurd (raw_closed s r₂ t₂ b.kind (expression_opens s r₁ n₁ a.kind))
-same_element s r₁ r₂ (expression n₁ t₁) (expression n₂ t₂) a b =
-    let q = same_match exact-expression s r₁ r₂ n₁ n₂ a.kind b.kind in
-    let names = ap (λ x. x.0) q in
-    let rests = ap (λ x. x.1) q in
+same_element s r₁ r₂ (tag_element n₁ t₁) (raw t₂) a b = absurd (raw_closed s r₂ t₂ b.kind (tag_opens s r₁ n₁ a.kind))
+same_element s r₁ r₂ (tag_element n₁ t₁) (tag_element n₂ t₂) a b =
+    let q = same_match exact-tag s r₁ r₂ n₁ n₂ a.kind b.kind in
+    let rests = ap (λ (x : Tag × List ℕ). x.1) q in
     let texts = same_front s t₁ t₂ r₂ (a.joined ∙ ap (λ x. t₁ ++ x) rests) b.joined in
-    ap₂ (λ x y. taken (expression x t₁) y) names rests ∙ ap (λ x. taken (expression n₂ x) r₂) texts
-same_element s r₁ r₂ (expression n₁ t₁) (invalid t₂) a b = absurd (b.kind.none (record { rest = r₁; shape = n₁; match = a.kind }))
+    ap₂ (λ x y. taken (tag_element x t₁) y) (ap (λ (x : Tag × List ℕ). x.0) q) rests ∙ ap (λ x. taken (tag_element n₂ x) r₂) texts
+same_element s r₁ r₂ (tag_element n₁ t₁) (expression n₂ t₂) a b = absurd (b.kind.no_tag (record { rest = r₁; shape = n₁; match = a.kind }))
+same_element s r₁ r₂ (tag_element n₁ t₁) (invalid t₂) a b = absurd (b.kind.no_tag (record { rest = r₁; shape = n₁; match = a.kind }))
+same_element s r₁ r₂ (expression n₁ t₁) (raw t₂) a b = absurd (raw_closed s r₂ t₂ b.kind (expression_opens s r₁ n₁ a.kind.match))
+same_element s r₁ r₂ (expression n₁ t₁) (tag_element n₂ t₂) a b = absurd (a.kind.no_tag (record { rest = r₂; shape = n₂; match = b.kind }))
+same_element s r₁ r₂ (expression n₁ t₁) (expression n₂ t₂) a b =
+    let q = same_match exact-full_expression s r₁ r₂ n₁ n₂ a.kind.match b.kind.match in
+    let rests = ap (λ (x : Chain × List ℕ). x.1) q in
+    let texts = same_front s t₁ t₂ r₂ (a.joined ∙ ap (λ x. t₁ ++ x) rests) b.joined in
+    ap₂ (λ x y. taken (expression x t₁) y) (ap (λ (x : Chain × List ℕ). x.0) q) rests ∙ ap (λ x. taken (expression n₂ x) r₂) texts
+same_element s r₁ r₂ (expression n₁ t₁) (invalid t₂) a b = absurd (b.kind.no_expression (record { rest = r₁; shape = n₁; match = a.kind.match }))
 same_element s r₁ r₂ (invalid t₁) (raw t₂) a b = absurd (raw_closed s r₂ t₂ b.kind a.kind.opens)
-same_element s r₁ r₂ (invalid t₁) (expression n₂ t₂) a b = absurd (a.kind.none (record { rest = r₂; shape = n₂; match = b.kind }))
+same_element s r₁ r₂ (invalid t₁) (tag_element n₂ t₂) a b = absurd (a.kind.no_tag (record { rest = r₂; shape = n₂; match = b.kind }))
+same_element s r₁ r₂ (invalid t₁) (expression n₂ t₂) a b = absurd (a.kind.no_expression (record { rest = r₂; shape = n₂; match = b.kind.match }))
 same_element s r₁ r₂ (invalid t₁) (invalid t₂) a b =
     let q = same_match exact-lone_brace s r₁ r₂ t₁ t₂ a.kind.brace b.kind.brace in
-    ap₂ (λ x y. taken (invalid x) y) (ap (λ x. x.0) q) (ap (λ x. x.1) q)
+    ap₂ (λ x y. taken (invalid x) y) (ap (λ (x : List ℕ × List ℕ). x.0) q) (ap (λ (x : List ℕ × List ℕ). x.1) q)
 
--- what a reader leaves is an end of the text
-pub expression_ends : (s rest name : List ℕ) → read.expression s ≡ Some (name, rest) → s ≡ take (length s - length rest) s ++ rest
-expression_ends s rest name e =
-    let cut = exact-expression.cuts s rest name (exact-expression.sound s rest name e) in
-    cut.1 ∙ ap (λ x. x ++ rest) (sym (front_of s cut.0 rest cut.1))
+-- what a rule leaves is an end of the text
+pub tag_ends : (s rest : List ℕ) (tag : Tag) → TagRule s rest tag → s ≡ take (length s - length rest) s ++ rest
+tag_ends s rest tag m = before_end s rest (exact-tag.cuts s rest tag m)
 
--- the element that the readers find
-pub expression_element : (s rest name : List ℕ) → read.expression s ≡ Some (name, rest) → IsElement s rest (expression name (take (length s - length rest) s))
-expression_element s rest name e = record { joined = expression_ends s rest name e; kind = exact-expression.sound s rest name e }
+pub expression_ends : (s rest : List ℕ) (chain : Chain) → ExpressionRule s rest chain → s ≡ take (length s - length rest) s ++ rest
+expression_ends s rest chain m = before_end s rest (exact-full_expression.cuts s rest chain m)
 
-pub invalid_element : (s rest text : List ℕ) → Opens s → read.expression s ≡ None → read.lone_brace s ≡ Some (text, rest) → IsElement s rest (invalid text)
-invalid_element s rest text o none e =
+-- the tag and the expression that the readers find
+pub tag_found : (s name tokens rest : List ℕ) (fault : Option Fault) → ◌≡◌ {A = Option TagSeen} (Some (name, tokens, fault, rest)) (option_map tag_seen (read_tag s))
+    → (tag : Tag) × TagRule s rest tag × (name ≡ tag.0) × (tokens ≡ tag.1.place) × (fault ≡ tag_fault tag)
+tag_found s name tokens rest fault e = go (read_tag s) refl e
+  where
+    go : (o : Option (Tag × List ℕ)) → read_tag s ≡ o → ◌≡◌ {A = Option TagSeen} (Some (name, tokens, fault, rest)) (option_map tag_seen o)
+        → (tag : Tag) × TagRule s rest tag × (name ≡ tag.0) × (tokens ≡ tag.1.place) × (fault ≡ tag_fault tag)
+    go None h q = absurd (none-some _ (sym q))
+    go (Some x) h q =
+        let p = same_Some _ _ q in
+        let rests = sym (ap (λ (y : TagSeen). y.3) p) in
+        let m = subst (λ (r : List ℕ). TagRule s r x.0) rests (exact-tag.sound s x.1 x.0 h) in
+        (x.0, m, ap (λ (y : TagSeen). y.0) p, ap (λ (y : TagSeen). y.1) p, ap (λ (y : TagSeen). y.2) p)
+
+pub expression_found : (s chain rest : List ℕ) (fault : Option Fault) → ◌≡◌ {A = Option ChainSeen} (Some (chain, fault, rest)) (option_map chain_seen (full_expression s))
+    → (c : Chain) × ExpressionRule s rest c × (chain ≡ c.place) × (fault ≡ chain_fault c)
+expression_found s chain rest fault e = go (full_expression s) refl e
+  where
+    go : (o : Option (Chain × List ℕ)) → full_expression s ≡ o → ◌≡◌ {A = Option ChainSeen} (Some (chain, fault, rest)) (option_map chain_seen o)
+        → (c : Chain) × ExpressionRule s rest c × (chain ≡ c.place) × (fault ≡ chain_fault c)
+    go None h q = absurd (none-some _ (sym q))
+    go (Some x) h q =
+        let p = same_Some _ _ q in
+        let rests = sym (ap (λ (y : ChainSeen). y.2) p) in
+        let m = subst (λ (r : List ℕ). ExpressionRule s r x.0) rests (exact-full_expression.sound s x.1 x.0 h) in
+        (x.0, m, ap (λ (y : ChainSeen). y.0) p, ap (λ (y : ChainSeen). y.1) p)
+
+pub no_tag : (s : List ℕ) → ◌≡◌ {A = Option TagSeen} None (option_map tag_seen (read_tag s)) → ¬ (Begins TagRule s)
+no_tag s e b = none-some _ (e ∙ ap (option_map tag_seen) (exact-tag.complete s b.rest b.shape b.match))
+
+pub no_expression : (s : List ℕ) → ◌≡◌ {A = Option ChainSeen} None (option_map chain_seen (full_expression s)) → ¬ (Begins ExpressionRule s)
+no_expression s e b = none-some _ (e ∙ ap (option_map chain_seen) (exact-full_expression.complete s b.rest b.shape b.match))
+
+-- the elements that begin with an opener
+pub tag_element_is : (s rest : List ℕ) (tag : Tag) → TagRule s rest tag → IsElement s rest (tag_element tag (take (length s - length rest) s))
+tag_element_is s rest tag m = record { joined = tag_ends s rest tag m; kind = m }
+
+pub expression_is : (s rest : List ℕ) (chain : Chain) → ¬ (Begins TagRule s) → ExpressionRule s rest chain → IsElement s rest (expression chain (take (length s - length rest) s))
+expression_is s rest chain none m = record { joined = expression_ends s rest chain m; kind = record { no_tag = none; match = m } }
+
+pub invalid_is : (s rest text : List ℕ) → Opens s → ¬ (Begins TagRule s) → ¬ (Begins ExpressionRule s) → read.lone_brace s ≡ Some (text, rest) → IsElement s rest (invalid text)
+invalid_is s rest text o no_tag no_expression e =
     let brace = exact-lone_brace.sound s rest text e in
-    record { joined = brace.front; kind = record { opens = o; none = none_begins exact-expression s none; brace = brace } }
+    record { joined = brace.front; kind = record { opens = o; no_tag = no_tag; no_expression = no_expression; brace = brace } }
 
 pub raw_element : (s : List ℕ) (n : ℕ) → 0 < n → n ≤ length s → ((k : ℕ) → k < n → ¬ (Opens (drop k s))) → (n < length s → Opens (drop n s)) → IsElement s (drop n s) (raw (take n s))
 raw_element s n some within closed stops =
@@ -149,15 +216,19 @@ record Next (s : List ℕ) : Type 0 where
   is : IsElement s rest element
 
 opened_next : (s : List ℕ) → Opens s → Next s
-opened_next s o = go (read.expression s) refl
+opened_next s o = by_tag (read_tag s) refl
   where
-    brace : read.expression s ≡ None → Next s
-    brace none =
-        option_cases (read.lone_brace s) (λ x e. record { element = invalid x.0; rest = x.1; is = invalid_element s x.1 x.0 o none e }) (λ e. absurd (brace_found s o e))
+    brace : ¬ (Begins TagRule s) → ¬ (Begins ExpressionRule s) → Next s
+    brace t c =
+        option_cases (read.lone_brace s) (λ x e. record { element = invalid x.0; rest = x.1; is = invalid_is s x.1 x.0 o t c e }) (λ e. absurd (brace_found s o e))
 
-    go : (r : Option (List ℕ × List ℕ)) → read.expression s ≡ r → Next s
-    go (Some x) e = record { element = expression x.0 (take (length s - length x.1) s); rest = x.1; is = expression_element s x.1 x.0 e }
-    go None e = brace e
+    by_expression : ¬ (Begins TagRule s) → (r : Option (Chain × List ℕ)) → full_expression s ≡ r → Next s
+    by_expression t (Some x) e = record { element = expression x.0 (take (length s - length x.1) s); rest = x.1; is = expression_is s x.1 x.0 t (exact-full_expression.sound s x.1 x.0 e) }
+    by_expression t None e = brace t (none_begins exact-full_expression s e)
+
+    by_tag : (r : Option (Tag × List ℕ)) → read_tag s ≡ r → Next s
+    by_tag (Some x) e = record { element = tag_element x.0 (take (length s - length x.1) s); rest = x.1; is = tag_element_is s x.1 x.0 (exact-tag.sound s x.1 x.0 e) }
+    by_tag None e = by_expression (none_begins exact-tag s e) (full_expression s) refl
 
 -- what raw text is, but for the cut between characters
 record EndsAt (s : List ℕ) (n : ℕ) : Type 0 where
@@ -188,7 +259,8 @@ raw_ends (b ∷ s) = go (opens (b ∷ s)) refl (raw_ends s)
 -- an element takes something
 pub element_some : (s rest : List ℕ) (e : Element) → IsElement s rest e → length rest < length s
 element_some s rest (raw text) m = let some = m.kind.some in omega (arith, ap length m.joined, length-append text rest)
-element_some s rest (expression name text) m = shrinks-expression s rest name m.kind
+element_some s rest (tag_element tag text) m = shrinks-tag s rest tag m.kind
+element_some s rest (expression chain text) m = shrinks-full_expression s rest chain m.kind.match
 element_some s rest (invalid text) m = shrinks-lone_brace s rest text m.kind.brace
 
 -- some element stands at each text but the empty one
@@ -241,3 +313,9 @@ cover_of s = let c = cover_by (suc (length s)) s (omega arith) in record { eleme
 pub joined_cover : (s : List ℕ) (es : List Element) → Cover s es → joined es ≡ s
 joined_cover s es done = refl
 joined_cover s es (next {rest = r} {e = e} {es = more_of} a c) = ap (λ x. text_of e ++ x) (joined_cover r more_of c) ∙ sym a.joined
+
+-- what was found stands for whatever stands there
+pub only_element : (s r : List ℕ) (c : CodeElement) (found : Element) → IsElement s r found → Means c found → (rest : List ℕ) (e : Element) → IsElement s rest e → Means c e × (r ≡ rest)
+only_element s r c found is means rest e m =
+    let q = same_element s r rest found e is m in
+    (subst (λ (x : Element). Means c x) (ap (λ (x : Taken). x.0) q) means, ap (λ (x : Taken). x.1) q)

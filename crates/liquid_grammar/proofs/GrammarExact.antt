@@ -5,8 +5,8 @@ use Rattle.std.specs.Option.{option_or}
 use Rattle.std.specs.List.{prefix_len}
 use Rattle.liquid_grammar.specs.Bytes.{is_white, starts_name, is_word}
 use Rattle.liquid_grammar.specs.Rules.{Rule, Begins, One, here, instead, Repeated, ends, more, Byte, ◌▷◌, ◌◁◌}
-use Rattle.liquid_grammar.specs.Grammar.{White, Braces, Opener, Closer, AnyOpener, NameByte, Identifier, is_literal_word, Name, Expression, LoneBrace}
-use Rattle.liquid_grammar.specs.Steps.{Reader, one, byte, either, ahead, left, run, white, braces, dashed_opener, opener, any_opener, dashed_closer, closer, is_name_byte, name_len, name_bytes, identifier, name, expression, lone_brace}
+use Rattle.liquid_grammar.specs.Grammar.{White, Braces, Opener, Closer, AnyOpener, NameByte, Identifier, is_literal_word, Name, LoneBrace}
+use Rattle.liquid_grammar.specs.Steps.{Reader, one, byte, either, ahead, left, run, white, braces, dashed_opener, opener, any_opener, dashed_closer, closer, is_name_byte, name_len, name_bytes, identifier, name, lone_brace}
 use Rattle.liquid_grammar.proofs.Exact.{Exact, none_begins, finds_none, exact-one, exact-byte, exact-both, exact-either, exact-right, exact-left, exact-only, exact-text, exact-ahead, Shrinks, shrinks-one, shrinks-first, shrinks-second, shrinks-seen, shrinks-else, shrinks-text}
 
 -- R takes one byte at a time, which is its shape
@@ -163,10 +163,6 @@ pub exact-name : Exact name Name
 unfolding name
 exact-name = exact-only (λ word. not (is_literal_word word)) exact-identifier
 
-pub exact-expression : Exact expression Expression
-unfolding expression
-exact-expression = exact-left (exact-left (exact-right (exact-right (exact-opener 123) exact-white) exact-name) exact-white) (exact-closer 125)
-
 pub exact-lone_brace : Exact lone_brace LoneBrace
 unfolding lone_brace
 exact-lone_brace = exact-text (exact-both exact-white (exact-byte 123))
@@ -176,10 +172,6 @@ pub shrinks-opener : (kind : ℕ) → Shrinks (Opener kind)
 shrinks-opener kind =
     shrinks-else (shrinks-seen (λ p. p.1) (shrinks-second (exact-right exact-white (exact-braces kind)).cuts (shrinks-one (λ c. c == 45))))
     (shrinks-seen (λ p. p.1) (shrinks-first (shrinks-one (λ c. c == 123)) (exact-byte kind).cuts))
-
-pub shrinks-expression : Shrinks Expression
-shrinks-expression =
-    shrinks-seen (λ p. p.0) (shrinks-first (shrinks-seen (λ p. p.0) (shrinks-first (shrinks-seen (λ p. p.1) (shrinks-first (shrinks-seen (λ p. p.1) (shrinks-first (shrinks-opener 123) exact-white.cuts)) exact-name.cuts)) exact-white.cuts)) (exact-closer 125).cuts)
 
 pub shrinks-lone_brace : Shrinks LoneBrace
 shrinks-lone_brace = shrinks-text (shrinks-second exact-white.cuts (shrinks-one (λ c. c == 123)))

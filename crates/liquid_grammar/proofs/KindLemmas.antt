@@ -1,22 +1,22 @@
 -- The kind of a token, from what begins it.
-use Rattle.std.proofs.Common.{◌≡◌, ℕ, List, [], ◌∷◌, Option, Some, None, option_map, option_and_then, refl, sym, ap, ◌∙◌}
+use Rattle.std.proofs.Common.{◌≡◌, ℕ, List, [], ◌∷◌, Option, Some, None, option_map, option_and_then, MatchOption, refl, sym, ap, ◌∙◌}
 use Rattle.std.proofs.lemmas.Option.{same_Some, none-some}
 use Rattle.std.specs.Option.{option_or}
 use Rattle.liquid_grammar.specs.Rules.{Placed, Begins}
 use Rattle.liquid_grammar.specs.Literals.{Literal}
 use Rattle.liquid_grammar.specs.Values.{Value, Index, placed_literal, placed_variable}
-use Rattle.liquid_grammar.specs.Tokens.{Filter, Chain, Token, range, chain, symbol, TokenRule}
+use Rattle.liquid_grammar.specs.Tokens.{Filter, Chain, Token, range, chain, symbol, ChainRule, TokenRule}
 use Rattle.liquid_grammar.specs.Faults.{Fault, value_fault, filter_fault, index_fault, range_fault}
 use Rattle.liquid_grammar.specs.Kinds.{Kind, literal_kind, variable_kind, identifier_kind, filtered_kind, value_kind, chain_kind}
 use Rattle.liquid_grammar.specs.declared.kind.TokenKind.{TokenKind}
 use Rattle.liquid_grammar.specs.declared.kind.TokenKind.TheVariants.{Range, Symbol}
-use Rattle.liquid_grammar.specs.KindMeanings.{token_kind_of, HasKind}
+use Rattle.liquid_grammar.specs.KindMeanings.{token_kind_of, HasKind, HasChainKind}
 use Rattle.liquid_grammar.specs.Meanings.{scan}
 use Rattle.liquid_grammar.specs.Steps.{Reader, name}
 use Rattle.liquid_grammar.specs.TokenSteps.{placed, repeated, behind, literal, value, variable_over, filter, chain_of, ranged, symbol_of, token}
 use Rattle.liquid_grammar.specs.BracketSteps.{index, indexes}
 use Rattle.liquid_grammar.proofs.ExactRepeated.{repeated_more, repeated_end, repeated_total}
-use Rattle.liquid_grammar.proofs.TokenExact.{exact-value, exact-index, shrinks-index, exact-behind, shrinks-behind, exact-filter, exact-token}
+use Rattle.liquid_grammar.proofs.TokenExact.{exact-value, exact-index, shrinks-index, exact-behind, shrinks-behind, exact-filter, exact-chain, exact-token}
 use Rattle.liquid_grammar.proofs.ValueLaw.{value_reads}
 use Rattle.liquid_grammar.proofs.ValueScan.{scan_some, scan_none}
 use Rattle.liquid_grammar.proofs.FlatBrackets.{left_some, left_none}
@@ -159,3 +159,10 @@ symbol_has_kind s rest none e h =
 
 pub no_token : (s : List ℕ) → None ≡ scan range_fault (ranged s) → None ≡ chain_kind_in (chain_of s) → None ≡ option_map (λ p. p.1) (symbol_of s) → ¬ (Begins TokenRule s)
 no_token s none e h = none_begins exact-token s (neither s none e ∙ ap (λ o. option_map as_symbol (option_map (placed s) o)) (left_none (symbol_of s) h))
+
+-- a public call's answer, from what the reader found
+pub chain_kind_found : (s : List ℕ) (r : Option TokenKind) → option_map token_kind_of r ≡ chain_kind_in (chain_of s) → MatchOption r (¬ (Begins ChainRule s)) (HasChainKind s)
+chain_kind_found s None e = none_begins exact-chain s (kind_none (chain_of s) e)
+chain_kind_found s (Some kind) e =
+    let x = kind_some (chain_of s) (token_kind_of kind) e in
+    record { rest = x.0.1; shape = x.0.0; match = exact-chain.sound s x.0.1 x.0.0 x.1; is = x.2 }

@@ -5,13 +5,13 @@ use Rattle.std.specs.Char.{is_ascii_digit}
 use Rattle.liquid_grammar.specs.Bytes.{starts_name}
 use Rattle.liquid_grammar.specs.Rules.{Rule, One, Repeated, Byte, Optional, ◌▷◌, ◌◁◌}
 use Rattle.liquid_grammar.specs.Grammar.{White, Identifier, Name, is_literal_word}
-use Rattle.liquid_grammar.specs.Literals.{word_literal, text_literal, integer, decimal, Word, Quoted, Digits, Whole, Fractional, Number, LiteralRule}
-use Rattle.liquid_grammar.specs.Values.{Value, named_index, placed_literal, placed_variable, placed_bracket, OpenBracket, CloseBracket, Bracketed, IndexOver, VariableOver, ValueOver, Nested, ValueRule}
-use Rattle.liquid_grammar.specs.Tokens.{positional, keyword, range, chain, symbol, arguments_of, is_double, is_single, ArgumentRule, Behind, Arguments, FilterRule, ChainRule, Dots, RangeStart, RangeEnd, RangeRule, SymbolRule, TokenRule, ExpressionRule, TagRule}
-use Rattle.liquid_grammar.specs.Steps.{Reader, right, white}
+use Rattle.liquid_grammar.specs.Literals.{Literal, word_literal, text_literal, integer, decimal, Word, Quoted, Digits, Whole, Fractional, Number, LiteralRule}
+use Rattle.liquid_grammar.specs.Values.{Value, Index, named_index, placed_literal, placed_variable, placed_bracket, OpenBracket, CloseBracket, Bracketed, IndexOver, VariableOver, ValueOver, Nested, ValueRule, IndexRule, VariableRule}
+use Rattle.liquid_grammar.specs.Tokens.{Argument, positional, keyword, Token, range, chain, symbol, arguments_of, is_double, is_single, ArgumentRule, Behind, Arguments, FilterRule, ChainRule, Dots, RangeStart, RangeEnd, RangeRule, SymbolRule, TokenRule, ExpressionStart, ExpressionRule, TagStart, TagRule}
+use Rattle.liquid_grammar.specs.Steps.{Reader, one, byte, both, either, seen, only, text, right, left, run, white, identifier, name}
 use Rattle.liquid_grammar.specs.TokenSteps as read
 use Rattle.liquid_grammar.proofs.Exact.{Exact, Shrinks, exact-one, exact-byte, exact-both, exact-either, exact-seen, exact-right, exact-left, exact-only, exact-text, shrinks-one, shrinks-first, shrinks-second, shrinks-seen, shrinks-else, shrinks-text}
-use Rattle.liquid_grammar.proofs.GrammarExact.{exact-white, exact-run, exact-identifier, exact-name, exact-opener, exact-closer, exact-name_bytes}
+use Rattle.liquid_grammar.proofs.GrammarExact.{shrinks-opener, exact-white, exact-run, exact-identifier, exact-name, exact-opener, exact-closer, exact-name_bytes}
 use Rattle.liquid_grammar.proofs.ExactRepeated.{exact-not_ahead, exact-optional, exact-at, exact-repeated}
 
 pub exact-word : Exact read.word Word
@@ -163,9 +163,17 @@ pub exact-token : Exact read.token TokenRule
 unfolding read.token
 exact-token = exact-either (exact-seen range (exact-at exact-range)) (exact-either (exact-seen chain exact-chain) (exact-seen symbol (exact-at exact-symbol)))
 
+exact-expression_start : Exact read.expression_start ExpressionStart
+unfolding read.expression_start
+exact-expression_start = exact-right (exact-opener 123) exact-white
+
+exact-tag_start : Exact read.tag_start TagStart
+unfolding read.tag_start
+exact-tag_start = exact-right (exact-right (exact-opener 37) exact-white) exact-identifier
+
 pub exact-full_expression : Exact read.full_expression ExpressionRule
 unfolding read.full_expression
-exact-full_expression = exact-left (exact-left (exact-right (exact-right (exact-opener 123) exact-white) exact-chain) exact-white) (exact-closer 125)
+exact-full_expression = exact-left (exact-left (exact-right exact-expression_start exact-chain) exact-white) (exact-closer 125)
 
 shrinks-digits : Shrinks Digits
 shrinks-digits = shrinks-text (shrinks-first (shrinks-one is_ascii_digit) (exact-run is_ascii_digit).cuts)
@@ -222,4 +230,15 @@ exact-tokens = exact-repeated exact-next_token shrinks-next_token
 
 pub exact-tag : Exact read.tag TagRule
 unfolding read.tag
-exact-tag = exact-left (exact-left (exact-right (exact-right (exact-opener 37) exact-white) (exact-both exact-identifier exact-tokens)) exact-white) (exact-closer 37)
+exact-tag = exact-left (exact-left (exact-both exact-tag_start (exact-at exact-tokens)) exact-white) (exact-closer 37)
+
+pub shrinks-full_expression : Shrinks ExpressionRule
+shrinks-full_expression =
+    shrinks-seen (λ p. p.0) (shrinks-first (shrinks-seen (λ p. p.0) (shrinks-first (shrinks-seen (λ p. p.1) (shrinks-first (shrinks-seen (λ p. p.1) (shrinks-first (shrinks-opener 123) exact-white.cuts)) exact-chain.cuts)) exact-white.cuts)) (exact-closer 125).cuts)
+
+shrinks-tag_start : Shrinks TagStart
+shrinks-tag_start = shrinks-seen (λ p. p.1) (shrinks-first (shrinks-seen (λ p. p.1) (shrinks-first (shrinks-opener 37) exact-white.cuts)) exact-identifier.cuts)
+
+pub shrinks-tag : Shrinks TagRule
+shrinks-tag =
+    shrinks-seen (λ p. p.0) (shrinks-first (shrinks-seen (λ p. p.0) (shrinks-first (shrinks-first shrinks-tag_start (exact-at exact-tokens).cuts) exact-white.cuts)) (exact-closer 37).cuts)

@@ -1,17 +1,20 @@
 -- The elements of a text.
 use Rattle.std.specs.Prelude.{◌≡◌, ℕ, ◌<◌, List, [], ◌∷◌, ◌++◌, length, drop}
 use Rattle.liquid_grammar.specs.Rules.{Begins}
-use Rattle.liquid_grammar.specs.Grammar.{Opens, Expression, LoneBrace}
+use Rattle.liquid_grammar.specs.Grammar.{Opens, LoneBrace}
+use Rattle.liquid_grammar.specs.Tokens.{Chain, Tag, ExpressionRule, TagRule}
 
--- an element, with the text that it takes
+-- an element, with its shape and the text that it takes
 pub data Element : Type 0 where
   raw : List ℕ → Element
-  expression : (name text : List ℕ) → Element
+  tag_element : Tag → (text : List ℕ) → Element
+  expression : Chain → (text : List ℕ) → Element
   invalid : List ℕ → Element
 
 abbrev pub text_of : Element → List ℕ
 text_of (raw text) = text
-text_of (expression name text) = text
+text_of (tag_element tag text) = text
+text_of (expression chain text) = text
 text_of (invalid text) = text
 
 -- some text in which no opener begins, up to the place where one does or to the end
@@ -20,16 +23,23 @@ pub record Raw (s rest text : List ℕ) : Type 0 where
   pub closed : (k : ℕ) → k < length text → ¬ (Opens (drop k s))
   pub stops : 0 < length rest → Opens rest
 
--- where an opener begins and no expression does, its white space and one `{`
+-- an expression, where no tag begins
+pub record Expression (s rest : List ℕ) (chain : Chain) : Type 0 where
+  pub no_tag : ¬ (Begins TagRule s)
+  pub match : ExpressionRule s rest chain
+
+-- where an opener begins, but no tag and no expression: its white space and one `{`
 pub record Invalid (s rest text : List ℕ) : Type 0 where
   pub opens : Opens s
-  pub none : ¬ (Begins Expression s)
+  pub no_tag : ¬ (Begins TagRule s)
+  pub no_expression : ¬ (Begins ExpressionRule s)
   pub brace : LoneBrace s rest text
 
 -- what stands at s is of the element's kind and shape
 abbrev pub IsKind : List ℕ → List ℕ → Element → Type 0
 IsKind s rest (raw text) = Raw s rest text
-IsKind s rest (expression name text) = Expression s rest name
+IsKind s rest (tag_element tag text) = TagRule s rest tag
+IsKind s rest (expression chain text) = Expression s rest chain
 IsKind s rest (invalid text) = Invalid s rest text
 
 -- the element stands at the beginning of s, and leaves rest

@@ -1,20 +1,37 @@
 -- What an element of the program means.
-use Rattle.std.specs.Prelude.{List, ℕ, Option, option_map}
+use Rattle.std.specs.Prelude.{◌≡◌, List, ℕ}
 use Rattle.std.specs.Borrow.{Bor}
+use Rattle.liquid_grammar.specs.declared.fault.Fault.{Fault as CodeFault}
+use Rattle.liquid_grammar.specs.declared.element.TagText.{TagText}
+use Rattle.liquid_grammar.specs.declared.element.ChainText.{ChainText}
 use Rattle.liquid_grammar.specs.declared.element.Element.{Element as CodeElement}
-use Rattle.liquid_grammar.specs.declared.element.Element.TheVariants.{Raw, Expression, Invalid}
-use Rattle.liquid_grammar.specs.Cover.{Element, raw, expression, invalid}
-
--- the element with its texts as bytes
-abbrev pub element_of : CodeElement → Element
-element_of (Raw text) = raw text.now
-element_of (Expression name text) = expression name.now text.now
-element_of (Invalid text) = invalid text.now
+use Rattle.liquid_grammar.specs.declared.element.Element.TheVariants.{Raw, Tag, Expression, Invalid}
+use Rattle.liquid_grammar.specs.Tokens as shape
+use Rattle.liquid_grammar.specs.Faults.{tag_fault, chain_fault}
+use Rattle.liquid_grammar.specs.Meanings.{faults_of}
+use Rattle.liquid_grammar.specs.Cover.{Element, raw, tag_element, expression, invalid}
 
 -- an element, and what it leaves of the text
 abbrev pub Taken : Type 0
 Taken = Element × List ℕ
 
--- the element and the rest that a call answered
-abbrev pub taken_of : Option (CodeElement × Bor (List ℕ)) → Option Taken
-taken_of = option_map (λ p. (element_of p.0, p.1.now))
+-- the tag's name, where its tokens begin and end, its text and its first fault
+pub record MeansTag (t : TagText) (tag : shape.Tag) (text : List ℕ) : Type 0 where
+  pub name_is : t.name.now ≡ tag.0
+  pub tokens_are : t.tokens.now ≡ tag.1.place
+  pub text_is : t.text.now ≡ text
+  pub fault_is : faults_of t.fault ≡ tag_fault tag
+
+-- where the chain begins, the expression's text and its first fault
+pub record MeansChain (t : ChainText) (chain : shape.Chain) (text : List ℕ) : Type 0 where
+  pub chain_is : t.chain.now ≡ chain.place
+  pub text_is : t.text.now ≡ text
+  pub fault_is : faults_of t.fault ≡ chain_fault chain
+
+-- the element of the program stands for this one
+abbrev pub Means : CodeElement → Element → Type 0
+Means (Raw t) (raw text) = t.now ≡ text
+Means (Tag t) (tag_element tag text) = MeansTag t tag text
+Means (Expression t) (expression chain text) = MeansChain t chain text
+Means (Invalid t) (invalid text) = t.now ≡ text
+Means _ _ = ⊥

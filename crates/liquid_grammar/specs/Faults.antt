@@ -5,7 +5,7 @@ use Rattle.std.specs.Str.{all_ascii_digits}
 use Rattle.std.specs.Str.Parse.{digits_value, without_leading_sign, starts_with_minus, signed_digits_value}
 use Rattle.liquid_grammar.specs.Literals.{Literal, integer, decimal}
 use Rattle.liquid_grammar.specs.Values.{Value, literal_value, variable_value, Index, named_index, bracketed_index, Indexes, no_index, more_indexes}
-use Rattle.liquid_grammar.specs.Tokens.{Argument, positional, keyword, Filter, Chain, Token, range, chain, symbol}
+use Rattle.liquid_grammar.specs.Tokens.{Argument, positional, keyword, Filter, Chain, Tag, Token, range, chain, symbol}
 
 pub data FaultKind : Type 0 where
   integer_out_of_range : FaultKind
@@ -88,5 +88,5 @@ token_fault (range r) = range_fault r.what
 token_fault (chain c) = chain_fault c
 token_fault (symbol s) = None
 
-abbrev pub tag_fault : List ℕ × List Token → Option Fault
-tag_fault tag = first_fault token_fault tag.1
+abbrev pub tag_fault : Tag → Option Fault
+tag_fault tag = first_fault token_fault tag.1.what

@@ -46,10 +46,6 @@ is_literal_word word =
 abbrev pub Name : Rule (List ℕ)
 Name = Where (λ word. not (is_literal_word word)) Identifier
 
--- a name between `{{` and `}}`
-abbrev pub Expression : Rule (List ℕ)
-Expression = Opener 123 ▷ White ▷ Name ◁ White ◁ Closer 125
-
 -- white space and one `{`
 abbrev pub LoneBrace : Rule (List ℕ)
 LoneBrace = Text (Then White (Byte 123))

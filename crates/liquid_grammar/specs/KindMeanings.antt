@@ -3,7 +3,7 @@ use Rattle.std.specs.Prelude.{◌≡◌, ℕ, List, Option, option_map}
 use Rattle.liquid_grammar.specs.declared.kind.TokenKind.{TokenKind}
 use Rattle.liquid_grammar.specs.declared.kind.TokenKind.TheVariants.{Range, Symbol, Filtered, Literal, Variable, Identifier}
 use Rattle.liquid_grammar.specs.Values as shape
-use Rattle.liquid_grammar.specs.Tokens.{Token, Chain, TokenRule}
+use Rattle.liquid_grammar.specs.Tokens.{Token, Chain, ChainRule, TokenRule}
 use Rattle.liquid_grammar.specs.Kinds.{Kind, range_kind, symbol_kind, filtered_kind, literal_kind, variable_kind, identifier_kind, value_kind, chain_kind, kind_of}
 use Rattle.liquid_grammar.specs.Meanings.{literal_of}
 
@@ -22,6 +22,13 @@ pub record HasKind (s : List ℕ) (kind : TokenKind) : Type 0 where
   pub shape : Token
   pub match : TokenRule s rest shape
   pub is : token_kind_of kind ≡ kind_of shape
+
+-- a chain of this kind is matched at the beginning of s
+pub record HasChainKind (s : List ℕ) (kind : TokenKind) : Type 0 where
+  pub rest : List ℕ
+  pub shape : Chain
+  pub match : ChainRule s rest shape
+  pub is : token_kind_of kind ≡ chain_kind shape.what.0 shape.what.1
 
 -- the result is the kind of the chain that the reader found
 abbrev pub FindsKind : Option TokenKind → Option (Chain × List ℕ) → Type 0

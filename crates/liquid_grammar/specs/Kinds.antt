@@ -1,5 +1,5 @@
 -- Kinds of token, by their shapes.
-use Rattle.std.specs.Prelude.{List, [], ◌∷◌, ℕ}
+use Rattle.std.specs.Prelude.{List, [], ◌∷◌, ℕ, Option, Some, None}
 use Rattle.liquid_grammar.specs.Literals.{Literal}
 use Rattle.liquid_grammar.specs.Values.{Value, literal_value, variable_value, Indexes, no_index, more_indexes}
 use Rattle.liquid_grammar.specs.Tokens.{Filter, Token, range, chain, symbol}
@@ -29,3 +29,8 @@ abbrev pub kind_of : Token → Kind
 kind_of (range r) = range_kind
 kind_of (chain c) = chain_kind c.what.0 c.what.1
 kind_of (symbol s) = symbol_kind
+
+-- the identifier, where the kind is one
+abbrev pub identifier_of : Kind → Option (List ℕ)
+identifier_of (identifier_kind name) = Some name
+identifier_of _ = None

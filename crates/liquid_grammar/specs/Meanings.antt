@@ -7,7 +7,8 @@ use Rattle.liquid_grammar.specs.declared.fault.FaultKind.{FaultKind as CodeFault
 use Rattle.liquid_grammar.specs.declared.fault.FaultKind.TheVariants.{IntegerOutOfRange, DecimalNotSupported, NestedTooDeep}
 use Rattle.liquid_grammar.specs.declared.fault.Fault.{Fault as CodeFault}
 use Rattle.liquid_grammar.specs.Literals.{Literal, nil, empty, blank, truth, text_literal, integer, decimal}
-use Rattle.liquid_grammar.specs.Faults.{FaultKind, integer_out_of_range, decimal_not_supported, nested_too_deep, Fault}
+use Rattle.liquid_grammar.specs.Tokens.{Tag, Chain}
+use Rattle.liquid_grammar.specs.Faults.{tag_fault, chain_fault, FaultKind, integer_out_of_range, decimal_not_supported, nested_too_deep, Fault}
 
 -- the literal with its text as bytes
 abbrev pub literal_of : CodeLiteral → Literal
@@ -30,6 +31,34 @@ fault_of fault = (kind_of fault.kind, fault.place.now)
 
 abbrev pub faults_of : Option CodeFault → Option Fault
 faults_of = option_map fault_of
+
+-- a tag's name, where its tokens begin, its first fault, and what is left of the text
+abbrev pub TagSeen : Type 0
+TagSeen = List ℕ × List ℕ × Option Fault × List ℕ
+
+abbrev pub tag_seen : Tag × List ℕ → TagSeen
+tag_seen a = (a.0.0, a.0.1.place, tag_fault a.0, a.1)
+
+abbrev pub tag_parts : TagSeen → TagSeen
+tag_parts a = a
+
+-- the result is what the reader found of a tag
+abbrev pub SeesTag : Option (Bor (List ℕ) × Bor (List ℕ) × Option CodeFault × Bor (List ℕ)) → Option (Tag × List ℕ) → Type 0
+SeesTag result found = option_map (λ p. tag_parts (p.0.now, p.1.now, faults_of p.2, p.3.now)) result ≡ option_map tag_seen found
+
+-- where the chain of an expression begins, its first fault, and what is left of the text
+abbrev pub ChainSeen : Type 0
+ChainSeen = List ℕ × Option Fault × List ℕ
+
+abbrev pub chain_seen : Chain × List ℕ → ChainSeen
+chain_seen a = (a.0.place, chain_fault a.0, a.1)
+
+abbrev pub chain_parts : ChainSeen → ChainSeen
+chain_parts a = a
+
+-- the result is what the reader found of an expression
+abbrev pub SeesChain : Option (Bor (List ℕ) × Option CodeFault × Bor (List ℕ)) → Option (Chain × List ℕ) → Type 0
+SeesChain result found = option_map (λ p. chain_parts (p.0.now, faults_of p.1, p.2.now)) result ≡ option_map chain_seen found
 
 -- the result is the literal that the reader found
 abbrev pub FindsLiteral : Option (CodeLiteral × Bor (List ℕ)) → Option (Literal × List ℕ) → Type 0

@@ -87,9 +87,6 @@ identifier = text (both (one starts_name) name_bytes)
 unfoldable pub name : Reader (List ℕ)
 name = only (λ word. not (is_literal_word word)) identifier
 
-unfoldable pub expression : Reader (List ℕ)
-expression = left (left (right (right (opener 123) white) name) white) (closer 125)
-
 unfoldable pub lone_brace : Reader (List ℕ)
 lone_brace = text (both white (byte 123))
 

@@ -6,7 +6,7 @@ use Rattle.liquid_grammar.specs.Rules.{Placed}
 use Rattle.liquid_grammar.specs.Grammar.{is_literal_word}
 use Rattle.liquid_grammar.specs.Literals.{Literal, word_literal, text_literal, integer, decimal}
 use Rattle.liquid_grammar.specs.Values.{Value, Index, named_index, placed_literal, placed_variable, placed_bracket}
-use Rattle.liquid_grammar.specs.Tokens.{Argument, positional, keyword, Filter, Chain, Token, range, chain, symbol, arguments_of, is_double, is_single}
+use Rattle.liquid_grammar.specs.Tokens.{Argument, positional, keyword, Filter, Chain, Tag, Token, range, chain, symbol, arguments_of, is_double, is_single}
 use Rattle.liquid_grammar.specs.Steps.{Reader, one, byte, both, either, seen, only, text, right, left, run, white, opener, closer, identifier, name}
 
 abbrev pub not_ahead : {A : Type 0} → Reader A → Reader (Unit {0})
@@ -138,8 +138,14 @@ symbol_of = either (text (only is_double (both any any))) (text (one is_single))
 unfoldable pub token : Reader Token
 token = either (seen range (at ranged)) (either (seen chain chain_of) (seen symbol (at symbol_of)))
 
-unfoldable pub full_expression : Reader Chain
-full_expression = left (left (right (right (opener 123) white) chain_of) white) (closer 125)
+unfoldable pub expression_start : Reader (List ℕ)
+expression_start = right (opener 123) white
 
-unfoldable pub tag : Reader (List ℕ × List Token)
-tag = left (left (right (right (opener 37) white) (both identifier (repeated (right white token)))) white) (closer 37)
+unfoldable pub full_expression : Reader Chain
+full_expression = left (left (right expression_start chain_of) white) (closer 125)
+
+unfoldable pub tag_start : Reader (List ℕ)
+tag_start = right (right (opener 37) white) identifier
+
+unfoldable pub tag : Reader Tag
+tag = left (left (both tag_start (at (repeated (right white token)))) white) (closer 37)

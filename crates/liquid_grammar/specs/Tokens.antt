@@ -23,6 +23,10 @@ pub data Token : Type 0 where
   chain : Chain → Token
   symbol : Placed (List ℕ) → Token
 
+-- the name of a tag, and its tokens with the places before and behind them
+abbrev pub Tag : Type 0
+Tag = List ℕ × Placed (List Token)
+
 -- an identifier, `:` and a value; else a value
 abbrev pub ArgumentRule : Rule Argument
 ArgumentRule = Else (Seen (λ p. keyword p.0 p.1) (Then (Identifier ◁ White ◁ Byte 58 ◁ White) ValueRule)) (Seen positional ValueRule)
@@ -80,10 +84,18 @@ SymbolRule = Else (Text (Where is_double (Then (One (λ b. true)) (One (λ b. tr
 abbrev pub TokenRule : Rule Token
 TokenRule = Else (Seen range (At RangeRule)) (Else (Seen chain ChainRule) (Seen symbol (At SymbolRule)))
 
+-- what stands before the chain of an expression
+abbrev pub ExpressionStart : Rule (List ℕ)
+ExpressionStart = Opener 123 ▷ White
+
 -- a chain between `{{` and `}}`
 abbrev pub ExpressionRule : Rule Chain
-ExpressionRule = Opener 123 ▷ White ▷ ChainRule ◁ White ◁ Closer 125
+ExpressionRule = ExpressionStart ▷ ChainRule ◁ White ◁ Closer 125
+
+-- an opener and the name of a tag
+abbrev pub TagStart : Rule (List ℕ)
+TagStart = Opener 37 ▷ White ▷ Identifier
 
 -- a name and tokens between `{%` and `%}`
-abbrev pub TagRule : Rule (List ℕ × List Token)
-TagRule = Opener 37 ▷ White ▷ Then Identifier (Repeated (White ▷ TokenRule)) ◁ White ◁ Closer 37
+abbrev pub TagRule : Rule Tag
+TagRule = Then TagStart (At (Repeated (White ▷ TokenRule))) ◁ White ◁ Closer 37

@@ -1,31 +1,57 @@
 //! The elements of a text.
-ghost use Rattle.std.specs.Prelude.{◌≡◌, ℕ, List, [], ◌<◌, length, Some, IfSome, MatchOption};
+ghost use Rattle.std.specs.Prelude.{◌≡◌, ℕ, List, [], ◌<◌, ◌++◌, length, Some, IfSome, MatchOption};
 ghost use Rattle.liquid_grammar.specs.Grammar.{Opens};
 ghost use Rattle.liquid_grammar.specs.Cover as spec;
 ghost use Rattle.liquid_grammar.specs.Cover.{IsElement};
-ghost use Rattle.liquid_grammar.specs.Elements.{element_of, taken_of};
+ghost use Rattle.liquid_grammar.specs.Elements.{Means};
 ghost use Rattle.liquid_grammar.specs.Steps as read;
 ghost use Rattle.liquid_grammar.specs.Steps.{Finds};
 
-use crate::expression::expression;
+use crate::fault::Fault;
 use crate::raw::raw_len;
 use crate::text::{before, eat, skip_white};
+use crate::token::{expression, tag};
 
-/// A part of a template: text to be written as it stands, an expression, or what is neither.
+/// A tag of a template.
+#[derive(Clone, Copy, Debug, PartialEq, Eq)]
+pub struct TagText<'a> {
+    pub name: &'a str,
+    /// The text from behind the name on, past the tag's end.
+    pub tokens: &'a str,
+    /// The whole text of the tag.
+    pub text: &'a str,
+    /// The first fault of its literals and brackets.
+    pub fault: Option<Fault<'a>>,
+}
+
+/// An expression of a template.
+#[derive(Clone, Copy, Debug, PartialEq, Eq)]
+pub struct ChainText<'a> {
+    /// The text from the chain on, past the expression's end.
+    pub chain: &'a str,
+    /// The whole text of the expression.
+    pub text: &'a str,
+    /// The first fault of its literals and brackets.
+    pub fault: Option<Fault<'a>>,
+}
+
+/// A part of a template: text to be written as it stands, a tag, an expression, or what is neither.
 #[derive(Clone, Copy, Debug, PartialEq, Eq)]
 pub enum Element<'a> {
     /// Text without an opener.
     Raw(&'a str),
-    /// A name between `{{` and `}}`, and the whole text of the expression.
-    Expression(&'a str, &'a str),
-    /// An opener's white space and one `{`, where an opener begins and no expression does.
+    Tag(TagText<'a>),
+    Expression(ChainText<'a>),
+    /// An opener's white space and one `{`, where an opener begins and neither a tag nor an expression does.
     Invalid(&'a str),
 }
 
 /// The element at the beginning of the text, and what it leaves. An empty text has none.
 pub fn next_element<'a>(text: &'a str) -> Option<(Element<'a>, &'a str)>
-    ensures found { MatchOption result (text.now ≡ []) (λ p. IsElement text.now p.1.now (element_of p.0)) }
-    ensures only { (rest : List ℕ) (e : spec.Element) → IsElement text.now rest e → taken_of result ≡ Some (e, rest) }
+    ensures found { MatchOption result (text.now ≡ [])
+        (λ p. (e : spec.Element) × IsElement text.now p.1.now e × Means p.0 e) }
+    ensures only { (rest : List ℕ) (e : spec.Element) → IsElement text.now rest e
+        → MatchOption result ⊥ (λ p. Means p.0 e × (p.1.now ≡ rest)) }
     ensures shorter { IfSome result (λ p. length p.1.now < length text.now) }
 {
     if text.is_empty() {
@@ -41,13 +67,31 @@ pub fn next_element<'a>(text: &'a str) -> Option<(Element<'a>, &'a str)>
 
 fn marked<'a>(s: &'a str) -> (Element<'a>, &'a str)
     requires { Opens s.now }
-    ensures { IsElement s.now result.1.now (element_of result.0) }
+    ensures { (e : spec.Element) × IsElement s.now result.1.now e × Means result.0 e }
 {
-    match expression(s) {
-        Some((found, rest)) => (Element::Expression(found, before(s, rest)), rest),
-        None => match lone_brace(s) {
-            Some((brace, rest)) => (Element::Invalid(brace), rest),
-            None => unreachable!(),
+    match tag(s) {
+        Some((name, tokens, fault, rest)) => (
+            Element::Tag(TagText {
+                name,
+                tokens,
+                text: before(s, rest),
+                fault,
+            }),
+            rest,
+        ),
+        None => match expression(s) {
+            Some((chain, fault, rest)) => (
+                Element::Expression(ChainText {
+                    chain,
+                    text: before(s, rest),
+                    fault,
+                }),
+                rest,
+            ),
+            None => match lone_brace(s) {
+                Some((brace, rest)) => (Element::Invalid(brace), rest),
+                None => unreachable!(),
+            },
         },
     }
 }

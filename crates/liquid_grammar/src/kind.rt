@@ -1,8 +1,9 @@
 //! Kinds of token.
-ghost use Rattle.std.specs.Prelude.{MatchOption};
+ghost use Rattle.std.specs.Prelude.{◌≡◌, option_map, MatchOption};
 ghost use Rattle.liquid_grammar.specs.Rules.{Begins};
-ghost use Rattle.liquid_grammar.specs.Tokens.{TokenRule};
-ghost use Rattle.liquid_grammar.specs.KindMeanings.{HasKind, FindsKind, FindsValueKind};
+ghost use Rattle.liquid_grammar.specs.Tokens.{ChainRule, TokenRule};
+ghost use Rattle.liquid_grammar.specs.Kinds.{identifier_of};
+ghost use Rattle.liquid_grammar.specs.KindMeanings.{token_kind_of, HasKind, HasChainKind, FindsKind, FindsValueKind};
 ghost use Rattle.liquid_grammar.specs.TokenSteps as read;
 
 use crate::filter::next_filter;
@@ -24,13 +25,29 @@ pub enum TokenKind<'a> {
     Identifier(&'a str),
 }
 
+impl<'a> TokenKind<'a> {
+    /// The identifier, where the token is one.
+    pub fn identifier(self) -> Option<&'a str>
+        ensures { option_map (λ name. name.now) result ≡ identifier_of (token_kind_of self.entry) }
+    {
+        match self {
+            TokenKind::Identifier(name) => Some(name),
+            TokenKind::Range
+            | TokenKind::Symbol
+            | TokenKind::Filtered
+            | TokenKind::Literal(_)
+            | TokenKind::Variable => None,
+        }
+    }
+}
+
 /// What the token is that the text begins with.
 pub fn token_kind(s: &str) -> Option<TokenKind<'_>>
     ensures { MatchOption result (¬ (Begins TokenRule s.now)) (HasKind s.now) }
 {
     match range(s) {
         Some(_) => Some(TokenKind::Range),
-        None => match chain_kind(s) {
+        None => match kind_of_chain(s) {
             Some(kind) => Some(kind),
             None => match symbol(s) {
                 Some(_) => Some(TokenKind::Symbol),
@@ -40,7 +57,14 @@ pub fn token_kind(s: &str) -> Option<TokenKind<'_>>
     }
 }
 
-fn chain_kind(s: &str) -> Option<TokenKind<'_>>
+/// What the chain is that the text begins with: filtered, a literal, a variable or an identifier.
+pub fn chain_kind(s: &str) -> Option<TokenKind<'_>>
+    ensures { MatchOption result (¬ (Begins ChainRule s.now)) (HasChainKind s.now) }
+{
+    kind_of_chain(s)
+}
+
+fn kind_of_chain(s: &str) -> Option<TokenKind<'_>>
     ensures { FindsKind result (read.chain_of s.now) }
 {
     let (_, rest) = value(s)?;

@@ -4,7 +4,6 @@
 mod bracket;
 mod bytes;
 mod element;
-mod expression;
 mod fault;
 mod filter;
 mod kind;
@@ -24,9 +23,9 @@ mod token;
 mod value;
 
 pub use bracket::BRACKET_LIMIT;
-pub use element::{Element, next_element};
+pub use element::{ChainText, Element, TagText, next_element};
 pub use fault::{Fault, FaultKind, integer_of};
-pub use kind::{TokenKind, token_kind};
+pub use kind::{TokenKind, chain_kind, token_kind};
 pub use laws::{
     elements_joined_are_the_text, no_opener_inside_raw, one_cover, one_element, one_match,
     value_law,
@@ -34,6 +33,6 @@ pub use laws::{
 pub use literal::Literal;
 pub use matching::{
     match_argument, match_chain, match_expression, match_filter, match_identifier, match_index,
-    match_literal, match_tag, match_token, match_value, match_variable,
+    match_literal, match_tag, match_token, match_value, match_variable, match_white,
 };
 pub use place::line_and_column;

@@ -1,6 +1,6 @@
 //! Matches of single rules. Each call takes no memory and no stack that grows with the text.
-ghost use Rattle.std.specs.Prelude.{◌<◌, length, IfSome};
-ghost use Rattle.liquid_grammar.specs.Grammar.{Identifier};
+ghost use Rattle.std.specs.Prelude.{◌<◌, ◌≤◌, length, IfSome};
+ghost use Rattle.liquid_grammar.specs.Grammar.{White, Identifier};
 ghost use Rattle.liquid_grammar.specs.Literals.{LiteralRule};
 ghost use Rattle.liquid_grammar.specs.Values.{ValueRule, VariableRule, IndexRule};
 ghost use Rattle.liquid_grammar.specs.Tokens.{ArgumentRule, FilterRule, ChainRule, TokenRule, ExpressionRule, TagRule};
@@ -12,8 +12,17 @@ use crate::fault::Fault;
 use crate::filter::{argument, chain, filter};
 use crate::literal::{Literal, read_literal};
 use crate::name::identifier;
-use crate::token::{full_expression, tag, token};
+use crate::text::split_white;
+use crate::token::{expression, tag, token};
 use crate::value::{index, value, variable};
+
+/// The white space that the text begins with, and what follows it.
+pub fn match_white(s: &str) -> (&str, &str)
+    ensures value { White s.now result.1.now result.0.now }
+    ensures within { length result.1.now ≤ length s.now }
+{
+    split_white(s)
+}
 
 /// The longest identifier that the text begins with, and what follows it.
 pub fn match_identifier(s: &str) -> Option<(&str, &str)>
@@ -87,12 +96,15 @@ pub fn match_token<'a>(s: &'a str) -> Option<(Option<Fault<'a>>, &'a str)>
     token(s)
 }
 
-/// The expression over a chain that the text begins with: its first fault, and what follows it.
+/// The expression that the text begins with: its first fault, and what follows it.
 pub fn match_expression<'a>(s: &'a str) -> Option<(Option<Fault<'a>>, &'a str)>
     ensures value { Matches ExpressionRule chain_fault s.now result }
     ensures shorter { IfSome result (λ x. length x.1.now < length s.now) }
 {
-    full_expression(s)
+    match expression(s) {
+        Some((_, fault, rest)) => Some((fault, rest)),
+        None => None,
+    }
 }
 
 /// The tag that the text begins with: its first fault, and what follows it.
@@ -100,5 +112,8 @@ pub fn match_tag<'a>(s: &'a str) -> Option<(Option<Fault<'a>>, &'a str)>
     ensures value { Matches TagRule tag_fault s.now result }
     ensures shorter { IfSome result (λ x. length x.1.now < length s.now) }
 {
-    tag(s)
+    match tag(s) {
+        Some((_, _, fault, rest)) => Some((fault, rest)),
+        None => None,
+    }
 }

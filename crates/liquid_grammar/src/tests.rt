@@ -1,14 +1,15 @@
 //! Texts with the elements that the written rules give them.
-use crate::{Element, line_and_column, next_element};
+use crate::{ChainText, Element, FaultKind, TagText, line_and_column, next_element};
 use std::process::Abort;
 
-/// Asserts that the text has these elements, in order, and no others.
-fn covers(rt: &impl Abort, text: &str, elements: &[Element]) {
+/// Asserts that the text has elements of these texts, in order, and no others. A tag's text stands
+/// behind `tag:`, an expression's behind `exp:`, an invalid element's behind `bad:`.
+fn covers(rt: &impl Abort, text: &str, elements: &[&str]) {
     let mut rest = text;
     for element in elements {
         match next_element(rest) {
             Some((found, after)) => {
-                assert!(rt; found == *element, "in {text:?}");
+                assert!(rt; is_element(found, element), "in {text:?}");
                 rest = after;
             }
             None => panic!(rt; "an element is missing in {text:?}"),
@@ -17,32 +18,55 @@ fn covers(rt: &impl Abort, text: &str, elements: &[Element]) {
     assert!(rt; rest.is_empty(), "text is left of {text:?}");
 }
 
-#[test]
-fn raw_text(rt: HostRuntime) {
-    covers(&rt, "", &[]);
-    covers(&rt, "a{b}c % }}", &[Element::Raw("a{b}c % }}")]);
-    covers(&rt, " \t\r\n ", &[Element::Raw(" \t\r\n ")]);
-    covers(&rt, "  -{-", &[Element::Raw("  -{-")]);
+fn is_element(found: Element, element: &str) -> bool {
+    match found {
+        Element::Raw(text) => text == element,
+        Element::Tag(TagText { text, .. }) => element.strip_prefix("tag:") == Some(text),
+        Element::Expression(ChainText { text, .. }) => element.strip_prefix("exp:") == Some(text),
+        Element::Invalid(text) => element.strip_prefix("bad:") == Some(text),
+    }
 }
 
 #[test]
-fn expressions(rt: HostRuntime) {
+fn raw_text(rt: HostRuntime) {
+    covers(&rt, "", &[]);
+    covers(&rt, "a{b}c % }}", &["a{b}c % }}"]);
+    covers(&rt, " \t\r\n ", &[" \t\r\n "]);
+    covers(&rt, "  -{-", &["  -{-"]);
+}
+
+#[test]
+fn expressions_and_tags(rt: HostRuntime) {
     covers(
         &rt,
-        "Hello {{ name }}!",
-        &[
-            Element::Raw("Hello "),
-            Element::Expression("name", "{{ name }}"),
-            Element::Raw("!"),
-        ],
+        "Hello {{ name | upcase }}!",
+        &["Hello ", "exp:{{ name | upcase }}", "!"],
     );
+    covers(&rt, "{{ nil }}{{'{{'}}", &["exp:{{ nil }}", "exp:{{'{{'}}"]);
     covers(
         &rt,
-        "{{a-b_1}}",
-        &[Element::Expression("a-b_1", "{{a-b_1}}")],
+        "{%if a<=b%}c{% endif %}",
+        &["tag:{%if a<=b%}", "c", "tag:{% endif %}"],
     );
-    covers(&rt, "{{nila}}", &[Element::Expression("nila", "{{nila}}")]);
-    covers(&rt, "{{_ -}}", &[Element::Expression("_", "{{_ -}}")]);
+    match next_element(" {%- if a %} b") {
+        Some((Element::Tag(tag), rest)) => {
+            assert!(rt; tag.name == "if");
+            assert!(rt; tag.tokens == " a %} b");
+            assert!(rt; rest == " b");
+            assert!(rt; tag.fault.is_none());
+        }
+        _ => panic!(rt; "no tag is found"),
+    }
+    match next_element("{{ a[1.5] }}b") {
+        Some((Element::Expression(found), "b")) => {
+            assert!(rt; found.chain == "a[1.5] }}b");
+            match found.fault {
+                Some(fault) => assert!(rt; fault.kind == FaultKind::DecimalNotSupported),
+                None => panic!(rt; "a decimal has no fault"),
+            }
+        }
+        _ => panic!(rt; "no expression is found"),
+    }
 }
 
 #[test]
@@ -50,73 +74,24 @@ fn dashes_take_white_space(rt: HostRuntime) {
     covers(
         &rt,
         "a \n {{- b -}} \t c",
-        &[
-            Element::Raw("a"),
-            Element::Expression("b", " \n {{- b -}} \t "),
-            Element::Raw("c"),
-        ],
+        &["a", "exp: \n {{- b -}} \t ", "c"],
     );
-    covers(
-        &rt,
-        " {{-b}} ",
-        &[Element::Expression("b", " {{-b}}"), Element::Raw(" ")],
-    );
-    covers(
-        &rt,
-        " {{b-}} ",
-        &[Element::Raw(" "), Element::Expression("b", "{{b-}} ")],
-    );
+    covers(&rt, " {%-b%} ", &["tag: {%-b%}", " "]);
+    covers(&rt, " {{b-}} ", &[" ", "exp:{{b-}} "]);
 }
 
 #[test]
 fn invalid_openers(rt: HostRuntime) {
+    covers(&rt, "{{ ! }}", &["bad:{", "{ ! }}"]);
+    covers(&rt, "a \n {{- ! }}", &["a", "bad: \n {", "{- ! }}"]);
+    covers(&rt, "{% ! %}", &["bad:{", "% ! %}"]);
+    covers(&rt, "{{{", &["bad:{", "bad:{", "{"]);
+    covers(&rt, "{{a--}}", &["bad:{", "{a--}}"]);
+    covers(&rt, "{{a b}}", &["bad:{", "{a b}}"]);
     covers(
         &rt,
-        "{{ ! }}",
-        &[Element::Invalid("{"), Element::Raw("{ ! }}")],
-    );
-    covers(
-        &rt,
-        "a \n {{- ! }}",
-        &[
-            Element::Raw("a"),
-            Element::Invalid(" \n {"),
-            Element::Raw("{- ! }}"),
-        ],
-    );
-    covers(
-        &rt,
-        "{{ nil }}",
-        &[Element::Invalid("{"), Element::Raw("{ nil }}")],
-    );
-    covers(
-        &rt,
-        "{% tag %}",
-        &[Element::Invalid("{"), Element::Raw("% tag %}")],
-    );
-    covers(
-        &rt,
-        "{{{",
-        &[
-            Element::Invalid("{"),
-            Element::Invalid("{"),
-            Element::Raw("{"),
-        ],
-    );
-    covers(
-        &rt,
-        "{{a--}}",
-        &[Element::Invalid("{"), Element::Raw("{a--}}")],
-    );
-    covers(
-        &rt,
-        "{{a b}}",
-        &[Element::Invalid("{"), Element::Raw("{a b}}")],
-    );
-    covers(
-        &rt,
-        "{{1a}}",
-        &[Element::Invalid("{"), Element::Raw("{1a}}")],
+        "{{ \"a\" | append, \"b\" }}",
+        &["bad:{", "{ \"a\" | append, \"b\" }}"],
     );
 }
 
@@ -124,14 +99,8 @@ fn invalid_openers(rt: HostRuntime) {
 fn longer_characters(rt: HostRuntime) {
     covers(
         &rt,
-        "é{{ a }}漢\u{1F600}{{ é }}",
-        &[
-            Element::Raw("é"),
-            Element::Expression("a", "{{ a }}"),
-            Element::Raw("漢\u{1F600}"),
-            Element::Invalid("{"),
-            Element::Raw("{ é }}"),
-        ],
+        "é{{ 'é漢' }}漢\u{1F600}{{ é }}",
+        &["é", "exp:{{ 'é漢' }}", "漢\u{1F600}", "bad:{", "{ é }}"],
     );
 }
 

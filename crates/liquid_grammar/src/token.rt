@@ -1,9 +1,9 @@
 //! Tokens, expressions and tags.
 ghost use Rattle.std.specs.Prelude.{◌≡◌, ◌<◌, ◌≤◌, length, Some, IfSome};
 ghost use Rattle.liquid_grammar.specs.Tokens as spec;
-ghost use Rattle.liquid_grammar.specs.Faults.{chain_fault, range_fault, token_fault, tag_fault, first_fault};
-ghost use Rattle.liquid_grammar.specs.Meanings.{Scans};
-ghost use Rattle.liquid_grammar.specs.Steps.{Leaves};
+ghost use Rattle.liquid_grammar.specs.Faults.{range_fault, token_fault, first_fault};
+ghost use Rattle.liquid_grammar.specs.Meanings.{Scans, SeesTag, SeesChain};
+ghost use Rattle.liquid_grammar.specs.Steps.{Finds, Leaves};
 ghost use Rattle.liquid_grammar.specs.Steps as step;
 ghost use Rattle.liquid_grammar.specs.TokenSteps as read;
 
@@ -15,25 +15,43 @@ use crate::opener::{closer, opener};
 use crate::text::{eat, skip_white};
 use crate::value::value;
 
-/// The first fault of the tag that the text begins with, and what follows it.
+/// The tag that the text begins with: its name, the text from its tokens on, its first fault, and what follows it.
 #[tactic(auto, unfolding(crate::specs::TokenSteps::tag))]
-pub(crate) fn tag<'a>(s: &'a str) -> Option<(Option<Fault<'a>>, &'a str)>
-    ensures value { Scans tag_fault result (read.tag s.now) }
-    ensures shorter { IfSome result (λ x. length x.1.now < length s.now) }
+pub(crate) fn tag<'a>(s: &'a str) -> Option<(&'a str, &'a str, Option<Fault<'a>>, &'a str)>
+    ensures value { SeesTag result (read.tag s.now) }
+    ensures shorter { IfSome result (λ x. length x.3.now < length s.now) }
 {
-    let (_, rest) = identifier(skip_white(opener(s, b'%')?))?;
-    let (fault, rest) = tokens(rest);
-    Some((fault, closer(skip_white(rest), b'%')?))
+    let (name, start) = tag_start(s)?;
+    let (fault, rest) = tokens(start);
+    Some((name, start, fault, closer(skip_white(rest), b'%')?))
 }
 
-/// The first fault of the expression that the text begins with, and what follows it.
-#[tactic(auto, unfolding(crate::specs::TokenSteps::full_expression))]
-pub(crate) fn full_expression<'a>(s: &'a str) -> Option<(Option<Fault<'a>>, &'a str)>
-    ensures value { Scans chain_fault result (read.full_expression s.now) }
+/// The name of the tag that may begin here, and what follows the name.
+#[tactic(auto, unfolding(crate::specs::TokenSteps::tag_start))]
+fn tag_start(s: &str) -> Option<(&str, &str)>
+    ensures value { Finds result (read.tag_start s.now) }
     ensures shorter { IfSome result (λ x. length x.1.now < length s.now) }
 {
-    let (fault, rest) = chain(skip_white(opener(s, b'{')?))?;
-    Some((fault, closer(skip_white(rest), b'}')?))
+    identifier(skip_white(opener(s, b'%')?))
+}
+
+/// The expression that the text begins with: the text from its chain on, its first fault, and what follows it.
+#[tactic(auto, unfolding(crate::specs::TokenSteps::full_expression, crate::specs::TokenSteps::chain_of))]
+pub(crate) fn expression<'a>(s: &'a str) -> Option<(&'a str, Option<Fault<'a>>, &'a str)>
+    ensures value { SeesChain result (read.full_expression s.now) }
+    ensures shorter { IfSome result (λ x. length x.2.now < length s.now) }
+{
+    let start = expression_start(s)?;
+    let (fault, rest) = chain(start)?;
+    Some((start, fault, closer(skip_white(rest), b'}')?))
+}
+
+#[tactic(auto, unfolding(crate::specs::TokenSteps::expression_start))]
+fn expression_start(s: &str) -> Option<&str>
+    ensures value { Leaves result (read.expression_start s.now) }
+    ensures shorter { IfSome result (λ rest. length rest.now < length s.now) }
+{
+    Some(skip_white(opener(s, b'{')?))
 }
 
 /// The first fault of all tokens that stand here, each behind white space or none.

@@ -1,2 +1,3 @@
-pub mod Brace
+pub mod Front
+pub mod NodeLemmas
 pub mod ReadingSteps

@@ -5,12 +5,11 @@ use Rattle.std.proofs.lemmas.List.{append-nil}
 use Rattle.liquid_scalar.specs.declared.error.Error.{Error}
 use Rattle.liquid_scalar.specs.Refusal.{Refusal}
 use Rattle.liquid_scalar.specs.Told.{told, Gives}
-use Rattle.liquid_grammar.specs.Cover.{Element, raw, expression, invalid, text_of, IsElement, Cover, done, next}
-use Rattle.liquid_grammar.proofs.CoverLemmas.{cover_of}
+use Rattle.liquid_grammar.specs.Cover.{Element, text_of, joined, IsElement, Cover, done, next}
+use Rattle.liquid_grammar.proofs.CoverLemmas.{cover_of, joined_cover}
 use Rattle.liquid_parser.specs.declared.node.Node.{Node}
-use Rattle.liquid_parser.specs.Tree.{NodeShape, text, name, shapes}
-use Rattle.liquid_parser.specs.Reading.{Answer, Answers, Reads, OneReading, answer, before_brace, invalid_liquid, with_node}
-use Rattle.liquid_parser.proofs.Brace.{Braced-from}
+use Rattle.liquid_parser.specs.Tree.{NodeShape, shapes}
+use Rattle.liquid_parser.specs.Reading.{Answer, Answers, Reads, OneReading, answer, node_of, node_or, white_before, invalid_liquid, with_node}
 
 -- an answer behind nodes that are there already
 abbrev pub with_nodes : List NodeShape → Answer → Answer
@@ -27,25 +26,14 @@ pub record Goes (s rest : List ℕ) (nodes : List NodeShape) : Type 0 where
   pub joined : s ≡ front ++ rest
   pub onward : (es : List Element) → Cover rest es → (all : List Element) × Cover s all × (answer [] all ≡ with_nodes nodes (answer front es))
 
--- the node is what the element gives
-abbrev pub IsNodeOf : Element → NodeShape → Type 0
-IsNodeOf (raw t) n = n ≡ text t
-IsNodeOf (expression m t) n = n ≡ name m
-IsNodeOf (invalid t) n = ⊥
-
-answer-node : (front : List ℕ) (e : Element) (n : NodeShape) (es : List Element) → IsNodeOf e n → answer front (e ∷ es) ≡ with_node n (answer (front ++ text_of e) es)
-answer-node front (raw t) n es is = ap (λ m. with_node m (answer (front ++ t) es)) (sym is)
-answer-node front (expression m t) n es is = ap (λ k. with_node k (answer (front ++ t) es)) (sym is)
-answer-node front (invalid t) n es is = absurd is
-
 -- an element that gives a node
-pub Goes-node : {s rest behind : List ℕ} {nodes : List NodeShape} {e : Element} (n : NodeShape) → Goes s rest nodes → IsElement rest behind e → IsNodeOf e n → Goes s behind (nodes ++ n ∷ [])
+pub Goes-node : {s rest behind : List ℕ} {nodes : List NodeShape} {e : Element} (n : NodeShape) → Goes s rest nodes → IsElement rest behind e → node_of e ≡ Some n → Goes s behind (nodes ++ n ∷ [])
 Goes-node {nodes = nodes} {e = e} n g is gives = record {
   front = g.front ++ text_of e;
   joined = g.joined ∙ (ap (λ r. g.front ++ r) is.joined ∙ sym (append_assoc g.front (text_of e) _));
   onward = λ es c.
       let w = g.onward (e ∷ es) (next is c) in
-      (w.0, w.1, w.2 ∙ (ap (with_nodes nodes) (answer-node g.front e n es gives) ∙ with_nodes-push nodes n _));
+      (w.0, w.1, w.2 ∙ (ap (with_nodes nodes) (ap (λ o. node_or o (answer (g.front ++ text_of e) es) (invalid_liquid (g.front ++ white_before (joined (e ∷ es))))) gives) ∙ with_nodes-push nodes n _));
 }
 
 -- where nothing is left, the nodes are what the text is read as
@@ -54,21 +42,16 @@ Reads-end {nodes = nodes} g =
     let w = g.onward [] done in
     record { elements = w.0; cover = w.1; is = sym (w.2 ∙ ap (λ ns. Ok ns) (append-nil nodes)) }
 
--- where an invalid element stands, the text is refused at its brace
-Reads-invalid : {s rest behind : List ℕ} {nodes : List NodeShape} (t : List ℕ) → (g : Goes s rest nodes) → IsElement rest behind (invalid t) → Reads s (Err (invalid_liquid (g.front ++ before_brace t)))
-Reads-invalid {behind = behind} t g is =
+-- where an element gives no node, the text is refused behind the white space there
+pub Reads-refused : {s rest behind : List ℕ} {nodes : List NodeShape} {e : Element} → (g : Goes s rest nodes) → IsElement rest behind e → node_of e ≡ None → Reads s (Err (invalid_liquid (g.front ++ white_before rest)))
+Reads-refused {rest = rest} {behind = behind} {nodes = nodes} {e = e} g is none =
     let o = cover_of behind in
-    let w = g.onward (invalid t ∷ o.elements) (next is o.cover) in
-    record { elements = w.0; cover = w.1; is = sym w.2 }
-
--- the text before the brace, and the brace and what is behind it
-stands_in_whole : {s rest behind : List ℕ} {nodes : List NodeShape} (t : List ℕ) → (g : Goes s rest nodes) → IsElement rest behind (invalid t) → s ≡ (g.front ++ before_brace t) ++ 123 ∷ behind
-stands_in_whole {behind = behind} t g is =
-    let b = Braced-from is in
-    g.joined ∙ (ap (λ r. g.front ++ r) (b.stands ∙ ap (λ w. w ++ 123 ∷ behind) (sym b.before)) ∙ sym (append_assoc g.front (before_brace t) (123 ∷ behind)))
-
-pub Invalid-stands : {s rest behind : List ℕ} {nodes : List NodeShape} (t : List ℕ) → Goes s rest nodes → IsElement rest behind (invalid t) → (front : List ℕ) × (s ≡ front ++ 123 ∷ behind) × Reads s (Err (invalid_liquid front))
-Invalid-stands t g is = (g.front ++ before_brace t, stands_in_whole t g is, Reads-invalid t g is)
+    let all = next is o.cover in
+    let w = g.onward (e ∷ o.elements) all in
+    let refused : List ℕ → Refusal = λ r. invalid_liquid (g.front ++ white_before r) in
+    let gives_none = ap (λ n. node_or n (answer (g.front ++ text_of e) o.elements) (refused (joined (e ∷ o.elements)))) none in
+    let here = ap (λ r. Err (refused r)) (joined_cover rest (e ∷ o.elements) all) in
+    record { elements = w.0; cover = w.1; is = sym (w.2 ∙ ap (with_nodes nodes) (gives_none ∙ here)) }
 
 -- two answers of one text are the same
 same_reading : {s : List ℕ} {a b : Answer} → Reads s a → Reads s b → a ≡ b

@@ -1,11 +1,14 @@
 -- What a text is read as: the answer is a function of the finished list of its elements.
-use Rattle.std.specs.Prelude.{◌≡◌, ℕ, ◌-◌, List, [], ◌∷◌, ◌++◌, length, take, Result, Ok, Err, IfSome, codes}
+use Rattle.std.specs.Prelude.{◌≡◌, ℕ, List, [], ◌∷◌, ◌++◌, take, Option, Some, None, option_map, Result, Ok, Err, IfSome, codes}
+use Rattle.std.specs.List.{prefix_len}
 use Rattle.std.specs.Global.{Vec}
 use Rattle.liquid_scalar.specs.declared.place.Place.{Place}
 use Rattle.liquid_scalar.specs.declared.error.Error.{Error}
 use Rattle.liquid_scalar.specs.Refusal.{Refusal, located}
 use Rattle.liquid_scalar.specs.Told.{told}
-use Rattle.liquid_grammar.specs.Cover.{Element, raw, expression, invalid, Cover}
+use Rattle.liquid_grammar.specs.Bytes.{is_white}
+use Rattle.liquid_grammar.specs.Kinds.{chain_kind, identifier_of}
+use Rattle.liquid_grammar.specs.Cover.{Element, raw, tag_element, expression, invalid, text_of, joined, Cover}
 use Rattle.liquid_grammar.specs.Place.{line_and_column}
 use Rattle.liquid_parser.specs.declared.node.Node.{Node}
 use Rattle.liquid_parser.specs.Tree.{NodeShape, text, name, shapes}
@@ -18,9 +21,9 @@ Answer = Result (List NodeShape) Refusal
 abbrev pub place_behind : List ℕ → Place
 place_behind front = record { line = (line_and_column front).0; column = (line_and_column front).1 }
 
--- an invalid element without its brace, which is its last byte
-abbrev pub before_brace : List ℕ → List ℕ
-before_brace element = take (length element - 1) element
+-- the white space that a text begins with
+abbrev pub white_before : List ℕ → List ℕ
+white_before s = take (prefix_len is_white s) s
 
 -- a node before the nodes of an answer; a refusal stays
 abbrev pub with_node : NodeShape → Answer → Answer
@@ -31,12 +34,22 @@ with_node node (Err refusal) = Err refusal
 abbrev pub invalid_liquid : List ℕ → Refusal
 invalid_liquid front = located (codes "Invalid liquid") (place_behind front)
 
--- the answer that elements give behind the text `front`: a node for each, up to an invalid one, which is refused at its brace
+-- the node that an element gives: its text, or the identifier that is all its chain
+abbrev pub node_of : Element → Option NodeShape
+node_of (raw t) = Some (text t)
+node_of (tag_element tag t) = None
+node_of (expression chain t) = option_map name (identifier_of (chain_kind chain.what.0 chain.what.1))
+node_of (invalid t) = None
+
+-- a node and the answer behind it; else a refusal
+abbrev pub node_or : Option NodeShape → Answer → Refusal → Answer
+node_or (Some node) answer refusal = with_node node answer
+node_or None answer refusal = Err refusal
+
+-- the answer that elements give behind the text `front`: a node for each, up to one that gives none, which is refused at its brace, behind the white space before it
 abbrev pub answer : List ℕ → List Element → Answer
 answer front [] = Ok []
-answer front (raw t ∷ es) = with_node (text t) (answer (front ++ t) es)
-answer front (expression n t ∷ es) = with_node (name n) (answer (front ++ t) es)
-answer front (invalid t ∷ es) = Err (invalid_liquid (front ++ before_brace t))
+answer front (e ∷ es) = node_or (node_of e) (answer (front ++ text_of e) es) (invalid_liquid (front ++ white_before (joined (e ∷ es))))
 
 -- the text is read as this answer: it is the answer of the elements that cover the text
 pub record Reads (s : List ℕ) (a : Answer) : Type 0 where

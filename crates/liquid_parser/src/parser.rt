@@ -1,13 +1,18 @@
-ghost use Rattle.std.specs.Prelude.{◌≡◌, take, slice_index, IfSome};
+ghost use Rattle.std.specs.Prelude.{◌≡◌, ◌-◌, ◌≤◌, ◌++◌, length, take, ℕ, List, option_map, IfSome, IfOk};
+ghost use Rattle.liquid_grammar.specs.Tokens.{Chain, ChainRule};
+ghost use Rattle.liquid_grammar.specs.Kinds.{chain_kind, identifier_of};
+ghost use Rattle.liquid_grammar.specs.Cover as spec;
+ghost use Rattle.liquid_grammar.specs.Cover.{IsElement};
+ghost use Rattle.liquid_grammar.specs.Elements.{Means};
 ghost use Rattle.liquid_scalar.specs.Told.{told, Gives};
-ghost use Rattle.liquid_parser.specs.Tree.{shapes};
-ghost use Rattle.liquid_parser.specs.Reading.{Answer, Answers, OneReading, Reads, invalid_liquid};
+ghost use Rattle.liquid_parser.specs.Tree.{shape, shapes};
+ghost use Rattle.liquid_parser.specs.Reading.{Answer, Answers, OneReading, Reads, invalid_liquid, node_of};
 
 use crate::language::Language;
 use crate::node::Node;
-use liquid_grammar::{Element, line_and_column, next_element};
+use liquid_grammar::{Element, chain_kind, line_and_column, match_white, next_element};
 use liquid_scalar::{Error, Place};
-use std::alloc::Global;
+use std::alloc::{AllocError, Global};
 
 /// The nodes of a template's text in their order, a text or a name each.
 ///
@@ -34,25 +39,45 @@ fn nodes_of(alloc: Global, text: &str) -> Result<Vec<Node>, Error>
     let mut nodes = Vec::new(alloc);
     let mut rest = text;
     while let Some((element, behind)) = next_element(rest) {
-        let node = match element {
-            Element::Raw(raw) => Node::Text(String::from_str(alloc, raw)?),
-            Element::Expression(name, _) => Node::Name(String::from_str(alloc, name)?),
-            Element::Invalid(_) => {
-                return Err(invalid_liquid(alloc, text, text.len() - behind.len() - 1));
-            }
-        };
-        nodes.push(node)?;
+        match node_of(alloc, element)? {
+            Some(node) => nodes.push(node)?,
+            None => return Err(invalid_liquid(alloc, text, match_white(rest).1)),
+        }
         rest = behind;
     }
     Ok(nodes)
 }
 
-// The refusal of a text at a brace in it.
-fn invalid_liquid(alloc: Global, text: &str, brace: usize) -> Error
-    requires { slice_index text.now brace ≡ 123 }
-    ensures { IfSome (told result) (λ refusal. refusal ≡ invalid_liquid (take brace text.now)) }
+// The node that an element gives, if it gives one.
+fn node_of<'a>(alloc: Global, element: Element<'a>) -> Result<Option<Node>, AllocError>
+    ensures { (s rest : List ℕ) (e : spec.Element) → IsElement s rest e → Means element.entry e
+        → IfOk result (λ node. option_map shape node ≡ node_of e) }
 {
-    let (front, _) = text.split_at(brace);
+    match element {
+        Element::Raw(raw) => Ok(Some(Node::Text(String::from_str(alloc, raw)?))),
+        Element::Expression(expression) => match identifier(expression.chain) {
+            Some(name) => Ok(Some(Node::Name(String::from_str(alloc, name)?))),
+            None => Ok(None),
+        },
+        _ => Ok(None),
+    }
+}
+
+// The identifier that is all of the chain that the text begins with.
+fn identifier(chain: &str) -> Option<&str>
+    ensures { (behind : List ℕ) (shape : Chain) → ChainRule chain.now behind shape
+        → option_map (λ name. name.now) result ≡ identifier_of (chain_kind shape.what.0 shape.what.1) }
+{
+    chain_kind(chain)?.identifier()
+}
+
+// The refusal of a text at a brace in it, with the text from there on.
+fn invalid_liquid(alloc: Global, text: &str, brace: &str) -> Error
+    requires within { length brace.now ≤ length text.now }
+    requires ends { text.now ≡ take (length text.now - length brace.now) text.now ++ brace.now }
+    ensures { IfSome (told result) (λ refusal. refusal ≡ invalid_liquid (take (length text.now - length brace.now) text.now)) }
+{
+    let (front, _) = text.split_at(text.len() - brace.len());
     let (line, column) = line_and_column(front);
     Error::at_place(alloc, "Invalid liquid", Place { line, column })
 }

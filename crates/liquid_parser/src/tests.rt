@@ -31,6 +31,7 @@ fn texts_and_names_in_their_order(rt: HostRuntime) -> Result<(), Fail> {
         ("{{a}}{{ b }}", "name[a]name[b]"),
         ("a \t{{- b-c -}} \n d", "text[a]name[b-c]text[d]"),
         (" {{ a-}} ", "text[ ]name[a]"),
+        ("{{_1}}{{nila}}", "name[_1]name[nila]"),
         ("é { { }} €", "text[é { { }} €]"),
     ] {
         let nodes = parse(rt.alloc(), text, &language)?;
@@ -47,6 +48,11 @@ fn invalid_liquid_is_refused_at_its_brace(rt: HostRuntime) -> Result<(), Fail> {
         ("{{ ! }}", 1, 1),
         ("a \n {{- ! }}", 2, 2),
         ("{{ a }}{{ nil }}", 1, 8),
+        ("{{ a }} {{- a.b }}", 1, 9),
+        ("{{ a['b'] }}", 1, 1),
+        ("b{{ a | upcase }}", 1, 2),
+        ("{{ 'a' }}{{ a }}", 1, 1),
+        ("\n\n {%- if a <= b -%} {{ a }}", 3, 2),
         ("é€😀{% a %}", 1, 4),
         ("😀\n\né {{- 5 }}{{ ! }}", 3, 3),
     ] {

@@ -1,7 +1,10 @@
-use Rattle.liquid_grammar.specs.Faults.{chain_fault}
-use Rattle.liquid_grammar.proofs.MatchLemmas.{matches_from_scan}
-use Rattle.liquid_grammar.proofs.TokenExact.{exact-full_expression}
+use Rattle.liquid_grammar.proofs.CoverLemmas.{expression_found, no_expression}
 use Rattle.liquid_grammar.proofs.matching.match_expression.Goals as goal
 
-pub returns-clause-value : goal.returns-clause-value
-returns-clause-value c = matches_from_scan exact-full_expression chain_fault c.args.s.now _ c.full_expression.ensures.value
+pub returns-in-Some-clause-value : goal.returns-in-Some-clause-value
+returns-in-Some-clause-value c =
+    let found = expression_found c.args.s.now _ c.in-Some.rest.now _ c.in-Some.ensures.value in
+    record { shape = found.0; match = found.1; is = found.3 }
+
+pub returns-in-None-clause-value : goal.returns-in-None-clause-value
+returns-in-None-clause-value c = no_expression c.args.s.now c.in-None.ensures.value
