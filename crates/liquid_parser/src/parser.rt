@@ -16,7 +16,8 @@ use std::alloc::{AllocError, Global};
 
 /// The nodes of a template's text in their order, a text or a name each.
 ///
-/// A text with an invalid element is refused as "Invalid liquid", at the brace of the first one.
+/// A text with an element that is neither text nor an expression of one name is refused as
+/// "Invalid liquid", at the brace of the first one.
 pub fn parse<F, T, B>(
     alloc: Global,
     text: &str,
