@@ -61,22 +61,7 @@ fn turn<'a>(state: Open<'a>) -> Option<Open<'a>>
 {
     let rest = state.rest;
     match state.awaits {
-        Await::Value => match read_literal(rest) {
-            Some((literal, after)) => {
-                let fault = state.fault.or(literal_fault(rest, literal));
-                Some(Open {
-                    rest: after,
-                    fault,
-                    awaits: Await::Close,
-                    ..state
-                })
-            }
-            None => Some(Open {
-                rest: name(rest)?.1,
-                awaits: Await::Index,
-                ..state
-            }),
-        },
+        Await::Value => at_value(state),
         Await::Index => match named(rest) {
             Some(after) => Some(Open {
                 rest: after,
@@ -107,6 +92,31 @@ fn turn<'a>(state: Open<'a>) -> Option<Open<'a>>
                 ..state
             })
         }
+    }
+}
+
+/// The step over the value that is awaited.
+fn at_value<'a>(state: Open<'a>) -> Option<Open<'a>>
+    requires some { 0 < state.depth }
+    requires value { state.awaits ≡ Await.Value }
+    ensures same { MatchOption result (going state.entry ≡ None) (λ next. going state.entry ≡ going next) }
+    ensures room { IfSome result (λ next. next.depth + length next.rest.now ≤ state.entry.depth + length state.entry.rest.now) }
+    ensures ends { IfSome result (λ next. 2 * length next.rest.now + rank next.awaits < 2 * length state.entry.rest.now + rank state.entry.awaits) }
+    ensures within { IfSome result (λ next. length next.rest.now ≤ length state.entry.rest.now) }
+    ensures whole { IfSome result (λ next. next.depth ≡ 0 → next.awaits ≡ Await.Index) }
+{
+    match read_literal(state.rest) {
+        Some((literal, after)) => Some(Open {
+            rest: after,
+            fault: state.fault.or(literal_fault(state.rest, literal)),
+            awaits: Await::Close,
+            ..state
+        }),
+        None => Some(Open {
+            rest: name(state.rest)?.1,
+            awaits: Await::Index,
+            ..state
+        }),
     }
 }
 
