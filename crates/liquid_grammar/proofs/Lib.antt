@@ -10,5 +10,7 @@ pub mod FlatBrackets
 pub mod IntegerLemmas
 pub mod ValueScan
 pub mod Scanning
+pub mod SpanLemmas
+pub mod SpansOfRules
 pub mod MatchLemmas
 pub mod KindLemmas

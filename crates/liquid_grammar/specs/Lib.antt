@@ -15,3 +15,4 @@ pub mod BracketSteps
 pub mod Matches
 pub mod Kinds
 pub mod KindMeanings
+pub mod Spans

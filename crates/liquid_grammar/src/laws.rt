@@ -3,10 +3,11 @@ ghost use Rattle.std.specs.Prelude.{◌≡◌, ℕ, List, ◌<◌, length, drop,
 ghost use Rattle.liquid_grammar.specs.Grammar.{Opens, Identifier};
 ghost use Rattle.liquid_grammar.specs.Literals.{LiteralRule};
 ghost use Rattle.liquid_grammar.specs.Values.{Value, ValueOver, ValueRule, IndexRule};
-ghost use Rattle.liquid_grammar.specs.Tokens.{ArgumentRule, FilterRule, ChainRule, TokenRule, ExpressionRule, TagRule};
+ghost use Rattle.liquid_grammar.specs.Tokens.{Chain, Tag, ArgumentRule, FilterRule, ChainRule, TokenRule, ExpressionRule, TagRule};
 ghost use Rattle.liquid_grammar.specs.Matches.{Single};
 ghost use Rattle.liquid_grammar.specs.Cover.{Element, raw, IsElement, Cover, OnlyCover, joined};
 ghost use Rattle.liquid_grammar.specs.Elements.{Taken};
+ghost use Rattle.liquid_grammar.specs.Spans.{AreSlices, chain_spans, tag_spans};
 
 /// Each text has one cover.
 #[tactic(auto, using(crate::proofs::CoverLemmas::cover_of))]
@@ -49,4 +50,10 @@ pub fn one_match()
 #[tactic(auto, using(crate::proofs::ValueLaw::value_law))]
 pub fn value_law()
     ensures { (s rest : List ℕ) (v : Value) → ValueRule s rest v ↔ ValueOver ValueRule s rest v }
+{}
+
+/// Each part of an expression or a tag is a slice of the text, and stands between characters.
+pub fn spans_are_slices(text: &str)
+    ensures expressions { (rest : List ℕ) (chain : Chain) → ExpressionRule text.now rest chain → AreSlices text.now (chain_spans chain) }
+    ensures tags { (rest : List ℕ) (tag : Tag) → TagRule text.now rest tag → AreSlices text.now (tag_spans tag) }
 {}

@@ -28,7 +28,7 @@ pub use fault::{Fault, FaultKind, integer_of};
 pub use kind::{TokenKind, chain_kind, token_kind};
 pub use laws::{
     elements_joined_are_the_text, no_opener_inside_raw, one_cover, one_element, one_match,
-    value_law,
+    spans_are_slices, value_law,
 };
 pub use literal::Literal;
 pub use matching::{
