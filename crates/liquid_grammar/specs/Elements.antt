@@ -1,7 +1,5 @@
 -- What an element of the program means.
 use Rattle.std.specs.Prelude.{◌≡◌, List, ℕ}
-use Rattle.std.specs.Borrow.{Bor}
-use Rattle.liquid_grammar.specs.declared.fault.Fault.{Fault as CodeFault}
 use Rattle.liquid_grammar.specs.declared.element.TagText.{TagText}
 use Rattle.liquid_grammar.specs.declared.element.ChainText.{ChainText}
 use Rattle.liquid_grammar.specs.declared.element.Element.{Element as CodeElement}

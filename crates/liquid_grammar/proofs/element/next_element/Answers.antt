@@ -1,4 +1,4 @@
-use Rattle.std.proofs.Common.{◌≡◌, ℕ, ◌<◌, List, length, refl, sym, ◌∙◌, arith, eqb-true, subst₂}
+use Rattle.std.proofs.Common.{ℕ, ◌<◌, List, length, refl, sym, ◌∙◌, arith, eqb-true, subst₂}
 use Rattle.std.proofs.lemmas.Bool.{eqb-false}
 use Rattle.liquid_grammar.specs.declared.element.Element.TheVariants.{Raw}
 use Rattle.liquid_grammar.specs.Cover.{IsElement, raw}

@@ -1,4 +1,4 @@
-use Rattle.std.proofs.Common.{[], map, Err, option_map, rules, subst, sym, ap, ◌∙◌, ◌++◌}
+use Rattle.std.proofs.Common.{map, Err, option_map, rules, subst, sym, ap, ◌∙◌, ◌++◌}
 use Rattle.std.proofs.lemmas.List.{map_push}
 use Rattle.liquid_parser.specs.Tree.{shape, shapes}
 use Rattle.liquid_parser.specs.Reading.{Reads, white_before, invalid_liquid}
