@@ -17,6 +17,8 @@ impl fmt::Display for Date {
 }
 
 impl fmt::Debug for Date {
+    ghost debug_output = { λ d. Some (Spec.date_text d) };
+
     fn fmt<W: fmt::Write>(&self, f: &mut fmt::Formatter<W>) -> fmt::Result {
         write!(f, "{self}")
     }
@@ -37,6 +39,8 @@ impl fmt::Display for DateTime {
 }
 
 impl fmt::Debug for DateTime {
+    ghost debug_output = { λ dt. Some (Spec.date_time_text dt) };
+
     fn fmt<W: fmt::Write>(&self, f: &mut fmt::Formatter<W>) -> fmt::Result {
         write!(f, "{self}")
     }
