@@ -6,3 +6,4 @@ pub mod ScalarCompare
 pub mod ScalarLaws
 pub mod ScalarLawProofs
 pub mod Helpers
+pub mod ScalarDates

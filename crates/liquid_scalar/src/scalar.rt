@@ -4,6 +4,7 @@ ghost use Rattle.liquid_scalar.specs.Scalar.{scal, to_integer, to_bool};
 
 mod compare;
 mod convert;
+mod dates;
 mod from;
 mod laws;
 mod text;
@@ -14,6 +15,7 @@ pub use laws::{
     loose_equality_is_symmetric, order_swapped_is_reversed, strict_equality_is_equivalence,
     strictly_equal_is_loosely_equal,
 };
+use liquid_dates::{Date, DateTime};
 use std::borrow::CowStr;
 use std::convert::AsStr;
 pub use text::{ScalarRender, ScalarSource};
@@ -24,6 +26,8 @@ pub enum ScalarOf<T> {
     Integer(i64),
     Bool(bool),
     Str(T),
+    Date(Date),
+    DateTime(DateTime),
 }
 
 /// A scalar that owns its text.
@@ -50,6 +54,8 @@ impl<T: AsStr> ScalarOf<T> {
             ScalarOf::Integer(number) => ScalarOf::Integer(*number),
             ScalarOf::Bool(truth) => ScalarOf::Bool(*truth),
             ScalarOf::Str(text) => ScalarOf::Str(CowStr::Borrowed(text.as_str())),
+            ScalarOf::Date(date) => ScalarOf::Date(*date),
+            ScalarOf::DateTime(date_time) => ScalarOf::DateTime(*date_time),
         }
     }
 
@@ -62,6 +68,8 @@ impl<T: AsStr> ScalarOf<T> {
             ScalarOf::Integer(number) => Some(*number),
             ScalarOf::Bool(_) => None,
             ScalarOf::Str(text) => text.as_str().parse::<i64>().ok(),
+            ScalarOf::Date(_) => None,
+            ScalarOf::DateTime(_) => None,
         }
     }
 
@@ -73,6 +81,8 @@ impl<T: AsStr> ScalarOf<T> {
             ScalarOf::Integer(_) => None,
             ScalarOf::Bool(truth) => Some(*truth),
             ScalarOf::Str(_) => None,
+            ScalarOf::Date(_) => None,
+            ScalarOf::DateTime(_) => None,
         }
     }
 }

@@ -57,7 +57,9 @@ impl State {
         match scalar {
             ScalarOf::Bool(truth) => self.holds_of_truth(*truth),
             ScalarOf::Str(text) => self.holds_of_text(text.as_str()),
-            ScalarOf::Integer(_) => self.holds_of_number(),
+            ScalarOf::Integer(_) | ScalarOf::Date(_) | ScalarOf::DateTime(_) => {
+                self.holds_of_number()
+            }
         }
     }
 

@@ -76,7 +76,7 @@ impl Value {
         }
     }
 
-    /// The value of a number, a truth value or a text.
+    /// The value of a number, a truth value, a text, a date or a date time.
     pub fn scalar<T: Into<Scalar>>(value: T) -> Value
         ensures { (s : _) × T.converts value s × (view result ≡ scalar (scal string_bytes s)) }
     {

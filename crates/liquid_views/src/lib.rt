@@ -3,6 +3,7 @@
 
 mod array;
 mod build;
+mod dates;
 mod hash_map;
 mod index;
 mod kind;

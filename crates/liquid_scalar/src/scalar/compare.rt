@@ -10,8 +10,8 @@ use std::convert::AsStr;
 use std::hash::{Hash, Hasher};
 
 impl<T: AsStr> ScalarOf<T> {
-    /// Loose equality: scalars of one kind by value, a truth value with another kind gives the truth value itself,
-    /// and other scalars are unequal.
+    /// Loose equality: scalars of one kind by value, date times by their instant. A date equals a date time whose own
+    /// date it is. A truth value with another kind gives the truth value itself, and other scalars are unequal.
     pub fn scalar_eq<U: AsStr>(&self, other: &ScalarOf<U>) -> bool
         ensures { result ≡ scalar_eq (scal T.text self.now) (scal U.text other.now) }
     {
@@ -19,14 +19,20 @@ impl<T: AsStr> ScalarOf<T> {
             (ScalarOf::Integer(left), ScalarOf::Integer(right)) => *left == *right,
             (ScalarOf::Bool(left), ScalarOf::Bool(right)) => *left == *right,
             (ScalarOf::Str(left), ScalarOf::Str(right)) => left.as_str() == right.as_str(),
+            (ScalarOf::Date(left), ScalarOf::Date(right)) => *left == *right,
+            (ScalarOf::DateTime(left), ScalarOf::DateTime(right)) => *left == *right,
+            (ScalarOf::Date(left), ScalarOf::DateTime(right)) => *left == right.date(),
+            (ScalarOf::DateTime(left), ScalarOf::Date(right)) => left.date() == *right,
             (ScalarOf::Bool(truth), _) => *truth,
             (_, ScalarOf::Bool(truth)) => *truth,
             _ => false,
         }
     }
 
-    /// Loose order: scalars of one kind by their order, false below true and texts by bytes; other scalars have no
-    /// order.
+    /// Loose order: scalars of one kind by their order, false below true, texts by bytes and date times by their
+    /// instant. A date stands to a date time as the date time moved to that date stands to itself. Other scalars have
+    /// no order.
+    #[tactic(auto, using(crate::specs::ScalarLawProofs::moved_before, crate::specs::ScalarLawProofs::moved_behind))]
     pub fn scalar_cmp<U: AsStr>(&self, other: &ScalarOf<U>) -> Option<Ordering>
         ensures { result ≡ scalar_cmp (scal T.text self.now) (scal U.text other.now) }
     {
@@ -34,6 +40,10 @@ impl<T: AsStr> ScalarOf<T> {
             (ScalarOf::Integer(left), ScalarOf::Integer(right)) => Some(left.cmp(right)),
             (ScalarOf::Bool(left), ScalarOf::Bool(right)) => Some(left.cmp(right)),
             (ScalarOf::Str(left), ScalarOf::Str(right)) => Some(left.as_str().cmp(right.as_str())),
+            (ScalarOf::Date(left), ScalarOf::Date(right)) => Some(left.cmp(right)),
+            (ScalarOf::DateTime(left), ScalarOf::DateTime(right)) => Some(left.cmp(right)),
+            (ScalarOf::Date(left), ScalarOf::DateTime(right)) => Some(left.cmp(&right.date())),
+            (ScalarOf::DateTime(left), ScalarOf::Date(right)) => Some(left.date().cmp(right)),
             _ => None,
         }
     }
@@ -50,6 +60,8 @@ impl<T: AsStr> PartialEq for ScalarOf<T> {
             (ScalarOf::Integer(mine), ScalarOf::Integer(theirs)) => *mine == *theirs,
             (ScalarOf::Bool(mine), ScalarOf::Bool(theirs)) => *mine == *theirs,
             (ScalarOf::Str(mine), ScalarOf::Str(theirs)) => mine.as_str() == theirs.as_str(),
+            (ScalarOf::Date(mine), ScalarOf::Date(theirs)) => *mine == *theirs,
+            (ScalarOf::DateTime(mine), ScalarOf::DateTime(theirs)) => *mine == *theirs,
             (_, _) => false,
         }
     }
@@ -77,6 +89,14 @@ impl<T: AsStr> Hash for ScalarOf<T> {
             ScalarOf::Str(text) => {
                 state.write_u8(2);
                 text.as_str().hash(state);
+            }
+            ScalarOf::Date(date) => {
+                state.write_u8(3);
+                date.hash(state);
+            }
+            ScalarOf::DateTime(date_time) => {
+                state.write_u8(4);
+                date_time.hash(state);
             }
         }
     }

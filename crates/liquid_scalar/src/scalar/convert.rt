@@ -43,6 +43,8 @@ impl<T> ScalarOf<T> {
             ScalarOf::Bool(true) => Ok(CowStr::Borrowed("true")),
             ScalarOf::Bool(false) => Ok(CowStr::Borrowed("false")),
             ScalarOf::Str(text) => Ok(text.into_cow_str()),
+            ScalarOf::Date(date) => Ok(CowStr::Owned(date.to_string(alloc)?)),
+            ScalarOf::DateTime(date_time) => Ok(CowStr::Owned(date_time.to_string(alloc)?)),
         }
     }
 
@@ -65,6 +67,8 @@ impl<T> ScalarOf<T> {
             ScalarOf::Integer(number) => Ok(ScalarOf::Integer(number)),
             ScalarOf::Bool(truth) => Ok(ScalarOf::Bool(truth)),
             ScalarOf::Str(text) => Ok(ScalarOf::Str(text.into_cow_str().into_owned(alloc)?)),
+            ScalarOf::Date(date) => Ok(ScalarOf::Date(date)),
+            ScalarOf::DateTime(date_time) => Ok(ScalarOf::DateTime(date_time)),
         }
     }
 }
@@ -77,6 +81,8 @@ impl Clone for ScalarOf<String> {
             ScalarOf::Integer(number) => Ok(ScalarOf::Integer(*number)),
             ScalarOf::Bool(truth) => Ok(ScalarOf::Bool(*truth)),
             ScalarOf::Str(text) => Ok(ScalarOf::Str(text.clone()?)),
+            ScalarOf::Date(date) => Ok(ScalarOf::Date(*date)),
+            ScalarOf::DateTime(date_time) => Ok(ScalarOf::DateTime(*date_time)),
         }
     }
 }
@@ -89,6 +95,8 @@ impl<'s> Clone for ScalarOf<CowStr<'s>> {
             ScalarOf::Integer(whole) => Ok(ScalarOf::Integer(*whole)),
             ScalarOf::Bool(flag) => Ok(ScalarOf::Bool(*flag)),
             ScalarOf::Str(shown) => Ok(ScalarOf::Str(shown.clone()?)),
+            ScalarOf::Date(date) => Ok(ScalarOf::Date(*date)),
+            ScalarOf::DateTime(date_time) => Ok(ScalarOf::DateTime(*date_time)),
         }
     }
 }

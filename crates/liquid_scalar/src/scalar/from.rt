@@ -4,6 +4,7 @@ ghost use Rattle.liquid_scalar.specs.declared.scalar.ScalarOf.TheVariants as var
 ghost use Rattle.liquid_scalar.specs.Scalar.{scal, text};
 
 use super::ScalarOf;
+use liquid_dates::{Date, DateTime};
 use std::borrow::CowStr;
 
 impl<T> From<i8> for ScalarOf<T> {
@@ -67,6 +68,22 @@ impl<T> From<bool> for ScalarOf<T> {
 
     fn from(truth: bool) -> ScalarOf<T> {
         ScalarOf::Bool(truth)
+    }
+}
+
+impl<T> From<Date> for ScalarOf<T> {
+    ghost from_gives = { λ date scalar. scalar ≡ variant.Date date };
+
+    fn from(date: Date) -> ScalarOf<T> {
+        ScalarOf::Date(date)
+    }
+}
+
+impl<T> From<DateTime> for ScalarOf<T> {
+    ghost from_gives = { λ date_time scalar. scalar ≡ variant.DateTime date_time };
+
+    fn from(date_time: DateTime) -> ScalarOf<T> {
+        ScalarOf::DateTime(date_time)
     }
 }
 

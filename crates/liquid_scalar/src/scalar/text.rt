@@ -23,7 +23,7 @@ impl<T: AsStr> ScalarOf<T> {
         ScalarSource { scalar: self }
     }
 
-    /// The name of the scalar's kind: `whole number`, `boolean` or `string`.
+    /// The name of the scalar's kind: `whole number`, `boolean`, `string`, `date` or `date time`.
     pub fn type_name(&self) -> &'static str
         ensures { result.now ≡ scalar_type_name (scal T.text self.now) }
     {
@@ -31,6 +31,8 @@ impl<T: AsStr> ScalarOf<T> {
             ScalarOf::Integer(_) => "whole number",
             ScalarOf::Bool(_) => "boolean",
             ScalarOf::Str(_) => "string",
+            ScalarOf::Date(_) => "date",
+            ScalarOf::DateTime(_) => "date time",
         }
     }
 
@@ -43,11 +45,14 @@ impl<T: AsStr> ScalarOf<T> {
             ScalarOf::Bool(true) => Ok(CowStr::Borrowed("true")),
             ScalarOf::Bool(false) => Ok(CowStr::Borrowed("false")),
             ScalarOf::Str(text) => Ok(CowStr::Borrowed(text.as_str())),
+            ScalarOf::Date(date) => Ok(CowStr::Owned(date.to_string(alloc)?)),
+            ScalarOf::DateTime(date_time) => Ok(CowStr::Owned(date_time.to_string(alloc)?)),
         }
     }
 }
 
-/// Displays what a scalar renders as: a number in decimal, `true` or `false`, and a text as it is.
+/// Displays what a scalar renders as: a number in decimal, `true` or `false`, a text as it is, and a date or a date time
+/// in its printed form.
 #[derive(Clone, Copy)]
 pub struct ScalarRender<'s, T> {
     pub scalar: &'s ScalarOf<T>,
@@ -61,6 +66,8 @@ impl<T: AsStr> fmt::Display for ScalarRender<'_, T> {
             ScalarOf::Integer(number) => write!(f, "{number}"),
             ScalarOf::Bool(truth) => write!(f, "{truth}"),
             ScalarOf::Str(text) => f.write_str(text.as_str()),
+            ScalarOf::Date(date) => write!(f, "{date}"),
+            ScalarOf::DateTime(date_time) => write!(f, "{date_time}"),
         }
     }
 }
@@ -82,6 +89,8 @@ impl<T: AsStr> fmt::Display for ScalarSource<'_, T> {
                 let text = text.as_str();
                 write!(f, "\"{text}\"")
             }
+            ScalarOf::Date(date) => write!(f, "{date}"),
+            ScalarOf::DateTime(date_time) => write!(f, "{date_time}"),
         }
     }
 }

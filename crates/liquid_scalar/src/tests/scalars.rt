@@ -1,4 +1,5 @@
 use crate::{Scalar, ScalarCow};
+use liquid_dates::{Date, DateTime};
 use std::alloc::{AllocError, Global};
 use std::cmp::Ordering;
 use std::hash::{DefaultHasher, Hash, Hasher};
@@ -109,5 +110,69 @@ fn borrowed_scalars_are_the_same(rt: HostRuntime) -> Result<(), Fail> {
     assert!(rt; copy.scalar_eq(&borrowed));
     let moved = ScalarCow::new(String::from_str(alloc, "k")?);
     assert!(rt; moved == copy);
+    Ok(())
+}
+
+#[test]
+fn dates_and_date_times(rt: HostRuntime) -> Result<(), Fail> {
+    let alloc = rt.alloc();
+    let day = Date::from_ymd(2016, 2, 16)?;
+    let date = ScalarCow::new(day);
+    let next = ScalarCow::new(Date::from_ymd(2016, 2, 17)?);
+    let moment = ScalarCow::new(DateTime::from_parts(day, 10, 0, 0, 0, 3600)?);
+    let elsewhere = ScalarCow::new(DateTime::from_parts(day, 9, 0, 0, 0, 0)?);
+    assert!(rt; date.scalar_eq(&moment));
+    assert!(rt; !moment.scalar_eq(&next));
+    assert_eq!(rt; date.scalar_cmp(&moment), Some(Ordering::Equal));
+    assert_eq!(rt; next.scalar_cmp(&moment), Some(Ordering::Greater));
+    assert_eq!(rt; moment.scalar_cmp(&next), Some(Ordering::Less));
+    assert!(rt; moment == elsewhere);
+    assert!(rt; date != moment);
+    assert_eq!(rt; date.type_name(), "date");
+    assert_eq!(rt; moment.type_name(), "date time");
+    assert_eq!(rt;
+        moment.into_string(alloc)?.as_str(),
+        "2016-02-16 10:00:00 +0100"
+    );
+    assert_eq!(rt; next.to_kstr(alloc)?.as_str(), "2016-02-17");
+    Ok(())
+}
+
+fn has_date(scalar: &ScalarCow<'_>, moment: &DateTime, day: &Date) -> bool {
+    match scalar.to_date(*moment) {
+        Some(date) => date == *day,
+        None => false,
+    }
+}
+
+fn has_date_time(scalar: &ScalarCow<'_>, moment: &DateTime, wanted: &DateTime) -> bool {
+    match scalar.to_date_time(*moment) {
+        Some(date_time) => date_time == *wanted,
+        None => false,
+    }
+}
+
+#[test]
+fn scalars_convert_to_dates(rt: HostRuntime) -> Result<(), Fail> {
+    let day = Date::from_ymd(2016, 6, 13)?;
+    let moment = DateTime::from_ymd(2016, 6, 13)?;
+    for (text, found) in [
+        ("13 Jun 2016", true),
+        ("today", true),
+        ("14 Jun 2016", false),
+    ] {
+        assert_eq!(rt; has_date(&ScalarCow::new(text), &moment, &day), found);
+    }
+    for (text, found) in [
+        ("2016-06-13 02:00:00 +0200", true),
+        ("Now", true),
+        ("13", false),
+    ] {
+        assert_eq!(rt;
+            has_date_time(&ScalarCow::new(text), &moment, &moment),
+            found
+        );
+    }
+    assert!(rt; !has_date(&ScalarCow::new(5i64), &moment, &day));
     Ok(())
 }

@@ -1,97 +1,155 @@
-use super::{list, number, one, pair, single, text, truth};
+use super::{Given, value_of};
 use crate::{State, Value, ValueViewCmp};
 use std::cmp::Ordering;
 use std::hash::{DefaultHasher, Hash, Hasher};
 use std::test::Fail;
 
-fn eq(left: &Value, right: &Value) -> bool {
-    ValueViewCmp::new(left).value_eq(&ValueViewCmp::new(right))
-}
-
-fn cmp(left: &Value, right: &Value) -> Option<Ordering> {
-    ValueViewCmp::new(left).value_cmp(&ValueViewCmp::new(right))
-}
-
-#[test]
-fn truth_values_equal_what_is_there(rt: HostRuntime) -> Result<(), Fail> {
-    let alloc = rt.alloc();
-    assert!(rt; eq(&truth(true), &text(alloc, "")?));
-    assert!(rt; eq(&Value::Nil, &truth(false)));
-    assert!(rt; !eq(&Value::Nil, &truth(true)));
-    assert!(rt; eq(&truth(true), &one(alloc, number(1))?));
-    assert!(rt; !eq(&truth(false), &list(Vec::new(alloc))));
-    assert!(rt; eq(&truth(true), &number(7)));
-    assert!(rt; !eq(&number(7), &truth(false)));
-    Ok(())
-}
-
-#[test]
-fn states_equal_the_values_in_them(rt: HostRuntime) -> Result<(), Fail> {
-    let alloc = rt.alloc();
-    let empty = Value::State(State::Empty);
-    let blank = Value::State(State::Blank);
-    let truthy = Value::State(State::Truthy);
-    let nothing = list(Vec::new(alloc));
-    assert!(rt; eq(&empty, &nothing));
-    assert!(rt; eq(&text(alloc, "")?, &empty));
-    assert!(rt; !eq(&empty, &text(alloc, " ")?));
-    assert!(rt; eq(&blank, &text(alloc, " ")?));
-    assert!(rt; eq(&Value::Nil, &blank));
-    assert!(rt; !eq(&truthy, &empty));
-    assert!(rt; eq(&empty, &truthy));
-    assert!(rt; !eq(&truthy, &truthy));
-    assert!(rt; eq(&Value::State(State::DefaultValue), &truth(false)));
-    Ok(())
-}
-
-// The empty text equals the state, and the state equals the empty list, but the text is not the list.
-#[test]
-fn loose_equality_is_not_transitive(rt: HostRuntime) -> Result<(), Fail> {
-    let alloc = rt.alloc();
-    let word = text(alloc, "")?;
-    let state = Value::State(State::Empty);
-    let nothing = list(Vec::new(alloc));
-    assert!(rt; eq(&word, &state));
-    assert!(rt; eq(&state, &nothing));
-    assert!(rt; !eq(&word, &nothing));
-    Ok(())
-}
-
-#[test]
-fn objects_are_equal_by_name(rt: HostRuntime) -> Result<(), Fail> {
-    let alloc = rt.alloc();
-    let left = Value::Object(pair(alloc, ("a", number(1)), ("b", number(2)))?);
-    let turned = Value::Object(pair(alloc, ("b", number(2)), ("a", number(1)))?);
-    let other = Value::Object(pair(alloc, ("a", number(1)), ("c", number(2)))?);
-    assert!(rt; eq(&left, &turned));
-    assert!(rt; !eq(&left, &other));
-    assert!(rt; !eq(&left, &single(alloc, "a", number(1))?));
+// Two values, and whether they are loosely equal.
+const EQUALITIES: [(Given, Given, bool); 29] = [
+    (Given::Truth(true), Given::Text(""), true),
+    (Given::Nil, Given::Truth(false), true),
+    (Given::Nil, Given::Truth(true), false),
+    (Given::Truth(true), Given::Numbers(&[1]), true),
+    (Given::Truth(false), Given::Numbers(&[]), false),
+    (Given::Truth(true), Given::Number(7), true),
+    (Given::Number(7), Given::Truth(false), false),
+    (Given::State(State::Empty), Given::Numbers(&[]), true),
+    (Given::Text(""), Given::State(State::Empty), true),
+    (Given::State(State::Empty), Given::Text(" "), false),
+    (Given::State(State::Blank), Given::Text(" "), true),
+    (Given::Nil, Given::State(State::Blank), true),
+    (
+        Given::State(State::Truthy),
+        Given::State(State::Empty),
+        false,
+    ),
+    (
+        Given::State(State::Empty),
+        Given::State(State::Truthy),
+        true,
+    ),
+    (
+        Given::State(State::Truthy),
+        Given::State(State::Truthy),
+        false,
+    ),
+    (Given::State(State::DefaultValue), Given::Truth(false), true),
+    // each equals the state `Empty`, so that loose equality is not transitive
+    (Given::Text(""), Given::Numbers(&[]), false),
+    (Given::Numbers(&[1]), Given::Numbers(&[1, 2]), false),
+    (
+        Given::Object(&[("a", 1), ("b", 2)]),
+        Given::Object(&[("b", 2), ("a", 1)]),
+        true,
+    ),
+    (
+        Given::Object(&[("a", 1), ("b", 2)]),
+        Given::Object(&[("a", 1), ("c", 2)]),
+        false,
+    ),
+    (
+        Given::Object(&[("a", 1), ("b", 2)]),
+        Given::Object(&[("a", 1)]),
+        false,
+    ),
     // within an object the right value is asked about the left one
-    let holds_state = single(alloc, "a", Value::State(State::Truthy))?;
-    let holds_empty = single(alloc, "a", Value::State(State::Empty))?;
-    assert!(rt; eq(&holds_state, &holds_empty));
-    assert!(rt; !eq(&holds_empty, &holds_state));
+    (
+        Given::Holding(State::Truthy),
+        Given::Holding(State::Empty),
+        true,
+    ),
+    (
+        Given::Holding(State::Empty),
+        Given::Holding(State::Truthy),
+        false,
+    ),
+    (Given::Day(16), Given::Moment(10, 3600), true),
+    (Given::Moment(10, 3600), Given::Day(16), true),
+    (Given::Day(15), Given::Moment(10, 3600), false),
+    (Given::Day(16), Given::Day(17), false),
+    (Given::Moment(10, 3600), Given::Moment(9, 0), true),
+    (Given::Day(16), Given::Truth(true), true),
+];
+
+#[test]
+fn values_are_loosely_equal(rt: HostRuntime) -> Result<(), Fail> {
+    let alloc = rt.alloc();
+    for (index, (left, right, equal)) in EQUALITIES.iter().enumerate() {
+        let left = value_of(alloc, *left)?;
+        let right = value_of(alloc, *right)?;
+        let answer = ValueViewCmp::new(&left).value_eq(&ValueViewCmp::new(&right));
+        assert_eq!(rt; answer, *equal, "row {index}");
+    }
     Ok(())
 }
+
+// Two values, and their loose order.
+const ORDERS: [(Given, Given, Option<Ordering>); 14] = [
+    (
+        Given::Numbers(&[1]),
+        Given::Numbers(&[1, 2]),
+        Some(Ordering::Less),
+    ),
+    (
+        Given::Numbers(&[1, 2]),
+        Given::Numbers(&[1]),
+        Some(Ordering::Greater),
+    ),
+    (
+        Given::Numbers(&[1, 2]),
+        Given::Numbers(&[1, 2]),
+        Some(Ordering::Equal),
+    ),
+    (Given::Items, Given::Numbers(&[1, 2]), None),
+    (
+        Given::Object(&[("a", 1)]),
+        Given::Object(&[("b", 0)]),
+        Some(Ordering::Less),
+    ),
+    (
+        Given::Object(&[("a", 1), ("b", 2)]),
+        Given::Object(&[("a", 1)]),
+        Some(Ordering::Greater),
+    ),
+    (
+        Given::Truth(false),
+        Given::Truth(true),
+        Some(Ordering::Less),
+    ),
+    (Given::Nil, Given::Nil, None),
+    (Given::Number(1), Given::Numbers(&[1]), None),
+    (
+        Given::Day(16),
+        Given::Moment(10, 3600),
+        Some(Ordering::Equal),
+    ),
+    (
+        Given::Day(17),
+        Given::Moment(10, 3600),
+        Some(Ordering::Greater),
+    ),
+    (
+        Given::Moment(10, 3600),
+        Given::Day(17),
+        Some(Ordering::Less),
+    ),
+    (Given::Day(15), Given::Day(16), Some(Ordering::Less)),
+    (
+        Given::Moment(10, 3600),
+        Given::Moment(10, 0),
+        Some(Ordering::Less),
+    ),
+];
 
 #[test]
 fn the_first_difference_decides(rt: HostRuntime) -> Result<(), Fail> {
     let alloc = rt.alloc();
-    let short = one(alloc, number(1))?;
-    let long = list(vec![in alloc; number(1), number(2)]?);
-    let mixed = list(vec![in alloc; number(1), text(alloc, "a")?]?);
-    assert_eq!(rt; cmp(&short, &long), Some(Ordering::Less));
-    assert_eq!(rt; cmp(&long, &short), Some(Ordering::Greater));
-    assert_eq!(rt; cmp(&long, &long), Some(Ordering::Equal));
-    assert_eq!(rt; cmp(&mixed, &long), None);
-    let first = single(alloc, "a", number(1))?;
-    let second = single(alloc, "b", number(0))?;
-    let both = Value::Object(pair(alloc, ("a", number(1)), ("b", number(2)))?);
-    assert_eq!(rt; cmp(&first, &second), Some(Ordering::Less));
-    assert_eq!(rt; cmp(&both, &first), Some(Ordering::Greater));
-    assert_eq!(rt; cmp(&truth(false), &truth(true)), Some(Ordering::Less));
-    assert_eq!(rt; cmp(&Value::Nil, &Value::Nil), None);
-    assert_eq!(rt; cmp(&number(1), &short), None);
+    for (index, (left, right, order)) in ORDERS.iter().enumerate() {
+        let left = value_of(alloc, *left)?;
+        let right = value_of(alloc, *right)?;
+        let answer = ValueViewCmp::new(&left).value_cmp(&ValueViewCmp::new(&right));
+        assert_eq!(rt; answer, *order, "row {index}");
+    }
     Ok(())
 }
 
@@ -101,17 +159,39 @@ fn fed(value: &Value) -> u64 {
     hasher.finish()
 }
 
+// Two values, and whether they are the same.
+const SAME: [(Given, Given, bool); 9] = [
+    (
+        Given::Object(&[("a", 1), ("b", 2)]),
+        Given::Object(&[("b", 2), ("a", 1)]),
+        true,
+    ),
+    (Given::Items, Given::Items, true),
+    (Given::Truth(true), Given::Number(1), false),
+    (Given::Text("1"), Given::Number(1), false),
+    (
+        Given::State(State::Empty),
+        Given::State(State::Blank),
+        false,
+    ),
+    (
+        Given::State(State::Truthy),
+        Given::State(State::Truthy),
+        true,
+    ),
+    (Given::Numbers(&[1]), Given::Numbers(&[1, 2]), false),
+    (Given::Day(16), Given::Moment(10, 3600), false),
+    (Given::Moment(10, 3600), Given::Moment(9, 0), true),
+];
+
 #[test]
 fn strict_equality_wants_the_same_kind(rt: HostRuntime) -> Result<(), Fail> {
     let alloc = rt.alloc();
-    let left = Value::Object(pair(alloc, ("a", one(alloc, number(1))?), ("b", Value::Nil))?);
-    let same = Value::Object(pair(alloc, ("b", Value::Nil), ("a", one(alloc, number(1))?))?);
-    assert!(rt; left == same);
-    assert_eq!(rt; fed(&left), fed(&same));
-    assert!(rt; truth(true) != number(1));
-    assert!(rt; text(alloc, "1")? != number(1));
-    assert!(rt; Value::State(State::Empty) != Value::State(State::Blank));
-    assert!(rt; Value::State(State::Truthy) == Value::State(State::Truthy));
-    assert!(rt; one(alloc, number(1))? != list(vec![in alloc; number(1), number(2)]?));
+    for (index, (left, right, same)) in SAME.iter().enumerate() {
+        let left = value_of(alloc, *left)?;
+        let right = value_of(alloc, *right)?;
+        assert_eq!(rt; left == right, *same, "row {index}");
+        assert!(rt; !*same || fed(&left) == fed(&right), "row {index}");
+    }
     Ok(())
 }

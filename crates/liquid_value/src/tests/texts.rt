@@ -1,82 +1,79 @@
-use super::{list, number, pair, single, text, truth};
+use super::{Given, value_of};
 use crate::render::{ValueRender, ValueSource};
 use crate::{State, Value};
 use std::test::Fail;
 
+// A value, the text that it renders as, its source text, and the name of its type.
+const TEXTS: [(Given, &str, &str, &str); 11] = [
+    (Given::Number(1), "1", "1", "whole number"),
+    (Given::Truth(true), "true", "true", "boolean"),
+    (
+        Given::Text("say \"a\""),
+        "say \"a\"",
+        "\"say \"a\"\"",
+        "string",
+    ),
+    (Given::Day(16), "2016-02-16", "2016-02-16", "date"),
+    (
+        Given::Moment(10, 3600),
+        "2016-02-16 10:00:00 +0100",
+        "2016-02-16 10:00:00 +0100",
+        "date time",
+    ),
+    (Given::Items, "1a", "[1, a, , ]", "array"),
+    (Given::Named, "axb2", "{\"a\": x, \"b\": 2, }", "object"),
+    (Given::State(State::Truthy), "", "truthy", "truthy"),
+    (Given::State(State::DefaultValue), "", "default", "default"),
+    (Given::State(State::Empty), "", "empty", "empty"),
+    (Given::Nil, "", "nil", "nil"),
+];
+
 #[test]
-fn values_render(rt: HostRuntime) -> Result<(), Fail> {
+fn values_have_texts(rt: HostRuntime) -> Result<(), Fail> {
     let alloc = rt.alloc();
-    let array = list(vec![in alloc; number(1), text(alloc, "a")?, Value::Nil]?);
-    assert_eq!(rt; array.to_kstr(alloc)?.as_str(), "1a");
-    let object = Value::Object(pair(alloc, ("b", number(2)), ("a", text(alloc, "x")?))?);
-    assert_eq!(rt; object.to_kstr(alloc)?.as_str(), "axb2");
-    assert_eq!(rt; truth(true).to_kstr(alloc)?.as_str(), "true");
-    assert_eq!(rt; Value::State(State::Empty).to_kstr(alloc)?.as_str(), "");
-    assert_eq!(rt; Value::Nil.to_kstr(alloc)?.as_str(), "");
-    assert_eq!(rt;
-        ValueRender::new(&object).to_string(alloc)?.as_str(),
-        "axb2"
-    );
+    for (given, render, source, type_name) in &TEXTS {
+        let value = value_of(alloc, *given)?;
+        assert_eq!(rt; value.type_name(), *type_name);
+        assert_eq!(rt; value.to_kstr(alloc)?.as_str(), *render);
+        let rendered = ValueRender::new(&value).to_string(alloc)?;
+        assert_eq!(rt; rendered.as_str(), *render);
+        let shown = ValueSource::new(&value).to_string(alloc)?;
+        assert_eq!(rt; shown.as_str(), *source);
+    }
     Ok(())
 }
 
-#[test]
-fn values_show_their_source(rt: HostRuntime) -> Result<(), Fail> {
-    let alloc = rt.alloc();
-    let array = list(vec![in alloc; number(1), text(alloc, "a")?, Value::Nil]?);
-    assert_eq!(rt;
-        ValueSource::new(&array).to_string(alloc)?.as_str(),
-        "[1, a, , ]"
-    );
-    let object = Value::Object(pair(alloc, ("b", number(2)), ("a", text(alloc, "x")?))?);
-    assert_eq!(rt;
-        ValueSource::new(&object).to_string(alloc)?.as_str(),
-        "{\"a\": x, \"b\": 2, }"
-    );
-    let word = text(alloc, "say \"a\"")?;
-    assert_eq!(rt;
-        ValueSource::new(&word).to_string(alloc)?.as_str(),
-        "\"say \"a\"\""
-    );
-    let state = Value::State(State::DefaultValue);
-    assert_eq!(rt;
-        ValueSource::new(&state).to_string(alloc)?.as_str(),
-        "default"
-    );
-    assert_eq!(rt;
-        ValueSource::new(&Value::Nil).to_string(alloc)?.as_str(),
-        "nil"
-    );
-    Ok(())
+// Whether the value is truthy, default, empty and blank.
+fn states_of(value: &Value) -> (bool, bool, bool, bool) {
+    (
+        value.query_state(State::Truthy),
+        value.query_state(State::DefaultValue),
+        value.query_state(State::Empty),
+        value.query_state(State::Blank),
+    )
 }
 
-#[test]
-fn values_name_their_types(rt: HostRuntime) -> Result<(), Fail> {
-    let alloc = rt.alloc();
-    assert_eq!(rt; number(1).type_name(), "whole number");
-    assert_eq!(rt; truth(true).type_name(), "boolean");
-    assert_eq!(rt; text(alloc, "a")?.type_name(), "string");
-    assert_eq!(rt; list(Vec::new(alloc)).type_name(), "array");
-    assert_eq!(rt; single(alloc, "a", Value::Nil)?.type_name(), "object");
-    assert_eq!(rt; Value::State(State::Truthy).type_name(), "truthy");
-    assert_eq!(rt; Value::Nil.type_name(), "nil");
-    Ok(())
-}
+// A value, and whether it is truthy, default, empty and blank.
+const STATES: [(Given, (bool, bool, bool, bool)); 11] = [
+    (Given::Number(0), (true, false, false, false)),
+    (Given::Truth(true), (true, false, false, false)),
+    (Given::Truth(false), (false, true, false, true)),
+    (Given::Text(""), (true, true, true, true)),
+    (Given::Text(" \n"), (true, false, false, true)),
+    (Given::Day(16), (true, false, false, false)),
+    (Given::Moment(10, 3600), (true, false, false, false)),
+    (Given::Numbers(&[]), (true, true, true, true)),
+    (Given::Object(&[("a", 1)]), (true, false, false, false)),
+    (Given::Nil, (false, true, true, true)),
+    (Given::State(State::Truthy), (false, true, true, true)),
+];
 
 #[test]
 fn values_are_in_states(rt: HostRuntime) -> Result<(), Fail> {
     let alloc = rt.alloc();
-    let blank = text(alloc, " \n")?;
-    assert!(rt; blank.query_state(State::Blank));
-    assert!(rt; !blank.query_state(State::Empty));
-    assert!(rt; blank.query_state(State::Truthy));
-    assert!(rt; truth(false).query_state(State::DefaultValue));
-    assert!(rt; !truth(false).query_state(State::Empty));
-    assert!(rt; !truth(false).query_state(State::Truthy));
-    assert!(rt; !number(0).query_state(State::Blank));
-    assert!(rt; list(Vec::new(alloc)).query_state(State::Truthy));
-    assert!(rt; list(Vec::new(alloc)).query_state(State::Empty));
-    assert!(rt; !single(alloc, "a", Value::Nil)?.query_state(State::Empty));
-    assert!(rt; !Value::Nil.query_state(State::Truthy));
+    for (index, (given, answers)) in STATES.iter().enumerate() {
+        let value = value_of(alloc, *given)?;
+        assert_eq!(rt; states_of(&value), *answers, "row {index}");
+    }
     Ok(())
 }

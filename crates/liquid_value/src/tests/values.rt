@@ -1,84 +1,118 @@
-use super::{number, one, pair, single, text, truth};
-use crate::{Array, Object, State, Value, ValueCow};
+use super::{Given, items, named, numbers, object, value_of};
+use crate::{Object, State, Value, ValueCow};
 use liquid_scalar::Scalar;
+use std::alloc::Global;
 use std::test::Fail;
+
+// A value, and whether it is a scalar, an array, an object and a state.
+const PARTS: [(Given, bool, bool, bool, bool); 5] = [
+    (Given::Number(1), true, false, false, false),
+    (Given::Items, false, true, false, false),
+    (Given::Named, false, false, true, false),
+    (Given::State(State::Empty), false, false, false, true),
+    (Given::Nil, false, false, false, false),
+];
 
 #[test]
 fn values_give_what_they_hold(rt: HostRuntime) -> Result<(), Fail> {
     let alloc = rt.alloc();
-    let array = one(alloc, number(1))?;
-    assert_eq!(rt; array.as_array().ok_or("no list")?.len(), 1);
-    assert!(rt; number(1).as_array().is_none());
-    assert!(rt; array.as_object().is_none());
-    assert!(rt; single(alloc, "a", Value::Nil)?.as_object().is_some());
-    assert!(rt; array.into_array().is_some());
-    assert!(rt; number(1).into_scalar().is_some());
-    assert!(rt; number(1).into_object().is_none());
-    assert!(rt; single(alloc, "a", Value::Nil)?.into_object().is_some());
-    assert_eq!(rt; Value::State(State::Empty).into_state(), Some(State::Empty));
-    assert!(rt; Value::default() == Value::Nil);
+    for (given, _, array, object, _) in &PARTS {
+        let mut value = value_of(alloc, *given)?;
+        assert_eq!(rt; value.as_array().is_some(), *array);
+        assert_eq!(rt; value.as_object().is_some(), *object);
+        assert_eq!(rt; value.as_array_mut().is_some(), *array);
+        assert_eq!(rt; value.as_object_mut().is_some(), *object);
+    }
+    Ok(())
+}
+
+#[test]
+fn values_are_taken_apart(rt: HostRuntime) -> Result<(), Fail> {
+    let alloc = rt.alloc();
+    for (given, scalar, array, object, state) in &PARTS {
+        assert_eq!(rt; value_of(alloc, *given)?.into_scalar().is_some(), *scalar);
+        assert_eq!(rt; value_of(alloc, *given)?.into_array().is_some(), *array);
+        assert_eq!(rt; value_of(alloc, *given)?.into_object().is_some(), *object);
+        assert_eq!(rt; value_of(alloc, *given)?.into_state().is_some(), *state);
+    }
     Ok(())
 }
 
 #[test]
 fn values_change_in_place(rt: HostRuntime) -> Result<(), Fail> {
     let alloc = rt.alloc();
-    let mut array = one(alloc, number(1))?;
+    let mut array = value_of(alloc, Given::Numbers(&[1]))?;
     if let Some(items) = array.as_array_mut() {
-        items.push(number(2))?;
+        items.push(Value::scalar(2i64))?;
     }
     assert_eq!(rt; array.to_kstr(alloc)?.as_str(), "12");
-    let mut object = single(alloc, "a", number(1))?;
+    let mut object = value_of(alloc, Given::Object(&[("a", 1)]))?;
     if let Some(members) = object.as_object_mut() {
-        drop(members.insert(String::from_str(alloc, "b")?, number(2))?);
+        drop(members.insert(String::from_str(alloc, "b")?, Value::scalar(2i64))?);
     }
     assert_eq!(rt; object.to_kstr(alloc)?.as_str(), "a1b2");
-    assert!(rt; Value::Nil.as_array_mut().is_none());
     Ok(())
 }
 
 #[test]
 fn clones_are_the_same_value(rt: HostRuntime) -> Result<(), Fail> {
     let alloc = rt.alloc();
-    let object = Value::Object(pair(
-        alloc,
-        ("b", one(alloc, text(alloc, "x")?)?),
-        ("a", truth(false)),
-    )?);
-    assert!(rt; object.clone()? == object);
-    let cow = ValueCow::from(&object);
-    assert!(rt; cow.clone()? == cow);
-    assert!(rt; cow.as_object().is_some());
-    assert!(rt; cow.as_array().is_none());
-    assert!(rt; *cow.as_view() == object);
-    assert!(rt; cow.into_owned()? == object);
-    assert!(rt; ValueCow::default() == ValueCow::from(Value::Nil));
+    for (given, _, array, object, _) in &PARTS {
+        let value = value_of(alloc, *given)?;
+        assert!(rt; value.clone()? == value);
+        let cow = ValueCow::from(&value);
+        assert!(rt; cow.clone()? == cow);
+        assert_eq!(rt; cow.as_array().is_some(), *array);
+        assert_eq!(rt; cow.as_object().is_some(), *object);
+        assert!(rt; *cow.as_view() == value);
+        assert!(rt; cow.into_owned()? == value);
+    }
     Ok(())
+}
+
+fn is(alloc: Global, value: Value, given: Given) -> Result<bool, Fail> {
+    Ok(value == value_of(alloc, given)?)
 }
 
 #[test]
 fn conversions_keep_the_value(rt: HostRuntime) -> Result<(), Fail> {
     let alloc = rt.alloc();
-    let items: Array = vec![in alloc; number(1)]?;
-    assert!(rt; Value::from(items) == one(alloc, number(1))?);
-    assert!(rt; Value::from(Object::new(alloc)) == Value::Object(Object::new(alloc)));
-    assert!(rt; Value::from(State::Blank) == Value::State(State::Blank));
-    assert!(rt; Value::from(Scalar::Integer(1)) == number(1));
-    assert!(rt; ValueCow::from(Scalar::Integer(1)) == ValueCow::Owned(number(1)));
-    assert!(rt; ValueCow::from(State::Blank) == ValueCow::Owned(Value::State(State::Blank)));
+    assert!(rt; is(alloc, Value::default(), Given::Nil)?);
+    assert!(rt; is(alloc, Value::from(items(alloc)?), Given::Items)?);
+    assert!(rt; is(alloc, Value::from(named(alloc)?), Given::Named)?);
+    assert!(rt; is(alloc, Value::from(State::Blank), Given::State(State::Blank))?);
+    assert!(rt; is(alloc, Value::from(Scalar::Integer(1)), Given::Number(1))?);
+    let ones = numbers(alloc, &[1, 1])?.into_iter();
+    assert!(rt; is(alloc, Value::array(alloc, ones)?, Given::Numbers(&[1, 1]))?);
+    Ok(())
+}
+
+fn is_owned(alloc: Global, cow: ValueCow<'static>, given: Given) -> Result<bool, Fail> {
+    is(alloc, cow.into_owned()?, given)
+}
+
+#[test]
+fn cows_keep_the_value(rt: HostRuntime) -> Result<(), Fail> {
+    let alloc = rt.alloc();
+    assert!(rt; is_owned(alloc, ValueCow::default(), Given::Nil)?);
+    assert!(rt; is_owned(alloc, ValueCow::from(Value::Nil), Given::Nil)?);
+    assert!(rt; is_owned(alloc, ValueCow::from(items(alloc)?), Given::Items)?);
+    assert!(rt; is_owned(alloc, ValueCow::from(named(alloc)?), Given::Named)?);
     assert!(rt;
-        ValueCow::from(Object::new(alloc)) == ValueCow::Owned(Value::Object(Object::new(alloc)))
+        is_owned(
+            alloc,
+            ValueCow::from(State::Blank),
+            Given::State(State::Blank)
+        )?
     );
-    assert!(rt;
-        ValueCow::from(Array::new(alloc)) == ValueCow::Owned(Value::Array(Array::new(alloc)))
-    );
+    assert!(rt; is_owned(alloc, ValueCow::from(Scalar::Integer(1)), Given::Number(1))?);
     Ok(())
 }
 
 #[test]
 fn objects_are_maps(rt: HostRuntime) -> Result<(), Fail> {
     let alloc = rt.alloc();
-    let mut object = pair(alloc, ("b", number(2)), ("a", number(1)))?;
+    let mut object: Object = object(alloc, &[("b", 2), ("a", 1)])?;
     assert_eq!(rt; object.len(), 2);
     assert!(rt; object.contains_key("a"));
     assert!(rt; !object.contains_key("c"));
@@ -86,8 +120,8 @@ fn objects_are_maps(rt: HostRuntime) -> Result<(), Fail> {
     assert!(rt; object.get("a").is_none());
     let slot = object
         .entry(String::from_str(alloc, "c")?)?
-        .or_insert(number(3));
-    *slot = number(4);
+        .or_insert(Value::scalar(3i64));
+    *slot = Value::scalar(4i64);
     assert_eq!(rt; Value::Object(object).to_kstr(alloc)?.as_str(), "b2c4");
     Ok(())
 }

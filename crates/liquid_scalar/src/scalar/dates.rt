@@ -1,0 +1,47 @@
+ghost use Rattle.std.specs.Prelude.{IfSome, IsSomeAnd};
+ghost use Rattle.jiff_core.specs.declared.civil.date.Date.{Date as CivilDate};
+ghost use Rattle.liquid_dates.specs.declared.date_time.DateTime.{DateTime as DateTimeShape};
+ghost use Rattle.liquid_dates.specs.DateText.{SameDate, SameDateTime};
+ghost use Rattle.liquid_scalar.specs.Scalar.{scal};
+ghost use Rattle.liquid_scalar.specs.ScalarDates.{IsDateOf, IsDateTimeOf};
+
+use super::ScalarOf;
+use liquid_dates::{Date, DateTime};
+use std::convert::AsStr;
+
+impl<T: AsStr> ScalarOf<T> {
+    /// The date itself, a date time's own date, or the date that a text writes, where `today` is that of the moment.
+    /// None for every other scalar.
+    pub fn to_date(&self, moment: DateTime) -> Option<Date>
+        ensures fits { IfSome result (λ d. IsDateOf (scal T.text self.now) moment d) }
+
+        // Whatever date the scalar has is the answer.
+        ensures only { (d : CivilDate) → IsDateOf (scal T.text self.now) moment d
+            → IsSomeAnd result (λ r. SameDate r d) }
+    {
+        match self {
+            ScalarOf::Integer(_) => None,
+            ScalarOf::Bool(_) => None,
+            ScalarOf::Str(text) => Date::from_str(text.as_str(), moment),
+            ScalarOf::Date(date) => Some(*date),
+            ScalarOf::DateTime(date_time) => Some(date_time.date()),
+        }
+    }
+    /// The date time itself, or the date time that a text writes, where `now` and `today` are the moment. None for
+    /// every other scalar.
+    pub fn to_date_time(&self, moment: DateTime) -> Option<DateTime>
+        ensures fits { IfSome result (λ dt. IsDateTimeOf (scal T.text self.now) moment dt) }
+
+        // Whatever date time the scalar has is the answer.
+        ensures only { (dt : DateTimeShape) → IsDateTimeOf (scal T.text self.now) moment dt
+            → IsSomeAnd result (λ r. SameDateTime r dt) }
+    {
+        match self {
+            ScalarOf::Integer(_) => None,
+            ScalarOf::Bool(_) => None,
+            ScalarOf::Str(text) => DateTime::from_str(text.as_str(), moment),
+            ScalarOf::Date(_) => None,
+            ScalarOf::DateTime(date_time) => Some(*date_time),
+        }
+    }
+}
