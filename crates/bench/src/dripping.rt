@@ -1,4 +1,6 @@
-ghost use Rattle.std.specs.Prelude.{◌≡◌, []};
+ghost use Rattle.std.specs.Prelude.{◌≡◌, ◌+◌, ◌<◌, ◌≤◌, [], ◌++◌, length, IfOk};
+ghost use Rattle.liquid_template.specs.Put.{taken_part, failure_count};
+ghost use Rattle.bench.specs.Drips.{puts_left, Drips};
 
 use liquid_core::{History, Sink, SinkFault};
 use std::alloc::Global;
@@ -16,6 +18,7 @@ impl Dripping {
     pub fn new(alloc: Global, puts: u64) -> Dripping
         ensures taken { ⟦<Dripping as Sink>⟧.taken result ≡ [] }
         ensures failures { ⟦<Dripping as Sink>⟧.failures result ≡ 0 }
+        ensures puts { puts_left result ≡ puts }
     {
         Dripping {
             bytes: Vec::new(alloc),
@@ -37,7 +40,14 @@ impl Sink for Dripping {
 
     ghost failures = { λ sink. sink.history.failures };
 
-    fn put(&mut self, piece: &[u8]) -> Result<usize, SinkFault> {
+    fn put(&mut self, piece: &[u8]) -> Result<usize, SinkFault>
+        requires { 0 < length piece.now }
+        ensures some { IfOk result (λ count. 0 < count) }
+        ensures bound { IfOk result (λ count. count ≤ length piece.now) }
+        ensures bytes { self.new.bytes.items ≡ self.old.bytes.items ++ taken_part result piece.now }
+        ensures count { self.new.history.failures ≡ self.old.history.failures + failure_count result }
+        ensures drips { Drips (puts_left self.old) (puts_left self.new) result }
+    {
         if self.puts_left == 0 {
             self.history.failed();
             return Err(SinkFault::Failed);

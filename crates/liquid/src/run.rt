@@ -34,6 +34,7 @@ pub fn run<F: Folder, W: Write, E: Write>(
     ensures usage { (result ≡ 2) ↔ (is_command (map string_bytes words.now) ≡ false) }
     ensures prints { is_command (map string_bytes words.now) ≡ true
         → Prints (map string_bytes words.now) (F.known files.old) (W.contents out.old) (W.contents out.new) result }
+    ensures quiet { result ≡ 0 → err.new ≡ err.old }
 {
     let mut sink = WriterSink::new(out);
     let status = run_to(alloc, words, files, &mut sink, err);
@@ -52,6 +53,7 @@ pub fn run_to<F: Folder, K: Sink, E: Write>(
     ensures usage { (result ≡ 2) ↔ (is_command (map string_bytes words.now) ≡ false) }
     ensures runs { is_command (map string_bytes words.now) ≡ true → Runs (map string_bytes words.now) (F.known files.old)
         (sunk (K.taken sink.old) (K.failures sink.old)) (sunk (K.taken sink.new) (K.failures sink.new)) result }
+    ensures quiet { result ≡ 0 → err.new ≡ err.old }
     ensures behind { Grows (K.taken sink.old) (K.behind sink.old) (K.taken sink.new) (K.behind sink.new) }
     ensures lent { K.lent sink.new ≡ K.lent sink.old }
 {
