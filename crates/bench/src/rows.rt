@@ -1,6 +1,6 @@
 //! Templates with what they come to, through the calls that users make.
 use crate::dripping::Dripping;
-use liquid_core::model::{Array, Object, State, Value};
+use liquid_core::model::{Array, Date, DateTime, Object, State, Value};
 use liquid_core::parser::{Language, parse};
 use liquid_core::runtime::{BuiltRuntime, Runtime, RuntimeBuilder, Template};
 use liquid_core::{Error, TextSink, render_source};
@@ -15,6 +15,10 @@ enum Given {
     Flag(bool),
     Text(&'static str),
     State(State),
+    /// The date 2016-02-16.
+    Day,
+    /// Ten o'clock of that date, at an offset of one hour.
+    Moment,
     /// The array of 1, `a` and nil.
     Items,
     /// The object of `b`, which is 2, and `a`, which is `x`.
@@ -37,22 +41,26 @@ fn pairs(alloc: Global) -> Result<Object, AllocError> {
     Ok(object)
 }
 
-fn value_of(alloc: Global, given: Given) -> Result<Value, AllocError> {
+fn moment() -> Result<Value, Fail> {
+    let day = Date::from_ymd(2016, 2, 16)?;
+    Ok(Value::scalar(DateTime::from_parts(day, 10, 0, 0, 0, 3600)?))
+}
+
+fn value_of(alloc: Global, given: Given) -> Result<Value, Fail> {
     Ok(match given {
         Given::Nil => Value::Nil,
         Given::Number(number) => Value::scalar(number),
         Given::Flag(flag) => Value::scalar(flag),
         Given::Text(text) => Value::scalar(String::from_str(alloc, text)?),
         Given::State(state) => Value::State(state),
+        Given::Day => Value::scalar(Date::from_ymd(2016, 2, 16)?),
+        Given::Moment => moment()?,
         Given::Items => Value::Array(items(alloc)?),
         Given::Pairs => Value::Object(pairs(alloc)?),
     })
 }
 
-fn runtime_of(
-    alloc: Global,
-    globals: &[(&'static str, Given)],
-) -> Result<BuiltRuntime, AllocError> {
+fn runtime_of(alloc: Global, globals: &[(&'static str, Given)]) -> Result<BuiltRuntime, Fail> {
     let mut object = Object::new(alloc);
     for (name, given) in globals {
         object.insert(String::from_str(alloc, name)?, value_of(alloc, *given)?)?;
@@ -70,7 +78,7 @@ struct Row {
 
 const UNKNOWN_X: &str = "liquid: Unknown variable\n  with:\n    requested variable=x\n";
 
-const ROWS: [Row; 18] = [
+const ROWS: [Row; 19] = [
     Row {
         template: "Hello {{ name }}!",
         globals: &[("name", Given::Text("World"))],
@@ -171,6 +179,12 @@ const ROWS: [Row; 18] = [
         template: "{{ items }} {{ pairs }}",
         globals: &[("items", Given::Items), ("pairs", Given::Pairs)],
         written: "1a axb2",
+        error: "",
+    },
+    Row {
+        template: "{{ day }}, {{ moment }}",
+        globals: &[("day", Given::Day), ("moment", Given::Moment)],
+        written: "2016-02-16, 2016-02-16 10:00:00 +0100",
         error: "",
     },
     Row {

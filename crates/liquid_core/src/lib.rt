@@ -15,6 +15,7 @@ pub mod error {
 
 /// Values.
 pub mod model {
+    pub use liquid_dates::{Date, DateError, DateFormatError, DateTime};
     pub use liquid_scalar::{Scalar, ScalarCow, ScalarOf};
     pub use liquid_value::{Array, Object, State, Value, ValueCow, ValueViewCmp};
     pub use liquid_views::{

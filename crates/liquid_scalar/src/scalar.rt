@@ -37,7 +37,7 @@ pub type Scalar = ScalarOf<String>;
 pub type ScalarCow<'s> = ScalarOf<CowStr<'s>>;
 
 impl<T> ScalarOf<T> {
-    /// The scalar that a number, a truth value or a text is.
+    /// The scalar that a number, a truth value, a text, a date or a date time is.
     pub fn new<V: Into<ScalarOf<T>>>(value: V) -> ScalarOf<T>
         ensures { V.converts value result }
     {

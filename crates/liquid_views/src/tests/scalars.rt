@@ -1,5 +1,6 @@
 use super::{Fail, shows};
 use crate::{ObjectIndex, ValueView, scalar_of};
+use liquid_dates::{Date, DateTime};
 use liquid_scalar::{Scalar, ScalarCow};
 use liquid_value::{State, Value, ValueCow};
 use std::borrow::CowStr;
@@ -67,5 +68,16 @@ fn states_and_what_may_be_absent(rt: HostRuntime) -> Result<(), Fail> {
     assert!(rt; shows(alloc, &value, "", "nil", "nil")?);
     assert!(rt; shows(alloc, &ValueCow::Borrowed(&value), "", "nil", "nil")?);
     assert!(rt; shows(alloc, &&5i64, "5", "5", "whole number")?);
+    Ok(())
+}
+
+#[test]
+fn dates_and_date_times(rt: HostRuntime) -> Result<(), Fail> {
+    let alloc = rt.alloc();
+    let day = Date::from_ymd(2016, 2, 16)?;
+    assert!(rt; shows(alloc, &day, "2016-02-16", "2016-02-16", "date")?);
+    let moment = DateTime::from_parts(day, 10, 0, 0, 0, 3600)?;
+    let text = "2016-02-16 10:00:00 +0100";
+    assert!(rt; shows(alloc, &moment, text, text, "date time")?);
     Ok(())
 }
