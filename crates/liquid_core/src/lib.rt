@@ -22,6 +22,13 @@ pub mod model {
         ArrayView, ObjectIndex, ObjectRender, ObjectSource, ObjectView, ValueView, ViewKind,
         array_of, object_of, scalar_of,
     };
+
+    /// Entries and walks of an object.
+    pub mod map {
+        pub use liquid_value::map::{
+            Entry, IntoIter, Iter, Keys, OccupiedEntry, VacantEntry, Values,
+        };
+    }
 }
 
 /// From text to nodes.
