@@ -1,8 +1,12 @@
 //! The machine's own files.
+ghost use Rattle.std.specs.Prelude.{◌≡◌, ◌↔◌};
+ghost use Rattle.std.specs.IoError.{error_kind};
+
 use crate::folder::{Folder, Unread};
 use std::alloc::Global;
+use std::fs;
+use std::io::{self, ErrorKind};
 use std::rt::Files;
-use std::{fs, io};
 
 /// The files of the machine that the runtime stands for.
 #[derive(Drop)]
@@ -10,9 +14,12 @@ pub struct Machine<'a, R> {
     pub rt: &'a R,
 }
 
-fn unread(error: io::Error) -> Unread {
+// Want of memory is told apart from every other fault.
+fn unread(error: io::Error) -> Unread
+    ensures { (result ≡ Unread.Memory) ↔ (error_kind error ≡ ErrorKind.OutOfMemory) }
+{
     match error.kind() {
-        io::ErrorKind::OutOfMemory => Unread::Memory,
+        ErrorKind::OutOfMemory => Unread::Memory,
         _ => Unread::Fault,
     }
 }

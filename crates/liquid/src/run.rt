@@ -23,7 +23,8 @@ use std::io::Write;
 /// It answers the exit status: 0 where the template was rendered; 1 where parsing or rendering was
 /// refused, with the error's text on `err`; 2 where the words are no command, with the usage on
 /// `err`; 3 where the template can't be read as UTF-8 text, with its path on `err`. What was written
-/// before a refusal stays written. A fault of `err` changes no status.
+/// before a refusal stays written. A fault of `err` changes no status, and with status 0 nothing is
+/// written to `err`.
 pub fn run<F: Folder, W: Write, E: Write>(
     alloc: Global,
     words: &[String],
