@@ -1,4 +1,4 @@
-use Rattle.std.proofs.Common.{Bor, Option, None, Some, ◌≡◌, refl, ap, ◌∙◌}
+use Rattle.std.proofs.Common.{ap, ◌∙◌}
 use Rattle.std.specs.Prelude.{option_map}
 use Rattle.liquid_views.proofs.EntryLookups.{value_of_entries, copied_tree}
 use Rattle.liquid_views.proofs.hash_map.value_at.Goals as goal
