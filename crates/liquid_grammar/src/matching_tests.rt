@@ -1,8 +1,8 @@
 //! Texts with what the written rules match at their beginning: what is left, and the first fault.
 use crate::{
-    Element, FaultKind, Literal, TokenKind, integer_of, match_argument, match_chain,
+    Element, FaultKind, Literal, TokenKind, chain_kind, integer_of, match_argument, match_chain,
     match_expression, match_filter, match_identifier, match_index, match_literal, match_tag,
-    match_token, match_value, match_variable, next_element, token_kind,
+    match_token, match_value, match_variable, match_white, next_element, token_kind,
 };
 use std::alloc::{AllocError, Global};
 use std::process::Abort;
@@ -145,6 +145,67 @@ fn tokens(rt: HostRuntime) {
     leaves(&rt, match_token("a | f == b"), Some(" == b"));
 }
 
+/// Asserts what a token leaves of two symbols side by side.
+fn behind_symbol(
+    rt: &impl Abort,
+    alloc: Global,
+    first: &str,
+    second: &str,
+    rest: &str,
+) -> Result<(), AllocError> {
+    let mut text = String::from_str(alloc, first)?;
+    text.push_str(second)?;
+    leaves(rt, match_token(text.as_str()), Some(rest));
+    Ok(())
+}
+
+const SYMBOLS: [&str; 10] = ["<=", ">=", "==", "!=", "<>", "<", ">", "=", ",", ":"];
+
+// What `<`, `>` and `=` leave of each symbol behind them: the longest symbol is taken.
+const SHORT_FIRST: [(&str, [&str; 10]); 3] = [
+    ("<", ["<=", "=", "=", "!=", "<>", "<", "", "", ",", ":"]),
+    (">", ["<=", ">=", "=", "!=", "<>", "<", ">", "", ",", ":"]),
+    ("=", ["<=", ">=", "=", "!=", "<>", "<", ">", "", ",", ":"]),
+];
+
+#[test]
+fn symbols_side_by_side(rt: HostRuntime) -> Result<(), AllocError> {
+    for (first, rests) in SHORT_FIRST {
+        for (second, rest) in SYMBOLS.iter().zip(rests.iter()) {
+            behind_symbol(&rt, rt.alloc(), first, *second, *rest)?;
+        }
+    }
+    for first in ["<=", ">=", "==", "!=", "<>", ",", ":"] {
+        for second in SYMBOLS {
+            behind_symbol(&rt, rt.alloc(), first, second, second)?;
+        }
+    }
+    Ok(())
+}
+
+#[test]
+fn one_short_of_a_form(rt: HostRuntime) {
+    leaves(&rt, match_expression("{{ a }"), None);
+    leaves(&rt, match_expression("{ a }}"), None);
+    leaves(&rt, match_expression("{{ a |}}"), None);
+    leaves(&rt, match_expression("{{ a-}"), None);
+    leaves(&rt, match_tag("{% a %"), None);
+    leaves(&rt, match_tag("{% %}"), None);
+    leaves(&rt, match_tag("{% a (1..) %}"), None);
+    leaves(&rt, match_token("(1..2"), None);
+    leaves(&rt, match_token("(..2)"), None);
+    leaves(&rt, match_token("1..2)"), Some("..2)"));
+    leaves(&rt, match_value("a."), Some("."));
+    leaves(&rt, match_value("a[]"), Some("[]"));
+    leaves(&rt, match_value("a[b]]"), Some("]"));
+    leaves(&rt, match_value("é"), None);
+    leaves(&rt, match_chain("a |"), Some(" |"));
+    leaves(&rt, match_filter("f: 'a"), Some(": 'a"));
+    leaves(&rt, match_argument(": 1"), None);
+    leaves(&rt, match_token("'é' 漢"), Some(" 漢"));
+    leaves(&rt, match_token("é"), None);
+}
+
 #[test]
 fn tags_and_expressions(rt: HostRuntime) {
     leaves(&rt, match_tag("{% if a<=b %}c"), Some("c"));
@@ -211,6 +272,18 @@ fn hostile_sizes(rt: HostRuntime) -> Result<(), AllocError> {
     }
     assert!(rt; next_element(rest) == Some((Element::Raw("{"), "")));
     Ok(())
+}
+
+#[test]
+fn kinds_of_chains(rt: HostRuntime) {
+    assert!(rt; chain_kind("a }}") == Some(TokenKind::Identifier("a")));
+    assert!(rt; chain_kind("a.b | c }}") == Some(TokenKind::Filtered));
+    assert!(rt; chain_kind("1 }}") == Some(TokenKind::Literal(Literal::Integer("1"))));
+    assert!(rt; chain_kind("(1..a)").is_none());
+    assert!(rt; TokenKind::Identifier("a").identifier() == Some("a"));
+    assert!(rt; TokenKind::Variable.identifier().is_none());
+    assert!(rt; match_white(" \t\r\n é") == (" \t\r\n ", "é"));
+    assert!(rt; match_white("a ") == ("", "a "));
 }
 
 #[test]
