@@ -1,7 +1,7 @@
 -- What the program does, by its words, the file that they name and the sink that it writes to.
 use Rattle.std.specs.Prelude.{◌≡◌, ℕ, ◌⊎◌, List, [], ◌∷◌, Option, None, Some, Result, Ok, Err, IsUtf8, ⊤}
 use Rattle.std.specs.Io.KnownBytes.{Appends}
-use Rattle.liquid_scalar.specs.declared.error.Error.{Error}
+use Rattle.liquid_error.specs.declared.error.Error.{Error}
 use Rattle.liquid_runtime.specs.Maps.{Names}
 use Rattle.liquid_runtime.specs.Frames.{built_view}
 use Rattle.liquid_parser.specs.Reading.{Answer, Reads}

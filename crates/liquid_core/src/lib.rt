@@ -7,7 +7,7 @@
 
 /// Errors.
 pub mod error {
-    pub use liquid_scalar::{
+    pub use liquid_error::{
         Cause, CauseOf, CloneableError, Error, FnKey, Key, MadeText, Place, Result,
         ResultLiquidChainExt, ResultLiquidExt, ResultLiquidReplaceExt,
     };
@@ -44,9 +44,9 @@ pub mod runtime {
     pub use liquid_template::Template;
 }
 
+pub use liquid_error::{Error, Result};
 pub use liquid_parser::{Language, Node};
 pub use liquid_runtime::{Runtime, RuntimeBuilder};
-pub use liquid_scalar::{Error, Result};
 pub use liquid_template::{
     History, Sink, SinkFault, Template, TextSink, WriterSink, render_source,
 };

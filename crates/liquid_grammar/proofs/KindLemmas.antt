@@ -2,11 +2,12 @@
 use Rattle.std.proofs.Common.{◌≡◌, ℕ, List, [], ◌∷◌, Option, Some, None, option_map, option_and_then, MatchOption, refl, sym, ap, ◌∙◌}
 use Rattle.std.proofs.lemmas.Option.{same_Some, none-some}
 use Rattle.std.specs.Option.{option_or}
+use Rattle.std.specs.Borrow.{Bor}
 use Rattle.liquid_grammar.specs.Rules.{Placed, Begins}
 use Rattle.liquid_grammar.specs.Literals.{Literal}
 use Rattle.liquid_grammar.specs.Values.{Value, Index, placed_literal, placed_variable}
 use Rattle.liquid_grammar.specs.Tokens.{Filter, Chain, Token, range, chain, symbol, ChainRule, TokenRule}
-use Rattle.liquid_grammar.specs.Faults.{Fault, value_fault, filter_fault, index_fault, range_fault}
+use Rattle.liquid_grammar.specs.Faults.{Fault, filter_fault, index_fault, range_fault}
 use Rattle.liquid_grammar.specs.Kinds.{Kind, literal_kind, variable_kind, identifier_kind, filtered_kind, value_kind, chain_kind}
 use Rattle.liquid_grammar.specs.declared.kind.TokenKind.{TokenKind}
 use Rattle.liquid_grammar.specs.declared.kind.TokenKind.TheVariants.{Range, Symbol}
@@ -18,22 +19,29 @@ use Rattle.liquid_grammar.specs.BracketSteps.{index, indexes}
 use Rattle.liquid_grammar.proofs.ExactRepeated.{repeated_more, repeated_end, repeated_total}
 use Rattle.liquid_grammar.proofs.TokenExact.{exact-value, exact-index, shrinks-index, exact-behind, shrinks-behind, exact-filter, exact-chain, exact-token}
 use Rattle.liquid_grammar.proofs.ValueLaw.{value_reads}
-use Rattle.liquid_grammar.proofs.ValueScan.{scan_some, scan_none}
+use Rattle.liquid_grammar.proofs.ValueScan.{scan_some, scan_none, list_fault}
 use Rattle.liquid_grammar.proofs.FlatBrackets.{left_some, left_none}
 use Rattle.liquid_grammar.proofs.Scanning.{both_some, both_none}
 use Rattle.liquid_grammar.proofs.Exact.{none_begins}
 
-abbrev kind_in : Option (Value × List ℕ) → Option Kind
-kind_in o = option_map (λ a. value_kind a.0) o
+-- the kind of a value, and what follows it
+abbrev KindFound : Type 0
+KindFound = Kind × List ℕ
+
+abbrev pub seen_kind : TokenKind × Bor (List ℕ) → KindFound
+seen_kind p = (token_kind_of p.0, p.1.now)
+
+abbrev kind_in : Option (Value × List ℕ) → Option KindFound
+kind_in o = option_map (λ a. (value_kind a.0, a.1)) o
 
 -- a literal
-pub literal_is : (s rest : List ℕ) (l : Literal) → Some (l, rest) ≡ literal s → Some (literal_kind l) ≡ kind_in (value s)
+pub literal_is : (s rest : List ℕ) (l : Literal) → Some (l, rest) ≡ literal s → ◌≡◌ {A = Option KindFound} (Some (literal_kind l, rest)) (kind_in (value s))
 literal_is s rest l e =
     let make : Placed Literal × List ℕ → Value × List ℕ = λ a. (placed_literal a.0, a.1) in
     ap (λ o. kind_in (option_or (option_map make (option_map (placed s) o)) (variable_over value s))) e ∙ sym (ap kind_in (value_reads s))
 
-abbrev variable_in : List ℕ → Option (List Index × List ℕ) → Option Kind
-variable_in n o = option_map (λ b. value_kind (placed_variable (record { place = n; behind = n; what = (n, b.0) }))) o
+abbrev variable_in : List ℕ → Option (List Index × List ℕ) → Option KindFound
+variable_in n o = option_map (λ b. (value_kind (placed_variable (record { place = n; behind = n; what = (n, b.0) })), b.1)) o
 
 variable_shape : (s n : List ℕ) (o : Option (List Index × List ℕ))
     → let pair : List Index × List ℕ → (List ℕ × List Index) × List ℕ = λ b. ((n, b.0), b.1) in
@@ -52,20 +60,23 @@ variable_kind_in s rest n none e =
     ∙ ap (λ o. kind_in (option_or (option_map make (option_map (placed s) o)) (variable_over value s))) none ∙ sym (ap kind_in (value_reads s))
 
 -- a name without an index, and one with an index
-pub identifier_is : (s rest n : List ℕ) → None ≡ literal s → Some (n, rest) ≡ name s → None ≡ scan (index_fault 0) (index rest) → Some (identifier_kind n) ≡ kind_in (value s)
+pub identifier_is : (s rest n : List ℕ) → None ≡ literal s → Some (n, rest) ≡ name s → None ≡ scan (index_fault 0) (index rest) → ◌≡◌ {A = Option KindFound} (Some (identifier_kind n, rest)) (kind_in (value s))
 identifier_is s rest n none e h = sym (ap (variable_in n) (repeated_end index rest (scan_none (index_fault 0) (index rest) h))) ∙ variable_kind_in s rest n none e
 
 more_in : (n : List ℕ) (i : Index) (o : Option (List Index × List ℕ)) (x : List Index × List ℕ) → o ≡ Some x
     → let cons : List Index × List ℕ → List Index × List ℕ = λ b. (i ∷ b.0, b.1) in
-    variable_in n (option_map cons o) ≡ Some variable_kind
-more_in n i (Some b) x e = refl
+    ◌≡◌ {A = Option KindFound} (variable_in n (option_map cons o)) (Some (variable_kind, x.1))
+more_in n i (Some b) x e = let w : List Index × List ℕ → Option KindFound = λ b. Some (variable_kind, b.1) in ap w (same_Some _ _ e)
 more_in n i None x e = absurd (none-some x e)
 
-pub variable_is : (s rest after n : List ℕ) (g : Option Fault) → None ≡ literal s → Some (n, rest) ≡ name s → Some (g, after) ≡ scan (index_fault 0) (index rest) → Some variable_kind ≡ kind_in (value s)
-variable_is s rest after n g none e h =
-    let x = scan_some (index_fault 0) (index rest) g after h in
-    let t = repeated_total index x.0.1 in
-    sym (ap (variable_in n) (repeated_more (exact-index exact-value) (shrinks-index exact-value) rest x.0 x.1) ∙ more_in n x.0.0 (indexes x.0.1) t.0 t.1)
+pub variable_is : (s rest after end n : List ℕ) (g h : Option Fault) → None ≡ literal s → Some (n, rest) ≡ name s → Some (g, after) ≡ scan (index_fault 0) (index rest) → Some (h, end) ≡ scan list_fault (indexes after)
+    → ◌≡◌ {A = Option KindFound} (Some (variable_kind, end)) (kind_in (value s))
+variable_is s rest after end n g h none e f found =
+    let x = scan_some (index_fault 0) (index rest) g after f in
+    let y = scan_some list_fault (indexes after) h end found in
+    let w : List ℕ → Option KindFound = λ t. Some (variable_kind, t) in
+    ap w (sym y.3)
+    ∙ sym (ap (variable_in n) (repeated_more (exact-index exact-value) (shrinks-index exact-value) rest x.0 x.1) ∙ more_in n x.0.0 (indexes x.0.1) y.0 (ap indexes x.3 ∙ y.1))
     ∙ variable_kind_in s rest n none e
 
 pub no_value : (s : List ℕ) → None ≡ literal s → None ≡ name s → None ≡ kind_in (value s)
@@ -86,25 +97,33 @@ chain_shape : (s : List ℕ) (x : Value × List ℕ) (y : List Filter × List �
 unfolding chain_of
 chain_shape s x y e h = ap (λ o. chain_kind_in (option_map (placed s) o)) (both_some value (repeated next_filter) s x y e h)
 
+kind_found : (o : Option (Value × List ℕ)) (k : Kind) (rest : List ℕ) → ◌≡◌ {A = Option KindFound} (Some (k, rest)) (kind_in o) → (x : Value × List ℕ) × (o ≡ Some x) × (value_kind x.0 ≡ k) × (x.1 ≡ rest)
+kind_found (Some x) k rest e = let q = same_Some _ _ e in (x, refl, sym (ap (λ (p : KindFound). p.0) q), sym (ap (λ (p : KindFound). p.1) q))
+kind_found None k rest e = absurd (none-some _ (sym e))
+
+no_kind_found : (o : Option (Value × List ℕ)) → None ≡ kind_in o → o ≡ None
+no_kind_found (Some x) e = absurd (none-some _ e)
+no_kind_found None e = refl
+
 -- a value with filters, and one without
-pub filtered_is : (s rest after : List ℕ) (g h : Option Fault) → Some (g, rest) ≡ scan value_fault (value s) → Some (h, after) ≡ scan filter_fault (next_filter rest) → Some filtered_kind ≡ chain_kind_in (chain_of s)
-filtered_is s rest after g h e f =
-    let x = scan_some value_fault (value s) g rest e in
+pub filtered_is : (s rest after : List ℕ) (k : Kind) (h : Option Fault) → ◌≡◌ {A = Option KindFound} (Some (k, rest)) (kind_in (value s)) → Some (h, after) ≡ scan filter_fault (next_filter rest) → Some filtered_kind ≡ chain_kind_in (chain_of s)
+filtered_is s rest after k h e f =
+    let x = kind_found (value s) k rest e in
     let y = scan_some filter_fault (next_filter rest) h after f in
     let t = repeated_total next_filter y.0.1 in
     let cons : List Filter × List ℕ → List Filter × List ℕ = λ b. (y.0.0 ∷ b.0, b.1) in
     let all = repeated_more (exact-behind 124 exact-filter) (shrinks-behind 124 exact-filter) rest y.0 y.1 ∙ ap (option_map cons) t.1 in
     sym (chain_shape s x.0 (y.0.0 ∷ t.0.0, t.0.1) x.1 (ap (repeated next_filter) x.3 ∙ all))
 
-pub unfiltered_is : (s rest : List ℕ) (g : Option Fault) (k : Option Kind) → Some (g, rest) ≡ scan value_fault (value s) → None ≡ scan filter_fault (next_filter rest) → k ≡ kind_in (value s) → k ≡ chain_kind_in (chain_of s)
-unfiltered_is s rest g k e f h =
-    let x = scan_some value_fault (value s) g rest e in
+pub unfiltered_is : (s rest : List ℕ) (k : Kind) → ◌≡◌ {A = Option KindFound} (Some (k, rest)) (kind_in (value s)) → None ≡ scan filter_fault (next_filter rest) → Some k ≡ chain_kind_in (chain_of s)
+unfiltered_is s rest k e f =
+    let x = kind_found (value s) k rest e in
     let end = repeated_end next_filter rest (scan_none filter_fault (next_filter rest) f) in
-    h ∙ ap kind_in x.1 ∙ sym (chain_shape s x.0 ([], rest) x.1 (ap (repeated next_filter) x.3 ∙ end))
+    ap (λ (k : Kind). Some k) (sym x.2) ∙ sym (chain_shape s x.0 ([], rest) x.1 (ap (repeated next_filter) x.3 ∙ end))
 
-pub no_chain : (s : List ℕ) → None ≡ scan value_fault (value s) → None ≡ chain_kind_in (chain_of s)
+pub no_chain : (s : List ℕ) → None ≡ kind_in (value s) → None ≡ chain_kind_in (chain_of s)
 unfolding chain_of
-no_chain s e = sym (ap (λ o. chain_kind_in (option_map (placed s) o)) (both_none value (repeated next_filter) s (scan_none value_fault (value s) e)))
+no_chain s e = sym (ap (λ o. chain_kind_in (option_map (placed s) o)) (both_none value (repeated next_filter) s (no_kind_found (value s) e)))
 
 -- the kind of the token that stands there
 abbrev as_range : Placed (Value × Value) × List ℕ → Token × List ℕ

@@ -14,3 +14,4 @@ pub mod SpanLemmas
 pub mod SpansOfRules
 pub mod MatchLemmas
 pub mod KindLemmas
+pub mod HeadLemmas

@@ -67,3 +67,9 @@ variable_scan s rest n r e f =
     let make : Placed (List ℕ × List Index) × List ℕ → Value × List ℕ = λ a. (placed_variable a.0, a.1) in
     let and_indexes : List ℕ × List ℕ → Option ((List ℕ × List Index) × List ℕ) = λ a. option_map (λ b. ((a.0, b.0), b.1)) (indexes a.1) in
     f ∙ sym (variable_shape s n (indexes rest)) ∙ ap (λ o. scan value_fault (option_map make (option_map (placed s) (option_and_then and_indexes o)))) e
+
+pub no_variable : (s : List ℕ) → None ≡ name s → None ≡ scan value_fault (variable_over value s)
+no_variable s e =
+    let make : Placed (List ℕ × List Index) × List ℕ → Value × List ℕ = λ a. (placed_variable a.0, a.1) in
+    let and_indexes : List ℕ × List ℕ → Option ((List ℕ × List Index) × List ℕ) = λ a. option_map (λ b. ((a.0, b.0), b.1)) (indexes a.1) in
+    ap (λ o. scan value_fault (option_map make (option_map (placed s) (option_and_then and_indexes o)))) e

@@ -1,5 +1,6 @@
 -- What the kinds of the program mean.
 use Rattle.std.specs.Prelude.{◌≡◌, ℕ, List, Option, option_map}
+use Rattle.std.specs.Borrow.{Bor}
 use Rattle.liquid_grammar.specs.declared.kind.TokenKind.{TokenKind}
 use Rattle.liquid_grammar.specs.declared.kind.TokenKind.TheVariants.{Range, Symbol, Filtered, Literal, Variable, Identifier}
 use Rattle.liquid_grammar.specs.Values as shape
@@ -34,6 +35,6 @@ pub record HasChainKind (s : List ℕ) (kind : TokenKind) : Type 0 where
 abbrev pub FindsKind : Option TokenKind → Option (Chain × List ℕ) → Type 0
 FindsKind result found = option_map token_kind_of result ≡ option_map (λ a. chain_kind a.0.what.0 a.0.what.1) found
 
--- the result is the kind of the value that the reader found
-abbrev pub FindsValueKind : Option TokenKind → Option (shape.Value × List ℕ) → Type 0
-FindsValueKind result found = option_map token_kind_of result ≡ option_map (λ a. value_kind a.0) found
+-- the result is the kind of the value that the reader found, and what the reader left
+abbrev pub FindsValueKind : Option (TokenKind × Bor (List ℕ)) → Option (shape.Value × List ℕ) → Type 0
+FindsValueKind result found = option_map {U = Kind × List ℕ} (λ p. (token_kind_of p.0, p.1.now)) result ≡ option_map (λ a. (value_kind a.0, a.1)) found

@@ -11,6 +11,7 @@ pub mod Tokens
 pub mod TokenSteps
 pub mod Faults
 pub mod Meanings
+pub mod Heads
 pub mod BracketSteps
 pub mod Matches
 pub mod Kinds

@@ -60,8 +60,11 @@ fractional = text (both whole (both (byte 46) digits))
 unfoldable pub number : Reader Literal
 number = left (either (seen decimal fractional) (seen integer whole)) (not_ahead (one starts_name))
 
+abbrev pub text_or_number : Reader Literal
+text_or_number = either (seen text_literal text_of_quotes) number
+
 unfoldable pub literal : Reader Literal
-literal = either word (either (seen text_literal text_of_quotes) number)
+literal = either word text_or_number
 
 -- the readers of a value, over that of the values in its brackets
 unfoldable pub open_bracket : Reader (List ℕ)

@@ -7,8 +7,7 @@ ghost use Rattle.liquid_grammar.specs.BracketSteps.{going, rank, bracket_index};
 ghost use Rattle.liquid_grammar.specs.TokenSteps as read;
 
 use crate::fault::{Fault, FaultKind, literal_fault};
-use crate::literal::read_literal;
-use crate::name::name;
+use crate::head::{Head, read_head};
 use crate::text::{eat, skip_white};
 use crate::value::named;
 
@@ -105,15 +104,15 @@ fn at_value<'a>(state: Open<'a>) -> Option<Open<'a>>
     ensures within { IfSome result (λ next. length next.rest.now ≤ length state.entry.rest.now) }
     ensures whole { IfSome result (λ next. next.depth ≡ 0 → next.awaits ≡ Await.Index) }
 {
-    match read_literal(state.rest) {
-        Some((literal, after)) => Some(Open {
+    match read_head(state.rest)? {
+        (Head::Literal(literal), after) => Some(Open {
             rest: after,
             fault: state.fault.or(literal_fault(state.rest, literal)),
             awaits: Await::Close,
             ..state
         }),
-        None => Some(Open {
-            rest: name(state.rest)?.1,
+        (Head::Name(_), after) => Some(Open {
+            rest: after,
             awaits: Await::Index,
             ..state
         }),

@@ -7,10 +7,10 @@ ghost use Rattle.liquid_grammar.specs.KindMeanings.{token_kind_of, HasKind, HasC
 ghost use Rattle.liquid_grammar.specs.TokenSteps as read;
 
 use crate::filter::next_filter;
-use crate::literal::{Literal, read_literal};
-use crate::name::name;
+use crate::head::{Head, read_head};
+use crate::literal::Literal;
 use crate::token::{range, symbol};
-use crate::value::{index, value};
+use crate::value::{index, indexes};
 
 /// What a token is. A chain without filters is its value, and a variable without indexes an identifier.
 #[derive(Clone, Copy, Debug, PartialEq, Eq)]
@@ -67,24 +67,22 @@ pub fn chain_kind(s: &str) -> Option<TokenKind<'_>>
 fn kind_of_chain(s: &str) -> Option<TokenKind<'_>>
     ensures { FindsKind result (read.chain_of s.now) }
 {
-    let (_, rest) = value(s)?;
+    let (kind, rest) = value_kind(s)?;
     match next_filter(rest) {
         Some(_) => Some(TokenKind::Filtered),
-        None => value_kind(s),
+        None => Some(kind),
     }
 }
 
-fn value_kind(s: &str) -> Option<TokenKind<'_>>
+/// The kind of the value that the text begins with, and what follows the value.
+fn value_kind(s: &str) -> Option<(TokenKind<'_>, &str)>
     ensures { FindsValueKind result (read.value s.now) }
 {
-    match read_literal(s) {
-        Some((literal, _)) => Some(TokenKind::Literal(literal)),
-        None => {
-            let (name, rest) = name(s)?;
-            match index(rest) {
-                Some(_) => Some(TokenKind::Variable),
-                None => Some(TokenKind::Identifier(name)),
-            }
-        }
+    match read_head(s)? {
+        (Head::Literal(literal), rest) => Some((TokenKind::Literal(literal), rest)),
+        (Head::Name(name), rest) => match index(rest) {
+            Some((_, behind)) => Some((TokenKind::Variable, indexes(behind).1)),
+            None => Some((TokenKind::Identifier(name), rest)),
+        },
     }
 }

@@ -6,6 +6,7 @@ mod bytes;
 mod element;
 mod fault;
 mod filter;
+mod head;
 mod kind;
 mod laws;
 mod literal;

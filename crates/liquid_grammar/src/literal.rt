@@ -8,7 +8,6 @@ ghost use Rattle.liquid_grammar.specs.Steps.{Finds, Leaves};
 ghost use Rattle.liquid_grammar.specs.TokenSteps as read;
 
 use crate::bytes::{byte_at, starts_name};
-use crate::name::{identifier, is_literal_word};
 use crate::text::{before, eat};
 
 /// A literal. A number stands as its text, with its sign.
@@ -23,35 +22,19 @@ pub enum Literal<'a> {
     Decimal(&'a str),
 }
 
-/// The literal that the text begins with, and what follows it.
-#[tactic(auto, unfolding(crate::specs::TokenSteps::literal))]
-pub(crate) fn read_literal(s: &str) -> Option<(Literal, &str)>
-    ensures value { FindsLiteral result (read.literal s.now) }
+/// The text or the number that the text begins with, and what follows it.
+pub(crate) fn text_or_number(s: &str) -> Option<(Literal, &str)>
+    ensures value { FindsLiteral result (read.text_or_number s.now) }
     ensures shorter { IfSome result (λ x. length x.1.now < length s.now) }
 {
-    match word(s) {
-        Some(found) => Some(found),
-        None => match text_literal(s) {
-            Some((text, rest)) => Some((Literal::Text(text), rest)),
-            None => number(s),
-        },
+    match text_literal(s) {
+        Some((text, rest)) => Some((Literal::Text(text), rest)),
+        None => number(s),
     }
 }
 
-#[tactic(auto, unfolding(crate::specs::TokenSteps::word))]
-fn word(s: &str) -> Option<(Literal, &str)>
-    ensures value { FindsLiteral result (read.word s.now) }
-    ensures shorter { IfSome result (λ x. length x.1.now < length s.now) }
-{
-    let (word, rest) = identifier(s)?;
-    if is_literal_word(word) {
-        Some((word_literal(word), rest))
-    } else {
-        None
-    }
-}
-
-fn word_literal(word: &str) -> Literal<'_>
+/// What a literal word stands for.
+pub(crate) fn word_literal(word: &str) -> Literal<'_>
     ensures { literal_of result ≡ spec.word_literal word.now }
 {
     if word == "nil" || word == "null" {

@@ -10,7 +10,8 @@ ghost use Rattle.liquid_grammar.specs.Meanings.{literal_of};
 
 use crate::fault::Fault;
 use crate::filter::{argument, chain, filter};
-use crate::literal::{Literal, read_literal};
+use crate::head::read_literal;
+use crate::literal::Literal;
 use crate::name::identifier;
 use crate::text::split_white;
 use crate::token::{expression, tag, token};

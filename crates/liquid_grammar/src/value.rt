@@ -8,7 +8,7 @@ ghost use Rattle.liquid_grammar.specs.TokenSteps as read;
 
 use crate::bracket::bracketed;
 use crate::fault::{Fault, literal_fault};
-use crate::literal::read_literal;
+use crate::head::{Head, read_head};
 use crate::name::{identifier, name};
 use crate::text::eat;
 
@@ -17,9 +17,9 @@ pub(crate) fn value<'a>(s: &'a str) -> Option<(Option<Fault<'a>>, &'a str)>
     ensures value { Scans value_fault result (read.value s.now) }
     ensures shorter { IfSome result (λ x. length x.1.now < length s.now) }
 {
-    match read_literal(s) {
-        Some((literal, rest)) => Some((literal_fault(s, literal), rest)),
-        None => variable(s),
+    match read_head(s)? {
+        (Head::Literal(literal), rest) => Some((literal_fault(s, literal), rest)),
+        (Head::Name(_), rest) => Some(indexes(rest)),
     }
 }
 
@@ -31,7 +31,7 @@ pub(crate) fn variable<'a>(s: &'a str) -> Option<(Option<Fault<'a>>, &'a str)>
 }
 
 /// The first fault of all indexes that stand here, and what follows them.
-fn indexes<'a>(s: &'a str) -> (Option<Fault<'a>>, &'a str)
+pub(crate) fn indexes<'a>(s: &'a str) -> (Option<Fault<'a>>, &'a str)
     ensures value { Scans (λ x. indexes_fault 0 (gather x)) (Some result) (read.repeated (read.index_over read.value) s.now) }
     ensures shorter { length result.1.now ≤ length s.now }
 {

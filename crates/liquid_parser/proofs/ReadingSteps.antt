@@ -2,9 +2,9 @@
 use Rattle.std.proofs.Common.{◌≡◌, ℕ, List, [], ◌∷◌, ◌++◌, Option, None, Some, Result, Ok, Err, IfSome, append_assoc, refl, sym, ap, ◌∙◌, subst}
 use Rattle.std.specs.Global.{Vec}
 use Rattle.std.proofs.lemmas.List.{append-nil}
-use Rattle.liquid_scalar.specs.declared.error.Error.{Error}
-use Rattle.liquid_scalar.specs.Refusal.{Refusal}
-use Rattle.liquid_scalar.specs.Told.{told, Gives}
+use Rattle.liquid_error.specs.declared.error.Error.{Error}
+use Rattle.liquid_error.specs.Refusal.{Refusal}
+use Rattle.liquid_error.specs.Told.{told, Gives}
 use Rattle.liquid_grammar.specs.Cover.{Element, text_of, joined, IsElement, Cover, done, next}
 use Rattle.liquid_grammar.proofs.CoverLemmas.{cover_of, joined_cover}
 use Rattle.liquid_parser.specs.declared.node.Node.{Node}

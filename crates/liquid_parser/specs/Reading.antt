@@ -2,10 +2,10 @@
 use Rattle.std.specs.Prelude.{◌≡◌, ℕ, List, [], ◌∷◌, ◌++◌, take, Option, Some, None, option_map, Result, Ok, Err, IfSome, codes}
 use Rattle.std.specs.List.{prefix_len}
 use Rattle.std.specs.Global.{Vec}
-use Rattle.liquid_scalar.specs.declared.place.Place.{Place}
-use Rattle.liquid_scalar.specs.declared.error.Error.{Error}
-use Rattle.liquid_scalar.specs.Refusal.{Refusal, located}
-use Rattle.liquid_scalar.specs.Told.{told}
+use Rattle.liquid_error.specs.declared.place.Place.{Place}
+use Rattle.liquid_error.specs.declared.error.Error.{Error}
+use Rattle.liquid_error.specs.Refusal.{Refusal, located}
+use Rattle.liquid_error.specs.Told.{told}
 use Rattle.liquid_grammar.specs.Bytes.{is_white}
 use Rattle.liquid_grammar.specs.Kinds.{chain_kind, identifier_of}
 use Rattle.liquid_grammar.specs.Cover.{Element, raw, tag_element, expression, invalid, text_of, joined, Cover}

@@ -4,14 +4,14 @@ ghost use Rattle.liquid_grammar.specs.Kinds.{chain_kind, identifier_of};
 ghost use Rattle.liquid_grammar.specs.Cover as spec;
 ghost use Rattle.liquid_grammar.specs.Cover.{IsElement};
 ghost use Rattle.liquid_grammar.specs.Elements.{Means};
-ghost use Rattle.liquid_scalar.specs.Told.{told, Gives};
+ghost use Rattle.liquid_error.specs.Told.{told, Gives};
 ghost use Rattle.liquid_parser.specs.Tree.{shape, shapes};
 ghost use Rattle.liquid_parser.specs.Reading.{Answer, Answers, OneReading, Reads, invalid_liquid, node_of};
 
 use crate::language::Language;
 use crate::node::Node;
+use liquid_error::{Error, Place};
 use liquid_grammar::{Element, chain_kind, line_and_column, match_white, next_element};
-use liquid_scalar::{Error, Place};
 use std::alloc::{AllocError, Global};
 
 /// The nodes of a template's text in their order, a text or a name each.

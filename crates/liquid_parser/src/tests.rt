@@ -1,5 +1,5 @@
 use crate::{Language, Node, one_reading, parse};
-use liquid_scalar::Place;
+use liquid_error::Place;
 use std::alloc::{AllocError, Global};
 use std::test::Fail;
 

@@ -2,7 +2,7 @@
 use Rattle.std.specs.Prelude.{ℕ, List, Option, Result, codes, unwrap_or}
 use Rattle.std.specs.Option.{ok_or}
 use Rattle.std.specs.FinMap.{empty, get}
-use Rattle.liquid_scalar.specs.Refusal.{Refusal, plain, with_context}
+use Rattle.liquid_error.specs.Refusal.{Refusal, plain, with_context}
 use Rattle.liquid_value.specs.Tree.{Tree}
 use Rattle.liquid_runtime.specs.Maps.{Names, over}
 

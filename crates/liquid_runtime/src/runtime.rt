@@ -1,10 +1,10 @@
 ghost use Rattle.std.specs.Prelude.{◌≡◌, IfSome, None, OnErr};
 ghost use Rattle.std.specs.Option.{option_map};
-ghost use Rattle.liquid_scalar.specs.Told.{told, Gives};
+ghost use Rattle.liquid_error.specs.Told.{told, Gives};
 ghost use Rattle.liquid_value.specs.View.{view as tree_of};
 ghost use Rattle.liquid_runtime.specs.View.{View, lookup, found, unknown_variable as unknown_variable_refusal};
 
-use liquid_scalar::Error;
+use liquid_error::Error;
 use liquid_value::Value;
 use std::alloc::Global;
 

@@ -1,4 +1,1 @@
-pub mod Newest
 pub mod WholeNumber
-pub mod Causes
-pub mod Makers

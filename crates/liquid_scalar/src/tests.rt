@@ -1,3 +1,1 @@
-mod errors;
-mod helpers;
 mod scalars;

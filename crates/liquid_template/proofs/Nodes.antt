@@ -4,7 +4,7 @@ use Rattle.std.specs.Prelude.{IsUtf8}
 use Rattle.std.proofs.lemmas.List.{append-nil, drop_all}
 use Rattle.std.proofs.lemmas.Str.{IsUtf8-append}
 use Rattle.std.proofs.lemmas.List.Folds.{concat-append}
-use Rattle.liquid_scalar.specs.declared.error.Error.{Error}
+use Rattle.liquid_error.specs.declared.error.Error.{Error}
 use Rattle.liquid_runtime.specs.View.{View}
 use Rattle.liquid_parser.specs.declared.node.Node.{Node}
 use Rattle.liquid_parser.specs.Tree.{shape}

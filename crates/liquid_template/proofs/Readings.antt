@@ -2,9 +2,9 @@
 use Rattle.std.proofs.Common.{◌≡◌, List, [], Option, None, Some, Result, Ok, Err, refl, sym, inl}
 use Rattle.std.specs.Prelude.{MatchOption, IfSome}
 use Rattle.std.proofs.lemmas.List.{append-nil}
-use Rattle.liquid_scalar.specs.declared.error.Error.{Error}
-use Rattle.liquid_scalar.specs.Refusal.{Refusal}
-use Rattle.liquid_scalar.specs.Told.{told}
+use Rattle.liquid_error.specs.declared.error.Error.{Error}
+use Rattle.liquid_error.specs.Refusal.{Refusal}
+use Rattle.liquid_error.specs.Told.{told}
 use Rattle.liquid_runtime.specs.View.{View}
 use Rattle.liquid_parser.specs.Tree.{NodeShape}
 use Rattle.liquid_parser.specs.Reading.{Answer}

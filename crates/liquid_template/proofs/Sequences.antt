@@ -3,9 +3,9 @@ use Rattle.std.proofs.Common.{ℕ, List, ◌++◌, Option, None, Some, Result, O
 use Rattle.std.specs.Prelude.{MatchOption}
 use Rattle.std.specs.List.{concat}
 use Rattle.std.proofs.lemmas.List.Folds.{concat-append}
-use Rattle.liquid_scalar.specs.declared.error.Error.{Error}
-use Rattle.liquid_scalar.specs.Refusal.{Refusal}
-use Rattle.liquid_scalar.specs.Told.{told}
+use Rattle.liquid_error.specs.declared.error.Error.{Error}
+use Rattle.liquid_error.specs.Refusal.{Refusal}
+use Rattle.liquid_error.specs.Told.{told}
 use Rattle.liquid_template.specs.Run.{Run, goes_on, and_then, written}
 use Rattle.liquid_template.specs.Outcome.{Sunk, Whole, BrokenOff, Cut, Stopped, Outcome}
 

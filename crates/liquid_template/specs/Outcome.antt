@@ -1,9 +1,9 @@
 -- What writing a run to a sink comes to, by what the sink took and how often it failed.
 use Rattle.std.specs.Prelude.{◌≡◌, ℕ, ◌+◌, ◌<◌, ◌⊎◌, List, ◌∷◌, ◌++◌, length, None, Some, Result, Ok, Err, MatchOption, codes}
 use Rattle.std.specs.List.{concat}
-use Rattle.liquid_scalar.specs.declared.error.Error.{Error}
-use Rattle.liquid_scalar.specs.Refusal.{Refusal, plain}
-use Rattle.liquid_scalar.specs.Told.{told}
+use Rattle.liquid_error.specs.declared.error.Error.{Error}
+use Rattle.liquid_error.specs.Refusal.{Refusal, plain}
+use Rattle.liquid_error.specs.Told.{told}
 use Rattle.liquid_template.specs.Run.{Run, written}
 
 -- a sink at one moment: every byte that it has taken, and how often it failed

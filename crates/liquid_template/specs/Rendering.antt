@@ -1,8 +1,8 @@
 -- What rendering a text comes to, by what the text is read as.
 use Rattle.std.specs.Prelude.{◌≡◌, Result, Ok, Err, IfSome}
-use Rattle.liquid_scalar.specs.declared.error.Error.{Error}
-use Rattle.liquid_scalar.specs.Refusal.{Refusal}
-use Rattle.liquid_scalar.specs.Told.{told}
+use Rattle.liquid_error.specs.declared.error.Error.{Error}
+use Rattle.liquid_error.specs.Refusal.{Refusal}
+use Rattle.liquid_error.specs.Told.{told}
 use Rattle.liquid_runtime.specs.View.{View}
 use Rattle.liquid_parser.specs.Reading.{Answer}
 use Rattle.liquid_template.specs.Run.{run}

@@ -1,7 +1,7 @@
 -- What rendering nodes comes to: a finished list of steps and an end.
 use Rattle.std.specs.Prelude.{ℕ, List, [], ◌∷◌, ◌++◌, Option, None, Some, Result, Ok, Err}
 use Rattle.std.specs.List.{concat}
-use Rattle.liquid_scalar.specs.Refusal.{Refusal}
+use Rattle.liquid_error.specs.Refusal.{Refusal}
 use Rattle.liquid_value.specs.Tree.{Tree}
 use Rattle.liquid_value.specs.Render.{render}
 use Rattle.liquid_runtime.specs.View.{View, found}

@@ -9,9 +9,9 @@ ghost use Rattle.liquid_template.specs.Run.{node_run, one_piece, run, written};
 
 use crate::piece::write_piece;
 use crate::sink::Sink;
+use liquid_error::Error;
 use liquid_parser::Node;
 use liquid_runtime::Runtime;
-use liquid_scalar::Error;
 use liquid_value::Value;
 use std::alloc::Global;
 

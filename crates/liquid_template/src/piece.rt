@@ -5,7 +5,7 @@ ghost use Rattle.liquid_template.specs.Outcome.{Outcome, sunk};
 ghost use Rattle.liquid_template.specs.Run.{one_piece};
 
 use crate::sink::{Sink, SinkFault};
-use liquid_scalar::Error;
+use liquid_error::Error;
 use std::alloc::Global;
 
 /// Puts a piece until the sink has all of it; an empty piece makes no put. A failure of the sink is

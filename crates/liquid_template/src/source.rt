@@ -7,9 +7,9 @@ ghost use Rattle.liquid_template.specs.Rendering.{Rendered};
 
 use crate::sink::Sink;
 use crate::template::Template;
+use liquid_error::Error;
 use liquid_parser::{Language, parse};
 use liquid_runtime::Runtime;
-use liquid_scalar::Error;
 use std::alloc::Global;
 
 /// Parses a text and writes what it comes to in the runtime's view.

@@ -1,6 +1,6 @@
 //! Templates, and their rendering.
 ghost use Rattle.std.specs.Prelude.{◌≡◌, IsUtf8, OnOk, string_bytes};
-ghost use Rattle.liquid_scalar.specs.Told.{Gives};
+ghost use Rattle.liquid_error.specs.Told.{Gives};
 ghost use Rattle.liquid_parser.specs.Tree.{shapes};
 ghost use Rattle.liquid_template.specs.Grows.{Grows};
 ghost use Rattle.liquid_template.specs.Outcome.{Outcome, sunk};
@@ -10,9 +10,9 @@ ghost use Rattle.liquid_template.specs.Template.{template_shapes};
 use crate::node::render_nodes;
 use crate::sink::Sink;
 use crate::text_sink::TextSink;
+use liquid_error::Error;
 use liquid_parser::Node;
 use liquid_runtime::Runtime;
-use liquid_scalar::Error;
 use std::alloc::Global;
 
 /// A parsed template.

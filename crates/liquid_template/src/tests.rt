@@ -1,8 +1,9 @@
 use crate::history::History;
 use crate::{Sink, SinkFault, Template, TextSink, WriterSink, render_source};
+use liquid_error::Error;
 use liquid_parser::{Language, Node};
 use liquid_runtime::{BuiltRuntime, RuntimeBuilder};
-use liquid_scalar::{Error, ScalarOf};
+use liquid_scalar::ScalarOf;
 use liquid_value::{Object, Value};
 use std::alloc::{AllocError, Global};
 use std::test::Fail;

@@ -1,6 +1,6 @@
 use Rattle.std.proofs.Common.{rules}
-use Rattle.liquid_scalar.specs.declared.error.Error.{the_lemmas, roll-Error}
-use Rattle.liquid_scalar.specs.declared.error.Error.TheOpen.{Error-F}
+use Rattle.liquid_error.specs.declared.error.Error.{the_lemmas, roll-Error}
+use Rattle.liquid_error.specs.declared.error.Error.TheOpen.{Error-F}
 use Rattle.liquid.proofs.TreatmentLemmas.{treats_read, treats_memory}
 use Rattle.liquid.proofs.run.render_file.Goals as goal
 

@@ -1,5 +1,5 @@
 use Rattle.std.proofs.Common.{rules}
-use Rattle.liquid_scalar.specs.declared.error.Error.{the_lemmas}
+use Rattle.liquid_error.specs.declared.error.Error.{the_lemmas}
 use Rattle.liquid.proofs.MemoryLemmas.{nothing_rendered}
 use Rattle.liquid.proofs.run.render_text.Goals as goal
 

@@ -1,17 +1,32 @@
 use Rattle.std.proofs.Common.{option_map, ap, ◌∙◌}
-use Rattle.liquid_grammar.specs.KindMeanings.{token_kind_of}
 use Rattle.liquid_grammar.specs.Meanings.{literal_of}
-use Rattle.liquid_grammar.proofs.KindLemmas.{literal_is, identifier_is, variable_is, no_value}
+use Rattle.liquid_grammar.proofs.HeadLemmas.{literal_found, name_found, no_literal_found}
+use Rattle.liquid_grammar.proofs.KindLemmas.{seen_kind, literal_is, identifier_is, variable_is, no_value}
 use Rattle.liquid_grammar.proofs.kind.value_kind.Goals as goal
 
-pub returns-in_err-name-in-None : goal.returns-in_err-name-in-None
-returns-in_err-name-in-None c = ap (option_map token_kind_of) c.from_residual.ensures ∙ no_value c.args.s.now c.in-None.ensures.value c.in_err-name-in-None.ensures.value
+pub returns-in_err-literal : goal.returns-in_err-literal
+returns-in_err-literal c = ap (option_map seen_kind) c.from_residual.ensures ∙ no_value c.args.s.now c.in_err-literal.ensures.literal c.in_err-literal.ensures.name
+
+pub returns-in-Literal-default : goal.returns-in-Literal-default
+returns-in-Literal-default c =
+    let head = c.in_ok-literal in
+    literal_is c.args.s.now head.field-0.1.now (literal_of c.in-Literal-default.literal) (literal_found c.args.s.now head.field-0 c.in-Literal-default.literal c.in-Literal-default.is-0 head.ensures.literal)
 
 pub returns-in-Some : goal.returns-in-Some
-returns-in-Some c = literal_is _ _ (literal_of c.in-Some.literal) c.in-Some.ensures.value
+returns-in-Some c =
+    let head = c.in_ok-literal in
+    let name = c.in-Name-default in
+    variable_is c.args.s.now head.field-0.1.now _ _ name.name.now _ _
+    (no_literal_found c.args.s.now head.field-0 name.name name.is-0 head.ensures.literal)
+    (name_found c.args.s.now head.field-0 name.name name.is-0 head.ensures.name)
+    c.in-Some.ensures.value
+    c.indexes.ensures.value
 
-pub returns-in-Some-index : goal.returns-in-Some-index
-returns-in-Some-index c = variable_is c.args.s.now _ _ _ _ c.in-None.ensures.value c.in_ok-name-in-None.ensures.value c.in-Some-index.ensures.value
-
-pub returns-in-None-index : goal.returns-in-None-index
-returns-in-None-index c = identifier_is c.args.s.now _ _ c.in-None.ensures.value c.in_ok-name-in-None.ensures.value c.in-None-index.ensures.value
+pub returns-in-None : goal.returns-in-None
+returns-in-None c =
+    let head = c.in_ok-literal in
+    let name = c.in-Name-default in
+    identifier_is c.args.s.now head.field-0.1.now name.name.now
+    (no_literal_found c.args.s.now head.field-0 name.name name.is-0 head.ensures.literal)
+    (name_found c.args.s.now head.field-0 name.name name.is-0 head.ensures.name)
+    c.in-None.ensures.value

@@ -1,0 +1,10 @@
+use Rattle.std.proofs.Common.{rules}
+use Rattle.liquid_error.specs.Told.{entry_of, note_of}
+use Rattle.liquid_error.proofs.Causes.{same_clones}
+use Rattle.liquid_error.proofs.report.ReportClone.clone.Goals as goal
+
+pub returns : goal.returns
+returns c =
+    let contexts = same_clones entry_of c.args.self.now.contexts.items c.in_ok-contexts.contexts.items c.in_ok-contexts.ensures.cases.0 in
+    let traces = same_clones note_of c.args.self.now.traces.items c.in_ok-traces.traces.items c.in_ok-traces.ensures.cases.0 in
+    search (rules, contexts, traces)

@@ -1,0 +1,196 @@
+ghost use Rattle.std.specs.Prelude.{◌≡◌, ◌↔◌, IsTrue, IsNone, None, Some, IfSome, option_map, option_and_then, string_bytes};
+ghost use Rattle.liquid_error.specs.Refusal.{plain, located, with_trace, with_context, with_cause, cause_of_told, chained};
+ghost use Rattle.liquid_error.specs.ErrorText.{lossy_chained};
+ghost use Rattle.liquid_error.specs.Told.{told, reason_of, source_reason, Becomes};
+
+use crate::cause::{Cause, CauseOf, CloneableError};
+use crate::place::Place;
+use crate::report::Report;
+use std::alloc::{AllocError, AllocFailed, Global};
+
+/// The answer of a call that a Liquid error may end.
+pub type Result<T> = std::result::Result<T, Error>;
+
+/// A Liquid error with its direct cause, if it has one, or want of memory.
+#[derive(Debug, Drop)]
+pub enum Error {
+    Memory,
+    Liquid(Report, Option<Cause>),
+}
+
+impl From<AllocError> for Error {
+    ghost from_gives = { λ e r. told r ≡ None };
+
+    fn from(_error: AllocError) -> Error {
+        Error::Memory
+    }
+}
+
+impl<T: Drop> From<AllocFailed<T>> for Error {
+    ghost from_gives = { λ e r. told r ≡ None };
+
+    fn from(failed: AllocFailed<T>) -> Error {
+        drop(failed);
+        Error::Memory
+    }
+}
+
+impl Error {
+    /// An error with this message.
+    pub fn with_msg(alloc: Global, message: &str) -> Error
+        ensures { IfSome (told result) (λ r. r ≡ plain message.now) }
+    {
+        match String::from_str(alloc, message) {
+            Ok(message) => Error::with_text(alloc, message),
+            Err(_) => Error::Memory,
+        }
+    }
+
+    /// An error with this message, which it takes over.
+    pub fn with_text(alloc: Global, message: String) -> Error
+        ensures { told result ≡ Some (plain (string_bytes message)) }
+    {
+        Error::Liquid(Report::new(alloc, message), None)
+    }
+
+    /// An error about a place in a text. Its message ends in ` (line L, column C)`.
+    pub fn at_place(alloc: Global, message: &str, place: Place) -> Error
+        ensures { IfSome (told result) (λ r. r ≡ located message.now place) }
+    {
+        match Report::at_place(alloc, message, place) {
+            Ok(report) => Error::Liquid(report, None),
+            Err(_) => Error::Memory,
+        }
+    }
+
+    /// Adds a trace: what was being done when the error came.
+    pub fn trace(self, alloc: Global, text: &str) -> Error
+        ensures { Becomes (with_trace text.now) self result }
+    {
+        match String::from_str(alloc, text) {
+            Ok(text) => self.trace_text(alloc, text),
+            Err(_) => Error::Memory,
+        }
+    }
+
+    pub(crate) fn trace_text(self, alloc: Global, text: String) -> Error
+        ensures { Becomes (with_trace (string_bytes text)) self result }
+    {
+        match self {
+            Error::Memory => Error::Memory,
+            Error::Liquid(report, cause) => match report.trace(alloc, text) {
+                Ok(report) => Error::Liquid(report, cause),
+                Err(_) => Error::Memory,
+            },
+        }
+    }
+
+    /// Adds a context to the newest trace, or to the message where there is no trace.
+    pub fn context(self, alloc: Global, key: &str, value: &str) -> Error
+        ensures { Becomes (with_context key.now value.now) self result }
+    {
+        let key = match String::from_str(alloc, key) {
+            Ok(key) => key,
+            Err(_) => return Error::Memory,
+        };
+        match String::from_str(alloc, value) {
+            Ok(value) => self.context_texts(key, value),
+            Err(_) => Error::Memory,
+        }
+    }
+
+    pub(crate) fn context_texts(self, key: String, value: String) -> Error
+        ensures { Becomes (with_context (string_bytes key) (string_bytes value)) self result }
+    {
+        match self {
+            Error::Memory => Error::Memory,
+            Error::Liquid(report, cause) => match report.context(key, value) {
+                Ok(report) => Error::Liquid(report, cause),
+                Err(_) => Error::Memory,
+            },
+        }
+    }
+
+    /// Sets the direct cause of the error, in place of any other. Want of memory has no cause.
+    pub fn cause(self, cause: Cause) -> Error
+        ensures { told result ≡ option_map (with_cause (reason_of cause)) (told self) }
+    {
+        match self {
+            Error::Memory => Error::Memory,
+            Error::Liquid(report, _) => Error::Liquid(report, Some(cause)),
+        }
+    }
+
+    /// The direct cause of the error, if it has one.
+    pub fn source(&self) -> Option<&Cause>
+        ensures { source_reason result ≡ cause_of_told (told self.now) }
+    {
+        match self {
+            Error::Memory => None,
+            Error::Liquid(_, cause) => cause.as_ref(),
+        }
+    }
+
+    pub(crate) fn chain_text(self, alloc: Global, message: String) -> Error
+        ensures { Becomes (chained (string_bytes message)) self result }
+    {
+        if self.is_memory() {
+            return Error::Memory;
+        }
+        match Box::new(alloc, self) {
+            Ok(error) => Error::with_text(alloc, message).cause(CauseOf::Error(error)),
+            Err(_) => Error::Memory,
+        }
+    }
+
+    pub(crate) fn lossy_chain_text(self, alloc: Global, message: String) -> Error
+        ensures { Becomes (lossy_chained (string_bytes message)) self result }
+    {
+        if self.is_memory() {
+            return Error::Memory;
+        }
+        match CloneableError::new(alloc, self) {
+            Ok(kept) => Error::with_text(alloc, message).cause(CauseOf::Cloneable(kept)),
+            Err(_) => Error::Memory,
+        }
+    }
+
+    pub(crate) fn replace_text(self, alloc: Global, message: String) -> Error
+        ensures { Becomes (λ _. plain (string_bytes message)) self result }
+    {
+        match self {
+            Error::Memory => Error::Memory,
+            old => {
+                drop(old);
+                Error::with_text(alloc, message)
+            }
+        }
+    }
+
+    /// The error as an `Err`.
+    pub fn into_err<T>(self) -> Result<T>
+        ensures { result ≡ Rattle.std.specs.Prelude.Err self }
+    {
+        Err(self)
+    }
+
+    /// Whether this is want of memory.
+    pub fn is_memory(&self) -> bool
+        ensures { IsTrue result ↔ IsNone (told self.now) }
+    {
+        match self {
+            Error::Memory => true,
+            Error::Liquid(_, _) => false,
+        }
+    }
+
+    /// Where in a text the error lies, if it is about a place.
+    pub fn place(&self) -> Option<Place>
+        ensures { result ≡ option_and_then (λ r. r.place) (told self.now) }
+    {
+        match self {
+            Error::Memory => None,
+            Error::Liquid(report, _) => report.place,
+        }
+    }
+}

@@ -1,0 +1,54 @@
+//! What a value begins with: a literal, or the name of a variable.
+ghost use Rattle.std.specs.Prelude.{◌≡◌, ◌<◌, length, option_and_then, IfSome};
+ghost use Rattle.liquid_grammar.specs.Heads.{literal_in, name_in, IsHeadOf};
+ghost use Rattle.liquid_grammar.specs.Meanings.{FindsLiteral};
+ghost use Rattle.liquid_grammar.specs.Steps as step;
+ghost use Rattle.liquid_grammar.specs.TokenSteps as read;
+
+use crate::literal::{Literal, text_or_number, word_literal};
+use crate::name::{identifier, is_literal_word};
+
+/// A literal, or a name.
+#[derive(Clone, Copy)]
+pub(crate) enum Head<'a> {
+    Literal(Literal<'a>),
+    Name(&'a str),
+}
+
+/// The literal that the text begins with, and what follows it.
+pub(crate) fn read_literal(s: &str) -> Option<(Literal<'_>, &str)>
+    ensures value { FindsLiteral result (read.literal s.now) }
+    ensures shorter { IfSome result (λ x. length x.1.now < length s.now) }
+{
+    match read_head(s)? {
+        (Head::Literal(literal), rest) => Some((literal, rest)),
+        (Head::Name(_), _) => None,
+    }
+}
+
+/// The literal or the name that the text begins with, and what follows it.
+///
+/// Its identifier is read once: no other literal begins with a byte that begins an identifier.
+pub(crate) fn read_head(s: &str) -> Option<(Head<'_>, &str)>
+    ensures literal { option_and_then literal_in result ≡ read.literal s.now }
+    ensures name { option_and_then name_in result ≡ step.name s.now }
+    ensures shorter { IfSome result (λ x. length x.1.now < length s.now) }
+{
+    match identifier(s) {
+        Some((word, rest)) => Some((head_of_word(word), rest)),
+        None => {
+            let (literal, rest) = text_or_number(s)?;
+            Some((Head::Literal(literal), rest))
+        }
+    }
+}
+
+fn head_of_word(word: &str) -> Head<'_>
+    ensures { IsHeadOf word.now result }
+{
+    if is_literal_word(word) {
+        Head::Literal(word_literal(word))
+    } else {
+        Head::Name(word)
+    }
+}
