@@ -12,6 +12,7 @@ use Rattle.liquid_grammar.specs.declared.element.Element.{Element as CodeElement
 use Rattle.liquid_grammar.specs.Elements.{Taken, Means}
 use Rattle.liquid_grammar.specs.Tokens.{Tag, Chain, TagRule, ExpressionRule}
 use Rattle.liquid_grammar.specs.Faults.{Fault, tag_fault, chain_fault}
+use Rattle.liquid_grammar.specs.Kinds.{Kind, chain_kind}
 use Rattle.liquid_grammar.specs.Meanings.{TagSeen, tag_seen, ChainSeen, chain_seen}
 use Rattle.liquid_grammar.specs.TokenSteps.{full_expression, tag as read_tag}
 use Rattle.liquid_grammar.specs.Steps as read
@@ -162,18 +163,21 @@ tag_found s name tokens rest fault e = go (read_tag s) refl e
         let m = subst (λ (r : List ℕ). TagRule s r x.0) rests (exact-tag.sound s x.1 x.0 h) in
         (x.0, m, ap (λ (y : TagSeen). y.0) p, ap (λ (y : TagSeen). y.1) p, ap (λ (y : TagSeen). y.2) p)
 
-pub expression_found : (s chain rest : List ℕ) (fault : Option Fault) → ◌≡◌ {A = Option ChainSeen} (Some (chain, fault, rest)) (option_map chain_seen (full_expression s))
-    → (c : Chain) × ExpressionRule s rest c × (chain ≡ c.place) × (fault ≡ chain_fault c)
-expression_found s chain rest fault e = go (full_expression s) refl e
+abbrev kind_seen : Chain × List ℕ → Kind
+kind_seen a = chain_kind a.0.what.0 a.0.what.1
+
+pub expression_found : (s chain rest : List ℕ) (kind : Kind) (fault : Option Fault) → Some kind ≡ option_map kind_seen (full_expression s) → ◌≡◌ {A = Option ChainSeen} (Some (chain, fault, rest)) (option_map chain_seen (full_expression s))
+    → (c : Chain) × ExpressionRule s rest c × (chain ≡ c.place) × (fault ≡ chain_fault c) × (kind ≡ chain_kind c.what.0 c.what.1)
+expression_found s chain rest kind fault k e = go (full_expression s) refl k e
   where
-    go : (o : Option (Chain × List ℕ)) → full_expression s ≡ o → ◌≡◌ {A = Option ChainSeen} (Some (chain, fault, rest)) (option_map chain_seen o)
-        → (c : Chain) × ExpressionRule s rest c × (chain ≡ c.place) × (fault ≡ chain_fault c)
-    go None h q = absurd (none-some _ (sym q))
-    go (Some x) h q =
+    go : (o : Option (Chain × List ℕ)) → full_expression s ≡ o → Some kind ≡ option_map kind_seen o → ◌≡◌ {A = Option ChainSeen} (Some (chain, fault, rest)) (option_map chain_seen o)
+        → (c : Chain) × ExpressionRule s rest c × (chain ≡ c.place) × (fault ≡ chain_fault c) × (kind ≡ chain_kind c.what.0 c.what.1)
+    go None h k q = absurd (none-some _ (sym q))
+    go (Some x) h k q =
         let p = same_Some _ _ q in
         let rests = sym (ap (λ (y : ChainSeen). y.2) p) in
         let m = subst (λ (r : List ℕ). ExpressionRule s r x.0) rests (exact-full_expression.sound s x.1 x.0 h) in
-        (x.0, m, ap (λ (y : ChainSeen). y.0) p, ap (λ (y : ChainSeen). y.1) p)
+        (x.0, m, ap (λ (y : ChainSeen). y.0) p, ap (λ (y : ChainSeen). y.1) p, same_Some _ _ k)
 
 pub no_tag : (s : List ℕ) → ◌≡◌ {A = Option TagSeen} None (option_map tag_seen (read_tag s)) → ¬ (Begins TagRule s)
 no_tag s e b = none-some _ (e ∙ ap (option_map tag_seen) (exact-tag.complete s b.rest b.shape b.match))

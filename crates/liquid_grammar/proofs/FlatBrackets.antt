@@ -29,7 +29,7 @@ pub adds_adds : (f g : Option Fault) (o : Option Scanned) → adds f (adds g o) 
 adds_adds f g (Some x) = let w : Option Fault → Option Scanned = λ y. Some (y, x.1) in ap w (or_assoc f g x.0)
 adds_adds f g None = refl
 
-or_none : (f : Option Fault) → option_or f None ≡ f
+pub or_none : (f : Option Fault) → option_or f None ≡ f
 or_none (Some x) = refl
 or_none None = refl
 

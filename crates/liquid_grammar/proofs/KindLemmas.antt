@@ -11,8 +11,9 @@ use Rattle.liquid_grammar.specs.Faults.{Fault, filter_fault, index_fault, range_
 use Rattle.liquid_grammar.specs.Kinds.{Kind, literal_kind, variable_kind, identifier_kind, filtered_kind, value_kind, chain_kind}
 use Rattle.liquid_grammar.specs.declared.kind.TokenKind.{TokenKind}
 use Rattle.liquid_grammar.specs.declared.kind.TokenKind.TheVariants.{Range, Symbol}
-use Rattle.liquid_grammar.specs.KindMeanings.{token_kind_of, HasKind, HasChainKind}
-use Rattle.liquid_grammar.specs.Meanings.{scan}
+use Rattle.liquid_grammar.specs.declared.fault.Fault.{Fault as CodeFault}
+use Rattle.liquid_grammar.specs.KindMeanings.{token_kind_of, HasKind, HasChainKind, FindsKind, FindsValueKind}
+use Rattle.liquid_grammar.specs.Meanings.{scan, Scanned, scanned_of, Scans}
 use Rattle.liquid_grammar.specs.Steps.{Reader, name}
 use Rattle.liquid_grammar.specs.TokenSteps.{placed, repeated, behind, literal, value, variable_over, filter, chain_of, ranged, symbol_of, token}
 use Rattle.liquid_grammar.specs.BracketSteps.{index, indexes}
@@ -28,7 +29,11 @@ use Rattle.liquid_grammar.proofs.Exact.{none_begins}
 abbrev KindFound : Type 0
 KindFound = Kind × List ℕ
 
-abbrev pub seen_kind : TokenKind × Bor (List ℕ) → KindFound
+-- what a call answers of a value or a chain
+abbrev pub Answered : Type 0
+Answered = Option (TokenKind × Option CodeFault × Bor (List ℕ))
+
+abbrev seen_kind : TokenKind × Bor (List ℕ) → KindFound
 seen_kind p = (token_kind_of p.0, p.1.now)
 
 abbrev kind_in : Option (Value × List ℕ) → Option KindFound
@@ -185,3 +190,19 @@ chain_kind_found s None e = none_begins exact-chain s (kind_none (chain_of s) e)
 chain_kind_found s (Some kind) e =
     let x = kind_some (chain_of s) (token_kind_of kind) e in
     record { rest = x.0.1; shape = x.0.0; match = exact-chain.sound s x.0.1 x.0.0 x.1; is = x.2 }
+
+-- where nothing is found
+pub nothing_kind : (s : List ℕ) (r : Answered) → r ≡ None → None ≡ literal s → None ≡ name s → FindsValueKind (option_map (λ p. (p.0, p.2)) r) (value s)
+nothing_kind s r e none no_name =
+    let seen : Answered → Option KindFound = λ r. option_map seen_kind (option_map (λ p. (p.0, p.2)) r) in
+    ap seen e ∙ no_value s none no_name
+
+pub nothing_scan : {A : Type 0} (fault : A → Option Fault) (found : Option (A × List ℕ)) (r : Answered) → r ≡ None → None ≡ scan fault found → Scans fault (option_map (λ p. (p.1, p.2)) r) found
+nothing_scan fault found r e h =
+    let seen : Answered → Option Scanned = λ r. option_map scanned_of (option_map (λ p. (p.1, p.2)) r) in
+    ap seen e ∙ h
+
+pub nothing_chain_kind : (s : List ℕ) (r : Answered) → r ≡ None → None ≡ kind_in (value s) → FindsKind (option_map (λ p. p.0) r) (chain_of s)
+nothing_chain_kind s r e h =
+    let seen : Answered → Option Kind = λ r. option_map token_kind_of (option_map (λ p. p.0) r) in
+    ap seen e ∙ no_chain s h

@@ -3,7 +3,7 @@ use Rattle.std.proofs.Common.{◌≡◌, ℕ, List, ◌∷◌, Option, Some, Non
 use Rattle.std.specs.Option.{option_or}
 use Rattle.liquid_grammar.specs.Rules.{Rule}
 use Rattle.liquid_grammar.specs.Values.{Value}
-use Rattle.liquid_grammar.specs.Tokens.{Argument}
+use Rattle.liquid_grammar.specs.Tokens.{Argument, Filter}
 use Rattle.liquid_grammar.specs.declared.fault.Fault.{Fault as CodeFault}
 use Rattle.liquid_grammar.specs.Faults.{Fault, first_fault, value_fault, argument_fault, filter_fault, chain_fault, range_fault}
 use Rattle.liquid_grammar.specs.Meanings.{Scanned, scan, faults_of}
@@ -13,7 +13,8 @@ use Rattle.liquid_grammar.specs.BracketSteps.{adds}
 use Rattle.liquid_grammar.proofs.Exact.{Exact, Shrinks}
 use Rattle.liquid_grammar.proofs.ExactRepeated.{repeated_more, repeated_end}
 use Rattle.liquid_grammar.proofs.ValueScan.{scan_some, scan_none}
-use Rattle.liquid_grammar.proofs.FlatBrackets.{left_some, left_none, faults_or}
+use Rattle.liquid_grammar.proofs.FlatBrackets.{left_some, left_none, faults_or, or_none}
+use Rattle.liquid_grammar.proofs.TokenExact.{exact-behind, shrinks-behind, exact-filter}
 
 more_shape : {A : Type 0} (fault : A → Option Fault) (x : A) (o : Option (List A × List ℕ))
     → let cons : List A × List ℕ → List A × List ℕ = λ b. (x ∷ b.0, b.1) in
@@ -162,3 +163,22 @@ range_no_end s r₀ r₁ r₂ r₃ g h e₀ e₁ e₂ e₃ e₄ =
     let values = both_some (left value dots) value r₀ v.0 x₃.0 v.1 (ap value v.2 ∙ x₃.1) in
     let inner = right_some range_start range_values s x₀.0 ((v.0.0, x₃.0.0), x₃.0.1) x₀.1 (ap range_values x₀.2 ∙ values) in
     sym (ap (scan range_fault) (left_of_none (right range_start range_values) range_end s (both_none_behind (right range_start range_values) range_end s ((v.0.0, x₃.0.0), x₃.0.1) inner (ap range_end x₃.3 ∙ left_none (range_end r₃) e₄))))
+
+abbrev next_filter : Reader Filter
+next_filter = behind 124 filter
+
+-- a value without filters, one with filters, and none
+pub chain_end : (s rest : List ℕ) (g : Option Fault) → Some (g, rest) ≡ scan value_fault (value s) → None ≡ scan filter_fault (next_filter rest) → ◌≡◌ {A = Option Scanned} (Some (g, rest)) (scan chain_fault (chain_of s))
+chain_end s rest g e f =
+    let w : Option Fault → Option Scanned = λ y. Some (y, rest) in
+    ap w (sym (or_none g)) ∙ chain_scan s rest rest g None e (sym (repeated_scan_end next_filter filter_fault rest f))
+
+pub chain_more : (s rest after end : List ℕ) (a b c t r : Option CodeFault) → t ≡ option_or b c → r ≡ option_or a t → Some (faults_of a, rest) ≡ scan value_fault (value s)
+    → Some (faults_of b, after) ≡ scan filter_fault (next_filter rest) → Some (faults_of c, end) ≡ scan (first_fault filter_fault) (repeated next_filter after) → ◌≡◌ {A = Option Scanned} (Some (faults_of r, end)) (scan chain_fault (chain_of s))
+chain_more s rest after end a b c t r inner outer e f g =
+    let filters = repeated_scan_more (exact-behind 124 exact-filter) (shrinks-behind 124 exact-filter) filter_fault rest after (faults_of b) f in
+    joined_fault a t r end outer ∙ chain_scan s rest end (faults_of a) (faults_of t) e (joined_fault b c t end inner ∙ ap (adds (faults_of b)) g ∙ sym filters)
+
+pub no_chain_scan : (s : List ℕ) → None ≡ scan value_fault (value s) → None ≡ scan chain_fault (chain_of s)
+unfolding chain_of
+no_chain_scan s e = sym (ap (λ o. scan chain_fault (option_map (placed s) o)) (both_none value (repeated next_filter) s (scan_none value_fault (value s) e)))

@@ -6,12 +6,14 @@ use Rattle.liquid_grammar.specs.Rules.{Placed}
 use Rattle.liquid_grammar.specs.Literals.{Literal}
 use Rattle.liquid_grammar.specs.Values.{Value, Index, gather, placed_literal, placed_variable}
 use Rattle.liquid_grammar.specs.Faults.{Fault, literal_fault, index_fault, indexes_fault, value_fault}
-use Rattle.liquid_grammar.specs.Meanings.{Scanned, scan}
+use Rattle.liquid_grammar.specs.declared.fault.Fault.{Fault as CodeFault}
+use Rattle.liquid_grammar.specs.Meanings.{Scanned, scan, faults_of}
 use Rattle.liquid_grammar.specs.Steps.{name}
 use Rattle.liquid_grammar.specs.TokenSteps.{placed, literal, value, variable_over}
 use Rattle.liquid_grammar.specs.BracketSteps.{adds, index, indexes}
 use Rattle.liquid_grammar.proofs.ExactRepeated.{repeated_more, repeated_end}
 use Rattle.liquid_grammar.proofs.TokenExact.{exact-value, exact-index, shrinks-index}
+use Rattle.liquid_grammar.proofs.FlatBrackets.{faults_or}
 use Rattle.liquid_grammar.proofs.ValueLaw.{value_reads}
 
 -- what a call scanned is what the reader found
@@ -73,3 +75,17 @@ no_variable s e =
     let make : Placed (List ℕ × List Index) × List ℕ → Value × List ℕ = λ a. (placed_variable a.0, a.1) in
     let and_indexes : List ℕ × List ℕ → Option ((List ℕ × List Index) × List ℕ) = λ a. option_map (λ b. ((a.0, b.0), b.1)) (indexes a.1) in
     ap (λ o. scan value_fault (option_map make (option_map (placed s) (option_and_then and_indexes o)))) e
+
+pub no_value_scan : (s : List ℕ) → None ≡ literal s → None ≡ name s → None ≡ scan value_fault (value s)
+no_value_scan s none e = value_variable s None none (no_variable s e)
+
+-- a name without an index, and one with an index and what indexes stand behind it
+pub variable_end : (s rest n : List ℕ) → None ≡ literal s → Some (n, rest) ≡ name s → None ≡ scan (index_fault 0) (index rest) → ◌≡◌ {A = Option Scanned} (Some (None, rest)) (scan value_fault (value s))
+variable_end s rest n none e f = value_variable s _ none (variable_scan s rest n _ e (sym (indexes_end rest f)))
+
+pub variable_more : (s rest after end n : List ℕ) (a b r : Option CodeFault) → r ≡ option_or a b → None ≡ literal s → Some (n, rest) ≡ name s → Some (faults_of a, after) ≡ scan (index_fault 0) (index rest)
+    → Some (faults_of b, end) ≡ scan list_fault (indexes after) → ◌≡◌ {A = Option Scanned} (Some (faults_of r, end)) (scan value_fault (value s))
+variable_more s rest after end n a b r or none e f g =
+    let w : Option Fault → Option Scanned = λ y. Some (y, end) in
+    let joined = ap w (ap faults_of or ∙ faults_or a b) in
+    value_variable s _ none (variable_scan s rest n _ e (joined ∙ ap (adds (faults_of a)) g ∙ sym (indexes_more rest after (faults_of a) f)))

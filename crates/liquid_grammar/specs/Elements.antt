@@ -6,6 +6,8 @@ use Rattle.liquid_grammar.specs.declared.element.Element.{Element as CodeElement
 use Rattle.liquid_grammar.specs.declared.element.Element.TheVariants.{Raw, Tag, Expression, Invalid}
 use Rattle.liquid_grammar.specs.Tokens as shape
 use Rattle.liquid_grammar.specs.Faults.{tag_fault, chain_fault}
+use Rattle.liquid_grammar.specs.Kinds.{chain_kind}
+use Rattle.liquid_grammar.specs.KindMeanings.{token_kind_of}
 use Rattle.liquid_grammar.specs.Meanings.{faults_of}
 use Rattle.liquid_grammar.specs.Cover.{Element, raw, tag_element, expression, invalid}
 
@@ -20,9 +22,10 @@ pub record MeansTag (t : TagText) (tag : shape.Tag) (text : List ℕ) : Type 0 w
   pub text_is : t.text.now ≡ text
   pub fault_is : faults_of t.fault ≡ tag_fault tag
 
--- where the chain begins, the expression's text and its first fault
+-- where the chain begins, what it is, the expression's text and its first fault
 pub record MeansChain (t : ChainText) (chain : shape.Chain) (text : List ℕ) : Type 0 where
   pub chain_is : t.chain.now ≡ chain.place
+  pub kind_is : token_kind_of t.kind ≡ chain_kind chain.what.0 chain.what.1
   pub text_is : t.text.now ≡ text
   pub fault_is : faults_of t.fault ≡ chain_fault chain
 

@@ -8,6 +8,7 @@ ghost use Rattle.liquid_grammar.specs.Steps as read;
 ghost use Rattle.liquid_grammar.specs.Steps.{Finds};
 
 use crate::fault::Fault;
+use crate::kind::TokenKind;
 use crate::raw::raw_len;
 use crate::text::{before, eat, skip_white};
 use crate::token::{expression, tag};
@@ -29,6 +30,8 @@ pub struct TagText<'a> {
 pub struct ChainText<'a> {
     /// The text from the chain on, past the expression's end.
     pub chain: &'a str,
+    /// What the chain is.
+    pub kind: TokenKind<'a>,
     /// The whole text of the expression.
     pub text: &'a str,
     /// The first fault of its literals and brackets.
@@ -80,9 +83,10 @@ fn marked<'a>(s: &'a str) -> (Element<'a>, &'a str)
             rest,
         ),
         None => match expression(s) {
-            Some((chain, fault, rest)) => (
+            Some((chain, kind, fault, rest)) => (
                 Element::Expression(ChainText {
                     chain,
+                    kind,
                     text: before(s, rest),
                     fault,
                 }),

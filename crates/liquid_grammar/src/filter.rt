@@ -1,26 +1,42 @@
 //! Arguments, filters and chains.
-ghost use Rattle.std.specs.Prelude.{◌≡◌, ◌<◌, ◌≤◌, length, Some, IfSome};
+ghost use Rattle.std.specs.Prelude.{◌≡◌, ◌<◌, ◌≤◌, length, Some, IfSome, option_map};
 ghost use Rattle.liquid_grammar.specs.Tokens as spec;
 ghost use Rattle.liquid_grammar.specs.Faults.{argument_fault, filter_fault, chain_fault, first_fault};
+ghost use Rattle.liquid_grammar.specs.KindMeanings.{FindsKind};
 ghost use Rattle.liquid_grammar.specs.Meanings.{Scans};
 ghost use Rattle.liquid_grammar.specs.Steps.{Leaves};
 ghost use Rattle.liquid_grammar.specs.Steps as step;
 ghost use Rattle.liquid_grammar.specs.TokenSteps as read;
 
 use crate::fault::Fault;
+use crate::kind::TokenKind;
 use crate::name::identifier;
 use crate::text::{eat, skip_white};
-use crate::value::value;
+use crate::value::{value, value_and_kind};
 
 /// The first fault of the chain that the text begins with, and what follows it.
-#[tactic(auto, unfolding(crate::specs::TokenSteps::chain_of))]
 pub(crate) fn chain<'a>(s: &'a str) -> Option<(Option<Fault<'a>>, &'a str)>
     ensures value { Scans chain_fault result (read.chain_of s.now) }
     ensures shorter { IfSome result (λ x. length x.1.now < length s.now) }
 {
-    let (first, rest) = value(s)?;
-    let (others, rest) = filters(rest);
-    Some((first.or(others), rest))
+    let (_, fault, rest) = chain_and_kind(s)?;
+    Some((fault, rest))
+}
+
+/// The same with the kind of the chain.
+pub(crate) fn chain_and_kind<'a>(s: &'a str) -> Option<(TokenKind<'a>, Option<Fault<'a>>, &'a str)>
+    ensures kind { FindsKind (option_map (λ p. p.0) result) (read.chain_of s.now) }
+    ensures value { Scans chain_fault (option_map (λ p. (p.1, p.2)) result) (read.chain_of s.now) }
+    ensures shorter { IfSome result (λ x. length x.2.now < length s.now) }
+{
+    let (kind, first, rest) = value_and_kind(s)?;
+    match next_filter(rest) {
+        Some((second, behind)) => {
+            let (others, end) = filters(behind);
+            Some((TokenKind::Filtered, first.or(second.or(others)), end))
+        }
+        None => Some((kind, first, rest)),
+    }
 }
 
 /// The first fault of all filters that stand here, each behind `|`.
@@ -37,7 +53,7 @@ fn filters<'a>(s: &'a str) -> (Option<Fault<'a>>, &'a str)
     (fault, rest)
 }
 
-pub(crate) fn next_filter<'a>(s: &'a str) -> Option<(Option<Fault<'a>>, &'a str)>
+fn next_filter<'a>(s: &'a str) -> Option<(Option<Fault<'a>>, &'a str)>
     ensures value { Scans filter_fault result (read.behind 124 read.filter s.now) }
     ensures shorter { IfSome result (λ x. length x.1.now < length s.now) }
 {

@@ -3,14 +3,12 @@ ghost use Rattle.std.specs.Prelude.{◌≡◌, option_map, MatchOption};
 ghost use Rattle.liquid_grammar.specs.Rules.{Begins};
 ghost use Rattle.liquid_grammar.specs.Tokens.{ChainRule, TokenRule};
 ghost use Rattle.liquid_grammar.specs.Kinds.{identifier_of};
-ghost use Rattle.liquid_grammar.specs.KindMeanings.{token_kind_of, HasKind, HasChainKind, FindsKind, FindsValueKind};
+ghost use Rattle.liquid_grammar.specs.KindMeanings.{token_kind_of, HasKind, HasChainKind, FindsKind};
 ghost use Rattle.liquid_grammar.specs.TokenSteps as read;
 
-use crate::filter::next_filter;
-use crate::head::{Head, read_head};
+use crate::filter::chain_and_kind;
 use crate::literal::Literal;
 use crate::token::{range, symbol};
-use crate::value::{index, indexes};
 
 /// What a token is. A chain without filters is its value, and a variable without indexes an identifier.
 #[derive(Clone, Copy, Debug, PartialEq, Eq)]
@@ -67,22 +65,6 @@ pub fn chain_kind(s: &str) -> Option<TokenKind<'_>>
 fn kind_of_chain(s: &str) -> Option<TokenKind<'_>>
     ensures { FindsKind result (read.chain_of s.now) }
 {
-    let (kind, rest) = value_kind(s)?;
-    match next_filter(rest) {
-        Some(_) => Some(TokenKind::Filtered),
-        None => Some(kind),
-    }
-}
-
-/// The kind of the value that the text begins with, and what follows the value.
-fn value_kind(s: &str) -> Option<(TokenKind<'_>, &str)>
-    ensures { FindsValueKind result (read.value s.now) }
-{
-    match read_head(s)? {
-        (Head::Literal(literal), rest) => Some((TokenKind::Literal(literal), rest)),
-        (Head::Name(name), rest) => match index(rest) {
-            Some((_, behind)) => Some((TokenKind::Variable, indexes(behind).1)),
-            None => Some((TokenKind::Identifier(name), rest)),
-        },
-    }
+    let (kind, _, _) = chain_and_kind(s)?;
+    Some(kind)
 }

@@ -103,7 +103,7 @@ pub fn match_expression<'a>(s: &'a str) -> Option<(Option<Fault<'a>>, &'a str)>
     ensures shorter { IfSome result (λ x. length x.1.now < length s.now) }
 {
     match expression(s) {
-        Some((_, fault, rest)) => Some((fault, rest)),
+        Some((_, _kind, fault, rest)) => Some((fault, rest)),
         None => None,
     }
 }

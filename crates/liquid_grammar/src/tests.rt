@@ -1,5 +1,5 @@
 //! Texts with the elements that the written rules give them.
-use crate::{ChainText, Element, FaultKind, TagText, line_and_column, next_element};
+use crate::{ChainText, Element, FaultKind, TagText, TokenKind, line_and_column, next_element};
 use std::process::Abort;
 
 /// Asserts that the text has elements of these texts, in order, and no others. A tag's text stands
@@ -60,6 +60,7 @@ fn expressions_and_tags(rt: HostRuntime) {
     match next_element("{{ a[1.5] }}b") {
         Some((Element::Expression(found), "b")) => {
             assert!(rt; found.chain == "a[1.5] }}b");
+            assert!(rt; found.kind == TokenKind::Variable);
             match found.fault {
                 Some(fault) => assert!(rt; fault.kind == FaultKind::DecimalNotSupported),
                 None => panic!(rt; "a decimal has no fault"),

@@ -1,7 +1,8 @@
 //! Tokens, expressions and tags.
-ghost use Rattle.std.specs.Prelude.{◌≡◌, ◌<◌, ◌≤◌, length, Some, IfSome};
+ghost use Rattle.std.specs.Prelude.{◌≡◌, ◌<◌, ◌≤◌, length, Some, IfSome, option_map};
 ghost use Rattle.liquid_grammar.specs.Tokens as spec;
 ghost use Rattle.liquid_grammar.specs.Faults.{range_fault, token_fault, first_fault};
+ghost use Rattle.liquid_grammar.specs.KindMeanings.{FindsKind};
 ghost use Rattle.liquid_grammar.specs.Meanings.{Scans, SeesTag, SeesChain};
 ghost use Rattle.liquid_grammar.specs.Steps.{Finds, Leaves};
 ghost use Rattle.liquid_grammar.specs.Steps as step;
@@ -9,7 +10,8 @@ ghost use Rattle.liquid_grammar.specs.TokenSteps as read;
 
 use crate::bytes::byte_at;
 use crate::fault::Fault;
-use crate::filter::chain;
+use crate::filter::{chain, chain_and_kind};
+use crate::kind::TokenKind;
 use crate::name::identifier;
 use crate::opener::{closer, opener};
 use crate::text::{eat, skip_white};
@@ -35,15 +37,19 @@ fn tag_start(s: &str) -> Option<(&str, &str)>
     identifier(skip_white(opener(s, b'%')?))
 }
 
-/// The expression that the text begins with: the text from its chain on, its first fault, and what follows it.
+/// The expression that the text begins with: the text from its chain on, the chain's kind, its first fault, and what
+/// follows it.
 #[tactic(auto, unfolding(crate::specs::TokenSteps::full_expression, crate::specs::TokenSteps::chain_of))]
-pub(crate) fn expression<'a>(s: &'a str) -> Option<(&'a str, Option<Fault<'a>>, &'a str)>
-    ensures value { SeesChain result (read.full_expression s.now) }
-    ensures shorter { IfSome result (λ x. length x.2.now < length s.now) }
+pub(crate) fn expression<'a>(
+    s: &'a str,
+) -> Option<(&'a str, TokenKind<'a>, Option<Fault<'a>>, &'a str)>
+    ensures kind { FindsKind (option_map (λ p. p.1) result) (read.full_expression s.now) }
+    ensures value { SeesChain (option_map (λ p. (p.0, p.2, p.3)) result) (read.full_expression s.now) }
+    ensures shorter { IfSome result (λ x. length x.3.now < length s.now) }
 {
     let start = expression_start(s)?;
-    let (fault, rest) = chain(start)?;
-    Some((start, fault, closer(skip_white(rest), b'}')?))
+    let (kind, fault, rest) = chain_and_kind(start)?;
+    Some((start, kind, fault, closer(skip_white(rest), b'}')?))
 }
 
 #[tactic(auto, unfolding(crate::specs::TokenSteps::expression_start))]

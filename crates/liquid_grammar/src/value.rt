@@ -1,7 +1,8 @@
 //! Values: literals, and variables with their indexes.
-ghost use Rattle.std.specs.Prelude.{◌≡◌, ◌<◌, ◌≤◌, length, Some, IfSome};
+ghost use Rattle.std.specs.Prelude.{◌≡◌, ◌<◌, ◌≤◌, length, Some, IfSome, option_map};
 ghost use Rattle.liquid_grammar.specs.Values.{gather};
 ghost use Rattle.liquid_grammar.specs.Faults.{value_fault, indexes_fault, index_fault};
+ghost use Rattle.liquid_grammar.specs.KindMeanings.{FindsValueKind};
 ghost use Rattle.liquid_grammar.specs.Meanings.{Scans};
 ghost use Rattle.liquid_grammar.specs.Steps.{Leaves};
 ghost use Rattle.liquid_grammar.specs.TokenSteps as read;
@@ -9,6 +10,7 @@ ghost use Rattle.liquid_grammar.specs.TokenSteps as read;
 use crate::bracket::bracketed;
 use crate::fault::{Fault, literal_fault};
 use crate::head::{Head, read_head};
+use crate::kind::TokenKind;
 use crate::name::{identifier, name};
 use crate::text::eat;
 
@@ -17,9 +19,29 @@ pub(crate) fn value<'a>(s: &'a str) -> Option<(Option<Fault<'a>>, &'a str)>
     ensures value { Scans value_fault result (read.value s.now) }
     ensures shorter { IfSome result (λ x. length x.1.now < length s.now) }
 {
+    let (_, fault, rest) = value_and_kind(s)?;
+    Some((fault, rest))
+}
+
+/// The same with the kind of the value.
+pub(crate) fn value_and_kind<'a>(s: &'a str) -> Option<(TokenKind<'a>, Option<Fault<'a>>, &'a str)>
+    ensures kind { FindsValueKind (option_map (λ p. (p.0, p.2)) result) (read.value s.now) }
+    ensures value { Scans value_fault (option_map (λ p. (p.1, p.2)) result) (read.value s.now) }
+    ensures shorter { IfSome result (λ x. length x.2.now < length s.now) }
+{
     match read_head(s)? {
-        (Head::Literal(literal), rest) => Some((literal_fault(s, literal), rest)),
-        (Head::Name(_), rest) => Some(indexes(rest)),
+        (Head::Literal(literal), rest) => Some((
+            TokenKind::Literal(literal),
+            literal_fault(s, literal),
+            rest,
+        )),
+        (Head::Name(name), rest) => match index(rest) {
+            Some((first, behind)) => {
+                let (others, end) = indexes(behind);
+                Some((TokenKind::Variable, first.or(others), end))
+            }
+            None => Some((TokenKind::Identifier(name), None, rest)),
+        },
     }
 }
 
@@ -31,7 +53,7 @@ pub(crate) fn variable<'a>(s: &'a str) -> Option<(Option<Fault<'a>>, &'a str)>
 }
 
 /// The first fault of all indexes that stand here, and what follows them.
-pub(crate) fn indexes<'a>(s: &'a str) -> (Option<Fault<'a>>, &'a str)
+fn indexes<'a>(s: &'a str) -> (Option<Fault<'a>>, &'a str)
     ensures value { Scans (λ x. indexes_fault 0 (gather x)) (Some result) (read.repeated (read.index_over read.value) s.now) }
     ensures shorter { length result.1.now ≤ length s.now }
 {

@@ -1,8 +1,5 @@
-ghost use Rattle.std.specs.Prelude.{◌≡◌, ◌-◌, ◌≤◌, ◌++◌, length, take, ℕ, List, option_map, IfSome, IfOk};
-ghost use Rattle.liquid_grammar.specs.Tokens.{Chain, ChainRule};
-ghost use Rattle.liquid_grammar.specs.Kinds.{chain_kind, identifier_of};
+ghost use Rattle.std.specs.Prelude.{◌≡◌, ◌-◌, ◌≤◌, ◌++◌, length, take, option_map, IfSome, IfOk};
 ghost use Rattle.liquid_grammar.specs.Cover as spec;
-ghost use Rattle.liquid_grammar.specs.Cover.{IsElement};
 ghost use Rattle.liquid_grammar.specs.Elements.{Means};
 ghost use Rattle.liquid_error.specs.Told.{told, Gives};
 ghost use Rattle.liquid_parser.specs.Tree.{shape, shapes};
@@ -11,7 +8,7 @@ ghost use Rattle.liquid_parser.specs.Reading.{Answer, Answers, OneReading, Reads
 use crate::language::Language;
 use crate::node::Node;
 use liquid_error::{Error, Place};
-use liquid_grammar::{Element, chain_kind, line_and_column, match_white, next_element};
+use liquid_grammar::{Element, line_and_column, match_white, next_element};
 use std::alloc::{AllocError, Global};
 
 /// The nodes of a template's text in their order, a text or a name each.
@@ -51,25 +48,16 @@ fn nodes_of(alloc: Global, text: &str) -> Result<Vec<Node>, Error>
 
 // The node that an element gives, if it gives one.
 fn node_of<'a>(alloc: Global, element: Element<'a>) -> Result<Option<Node>, AllocError>
-    ensures { (s rest : List ℕ) (e : spec.Element) → IsElement s rest e → Means element.entry e
-        → IfOk result (λ node. option_map shape node ≡ node_of e) }
+    ensures { (e : spec.Element) → Means element.entry e → IfOk result (λ node. option_map shape node ≡ node_of e) }
 {
     match element {
         Element::Raw(raw) => Ok(Some(Node::Text(String::from_str(alloc, raw)?))),
-        Element::Expression(expression) => match identifier(expression.chain) {
+        Element::Expression(expression) => match expression.kind.identifier() {
             Some(name) => Ok(Some(Node::Name(String::from_str(alloc, name)?))),
             None => Ok(None),
         },
         _ => Ok(None),
     }
-}
-
-// The identifier that is all of the chain that the text begins with.
-fn identifier(chain: &str) -> Option<&str>
-    ensures { (behind : List ℕ) (shape : Chain) → ChainRule chain.now behind shape
-        → option_map (λ name. name.now) result ≡ identifier_of (chain_kind shape.what.0 shape.what.1) }
-{
-    chain_kind(chain)?.identifier()
 }
 
 // The refusal of a text at a brace in it, with the text from there on.

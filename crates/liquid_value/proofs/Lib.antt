@@ -7,3 +7,4 @@ pub mod LooseOrder
 pub mod LooseByName
 pub mod Names
 pub mod Listed
+pub mod StepLemmas

@@ -13,3 +13,4 @@ pub mod Parts
 pub mod Rows
 pub mod Cow
 pub mod StrictLaws
+pub mod Steps

@@ -12,6 +12,7 @@ pub mod map;
 pub mod order;
 pub mod render;
 pub mod state;
+pub mod steps;
 mod strict;
 pub mod value;
 

@@ -1,4 +1,5 @@
 use super::{Given, items, named, numbers, object, value_of};
+use crate::steps::{step_over_entries, step_over_keys, step_over_owned_entries, step_over_values};
 use crate::{Object, State, Value, ValueCow};
 use liquid_scalar::Scalar;
 use std::alloc::Global;
@@ -123,5 +124,53 @@ fn objects_are_maps(rt: HostRuntime) -> Result<(), Fail> {
         .or_insert(Value::scalar(3i64));
     *slot = Value::scalar(4i64);
     assert_eq!(rt; Value::Object(object).to_kstr(alloc)?.as_str(), "b2c4");
+    Ok(())
+}
+
+#[test]
+fn walks_say_how_many_are_left_and_end(rt: HostRuntime) -> Result<(), Fail> {
+    let alloc = rt.alloc();
+    let mut object = Object::new(alloc);
+    drop(object.insert(String::from_str(alloc, "b")?, Value::scalar(2i64))?);
+    drop(object.insert(String::from_str(alloc, "a")?, Value::scalar(1i64))?);
+    let mut entries = object.iter();
+    let mut keys = object.keys();
+    let mut values = object.values();
+    for (left, name, text, then) in [
+        (2, Some("a"), Some("1"), 1),
+        (1, Some("b"), Some("2"), 0),
+        (0, None, None, 0),
+        (0, None, None, 0),
+    ] {
+        let (before, entry, after) = step_over_entries(&mut entries);
+        assert_eq!(rt; (before, after), (left, then));
+        assert_eq!(rt; entry.map(|(key, _)| key.as_str()), name);
+        let (before, key, after) = step_over_keys(&mut keys);
+        assert_eq!(rt; (before, after), (left, then));
+        assert_eq!(rt; key.map(|key| key.as_str()), name);
+        let (before, value, after) = step_over_values(&mut values);
+        assert_eq!(rt; (before, after), (left, then));
+        match (value, text) {
+            (Some(value), Some(text)) => {
+                let shown = value.to_kstr(alloc)?;
+                assert_eq!(rt; shown.as_str(), text);
+            }
+            (value, text) => assert_eq!(rt; value.is_some(), text.is_some()),
+        }
+    }
+    let mut owned = object.into_iter();
+    for (left, name, then) in [
+        (2, Some("a"), 1),
+        (1, Some("b"), 0),
+        (0, None, 0),
+        (0, None, 0),
+    ] {
+        let (before, entry, after) = step_over_owned_entries(&mut owned);
+        assert_eq!(rt; (before, after), (left, then));
+        match (entry, name) {
+            (Some((key, _)), Some(name)) => assert_eq!(rt; key.as_str(), name),
+            (entry, name) => assert_eq!(rt; entry.is_some(), name.is_some()),
+        }
+    }
     Ok(())
 }

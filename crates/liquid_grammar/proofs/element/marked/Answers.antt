@@ -18,15 +18,15 @@ returns-in-Some c =
 
 pub before-requires-in-Some-expression-clause-ends : goal.before-requires-in-Some-expression-clause-ends
 before-requires-in-Some-expression-clause-ends c =
-    let found = expression_found c.args.s.now _ c.in-Some-expression.rest.now _ c.in-Some-expression.ensures.value in
+    let found = expression_found c.args.s.now _ c.in-Some-expression.rest.now _ _ c.in-Some-expression.ensures.kind c.in-Some-expression.ensures.value in
     expression_ends c.args.s.now c.in-Some-expression.rest.now found.0 found.1
 
 pub returns-in-Some-expression : goal.returns-in-Some-expression
 returns-in-Some-expression c =
-    let found = expression_found c.args.s.now _ c.in-Some-expression.rest.now _ c.in-Some-expression.ensures.value in (
+    let found = expression_found c.args.s.now _ c.in-Some-expression.rest.now _ _ c.in-Some-expression.ensures.kind c.in-Some-expression.ensures.value in (
       expression found.0 (take (length c.args.s.now - length c.in-Some-expression.rest.now) c.args.s.now),
       expression_is c.args.s.now c.in-Some-expression.rest.now found.0 (no_tag c.args.s.now c.in-None.ensures.value) found.1,
-      record { chain_is = found.2; text_is = c.before-in-Some-expression.ensures; fault_is = found.3 },
+      record { chain_is = found.2; kind_is = found.4; text_is = c.before-in-Some-expression.ensures; fault_is = found.3 },
     )
 
 pub unreachable-requires : goal.unreachable-requires

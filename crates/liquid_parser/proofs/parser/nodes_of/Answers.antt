@@ -16,7 +16,7 @@ pub returns-in-None : goal.returns-in-None
 returns-in-None c =
     let goes = c.loop-element.invariant.1 in
     let found = c.in-Some.ensures.found in
-    let none = sym (c.in_ok-node.ensures _ _ found.0 found.1 found.2) ∙ ap (option_map shape) c.in-None.is in
+    let none = sym (c.in_ok-node.ensures found.0 found.2) ∙ ap (option_map shape) c.in-None.is in
     let stands = brace_stands c.args.text.now goes.front c.loop-element.rest.now _ _ goes.joined c.match_white.ensures.value in
     let front = front_is c.args.text.now (goes.front ++ white_before c.loop-element.rest.now) _ stands in
     refuses c.args.text.now _ _ (subst (λ f. Reads c.args.text.now (Err (invalid_liquid f))) (sym front) (Reads-refused goes found.1 none)) c.invalid_liquid.ensures
@@ -27,6 +27,6 @@ returns c = Reads-end (subst (λ rest. Goes c.args.text.now rest (shapes c.loop-
 pub loop-element-preserved : goal.loop-element-preserved
 loop-element-preserved c =
     let found = c.in-Some.ensures.found in
-    let gives = sym (c.in_ok-node.ensures _ _ found.0 found.1 found.2) ∙ ap (option_map shape) c.in-Some-2.is in
+    let gives = sym (c.in_ok-node.ensures found.0 found.2) ∙ ap (option_map shape) c.in-Some-2.is in
     let goes = Goes-node (shape c.in-Some-2.node) c.loop-element.invariant.1 found.1 gives in
     (search rules, subst (Goes c.args.text.now c.in-Some.behind.now) (sym (ap (map shape) c.in_ok-push-in-Some-2.ensures.items ∙ map_push shape c.loop-element.nodes.items c.in-Some-2.node)) goes)

@@ -1,6 +1,0 @@
-use Rattle.std.proofs.Common.{◌∙◌}
-use Rattle.liquid_grammar.proofs.Scanning.{chain_scan, joined_fault}
-use Rattle.liquid_grammar.proofs.filter.chain.Goals as goal
-
-pub returns-clause-value : goal.returns-clause-value
-returns-clause-value c = joined_fault _ _ c.or.result _ c.or.ensures ∙ chain_scan c.args.s.now c.in_ok-first.rest.now _ _ _ c.in_ok-first.ensures.value c.filters.ensures.value

@@ -1,0 +1,61 @@
+use Rattle.liquid_grammar.specs.Faults.{value_fault}
+use Rattle.liquid_grammar.specs.Meanings.{literal_of}
+use Rattle.liquid_grammar.specs.TokenSteps.{value}
+use Rattle.liquid_grammar.proofs.HeadLemmas.{literal_found, name_found, no_literal_found}
+use Rattle.liquid_grammar.proofs.KindLemmas.{literal_is, identifier_is, variable_is, nothing_kind, nothing_scan}
+use Rattle.liquid_grammar.proofs.ValueScan.{value_literal, variable_end, variable_more, no_value_scan}
+use Rattle.liquid_grammar.proofs.value.value_and_kind.Goals as goal
+
+pub returns-in_err-literal-clause-kind : goal.returns-in_err-literal-clause-kind
+returns-in_err-literal-clause-kind c = nothing_kind c.args.s.now _ c.from_residual.ensures c.in_err-literal.ensures.literal c.in_err-literal.ensures.name
+
+pub returns-in_err-literal-clause-value : goal.returns-in_err-literal-clause-value
+returns-in_err-literal-clause-value c = nothing_scan value_fault (value c.args.s.now) _ c.from_residual.ensures (no_value_scan c.args.s.now c.in_err-literal.ensures.literal c.in_err-literal.ensures.name)
+
+pub returns-in-Literal-default-clause-kind : goal.returns-in-Literal-default-clause-kind
+returns-in-Literal-default-clause-kind c =
+    let head = c.in_ok-literal in
+    literal_is c.args.s.now head.field-0.1.now (literal_of c.in-Literal-default.literal) (literal_found c.args.s.now head.field-0 c.in-Literal-default.literal c.in-Literal-default.is-0 head.ensures.literal)
+
+pub returns-in-Literal-default-clause-value : goal.returns-in-Literal-default-clause-value
+returns-in-Literal-default-clause-value c =
+    let head = c.in_ok-literal in
+    value_literal c.args.s.now head.field-0.1.now (literal_of c.in-Literal-default.literal) _ (literal_found c.args.s.now head.field-0 c.in-Literal-default.literal c.in-Literal-default.is-0 head.ensures.literal) c.literal_fault.ensures
+
+pub returns-in-Some-clause-kind : goal.returns-in-Some-clause-kind
+returns-in-Some-clause-kind c =
+    let head = c.in_ok-literal in
+    let name = c.in-Name-default in
+    variable_is c.args.s.now head.field-0.1.now _ _ name.name.now _ _
+    (no_literal_found c.args.s.now head.field-0 name.name name.is-0 head.ensures.literal)
+    (name_found c.args.s.now head.field-0 name.name name.is-0 head.ensures.name)
+    c.in-Some.ensures.value
+    c.indexes.ensures.value
+
+pub returns-in-Some-clause-value : goal.returns-in-Some-clause-value
+returns-in-Some-clause-value c =
+    let head = c.in_ok-literal in
+    let name = c.in-Name-default in
+    variable_more c.args.s.now head.field-0.1.now _ _ name.name.now _ _ _ c.or.ensures
+    (no_literal_found c.args.s.now head.field-0 name.name name.is-0 head.ensures.literal)
+    (name_found c.args.s.now head.field-0 name.name name.is-0 head.ensures.name)
+    c.in-Some.ensures.value
+    c.indexes.ensures.value
+
+pub returns-in-None-clause-kind : goal.returns-in-None-clause-kind
+returns-in-None-clause-kind c =
+    let head = c.in_ok-literal in
+    let name = c.in-Name-default in
+    identifier_is c.args.s.now head.field-0.1.now name.name.now
+    (no_literal_found c.args.s.now head.field-0 name.name name.is-0 head.ensures.literal)
+    (name_found c.args.s.now head.field-0 name.name name.is-0 head.ensures.name)
+    c.in-None.ensures.value
+
+pub returns-in-None-clause-value : goal.returns-in-None-clause-value
+returns-in-None-clause-value c =
+    let head = c.in_ok-literal in
+    let name = c.in-Name-default in
+    variable_end c.args.s.now head.field-0.1.now name.name.now
+    (no_literal_found c.args.s.now head.field-0 name.name name.is-0 head.ensures.literal)
+    (name_found c.args.s.now head.field-0 name.name name.is-0 head.ensures.name)
+    c.in-None.ensures.value

@@ -1,0 +1,61 @@
+//! Walks over an object: each says how many items are left, and ends after them.
+ghost use Rattle.std.specs.Prelude.{◌≡◌, length};
+ghost use Rattle.std.specs.Map.Iter.{TakesFirst, deref, deref_pair};
+ghost use Rattle.liquid_value.specs.Steps.{CountsDown};
+
+use crate::map::{IntoIter, Iter, Keys, Values};
+use crate::value::Value;
+
+/// A step of a walk over entries: how many were left, the first of them, and how many are left then.
+///
+/// Where none is left there is no entry, at this step and each later one.
+#[tactic(auto, using(crate::proofs::StepLemmas::counts_down))]
+pub fn step_over_entries<'o>(walk: &mut Iter<'o>) -> (usize, Option<(&'o String, &'o Value)>, usize)
+    ensures left { result.0 ≡ length walk.old }
+    ensures takes { TakesFirst deref_pair walk.old result.1 walk.new }
+    ensures remain { result.2 ≡ length walk.new }
+    ensures counts { CountsDown result.0 result.1 result.2 }
+{
+    let left = walk.len();
+    let entry = walk.next();
+    (left, entry, walk.len())
+}
+
+/// A step of a walk over names: how many were left, the first of them, and how many are left then.
+#[tactic(auto, using(crate::proofs::StepLemmas::counts_down))]
+pub fn step_over_keys<'o>(walk: &mut Keys<'o>) -> (usize, Option<&'o String>, usize)
+    ensures left { result.0 ≡ length walk.old }
+    ensures takes { TakesFirst deref walk.old result.1 walk.new }
+    ensures remain { result.2 ≡ length walk.new }
+    ensures counts { CountsDown result.0 result.1 result.2 }
+{
+    let left = walk.len();
+    let key = walk.next();
+    (left, key, walk.len())
+}
+
+/// A step of a walk over values: how many were left, the first of them, and how many are left then.
+#[tactic(auto, using(crate::proofs::StepLemmas::counts_down))]
+pub fn step_over_values<'o>(walk: &mut Values<'o>) -> (usize, Option<&'o Value>, usize)
+    ensures left { result.0 ≡ length walk.old }
+    ensures takes { TakesFirst deref walk.old result.1 walk.new }
+    ensures remain { result.2 ≡ length walk.new }
+    ensures counts { CountsDown result.0 result.1 result.2 }
+{
+    let left = walk.len();
+    let value = walk.next();
+    (left, value, walk.len())
+}
+
+/// A step of a walk that owns its entries: how many were left, the first of them, and how many are left then.
+#[tactic(auto, using(crate::proofs::StepLemmas::counts_down))]
+pub fn step_over_owned_entries(walk: &mut IntoIter) -> (usize, Option<(String, Value)>, usize)
+    ensures left { result.0 ≡ length walk.old }
+    ensures takes { TakesFirst (λ entry. entry) walk.old result.1 walk.new }
+    ensures remain { result.2 ≡ length walk.new }
+    ensures counts { CountsDown result.0 result.1 result.2 }
+{
+    let left = walk.len();
+    let owned = walk.next();
+    (left, owned, walk.len())
+}
