@@ -1,5 +1,5 @@
 -- Where memory runs out before anything is written, that is an outcome of each rendering.
-use Rattle.std.proofs.Common.{◌≡◌, ℕ, List, [], ◌++◌, Option, None, Ok, Err, refl, sym, subst, inl}
+use Rattle.std.proofs.Common.{◌≡◌, ℕ, List, [], Option, None, Ok, Err, refl, sym, subst, inl}
 use Rattle.std.proofs.lemmas.List.{append-nil}
 use Rattle.std.specs.Prelude.{MatchOption, IfSome}
 use Rattle.liquid_error.specs.declared.error.Error.{Error}
@@ -7,10 +7,8 @@ use Rattle.liquid_error.specs.Refusal.{Refusal}
 use Rattle.liquid_error.specs.Told.{told}
 use Rattle.liquid_runtime.specs.Maps.{Names}
 use Rattle.liquid_runtime.specs.Frames.{built_view}
-use Rattle.liquid_parser.specs.Reading.{Answer, Reads}
 use Rattle.liquid_template.specs.Run.{Run, run, written}
 use Rattle.liquid_template.specs.Outcome.{Sunk, Cut, Stopped}
-use Rattle.liquid_template.specs.Rendering.{Rendered}
 use Rattle.liquid.specs.Program.{Renders}
 
 cut_at_once : (r : Run) (at : Sunk) → Cut r at at

@@ -1,10 +1,9 @@
 -- What a read of the template's file leaves to be shown.
-use Rattle.std.proofs.Common.{◌≡◌, ℕ, List, Option, None, Some, Result, Ok, Err, refl, subst, inr, ◌∙◌}
+use Rattle.std.proofs.Common.{◌≡◌, ℕ, List, Option, None, Some, Ok, Err, refl, subst, inr, ◌∙◌}
 use Rattle.liquid_error.specs.declared.error.Error.{Error}
 use Rattle.liquid_error.specs.Told.{told}
 use Rattle.liquid_runtime.specs.Maps.{Names}
 use Rattle.liquid_template.specs.Outcome.{Sunk}
-use Rattle.liquid.specs.declared.folder.Unread.{Unread}
 use Rattle.liquid.specs.Files.{Reads}
 use Rattle.liquid.specs.Program.{Treats}
 use Rattle.liquid.proofs.MemoryLemmas.{nothing_rendered}

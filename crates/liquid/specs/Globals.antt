@@ -1,5 +1,5 @@
 -- The globals that the words of a command set.
-use Rattle.std.specs.Prelude.{ℕ, List, [], ◌∷◌, Option, None, Some, map, reverse, if◌then◌else◌}
+use Rattle.std.specs.Prelude.{ℕ, List, Option, None, Some, reverse, if◌then◌else◌}
 use Rattle.std.specs.List.{filter_map}
 use Rattle.std.specs.FinMap.{from_entries, insert}
 use Rattle.liquid_scalar.specs.Scalar.{text}
