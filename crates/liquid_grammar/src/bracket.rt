@@ -58,32 +58,11 @@ fn turn<'a>(state: Open<'a>) -> Option<Open<'a>>
     ensures within { IfSome result (λ next. length next.rest.now ≤ length state.entry.rest.now) }
     ensures whole { IfSome result (λ next. next.depth ≡ 0 → next.awaits ≡ Await.Index) }
 {
-    let rest = state.rest;
     match state.awaits {
         Await::Value => at_value(state),
-        Await::Index => match named(rest) {
-            Some(after) => Some(Open {
-                rest: after,
-                ..state
-            }),
-            None => match open_bracket(rest) {
-                Some(after) => {
-                    let fault = state.fault.or(depth_fault(rest, state.depth));
-                    Some(Open {
-                        rest: after,
-                        depth: state.depth + 1,
-                        fault,
-                        awaits: Await::Value,
-                    })
-                }
-                None => Some(Open {
-                    awaits: Await::Close,
-                    ..state
-                }),
-            },
-        },
+        Await::Index => Some(at_index(state)),
         Await::Close => {
-            let after = close_bracket(rest)?;
+            let after = close_bracket(state.rest)?;
             Some(Open {
                 rest: after,
                 depth: state.depth - 1,
@@ -116,6 +95,38 @@ fn at_value<'a>(state: Open<'a>) -> Option<Open<'a>>
             awaits: Await::Index,
             ..state
         }),
+    }
+}
+
+/// The step over the index that may stand here, or to the close bracket.
+fn at_index<'a>(state: Open<'a>) -> Open<'a>
+    requires some { 0 < state.depth }
+    requires index { state.awaits ≡ Await.Index }
+    requires fits { state.depth + length state.rest.now < 2 ^ 64 }
+    ensures same { going state.entry ≡ going result }
+    ensures room { result.depth + length result.rest.now ≤ state.entry.depth + length state.entry.rest.now }
+    ensures ends { 2 * length result.rest.now + rank result.awaits < 2 * length state.entry.rest.now + rank state.entry.awaits }
+    ensures within { length result.rest.now ≤ length state.entry.rest.now }
+    ensures whole { result.depth ≡ 0 → result.awaits ≡ Await.Index }
+{
+    let rest = state.rest;
+    match named(rest) {
+        Some(after) => Open {
+            rest: after,
+            ..state
+        },
+        None => match open_bracket(rest) {
+            Some(after) => Open {
+                rest: after,
+                depth: state.depth + 1,
+                fault: state.fault.or(depth_fault(rest, state.depth)),
+                awaits: Await::Value,
+            },
+            None => Open {
+                awaits: Await::Close,
+                ..state
+            },
+        },
     }
 }
 
