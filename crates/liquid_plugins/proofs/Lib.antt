@@ -1,0 +1,4 @@
+pub mod Agreement
+pub mod ErasedLemmas
+pub mod PathSteps
+pub mod Uneven
