@@ -1,5 +1,5 @@
 -- The path of a variable, index by index.
-use Rattle.std.proofs.Common.{◌≡◌, ℕ, ◌+◌, ◌<◌, List, ◌++◌, length, drop, get_or, Result, Ok, ap, ◌∙◌, add-one}
+use Rattle.std.proofs.Common.{◌≡◌, ℕ, ◌+◌, ◌<◌, List, ◌++◌, length, drop, get_or, Option, option_map, Result, Ok, ap, ◌∙◌, add-one}
 use Rattle.std.proofs.Math.Seq.{drop-cons}
 use Rattle.liquid_error.specs.Refusal.{Refusal}
 use Rattle.draft_runtime.specs.Answers.{ok_then}
@@ -7,6 +7,10 @@ use Rattle.draft_runtime.specs.Walk.{Path}
 use Rattle.liquid_plugins.specs.Expression.{index}
 use Rattle.liquid_plugins.specs.ExpressionOf.{expression_of, expressions_of}
 use Rattle.liquid_plugins.specs.declared.expression.Expression.{Expression}
+
+-- a path behind a front, if there is one
+abbrev pub try_behind : Path → Option Path → Option Path
+try_behind front o = option_map (λ path. front ++ path) o
 
 -- a path behind a front
 abbrev pub behind : Path → Result Path Refusal → Result Path Refusal

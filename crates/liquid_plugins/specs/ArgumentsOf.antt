@@ -2,7 +2,7 @@
 use Rattle.std.specs.Prelude.{ℕ, List, map}
 use Rattle.liquid_plugins.specs.Expression.{ExpressionShape}
 use Rattle.liquid_plugins.specs.ExpressionOf.{expression_of}
-use Rattle.liquid_plugins.specs.declared.filter.FilterArguments.{FilterArguments}
+use Rattle.liquid_plugins.specs.declared.parameters.FilterArguments.{FilterArguments}
 
 -- the positional ones, and those with a keyword
 pub record Arguments : Type 0 where

@@ -1,6 +1,7 @@
 -- The shapes of expressions and chains.
 use Rattle.std.specs.Prelude.{List, [], ◌∷◌, map, string_bytes}
 use Rattle.liquid_scalar.specs.Scalar.{Scal, scal}
+use Rattle.liquid_value.specs.Tree.{scalar}
 use Rattle.liquid_value.specs.View.{view as tree_of}
 use Rattle.liquid_plugins.specs.Expression.{ExpressionShape, literal, variable, Indexes, no_indexes, index}
 use Rattle.liquid_plugins.specs.Chain.{ChainShape}
@@ -33,6 +34,14 @@ name_of v = scal string_bytes v.variable
 
 abbrev pub own_indexes_of : VariableOf Expression → Indexes
 own_indexes_of v = expressions_of v.indexes.items
+
+-- the indexes, as a list
+abbrev pub index_list : VariableOf Expression → List ExpressionShape
+index_list v = map expression_of v.indexes.items
+
+-- a literal scalar
+abbrev pub literal_of : Scal → ExpressionShape
+literal_of x = literal (scalar x)
 
 abbrev pub variable_of : VariableOf Expression → ExpressionShape
 variable_of v = variable (name_of v) (own_indexes_of v)

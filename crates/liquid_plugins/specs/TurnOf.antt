@@ -3,7 +3,7 @@ use Rattle.std.specs.Prelude.{◌≡◌, ℕ, Result, Ok, Err, OnSome, option_ma
 use Rattle.liquid_error.specs.declared.error.Error.{Error}
 use Rattle.liquid_error.specs.Told.{told}
 use Rattle.draft_runtime.specs.View.{View}
-use Rattle.draft_runtime.specs.Written.{Written, written_of, with_written}
+use Rattle.draft_runtime.specs.Written.{Written, with_written}
 use Rattle.draft_runtime.specs.Calls.{frame_of}
 use Rattle.liquid_plugins.specs.Turns.{Told, TurnShape, text_turn, body_turn, partial_turn, end_turn}
 use Rattle.liquid_plugins.specs.declared.render.Turn.{Turn}
@@ -24,10 +24,3 @@ LeavesProgress (Err e) meant left = OnSome (told e) (left ≡ meant)
 -- the view that is left has this written in it, unless memory ran out
 abbrev pub Leaves : {A Reg : Type 0} → Result A Error → Written Reg → View Reg → View Reg → Type 0
 Leaves result written before after = LeavesProgress result (with_written written before) after
-
--- a node that has nothing to do
-abbrev pub tells_nothing : {Reg : Type 0} → View Reg → Told ℕ (Unit {0}) Reg
-tells_nothing v = record { answer = Ok 0; progress = tt; written = written_of v }
-
-abbrev pub ends : {Reg : Type 0} → ℕ → View Reg → Told TurnShape ℕ Reg
-ends p v = record { answer = Ok end_turn; progress = p; written = written_of v }

@@ -10,7 +10,6 @@ ghost use Rattle.draft_runtime.specs.Erased.{erase};
 ghost use Rattle.liquid_plugins.specs.Chain.{filtered, chain_value, chain_text};
 ghost use Rattle.liquid_plugins.specs.ExpressionOf.{expression_of, chain_of};
 
-use crate::evaluate::evaluate;
 use crate::expression::{Expression, FilterChain};
 use crate::filter::Filter;
 use crate::text::write_expression;
@@ -30,6 +29,8 @@ impl<X: Filter> FilterChain<X> {
     }
 
     /// What the chain comes to, or the first refusal from the left.
+    ///
+    /// The refusal of a filter gets the trace `Filter error` with the filter's label and the source of its input.
     pub fn evaluate<'s, R: Runtime>(
         &'s self,
         alloc: Global,
@@ -37,7 +38,7 @@ impl<X: Filter> FilterChain<X> {
     ) -> Result<ValueCow<'s>, Error>
         ensures { Gives cow_view result (chain_value (record { answers = X.answers; label = X.shown }) (chain_of X.shape self.now) (R.view runtime.now)) }
     {
-        match evaluate(alloc, &self.entry, runtime) {
+        match self.entry.evaluate(alloc, runtime) {
             Ok(value) => apply(alloc, value, self.filters.as_slice(), runtime),
             Err(error) => Err(error),
         }
@@ -72,33 +73,22 @@ fn filter_refused<X: Filter>(
 ) -> Error
     ensures { Becomes (λ r. with_context (codes "input") (source (cow_view input.now)) (with_context (codes "filter") (X.shown (X.shape filter.now)) (with_trace (codes "Filter error") r))) error result }
 {
-    let label = match (Label { filter }).to_string(alloc) {
-        Ok(label) => label,
-        Err(_) => return Error::Memory,
-    };
     let source = match ValueSource::new(input.as_view()).to_string(alloc) {
         Ok(source) => source,
         Err(_) => return Error::Memory,
     };
-    error.trace(alloc, "Filter error").context(alloc, "filter", label.as_str()).context(
+    with_filter(alloc, error, filter.label(), source.as_str())
+}
+
+/// The refusal with the trace of a filter, its label and its input's source.
+fn with_filter(alloc: Global, error: Error, label: &str, source: &str) -> Error
+    ensures { Becomes (λ r. with_context (codes "input") source.now (with_context (codes "filter") label.now (with_trace (codes "Filter error") r))) error result }
+{
+    error.trace(alloc, "Filter error").context(alloc, "filter", label).context(
         alloc,
         "input",
-        source.as_str(),
+        source,
     )
-}
-
-/// Displays the label of a filter.
-#[derive(Drop)]
-struct Label<'f, X> {
-    filter: &'f X,
-}
-
-impl<X: Filter> fmt::Display for Label<'_, X> {
-    ghost output = { λ d. Some (X.shown (X.shape d.filter.now)) };
-
-    fn fmt<W: fmt::Write>(&self, f: &mut fmt::Formatter<W>) -> fmt::Result {
-        self.filter.write_label(f)
-    }
 }
 
 /// The entry, ` | `, and the labels with ` | ` between.
@@ -118,7 +108,7 @@ fn write_labels<X: Filter, W: fmt::Write>(filters: &[X], f: &mut fmt::Formatter<
     match filters {
         [] => Ok(()),
         [first, rest @ ..] => {
-            first.write_label(f)?;
+            f.write_str(first.label())?;
             write_more(rest, f)
         }
     }
@@ -137,5 +127,5 @@ fn write_next<X: Filter, W: fmt::Write>(filter: &X, f: &mut fmt::Formatter<W>) -
     ensures { WritesOnOk W.write_str_gives f.old result (codes " | " ++ X.shown (X.shape filter.now)) f.new }
 {
     f.write_str(" | ")?;
-    filter.write_label(f)
+    f.write_str(filter.label())
 }

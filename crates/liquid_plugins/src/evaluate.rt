@@ -8,10 +8,10 @@ ghost use Rattle.liquid_value.specs.View.{view as tree_of};
 ghost use Rattle.draft_runtime.specs.Calls.{Finds};
 ghost use Rattle.draft_paths.specs.PathOf.{index_of, path_of};
 ghost use Rattle.liquid_plugins.specs.Evaluation.{evaluate, expected_scalar, try_evaluate};
-ghost use Rattle.liquid_plugins.specs.ExpressionOf.{expression_of, expressions_of};
-ghost use Rattle.liquid_plugins.specs.Parts.{named_path, try_named_path};
+ghost use Rattle.liquid_plugins.specs.ExpressionOf.{expression_of, expressions_of, name_of, own_indexes_of};
+ghost use Rattle.liquid_plugins.specs.Parts.{named_path, try_named_path, FindsPath};
 
-use crate::expression::Expression;
+use crate::expression::{Expression, Variable, VariableOf};
 use draft_paths::path::Path;
 use draft_runtime::runtime::Runtime;
 use liquid_error::Error;
@@ -21,9 +21,58 @@ use liquid_value::{Value, ValueCow};
 use std::alloc::Global;
 use std::borrow::CowStr;
 
+impl Expression {
+    /// What the expression comes to, or the first refusal from the left: a literal's value, and
+    /// what the runtime has at a variable's path. A value that stands in either is borrowed.
+    pub fn evaluate<'c, R: Runtime>(
+        &'c self,
+        alloc: Global,
+        runtime: &'c R,
+    ) -> Result<ValueCow<'c>, Error>
+        ensures { Gives cow_view result (evaluate (R.view runtime.now) (expression_of self.now)) }
+    {
+        evaluate(alloc, self, runtime)
+    }
+
+    /// What the expression comes to, if it comes to a value. The only error is want of memory.
+    pub fn try_evaluate<'c, R: Runtime>(
+        &'c self,
+        alloc: Global,
+        runtime: &'c R,
+    ) -> Result<Option<ValueCow<'c>>, Error>
+        ensures { Finds result (try_evaluate (R.view runtime.now) (expression_of self.now)) }
+    {
+        try_evaluate(alloc, self, runtime)
+    }
+}
+
+impl VariableOf<Expression> {
+    /// The path of the variable, or the first refusal of an index from the left.
+    pub fn evaluate<'c, R: Runtime>(
+        &'c self,
+        alloc: Global,
+        runtime: &'c R,
+    ) -> Result<Path<'c>, Error>
+        ensures { Gives path_of result (named_path (R.view runtime.now) (name_of self.now) (own_indexes_of self.now)) }
+    {
+        named_path(alloc, &self.variable, &self.indexes, runtime)
+    }
+
+    /// The path of the variable, if each index comes to a scalar. The only error is want of memory.
+    pub fn try_evaluate<'c, R: Runtime>(
+        &'c self,
+        alloc: Global,
+        runtime: &'c R,
+    ) -> Result<Option<Path<'c>>, Error>
+        ensures { FindsPath path_of result (try_named_path (R.view runtime.now) (name_of self.now) (own_indexes_of self.now)) }
+    {
+        try_named_path(alloc, &self.variable, &self.indexes, runtime)
+    }
+}
+
 /// What the expression comes to, or the first refusal from the left.
 #[cycle(evaluate)]
-pub fn evaluate<'c, R: Runtime>(
+fn evaluate<'c, R: Runtime>(
     alloc: Global,
     expression: &'c Expression,
     runtime: &'c R,
@@ -67,7 +116,71 @@ fn named_path<'c, R: Runtime>(
     Ok(path)
 }
 
-/// The scalar of an index's value.
+/// What the expression comes to, if it comes to a value.
+#[cycle(try_evaluate)]
+fn try_evaluate<'c, R: Runtime>(
+    alloc: Global,
+    expression: &'c Expression,
+    runtime: &'c R,
+) -> Result<Option<ValueCow<'c>>, Error>
+    ensures { Finds result (try_evaluate (R.view runtime.now) (expression_of expression.now)) }
+{
+    match expression {
+        Expression::Literal(value) => Ok(Some(ValueCow::Borrowed(value))),
+        Expression::Variable(variable) => match try_named_path(
+            alloc,
+            &variable.variable,
+            &variable.indexes,
+            runtime,
+        ) {
+            Ok(Some(path)) => runtime.try_get(alloc, path.as_slice()),
+            Ok(None) => Ok(None),
+            Err(error) => Err(error),
+        },
+    }
+}
+
+/// The path of a name, and of what the indexes come to, if each comes to a scalar.
+#[cycle(try_evaluate)]
+fn try_named_path<'c, R: Runtime>(
+    alloc: Global,
+    name: &'c Scalar,
+    indexes: &'c Vec<Expression>,
+    runtime: &'c R,
+) -> Result<Option<Path<'c>>, Error>
+    ensures { FindsPath path_of result (try_named_path (R.view runtime.now) (scal string_bytes name.now) (expressions_of indexes.now.items)) }
+{
+    let mut path = Path::with_index(alloc, name.as_ref())?;
+    for index in indexes {
+        match try_evaluate(alloc, index, runtime) {
+            Ok(Some(value)) => match scalar_of(value) {
+                Some(scalar) => path.push(scalar)?,
+                None => return Ok(None),
+            },
+            Ok(None) => return Ok(None),
+            Err(error) => return Err(error),
+        }
+    }
+    Ok(Some(path))
+}
+
+/// The scalar that a value is, if it is one.
+fn scalar_of<'c>(value: ValueCow<'c>) -> Option<ScalarCow<'c>>
+    ensures { option_map index_of result ≡ as_scalar (cow_view value.entry) }
+{
+    match value {
+        ValueCow::Borrowed(value) => match value {
+            Value::Scalar(scalar) => Some(scalar.as_ref()),
+            _ => None,
+        },
+        ValueCow::Owned(value) => match value {
+            Value::Scalar(scalar) => Some(owned_index(scalar)),
+            _ => None,
+        },
+    }
+}
+
+/// The scalar of an index's value, or the refusal where it is none.
 fn index_of<'c>(alloc: Global, value: ValueCow<'c>) -> Result<ScalarCow<'c>, Error>
     ensures { Gives index_of result (ok_or (as_scalar (cow_view value.entry)) (expected_scalar (cow_view value.entry))) }
 {

@@ -1,6 +1,5 @@
-//! Filters.
-ghost use Rattle.std.specs.Prelude.{ℕ, List, Result};
-ghost use Rattle.std.specs.Fmt.{WritesOnOk};
+//! Filters, and what makes them.
+ghost use Rattle.std.specs.Prelude.{◌≡◌, ℕ, List, Result};
 ghost use Rattle.liquid_error.specs.Refusal.{Refusal};
 ghost use Rattle.liquid_error.specs.Told.{Gives};
 ghost use Rattle.liquid_value.specs.Tree.{Tree};
@@ -10,22 +9,26 @@ ghost use Rattle.draft_runtime.specs.Answers.{ok_then};
 ghost use Rattle.draft_runtime.specs.Erased.{Erased, erase};
 ghost use Rattle.liquid_plugins.specs.ArgumentsOf.{Arguments, arguments_of};
 
-use crate::expression::Expression;
 use crate::meant::Meant;
+use crate::parameters::FilterArguments;
+use crate::reflection::FilterReflection;
 use draft_runtime::runtime::Runtime;
 use liquid_error::Error;
 use liquid_value::{Value, ValueCow};
 use std::alloc::Global;
-use std::fmt;
 
 /// A filter of a chain.
+///
+/// It reads the runtime and can't write to it. What it answers is a function of itself, its input
+/// and what it sees of the names: globals that are hidden from a template are hidden from it too.
 pub trait Filter: Meant + Drop {
     // what it answers, by its input and what it sees of the view
     ghost answers: { Self.Shape → Tree → Erased → Result Tree Refusal };
 
-    // the text that is shown
+    // its label
     ghost shown: { Self.Shape → List ℕ };
 
+    /// The value that the filter makes of the input, or its refusal.
     fn evaluate<'s, R: Runtime>(
         &'s self,
         alloc: Global,
@@ -34,30 +37,24 @@ pub trait Filter: Meant + Drop {
     ) -> Result<Value, Error>
         ensures { Gives tree_of result (answers (Self.shape self.now) (cow_view input.now) (erase (R.view runtime.now))) };
 
-    /// Writes the text that is shown.
-    fn write_label<W: fmt::Write>(&self, f: &mut fmt::Formatter<W>) -> fmt::Result
-        ensures { WritesOnOk W.write_str_gives f.old result (shown (Self.shape self.now)) f.new };
+    /// The text that stands for the filter where a chain is shown and in the errors out of it.
+    fn label(&self) -> &str
+        ensures { result.now ≡ shown (Self.shape self.now) };
 }
 
-/// The arguments of a filter.
-#[derive(Drop)]
-pub struct FilterArguments<'a> {
-    pub positional: Vec<Expression>,
-    pub keyword: Vec<(&'a str, Expression)>,
-}
-
-/// Makes the filters of a name.
-pub trait ParseFilter {
+/// Makes the filters of a name, each of its arguments.
+pub trait ParseFilter: FilterReflection {
     type Filter: Filter;
 
     // the shape of the filter that arguments make, or the refusal
     ghost makes: { Self → Arguments → Result Self.Filter.Shape Refusal };
 
+    /// The filter that the arguments make, or the refusal of arguments that don't fit.
     fn parse(&self, alloc: Global, arguments: FilterArguments<'_>) -> Result<Self::Filter, Error>
         ensures { Gives Self.Filter.shape result (makes self.now (arguments_of arguments.entry)) };
 }
 
-/// What a filter answers to an input, over this runtime.
+/// What the filter of these arguments makes of the input, over this runtime.
 pub fn call_filter<P: ParseFilter, R: Runtime>(
     alloc: Global,
     filter: &P,
