@@ -15,6 +15,7 @@ use Rattle.draft_runtime.specs.Walk.{Path, walk, find_behind, unknown_index}
 use Rattle.draft_runtime.specs.Laws.{FindAgrees}
 use Rattle.liquid_plugins.specs.Expression.{ExpressionShape, literal, variable, Indexes, no_indexes, index}
 use Rattle.liquid_plugins.specs.Evaluation.{evaluate, path_of, try_evaluate, try_path_of, expected_scalar}
+use Rattle.liquid_plugins.specs.Parts.{named_path, try_named_path}
 
 -- an answer and what comes of it
 ok_then-agrees : {A B : Type 0} (r : Result A Refusal) (f : A → Result B Refusal) (o : Option A) (h : A → Option B) → result_ok r ≡ o → ((x : A) → result_ok (f x) ≡ h x) → result_ok (ok_then r f) ≡ option_and_then h o
@@ -68,3 +69,6 @@ module _ {Reg : Type 0} where
         (as_scalar t) (λ scalar. option_map (λ path. scalar ∷ path) (try_path_of v es))
         (ok_or-agrees (as_scalar t) (expected_scalar t))
         (λ scalar. ok_then-map scalar (path_of v es) (try_path_of v es) (path_agrees v es)))
+
+  pub paths_agree : (v : View Reg) (name : Scal) (is : Indexes) → result_ok (named_path v name is) ≡ try_named_path v name is
+  paths_agree v name is = ok_then-map name (path_of v is) (try_path_of v is) (path_agrees v is)
