@@ -2,3 +2,4 @@ pub mod Step
 pub mod Walk
 pub mod PathOf
 pub mod InPlace
+pub mod Laws
