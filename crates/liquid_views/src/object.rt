@@ -5,7 +5,7 @@ ghost use Rattle.liquid_value.specs.Members.{get_member, member_count};
 ghost use Rattle.liquid_value.specs.Render.{render, source, listed_member, listed_members};
 ghost use Rattle.liquid_value.specs.Tree.{Members, object};
 ghost use Rattle.liquid_value.specs.View.{members_view};
-ghost use Rattle.liquid_views.specs.Names.{names};
+ghost use Rattle.liquid_value.specs.Names.{names};
 ghost use Rattle.liquid_views.specs.Trees.{members_by};
 
 use crate::kind::ViewKind;

@@ -1,5 +1,5 @@
 use Rattle.std.proofs.Common.{◌≡◌, ◌++◌, map}
-use Rattle.liquid_views.specs.Names.{names}
+use Rattle.liquid_value.specs.Names.{names}
 use Rattle.liquid_views.specs.Trees.{members_by}
 use Rattle.liquid_views.proofs.object.BTreeMapStringObjectView.keys.Given as goal
 
