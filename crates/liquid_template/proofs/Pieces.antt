@@ -1,61 +1,92 @@
--- How far one piece is written, and the outcomes of writing it.
-use Rattle.std.proofs.Common.{◌≡◌, ℕ, ◌+◌, ◌-◌, ◌<◌, List, [], ◌∷◌, ◌++◌, length, take, drop, Option, None, Some, Err, ap, ◌∙◌, inr, arith, append_assoc}
-use Rattle.std.specs.Prelude.{MatchOption, IfSome}
+-- How far one piece is written, and what writing it comes to.
+use Rattle.std.proofs.Common.{◌≡◌, ℕ, ◌+◌, ◌-◌, ◌<◌, List, [], ◌∷◌, ◌++◌, length, take, drop, Option, None, Some, Result, Ok, Err, refl, sym, ap, ◌∙◌, ◌⊎◌, inl, inr, arith, append_assoc}
+use Rattle.std.specs.Prelude.{MatchOption, IfSome, IsUtf8}
+use Rattle.std.specs.Io.KnownBytes.{Appends}
 use Rattle.std.proofs.lemmas.List.{append-nil, length-drop, take_all, take-append-drop}
-use Rattle.liquid_error.specs.declared.error.Error.{Error}
+use Rattle.liquid_error.specs.declared.error.Error.{Error, fold-Error}
+use Rattle.liquid_error.specs.declared.error.Error.TheVariants as variants
+use Rattle.liquid_error.specs.declared.error.Error.TheOpen as layer
+use Rattle.liquid_error.specs.declared.error.Error.TheFolds.{fold-roll-Error}
 use Rattle.liquid_error.specs.Refusal.{Refusal}
-use Rattle.liquid_error.specs.Told.{told}
-use Rattle.liquid_template.specs.Run.{one_piece}
-use Rattle.liquid_template.specs.Outcome.{Sunk, BrokenOff, Cut, Stopped, Outcome, failed_to_render}
+use Rattle.liquid_error.specs.Told.{told, told_step}
+use Rattle.liquid_template.specs.Grows.{Grows}
+use Rattle.liquid_template.specs.Sunk.{Sunk}
+use Rattle.liquid_template.specs.Outcome.{failed_to_render}
+use Rattle.liquid_template.specs.PieceOut.{Partly, PieceOut}
+use Rattle.liquid_template.proofs.Growth.{Grows-start, Grows-put, Grows-both}
 
 -- the sink took a part of the piece, and the rest is left
-pub record Partly (piece rest : List ℕ) (before now : Sunk) : Type 0 where
+pub record SoFar (piece rest : List ℕ) (before now : Sunk) : Type 0 where
   pub part : List ℕ
-  pub pieces : piece ≡ part ++ rest
+  pub is : piece ≡ part ++ rest
   pub taken : now.taken ≡ before.taken ++ part
   pub failures : now.failures ≡ before.failures
+  pub grows : Grows before.taken before.behind now.taken now.behind
+  pub lent : now.lent ≡ before.lent
+
+-- what a put leaves of a sink
+pub record PutTook (taken : List ℕ) (count : ℕ) (before after : Sunk) : Type 0 where
+  pub bytes : after.taken ≡ before.taken ++ taken
+  pub failures : after.failures ≡ before.failures + count
+  pub behind : Appends before.behind after.behind taken
+  pub lent : after.lent ≡ before.lent
+
+pub so_far_begins : (piece : List ℕ) (b : Sunk) → SoFar piece piece b b
+so_far_begins piece b = record { part = []; is = refl; taken = sym (append-nil b.taken); failures = refl; grows = Grows-start b.taken b.behind; lent = refl }
+
+put_grows : (taken : List ℕ) (count : ℕ) (b m a : Sunk) → Grows b.taken b.behind m.taken m.behind → PutTook taken count m a → Grows b.taken b.behind a.taken a.behind
+put_grows taken count b m a g p = Grows-both b.taken b.behind m.taken m.behind a.taken a.behind g (Grows-put m.taken m.behind a.taken a.behind taken p.bytes p.behind)
 
 -- a put that took some of the rest leaves what stands behind it
-pub Partly-put : (piece rest : List ℕ) (before now after : Sunk) (count : ℕ) → Partly piece rest before now
-    → after.taken ≡ now.taken ++ take count rest → after.failures ≡ now.failures + 0 → Partly piece (take (length rest - count) (drop count rest)) before after
-Partly-put piece rest before now after count p t f = record {
-  part = p.part ++ take count rest;
-  pieces = p.pieces ∙ rw (take_all (length rest - count) (drop count rest) (omega (arith, length-drop count rest)), append_assoc, take-append-drop count rest);
-  taken = t ∙ rw (p.taken, append_assoc);
-  failures = omega (arith, f, p.failures);
+pub so_far_put : (piece rest : List ℕ) (b m a : Sunk) (count : ℕ) → SoFar piece rest b m → PutTook (take count rest) 0 m a → SoFar piece (take (length rest - count) (drop count rest)) b a
+so_far_put piece rest b m a count s p = record {
+  part = s.part ++ take count rest;
+  is = s.is ∙ rw (take_all (length rest - count) (drop count rest) (omega (arith, length-drop count rest)), append_assoc, take-append-drop count rest);
+  taken = p.bytes ∙ rw (s.taken, append_assoc);
+  failures = omega (arith, p.failures, s.failures);
+  grows = put_grows (take count rest) 0 b m a s.grows p;
+  lent = p.lent ∙ s.lent;
 }
 
-piece_cut : (piece rest : List ℕ) (before now after : Sunk) → Partly piece rest before now
-    → after.taken ≡ now.taken ++ [] → after.failures ≡ now.failures + 1 → Cut (one_piece piece) before after
-piece_cut piece rest before now after p t f = record {
-  part = p.part;
-  left = rest;
-  pieces = append-nil piece ∙ p.pieces;
-  taken = t ∙ append-nil now.taken ∙ p.taken;
-  failures = inr (omega (arith, f, p.failures));
+-- all of the piece was taken
+nothing_left : (xs : List ℕ) → length xs ≡ 0 → xs ≡ []
+nothing_left [] e = refl
+nothing_left (x ∷ xs) e = cc
+
+pub piece_done : (piece rest : List ℕ) (b a : Sunk) (u : Unit {0}) → length rest ≡ 0 → IsUtf8 piece → SoFar piece rest b a → PieceOut piece b a (Ok u)
+piece_done piece rest b a u e t s =
+    let all : a.taken ≡ b.taken ++ piece = s.taken ∙ ap (λ x. b.taken ++ x) (sym (s.is ∙ ap (λ x. s.part ++ x) (nothing_left rest e) ∙ append-nil s.part)) in
+    record {
+      taken = (all, s.failures);
+      pours = record { grows = s.grows; lent = s.lent; text = record { more = piece; taken_is = all; text = t } };
+    }
+
+partly : (piece rest : List ℕ) (b m a : Sunk) (count : ℕ) → SoFar piece rest b m → 0 < length rest → PutTook [] count m a → Partly piece b a
+partly piece rest b m a count s h p = record { part = s.part; rest = rest; is = s.is; some_left = h; taken = p.bytes ∙ append-nil m.taken ∙ s.taken }
+
+failed_cases : (t : Option Refusal) (m n : ℕ) → m ≡ n + 1 → IfSome t (λ r. r ≡ failed_to_render [])
+    → MatchOption t ((m ≡ n) ⊎ (m ≡ n + 1)) (λ refusal. (m ≡ n + 1) × (refusal ≡ failed_to_render []))
+failed_cases None m n e h = inr e
+failed_cases (Some r) m n e h = (e, h)
+
+-- the sink failed at a put
+pub piece_failed : (piece rest : List ℕ) (b m a : Sunk) (e : Error) → SoFar piece rest b m → 0 < length rest → PutTook [] 1 m a → IfSome (told e) (λ r. r ≡ failed_to_render []) → PieceOut piece b a (Err e)
+piece_failed piece rest b m a e s h p is = record {
+  taken = (partly piece rest b m a 1 s h p, failed_cases (told e) a.failures b.failures (omega (arith, p.failures, s.failures)) is);
+  pours = record { grows = put_grows [] 1 b m a s.grows p; lent = p.lent ∙ s.lent; text = tt };
 }
 
-piece_broken : (piece rest : List ℕ) (before now after : Sunk) → Partly piece rest before now → 0 < length rest
-    → after.taken ≡ now.taken ++ [] → after.failures ≡ now.failures + 1 → BrokenOff (one_piece piece) before after
-piece_broken piece rest before now after p some t f = record {
-  pieces = [];
-  part = p.part;
-  left = rest;
-  later = [];
-  steps = ap (λ (x : List ℕ). x ∷ []) p.pieces;
-  some_left = some;
-  taken = t ∙ append-nil now.taken ∙ p.taken;
-  failures = omega (arith, f, p.failures);
+-- want of memory tells nothing
+pub told_memory : told variants.Memory ≡ None
+told_memory = ap (fold-Error (Option Refusal) told_step) (sym variants.rolls-Memory) ∙ fold-roll-Error (Option Refusal) told_step layer.Memory
+
+lost_cases : (t : Option Refusal) (m n : ℕ) → t ≡ None → m ≡ n → MatchOption t ((m ≡ n) ⊎ (m ≡ n + 1)) (λ refusal. (m ≡ n + 1) × (refusal ≡ failed_to_render []))
+lost_cases None m n i e = inl e
+lost_cases (Some r) m n i e = cc
+
+-- the sink had no memory for a put
+pub piece_lost : (piece rest : List ℕ) (b m a : Sunk) (e : Error) → SoFar piece rest b m → 0 < length rest → PutTook [] 0 m a → told e ≡ None → PieceOut piece b a (Err e)
+piece_lost piece rest b m a e s h p is = record {
+  taken = (partly piece rest b m a 0 s h p, lost_cases (told e) a.failures b.failures is (omega (arith, p.failures, s.failures)));
+  pours = record { grows = put_grows [] 0 b m a s.grows p; lent = p.lent ∙ s.lent; text = tt };
 }
-
-failed_cases : (piece rest : List ℕ) (before now after : Sunk) (t : Option Refusal) → Partly piece rest before now → 0 < length rest
-    → after.taken ≡ now.taken ++ [] → after.failures ≡ now.failures + 1 → IfSome t (λ r. r ≡ failed_to_render)
-    → MatchOption t (Cut (one_piece piece) before after) (Stopped (one_piece piece) before after)
-failed_cases piece rest before now after None p some t f is = piece_cut piece rest before now after p t f
-failed_cases piece rest before now after (Some r) p some t f is = inr (piece_broken piece rest before now after p some t f, is)
-
--- a put that failed ends the piece as broken off, or cut where the refusal found no memory
-pub Outcome-failed : (piece rest : List ℕ) (before now after : Sunk) (e : Error) → Partly piece rest before now → 0 < length rest
-    → after.taken ≡ now.taken ++ [] → after.failures ≡ now.failures + 1 → IfSome (told e) (λ r. r ≡ failed_to_render)
-    → Outcome (one_piece piece) before after (Err e)
-Outcome-failed piece rest before now after e p some t f is = failed_cases piece rest before now after (told e) p some t f is

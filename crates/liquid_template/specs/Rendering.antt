@@ -1,19 +1,22 @@
--- What rendering a text comes to, by what the text is read as.
-use Rattle.std.specs.Prelude.{◌≡◌, Result, Ok, Err, IfSome}
-use Rattle.liquid_error.specs.declared.error.Error.{Error}
-use Rattle.liquid_error.specs.Refusal.{Refusal}
-use Rattle.liquid_error.specs.Told.{told}
-use Rattle.liquid_runtime.specs.View.{View}
-use Rattle.liquid_parser.specs.Reading.{Answer}
-use Rattle.liquid_template.specs.Run.{run}
-use Rattle.liquid_template.specs.Outcome.{Sunk, Outcome}
+-- What rendering a template comes to.
+use Rattle.std.specs.Prelude.{ℕ, List, Option, None}
+use Rattle.liquid_runtime.specs.Maps.{Names}
+use Rattle.liquid_runtime.specs.Frames.{sandboxed_frame}
+use Rattle.liquid_tree.specs.Tree.{Nodes}
+use Rattle.liquid_template.specs.Run.{Action}
+use Rattle.liquid_template.specs.Actions.{under}
+use Rattle.liquid_template.specs.Nodes.{Setting, run_nodes}
+use Rattle.liquid_template.specs.Partials.{partials_at}
 
--- the call is refused in this way; want of memory says nothing of the reason
-abbrev pub Refuses : Refusal → Result (Unit {0}) Error → Type 0
-Refuses refusal (Ok _) = ⊥
-Refuses refusal (Err error) = IfSome (told error) (λ reason. reason ≡ refusal)
+module _ {Reg F T P B Q : Type 0} (s : Setting Reg F T P B Q) where
+  -- nodes, where so many partials may still be open
+  abbrev pub nodes_run : ℕ → Nodes F T B → Action Reg
+  nodes_run depth ns = run_nodes s (partials_at s depth) ns
 
--- a text that is read as a tree is rendered as the tree's run; one that is refused is refused alike, and nothing is written
-abbrev pub Rendered : {Reg : Type 0} → Answer → View Reg → Sunk → Sunk → Result (Unit {0}) Error → Type 0
-Rendered (Ok nodes) v before after result = Outcome (run v nodes) before after result
-Rendered (Err refusal) v before after result = (after ≡ before) × Refuses refusal result
+  -- a template's nodes, in a view that says how many
+  abbrev pub template_run : Nodes F T B → Action Reg
+  template_run ns v = nodes_run v.depth ns v
+
+  -- the same under a sandboxed frame
+  abbrev pub sandboxed_run : Names → Option (List ℕ) → Nodes F T B → Action Reg
+  sandboxed_run names name ns = under s.fresh (sandboxed_frame names name) None (template_run ns)

@@ -1,20 +1,19 @@
 //! Sinks, and the rendering of parsed templates.
 #![tactic(auto)]
 
+mod cycle;
 mod history;
-mod node;
 mod piece;
 mod sink;
-mod source;
+mod store;
 mod template;
-#[cfg(test)]
-mod tests;
 mod text_sink;
+mod trace;
 mod writer_sink;
 
 pub use crate::history::History;
 pub use crate::sink::{Sink, SinkFault};
-pub use crate::source::render_source;
+pub use crate::store::PartialStore;
 pub use crate::template::Template;
 pub use crate::text_sink::TextSink;
 pub use crate::writer_sink::WriterSink;

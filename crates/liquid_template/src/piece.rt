@@ -1,8 +1,7 @@
 //! Writing one piece to a sink.
-ghost use Rattle.std.specs.Prelude.{◌≡◌, IsUtf8, OnOk};
-ghost use Rattle.liquid_template.specs.Grows.{Grows};
-ghost use Rattle.liquid_template.specs.Outcome.{Outcome, sunk};
-ghost use Rattle.liquid_template.specs.Run.{one_piece};
+ghost use Rattle.std.specs.Prelude.{◌≡◌};
+ghost use Rattle.liquid_template.specs.Sunk.{sunk};
+ghost use Rattle.liquid_template.specs.PieceOut.{PieceOut};
 
 use crate::sink::{Sink, SinkFault};
 use liquid_error::Error;
@@ -11,12 +10,9 @@ use std::alloc::Global;
 /// Puts a piece until the sink has all of it; an empty piece makes no put. A failure of the sink is
 /// refused as "Failed to render".
 pub(crate) fn write_piece<K: Sink>(alloc: Global, sink: &mut K, piece: &str) -> Result<(), Error>
-    ensures outcome { Outcome (one_piece piece.now)
-        (sunk (K.taken sink.old) (K.failures sink.old))
-        (sunk (K.taken sink.new) (K.failures sink.new)) result }
-    ensures text { OnOk result (IsUtf8 piece.now) }
-    ensures behind { Grows (K.taken sink.old) (K.behind sink.old) (K.taken sink.new) (K.behind sink.new) }
-    ensures lent { K.lent sink.new ≡ K.lent sink.old }
+    ensures { PieceOut piece.now
+        (sunk (K.taken sink.old) (K.failures sink.old) (K.behind sink.old) (K.lent sink.old))
+        (sunk (K.taken sink.new) (K.failures sink.new) (K.behind sink.new) (K.lent sink.new)) result }
 {
     let mut rest = piece.as_bytes();
     while !rest.is_empty() {

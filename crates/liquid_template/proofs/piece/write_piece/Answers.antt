@@ -1,17 +1,22 @@
-use Rattle.std.proofs.Common.{◌∙◌, rules}
-use Rattle.liquid_template.specs.Outcome.{sunk}
-use Rattle.liquid_template.proofs.Growth.{Grows-both, Grows-put}
-use Rattle.liquid_template.proofs.Pieces.{Outcome-failed, Partly-put}
+use Rattle.std.proofs.Common.{rules}
+use Rattle.liquid_template.proofs.Pieces.{so_far_begins, so_far_put, piece_done, piece_failed, piece_lost, told_memory}
 use Rattle.liquid_template.proofs.piece.write_piece.Goals as goal
 
-pub returns-in-Err-Failed-clause-outcome : goal.returns-in-Err-Failed-clause-outcome
-returns-in-Err-Failed-clause-outcome g c =
-    let put = rw c.in-Err-Failed.field-0-is at c.in-Err-Failed.ensures in
-    Outcome-failed _ _ (sunk (g.K.Sink.taken c.args.sink.now) (g.K.Sink.failures c.args.sink.now)) _ _ _ c.loop-rest.invariant.partly (search rules) put.bytes put.count c.with_msg.ensures
+pub loop-rest-init : goal.loop-rest-init
+loop-rest-init g c = record { so_far = rw c.as_bytes-rest.ensures.value (so_far_begins _ _) }
 
 pub loop-rest-preserved : goal.loop-rest-preserved
-loop-rest-preserved g c = record {
-  partly = Partly-put _ c.loop-rest.rest.now _ _ _ c.in-Ok.count c.loop-rest.invariant.partly c.in-Ok.ensures.bytes c.in-Ok.ensures.count;
-  behind = Grows-both _ _ _ _ _ _ c.loop-rest.invariant.behind (Grows-put _ _ _ _ _ c.in-Ok.ensures.bytes c.in-Ok.ensures.behind);
-  lent = c.in-Ok.ensures.lent ∙ c.loop-rest.invariant.lent;
-}
+loop-rest-preserved g c = record { so_far = so_far_put _ _ _ _ _ c.in-Ok.count c.loop-rest.invariant.so_far (record { bytes = c.in-Ok.ensures.bytes; failures = c.in-Ok.ensures.count; behind = c.in-Ok.ensures.behind; lent = c.in-Ok.ensures.lent }) }
+
+pub returns : goal.returns
+returns g c = piece_done _ _ _ _ _ (search rules) c.utf8.piece c.loop-rest.invariant.so_far
+
+pub returns-in-Err-Failed : goal.returns-in-Err-Failed
+returns-in-Err-Failed g c =
+    let put = rw c.in-Err-Failed.field-0-is at c.in-Err-Failed.ensures in
+    piece_failed _ _ _ _ _ _ c.loop-rest.invariant.so_far (search rules) (record { bytes = put.bytes; failures = put.count; behind = put.behind; lent = put.lent }) c.with_msg.ensures
+
+pub returns-in-Err-Memory : goal.returns-in-Err-Memory
+returns-in-Err-Memory g c =
+    let put = rw c.in-Err-Memory.field-0-is at c.in-Err-Memory.ensures in
+    piece_lost _ _ _ _ _ _ c.loop-rest.invariant.so_far (search rules) (record { bytes = put.bytes; failures = put.count; behind = put.behind; lent = put.lent }) told_memory

@@ -1,0 +1,56 @@
+-- A frame that is pushed, rendered under and popped.
+use Rattle.std.proofs.Common.{◌≡◌, ℕ, ◌<◌, List, ◌∷◌, length, Option, None, Some, Result, Ok, Err, IfSome, refl, sym, ap, subst, ◌∙◌, arith, option_map}
+use Rattle.liquid_error.specs.declared.error.Error.{Error}
+use Rattle.liquid_error.specs.Refusal.{Refusal}
+use Rattle.liquid_error.specs.Told.{told}
+use Rattle.liquid_error.specs.Helpers.{ErrBecomes}
+use Rattle.liquid_runtime.specs.View.{View}
+use Rattle.liquid_runtime.specs.Frames.{FrameShape, no_frame, stack_frame, sandboxed_frame, global_frame, Restore, beginning, restored_by, ending}
+use Rattle.liquid_runtime.specs.OpenFrames.{opened, EndsFirst}
+use Rattle.liquid_template.specs.Run.{Run, Action}
+use Rattle.liquid_template.specs.Actions.{under, refused_through}
+use Rattle.liquid_template.specs.Sunk.{Sunk}
+use Rattle.liquid_template.specs.Outcome.{Renders}
+use Rattle.liquid_template.proofs.Joins.{renders_under, renders_refused}
+
+pub first_is : {A : Type 0} (x y : A) (xs ys : List A) → x ∷ xs ≡ y ∷ ys → x ≡ y
+first_is x y xs ys e = cc
+
+pub later_are : {A : Type 0} (x y : A) (xs ys : List A) → x ∷ xs ≡ y ∷ ys → xs ≡ ys
+later_are x y xs ys e = cc
+
+module _ {Reg : Type 0} where
+  -- a frame that was pushed can be popped
+  pub opened_restored : (frame : FrameShape) (v : View Reg) (rs : List (Restore Reg)) → 0 < length (opened (restored_by frame v ∷ rs))
+  opened_restored no_frame v rs = omega arith
+  opened_restored (stack_frame names name) v rs = omega arith
+  opened_restored (sandboxed_frame names name) v rs = omega arith
+  opened_restored global_frame v rs = omega arith
+
+  -- want of memory before anything was rendered
+  pub renders_memory : (r : Run Reg) (v : View Reg) (b : Sunk) (e : Error) → told e ≡ None → Renders r v b b v (Err e)
+  renders_memory r v b e h = renders_refused r v v b e (rw h tt) refl
+
+  -- pushed, rendered, popped
+  pub renders_framed : (fresh : Reg) (frame : FrameShape) (trace : Option (List ℕ)) (inner : Action Reg) (v v1 w x : View Reg) (rs rs1 rs2 rs3 : List (Restore Reg)) (b a : Sunk) (answer answer' : Result (Unit {0}) Error)
+      → v1 ≡ beginning fresh frame v → rs1 ≡ restored_by frame v ∷ rs → rs2 ≡ rs1 → EndsFirst rs2 w rs3 x → ErrBecomes (refused_through trace) answer answer'
+      → Renders (inner v1) v1 b a w answer → Renders (under fresh frame trace inner v) v b a x answer'
+  renders_framed fresh frame trace inner v v1 w x rs rs1 rs2 rs3 b a answer answer' h i j k e r =
+      let same : restored_by frame v ∷ rs ≡ k.restores ∷ rs3 = sym i ∙ sym j ∙ k.was_first in
+      let is : x ≡ ending (restored_by frame v) w = k.is_ended ∙ ap (λ o. ending o w) (sym (first_is (restored_by frame v) k.restores rs rs3 same)) in
+      subst (λ u. Renders (under fresh frame trace inner v) v b a u answer') (sym is)
+      (renders_under fresh frame trace inner v w b a answer answer' e (subst (λ u. Renders (inner u) u b a w answer) h r))
+
+  pub framed_kept : (frame : FrameShape) (v w x : View Reg) (rs rs1 rs2 rs3 : List (Restore Reg)) → rs1 ≡ restored_by frame v ∷ rs → rs2 ≡ rs1 → EndsFirst rs2 w rs3 x → rs3 ≡ rs
+  framed_kept frame v w x rs rs1 rs2 rs3 i j k = sym (later_are (restored_by frame v) k.restores rs rs3 (sym i ∙ sym j ∙ k.was_first))
+
+pub ruleset framing = (renders_framed, framed_kept, renders_memory, opened_restored)
+
+told_same : (t : Option Refusal) → IfSome t (λ refusal. option_map (refused_through None) t ≡ Some refusal)
+told_same None = tt
+told_same (Some refusal) = refl
+
+-- no trace changes no error
+pub becomes_itself : (answer : Result (Unit {0}) Error) → ErrBecomes (refused_through None) answer answer
+becomes_itself (Ok u) = refl
+becomes_itself (Err e) = told_same (told e)

@@ -1,0 +1,75 @@
+use Rattle.std.proofs.Common.{◌≡◌, ◌+◌, ◌*◌, ◌-◌, [], drop, Result, option_map}
+use Rattle.liquid_error.specs.declared.error.Error.{Error}
+use Rattle.liquid_runtime.specs.View.{View}
+use Rattle.liquid_tree.specs.NodesOf.{node_of, nodes_of}
+use Rattle.liquid_tree.specs.Size.{size_node, size_nodes, size_parts}
+use Rattle.liquid_template.specs.Nodes.{turns, run_parts}
+use Rattle.liquid_template.specs.Partials.{partials_at}
+use Rattle.liquid_template.specs.Rendering.{nodes_run}
+use Rattle.liquid_template.specs.Sunk.{Sunk, sunk}
+use Rattle.liquid_template.specs.Outcome.{Renders}
+use Rattle.liquid_template.specs.Runs.{setting, tag_run, block_run}
+use Rattle.liquid_template.specs.PartsOf.{parts_of}
+use Rattle.liquid_template.specs.Bound.{most, work}
+use Rattle.liquid_template.proofs.cycle.+render.Given as goal
+
+abbrev pub decreases-render_list : goal.decreases-render_list
+decreases-render_list g l = 8 * work l.depth (most g.S.Store.PartialStore.largest (g.S.Runtime.store l.scopes.now)) (size_nodes (nodes_of g.X.Meant.shape g.T.Meant.shape g.B.Meant.shape l.nodes.now)) + 3
+
+abbrev pub decreases-render_node : goal.decreases-render_node
+decreases-render_node g l = 8 * work l.depth (most g.S.Store.PartialStore.largest (g.S.Runtime.store l.scopes.now)) (size_node (node_of g.X.Meant.shape g.T.Meant.shape g.B.Meant.shape l.node.now)) + 2
+
+abbrev pub decreases-render_tag : goal.decreases-render_tag
+decreases-render_tag g l = 8 * work l.depth (most g.S.Store.PartialStore.largest (g.S.Runtime.store l.scopes.now)) 0 + 7
+
+abbrev pub decreases-render_block : goal.decreases-render_block
+decreases-render_block g l = 8 * work l.depth (most g.S.Store.PartialStore.largest (g.S.Runtime.store l.scopes.now)) (size_parts (parts_of g.X.Meant.shape g.T.Meant.shape g.B.Meant.shape l.parts.now)) + 7
+
+abbrev pub decreases-perform : goal.decreases-perform
+decreases-perform g l = 8 * work l.depth (most g.S.Store.PartialStore.largest (g.S.Runtime.store l.scopes.now)) (size_parts (parts_of g.X.Meant.shape g.T.Meant.shape g.B.Meant.shape l.parts.now)) + 6
+
+abbrev pub decreases-render_body : goal.decreases-render_body
+decreases-render_body g l = 8 * work l.depth (most g.S.Store.PartialStore.largest (g.S.Runtime.store l.scopes.now)) (size_parts (parts_of g.X.Meant.shape g.T.Meant.shape g.B.Meant.shape l.parts.now)) + 5
+
+abbrev pub decreases-render_part : goal.decreases-render_part
+decreases-render_part g l = 8 * work l.depth (most g.S.Store.PartialStore.largest (g.S.Runtime.store l.scopes.now)) (size_parts (parts_of g.X.Meant.shape g.T.Meant.shape g.B.Meant.shape l.parts.now)) + 4
+
+abbrev pub decreases-render_partial : goal.decreases-render_partial
+decreases-render_partial g l = 8 * work l.depth (most g.S.Store.PartialStore.largest (g.S.Runtime.store l.scopes.now)) 0 + 5
+
+abbrev pub decreases-render_found : goal.decreases-render_found
+decreases-render_found g l = 8 * work l.depth (most g.S.Store.PartialStore.largest (g.S.Runtime.store l.scopes.now)) 0 + 4
+
+abbrev pub invariant-render_list-loop-node : goal.invariant-render_list-loop-node
+invariant-render_list-loop-node g l = record {
+  kept : g.S.Runtime.restores l.scopes ≡ g.S.Runtime.restores l.fn.scopes;
+  finds : option_map g.S.Store.PartialStore.finds (g.S.Runtime.store l.scopes) ≡ option_map g.S.Store.PartialStore.finds (g.S.Runtime.store l.fn.scopes);
+  bound : most g.S.Store.PartialStore.largest (g.S.Runtime.store l.scopes) ≡ most g.S.Store.PartialStore.largest (g.S.Runtime.store l.fn.scopes);
+  same : g.S.Runtime.lent l.scopes ≡ g.S.Runtime.lent l.fn.scopes;
+  renders : (after : Sunk) (left : View g.row.S-Register.Denot) (answer : Result (Unit {0}) Error)
+      → Renders (nodes_run (setting g.S.Register.Fresh.fresh g.X.Filter.answers g.X.Filter.shown g.T.Renderable.starts g.T.Renderable.count g.T.Renderable.tells g.B.Renderable.starts g.B.Renderable.count g.B.Renderable.tells (option_map g.S.Store.PartialStore.finds (g.S.Runtime.store l.fn.scopes))) l.depth (nodes_of g.X.Meant.shape g.T.Meant.shape g.B.Meant.shape (drop l.node-index l.nodes)) (g.S.Runtime.view l.scopes)) (g.S.Runtime.view l.scopes) (sunk (g.K.Sink.taken l.sink) (g.K.Sink.failures l.sink) (g.K.Sink.behind l.sink) (g.K.Sink.lent l.sink)) after left answer
+      → Renders (nodes_run (setting g.S.Register.Fresh.fresh g.X.Filter.answers g.X.Filter.shown g.T.Renderable.starts g.T.Renderable.count g.T.Renderable.tells g.B.Renderable.starts g.B.Renderable.count g.B.Renderable.tells (option_map g.S.Store.PartialStore.finds (g.S.Runtime.store l.fn.scopes))) l.depth (nodes_of g.X.Meant.shape g.T.Meant.shape g.B.Meant.shape l.nodes) (g.S.Runtime.view l.fn.scopes)) (g.S.Runtime.view l.fn.scopes) (sunk (g.K.Sink.taken l.fn.sink) (g.K.Sink.failures l.fn.sink) (g.K.Sink.behind l.fn.sink) (g.K.Sink.lent l.fn.sink)) after left answer;
+}
+
+abbrev pub invariant-render_tag-loop : goal.invariant-render_tag-loop
+invariant-render_tag-loop g l = record {
+  kept : g.S.Runtime.restores l.scopes ≡ g.S.Runtime.restores l.fn.scopes;
+  finds : option_map g.S.Store.PartialStore.finds (g.S.Runtime.store l.scopes) ≡ option_map g.S.Store.PartialStore.finds (g.S.Runtime.store l.fn.scopes);
+  bound : most g.S.Store.PartialStore.largest (g.S.Runtime.store l.scopes) ≡ most g.S.Store.PartialStore.largest (g.S.Runtime.store l.fn.scopes);
+  same : g.S.Runtime.lent l.scopes ≡ g.S.Runtime.lent l.fn.scopes;
+  none : l.none.items ≡ [];
+  renders : (after : Sunk) (left : View g.row.S-Register.Denot) (answer : Result (Unit {0}) Error)
+      → Renders (turns (setting g.S.Register.Fresh.fresh g.X.Filter.answers g.X.Filter.shown g.T.Renderable.starts g.T.Renderable.count g.T.Renderable.tells g.B.Renderable.starts g.B.Renderable.count g.B.Renderable.tells (option_map g.S.Store.PartialStore.finds (g.S.Runtime.store l.fn.scopes))) (partials_at (setting g.S.Register.Fresh.fresh g.X.Filter.answers g.X.Filter.shown g.T.Renderable.starts g.T.Renderable.count g.T.Renderable.tells g.B.Renderable.starts g.B.Renderable.count g.B.Renderable.tells (option_map g.S.Store.PartialStore.finds (g.S.Runtime.store l.fn.scopes))) l.depth) (record { starts = g.T.Renderable.starts; count = g.T.Renderable.count; tells = g.T.Renderable.tells }) (g.T.Meant.shape l.tag) [] (l.end - l.counter) (g.T.Progress.Meant.shape l.progress) (g.S.Runtime.view l.scopes)) (g.S.Runtime.view l.scopes) (sunk (g.K.Sink.taken l.sink) (g.K.Sink.failures l.sink) (g.K.Sink.behind l.sink) (g.K.Sink.lent l.sink)) after left answer
+      → Renders (tag_run (setting g.S.Register.Fresh.fresh g.X.Filter.answers g.X.Filter.shown g.T.Renderable.starts g.T.Renderable.count g.T.Renderable.tells g.B.Renderable.starts g.B.Renderable.count g.B.Renderable.tells (option_map g.S.Store.PartialStore.finds (g.S.Runtime.store l.fn.scopes))) l.depth (g.T.Meant.shape l.tag) (g.S.Runtime.view l.fn.scopes)) (g.S.Runtime.view l.fn.scopes) (sunk (g.K.Sink.taken l.fn.sink) (g.K.Sink.failures l.fn.sink) (g.K.Sink.behind l.fn.sink) (g.K.Sink.lent l.fn.sink)) after left answer;
+}
+
+abbrev pub invariant-render_block-loop : goal.invariant-render_block-loop
+invariant-render_block-loop g l = record {
+  kept : g.S.Runtime.restores l.scopes ≡ g.S.Runtime.restores l.fn.scopes;
+  finds : option_map g.S.Store.PartialStore.finds (g.S.Runtime.store l.scopes) ≡ option_map g.S.Store.PartialStore.finds (g.S.Runtime.store l.fn.scopes);
+  bound : most g.S.Store.PartialStore.largest (g.S.Runtime.store l.scopes) ≡ most g.S.Store.PartialStore.largest (g.S.Runtime.store l.fn.scopes);
+  same : g.S.Runtime.lent l.scopes ≡ g.S.Runtime.lent l.fn.scopes;
+  renders : (after : Sunk) (left : View g.row.S-Register.Denot) (answer : Result (Unit {0}) Error)
+      → Renders (turns (setting g.S.Register.Fresh.fresh g.X.Filter.answers g.X.Filter.shown g.T.Renderable.starts g.T.Renderable.count g.T.Renderable.tells g.B.Renderable.starts g.B.Renderable.count g.B.Renderable.tells (option_map g.S.Store.PartialStore.finds (g.S.Runtime.store l.fn.scopes))) (partials_at (setting g.S.Register.Fresh.fresh g.X.Filter.answers g.X.Filter.shown g.T.Renderable.starts g.T.Renderable.count g.T.Renderable.tells g.B.Renderable.starts g.B.Renderable.count g.B.Renderable.tells (option_map g.S.Store.PartialStore.finds (g.S.Runtime.store l.fn.scopes))) l.depth) (record { starts = g.B.Renderable.starts; count = g.B.Renderable.count; tells = g.B.Renderable.tells }) (g.B.Meant.shape l.block) (run_parts (setting g.S.Register.Fresh.fresh g.X.Filter.answers g.X.Filter.shown g.T.Renderable.starts g.T.Renderable.count g.T.Renderable.tells g.B.Renderable.starts g.B.Renderable.count g.B.Renderable.tells (option_map g.S.Store.PartialStore.finds (g.S.Runtime.store l.fn.scopes))) (partials_at (setting g.S.Register.Fresh.fresh g.X.Filter.answers g.X.Filter.shown g.T.Renderable.starts g.T.Renderable.count g.T.Renderable.tells g.B.Renderable.starts g.B.Renderable.count g.B.Renderable.tells (option_map g.S.Store.PartialStore.finds (g.S.Runtime.store l.fn.scopes))) l.depth) (parts_of g.X.Meant.shape g.T.Meant.shape g.B.Meant.shape l.parts)) (l.end - l.counter) (g.B.Progress.Meant.shape l.progress) (g.S.Runtime.view l.scopes)) (g.S.Runtime.view l.scopes) (sunk (g.K.Sink.taken l.sink) (g.K.Sink.failures l.sink) (g.K.Sink.behind l.sink) (g.K.Sink.lent l.sink)) after left answer
+      → Renders (block_run (setting g.S.Register.Fresh.fresh g.X.Filter.answers g.X.Filter.shown g.T.Renderable.starts g.T.Renderable.count g.T.Renderable.tells g.B.Renderable.starts g.B.Renderable.count g.B.Renderable.tells (option_map g.S.Store.PartialStore.finds (g.S.Runtime.store l.fn.scopes))) l.depth (g.B.Meant.shape l.block) (parts_of g.X.Meant.shape g.T.Meant.shape g.B.Meant.shape l.parts) (g.S.Runtime.view l.fn.scopes)) (g.S.Runtime.view l.fn.scopes) (sunk (g.K.Sink.taken l.fn.sink) (g.K.Sink.failures l.fn.sink) (g.K.Sink.behind l.fn.sink) (g.K.Sink.lent l.fn.sink)) after left answer;
+}

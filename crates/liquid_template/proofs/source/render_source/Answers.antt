@@ -1,8 +1,0 @@
-use Rattle.liquid_template.proofs.Readings.{Rendered-read, Rendered-refused}
-use Rattle.liquid_template.proofs.source.render_source.Goals as goal
-
-pub returns-in-Err-clause-rendered : goal.returns-in-Err-clause-rendered
-returns-in-Err-clause-rendered g c = λ answer reads. Rendered-refused answer _ _ c.in-Err.error (c.in-Err.ensures.only answer reads)
-
-pub returns-in-Ok-clause-rendered : goal.returns-in-Ok-clause-rendered
-returns-in-Ok-clause-rendered g c = λ answer reads. Rendered-read answer _ _ _ _ _ (c.in-Ok.ensures.only answer reads) (rw (c.new.ensures) at c.render_to.ensures.outcome)

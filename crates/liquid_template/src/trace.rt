@@ -1,0 +1,24 @@
+//! The trace of a node on an error out of it.
+ghost use Rattle.std.specs.Prelude.{option_map, string_bytes};
+ghost use Rattle.liquid_error.specs.Helpers.{ErrBecomes};
+ghost use Rattle.liquid_template.specs.Actions.{refused_through};
+
+use liquid_error::Error;
+use std::alloc::Global;
+
+/// Puts the trace, if one is given, on an error.
+pub(crate) fn with_own_trace(
+    alloc: Global,
+    answer: Result<(), Error>,
+    trace: Option<String>,
+) -> Result<(), Error>
+    ensures { ErrBecomes (refused_through (option_map (λ s. string_bytes s) trace)) answer result }
+{
+    match answer {
+        Ok(()) => Ok(()),
+        Err(error) => match trace {
+            Some(text) => Err(error.trace(alloc, &text)),
+            None => Err(error),
+        },
+    }
+}

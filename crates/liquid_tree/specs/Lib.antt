@@ -1,0 +1,3 @@
+pub mod NodesOf
+pub mod Size
+pub mod Tree

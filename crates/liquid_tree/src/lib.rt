@@ -1,0 +1,6 @@
+//! The tree of nodes that a template is.
+#![tactic(auto)]
+
+mod node;
+
+pub use crate::node::Node;
