@@ -1,5 +1,5 @@
 -- What writing a run to a sink comes to: the answer, what the sink took, how often it failed, and the view that is left.
-use Rattle.std.specs.Prelude.{◌≡◌, ℕ, ◌+◌, ◌<◌, ◌⊎◌, List, ◌∷◌, ◌++◌, length, None, Some, Result, Ok, Err, MatchOption, codes}
+use Rattle.std.specs.Prelude.{◌≡◌, ℕ, ◌+◌, ◌<◌, ◌⊎◌, List, ◌∷◌, ◌++◌, length, None, Some, Result, Ok, Err, MatchOption, OnSome, codes}
 use Rattle.liquid_error.specs.declared.error.Error.{Error}
 use Rattle.liquid_error.specs.Refusal.{Refusal, Note, plain}
 use Rattle.liquid_error.specs.Told.{told}
@@ -58,3 +58,8 @@ pub record Renders {Reg : Type 0} (r : Run Reg) (entry : View Reg) (before after
   pub outcome : Outcome r before after left answer
   pub frames : SameFrames entry left
   pub pours : Pours before after answer
+
+-- the view that is left is the run's at its end; after want of memory no more is known
+abbrev pub Left : {A Reg : Type 0} → Run Reg → View Reg → Result A Error → Type 0
+Left r left (Ok x) = left ≡ r.view
+Left r left (Err error) = OnSome (told error) (left ≡ r.view)

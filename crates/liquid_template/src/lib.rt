@@ -4,6 +4,7 @@
 mod cycle;
 mod history;
 mod piece;
+mod render;
 mod sink;
 mod store;
 mod template;

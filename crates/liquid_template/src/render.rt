@@ -1,0 +1,113 @@
+//! Rendering templates.
+ghost use Rattle.std.specs.Prelude.{◌≡◌, OnOk, option_map, string_bytes};
+ghost use Rattle.liquid_error.specs.Told.{Gives};
+ghost use Rattle.liquid_runtime.specs.Written.{SameFrames};
+ghost use Rattle.liquid_template.specs.Outcome.{Left, Renders};
+ghost use Rattle.liquid_template.specs.Rendering.{template_run};
+ghost use Rattle.liquid_template.specs.Run.{whole_text};
+ghost use Rattle.liquid_template.specs.Runs.{setting};
+ghost use Rattle.liquid_template.specs.Sunk.{sunk};
+ghost use Rattle.liquid_template.specs.TemplateOf.{template_nodes};
+
+use crate::cycle::render_list;
+use crate::sink::Sink;
+use crate::store::PartialStore;
+use crate::template::Template;
+use crate::text_sink::TextSink;
+use liquid_error::Error;
+use liquid_plugins::{Filter, Renderable};
+use liquid_runtime::{Runtime, Scopes};
+use liquid_scopes::ChainedScopes;
+use std::alloc::Global;
+
+impl<X: Filter, T, B> Template<X, T, B> {
+    /// Writes what the template comes to over these scopes, piece by piece.
+    ///
+    /// What was written before a refusal stays written, and the frames are then as they were; names
+    /// that were assigned, index variables and registers stay as the template left them. A failure
+    /// of the sink is refused as "Failed to render". At want of memory a beginning of the text is
+    /// written.
+    pub fn render_in<S, K>(
+        &self,
+        alloc: Global,
+        sink: &mut K,
+        scopes: &mut S,
+    ) -> Result<(), Error>
+    where
+        S: Scopes,
+        T: Renderable<S::Register>,
+        B: Renderable<S::Register>,
+        S::Store: PartialStore<X, T, B>,
+        K: Sink,
+        ensures renders { Renders (template_run
+            (setting S.Register.fresh X.answers X.shown T.starts T.count T.tells B.starts B.count B.tells (option_map S.Store.finds (S.store scopes.old)))
+            (template_nodes X.shape T.shape B.shape self.now) (S.view scopes.old))
+            (S.view scopes.old)
+            (sunk (K.taken sink.old) (K.failures sink.old) (K.behind sink.old) (K.lent sink.old))
+            (sunk (K.taken sink.new) (K.failures sink.new) (K.behind sink.new) (K.lent sink.new))
+            (S.view scopes.new) result }
+        ensures kept { S.restores scopes.new ≡ S.restores scopes.old }
+        ensures finds { option_map S.Store.finds (S.store scopes.new) ≡ option_map S.Store.finds (S.store scopes.old) }
+        ensures same { S.lent scopes.new ≡ S.lent scopes.old }
+    {
+        let depth = scopes.depth();
+        render_list(alloc, self.nodes(), depth, sink, scopes)
+    }
+
+    /// Writes what the template comes to in the runtime's view, piece by piece, as `render_in` does
+    /// over scopes of its own.
+    pub fn render_to<R, K>(
+        &self,
+        alloc: Global,
+        sink: &mut K,
+        runtime: &mut R,
+    ) -> Result<(), Error>
+    where
+        R: Runtime,
+        T: Renderable<R::Register>,
+        B: Renderable<R::Register>,
+        R::Store: PartialStore<X, T, B>,
+        K: Sink,
+        ensures renders { Renders (template_run
+            (setting R.Register.fresh X.answers X.shown T.starts T.count T.tells B.starts B.count B.tells (option_map R.Store.finds (R.store runtime.old)))
+            (template_nodes X.shape T.shape B.shape self.now) (R.view runtime.old))
+            (R.view runtime.old)
+            (sunk (K.taken sink.old) (K.failures sink.old) (K.behind sink.old) (K.lent sink.old))
+            (sunk (K.taken sink.new) (K.failures sink.new) (K.behind sink.new) (K.lent sink.new))
+            (R.view runtime.new) result }
+        ensures kept { R.restores runtime.new ≡ R.restores runtime.old }
+        ensures finds { option_map R.Store.finds (R.store runtime.new) ≡ option_map R.Store.finds (R.store runtime.old) }
+        ensures same { R.lent runtime.new ≡ R.lent runtime.old }
+    {
+        let mut scopes: ChainedScopes<&mut R> = ChainedScopes::new(alloc, runtime);
+        let answer = self.render_in(alloc, sink, &mut scopes);
+        let _base = scopes.into_base();
+        answer
+    }
+
+    /// The text that the template comes to in the runtime's view.
+    pub fn render<R>(&self, alloc: Global, runtime: &mut R) -> Result<String, Error>
+    where
+        R: Runtime,
+        T: Renderable<R::Register>,
+        B: Renderable<R::Register>,
+        R::Store: PartialStore<X, T, B>,
+        ensures value { Gives string_bytes result (whole_text (template_run
+            (setting R.Register.fresh X.answers X.shown T.starts T.count T.tells B.starts B.count B.tells (option_map R.Store.finds (R.store runtime.old)))
+            (template_nodes X.shape T.shape B.shape self.now) (R.view runtime.old))) }
+        ensures left { Left (template_run
+            (setting R.Register.fresh X.answers X.shown T.starts T.count T.tells B.starts B.count B.tells (option_map R.Store.finds (R.store runtime.old)))
+            (template_nodes X.shape T.shape B.shape self.now) (R.view runtime.old))
+            (R.view runtime.new) result }
+        ensures frames { SameFrames (R.view runtime.old) (R.view runtime.new) }
+        ensures kept { R.restores runtime.new ≡ R.restores runtime.old }
+        ensures finds { option_map R.Store.finds (R.store runtime.new) ≡ option_map R.Store.finds (R.store runtime.old) }
+        ensures same { R.lent runtime.new ≡ R.lent runtime.old }
+    {
+        let mut sink = TextSink::new(alloc);
+        match self.render_to(alloc, &mut sink, runtime) {
+            Ok(()) => Ok(sink.into_string().unwrap()),
+            Err(error) => Err(error),
+        }
+    }
+}
