@@ -1,5 +1,5 @@
 -- The call that may refuse agrees with the one that need not.
-use Rattle.std.proofs.Common.{◌≡◌, List, [], ◌∷◌, ◌++◌, Option, Some, None, Result, Ok, Err, refl, ap, ◌∙◌}
+use Rattle.std.proofs.Common.{◌≡◌, [], ◌∷◌, ◌++◌, Option, Some, None, Result, Ok, Err, refl, ap, ◌∙◌}
 use Rattle.std.specs.Prelude.{ok_or, option_and_then}
 use Rattle.std.specs.Result.{result_ok}
 use Rattle.liquid_error.specs.Refusal.{Refusal, ok_then}

@@ -1,12 +1,12 @@
 -- The refusal of an index that is not there.
-use Rattle.std.proofs.Common.{◌≡◌, ℕ, List, [], ◌∷◌, ◌++◌, codes, length, Option, None, Some, IfSome, refl, sym, ap, ◌∙◌, map}
+use Rattle.std.proofs.Common.{◌≡◌, ℕ, List, [], ◌∷◌, ◌++◌, codes, length, Option, None, Some, IfSome, refl, sym, ap, ◌∙◌}
 use Rattle.std.specs.Prelude.{option_map, decimal}
 use Rattle.liquid_error.specs.declared.error.Error.{Error}
 use Rattle.liquid_error.specs.Refusal.{Refusal, plain, with_context}
 use Rattle.liquid_error.specs.Told.{told, Becomes}
 use Rattle.liquid_scalar.specs.Scalar.{Scal, render_scalar}
 use Rattle.liquid_value.specs.Tree.{Tree}
-use Rattle.liquid_value.specs.View.{view, items_view}
+use Rattle.liquid_value.specs.View.{items_view}
 use Rattle.liquid_value.specs.declared.value.Value.{Value}
 use Rattle.liquid_paths.proofs.Values.{count_of_values}
 use Rattle.liquid_paths.specs.Walk.{Path, with_front, unknown_index, indexes, listed, item_indexes}

@@ -1,6 +1,5 @@
 -- The path that a list of scalars is.
 use Rattle.std.specs.Prelude.{ℕ, zero, suc, List, [], ◌∷◌, ◌++◌, codes, map, decimal}
-use Rattle.std.specs.List.{flat_map}
 use Rattle.std.specs.Cow.{cow_str_bytes}
 use Rattle.liquid_scalar.specs.Scalar.{Scal, scal, render_scalar}
 use Rattle.liquid_scalar.specs.declared.scalar.ScalarOf.{ScalarOf}

@@ -8,9 +8,8 @@ ghost use Rattle.liquid_paths.specs.PathOf.{index_of, indexes_of, path_of, path_
 
 use liquid_scalar::ScalarCow;
 use std::alloc::{AllocError, Global};
-use std::fmt;
 use std::fmt::Display;
-use std::slice;
+use std::{fmt, slice};
 
 /// A list of indexes.
 #[derive(Debug, Drop, PartialEq, Eq)]
@@ -20,7 +19,10 @@ pub struct Path<'s> {
 
 impl<'s> Path<'s> {
     /// The path of one index.
-    pub fn with_index<I: Into<ScalarCow<'s>>>(alloc: Global, value: I) -> Result<Path<'s>, AllocError>
+    pub fn with_index<I: Into<ScalarCow<'s>>>(
+        alloc: Global,
+        value: I,
+    ) -> Result<Path<'s>, AllocError>
         ensures { IfOk result (λ p. (x : _) × I.converts value x × (path_of p ≡ index_of x ∷ [])) }
     {
         let mut indexes = Vec::new(alloc);
@@ -92,10 +94,7 @@ impl ExactSizeIterator for PathIter<'_, '_> {
 impl<'s> Extend<ScalarCow<'s>> for Path<'s> {
     ghost extend_gives = { λ p xs q. path_of q ≡ path_of p ++ indexes_of xs };
 
-    fn extend<U: IntoIterator<Item = ScalarCow<'s>>>(
-        &mut self,
-        iter: U,
-    ) -> Result<(), AllocError> {
+    fn extend<U: IntoIterator<Item = ScalarCow<'s>>>(&mut self, iter: U) -> Result<(), AllocError> {
         self.indexes.extend(iter)
     }
 }

@@ -156,5 +156,9 @@ fn size_asked<'v>(word: &str, count: usize) -> Option<ValueCow<'v>>
     ensures gives { option_map cow_view result ≡ size_asked word.now count }
     ensures in_place { IfSome result InPlace }
 {
-    if word == "size" { Some(number(count)) } else { None }
+    if word == "size" {
+        Some(number(count))
+    } else {
+        None
+    }
 }

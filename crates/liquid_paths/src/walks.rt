@@ -124,11 +124,9 @@ fn unknown_index(
         Ok(text) => text,
         Err(_) => return Error::Memory,
     };
-    error.context(alloc, "requested index", requested.as_str()).context(
-        alloc,
-        "available indexes",
-        available.as_str(),
-    )
+    error
+        .context(alloc, "requested index", requested.as_str())
+        .context(alloc, "available indexes", available.as_str())
 }
 
 fn with_front(alloc: Global, front: &[ScalarCow<'_>], error: Error) -> Error

@@ -1,20 +1,20 @@
 -- What the calls of frames answer.
 use Rattle.std.proofs.Common.{◌≡◌, ℕ, List, Bool, true, false, ◌&&◌, Option, None, Some, refl, sym, ap, ◌∙◌}
-use Rattle.std.specs.Prelude.{Result, Ok, Err, IfOk, String, string_bytes, is_none, is_some, ◌||◌, option_map}
+use Rattle.std.specs.Prelude.{Result, Ok, Err, IfOk, String, string_bytes, is_none, is_some, ◌||◌}
 use Rattle.std.specs.Option.{option_or}
 use Rattle.std.specs.Ordering.{nat_cmp, is_eq}
 use Rattle.std.specs.List.{list_any}
 use Rattle.std.specs.Cmp.Lexicographic.{slice_cmp}
-use Rattle.std.specs.BTreeSet.{BTreeSet, contains_text, IsEmpty}
+use Rattle.std.specs.BTreeSet.{BTreeSet, IsEmpty}
 use Rattle.std.specs.FinMap.{get, empty, get-empty}
 use Rattle.std.specs.declared.alloc.Global.{Global}
 use Rattle.liquid_value.specs.Tree.{Tree}
 use Rattle.liquid_runtime.specs.Maps.{Names, over}
-use Rattle.liquid_runtime.proofs.MapLaws.{get-over, empty-over, over-over}
+use Rattle.liquid_runtime.proofs.MapLaws.{empty-over}
 use Rattle.liquid_runtime.specs.View.{View}
 use Rattle.liquid_runtime.specs.Roots.{NamesOf, NamesOver}
-use Rattle.liquid_runtime.specs.NamesSeen.{lookup, names_seen, comes_from_seal}
-use Rattle.liquid_runtime.specs.Frames.{begin_stack, begin_global, begin_sandboxed}
+use Rattle.liquid_runtime.specs.NamesSeen.{lookup, names_seen}
+use Rattle.liquid_runtime.specs.Frames.{begin_stack}
 use Rattle.liquid_runtime.specs.FrameViews.{core_with, indexed_view, assigned_view, sandboxed_with}
 use Rattle.liquid_runtime.specs.declared.registers.Registers.{Registers}
 use Rattle.liquid_runtime.proofs.FrameLaws.{lookup_stack, lookup_global, lookup_sandboxed, seal_stack, seal_global, seal_sandboxed}

@@ -5,4 +5,3 @@ pub mod FrameLaws
 pub mod FrameLookups
 pub mod SetLaws
 pub mod Agreement
-pub mod FrontName

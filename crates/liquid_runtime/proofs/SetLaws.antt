@@ -14,7 +14,7 @@ use Rattle.liquid_runtime.specs.View.{View, Floor, unsealed, sealed}
 use Rattle.liquid_runtime.specs.NamesSeen.{lookup, shown_globals, upper_names, floor_names, names_of_floor, names_seen}
 use Rattle.liquid_runtime.specs.Sets.{put_global, put_index}
 use Rattle.liquid_runtime.specs.Laws.{SetGlobalKeepsOthers, SetIndexKeepsOthers, RootsAreSeen, StackNamesFirst, GlobalFrameKeepsNames, GlobalsAreSeen}
-use Rattle.liquid_runtime.specs.Frames.{begin_index, begin_stack, built_view, core_view}
+use Rattle.liquid_runtime.specs.Frames.{begin_index, begin_stack, core_view}
 use Rattle.liquid_runtime.proofs.Agreement.{get_agrees}
 use Rattle.liquid_runtime.proofs.FrameLaws.{lookup_stack, lookup_global}
 use Rattle.liquid_runtime.proofs.FrameLookups.{lookup_indexed, nothing_there, no_names, or_none}

@@ -1,5 +1,5 @@
 -- The views that frames show, from what they hold.
-use Rattle.std.specs.Prelude.{ℕ, List, Option, Some, None}
+use Rattle.std.specs.Prelude.{ℕ, List, Option, Some}
 use Rattle.liquid_runtime.specs.Maps.{Names}
 use Rattle.liquid_runtime.specs.View.{View}
 use Rattle.liquid_runtime.specs.Frames.{core_view, begin_global, begin_sandboxed}

@@ -1,10 +1,10 @@
 -- What the calls of scopes do to the layers.
-use Rattle.std.specs.Prelude.{◌≡◌, ℕ, ◌+◌, List, [], ◌∷◌, ◌++◌, map, length, Option, Some, None, IsSome, Bool, true, false, ⊤, take, get_or, ◌<◌}
+use Rattle.std.specs.Prelude.{◌≡◌, ℕ, ◌+◌, List, [], ◌∷◌, ◌++◌, map, length, Option, Some, None, true, false, take, get_or, ◌<◌}
 use Rattle.std.proofs.Common.{zero, suc, refl, sym, ap, ◌∙◌, arith, append_assoc, subst}
 use Rattle.std.proofs.Math.ListN.{set}
 use Rattle.std.proofs.Math.Seq.{set-append_seam}
 use Rattle.std.proofs.lemmas.List.{length-take, take_more}
-use Rattle.std.specs.FinMap.{get, insert, empty}
+use Rattle.std.specs.FinMap.{insert}
 use Rattle.liquid_value.specs.Tree.{Tree}
 use Rattle.liquid_runtime.specs.Maps.{Names}
 use Rattle.liquid_runtime.specs.View.{View}
@@ -235,7 +235,7 @@ module _ {Reg : Type 0} where
   last_taken f xs i x h e n =
       let k : length (map f (take i xs)) ≡ i = map_length f (take i xs) ∙ omega (arith, length-take i xs) in
       subst (λ ys. LastGlobal ys (Some i)) (sym (mapped_step f xs i x h e))
-          (subst (λ j. LastGlobal (map f (take i xs) ++ f x ∷ []) (Some j)) k (last_here (map f (take i xs)) (f x) n))
+      (subst (λ j. LastGlobal (map f (take i xs) ++ f x ∷ []) (Some j)) k (last_here (map f (take i xs)) (f x) n))
 
   global_is_one : (l : Layer Reg) → is_global l ≡ true → l ≡ global_layer (assigned l)
   global_is_one none_layer e = absurd (cc)

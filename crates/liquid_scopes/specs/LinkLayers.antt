@@ -1,8 +1,6 @@
 -- The layer that a link is.
-use Rattle.std.specs.Prelude.{◌≡◌, List, ℕ, Option, option_map, string_bytes, true}
-use Rattle.liquid_value.specs.Tree.{Tree}
+use Rattle.std.specs.Prelude.{option_map, string_bytes}
 use Rattle.liquid_runtime.specs.Maps.{names_of}
-use Rattle.std.specs.FinMap.{insert}
 use Rattle.liquid_scopes.specs.Layers.{Layer, none_layer, stack_layer, global_layer, sandboxed_layer}
 use Rattle.liquid_scopes.specs.declared.link.Link.{Link}
 use Rattle.liquid_scopes.specs.declared.link.Link.TheVariants as link

@@ -4,10 +4,8 @@ ghost use Rattle.liquid_scopes.specs.Layers.{shown_over, restoring, LastGlobal};
 ghost use Rattle.liquid_scopes.specs.LinkLayers.{layer_of};
 
 use crate::link::{Link, closing, opening};
-use liquid_runtime::Registers;
-use liquid_runtime::Runtime;
-use liquid_runtime::{Frame, Scopes};
 use liquid_error::Error;
+use liquid_runtime::{Frame, Registers, Runtime, Scopes};
 use liquid_value::Value;
 use std::alloc::{AllocError, Global};
 use std::collections::BTreeSet;
@@ -36,6 +34,7 @@ impl<R: Runtime> ChainedScopes<R> {
 
 impl<R: Runtime> Runtime for ChainedScopes<R> {
     type Register = R::Register;
+
     type Store = R::Store;
 
     ghost view = { λ s. shown_over (R.view s.base) (map layer_of s.links.items) };

@@ -8,11 +8,9 @@ ghost use Rattle.liquid_runtime.specs.Calls.{frame_of, registers_of, with_regist
 ghost use Rattle.liquid_scopes.specs.Layers.{layer_found, layer_seals, layer_name, layer_view, layer_restores, is_global, assigned, LayerNames};
 ghost use Rattle.liquid_scopes.specs.LinkLayers.{layer_of};
 
-use liquid_runtime::names::{add_names, only_names, own_name, set_name, value_of};
-use liquid_runtime::Registers;
-use liquid_runtime::Runtime;
-use liquid_runtime::Frame;
 use liquid_error::Error;
+use liquid_runtime::names::{add_names, only_names, own_name, set_name, value_of};
+use liquid_runtime::{Frame, Registers, Runtime};
 use liquid_value::{Object, Value};
 use std::alloc::{AllocError, Global};
 use std::collections::BTreeSet;
@@ -66,7 +64,11 @@ impl<V> Link<V> {
     }
 
     // The names that are seen under the link, from those that are seen below it.
-    pub(crate) fn roots_over(&self, alloc: Global, below: BTreeSet<String>) -> Result<BTreeSet<String>, AllocError>
+    pub(crate) fn roots_over(
+        &self,
+        alloc: Global,
+        below: BTreeSet<String>,
+    ) -> Result<BTreeSet<String>, AllocError>
         ensures { IfOk result (λ names. LayerNames (layer_of self.now) below names) }
     {
         match self {
@@ -136,7 +138,7 @@ pub(crate) fn opening<R: Runtime>(alloc: Global, base: &mut R, frame: Frame) -> 
         Frame::Stack(d, n) => Link::Stack(d, n),
         Frame::Global => Link::Global(Object::new(alloc)),
         Frame::Sandboxed(d, n) => {
-            let saved = mem::replace(base.registers_mut(), Registers::fresh());
+            let saved = mem::replace(base.registers_mut(), Registers::default());
             Link::Sandboxed(d, n, saved)
         }
     }

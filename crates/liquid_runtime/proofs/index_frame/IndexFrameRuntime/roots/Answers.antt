@@ -1,15 +1,8 @@
-use Rattle.std.proofs.Common.{◌≡◌, sym, ◌∙◌, ap, refl, Some, None, option_map, string_bytes}
-use Rattle.liquid_value.specs.View.{view as tree_of}
 use Rattle.liquid_runtime.specs.Maps.{names_of}
-use Rattle.std.specs.FinMap.{get}
-use Rattle.std.specs.Option.{option_or}
-use Rattle.liquid_runtime.specs.View.{View}
-use Rattle.liquid_runtime.specs.NamesSeen.{lookup, names_seen, comes_from_seal}
+use Rattle.liquid_runtime.specs.NamesSeen.{names_seen}
 use Rattle.liquid_runtime.specs.Roots.{NamesOf, NamesOver}
-use Rattle.liquid_runtime.specs.Frames.{begin_stack}
-use Rattle.liquid_runtime.specs.FrameViews.{core_with, indexed_view, sandboxed_with, assigned_view}
-use Rattle.liquid_runtime.proofs.FrameLaws.{lookup_stack, lookup_global, lookup_sandboxed, seal_stack, seal_global, seal_sandboxed}
-use Rattle.liquid_runtime.proofs.FrameLookups.{lookup_core, lookup_indexed, own_value, value_below, seal_own, seal_below, roots_core, roots_stack, roots_indexed, roots_sandboxed, roots_global, if_ok}
+use Rattle.liquid_runtime.specs.FrameViews.{core_with, indexed_view}
+use Rattle.liquid_runtime.proofs.FrameLookups.{roots_indexed, if_ok}
 use Rattle.liquid_runtime.proofs.index_frame.IndexFrameRuntime.roots.Goals as goal
 
 pub returns : goal.returns
@@ -18,4 +11,4 @@ returns g c =
     let r = f.parent.registers in
     let m = names_of f.variables in
     if_ok c.add_names.result (λ set. NamesOver m c.in_ok-below.below set) (λ set. NamesOf (names_seen (indexed_view m (core_with r f.parent.depth))) set)
-        (λ set is. roots_indexed m r f.parent.depth c.in_ok-below.below set is c.in_ok-below.ensures) c.add_names.ensures
+    (λ set is. roots_indexed m r f.parent.depth c.in_ok-below.below set is c.in_ok-below.ensures) c.add_names.ensures

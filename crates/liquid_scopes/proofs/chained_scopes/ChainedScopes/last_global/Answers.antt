@@ -1,16 +1,7 @@
-use Rattle.std.proofs.Common.{◌≡◌, sym, ◌∙◌, ap, refl, Some, None, option_map, string_bytes, subst, rules, arith, List, [], ◌∷◌, ◌+◌, ◌<◌, ◌++◌, length, map, take}
-use Rattle.std.specs.Prelude.{unwrap_or}
-use Rattle.std.specs.FinMap.{get, insert, empty}
-use Rattle.liquid_value.specs.View.{view as tree_of}
-use Rattle.liquid_runtime.specs.View.{View}
-use Rattle.liquid_runtime.specs.NamesSeen.{lookup, comes_from_seal, names_seen}
-use Rattle.liquid_runtime.specs.Roots.{NamesOf}
-use Rattle.liquid_runtime.specs.Frames.{scope_base, beginning, restored_by}
-use Rattle.liquid_runtime.specs.Calls.{frame_of, value_in}
-use Rattle.liquid_runtime.specs.Sets.{old_value, no_global_frame, no_index_frame}
-use Rattle.liquid_scopes.specs.Layers.{shown_over, restoring, layer_found, layer_seals, layer_name, assigned, global_layer, LastGlobal, is_global}
+use Rattle.std.proofs.Common.{sym, ◌∙◌, subst, arith, ◌+◌, ◌<◌, length, map, take}
+use Rattle.liquid_scopes.specs.Layers.{LastGlobal}
 use Rattle.liquid_scopes.specs.LinkLayers.{layer_of}
-use Rattle.liquid_scopes.proofs.LayerLaws.{map_append, map_length, shown_put_index, restoring_put_index, shown_with_registers, restoring_with_registers, shown_registers, shown_index, shown_depth, lookup_link, seal_layer, shown_push, restoring_push, count_open, none_open, begins_over, restores_over, pops, shown_step, name_link, last_step, last_taken, shown_globals_are, shown_put_global, restoring_put_global, set_shown, set_restoring, set_same, globals_here, read_here, within_here}
+use Rattle.liquid_scopes.proofs.LayerLaws.{last_step, last_taken}
 use Rattle.liquid_scopes.proofs.chained_scopes.ChainedScopes.last_global.Goals as goal
 use Rattle.liquid_scopes.proofs.chained_scopes.ChainedScopes.last_global.Goals.{then-is_global, else-is_global}
 
@@ -21,5 +12,6 @@ loop-i-preserved g c =
     let l = c.index.result.now in
     let h : i < length xs = omega (arith, c.len-i-end.ensures, c.args.self.now.links.ok.0) in
     elim c.if-is_global.branch [
-      then-is_global w ↦ subst (λ o. LastGlobal (map layer_of (take (i + 1) xs)) o) (sym w.at-is) (last_taken layer_of xs i l h c.index.ensures (sym c.is_global.ensures ∙ w.if-is_global.true))
-    | else-is_global w ↦ subst (λ o. LastGlobal (map layer_of (take (i + 1) xs)) o) (sym w.at-is) (last_step layer_of xs i l c.loop-i.at h c.index.ensures c.loop-i.invariant (sym c.is_global.ensures ∙ w.if-is_global.false)) ]
+      | then-is_global w ↦ subst (λ o. LastGlobal (map layer_of (take (i + 1) xs)) o) (sym w.at-is) (last_taken layer_of xs i l h c.index.ensures (sym c.is_global.ensures ∙ w.if-is_global.true))
+      | else-is_global w ↦ subst (λ o. LastGlobal (map layer_of (take (i + 1) xs)) o) (sym w.at-is) (last_step layer_of xs i l c.loop-i.at h c.index.ensures c.loop-i.invariant (sym c.is_global.ensures ∙ w.if-is_global.false))
+    ]

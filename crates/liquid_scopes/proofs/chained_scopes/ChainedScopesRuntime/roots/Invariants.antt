@@ -1,8 +1,7 @@
-use Rattle.std.proofs.Common.{◌≡◌, take, map, option_map}
-use Rattle.liquid_value.specs.View.{view as tree_of}
-use Rattle.liquid_runtime.specs.NamesSeen.{lookup, comes_from_seal, names_seen}
+use Rattle.std.proofs.Common.{take, map}
+use Rattle.liquid_runtime.specs.NamesSeen.{names_seen}
 use Rattle.liquid_runtime.specs.Roots.{NamesOf}
-use Rattle.liquid_scopes.specs.Layers.{shown_over, LastGlobal}
+use Rattle.liquid_scopes.specs.Layers.{shown_over}
 use Rattle.liquid_scopes.specs.LinkLayers.{layer_of}
 use Rattle.liquid_scopes.proofs.chained_scopes.ChainedScopesRuntime.roots.Given as goal
 

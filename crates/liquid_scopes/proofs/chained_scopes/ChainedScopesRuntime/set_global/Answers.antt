@@ -1,16 +1,11 @@
-use Rattle.std.proofs.Common.{◌≡◌, sym, ◌∙◌, ap, refl, Some, None, option_map, string_bytes, subst, rules, arith, List, [], ◌∷◌, ◌+◌, ◌<◌, ◌++◌, length, map, take}
-use Rattle.std.specs.Prelude.{unwrap_or}
-use Rattle.std.specs.FinMap.{get, insert, empty}
+use Rattle.std.proofs.Common.{◌≡◌, sym, ◌∙◌, ap, string_bytes, subst, ◌∷◌, map}
+use Rattle.std.specs.FinMap.{get, insert}
 use Rattle.liquid_value.specs.View.{view as tree_of}
-use Rattle.liquid_runtime.specs.View.{View}
-use Rattle.liquid_runtime.specs.NamesSeen.{lookup, comes_from_seal, names_seen}
-use Rattle.liquid_runtime.specs.Roots.{NamesOf}
-use Rattle.liquid_runtime.specs.Frames.{scope_base, beginning, restored_by}
-use Rattle.liquid_runtime.specs.Calls.{frame_of, value_in}
-use Rattle.liquid_runtime.specs.Sets.{old_value, no_global_frame, no_index_frame}
-use Rattle.liquid_scopes.specs.Layers.{shown_over, restoring, layer_found, layer_seals, layer_name, assigned, global_layer, LastGlobal, is_global}
+use Rattle.liquid_runtime.specs.Frames.{scope_base}
+use Rattle.liquid_runtime.specs.Sets.{old_value, no_global_frame}
+use Rattle.liquid_scopes.specs.Layers.{shown_over, restoring, assigned, is_global}
 use Rattle.liquid_scopes.specs.LinkLayers.{layer_of}
-use Rattle.liquid_scopes.proofs.LayerLaws.{map_append, map_length, shown_put_index, restoring_put_index, shown_with_registers, restoring_with_registers, shown_registers, shown_index, shown_depth, lookup_link, seal_layer, shown_push, restoring_push, count_open, none_open, begins_over, restores_over, pops, shown_step, name_link, last_step, last_taken, shown_globals_are, shown_put_global, restoring_put_global, set_shown, set_restoring, set_same, globals_here, read_here, within_here}
+use Rattle.liquid_scopes.proofs.LayerLaws.{shown_globals_are, shown_put_global, restoring_put_global, set_shown, set_restoring, set_same, globals_here, read_here}
 use Rattle.std.specs.Prelude.{Ok, Err, IfSome}
 use Rattle.liquid_error.specs.Told.{told}
 use Rattle.liquid_scopes.proofs.chained_scopes.ChainedScopesRuntime.set_global.Goals as goal
@@ -32,7 +27,7 @@ returns-in-Ok-clause-sets g c =
     let xs = c.args.self.now.links.items in
     let l = c.index_mut.result.now in
     set_shown layer_of (g.R.Runtime.view c.args.self.now.base) xs c.in-Some.i c.assign.new.self q (tree_of c.args.value) c.in-Some.ensures c.in-Ok.ensures.global
-        (c.in-Ok.ensures.sets ∙ ap (λ k. insert (assigned (layer_of k)) q (tree_of c.args.value)) c.index_mut.ensures.value ∙ ap (λ k. insert (assigned k) q (tree_of c.args.value)) (read_here layer_of xs c.in-Some.i l c.in-Some.ensures))
+    (c.in-Ok.ensures.sets ∙ ap (λ k. insert (assigned (layer_of k)) q (tree_of c.args.value)) c.index_mut.ensures.value ∙ ap (λ k. insert (assigned k) q (tree_of c.args.value)) (read_here layer_of xs c.in-Some.i l c.in-Some.ensures))
 
 pub returns-in-Ok-clause-kept : goal.returns-in-Ok-clause-kept
 returns-in-Ok-clause-kept g c =
@@ -40,21 +35,21 @@ returns-in-Ok-clause-kept g c =
     let xs = c.args.self.now.links.items in
     let l = c.index_mut.result.now in
     set_restoring layer_of (g.R.Runtime.view c.args.self.now.base) xs c.in-Some.i c.assign.new.self q (tree_of c.args.value) (scope_base ∷ g.R.Runtime.restores c.args.self.now.base) c.in-Some.ensures c.in-Ok.ensures.global
-        (c.in-Ok.ensures.sets ∙ ap (λ k. insert (assigned (layer_of k)) q (tree_of c.args.value)) c.index_mut.ensures.value ∙ ap (λ k. insert (assigned k) q (tree_of c.args.value)) (read_here layer_of xs c.in-Some.i l c.in-Some.ensures))
+    (c.in-Ok.ensures.sets ∙ ap (λ k. insert (assigned (layer_of k)) q (tree_of c.args.value)) c.index_mut.ensures.value ∙ ap (λ k. insert (assigned k) q (tree_of c.args.value)) (read_here layer_of xs c.in-Some.i l c.in-Some.ensures))
 
 pub returns-in-Err-clause-unchanged : goal.returns-in-Err-clause-unchanged
 returns-in-Err-clause-unchanged g c =
     let xs = c.args.self.now.links.items in
     let l = c.index_mut.result.now in
     ap (shown_over (g.R.Runtime.view c.args.self.now.base)) (set_same layer_of xs c.in-Some.i c.assign.new.self c.in-Some.ensures c.in-Err.ensures.global
-        (c.in-Err.ensures.unchanged ∙ ap (λ k. assigned (layer_of k)) c.index_mut.ensures.value ∙ ap assigned (read_here layer_of xs c.in-Some.i l c.in-Some.ensures)))
+    (c.in-Err.ensures.unchanged ∙ ap (λ k. assigned (layer_of k)) c.index_mut.ensures.value ∙ ap assigned (read_here layer_of xs c.in-Some.i l c.in-Some.ensures)))
 
 pub returns-in-Err-clause-kept : goal.returns-in-Err-clause-kept
 returns-in-Err-clause-kept g c =
     let xs = c.args.self.now.links.items in
     let l = c.index_mut.result.now in
     ap (λ ys. restoring (g.R.Runtime.view c.args.self.now.base) ys (scope_base ∷ g.R.Runtime.restores c.args.self.now.base)) (set_same layer_of xs c.in-Some.i c.assign.new.self c.in-Some.ensures c.in-Err.ensures.global
-        (c.in-Err.ensures.unchanged ∙ ap (λ k. assigned (layer_of k)) c.index_mut.ensures.value ∙ ap assigned (read_here layer_of xs c.in-Some.i l c.in-Some.ensures)))
+    (c.in-Err.ensures.unchanged ∙ ap (λ k. assigned (layer_of k)) c.index_mut.ensures.value ∙ ap assigned (read_here layer_of xs c.in-Some.i l c.in-Some.ensures)))
 
 pub returns-in-Ok-set_global-clause-gives : goal.returns-in-Ok-set_global-clause-gives
 returns-in-Ok-set_global-clause-gives g c = ap (λ o. old_value no_global_frame o (string_bytes c.args.name)) (shown_globals_are (g.R.Runtime.view c.args.self.now.base) (map layer_of c.args.self.now.links.items) c.in-None.ensures) ∙ c.in-Ok-set_global.ensures.gives
