@@ -1,6 +1,6 @@
 //! Templates with what they come to, through the calls that users make.
 use crate::dripping::Dripping;
-use liquid_core::model::{Array, Date, DateTime, Object, State, Value};
+use liquid_core::model::{Array, Date, DateTime, Object, ScalarCow, State, Value};
 use liquid_core::parser::{Language, parse};
 use liquid_core::runtime::{BuiltRuntime, Runtime, RuntimeBuilder, Template};
 use liquid_core::{Error, TextSink, render_source};
@@ -60,7 +60,10 @@ fn value_of(alloc: Global, given: Given) -> Result<Value, Fail> {
     })
 }
 
-fn runtime_of(alloc: Global, globals: &[(&'static str, Given)]) -> Result<BuiltRuntime<(), ()>, Fail> {
+fn runtime_of(
+    alloc: Global,
+    globals: &[(&'static str, Given)],
+) -> Result<BuiltRuntime<(), ()>, Fail> {
     let mut object = Object::new(alloc);
     for (name, given) in globals {
         object.insert(String::from_str(alloc, name)?, value_of(alloc, *given)?)?;

@@ -6,12 +6,12 @@ use Rattle.liquid_error.specs.Refusal.{Refusal}
 use Rattle.liquid_runtime.specs.Maps.{Names, over}
 use Rattle.liquid_scalar.specs.Scalar.{render_scalar}
 use Rattle.liquid_value.specs.Parts.{as_scalar}
-use Rattle.draft_runtime.specs.Answers.{ok_then}
-use Rattle.draft_runtime.specs.Erased.{erase, without_names}
-use Rattle.draft_runtime.specs.View.{View}
-use Rattle.draft_runtime.specs.NamesSeen.{upper_names, floor_names, is_sealed}
-use Rattle.draft_runtime.specs.Lookup.{found, sealed_answer, unknown_variable}
-use Rattle.draft_runtime.specs.Walk.{Path, find_behind}
+use Rattle.liquid_error.specs.Refusal.{ok_then}
+use Rattle.liquid_runtime.specs.Erased.{erase, without_names}
+use Rattle.liquid_runtime.specs.View.{View}
+use Rattle.liquid_runtime.specs.NamesSeen.{upper_names, floor_names, is_sealed}
+use Rattle.liquid_runtime.specs.Lookup.{found, sealed_answer, unknown_variable}
+use Rattle.liquid_paths.specs.Walk.{Path, find_behind}
 use Rattle.liquid_plugins.specs.Expression.{ExpressionShape, literal, variable, Indexes, no_indexes, index}
 use Rattle.liquid_plugins.specs.Evaluation.{evaluate, path_of, expected_scalar}
 

@@ -1,6 +1,6 @@
 -- What the map of a registry answers, and what a change to its entries makes of it.
-use Rattle.std.proofs.Common.{◌≡◌, ℕ, Bool, true, false, cond, ◌&&◌, List, [], ◌∷◌, Option, Some, None, map, refl, ap, sym, ◌∙◌, subst}
-use Rattle.std.specs.Prelude.{T, String, string_bytes, is_some}
+use Rattle.std.proofs.Common.{◌≡◌, ℕ, Bool, true, false, cond, ◌&&◌, List, [], ◌∷◌, Some, map, refl, ap, sym, ◌∙◌, subst}
+use Rattle.std.specs.Prelude.{T, String, string_bytes}
 use Rattle.std.specs.BTreeMap.{BTreeMap, IsEmpty, IsUnchanged, IsOrdered, IsClone, get_by_text, Updates}
 use Rattle.std.specs.Cmp.{eq_by_cmp_equiv}
 use Rattle.std.specs.Cmp.Lexicographic.{slice_cmp, nat_list_cmp_total}
@@ -9,15 +9,12 @@ use Rattle.std.specs.FinMap.Entries.{find, is_sorted, below_all}
 use Rattle.std.specs.List.{AllByRecursion, AllZip}
 use Rattle.std.specs.List.Sorted.{IsStrictlySortedBy}
 use Rattle.std.specs.Map.{keys_of, values_of, lookup as lookup_entry}
-use Rattle.std.specs.Option.{option_copied}
 use Rattle.std.specs.Ordering.{nat_cmp, is_eq, is_lt, eq_by_cmp}
 use Rattle.std.specs.Str.{bytes_eq}
 use Rattle.std.specs.String.{string_cmp}
 use Rattle.std.specs.declared.alloc.Global.{Global}
-use Rattle.std.specs.declared.cmp.Ordering.{Ordering}
 use Rattle.std.specs.declared.cmp.Ordering.TheVariants.{Less}
 use Rattle.std.proofs.lemmas.Map.Text.{is_eq-slice_cmp, btree_map_updates_text}
-use Rattle.liquid_runtime.specs.Maps.{NameMap}
 use Rattle.liquid_runtime.proofs.MapLaws.{same_names}
 use Rattle.liquid_plugins.specs.Registry.{by_name, IsCopied, IsCopy}
 

@@ -4,9 +4,9 @@ use Rattle.std.specs.List.{join_by}
 use Rattle.liquid_error.specs.Refusal.{Refusal, with_trace, with_context}
 use Rattle.liquid_value.specs.Tree.{Tree}
 use Rattle.liquid_value.specs.Render.{source}
-use Rattle.draft_runtime.specs.Answers.{ok_then}
-use Rattle.draft_runtime.specs.View.{View}
-use Rattle.draft_runtime.specs.Erased.{Erased, erase}
+use Rattle.liquid_error.specs.Refusal.{ok_then}
+use Rattle.liquid_runtime.specs.View.{View}
+use Rattle.liquid_runtime.specs.Erased.{Erased, erase}
 use Rattle.liquid_plugins.specs.Expression.{ExpressionShape, expression_text}
 use Rattle.liquid_plugins.specs.Evaluation.{evaluate}
 

@@ -2,7 +2,7 @@
 use Rattle.std.specs.Prelude.{◌≡◌, false, Some, unwrap_or}
 use Rattle.std.specs.FinMap.{empty}
 use Rattle.liquid_runtime.specs.Maps.{Names, over}
-use Rattle.draft_runtime.specs.View.{View}
+use Rattle.liquid_runtime.specs.View.{View}
 use Rattle.liquid_plugins.specs.Turns.{Told, NodeMeaning}
 
 -- the view with its globals hidden, and these for them

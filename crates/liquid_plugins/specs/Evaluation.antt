@@ -4,10 +4,10 @@ use Rattle.liquid_error.specs.Refusal.{Refusal, plain, with_context}
 use Rattle.liquid_value.specs.Tree.{Tree}
 use Rattle.liquid_value.specs.Parts.{as_scalar}
 use Rattle.liquid_value.specs.Render.{source}
-use Rattle.draft_runtime.specs.Answers.{ok_then}
-use Rattle.draft_runtime.specs.View.{View}
-use Rattle.draft_runtime.specs.Lookup.{try_path, found}
-use Rattle.draft_runtime.specs.Walk.{Path}
+use Rattle.liquid_error.specs.Refusal.{ok_then}
+use Rattle.liquid_runtime.specs.View.{View}
+use Rattle.liquid_runtime.specs.Lookup.{try_path, found}
+use Rattle.liquid_paths.specs.Walk.{Path}
 use Rattle.liquid_plugins.specs.Expression.{ExpressionShape, literal, variable, Indexes, no_indexes, index}
 
 -- the refusal of an index that is no scalar
@@ -29,7 +29,7 @@ abbrev mutual
 abbrev mutual
   pub try_evaluate : {Reg : Type 0} → View Reg → ExpressionShape → Option Tree
   try_evaluate v (literal t) = Some t
-  try_evaluate v (variable name indexes) = option_and_then (λ path. try_path v (name ∷ path)) (try_path_of v indexes)
+  try_evaluate v (variable name indexes) = option_and_then (try_path v) (option_map (λ path. name ∷ path) (try_path_of v indexes))
 
   pub try_path_of : {Reg : Type 0} → View Reg → Indexes → Option Path
   try_path_of v no_indexes = Some []

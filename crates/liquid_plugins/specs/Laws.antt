@@ -2,8 +2,8 @@
 use Rattle.std.specs.Prelude.{◌≡◌}
 use Rattle.std.specs.Result.{result_ok}
 use Rattle.liquid_scalar.specs.Scalar.{Scal}
-use Rattle.draft_runtime.specs.View.{View}
-use Rattle.draft_runtime.specs.Erased.{erase}
+use Rattle.liquid_runtime.specs.View.{View}
+use Rattle.liquid_runtime.specs.Erased.{erase}
 use Rattle.liquid_plugins.specs.Expression.{ExpressionShape, Indexes}
 use Rattle.liquid_plugins.specs.Evaluation.{evaluate, try_evaluate}
 use Rattle.liquid_plugins.specs.Parts.{named_path, try_named_path}

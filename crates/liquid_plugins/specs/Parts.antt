@@ -1,13 +1,11 @@
 -- What an expression holds, by its kind, and the path of a variable.
-use Rattle.std.specs.Prelude.{◌≡◌, ◌∷◌, Option, None, Some, Result, Ok, Err, option_map}
+use Rattle.std.specs.Prelude.{◌∷◌, Option, None, Some, Result, Ok, option_map}
 use Rattle.liquid_error.specs.Refusal.{Refusal}
-use Rattle.liquid_error.specs.Told.{told}
-use Rattle.liquid_error.specs.declared.error.Error.{Error}
 use Rattle.liquid_scalar.specs.Scalar.{Scal}
 use Rattle.liquid_value.specs.Tree.{Tree}
-use Rattle.draft_runtime.specs.Answers.{ok_then}
-use Rattle.draft_runtime.specs.View.{View}
-use Rattle.draft_runtime.specs.Walk.{Path}
+use Rattle.liquid_error.specs.Refusal.{ok_then}
+use Rattle.liquid_runtime.specs.View.{View}
+use Rattle.liquid_paths.specs.Walk.{Path}
 use Rattle.liquid_plugins.specs.Evaluation.{path_of, try_path_of}
 use Rattle.liquid_plugins.specs.Expression.{ExpressionShape, literal, variable, Indexes}
 
@@ -27,8 +25,3 @@ named_path v name indexes = ok_then (path_of v indexes) (λ path. Ok (name ∷ p
 
 abbrev pub try_named_path : {Reg : Type 0} → View Reg → Scal → Indexes → Option Path
 try_named_path v name indexes = option_map (λ path. name ∷ path) (try_path_of v indexes)
-
--- the call answers the path that is meant, or has no memory
-abbrev pub FindsPath : {A : Type 0} → (A → Path) → Result (Option A) Error → Option Path → Type 0
-FindsPath path (Ok found) meant = option_map path found ≡ meant
-FindsPath path (Err e) meant = told e ≡ None

@@ -1,11 +1,11 @@
 -- What the calls of a node answer and leave.
-use Rattle.std.specs.Prelude.{◌≡◌, ℕ, Result, Ok, Err, OnSome, option_map, string_bytes}
+use Rattle.std.specs.Prelude.{◌≡◌, Result, Ok, Err, OnSome, option_map, string_bytes}
 use Rattle.liquid_error.specs.declared.error.Error.{Error}
 use Rattle.liquid_error.specs.Told.{told}
-use Rattle.draft_runtime.specs.View.{View}
-use Rattle.draft_runtime.specs.Written.{Written, with_written}
-use Rattle.draft_runtime.specs.Calls.{frame_of}
-use Rattle.liquid_plugins.specs.Turns.{Told, TurnShape, text_turn, body_turn, partial_turn, end_turn}
+use Rattle.liquid_runtime.specs.View.{View}
+use Rattle.liquid_runtime.specs.Written.{Written, with_written}
+use Rattle.liquid_runtime.specs.Calls.{frame_of}
+use Rattle.liquid_plugins.specs.Turns.{TurnShape, text_turn, body_turn, partial_turn, end_turn}
 use Rattle.liquid_plugins.specs.declared.render.Turn.{Turn}
 use Rattle.liquid_plugins.specs.declared.render.Turn.TheVariants as turn
 

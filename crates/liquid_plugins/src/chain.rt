@@ -6,15 +6,15 @@ ghost use Rattle.liquid_error.specs.Refusal.{with_trace, with_context};
 ghost use Rattle.liquid_error.specs.Told.{Gives, Becomes};
 ghost use Rattle.liquid_value.specs.Cow.{cow_view};
 ghost use Rattle.liquid_value.specs.Render.{source};
-ghost use Rattle.draft_runtime.specs.Erased.{erase};
+ghost use Rattle.liquid_runtime.specs.Erased.{erase};
 ghost use Rattle.liquid_plugins.specs.Chain.{filtered, chain_value, chain_text};
 ghost use Rattle.liquid_plugins.specs.ExpressionOf.{expression_of, chain_of};
 
 use crate::expression::{Expression, FilterChain};
 use crate::filter::Filter;
 use crate::text::write_expression;
-use draft_runtime::runtime::Runtime;
 use liquid_error::Error;
+use liquid_runtime::Runtime;
 use liquid_value::ValueCow;
 use liquid_value::render::ValueSource;
 use std::alloc::Global;
@@ -65,12 +65,7 @@ fn apply<'s, X: Filter, R: Runtime>(
 }
 
 /// The refusal of a filter, with its label and its input.
-fn filter_refused<X: Filter>(
-    alloc: Global,
-    filter: &X,
-    input: &ValueCow<'_>,
-    error: Error,
-) -> Error
+fn filter_refused<X: Filter>(alloc: Global, filter: &X, input: &ValueCow<'_>, error: Error) -> Error
     ensures { Becomes (λ r. with_context (codes "input") (source (cow_view input.now)) (with_context (codes "filter") (X.shown (X.shape filter.now)) (with_trace (codes "Filter error") r))) error result }
 {
     let source = match ValueSource::new(input.as_view()).to_string(alloc) {
@@ -84,11 +79,10 @@ fn filter_refused<X: Filter>(
 fn with_filter(alloc: Global, error: Error, label: &str, source: &str) -> Error
     ensures { Becomes (λ r. with_context (codes "input") source.now (with_context (codes "filter") label.now (with_trace (codes "Filter error") r))) error result }
 {
-    error.trace(alloc, "Filter error").context(alloc, "filter", label).context(
-        alloc,
-        "input",
-        source,
-    )
+    error
+        .trace(alloc, "Filter error")
+        .context(alloc, "filter", label)
+        .context(alloc, "input", source)
 }
 
 /// The entry, ` | `, and the labels with ` | ` between.

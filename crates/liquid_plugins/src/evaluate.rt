@@ -1,24 +1,24 @@
 //! What expressions come to over a runtime.
-ghost use Rattle.std.specs.Prelude.{ok_or, ◌≡◌, string_bytes, IfSome, option_map};
+ghost use Rattle.std.specs.Prelude.{ok_or, ◌≡◌, string_bytes, IfOk, IfSome, option_map};
 ghost use Rattle.liquid_error.specs.Told.{told, Gives};
 ghost use Rattle.liquid_scalar.specs.Scalar.{scal};
 ghost use Rattle.liquid_value.specs.Cow.{cow_view};
 ghost use Rattle.liquid_value.specs.Parts.{as_scalar};
 ghost use Rattle.liquid_value.specs.View.{view as tree_of};
-ghost use Rattle.draft_runtime.specs.Calls.{Finds};
-ghost use Rattle.draft_paths.specs.PathOf.{index_of, path_of};
+ghost use Rattle.liquid_paths.specs.InPlace.{InPlace};
+ghost use Rattle.liquid_paths.specs.PathOf.{index_of, path_of};
 ghost use Rattle.liquid_plugins.specs.Evaluation.{evaluate, expected_scalar, try_evaluate};
 ghost use Rattle.liquid_plugins.specs.ExpressionOf.{expression_of, expressions_of, name_of, own_indexes_of};
-ghost use Rattle.liquid_plugins.specs.Parts.{named_path, try_named_path, FindsPath};
+ghost use Rattle.liquid_plugins.specs.Parts.{named_path, try_named_path};
 
 use crate::expression::{Expression, Variable, VariableOf};
-use draft_paths::path::Path;
-use draft_runtime::runtime::Runtime;
 use liquid_error::Error;
+use liquid_paths::Path;
+use liquid_runtime::Runtime;
 use liquid_scalar::{Scalar, ScalarCow, ScalarOf};
 use liquid_value::render::ValueSource;
 use liquid_value::{Value, ValueCow};
-use std::alloc::Global;
+use std::alloc::{AllocError, Global};
 use std::borrow::CowStr;
 
 impl Expression {
@@ -29,18 +29,20 @@ impl Expression {
         alloc: Global,
         runtime: &'c R,
     ) -> Result<ValueCow<'c>, Error>
-        ensures { Gives cow_view result (evaluate (R.view runtime.now) (expression_of self.now)) }
+        ensures gives { Gives cow_view result (evaluate (R.view runtime.now) (expression_of self.now)) }
+        ensures in_place { IfOk result InPlace }
     {
         evaluate(alloc, self, runtime)
     }
 
-    /// What the expression comes to, if it comes to a value. The only error is want of memory.
+    /// What the expression comes to, if it comes to a value. An `Err` is want of memory.
     pub fn try_evaluate<'c, R: Runtime>(
         &'c self,
         alloc: Global,
         runtime: &'c R,
-    ) -> Result<Option<ValueCow<'c>>, Error>
-        ensures { Finds result (try_evaluate (R.view runtime.now) (expression_of self.now)) }
+    ) -> Result<Option<ValueCow<'c>>, AllocError>
+        ensures gives { IfOk result (λ value. option_map cow_view value ≡ try_evaluate (R.view runtime.now) (expression_of self.now)) }
+        ensures in_place { IfOk result (λ value. IfSome value InPlace) }
     {
         try_evaluate(alloc, self, runtime)
     }
@@ -58,13 +60,13 @@ impl VariableOf<Expression> {
         named_path(alloc, &self.variable, &self.indexes, runtime)
     }
 
-    /// The path of the variable, if each index comes to a scalar. The only error is want of memory.
+    /// The path of the variable, if each index comes to a scalar. An `Err` is want of memory.
     pub fn try_evaluate<'c, R: Runtime>(
         &'c self,
         alloc: Global,
         runtime: &'c R,
-    ) -> Result<Option<Path<'c>>, Error>
-        ensures { FindsPath path_of result (try_named_path (R.view runtime.now) (name_of self.now) (own_indexes_of self.now)) }
+    ) -> Result<Option<Path<'c>>, AllocError>
+        ensures { IfOk result (λ path. option_map path_of path ≡ try_named_path (R.view runtime.now) (name_of self.now) (own_indexes_of self.now)) }
     {
         try_named_path(alloc, &self.variable, &self.indexes, runtime)
     }
@@ -77,7 +79,8 @@ fn evaluate<'c, R: Runtime>(
     expression: &'c Expression,
     runtime: &'c R,
 ) -> Result<ValueCow<'c>, Error>
-    ensures { Gives cow_view result (evaluate (R.view runtime.now) (expression_of expression.now)) }
+    ensures gives { Gives cow_view result (evaluate (R.view runtime.now) (expression_of expression.now)) }
+    ensures in_place { IfOk result InPlace }
 {
     match expression {
         Expression::Literal(value) => Ok(ValueCow::Borrowed(value)),
@@ -122,21 +125,18 @@ fn try_evaluate<'c, R: Runtime>(
     alloc: Global,
     expression: &'c Expression,
     runtime: &'c R,
-) -> Result<Option<ValueCow<'c>>, Error>
-    ensures { Finds result (try_evaluate (R.view runtime.now) (expression_of expression.now)) }
+) -> Result<Option<ValueCow<'c>>, AllocError>
+    ensures gives { IfOk result (λ value. option_map cow_view value ≡ try_evaluate (R.view runtime.now) (expression_of expression.now)) }
+    ensures in_place { IfOk result (λ value. IfSome value InPlace) }
 {
     match expression {
         Expression::Literal(value) => Ok(Some(ValueCow::Borrowed(value))),
-        Expression::Variable(variable) => match try_named_path(
-            alloc,
-            &variable.variable,
-            &variable.indexes,
-            runtime,
-        ) {
-            Ok(Some(path)) => runtime.try_get(alloc, path.as_slice()),
-            Ok(None) => Ok(None),
-            Err(error) => Err(error),
-        },
+        Expression::Variable(variable) => {
+            match try_named_path(alloc, &variable.variable, &variable.indexes, runtime)? {
+                Some(path) => runtime.try_get(alloc, path.as_slice()),
+                None => Ok(None),
+            }
+        }
     }
 }
 
@@ -147,18 +147,17 @@ fn try_named_path<'c, R: Runtime>(
     name: &'c Scalar,
     indexes: &'c Vec<Expression>,
     runtime: &'c R,
-) -> Result<Option<Path<'c>>, Error>
-    ensures { FindsPath path_of result (try_named_path (R.view runtime.now) (scal string_bytes name.now) (expressions_of indexes.now.items)) }
+) -> Result<Option<Path<'c>>, AllocError>
+    ensures { IfOk result (λ path. option_map path_of path ≡ try_named_path (R.view runtime.now) (scal string_bytes name.now) (expressions_of indexes.now.items)) }
 {
     let mut path = Path::with_index(alloc, name.as_ref())?;
     for index in indexes {
-        match try_evaluate(alloc, index, runtime) {
-            Ok(Some(value)) => match scalar_of(value) {
+        match try_evaluate(alloc, index, runtime)? {
+            Some(value) => match scalar_of(value) {
                 Some(scalar) => path.push(scalar)?,
                 None => return Ok(None),
             },
-            Ok(None) => return Ok(None),
-            Err(error) => return Err(error),
+            None => return Ok(None),
         }
     }
     Ok(Some(path))

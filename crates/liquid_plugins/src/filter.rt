@@ -5,15 +5,16 @@ ghost use Rattle.liquid_error.specs.Told.{Gives};
 ghost use Rattle.liquid_value.specs.Tree.{Tree};
 ghost use Rattle.liquid_value.specs.Cow.{cow_view};
 ghost use Rattle.liquid_value.specs.View.{view as tree_of};
-ghost use Rattle.draft_runtime.specs.Answers.{ok_then};
-ghost use Rattle.draft_runtime.specs.Erased.{Erased, erase};
+ghost use Rattle.liquid_error.specs.Refusal.{ok_then};
+ghost use Rattle.liquid_runtime.specs.Erased.{Erased, erase};
 ghost use Rattle.liquid_plugins.specs.ArgumentsOf.{Arguments, arguments_of};
+ghost use Rattle.liquid_plugins.specs.NoNames.{no_names_seen};
 
 use crate::meant::Meant;
 use crate::parameters::FilterArguments;
 use crate::reflection::FilterReflection;
-use draft_runtime::runtime::Runtime;
 use liquid_error::Error;
+use liquid_runtime::{BuiltRuntime, Runtime, RuntimeBuilder};
 use liquid_value::{Value, ValueCow};
 use std::alloc::Global;
 
@@ -54,18 +55,18 @@ pub trait ParseFilter: FilterReflection {
         ensures { Gives Self.Filter.shape result (makes self.now (arguments_of arguments.entry)) };
 }
 
-/// What the filter of these arguments makes of the input, over this runtime.
-pub fn call_filter<P: ParseFilter, R: Runtime>(
+/// What the filter of these arguments makes of the input, over a runtime that has no names.
+pub fn call_filter<P: ParseFilter>(
     alloc: Global,
     filter: &P,
     input: &ValueCow<'_>,
     arguments: FilterArguments<'_>,
-    runtime: &R,
 ) -> Result<Value, Error>
-    ensures { Gives tree_of result (ok_then (P.makes filter.now (arguments_of arguments.entry)) (λ x. P.Filter.answers x (cow_view input.now) (erase (R.view runtime.now)))) }
+    ensures { Gives tree_of result (ok_then (P.makes filter.now (arguments_of arguments.entry)) (λ x. P.Filter.answers x (cow_view input.now) no_names_seen)) }
 {
+    let runtime: BuiltRuntime<(), ()> = RuntimeBuilder::new(alloc).build();
     match filter.parse(alloc, arguments) {
-        Ok(filter) => filter.evaluate(alloc, input, runtime),
+        Ok(filter) => filter.evaluate(alloc, input, &runtime),
         Err(error) => Err(error),
     }
 }

@@ -1,7 +1,7 @@
 //! The laws of expressions, each as the contract of a function.
 ghost use Rattle.liquid_plugins.specs.Laws.{EvaluateAgrees, EvaluatesErased, PathsAgree};
 
-use draft_runtime::runtime::Fresh;
+use liquid_runtime::Fresh;
 
 /// `evaluate` of an expression gives a value exactly where `try_evaluate` has one, and then the same.
 #[tactic(auto, using(crate::proofs::Agreement::evaluate_agrees))]

@@ -2,14 +2,14 @@
 ghost use Rattle.std.specs.Prelude.{Result};
 ghost use Rattle.liquid_error.specs.Refusal.{Refusal};
 ghost use Rattle.liquid_error.specs.Told.{Gives};
-ghost use Rattle.draft_runtime.specs.Erased.{Erased, erase};
+ghost use Rattle.liquid_runtime.specs.Erased.{Erased, erase};
 ghost use Rattle.liquid_plugins.specs.ArgumentsOf.{Arguments, arguments_of};
 
 use crate::expression::Expression;
 use crate::meant::Meant;
 use crate::reflection::FilterParametersReflection;
-use draft_runtime::runtime::Runtime;
 use liquid_error::Error;
+use liquid_runtime::Runtime;
 use std::alloc::Global;
 
 /// The arguments that a template gives a filter: those by place, and those by keyword, in order.

@@ -7,8 +7,7 @@ ghost use Rattle.std.specs.Option.{option_copied};
 ghost use Rattle.liquid_plugins.specs.Registry.{IsCopy};
 
 use std::alloc::{AllocError, Global};
-use std::collections::BTreeMap;
-use std::collections::btree_map;
+use std::collections::{BTreeMap, btree_map};
 use std::marker::Model;
 
 /// Plug-ins of one kind, each under a name: a finite map.

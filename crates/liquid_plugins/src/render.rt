@@ -1,16 +1,15 @@
 //! What a node does in its turns.
 ghost use Rattle.std.specs.Prelude.{◌≡◌, ℕ, Result, Some, OnSome};
 ghost use Rattle.liquid_error.specs.Told.{Gives};
-ghost use Rattle.draft_runtime.specs.View.{View};
-ghost use Rattle.draft_runtime.specs.Written.{SameFrames, with_written};
+ghost use Rattle.liquid_runtime.specs.View.{View};
+ghost use Rattle.liquid_runtime.specs.Written.{SameFrames, with_written};
 ghost use Rattle.liquid_plugins.specs.Turns.{Told, TurnShape};
 ghost use Rattle.liquid_plugins.specs.TurnOf.{turn_of, Leaves, LeavesProgress};
 ghost use Rattle.liquid_plugins.specs.Discreet.{HidesGlobals};
 
 use crate::meant::Meant;
-use draft_runtime::runtime::{Fresh, Runtime};
-use draft_runtime::scopes::Frame;
 use liquid_error::Error;
+use liquid_runtime::{Frame, Fresh, Runtime};
 use std::alloc::Global;
 
 /// What a turn answers.

@@ -44,10 +44,7 @@ pub(crate) fn write_expression<W: fmt::Write>(
 }
 
 #[cycle(text)]
-fn write_indexes<W: fmt::Write>(
-    indexes: &Vec<Expression>,
-    f: &mut fmt::Formatter<W>,
-) -> fmt::Result
+fn write_indexes<W: fmt::Write>(indexes: &Vec<Expression>, f: &mut fmt::Formatter<W>) -> fmt::Result
     ensures { WritesOnOk W.write_str_gives f.old result (indexes_text (expressions_of indexes.now.items)) f.new }
 {
     for index in indexes {

@@ -14,6 +14,7 @@ use std::collections::BTreeSet;
 
 /// A frame of names that hides all names below, with registers of its own. What is set in it goes to
 /// the frames below.
+#[derive(Drop)]
 pub struct SandboxedStackFrame<P: Runtime> {
     parent: P,
     names: Object,

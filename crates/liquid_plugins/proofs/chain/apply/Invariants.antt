@@ -1,6 +1,6 @@
 use Rattle.std.proofs.Common.{◌≡◌, drop, map}
 use Rattle.liquid_value.specs.Cow.{cow_view}
-use Rattle.draft_runtime.specs.Erased.{erase}
+use Rattle.liquid_runtime.specs.Erased.{erase}
 use Rattle.liquid_plugins.specs.Chain.{filtered}
 use Rattle.liquid_plugins.proofs.chain.apply.Given as goal
 

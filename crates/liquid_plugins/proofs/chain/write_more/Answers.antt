@@ -1,6 +1,6 @@
 use Rattle.std.proofs.Common.{◌++◌, codes, rules}
 use Rattle.std.proofs.Output.{has_written_append}
-use Rattle.draft_paths.proofs.Turns.{pieces_turn}
+use Rattle.liquid_paths.proofs.Turns.{pieces_turn}
 use Rattle.liquid_plugins.proofs.chain.write_more.Goals as goal
 
 pub loop-filter-preserved : goal.loop-filter-preserved

@@ -1,6 +1,6 @@
 use Rattle.std.proofs.Common.{◌≡◌, drop, string_bytes}
 use Rattle.liquid_scalar.specs.Scalar.{scal}
-use Rattle.draft_paths.specs.PathOf.{path_of as code_path_of}
+use Rattle.liquid_paths.specs.PathOf.{path_of as code_path_of}
 use Rattle.liquid_plugins.specs.Evaluation.{try_path_of}
 use Rattle.liquid_plugins.specs.ExpressionOf.{expressions_of}
 use Rattle.liquid_plugins.specs.Parts.{try_named_path}

@@ -1,4 +1,4 @@
-use Rattle.std.proofs.Common.{[], ◌++◌, codes, refl, ap, sym, ◌∙◌, append_assoc, rules}
+use Rattle.std.proofs.Common.{[], ◌++◌, codes, ap, sym, ◌∙◌, append_assoc, rules}
 use Rattle.std.proofs.Output.{has_written_append}
 use Rattle.liquid_plugins.specs.Expression.{expression_text, indexes_text}
 use Rattle.liquid_plugins.specs.ExpressionOf.{expression_of, expressions_of}
