@@ -11,14 +11,10 @@ mod kind;
 mod laws;
 mod literal;
 mod matching;
-#[cfg(test)]
-mod matching_tests;
 mod name;
 mod opener;
 mod place;
 mod raw;
-#[cfg(test)]
-mod tests;
 mod text;
 mod token;
 mod value;

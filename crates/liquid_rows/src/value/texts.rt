@@ -1,6 +1,7 @@
+//! Values with their texts and their states.
 use super::{Given, value_of};
-use crate::render::{ValueRender, ValueSource};
-use crate::{State, Value};
+use liquid_value::render::{ValueRender, ValueSource};
+use liquid_value::{State, Value};
 use std::test::Fail;
 
 // A value, the text that it renders as, its source text, and the name of its type.

@@ -1,5 +1,5 @@
 //! Tables of patterns and date texts, and each public call once.
-use crate::{Date, DateError, DateFormatError, DateTime};
+use liquid_dates::{Date, DateError, DateFormatError, DateTime};
 use std::process::Abort;
 use std::test::Fail;
 
@@ -140,19 +140,45 @@ const REFUSED: [(&str, DateFormatError); 9] = [
     ("%18446744073709551616E", DateFormatError::InvalidWidth),
 ];
 
-// Texts of one moment, with its offset.
-const TEXTS: [(&str, i32); 11] = [
-    ("2016-02-16 10:00:00 +0100", 3600),
-    ("2016-02-16 10:00:00.0 +0100", 3600),
-    ("16 February 2016 10:00:00 +0100", 3600),
-    ("16 Feb 2016 10:00:00 +0100", 3600),
-    ("02/16/2016 10:00:00 +0100", 3600),
-    ("Tue Feb 16 10:00:00 2016 +0100", 3600),
-    ("2016-02-16 09:00:00", 0),
-    ("16 Feb 2016 09:00:00", 0),
-    ("Tue Feb 16 09:00:00 2016", 0),
-    ("1455613200", 0),
-    ("2016-02-16 02:15:00 -0645", -24300),
+// Fractions and offsets that keep their zeros, of a moment in November 2007.
+const ZEROS: [(&str, &str); 3] = [("%L", "005"), ("%_z", "-030"), ("%G-W%V-%u", "2007-W47-1")];
+
+// Texts, and the nanoseconds from 1970 on and the offset of the date time that each is.
+const DATE_TIMES: [(&str, i128, i32); 14] = [
+    ("2016-02-16 10:00:00 +0100", 1_455_613_200_000_000_000, 3600),
+    (
+        "2016-02-16 10:00:00.0 +0100",
+        1_455_613_200_000_000_000,
+        3600,
+    ),
+    (
+        "16 February 2016 10:00:00 +0100",
+        1_455_613_200_000_000_000,
+        3600,
+    ),
+    (
+        "16 Feb 2016 10:00:00 +0100",
+        1_455_613_200_000_000_000,
+        3600,
+    ),
+    ("02/16/2016 10:00:00 +0100", 1_455_613_200_000_000_000, 3600),
+    (
+        "Tue Feb 16 10:00:00 2016 +0100",
+        1_455_613_200_000_000_000,
+        3600,
+    ),
+    ("2016-02-16 09:00:00", 1_455_613_200_000_000_000, 0),
+    ("16 Feb 2016 09:00:00", 1_455_613_200_000_000_000, 0),
+    ("Tue Feb 16 09:00:00 2016", 1_455_613_200_000_000_000, 0),
+    ("1455613200", 1_455_613_200_000_000_000, 0),
+    (
+        "2016-02-16 02:15:00 -0645",
+        1_455_613_200_000_000_000,
+        -24300,
+    ),
+    ("2016-02-16 09:00:00.5", 1_455_613_200_500_000_000, 0),
+    (" Now ", 1_667_440_597_666_777_888, 21600),
+    ("TODAY", 1_667_440_597_666_777_888, 21600),
 ];
 
 const NO_DATE_TIME: [&str; 8] = [
@@ -170,106 +196,55 @@ fn november() -> Result<DateTime, DateError> {
     DateTime::from_parts(Date::from_ymd(2022, 11, 3)?, 7, 56, 37, 666_777_888, 21600)
 }
 
-fn check(
+/// Asserts what each pattern prints of the date time.
+fn prints(
     rt: &(impl Abort + AllocGlobal),
-    date_time: &DateTime,
-    pattern: &str,
-    text: &str,
-) -> Result<(), DateFormatError> {
-    let printed = date_time.format(rt.alloc(), pattern)?;
-    assert_eq!(rt; printed.as_str(), text);
-    Ok(())
-}
-
-#[test]
-fn patterns_print_each_directive(rt: HostRuntime) -> Result<(), Fail> {
-    let date_time = november()?;
-    for case in PLAIN {
-        check(&rt, &date_time, case.0, case.1)?;
+    date_time: DateTime,
+    rows: &[(&str, &str)],
+) -> Result<(), Fail> {
+    for (pattern, text) in rows {
+        let printed = date_time.format(rt.alloc(), pattern)?;
+        assert_eq!(rt; printed.as_str(), *text, "of {pattern:?}");
     }
     Ok(())
 }
 
 #[test]
-fn patterns_are_filled(rt: HostRuntime) -> Result<(), Fail> {
-    let date = Date::from_ymd(2022, 1, 3)?;
-    let date_time = DateTime::from_parts(date, 7, 56, 37, 666_777_888, 21600)?;
-    for case in FILLED {
-        check(&rt, &date_time, case.0, case.1)?;
-    }
-    Ok(())
-}
-
-#[test]
-fn patterns_of_a_year_before_zero(rt: HostRuntime) -> Result<(), Fail> {
-    let date = Date::from_ymd(-20, 6, 13)?;
-    let date_time = DateTime::from_parts(date, 17, 56, 37, 666_777_888, -26700)?;
-    for case in NEGATIVE {
-        check(&rt, &date_time, case.0, case.1)?;
-    }
-    Ok(())
-}
-
-#[test]
-fn fractions_and_offsets_keep_their_zeros(rt: HostRuntime) -> Result<(), Fail> {
-    let date = Date::from_ymd(2007, 11, 19)?;
-    let date_time = DateTime::from_parts(date, 8, 37, 48, 5_000_000, -1800)?;
-    check(&rt, &date_time, "%L %_z %G-W%V-%u", "005 -030 2007-W47-1")?;
-    Ok(())
+fn patterns_are_printed(rt: HostRuntime) -> Result<(), Fail> {
+    prints(&rt, november()?, &PLAIN)?;
+    let january = Date::from_ymd(2022, 1, 3)?;
+    let filled = DateTime::from_parts(january, 7, 56, 37, 666_777_888, 21600)?;
+    prints(&rt, filled, &FILLED)?;
+    let june = Date::from_ymd(-20, 6, 13)?;
+    let negative = DateTime::from_parts(june, 17, 56, 37, 666_777_888, -26700)?;
+    prints(&rt, negative, &NEGATIVE)?;
+    let monday = Date::from_ymd(2007, 11, 19)?;
+    let zeros = DateTime::from_parts(monday, 8, 37, 48, 5_000_000, -1800)?;
+    prints(&rt, zeros, &ZEROS)
 }
 
 #[test]
 fn patterns_are_refused(rt: HostRuntime) -> Result<(), Fail> {
     let date_time = november()?;
-    for case in REFUSED {
-        assert_eq!(rt; date_time.format(rt.alloc(), case.0).err(), Some(case.1));
+    for (pattern, error) in REFUSED {
+        assert_eq!(rt; date_time.format(rt.alloc(), pattern).err(), Some(error));
     }
     let great = date_time.format(rt.alloc(), "%18446744073709551615d");
     assert_eq!(rt; great.err(), Some(DateFormatError::Memory));
     Ok(())
 }
 
-fn check_instant_and_offset(rt: &impl Abort, text: &str, offset: i32) -> Result<(), Fail> {
-    let read = DateTime::from_str(text, november()?).ok_or("no date time")?;
-    assert_eq!(rt; read.instant(), 1_455_613_200_000_000_000);
-    assert_eq!(rt; read.offset(), offset);
-    Ok(())
-}
-
-fn is_read(text: &str) -> Result<bool, Fail> {
-    Ok(DateTime::from_str(text, november()?).is_some())
-}
-
 #[test]
 fn date_times_are_read(rt: HostRuntime) -> Result<(), Fail> {
-    for case in TEXTS {
-        check_instant_and_offset(&rt, case.0, case.1)?;
+    for (text, instant, offset) in DATE_TIMES {
+        let read = DateTime::from_str(text, november()?).ok_or("no date time")?;
+        assert_eq!(rt; read.instant(), instant, "of {text:?}");
+        assert_eq!(rt; read.offset(), offset, "of {text:?}");
     }
-    Ok(())
-}
-
-#[test]
-fn other_texts_are_no_date_times(rt: HostRuntime) -> Result<(), Fail> {
     for text in NO_DATE_TIME {
-        assert!(rt; !is_read(text)?);
+        let read = DateTime::from_str(text, november()?);
+        assert!(rt; read.is_none(), "of {text:?}");
     }
-    Ok(())
-}
-
-#[test]
-fn the_moment_is_read(rt: HostRuntime) -> Result<(), Fail> {
-    let read = DateTime::from_str(" Now ", november()?);
-    assert_eq!(rt; read, Some(november()?));
-    let read = DateTime::from_str("TODAY", november()?);
-    assert_eq!(rt; read, Some(november()?));
-    Ok(())
-}
-
-#[test]
-fn a_fraction_is_read(rt: HostRuntime) -> Result<(), Fail> {
-    let text = "2016-02-16 10:00:00.5";
-    let fraction = DateTime::from_str(text, november()?).ok_or("no date time")?;
-    assert_eq!(rt; fraction.nanosecond(), 500_000_000);
     Ok(())
 }
 

@@ -1,5 +1,6 @@
+//! Pairs of values: their loose equality, their order, and whether they are the same.
 use super::{Given, value_of};
-use crate::{State, Value, ValueViewCmp};
+use liquid_value::{State, Value, ValueViewCmp};
 use std::cmp::Ordering;
 use std::hash::{DefaultHasher, Hash, Hasher};
 use std::test::Fail;

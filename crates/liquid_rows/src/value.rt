@@ -1,9 +1,10 @@
+//! Values as the rows of the tables below name them.
 mod comparisons;
 mod texts;
 mod values;
 
-use crate::{Array, Object, State, Value};
 use liquid_dates::{Date, DateTime};
+use liquid_value::{Array, Object, State, Value};
 use std::alloc::{AllocError, Global};
 use std::test::Fail;
 

@@ -1,5 +1,6 @@
-use crate::{Scalar, ScalarCow};
+//! Scalars with their texts, their conversions, and what they are compared with.
 use liquid_dates::{Date, DateTime};
+use liquid_scalar::{Scalar, ScalarCow};
 use std::alloc::{AllocError, Global};
 use std::cmp::Ordering;
 use std::hash::{DefaultHasher, Hash, Hasher};

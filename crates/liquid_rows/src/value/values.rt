@@ -1,7 +1,10 @@
+//! What values hold, what they are made of, and walks over objects.
 use super::{Given, items, named, numbers, object, value_of};
-use crate::steps::{step_over_entries, step_over_keys, step_over_owned_entries, step_over_values};
-use crate::{Object, State, Value, ValueCow};
 use liquid_scalar::Scalar;
+use liquid_value::steps::{
+    step_over_entries, step_over_keys, step_over_owned_entries, step_over_values,
+};
+use liquid_value::{Object, State, Value, ValueCow};
 use std::alloc::{AllocError, Global};
 use std::test::Fail;
 
@@ -17,20 +20,12 @@ const PARTS: [(Given, bool, bool, bool, bool); 5] = [
 #[test]
 fn values_give_what_they_hold(rt: HostRuntime) -> Result<(), Fail> {
     let alloc = rt.alloc();
-    for (given, _, array, object, _) in &PARTS {
+    for (given, scalar, array, object, state) in &PARTS {
         let mut value = value_of(alloc, *given)?;
         assert_eq!(rt; value.as_array().is_some(), *array);
         assert_eq!(rt; value.as_object().is_some(), *object);
         assert_eq!(rt; value.as_array_mut().is_some(), *array);
         assert_eq!(rt; value.as_object_mut().is_some(), *object);
-    }
-    Ok(())
-}
-
-#[test]
-fn values_are_taken_apart(rt: HostRuntime) -> Result<(), Fail> {
-    let alloc = rt.alloc();
-    for (given, scalar, array, object, state) in &PARTS {
         assert_eq!(rt; value_of(alloc, *given)?.into_scalar().is_some(), *scalar);
         assert_eq!(rt; value_of(alloc, *given)?.into_array().is_some(), *array);
         assert_eq!(rt; value_of(alloc, *given)?.into_object().is_some(), *object);
@@ -75,6 +70,10 @@ fn is(alloc: Global, value: Value, given: Given) -> Result<bool, Fail> {
     Ok(value == value_of(alloc, given)?)
 }
 
+fn is_owned(alloc: Global, cow: ValueCow<'static>, given: Given) -> Result<bool, Fail> {
+    is(alloc, cow.into_owned()?, given)
+}
+
 #[test]
 fn conversions_keep_the_value(rt: HostRuntime) -> Result<(), Fail> {
     let alloc = rt.alloc();
@@ -85,16 +84,6 @@ fn conversions_keep_the_value(rt: HostRuntime) -> Result<(), Fail> {
     assert!(rt; is(alloc, Value::from(Scalar::Integer(1)), Given::Number(1))?);
     let ones = numbers(alloc, &[1, 1])?.into_iter();
     assert!(rt; is(alloc, Value::array(alloc, ones)?, Given::Numbers(&[1, 1]))?);
-    Ok(())
-}
-
-fn is_owned(alloc: Global, cow: ValueCow<'static>, given: Given) -> Result<bool, Fail> {
-    is(alloc, cow.into_owned()?, given)
-}
-
-#[test]
-fn cows_keep_the_value(rt: HostRuntime) -> Result<(), Fail> {
-    let alloc = rt.alloc();
     assert!(rt; is_owned(alloc, ValueCow::default(), Given::Nil)?);
     assert!(rt; is_owned(alloc, ValueCow::from(Value::Nil), Given::Nil)?);
     assert!(rt; is_owned(alloc, ValueCow::from(items(alloc)?), Given::Items)?);
