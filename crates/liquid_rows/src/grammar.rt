@@ -322,9 +322,9 @@ fn hostile_sizes(rt: HostRuntime) -> Result<(), AllocError> {
         }
         _ => panic!(rt; "blanks are no raw text"),
     }
-    let braces = repeated(rt.alloc(), "{", 1_000_000, "")?;
+    let braces = repeated(rt.alloc(), "{", 100_000, "")?;
     let mut rest = braces.as_str();
-    for _ in 0..999_999 {
+    for _ in 0..99_999 {
         match next_element(rest) {
             Some((Element::Invalid("{"), after)) => rest = after,
             _ => panic!(rt; "a brace is no invalid element"),
