@@ -50,8 +50,10 @@ fn leaves(rt: &impl Abort, rule: Rule, text: &str, rest: Option<&str>) {
     }
 }
 
-// A rule, a text, and what is left of it behind the rule's match.
-const LEFT: [(Rule, &str, Option<&str>); 63] = [
+/// A rule, a text, and what is left of it behind the rule's match.
+type Left = (Rule, &'static str, Option<&'static str>);
+
+const VALUES: [Left; 18] = [
     (Rule::Value, "a.b[ 'c' ][d[0]].e f", Some(" f")),
     (Rule::Value, "a .b", Some(" .b")),
     (Rule::Value, "a. b", Some(". b")),
@@ -66,6 +68,13 @@ const LEFT: [(Rule, &str, Option<&str>); 63] = [
     (Rule::Variable, "a.nil", Some("")),
     (Rule::Index, "[a[b]]c", Some("c")),
     (Rule::Index, ".a.b", Some(".b")),
+    (Rule::Value, "a.", Some(".")),
+    (Rule::Value, "a[]", Some("[]")),
+    (Rule::Value, "a[b]]", Some("]")),
+    (Rule::Value, "é", None),
+];
+
+const FILTERS: [Left; 11] = [
     (Rule::Argument, "a : b c", Some(" c")),
     (Rule::Argument, "a : |", Some(" : |")),
     (Rule::Filter, "f : 1 , b: 2 , | g", Some(" , | g")),
@@ -74,6 +83,12 @@ const LEFT: [(Rule, &str, Option<&str>); 63] = [
     (Rule::Chain, "a | f: 1 | g | 2", Some(" | 2")),
     (Rule::Chain, "'a' ", Some(" ")),
     (Rule::Chain, "| f", None),
+    (Rule::Chain, "a |", Some(" |")),
+    (Rule::Filter, "f: 'a", Some(": 'a")),
+    (Rule::Argument, ": 1", None),
+];
+
+const TOKENS: [Left; 17] = [
     (Rule::Token, "(1 .. a.b ) c", Some(" c")),
     (Rule::Token, "(1. .2)", None),
     (Rule::Token, "<=>", Some(">")),
@@ -86,6 +101,14 @@ const LEFT: [(Rule, &str, Option<&str>); 63] = [
     (Rule::Token, ":,", Some(",")),
     (Rule::Token, "!a", None),
     (Rule::Token, "a | f == b", Some(" == b")),
+    (Rule::Token, "(1..2", None),
+    (Rule::Token, "(..2)", None),
+    (Rule::Token, "1..2)", Some("..2)")),
+    (Rule::Token, "'é' 漢", Some(" 漢")),
+    (Rule::Token, "é", None),
+];
+
+const ELEMENTS: [Left; 17] = [
     (Rule::Tag, "{% if a<=b %}c", Some("c")),
     (Rule::Tag, " \n{%-nil-%} \tc", Some("c")),
     (Rule::Tag, "{%a'b'1%}", Some("")),
@@ -96,7 +119,6 @@ const LEFT: [(Rule, &str, Option<&str>); 63] = [
     (Rule::Expression, "{{ 'a' -}} d", Some("d")),
     (Rule::Expression, "{{ a b }}", None),
     (Rule::Expression, "{{ }}", None),
-    // texts that are one short of a form
     (Rule::Expression, "{{ a }", None),
     (Rule::Expression, "{ a }}", None),
     (Rule::Expression, "{{ a |}}", None),
@@ -104,18 +126,6 @@ const LEFT: [(Rule, &str, Option<&str>); 63] = [
     (Rule::Tag, "{% a %", None),
     (Rule::Tag, "{% %}", None),
     (Rule::Tag, "{% a (1..) %}", None),
-    (Rule::Token, "(1..2", None),
-    (Rule::Token, "(..2)", None),
-    (Rule::Token, "1..2)", Some("..2)")),
-    (Rule::Value, "a.", Some(".")),
-    (Rule::Value, "a[]", Some("[]")),
-    (Rule::Value, "a[b]]", Some("]")),
-    (Rule::Value, "é", None),
-    (Rule::Chain, "a |", Some(" |")),
-    (Rule::Filter, "f: 'a", Some(": 'a")),
-    (Rule::Argument, ": 1", None),
-    (Rule::Token, "'é' 漢", Some(" 漢")),
-    (Rule::Token, "é", None),
 ];
 
 // A rule, a text, the kind of its first fault, and the text from there on.
@@ -146,11 +156,22 @@ const FAULTS: [(Rule, &str, FaultKind, &str); 4] = [
     ),
 ];
 
-#[test]
-fn rules_match_and_find_the_first_fault(rt: HostRuntime) {
-    for (rule, text, rest) in LEFT {
-        leaves(&rt, rule, text, rest);
+fn all_leave(rt: &impl Abort, rows: &[Left]) {
+    for (rule, text, rest) in rows {
+        leaves(rt, *rule, text, *rest);
     }
+}
+
+#[test]
+fn rules_leave_what_is_behind_them(rt: HostRuntime) {
+    all_leave(&rt, &VALUES);
+    all_leave(&rt, &FILTERS);
+    all_leave(&rt, &TOKENS);
+    all_leave(&rt, &ELEMENTS);
+}
+
+#[test]
+fn the_first_fault_is_found(rt: HostRuntime) {
     for (rule, text, kind, place) in FAULTS {
         match matched(rule, text) {
             Some((Some(fault), _)) => {
@@ -194,7 +215,7 @@ const LITERALS: [(&str, Option<(Literal<'static>, &str)>); 17] = [
 ];
 
 // A text with the kind of the token that it begins with.
-const TOKENS: [(&str, Option<TokenKind<'static>>); 9] = [
+const TOKEN_KINDS: [(&str, Option<TokenKind<'static>>); 9] = [
     ("a ", Some(TokenKind::Identifier("a"))),
     ("a.b", Some(TokenKind::Variable)),
     ("a['b']", Some(TokenKind::Variable)),
@@ -207,7 +228,7 @@ const TOKENS: [(&str, Option<TokenKind<'static>>); 9] = [
 ];
 
 // A text with the kind of the chain that it begins with.
-const CHAINS: [(&str, Option<TokenKind<'static>>); 4] = [
+const CHAIN_KINDS: [(&str, Option<TokenKind<'static>>); 4] = [
     ("a }}", Some(TokenKind::Identifier("a"))),
     ("a.b | c }}", Some(TokenKind::Filtered)),
     ("1 }}", Some(TokenKind::Literal(Literal::Integer("1")))),
@@ -222,10 +243,10 @@ fn small_rules_tell_what_they_found(rt: HostRuntime) {
     for (text, found) in LITERALS {
         assert!(rt; match_literal(text) == found, "of {text:?}");
     }
-    for (text, kind) in TOKENS {
+    for (text, kind) in TOKEN_KINDS {
         assert!(rt; token_kind(text) == kind, "of {text:?}");
     }
-    for (text, kind) in CHAINS {
+    for (text, kind) in CHAIN_KINDS {
         assert!(rt; chain_kind(text) == kind, "of {text:?}");
     }
     assert!(rt; TokenKind::Identifier("a").identifier() == Some("a"));
