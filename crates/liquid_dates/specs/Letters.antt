@@ -1,5 +1,7 @@
 -- The letters of directives, and what each stands for.
 use Rattle.std.specs.Prelude.{ℕ, Bool, ◌&&◌, ◌||◌, ◌==◌, if◌then◌else◌, List, [], ◌∷◌, Option, Some, None, option_map}
+use Rattle.liquid_dates.specs.declared.flags.NumberFilling.{NumberFilling}
+use Rattle.liquid_dates.specs.declared.flags.NumberFilling.TheVariants.{SpacesBeforeSign, ZerosBehindSign}
 use Rattle.liquid_dates.specs.declared.directive.Number.{Number}
 use Rattle.liquid_dates.specs.declared.directive.Number.TheVariants.{Year, Century, YearOfCentury, Month, Day, Ordinal, Hour, HourOf12, Minute, Second, WeekdayFromMonday, WeekdayFromSunday, WeekFromSunday, WeekFromMonday, IsoYear, IsoYearOfCentury, IsoWeek, UnixSeconds}
 use Rattle.liquid_dates.specs.declared.directive.Name.{Name}
@@ -32,9 +34,10 @@ number_letter c =
     else (if c == 86 then Some IsoWeek
     else (if c == 115 then Some UnixSeconds else None)))))))))))))))))
 
--- `e`, `k` and `l`, which fill by spaces where no flag says otherwise
-abbrev pub is_spaced_letter : ℕ → Bool
-is_spaced_letter c = (c == 101) || ((c == 107) || (c == 108))
+-- what fills a number where no flag says otherwise: spaces for `e`, `k` and `l`
+abbrev pub letter_filling : ℕ → NumberFilling
+letter_filling c =
+    if (c == 101) || ((c == 107) || (c == 108)) then SpacesBeforeSign else ZerosBehindSign
 
 -- the letters of names and of characters
 unfoldable pub name_letter : ℕ → Option Name
@@ -75,7 +78,7 @@ or_else None other = other
 -- what a letter stands for, if for anything
 unfoldable pub letter_directive : ℕ → Option Directive
 letter_directive c =
-    or_else (option_map (λ n. OfNumber n (is_spaced_letter c)) (number_letter c))
+    or_else (option_map (λ n. OfNumber n (letter_filling c)) (number_letter c))
     (or_else (option_map OfName (name_letter c))
     (or_else (option_map OfComposite (composite_letter c)) (fraction_letter c)))
 

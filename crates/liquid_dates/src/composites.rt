@@ -8,7 +8,7 @@ ghost use Rattle.liquid_dates.specs.Names as Names;
 use crate::DateTime;
 use crate::directive::Composite;
 use crate::directive_text::{text_filler, upper_half};
-use crate::flags::{Case, Flags};
+use crate::flags::{Case, Flags, NumberFilling};
 use crate::names::{short_month_name, short_weekday_name};
 use crate::numbers::hour_of_12;
 use crate::writing::{fill, write_cased, write_number};
@@ -70,14 +70,14 @@ fn composite_of(
 pub(crate) fn write_two(out: &mut String, number: u8) -> Result<(), AllocError>
     ensures { OnOk result (string_bytes out.new ≡ string_bytes out.old ++ Spec.two number) }
 {
-    write_number(out, false, 2, i64::from(number))
+    write_number(out, NumberFilling::ZerosBehindSign, 2, i64::from(number))
 }
 
 fn write_year(out: &mut String, date_time: &DateTime) -> Result<(), AllocError>
     ensures { OnOk result
         (string_bytes out.new ≡ string_bytes out.old ++ Spec.year_of_four date_time.now) }
 {
-    write_number(out, false, 4, i64::from(date_time.year()))
+    write_number(out, NumberFilling::ZerosBehindSign, 4, i64::from(date_time.year()))
 }
 
 // Appends the remainder of the year by 100, filled by zeros to two characters.
@@ -86,7 +86,7 @@ fn write_short_year(out: &mut String, date_time: &DateTime) -> Result<(), AllocE
     ensures { OnOk result
         (string_bytes out.new ≡ string_bytes out.old ++ Spec.year_of_two date_time.now) }
 {
-    write_number(out, false, 2, i64::from(date_time.year()) % 100)
+    write_number(out, NumberFilling::ZerosBehindSign, 2, i64::from(date_time.year()) % 100)
 }
 
 #[tactic(auto, unfolding(crate::specs::DirectiveText::hour_minute_of))]
@@ -141,7 +141,12 @@ fn named_date(out: &mut String, date_time: DateTime) -> Result<(), AllocError>
     ensures { OnOk result
         (string_bytes out.new ≡ string_bytes out.old ++ Spec.named_date date_time) }
 {
-    write_number(out, true, 2, i64::from(date_time.day()))?;
+    write_number(
+        out,
+        NumberFilling::SpacesBeforeSign,
+        2,
+        i64::from(date_time.day()),
+    )?;
     out.push_str("-")?;
     write_short_month(out, Case::Upper, date_time)?;
     out.push_str("-")?;
@@ -182,7 +187,12 @@ fn named_day(out: &mut String, case: Case, date_time: DateTime) -> Result<(), Al
     out.push_str(" ")?;
     write_short_month(out, case, date_time)?;
     out.push_str(" ")?;
-    write_number(out, true, 2, i64::from(date.day))
+    write_number(
+        out,
+        NumberFilling::SpacesBeforeSign,
+        2,
+        i64::from(date.day),
+    )
 }
 
 fn write_short_month(out: &mut String, case: Case, date_time: DateTime) -> Result<(), AllocError>

@@ -10,6 +10,13 @@ pub(crate) enum Filling {
     Spaces,
 }
 
+/// What a number is filled by up to its width, and on which side of its sign.
+#[derive(Clone, Copy)]
+pub(crate) enum NumberFilling {
+    SpacesBeforeSign,
+    ZerosBehindSign,
+}
+
 /// In which case a directive prints letters: the last of its flags `^` and `#`.
 #[derive(Clone, Copy)]
 pub(crate) enum Case {
