@@ -115,6 +115,7 @@ fn is_digit(c: char) -> bool
 // What a letter stands for, and what is behind it. A `:` takes the next character, and a second
 // one takes one more.
 #[tactic(auto, unfolding(crate::specs::Letters::directive_of), using(crate::proofs::CharLemmas::colon_letter))]
+#[inline(always)]
 fn read_letter(first: char, text: &str) -> (Option<Directive>, &str)
     ensures directive { result.0 ≡ directive_of (Reader.letter_front first (chars text.now)) }
     ensures rest { chars result.1.now ≡ Reader.letter_behind first (chars text.now) }
@@ -151,6 +152,7 @@ fn is_modifier(c: char) -> bool
 }
 
 // A directive from its letter on, and what is behind it.
+#[inline(always)]
 fn with_letter(flags: Flags, width: Option<usize>, letter: char, text: &str) -> (Conversion, &str)
     ensures flags { result.0.flags ≡ flags }
     ensures width { result.0.width ≡ width }
@@ -169,6 +171,7 @@ fn with_letter(flags: Flags, width: Option<usize>, letter: char, text: &str) -> 
 }
 
 // A directive from behind its width on, where its first character is taken.
+#[inline(always)]
 fn from_modifier(
     flags: Flags,
     width: Option<usize>,
