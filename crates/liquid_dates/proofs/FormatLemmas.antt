@@ -14,7 +14,7 @@ use Rattle.liquid_dates.specs.declared.error.DateFormatError.TheVariants.{NoForm
 use Rattle.liquid_dates.specs.Flags.{flags_of, width_of}
 use Rattle.liquid_dates.specs.Letters.{directive_of}
 use Rattle.liquid_dates.specs.Pattern.{Item, literal, directive, spelling, IsItem, IsFront, IsRefused, item_print, directive_print, print, answer_of, FormatsTo}
-use Rattle.liquid_dates.specs.PatternReader.{Read, directive_at, IsReadAs, IsPrinted, HasRest, OnRefusal, conversion_of, conversion_print}
+use Rattle.liquid_dates.specs.PatternReader.{ItemRead, directive_at, IsReadAs, IsPrinted, HasRest, OnRefusal, conversion_of, conversion_print}
 use Rattle.liquid_dates.proofs.PatternLemmas.{Describes, directive_describes, front_more, one_reading, shorter}
 
 -- behind its per cent a directive has the rest at its end
@@ -25,7 +25,8 @@ spelled cs conversion rest h = by_cases _ (directive_describes cs) h
     by_item : (item : Item) → 37 ∷ cs ≡ spelling item ++ chars rest.now → HasRest cs (chars rest.now)
     by_item (literal c) e = ([], ap (drop 1) e)
     by_item (directive flags digits modifier letter) e = (flags ++ (digits ++ (modifier ++ letter)), ap (drop 1) e)
-    by_cases : (r : Read) → Describes (37 ∷ cs) r → IsReadAs (Ok (conversion, rest)) r → HasRest cs (chars rest.now)
+
+    by_cases : (r : ItemRead) → Describes (37 ∷ cs) r → IsReadAs (Ok (conversion, rest)) r → HasRest cs (chars rest.now)
     by_cases (Ok (item, more)) d h = by_item item (rw h.1 d.0)
     by_cases (Err e) d h = absurd h
 
@@ -47,7 +48,8 @@ directive_printed dt cs conversion rest text old new h front is = by_cases _ (di
     by_item : (item : Item) → 37 ∷ cs ≡ spelling item ++ chars rest.now → conversion_of item conversion → 37 ∷ text ≡ encode_utf8_all (spelling item)
     by_item (literal c) e h = absurd h
     by_item (directive flags digits modifier letter) e h = ap (λ t. 37 ∷ t) (front (flags ++ (digits ++ (modifier ++ letter))) (ap (drop 1) e))
-    by_cases : (r : Read) → Describes (37 ∷ cs) r → IsReadAs (Ok (conversion, rest)) r → IsPrinted dt r (chars rest.now) old new
+
+    by_cases : (r : ItemRead) → Describes (37 ∷ cs) r → IsReadAs (Ok (conversion, rest)) r → IsPrinted dt r (chars rest.now) old new
     by_cases (Ok (item, more)) d h =
         let e : 37 ∷ text ≡ encode_utf8_all (spelling item) = by_item item (rw h.1 d.0) h.0 in
         (sym h.1, is ∙ ap (λ t. old ++ t) (conversion_prints dt item conversion (37 ∷ text) h.0 e))
@@ -56,7 +58,7 @@ directive_printed dt cs conversion rest text old new h front is = by_cases _ (di
 pub read_utf8 : (cs : List ℕ) (conversion : Conversion) (rest : Bor (List ℕ)) → IsReadAs (Ok (conversion, rest)) (directive_at cs) → IsUtf8 rest.now
 read_utf8 cs conversion rest h = by_cases (directive_at cs) h
   where
-    by_cases : (r : Read) → IsReadAs (Ok (conversion, rest)) r → IsUtf8 rest.now
+    by_cases : (r : ItemRead) → IsReadAs (Ok (conversion, rest)) r → IsUtf8 rest.now
     by_cases (Ok (item, more)) h = h.2
     by_cases (Err e) h = absurd h
 
@@ -69,7 +71,7 @@ on_refusal InvalidWidth P h = h
 pub read_refused : (cs : List ℕ) (e : DateFormatError) → IsReadAs (Err e) (directive_at cs) → OnRefusal e (directive_at cs ≡ Err e)
 read_refused cs e h = by_cases (directive_at cs) h
   where
-    by_cases : (r : Read) → IsReadAs (Err e) r → OnRefusal e (r ≡ Err e)
+    by_cases : (r : ItemRead) → IsReadAs (Err e) r → OnRefusal e (r ≡ Err e)
     by_cases (Ok q) h = absurd h
     by_cases (Err r) h = on_refusal e (Err r ≡ Err e) (ap Err (sym h))
 
@@ -90,7 +92,7 @@ pub record Printed (dt : DateTime) (text rest old new : List ℕ) : Type 0 where
 pub printed_directive : (dt : DateTime) (cs rest old new : List ℕ) → IsPrinted dt (directive_at cs) rest old new → Printed dt (37 ∷ cs) rest old new
 printed_directive dt cs rest old new h = by_cases (directive_at cs) (directive_describes cs) h
   where
-    by_cases : (r : Read) → Describes (37 ∷ cs) r → IsPrinted dt r rest old new → Printed dt (37 ∷ cs) rest old new
+    by_cases : (r : ItemRead) → Describes (37 ∷ cs) r → IsPrinted dt r rest old new → Printed dt (37 ∷ cs) rest old new
     by_cases (Ok (item, more)) d h =
         record { item = item; joined = rw h.0 at d.0; is = rw h.0 at d.1; prints = h.1 }
     by_cases (Err r) d h = absurd h
@@ -148,7 +150,7 @@ cut_at text (Some x) u h =
       joined = ap chars parts ∙ chars-append x.0.now (37 ∷ x.1.now) copied ∙ ap (λ t. chars x.0.now ++ t) (chars_past_char (37 ∷ x.1.now) x.1.now 37 rest refl);
       none = chars_pass (λ c. c == 37) x.0.now copied (subst (NoCharPasses (λ c. c == 37)) (sym h.3) h.2.0);
       bytes = encodes-chars x.0.now copied;
-      utf8 = behind
+      utf8 = behind;
     }
 
 -- what stands before the per cent, copied
@@ -171,7 +173,7 @@ copied_rest dt text rest old items front bytes utf8 none =
     prints dt text [] (old ++ rest) p.0 p.1 (ap (λ t. old ++ t) (sym (encodes-chars rest utf8)) ∙ p.2) refl
 
 -- a refusal of a directive is a refusal of the text
-refused_directive : (cs : List ℕ) (e : DateFormatError) (r : Read) → Describes (37 ∷ cs) r → r ≡ Err e → IsRefused e (37 ∷ cs)
+refused_directive : (cs : List ℕ) (e : DateFormatError) (r : ItemRead) → Describes (37 ∷ cs) r → r ≡ Err e → IsRefused e (37 ∷ cs)
 refused_directive cs e r d is = rw is at d
 
 answer_refused : (e : DateFormatError) (P Q : Type 0) → (P → Q) → OnRefusal e P → OnRefusal e Q

@@ -32,7 +32,7 @@ unix_once a b z h k =
     let same = civil_nanos_injective a.local b.local (unix_civil a z h ∙ sym (unix_civil b z k)) in
     let date = epoch_day_injective (civil_date a) (civil_date b) same.0 in
     let time = time_nanos_injective (civil_time a) (civil_time b) same.1 in
-    (date, rw (time.0, time.1, time.2) refl, h.1 ∙ sym k.1, h.2 ∙ sym k.2)
+    (date, (time.0, time.1, time.2), h.1 ∙ sym k.1, h.2 ∙ sym k.2)
 
 pub not_empty : (text : List ℕ) → nat_eq (length text) 0 ≡ false → text ≢ []
 not_empty [] e = λ _. cc

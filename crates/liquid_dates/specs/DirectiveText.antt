@@ -96,13 +96,13 @@ abbrev pub year_of_four : DateTime → List ℕ
 year_of_four dt = filled_number ZerosBehindSign 4 (civil_date dt).year
 
 -- `YYYY-MM-DD`
-unfoldable pub dashed_date : DateTime → List ℕ
-dashed_date dt =
+unfoldable pub dashed_date_text : DateTime → List ℕ
+dashed_date_text dt =
     year_of_four dt ++ (45 ∷ (two (civil_date dt).month ++ (45 ∷ two (civil_date dt).day)))
 
 -- ` D-MON-YYYY`
-unfoldable pub named_date : DateTime → List ℕ
-named_date dt =
+unfoldable pub named_date_text : DateTime → List ℕ
+named_date_text dt =
     filled_number SpacesBeforeSign 2 (pos (civil_date dt).day)
     ++ (45 ∷ (cased Upper (short_month_name (civil_date dt).month) ++ (45 ∷ year_of_four dt)))
 
@@ -111,8 +111,8 @@ unfoldable pub year_of_two : DateTime → List ℕ
 year_of_two dt = filled_number ZerosBehindSign 2 (int_rem (civil_date dt).year (pos 100))
 
 -- `MM/DD/YY`
-unfoldable pub slashed_date : DateTime → List ℕ
-slashed_date dt =
+unfoldable pub slashed_date_text : DateTime → List ℕ
+slashed_date_text dt =
     two (civil_date dt).month ++ (47 ∷ (two (civil_date dt).day
     ++ (47 ∷ year_of_two dt)))
 
@@ -128,10 +128,10 @@ date_and_time case dt = named_day case dt ++ (32 ∷ (clock_of dt ++ (32 ∷ yea
 
 -- a composite without its filling
 unfoldable pub composite_of : Case → Composite → DateTime → List ℕ
-composite_of case DashedDate dt = dashed_date dt
-composite_of case NamedDate dt = named_date dt
+composite_of case DashedDate dt = dashed_date_text dt
+composite_of case NamedDate dt = named_date_text dt
 composite_of case HourMinute dt = hour_minute_of dt
-composite_of case SlashedDate dt = slashed_date dt
+composite_of case SlashedDate dt = slashed_date_text dt
 composite_of case Clock dt = clock_of dt
 composite_of case ClockOf12 dt = clock_of_12 dt
 composite_of case DateAndTime dt = date_and_time case dt

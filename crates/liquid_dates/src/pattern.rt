@@ -7,7 +7,7 @@ ghost use Rattle.liquid_dates.specs.PatternReader.{IsReadAs};
 
 use crate::DateFormatError;
 use crate::directive::{Directive, Offset, letter_directive};
-use crate::flags::{Flags, is_flag};
+use crate::flags::{Flags, is_digit, is_flag};
 
 /// The width of a directive.
 #[derive(Clone, Copy)]
@@ -104,12 +104,6 @@ fn read_width(text: &str) -> (Width, &str)
         rest = after;
     }
     (width, rest)
-}
-
-fn is_digit(c: char) -> bool
-    ensures { result ≡ is_digit c }
-{
-    c >= '0' && c <= '9'
 }
 
 // What a letter stands for, and what is behind it. A `:` takes the next character, and a second
