@@ -1,5 +1,5 @@
 -- Whole seconds since 1970, and the cases of a date time's text.
-use Rattle.std.proofs.Common.{◌≡◌, ◌≢◌, inl, inr, ℕ, List, [], ◌∷◌, length, refl, sym, ◌∙◌, arith, false, nat_eq, Option, Some, None, ℤ, pos, IfSome, IfNone, IsSomeAnd}
+use Rattle.std.proofs.Common.{◌≡◌, ◌≢◌, inl, inr, ℕ, List, [], ◌∷◌, length, sym, ◌∙◌, arith, false, nat_eq, Option, Some, None, ℤ, pos, IfSome, IfNone, IsSomeAnd}
 use Rattle.std.specs.Prelude.{IsTrue, ◌↔◌}
 use Rattle.jiff_core.specs.DateTime.{civil_nanos, IsCivilNanos}
 use Rattle.jiff_core.specs.Timestamp.{nanos_of_seconds}
