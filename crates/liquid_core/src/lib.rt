@@ -17,9 +17,7 @@ pub mod error {
 /// Values.
 pub mod model {
     pub use liquid_dates::{Date, DateError, DateFormatError, DateTime};
-    pub use liquid_scalar::{
-        Scalar, ScalarCow, ScalarOf, ScalarRender, ScalarSource, ScalarText,
-    };
+    pub use liquid_scalar::{Scalar, ScalarCow, ScalarOf, ScalarRender, ScalarSource, ScalarText};
     pub use liquid_value::contents::{is_empty_array, is_empty_object};
     pub use liquid_value::render::{ValueRender, ValueSource};
     pub use liquid_value::{Array, Object, State, Value, ValueCow, ValueViewCmp};

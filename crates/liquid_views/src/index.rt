@@ -5,6 +5,7 @@ ghost use Rattle.std.specs.Hash as writes;
 ghost use Rattle.std.specs.Map.{lookup};
 ghost use Rattle.std.specs.Ordering.{nat_cmp};
 
+use std::cmp::Ordering;
 use std::collections::BTreeMap;
 use std::hash::Hash;
 
@@ -25,8 +26,9 @@ pub trait ObjectIndex: Ord + Hash {
         ensures { option_map (λ v. v.now) result ≡ lookup (is_at (λ key. slice_cmp nat_cmp name.now (index key))) map.now.entries }
     {
         for (key, value) in map.iter() {
-            if name.cmp(key.as_index()).is_eq() {
-                return Some(value);
+            match name.cmp(key.as_index()) {
+                Ordering::Equal => return Some(value),
+                Ordering::Less | Ordering::Greater => {}
             }
         }
         None

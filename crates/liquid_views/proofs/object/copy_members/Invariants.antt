@@ -1,4 +1,4 @@
-use Rattle.std.proofs.Common.{◌≡◌, List, ◌++◌, String, Global}
+use Rattle.std.proofs.Common.{◌≡◌, List, ◌++◌}
 use Rattle.liquid_value.specs.View.{members_view}
 use Rattle.liquid_views.specs.Trees.{members_by}
 use Rattle.liquid_views.proofs.object.copy_members.Given as goal
