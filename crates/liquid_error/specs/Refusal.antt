@@ -1,5 +1,6 @@
 -- What an error says: a refusal, as plain data.
-use Rattle.std.specs.Prelude.{ℕ, List, [], ◌∷◌, ◌++◌, Option, None, Some, codes}
+use Rattle.std.specs.Prelude.{ℕ, List, [], ◌∷◌, ◌++◌, Option, None, Some, Result, Ok, Err, codes}
+use Rattle.std.specs.Option.{option_or}
 use Rattle.std.specs.Fmt.{decimal}
 use Rattle.liquid_error.specs.declared.place.Place.{Place}
 
@@ -41,6 +42,10 @@ place_text p = codes " (line " ++ (decimal p.line ++ (codes ", column " ++ (deci
 abbrev pub located : List ℕ → Place → Refusal
 located message p = record (plain (message ++ place_text p)) { place = Some p }
 
+-- the same refusal at its own place, and at this one where it has none
+abbrev pub or_placed : Place → Refusal → Refusal
+or_placed place r = record r { place = option_or r.place (Some place) }
+
 -- the newest trace, which stands last, gets the context
 abbrev pub note_newest : Entry → List Note → List Note
 note_newest entry [] = []
@@ -78,3 +83,8 @@ cause_of_told (Some r) = r.cause
 -- a new message, with the refusal as its cause
 abbrev pub chained : List ℕ → Refusal → Refusal
 chained message r = with_cause (reason_of_told (Some r)) (plain message)
+
+-- one answer after another: the value goes on, and the first refusal ends it
+abbrev pub ok_then : {A B : Type 0} → Result A Refusal → (A → Result B Refusal) → Result B Refusal
+ok_then (Ok x) next = next x
+ok_then (Err refusal) next = Err refusal

@@ -1,5 +1,5 @@
 ghost use Rattle.std.specs.Prelude.{◌≡◌, ◌↔◌, IsTrue, IsNone, None, Some, IfSome, option_map, option_and_then, string_bytes};
-ghost use Rattle.liquid_error.specs.Refusal.{plain, located, with_trace, with_context, with_cause, cause_of_told, chained};
+ghost use Rattle.liquid_error.specs.Refusal.{plain, located, or_placed, with_trace, with_context, with_cause, cause_of_told, chained};
 ghost use Rattle.liquid_error.specs.ErrorText.{lossy_chained};
 ghost use Rattle.liquid_error.specs.Told.{told, reason_of, source_reason, Becomes};
 
@@ -181,6 +181,16 @@ impl Error {
         match self {
             Error::Memory => true,
             Error::Liquid(_, _) => false,
+        }
+    }
+
+    /// The same error at its own place, and at this one where it has none. The message stays as it is.
+    pub fn or_place(self, place: Place) -> Error
+        ensures { told result ≡ option_map (or_placed place) (told self) }
+    {
+        match self {
+            Error::Memory => Error::Memory,
+            Error::Liquid(report, cause) => Error::Liquid(report.or_place(place), cause),
         }
     }
 

@@ -14,3 +14,5 @@ pub mod Rows
 pub mod Cow
 pub mod StrictLaws
 pub mod Steps
+pub mod Place
+pub mod Names

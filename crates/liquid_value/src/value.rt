@@ -16,7 +16,7 @@ ghost use Rattle.liquid_value.specs.Render.{render};
 use crate::contents::{is_empty_array, is_empty_object};
 use crate::render::ValueRender;
 use crate::state::State;
-use liquid_scalar::Scalar;
+use liquid_scalar::{Scalar, ScalarCow};
 use std::alloc::{AllocError, Global};
 use std::borrow::CowStr;
 use std::collections::BTreeMap;
@@ -131,6 +131,16 @@ impl Value {
     {
         match self {
             Value::State(state) => Some(state),
+            _ => None,
+        }
+    }
+
+    /// The scalar, with its text borrowed, and none for any other value.
+    pub fn as_scalar(&self) -> Option<ScalarCow<'_>>
+        ensures { option_map (scal cow_str_bytes) result ≡ as_scalar (view self.now) }
+    {
+        match self {
+            Value::Scalar(scalar) => Some(scalar.as_ref()),
             _ => None,
         }
     }

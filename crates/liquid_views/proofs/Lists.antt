@@ -7,7 +7,7 @@ use Rattle.liquid_value.specs.Kind.{has_no_items}
 use Rattle.liquid_value.specs.Members.{item_count}
 use Rattle.liquid_value.specs.Tree.{Tree, Items, no_items, item}
 use Rattle.std.specs.Slice.{IsItemAt}
-use Rattle.liquid_views.specs.Place.{nth, place_at, item_at}
+use Rattle.liquid_value.specs.Place.{nth, place_at, item_at}
 use Rattle.liquid_views.specs.Trees.{items_by}
 
 pub has_no_items_of_list : {T : Type 0} (tree : T → Tree) (xs : List T) → has_no_items (items_by tree xs) ≡ (length xs == 0)

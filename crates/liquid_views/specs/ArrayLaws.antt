@@ -2,7 +2,7 @@
 use Rattle.std.specs.Prelude.{◌≡◌, ℤ, is_some}
 use Rattle.liquid_value.specs.Members.{item_count}
 use Rattle.liquid_value.specs.Tree.{Items}
-use Rattle.liquid_views.specs.Place.{place_at, item_at}
+use Rattle.liquid_value.specs.Place.{place_at, item_at}
 
 -- an index is known exactly where there is an item at it
 abbrev pub ContainsKeyWhereGet : Type 0

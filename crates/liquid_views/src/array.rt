@@ -4,7 +4,7 @@ ghost use Rattle.liquid_value.specs.Tree.{Items, array};
 ghost use Rattle.liquid_value.specs.Render.{render_items, listed_items, render};
 ghost use Rattle.std.specs.Fmt.{WritesOnOk};
 ghost use Rattle.std.specs.Prelude.{◌++◌, codes};
-ghost use Rattle.liquid_views.specs.Place.{place_at, item_at};
+ghost use Rattle.liquid_value.specs.Place.{place_at, item_at};
 ghost use Rattle.liquid_views.specs.Trees.{items_by};
 
 use crate::build::array_of;

@@ -1,6 +1,6 @@
 // Maps without an order of their own: they are told in byte order of their names.
 ghost use Rattle.std.specs.Prelude.{◌≡◌, refl, map, option_map, IfOk};
-ghost use Rattle.liquid_views.specs.Names.{names};
+ghost use Rattle.liquid_value.specs.Names.{names};
 ghost use Rattle.liquid_value.specs.Members.{get_member};
 ghost use Rattle.std.specs.Fmt.{WritesOnOk};
 ghost use Rattle.liquid_value.specs.Render.{source, render_members, listed_members};
