@@ -103,7 +103,7 @@ exact-value = record {
   cuts = λ s rest a m. (exact-nested (suc (length s))).cuts s rest a m;
 }
 
-exact-keyword_start : Exact read.keyword_start (Identifier ◁ White ◁ Byte 58 ◁ White)
+pub exact-keyword_start : Exact read.keyword_start (Identifier ◁ White ◁ Byte 58 ◁ White)
 unfolding read.keyword_start
 exact-keyword_start = exact-left (exact-left (exact-left exact-identifier exact-white) (exact-byte 58)) exact-white
 
@@ -136,15 +136,15 @@ pub exact-chain : Exact read.chain_of ChainRule
 unfolding read.chain_of
 exact-chain = exact-at (exact-both exact-value exact-filters)
 
-exact-dots : Exact read.dots Dots
+pub exact-dots : Exact read.dots Dots
 unfolding read.dots
 exact-dots = exact-left (exact-right (exact-right exact-white (exact-byte 46)) (exact-byte 46)) exact-white
 
-exact-range_start : Exact read.range_start RangeStart
+pub exact-range_start : Exact read.range_start RangeStart
 unfolding read.range_start
 exact-range_start = exact-right (exact-byte 40) exact-white
 
-exact-range_end : Exact read.range_end RangeEnd
+pub exact-range_end : Exact read.range_end RangeEnd
 unfolding read.range_end
 exact-range_end = exact-right exact-white (exact-byte 41)
 

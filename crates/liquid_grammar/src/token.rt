@@ -4,6 +4,7 @@ ghost use Rattle.liquid_grammar.specs.Tokens as spec;
 ghost use Rattle.liquid_grammar.specs.Faults.{range_fault, token_fault, first_fault};
 ghost use Rattle.liquid_grammar.specs.KindMeanings.{FindsKind};
 ghost use Rattle.liquid_grammar.specs.Meanings.{Scans, SeesTag, SeesChain};
+ghost use Rattle.liquid_grammar.specs.Parts.{HasEnds};
 ghost use Rattle.liquid_grammar.specs.Steps.{Finds, Leaves};
 ghost use Rattle.liquid_grammar.specs.Steps as step;
 ghost use Rattle.liquid_grammar.specs.TokenSteps as read;
@@ -99,10 +100,24 @@ pub(crate) fn range<'a>(s: &'a str) -> Option<(Option<Fault<'a>>, &'a str)>
     ensures value { Scans range_fault result (read.ranged s.now) }
     ensures shorter { IfSome result (λ x. length x.1.now < length s.now) }
 {
-    let (start, rest) = value(range_start(s)?)?;
-    let (stop, rest) = value(dots(rest)?)?;
+    let (_, _, fault, rest) = range_parts(s)?;
+    Some((fault, rest))
+}
+
+/// The texts from the two values of a range on, its first fault, and what follows it.
+pub(crate) fn range_parts<'a>(
+    s: &'a str,
+) -> Option<(&'a str, &'a str, Option<Fault<'a>>, &'a str)>
+    ensures value { Scans range_fault (option_map (λ p. (p.2, p.3)) result) (read.ranged s.now) }
+    ensures ends { IfSome result (λ p. HasEnds s.now p.3.now p.0.now p.1.now) }
+    ensures shorter { IfSome result (λ p. length p.3.now < length s.now) }
+{
+    let start = range_start(s)?;
+    let (first, rest) = value(start)?;
+    let stop = dots(rest)?;
+    let (second, rest) = value(stop)?;
     let rest = range_end(rest)?;
-    Some((start.or(stop), rest))
+    Some((start, stop, first.or(second), rest))
 }
 
 #[tactic(auto, unfolding(crate::specs::TokenSteps::range_start))]
