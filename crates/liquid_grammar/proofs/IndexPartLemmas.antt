@@ -1,5 +1,5 @@
 -- What the next index is, by the readers that found its beginning.
-use Rattle.std.proofs.Common.{◌≡◌, ℕ, ◌<◌, Bool, true, ◌==◌, List, [], ◌∷◌, Option, Some, None, option_map, Bor, refl, sym, ap, ◌∙◌, subst}
+use Rattle.std.proofs.Common.{◌≡◌, ℕ, ◌<◌, Bool, true, false, ◌==◌, List, [], ◌∷◌, Option, Some, None, option_map, Bor, refl, sym, ap, ◌∙◌, subst}
 use Rattle.std.proofs.lemmas.Bool.{eqb-true}
 use Rattle.liquid_grammar.specs.Bytes.{is_white}
 use Rattle.liquid_grammar.specs.Grammar.{White, Identifier}
@@ -27,24 +27,34 @@ pub some_left : {A : Type 0} {R : Rule A} (s rest : List ℕ) (parts : List A) �
 some_left s rest parts b (ends none) left = none b
 some_left s rest parts b (more m ms) left = let e = left.none in cc
 
-white_is_no_bracket : (b : ℕ) → b ≡ 91 → is_white b ≡ true → ⊥
-white_is_no_bracket b e w = let h : is_white 91 ≡ true = subst (λ c. is_white c ≡ true) e w in cc
-
-closes_no_bracket : (b : ℕ) → b ≡ 91 → (b == 93) ≡ true → ⊥
-closes_no_bracket b e w = let h : (91 == 93) ≡ true = subst (λ c. (c == 93) ≡ true) e w in cc
-
 same_byte : (s r t : List ℕ) (a b : ℕ) → s ≡ a ∷ r → s ≡ b ∷ t → a ≡ b
 same_byte s r t a b e f = cc
+
+-- no close bracket begins with another byte
+closes_by : (s t : List ℕ) (b : ℕ) → s ≡ b ∷ t → is_white b ≡ false → (b == 93) ≡ false → Begins CloseBracket s → ⊥
+closes_by s t b e black other c = go s c.match.match.middle c.rest c.match.from.0 c.match.from.1 e c.match.match.before c.match.match.after
+  where
+    go : (s middle rest : List ℕ) (white : List ℕ) (byte : ℕ) → s ≡ b ∷ t → White s middle white → One (λ x. x == 93) middle rest byte → ⊥
+    go s middle rest white byte e (ends none) close = let h : (b == 93) ≡ true = subst (λ x. (x == 93) ≡ true) (same_byte s _ _ byte b close.front e) close.passes in cc (h, other)
+    go s middle rest white byte e (more {shape = w} m ms) close = let h : is_white b ≡ true = subst (λ x. is_white x ≡ true) (same_byte s _ _ w b m.front e) m.passes in cc (h, black)
 
 -- an open bracket closes none
 pub open_or_close : (s : List ℕ) → Begins OpenBracket s → Begins CloseBracket s → ⊥
 open_or_close s o c =
     let first = o.match.match.before in
-    go s c.match.match.middle c.rest c.match.from.0 c.match.from.1 first.front (eqb-true _ 91 first.passes) c.match.match.before c.match.match.after
+    closes_by s o.match.match.middle 91 (first.front ∙ ap (λ b. b ∷ o.match.match.middle) (eqb-true _ 91 first.passes)) refl refl c
+
+-- no index begins where a close bracket does
+pub close_or_index : (s : List ℕ) → Begins CloseBracket s → ¬ (Begins IndexRule s)
+close_or_index s c b = go b.match
   where
-    go : {b : ℕ} {t : List ℕ} (s middle rest : List ℕ) (white : List ℕ) (byte : ℕ) → s ≡ b ∷ t → b ≡ 91 → White s middle white → One (λ x. x == 93) middle rest byte → ⊥
-    go {b} s middle rest white byte e is (ends none) close = closes_no_bracket b is (subst (λ x. (x == 93) ≡ true) (same_byte s _ _ byte b close.front e) close.passes)
-    go {b} s middle rest white byte e is (more {shape = w} m ms) close = white_is_no_bracket b is (subst (λ x. is_white x ≡ true) (same_byte s _ _ w b m.front e) m.passes)
+    go : IndexRule s b.rest b.shape → ⊥
+    go (here m) =
+        let first = m.match.match.before in
+        closes_by s m.match.match.middle 46 (first.front ∙ ap (λ x. x ∷ m.match.match.middle) (eqb-true _ 46 first.passes)) refl refl c
+    go (instead unmatched m) =
+        let opened = m.match.match.match.before.match in
+        open_or_close s (record { rest = opened.middle; shape = _; match = opened.before }) c
 
 bracket_is : (p b s rest : List ℕ) (v w : Value) → p ≡ s → b ≡ rest → v ≡ w → bracketed_index p b v ≡ bracketed_index s rest w
 bracket_is p b s rest v w e f g = cc

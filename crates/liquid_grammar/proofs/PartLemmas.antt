@@ -1,5 +1,5 @@
 -- What the parts of a matched text are, by the readers that found their beginnings.
-use Rattle.std.proofs.Common.{◌≡◌, ℕ, Bool, true, false, ◌==◌, List, [], ◌∷◌, Option, Some, None, option_map, option_and_then, MatchOption, Bor, refl, sym, ap, ◌∙◌, subst}
+use Rattle.std.proofs.Common.{◌≡◌, ℕ, Bool, true, false, ◌==◌, List, [], ◌∷◌, ◌++◌, Option, Some, None, option_map, option_and_then, MatchOption, Bor, refl, sym, ap, ◌∙◌, subst}
 use Rattle.std.proofs.lemmas.Option.{none-some}
 use Rattle.liquid_grammar.specs.declared.head.Head.{Head}
 use Rattle.liquid_grammar.specs.declared.head.Head.TheVariants as head
@@ -9,13 +9,15 @@ use Rattle.liquid_grammar.specs.Literals.{LiteralRule}
 use Rattle.liquid_grammar.specs.Values.{Value, literal_value, variable_value, placed_literal, gather, ValueOver, ValueRule, IndexRule}
 use Rattle.liquid_grammar.specs.Faults.{value_fault}
 use Rattle.liquid_grammar.specs.Meanings.{literal_of}
-use Rattle.liquid_grammar.specs.Parts.{NoneLeft, First, IsHead, HasHead}
-use Rattle.liquid_grammar.specs.Steps.{Reader, name}
+use Rattle.liquid_grammar.specs.Grammar.{White}
+use Rattle.liquid_grammar.specs.Tokens.{Chain, Tag, ChainRule, TokenRule, ExpressionRule, TagRule}
+use Rattle.liquid_grammar.specs.Parts.{NoneLeft, First, IsHead, HasHead, IsChain}
+use Rattle.liquid_grammar.specs.Steps.{Reader, name, identifier}
 use Rattle.liquid_grammar.specs.TokenSteps.{literal, value, index_over}
 use Rattle.liquid_grammar.proofs.Exact.{Exact, same_match, none_begins}
 use Rattle.liquid_grammar.proofs.ExactRepeated.{repeated_total}
 use Rattle.liquid_grammar.proofs.FlatBrackets.{left_some, left_none}
-use Rattle.liquid_grammar.proofs.GrammarExact.{exact-name}
+use Rattle.liquid_grammar.proofs.GrammarExact.{exact-name, exact-identifier}
 use Rattle.liquid_grammar.proofs.TokenExact.{exact-literal, exact-value, exact-indexes}
 use Rattle.liquid_grammar.proofs.ValueLaw.{value_law}
 use Rattle.liquid_grammar.proofs.ValueScan.{scan_none, no_value_scan}
@@ -102,3 +104,32 @@ none_after {A} {B} {f = f} {R = R} F s place e none b =
     let same = same_match F s then.middle x.0.1 b.match.from.0 x.0.0 then.before (F.sound s x.0.1 x.0.0 x.1) in
     let moved : Begins R then.middle = record { rest = b.rest; shape = b.match.from.1; match = then.after } in
     none (subst (λ t. Begins R t) (ap (λ (p : B × List ℕ). p.1) same ∙ x.2) moved)
+
+-- an identifier and what follows it are the text
+pub identifier_joined : (s rest word : List ℕ) → Some (word, rest) ≡ identifier s → s ≡ word ++ rest
+identifier_joined s rest word e = let m = exact-identifier.sound s rest word (sym e) in m.front
+
+-- the parts of a match, at their places
+pub chain_parts : (s rest : List ℕ) (chain : Chain) → ChainRule s rest chain → IsChain s rest chain
+chain_parts s rest chain m = record { begins = m.begins; ends = m.ends; middle = m.match.middle; value = m.match.before; filters = m.match.after }
+
+pub expression_chain : (s rest : List ℕ) (chain : Chain) → ExpressionRule s rest chain → ChainRule chain.place chain.behind chain
+expression_chain s rest chain m =
+    let inside = m.match.before.match.before in
+    let chain_match = inside.match.after in
+    let what : chain ≡ inside.from.1 = m.is ∙ m.match.before.is ∙ inside.is in
+    let at_place = subst (λ t. ChainRule t inside_end inside.from.1) (sym chain_match.begins) chain_match in
+    subst (λ (c : Chain). ChainRule c.place c.behind c) (sym what) (subst (λ t. ChainRule inside.from.1.place t inside.from.1) (sym chain_match.ends) at_place)
+  where
+    inside_end : List ℕ
+    inside_end = m.match.before.match.middle
+
+pub tag_tokens : (s rest : List ℕ) (tag : Tag) → TagRule s rest tag → Repeated (White ▷ TokenRule) tag.1.place tag.1.behind tag.1.what
+tag_tokens s rest tag m =
+    let inside = m.match.before.match.before in
+    let tokens = inside.after in
+    let what : tag ≡ m.match.before.from.0 = m.is ∙ m.match.before.is in
+    let moved = subst (λ t. Repeated (White ▷ TokenRule) t m.match.before.from.0.1.behind m.match.before.from.0.1.what) (sym tokens.begins)
+    (subst (λ t. Repeated (White ▷ TokenRule) inside.middle t m.match.before.from.0.1.what) (sym tokens.ends) tokens.match)
+    in
+    subst (λ (t : Tag). Repeated (White ▷ TokenRule) t.1.place t.1.behind t.1.what) (sym what) moved

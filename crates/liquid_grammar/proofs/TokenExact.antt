@@ -46,7 +46,7 @@ pub exact-literal : Exact read.literal LiteralRule
 unfolding read.literal
 exact-literal = exact-either exact-word (exact-either (exact-seen text_literal (exact-either (exact-quoted 39) (exact-quoted 34))) exact-number)
 
-shrinks-identifier : Shrinks Identifier
+pub shrinks-identifier : Shrinks Identifier
 shrinks-identifier = shrinks-text (shrinks-first (shrinks-one starts_name) exact-name_bytes.cuts)
 
 pub shrinks-name : Shrinks Name
@@ -128,6 +128,9 @@ exact-arguments = exact-seen (λ p. p.0 ∷ p.1) (exact-both (exact-behind 58 ex
 pub exact-filter : Exact read.filter FilterRule
 unfolding read.filter
 exact-filter = exact-at (exact-seen (λ p. (p.0, arguments_of p.1)) (exact-both exact-identifier (exact-optional exact-arguments)))
+
+pub shrinks-filter : Shrinks FilterRule
+shrinks-filter s rest a m = shrinks-seen (λ p. (p.0, arguments_of p.1)) (shrinks-first shrinks-identifier (exact-optional exact-arguments).cuts) s rest a.what m.match
 
 pub exact-filters : Exact (read.repeated (read.behind 124 read.filter)) (Repeated (Behind 124 FilterRule))
 exact-filters = exact-repeated (exact-behind 124 exact-filter) (shrinks-behind 124 exact-filter)

@@ -30,8 +30,9 @@ pub use fault::{Fault, FaultKind, integer_of};
 pub use head::Head;
 pub use kind::{TokenKind, chain_kind, token_kind};
 pub use laws::{
-    elements_joined_are_the_text, no_opener_inside_raw, one_cover, one_element, one_match,
-    spans_are_slices, value_law,
+    elements_joined_are_the_text, matches_take_bytes, no_index_at_close_bracket,
+    no_opener_inside_raw, one_cover, one_element, one_match, parts_are_matches, spans_are_slices,
+    value_law,
 };
 pub use literal::Literal;
 pub use matching::{
