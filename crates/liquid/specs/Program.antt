@@ -1,5 +1,5 @@
 -- What the program does, by its words, the file that they name and the sink that it writes to.
-use Rattle.std.specs.Prelude.{◌≡◌, ℕ, ◌⊎◌, List, [], ◌∷◌, Option, None, Some, Result, Ok, Err, IsUtf8, ⊤}
+use Rattle.std.specs.Prelude.{◌≡◌, ℕ, Bool, ◌⊎◌, List, [], ◌∷◌, Option, None, Some, Result, Ok, Err, IsUtf8, ⊤}
 use Rattle.std.specs.Io.KnownBytes.{Appends}
 use Rattle.liquid_error.specs.declared.error.Error.{Error}
 use Rattle.liquid_runtime.specs.Maps.{Names}
@@ -8,6 +8,7 @@ use Rattle.liquid_parser.specs.Reading.{Answer, Reads}
 use Rattle.liquid_template.specs.Outcome.{Sunk, sunk}
 use Rattle.liquid_template.specs.Rendering.{Rendered}
 use Rattle.liquid.specs.Globals.{globals_of}
+use Rattle.liquid.specs.Status.{settled}
 
 -- what the text is read as was rendered over a built runtime of these globals
 abbrev pub Renders : List ℕ → Names → Sunk → Sunk → Result (Unit {0}) Error → Type 0
@@ -40,9 +41,12 @@ abbrev pub Runs : List (List ℕ) → (List ℕ → Option (Option (List ℕ))) 
 Runs (verb ∷ template ∷ assignments) known before after status = Treats (known template) (globals_of assignments) before after status
 Runs words known before after status = ⊤
 
--- what lies behind the output grew by what a fresh sink takes when the words are run
+-- what lies behind the output grew by what a fresh sink takes when the words are run; then the output was flushed
 pub record Prints (words : List (List ℕ)) (known : List ℕ → Option (Option (List ℕ))) (before after : Option (List ℕ)) (status : ℕ) : Type 0 where
   pub taken : List ℕ
   pub failures : ℕ
+  pub answered : ℕ
+  pub flushed : Bool
   pub appended : Appends before after taken
-  pub runs : Runs words known (sunk [] 0) (sunk taken failures) status
+  pub runs : Runs words known (sunk [] 0) (sunk taken failures) answered
+  pub status_is : status ≡ settled answered flushed

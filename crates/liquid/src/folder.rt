@@ -3,7 +3,7 @@ ghost use Rattle.liquid.specs.Files.{Reads};
 
 use std::alloc::Global;
 
-/// Why a file or a folder was not read.
+/// Why a file was not read.
 #[derive(Clone, Copy, Debug, PartialEq, Eq)]
 pub enum Unread {
     Fault,
@@ -18,7 +18,4 @@ pub trait Folder {
     /// The bytes of the file at `path`.
     fn read(&mut self, alloc: Global, path: &str) -> Result<Vec<u8>, Unread>
         ensures reads { Reads (λ bytes. bytes.items) (known self.old path.now) result };
-
-    /// The names of the files directly in the folder at `path`; folders in it are passed over.
-    fn list(&mut self, alloc: Global, path: &str) -> Result<Vec<String>, Unread>;
 }

@@ -28,21 +28,4 @@ impl<R: Files + AllocGlobal + Clone + Drop> Folder for Machine<'_, R> {
     fn read(&mut self, _alloc: Global, path: &str) -> Result<Vec<u8>, Unread> {
         fs::read(self.rt, path).map_err(unread)
     }
-
-    fn list(&mut self, alloc: Global, path: &str) -> Result<Vec<String>, Unread> {
-        let mut names = Vec::new(alloc);
-        for entry in fs::read_dir(self.rt, path).map_err(unread)? {
-            let entry = entry.map_err(unread)?;
-            if fs::metadata(self.rt, entry.path())
-                .map_err(unread)?
-                .is_file()
-            {
-                let name = String::from_str(alloc, entry.file_name());
-                names
-                    .push(name.map_err(|_| Unread::Memory)?)
-                    .map_err(|_| Unread::Memory)?;
-            }
-        }
-        Ok(names)
-    }
 }
