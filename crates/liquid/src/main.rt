@@ -5,6 +5,7 @@ pub mod command;
 pub mod fault;
 pub mod folder;
 pub mod globals;
+pub mod in_memory;
 pub mod machine;
 pub mod run;
 #[cfg(test)]

@@ -1,4 +1,4 @@
-ghost use Rattle.std.specs.Prelude.{◌≡◌, ◌≢◌, ◌↔◌, Some, false, true, is_ok, map, string_bytes};
+ghost use Rattle.std.specs.Prelude.{◌≡◌, ◌≢◌, ◌↔◌, Some, false, is_ok, map, string_bytes};
 ghost use Rattle.liquid_runtime.specs.Maps.{names_of};
 ghost use Rattle.liquid_template.specs.Grows.{Grows};
 ghost use Rattle.liquid_template.specs.Outcome.{sunk};
@@ -36,8 +36,8 @@ pub fn run<F: Folder, W: Write, E: Write>(
     err: &mut E,
 ) -> u8
     ensures usage { (result ≡ 2) ↔ (is_command (map string_bytes words.now) ≡ false) }
-    ensures prints { is_command (map string_bytes words.now) ≡ true
-        → Prints (map string_bytes words.now) (F.known files.old) (W.contents out.old) (W.contents out.new) result }
+    ensures prints { Prints (map string_bytes words.now) (F.known files.old)
+        (W.contents out.old) (W.contents out.new) result }
     ensures quiet { result ≡ 0 → err.new ≡ err.old }
 {
     let mut sink = WriterSink::new(out);
@@ -55,7 +55,7 @@ pub fn run_to<F: Folder, K: Sink, E: Write>(
     err: &mut E,
 ) -> u8
     ensures usage { (result ≡ 2) ↔ (is_command (map string_bytes words.now) ≡ false) }
-    ensures runs { is_command (map string_bytes words.now) ≡ true → Runs (map string_bytes words.now) (F.known files.old)
+    ensures runs { Runs (map string_bytes words.now) (F.known files.old)
         (sunk (K.taken sink.old) (K.failures sink.old)) (sunk (K.taken sink.new) (K.failures sink.new)) result }
     ensures quiet { result ≡ 0 → err.new ≡ err.old }
     ensures behind { Grows (K.taken sink.old) (K.behind sink.old) (K.taken sink.new) (K.behind sink.new) }
@@ -103,7 +103,7 @@ fn attempt<'w, F: Folder, K: Sink>(
     sink: &mut K,
 ) -> Result<(), Fault<'w>>
     ensures usage { (exit_status result ≡ 2) ↔ (is_command (map string_bytes words.now) ≡ false) }
-    ensures runs { is_command (map string_bytes words.now) ≡ true → Runs (map string_bytes words.now) (F.known files.old)
+    ensures runs { Runs (map string_bytes words.now) (F.known files.old)
         (sunk (K.taken sink.old) (K.failures sink.old)) (sunk (K.taken sink.new) (K.failures sink.new)) (exit_status result) }
     ensures behind { Grows (K.taken sink.old) (K.behind sink.old) (K.taken sink.new) (K.behind sink.new) }
     ensures lent { K.lent sink.new ≡ K.lent sink.old }
