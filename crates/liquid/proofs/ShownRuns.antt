@@ -72,12 +72,13 @@ shown_nothing output failures answered flushed (same, inr is) = (ap (λ s. s.tak
 shown_file : (file : Option (List ℕ)) (globals : Names) (output : List ℕ) (failures answered : ℕ) (flushed : Bool)
     → Treats (Some file) globals fresh (sunk output failures) answered → ShowsFile file globals output (settled answered flushed)
 shown_file None globals output failures answered flushed fails = shown_nothing output failures answered flushed fails
-shown_file (Some bytes) globals output failures answered flushed treats =
-    (λ text answer reads.
-        let finishes = treats.0 text in
-        subst (λ s. ShowsAnswer answer (built_view globals) output (settled s flushed)) (sym finishes.status_is)
-            (shown_answer answer (built_view globals) output failures flushed finishes.result (finishes.renders answer reads)),
-     λ no_text. shown_nothing output failures answered flushed (treats.1 no_text))
+shown_file (Some bytes) globals output failures answered flushed treats = (
+  λ text answer reads.
+      let finishes = treats.0 text in
+      subst (λ s. ShowsAnswer answer (built_view globals) output (settled s flushed)) (sym finishes.status_is)
+      (shown_answer answer (built_view globals) output failures flushed finishes.result (finishes.renders answer reads)),
+  λ no_text. shown_nothing output failures answered flushed (treats.1 no_text),
+)
 
 shown_command : (words : List (List ℕ)) (files : List ℕ → Option (List ℕ)) (output : List ℕ) (failures answered : ℕ) (flushed : Bool)
     → Executes words (λ path. Some (files path)) fresh (sunk output failures) answered → ShowsCommand words files output (settled answered flushed)
@@ -90,6 +91,7 @@ pub Shows-printed : (words : List (List ℕ)) (files : List ℕ → Option (List
     → Prints words (λ path. Some (files path)) (Some []) (Some output) status → Shows words files output status
 Shows-printed words files output status p =
     let same : p.taken ≡ output = sym p.appended in
-    subst (λ s. Shows words files output s) (sym p.status_is) (subst (λ o. Shows words files o (settled p.answered p.flushed)) same
-        (λ command. shown_command words files p.taken p.failures p.answered p.flushed (p.runs.0 command),
-         λ none. (ap (λ s. s.taken) (p.runs.1 none).0, rw (p.runs.1 none).1 (usage_status p.flushed))))
+    subst (λ s. Shows words files output s) (sym p.status_is) (subst (λ o. Shows words files o (settled p.answered p.flushed)) same (
+      λ command. shown_command words files p.taken p.failures p.answered p.flushed (p.runs.0 command),
+      λ none. (ap (λ s. s.taken) (p.runs.1 none).0, rw (p.runs.1 none).1 (usage_status p.flushed)),
+    ))

@@ -43,13 +43,7 @@ fn serve(rt: &HostRuntime) -> Result<u8, Fault<'static>> {
     let errors = rt.stderr();
     let mut err = io::writer(&errors);
     let mut files = Machine { rt };
-    Ok(run(
-        rt.alloc(),
-        words.as_slice(),
-        &mut files,
-        &mut out,
-        &mut err,
-    ))
+    Ok(run(rt.alloc(), words.as_slice(), &mut files, &mut out, &mut err))
 }
 
 fn main(rt: HostRuntime) -> ExitCode {
