@@ -16,6 +16,9 @@ pub trait Folder {
     ghost known: { Self → List ℕ → Option (Option (List ℕ)) } = { λ _ _. None };
 
     /// The bytes of the file at `path`.
+    ///
+    /// Where something is known of the file, bytes that are answered are those that are known. Which
+    /// fault is answered, and want of memory at a file that could be read, is left open.
     fn read(&mut self, alloc: Global, path: &str) -> Result<Vec<u8>, Unread>
         ensures reads { Reads (λ bytes. bytes.items) (known self.old path.now) result };
 }

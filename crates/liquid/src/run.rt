@@ -26,6 +26,9 @@ use std::io::{self, Write};
 /// before a refusal stays written. A fault of `err` changes no status, and with status 0 nothing is
 /// written to `err`.
 ///
+/// Want of memory has status 1, wherever it strikes. When it does is left open, and so is which of 3
+/// and 1 is answered where the template can't be read as text.
+///
 /// `out` is flushed before anything is written to `err`. Where that fails, a template that was
 /// rendered or refused is answered as at a sink that fails: with status 1 and "Failed to render".
 pub fn run<F: Folder, W: Write, E: Write>(
