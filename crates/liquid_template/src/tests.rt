@@ -6,6 +6,7 @@ use liquid_runtime::{BuiltRuntime, RuntimeBuilder};
 use liquid_scalar::ScalarOf;
 use liquid_value::{Object, Value};
 use std::alloc::{AllocError, Global};
+use std::io::{self, BufWriter, Write};
 use std::test::Fail;
 
 // Takes one byte a put, and fails from the put on that comes after `left` others.
@@ -127,17 +128,73 @@ fn an_empty_value_makes_no_put(rt: HostRuntime) -> Result<(), Fail> {
     Ok(())
 }
 
-#[test]
-fn a_writer_takes_a_text(rt: HostRuntime) -> Result<(), Fail> {
-    let alloc = rt.alloc();
-    let mut runtime = world(alloc)?;
-    let mut bytes = b"> ".to_vec(alloc)?;
-    let mut sink = WriterSink::new(&mut bytes);
+// Takes at most a thousand bytes a write.
+#[derive(Drop)]
+struct Narrow {
+    bytes: Vec<u8>,
+}
+
+impl Write for Narrow {
+    fn write(&mut self, buf: &[u8]) -> io::Result<usize> {
+        let taken = buf.len().min(1000);
+        self.bytes.extend_from_slice(&buf[..taken])?;
+        Ok(taken)
+    }
+
+    fn flush(&mut self) -> io::Result<()> {
+        Ok(())
+    }
+}
+
+// Renders to a writer the text, a name and the text again.
+fn render_twice<W: Write>(alloc: Global, text: &str, writer: &mut W) -> Result<(), Fail> {
+    let mut source = text.to_string(alloc)?;
+    source.push_str("{{ name }}")?;
+    source.push_str(text)?;
+    let mut sink = WriterSink::new(writer);
     let language = Language::empty(alloc);
-    let text = "Hello {{ name }}!";
-    render_source(alloc, text, &language, &mut runtime, &mut sink)?;
-    assert_eq!(rt; sink.into_inner().as_slice(), b"> Hello World!".as_slice());
-    assert_eq!(rt; bytes.as_slice(), b"> Hello World!".as_slice());
+    let mut runtime = world(alloc)?;
+    render_source(alloc, source.as_str(), &language, &mut runtime, &mut sink)?;
+    let _ = sink.into_inner();
+    Ok(())
+}
+
+#[test]
+fn a_writer_takes_texts_of_any_length(rt: HostRuntime) -> Result<(), Fail> {
+    let alloc = rt.alloc();
+    for length in [
+        0, 1, 999, 1000, 1001, 4095, 4096, 4097, 8191, 8192, 8193, 100_000,
+    ] {
+        let text = "0123456789abc\n".repeat(alloc, length / 14 + 1)?;
+        let text = text.as_str().get(..length).unwrap_or("");
+        let mut wanted = text.to_string(alloc)?;
+        wanted.push_str("World")?;
+        wanted.push_str(text)?;
+
+        let mut bytes = b"> ".to_vec(alloc)?;
+        render_twice(alloc, text, &mut bytes)?;
+        let quoted = format!(in alloc; "> {wanted}")?;
+        assert_eq!(rt; bytes.as_slice(), quoted.as_bytes(), "length {length}");
+
+        let mut buffered = BufWriter::new(alloc, Vec::new(alloc))?;
+        render_twice(alloc, text, &mut buffered)?;
+        buffered.flush()?;
+        assert_eq!(rt;
+            buffered.get_ref().as_slice(),
+            wanted.as_bytes(),
+            "length {length}"
+        );
+
+        let mut narrow = Narrow {
+            bytes: Vec::new(alloc),
+        };
+        render_twice(alloc, text, &mut narrow)?;
+        assert_eq!(rt;
+            narrow.bytes.as_slice(),
+            wanted.as_bytes(),
+            "length {length}"
+        );
+    }
     Ok(())
 }
 
