@@ -164,8 +164,7 @@ fn render_over<K: Sink>(
     ensures behind { Grows (K.taken sink.old) (K.behind sink.old) (K.taken sink.new) (K.behind sink.new) }
     ensures lent { K.lent sink.new ≡ K.lent sink.old }
 {
-    let mut runtime: BuiltRuntime<(), ()> =
-        RuntimeBuilder::new(alloc).set_globals(globals).build();
+    let mut runtime: BuiltRuntime<(), ()> = RuntimeBuilder::new(alloc).set_globals(globals).build();
     let language = Language::empty(alloc);
     render_source(alloc, text, &language, &mut runtime, sink)
 }

@@ -54,7 +54,11 @@ fn name_node(alloc: Global, name: &str) -> Result<Node, AllocError> {
     Ok(Node::Name(name.to_string(alloc)?))
 }
 
-fn runtime_with(alloc: Global, name: &str, value: Value) -> Result<BuiltRuntime<(), ()>, AllocError> {
+fn runtime_with(
+    alloc: Global,
+    name: &str,
+    value: Value,
+) -> Result<BuiltRuntime<(), ()>, AllocError> {
     let mut globals = Object::new(alloc);
     globals.insert(name.to_string(alloc)?, value)?;
     Ok(RuntimeBuilder::new(alloc).set_globals(globals).build())
