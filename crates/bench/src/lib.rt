@@ -6,4 +6,6 @@ pub mod dripping;
 pub use dripping::Dripping;
 
 #[cfg(test)]
+mod frames;
+#[cfg(test)]
 mod rows;

@@ -4,6 +4,7 @@ use Rattle.std.specs.Io.KnownBytes.{Appends}
 use Rattle.liquid_error.specs.declared.error.Error.{Error}
 use Rattle.liquid_runtime.specs.Maps.{Names}
 use Rattle.liquid_runtime.specs.Frames.{built_view}
+use Rattle.liquid_runtime.specs.View.{View}
 use Rattle.liquid_parser.specs.Reading.{Answer, Reads}
 use Rattle.liquid_template.specs.Outcome.{Sunk, sunk}
 use Rattle.liquid_template.specs.Rendering.{Rendered}
@@ -11,9 +12,13 @@ use Rattle.liquid.specs.Command.{is_command}
 use Rattle.liquid.specs.Globals.{globals_of}
 use Rattle.liquid.specs.Status.{settled}
 
+-- the view of a built runtime of these globals, whose register holds nothing
+abbrev pub built_over : Names → View (Unit {0})
+built_over globals = built_view tt 32 globals
+
 -- what the text is read as was rendered over a built runtime of these globals
 abbrev pub Renders : List ℕ → Names → Sunk → Sunk → Result (Unit {0}) Error → Type 0
-Renders text globals before after result = (answer : Answer) → Reads text answer → Rendered answer (built_view globals) before after result
+Renders text globals before after result = (answer : Answer) → Reads text answer → Rendered answer (built_over globals) before after result
 
 -- 0 where the template was rendered, 1 where it was refused
 abbrev pub status_of : Result (Unit {0}) Error → ℕ

@@ -17,6 +17,7 @@ pub mod error {
 /// Values.
 pub mod model {
     pub use liquid_dates::{Date, DateError, DateFormatError, DateTime};
+    pub use liquid_paths::{Path, PathIter, find, try_find};
     pub use liquid_scalar::{Scalar, ScalarCow, ScalarOf, ScalarRender, ScalarSource, ScalarText};
     pub use liquid_value::contents::{is_empty_array, is_empty_object};
     pub use liquid_value::render::{ValueRender, ValueSource};
@@ -94,8 +95,10 @@ pub mod parser {
 /// Names and frames, and templates rendered over them.
 pub mod runtime {
     pub use liquid_runtime::{
-        BuiltRuntime, GlobalFrame, IndexFrame, Runtime, RuntimeBuilder, RuntimeCore, StackFrame,
+        BuiltRuntime, Frame, Fresh, GlobalFrame, IndexFrame, Interrupt, InterruptRegister,
+        Registers, Runtime, RuntimeBuilder, RuntimeCore, SandboxedStackFrame, Scopes, StackFrame,
     };
+    pub use liquid_scopes::ChainedScopes;
     pub use liquid_template::Template;
 }
 
