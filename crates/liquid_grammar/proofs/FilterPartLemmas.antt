@@ -1,21 +1,20 @@
 -- What the next filter and the next argument are, by the readers that found their beginnings.
-use Rattle.std.proofs.Common.{◌≡◌, ℕ, Bool, true, false, ◌==◌, List, [], ◌∷◌, Option, Some, None, option_map, Bor, refl, sym, ap, ◌∙◌, subst}
+use Rattle.std.proofs.Common.{◌≡◌, ℕ, Bool, true, false, List, ◌∷◌, Option, Some, None, option_map, Bor, refl, sym, ap, ◌∙◌, subst}
 use Rattle.std.specs.Option.{option_or}
 use Rattle.liquid_grammar.specs.declared.parts.FilterStart.{FilterStart}
 use Rattle.liquid_grammar.specs.declared.parts.ArgumentStart.{ArgumentStart}
-use Rattle.liquid_grammar.specs.Rules.{Rule, Begins, Seen, Else, here, instead, Repeated, ends, more, Byte, Optional, Nothing, ◌▷◌}
-use Rattle.liquid_grammar.specs.Grammar.{White, Identifier}
-use Rattle.liquid_grammar.specs.Values.{Value, ValueRule}
+use Rattle.liquid_grammar.specs.Rules.{Rule, Begins, here, instead, Repeated, Byte, Optional, ◌▷◌}
+use Rattle.liquid_grammar.specs.Grammar.{White}
+use Rattle.liquid_grammar.specs.Values.{ValueRule}
 use Rattle.liquid_grammar.specs.Tokens.{Argument, positional, keyword, Filter, Behind, KeywordStart, KeywordRule, ArgumentRule, Arguments, arguments_of, FilterRule}
 use Rattle.liquid_grammar.specs.declared.head.Head.{Head}
 use Rattle.liquid_grammar.specs.Parts.{HasHead, NoneLeft, First, IsFilter, IsArgument, ArgumentsFrom, separator}
-use Rattle.liquid_grammar.specs.Steps.{Reader, white, identifier}
+use Rattle.liquid_grammar.specs.Steps.{Reader, identifier}
 use Rattle.liquid_grammar.specs.TokenSteps.{optional, separated, behind, argument, arguments, keyword_start}
 use Rattle.liquid_grammar.proofs.Exact.{Exact, same_match, none_begins, exact-right, exact-byte}
 use Rattle.liquid_grammar.proofs.ExactRepeated.{exact-optional, repeated_total}
 use Rattle.liquid_grammar.proofs.GrammarExact.{exact-white, exact-identifier}
 use Rattle.liquid_grammar.proofs.TokenExact.{exact-behind, exact-filter, exact-argument, exact-arguments, exact-more_arguments, exact-keyword_start}
-use Rattle.liquid_grammar.proofs.FlatBrackets.{left_some, left_none}
 use Rattle.liquid_grammar.proofs.PartLemmas.{first_part, none_left, after_begins, none_before, none_after}
 
 -- a separator between white space

@@ -1,9 +1,9 @@
 -- What the next index is, by the readers that found its beginning.
-use Rattle.std.proofs.Common.{◌≡◌, ℕ, ◌<◌, Bool, true, false, ◌==◌, List, [], ◌∷◌, Option, Some, None, option_map, Bor, refl, sym, ap, ◌∙◌, subst}
+use Rattle.std.proofs.Common.{◌≡◌, ℕ, true, false, ◌==◌, List, ◌∷◌, Some, None, option_map, refl, sym, ap, ◌∙◌, subst}
 use Rattle.std.proofs.lemmas.Bool.{eqb-true}
 use Rattle.liquid_grammar.specs.Bytes.{is_white}
 use Rattle.liquid_grammar.specs.Grammar.{White, Identifier}
-use Rattle.liquid_grammar.specs.Rules.{Rule, Begins, One, Then, Seen, At, Byte, ◌▷◌, Else, here, instead, Repeated, ends, more}
+use Rattle.liquid_grammar.specs.Rules.{Rule, Begins, One, Seen, At, Byte, ◌▷◌, here, instead, Repeated, ends, more}
 use Rattle.liquid_grammar.specs.Values.{Value, Index, named_index, bracketed_index, placed_bracket, Bracketed, OpenBracket, CloseBracket, ValueRule, IndexRule}
 use Rattle.liquid_grammar.specs.Parts.{NoneLeft, First, IsNamed, IsBracketed}
 use Rattle.liquid_grammar.specs.TokenSteps.{named, open_bracket}
@@ -15,7 +15,7 @@ use Rattle.liquid_grammar.proofs.ValueScan.{scan_some, scan_none}
 use Rattle.liquid_grammar.proofs.ExactRepeated.{exact-at}
 use Rattle.liquid_grammar.proofs.TokenExact.{exact-bracketed, exact-value, exact-index, exact-named, exact-open_bracket}
 use Rattle.liquid_grammar.proofs.FlatBrackets.{left_some, left_none}
-use Rattle.liquid_grammar.proofs.PartLemmas.{first_part, none_left}
+use Rattle.liquid_grammar.proofs.PartLemmas.{first_part}
 
 pub named_first : (s after name rest : List ℕ) (is : List Index) → Some (name, after) ≡ named s → Repeated IndexRule s rest is → First (λ end i. IsNamed end name after i) (Repeated IndexRule) rest is
 named_first s after name rest is e ms =

@@ -1,10 +1,9 @@
 -- What the parts of a matched text are, by the readers that found their beginnings.
-use Rattle.std.proofs.Common.{◌≡◌, ℕ, Bool, true, false, ◌==◌, List, [], ◌∷◌, ◌++◌, Option, Some, None, option_map, option_and_then, MatchOption, Bor, refl, sym, ap, ◌∙◌, subst}
-use Rattle.std.proofs.lemmas.Option.{none-some}
+use Rattle.std.proofs.Common.{◌≡◌, ℕ, List, ◌++◌, Option, Some, None, option_map, option_and_then, MatchOption, Bor, refl, sym, ap, ◌∙◌, subst}
 use Rattle.liquid_grammar.specs.declared.head.Head.{Head}
 use Rattle.liquid_grammar.specs.declared.head.Head.TheVariants as head
 use Rattle.liquid_grammar.specs.Heads.{literal_in, name_in}
-use Rattle.liquid_grammar.specs.Rules.{Rule, Begins, Seen, At, Else, here, instead, Repeated, ends, more, ◌▷◌}
+use Rattle.liquid_grammar.specs.Rules.{Rule, Begins, Seen, At, here, instead, Repeated, ends, more, ◌▷◌}
 use Rattle.liquid_grammar.specs.Literals.{LiteralRule}
 use Rattle.liquid_grammar.specs.Values.{Value, literal_value, variable_value, placed_literal, gather, ValueOver, ValueRule, IndexRule}
 use Rattle.liquid_grammar.specs.Faults.{value_fault}

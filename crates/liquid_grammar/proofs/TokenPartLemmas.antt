@@ -1,10 +1,9 @@
 -- What the next token is, by the readers that found its parts.
-use Rattle.std.proofs.Common.{◌≡◌, ℕ, ◌-◌, List, [], ◌∷◌, ◌++◌, length, take, Option, Some, None, option_map, MatchOption, refl, sym, ap, ◌∙◌, subst}
+use Rattle.std.proofs.Common.{◌≡◌, ℕ, ◌-◌, List, ◌++◌, length, take, Option, Some, None, option_map, MatchOption, refl, sym, ap, ◌∙◌, subst}
 use Rattle.std.proofs.lemmas.Option.{same_Some}
 use Rattle.liquid_grammar.specs.declared.parts.TokenText.{TokenText}
-use Rattle.liquid_grammar.specs.Rules.{Rule, Begins, Seen, At, Else, here, instead, Repeated, ◌▷◌}
+use Rattle.liquid_grammar.specs.Rules.{Begins, Seen, At, here, instead, Repeated, ◌▷◌}
 use Rattle.liquid_grammar.specs.Grammar.{White}
-use Rattle.liquid_grammar.specs.Values.{Value, ValueRule}
 use Rattle.liquid_grammar.specs.Tokens.{Chain, Token, range, chain, symbol, RangeRule, ChainRule, SymbolRule, TokenRule}
 use Rattle.liquid_grammar.specs.Faults.{Fault, value_fault, range_fault, chain_fault}
 use Rattle.liquid_grammar.specs.Kinds.{Kind, chain_kind}

@@ -9,7 +9,7 @@ use Rattle.liquid_grammar.specs.declared.parts.ArgumentStart.{ArgumentStart}
 use Rattle.liquid_grammar.specs.declared.parts.TokenText.{TokenText}
 use Rattle.liquid_grammar.specs.declared.parts.TokenParts.{TokenParts}
 use Rattle.liquid_grammar.specs.declared.parts.TokenParts.TheVariants as parts
-use Rattle.liquid_grammar.specs.Rules.{Rule, Placed, Repeated, Seen, Optional}
+use Rattle.liquid_grammar.specs.Rules.{Rule, Repeated, Seen, Optional}
 use Rattle.liquid_grammar.specs.Values.{Value, literal_value, variable_value, Index, named_index, bracketed_index, gather, CloseBracket, ValueRule, IndexRule}
 use Rattle.liquid_grammar.specs.Tokens.{Argument, positional, keyword, Filter, Chain, Token, range, chain, symbol, Behind, ArgumentRule, Arguments, arguments_of, FilterRule, ChainRule, RangeRule}
 use Rattle.liquid_grammar.specs.Kinds.{Kind, chain_kind}

@@ -106,8 +106,8 @@ pub record EndsRaw (s : List ℕ) (n : ℕ) : Type 0 where
   pub boundary : IsCharBoundary s n
 
 -- the result is what the reader found
-abbrev pub Finds : Option (Bor (List ℕ) × Bor (List ℕ)) → Option (List ℕ × List ℕ) → Type 0
-Finds result found = option_map (λ p. (p.0.now, p.1.now)) result ≡ found
+abbrev pub Splits : Option (Bor (List ℕ) × Bor (List ℕ)) → Option (List ℕ × List ℕ) → Type 0
+Splits result found = option_map (λ p. (p.0.now, p.1.now)) result ≡ found
 
 -- the result is what the reader left
 abbrev pub Leaves : {A : Type 0} → Option (Bor (List ℕ)) → Option (A × List ℕ) → Type 0

@@ -5,7 +5,7 @@ ghost use Rattle.liquid_grammar.specs.Cover as spec;
 ghost use Rattle.liquid_grammar.specs.Cover.{IsElement};
 ghost use Rattle.liquid_grammar.specs.Elements.{Means};
 ghost use Rattle.liquid_grammar.specs.Steps as read;
-ghost use Rattle.liquid_grammar.specs.Steps.{Finds};
+ghost use Rattle.liquid_grammar.specs.Steps.{Splits};
 
 use crate::fault::Fault;
 use crate::kind::TokenKind;
@@ -106,7 +106,7 @@ fn marked<'a>(s: &'a str) -> (Element<'a>, &'a str)
 /// White space and one `{`, and what follows them.
 #[tactic(auto, unfolding(crate::specs::Steps::lone_brace, crate::specs::Steps::white))]
 fn lone_brace(s: &str) -> Option<(&str, &str)>
-    ensures { Finds result (read.lone_brace s.now) }
+    ensures { Splits result (read.lone_brace s.now) }
 {
     let rest = eat(skip_white(s), b'{')?;
     Some((before(s, rest), rest))

@@ -4,7 +4,7 @@ ghost use Rattle.liquid_grammar.specs.Tokens as spec;
 ghost use Rattle.liquid_grammar.specs.Faults.{argument_fault, filter_fault, chain_fault, first_fault};
 ghost use Rattle.liquid_grammar.specs.KindMeanings.{FindsKind};
 ghost use Rattle.liquid_grammar.specs.Meanings.{Scans};
-ghost use Rattle.liquid_grammar.specs.Steps.{Finds, Leaves};
+ghost use Rattle.liquid_grammar.specs.Steps.{Splits, Leaves};
 ghost use Rattle.liquid_grammar.specs.Steps as step;
 ghost use Rattle.liquid_grammar.specs.TokenSteps as read;
 
@@ -124,7 +124,7 @@ fn keyword<'a>(s: &'a str) -> Option<(Option<Fault<'a>>, &'a str)>
 /// The identifier before `:`, and what follows the colon and its white space.
 #[tactic(auto, unfolding(crate::specs::TokenSteps::keyword_start))]
 pub(crate) fn keyword_start(s: &str) -> Option<(&str, &str)>
-    ensures value { Finds result (read.keyword_start s.now) }
+    ensures value { Splits result (read.keyword_start s.now) }
     ensures shorter { IfSome result (λ x. length x.1.now < length s.now) }
 {
     let (name, rest) = identifier(s)?;

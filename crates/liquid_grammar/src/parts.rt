@@ -81,7 +81,7 @@ pub fn next_index<'a>(s: &'a str, depth: usize) -> Option<(IndexStart<'a>, &'a s
     ensures only { (rest : List ℕ) (is : List Index) → Repeated IndexRule s.now rest is
         → (0 < depth → Begins CloseBracket rest)
         → MatchOption result (NoneLeft s.now rest is)
-            (λ p. First (IsIndex s.now p.0 p.1.now) (Repeated IndexRule) rest is) }
+        (λ p. First (IsIndex s.now p.0 p.1.now) (Repeated IndexRule) rest is) }
     ensures shorter { IfSome result (λ p. length p.1.now < length s.now) }
 {
     match named_index(s) {
@@ -108,7 +108,7 @@ pub fn close_bracket(s: &str) -> Option<&str>
 pub fn next_filter(s: &str) -> Option<FilterStart<'_>>
     ensures only { (rest : List ℕ) (filters : List Filter) → Repeated (Behind 124 FilterRule) s.now rest filters
         → MatchOption result (NoneLeft s.now rest filters)
-            (λ f. First (IsFilter f) (Repeated (Behind 124 FilterRule)) rest filters) }
+        (λ f. First (IsFilter f) (Repeated (Behind 124 FilterRule)) rest filters) }
     ensures shorter { IfSome result (λ f. length f.rest.now < length s.now) }
 {
     let place = behind(s, b'|')?;
@@ -121,7 +121,7 @@ pub fn next_filter(s: &str) -> Option<FilterStart<'_>>
 pub fn next_argument(s: &str, is_first: bool) -> Option<ArgumentStart<'_>>
     ensures only { (rest : List ℕ) (arguments : List Argument) → ArgumentsFrom is_first s.now rest arguments
         → MatchOption result (NoneLeft s.now rest arguments)
-            (λ a. First (IsArgument a) (ArgumentsFrom false) rest arguments) }
+        (λ a. First (IsArgument a) (ArgumentsFrom false) rest arguments) }
     ensures shorter { IfSome result (λ a. length a.value.now < length s.now) }
 {
     let place = behind(s, separator(is_first))?;
@@ -162,7 +162,7 @@ fn keyword_name(s: &str) -> Option<(&str, &str)>
 pub fn next_token(s: &str) -> Option<TokenText<'_>>
     ensures only { (rest : List ℕ) (tokens : List Token) → Repeated (White ▷ TokenRule) s.now rest tokens
         → MatchOption result (NoneLeft s.now rest tokens)
-            (λ t. First (IsToken t) (Repeated (White ▷ TokenRule)) rest tokens) }
+        (λ t. First (IsToken t) (Repeated (White ▷ TokenRule)) rest tokens) }
     ensures shorter { IfSome result (λ t. length t.rest.now < length s.now) }
 {
     token_at(skip_white(s))

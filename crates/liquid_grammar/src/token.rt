@@ -5,7 +5,7 @@ ghost use Rattle.liquid_grammar.specs.Faults.{range_fault, token_fault, first_fa
 ghost use Rattle.liquid_grammar.specs.KindMeanings.{FindsKind};
 ghost use Rattle.liquid_grammar.specs.Meanings.{Scans, SeesTag, SeesChain};
 ghost use Rattle.liquid_grammar.specs.Parts.{HasEnds};
-ghost use Rattle.liquid_grammar.specs.Steps.{Finds, Leaves};
+ghost use Rattle.liquid_grammar.specs.Steps.{Splits, Leaves};
 ghost use Rattle.liquid_grammar.specs.Steps as step;
 ghost use Rattle.liquid_grammar.specs.TokenSteps as read;
 
@@ -49,7 +49,7 @@ pub(crate) fn tag<'a>(s: &'a str) -> Option<TagMatch<'a>>
 /// The text from the name on of the tag that may begin here, the name, and what follows it.
 #[tactic(auto, unfolding(crate::specs::TokenSteps::tag_start), using(crate::proofs::PartLemmas::identifier_joined))]
 fn tag_start(s: &str) -> Option<(&str, &str, &str)>
-    ensures value { Finds (option_map (λ p. (p.1, p.2)) result) (read.tag_start s.now) }
+    ensures value { Splits (option_map (λ p. (p.1, p.2)) result) (read.tag_start s.now) }
     ensures place { IfSome result (λ p. p.0.now ≡ p.1.now ++ p.2.now) }
     ensures shorter { IfSome result (λ p. length p.2.now < length s.now) }
 {
@@ -125,9 +125,7 @@ pub(crate) fn range<'a>(s: &'a str) -> Option<(Option<Fault<'a>>, &'a str)>
 }
 
 /// The texts from the two values of a range on, its first fault, and what follows it.
-pub(crate) fn range_parts<'a>(
-    s: &'a str,
-) -> Option<(&'a str, &'a str, Option<Fault<'a>>, &'a str)>
+pub(crate) fn range_parts<'a>(s: &'a str) -> Option<(&'a str, &'a str, Option<Fault<'a>>, &'a str)>
     ensures value { Scans range_fault (option_map (λ p. (p.2, p.3)) result) (read.ranged s.now) }
     ensures ends { IfSome result (λ p. HasEnds s.now p.3.now p.0.now p.1.now) }
     ensures shorter { IfSome result (λ p. length p.3.now < length s.now) }

@@ -4,7 +4,7 @@ ghost use Rattle.liquid_grammar.specs.Values.{gather};
 ghost use Rattle.liquid_grammar.specs.Faults.{value_fault, indexes_fault, index_fault};
 ghost use Rattle.liquid_grammar.specs.KindMeanings.{FindsValueKind};
 ghost use Rattle.liquid_grammar.specs.Meanings.{Scans};
-ghost use Rattle.liquid_grammar.specs.Steps.{Finds, Leaves};
+ghost use Rattle.liquid_grammar.specs.Steps.{Splits, Leaves};
 ghost use Rattle.liquid_grammar.specs.TokenSteps as read;
 
 use crate::bracket::bracketed;
@@ -87,7 +87,7 @@ pub(crate) fn named(s: &str) -> Option<&str>
 /// The identifier behind `.`, and what follows it.
 #[tactic(auto, unfolding(crate::specs::TokenSteps::named))]
 pub(crate) fn named_index(s: &str) -> Option<(&str, &str)>
-    ensures value { Finds result (read.named s.now) }
+    ensures value { Splits result (read.named s.now) }
     ensures shorter { IfSome result (λ x. length x.1.now < length s.now) }
 {
     identifier(eat(s, b'.')?)
