@@ -2,6 +2,8 @@
 #![tactic(auto)]
 
 #[cfg(test)]
+mod date_texts;
+#[cfg(test)]
 mod dates;
 #[cfg(test)]
 mod error;

@@ -6,4 +6,6 @@ mod scalar;
 #[cfg(test)]
 mod value;
 #[cfg(test)]
+mod value_texts;
+#[cfg(test)]
 mod views;
