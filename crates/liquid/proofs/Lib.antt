@@ -4,3 +4,5 @@ pub mod ObjectFacts
 pub mod MemoryLemmas
 pub mod TreatmentLemmas
 pub mod UntouchedSinks
+pub mod FilesInMemory
+pub mod ShownRuns

@@ -1,5 +1,6 @@
 pub mod Command
 pub mod Files
 pub mod Globals
+pub mod InMemory
 pub mod Program
 pub mod Status

@@ -1,17 +1,24 @@
 -- What the program does, by its words, the file that they name and the sink that it writes to.
-use Rattle.std.specs.Prelude.{◌≡◌, ℕ, ◌⊎◌, List, [], ◌∷◌, Option, None, Some, Result, Ok, Err, IsUtf8, ⊤}
+use Rattle.std.specs.Prelude.{◌≡◌, ℕ, Bool, true, false, ◌⊎◌, List, [], ◌∷◌, Option, None, Some, Result, Ok, Err, IsUtf8, ⊤}
 use Rattle.std.specs.Io.KnownBytes.{Appends}
 use Rattle.liquid_error.specs.declared.error.Error.{Error}
 use Rattle.liquid_runtime.specs.Maps.{Names}
 use Rattle.liquid_runtime.specs.Frames.{built_view}
+use Rattle.liquid_runtime.specs.View.{View}
 use Rattle.liquid_parser.specs.Reading.{Answer, Reads}
 use Rattle.liquid_template.specs.Outcome.{Sunk, sunk}
 use Rattle.liquid_template.specs.Rendering.{Rendered}
+use Rattle.liquid.specs.Command.{is_command}
 use Rattle.liquid.specs.Globals.{globals_of}
+use Rattle.liquid.specs.Status.{settled}
+
+-- the view of a built runtime of these globals, whose register holds nothing
+abbrev pub built_over : Names → View (Unit {0})
+built_over globals = built_view tt 32 globals
 
 -- what the text is read as was rendered over a built runtime of these globals
 abbrev pub Renders : List ℕ → Names → Sunk → Sunk → Result (Unit {0}) Error → Type 0
-Renders text globals before after result = (answer : Answer) → Reads text answer → Rendered answer (built_view tt 32 globals) before after result
+Renders text globals before after result = (answer : Answer) → Reads text answer → Rendered answer (built_over globals) before after result
 
 -- 0 where the template was rendered, 1 where it was refused
 abbrev pub status_of : Result (Unit {0}) Error → ℕ
@@ -36,13 +43,21 @@ Treats (Some (Some bytes)) globals before after status =
     (IsUtf8 bytes → (Finishes bytes globals before after status)) × (¬ (IsUtf8 bytes) → Fails before after status)
 
 -- the file that the second word names, with the globals that the words behind it set
-abbrev pub Runs : List (List ℕ) → (List ℕ → Option (Option (List ℕ))) → Sunk → Sunk → ℕ → Type 0
-Runs (verb ∷ template ∷ assignments) known before after status = Treats (known template) (globals_of assignments) before after status
-Runs words known before after status = ⊤
+abbrev pub Executes : List (List ℕ) → (List ℕ → Option (Option (List ℕ))) → Sunk → Sunk → ℕ → Type 0
+Executes (verb ∷ template ∷ assignments) known before after status = Treats (known template) (globals_of assignments) before after status
+Executes words known before after status = ⊤
 
--- what lies behind the output grew by what a fresh sink takes when the words are run
+-- a command is executed; words that are none write nothing, with status 2
+abbrev pub Runs : List (List ℕ) → (List ℕ → Option (Option (List ℕ))) → Sunk → Sunk → ℕ → Type 0
+Runs words known before after status =
+    (is_command words ≡ true → Executes words known before after status) × (is_command words ≡ false → (after ≡ before) × (status ≡ 2))
+
+-- what lies behind the output grew by what a fresh sink takes when the words are run; then the output was flushed
 pub record Prints (words : List (List ℕ)) (known : List ℕ → Option (Option (List ℕ))) (before after : Option (List ℕ)) (status : ℕ) : Type 0 where
   pub taken : List ℕ
   pub failures : ℕ
+  pub answered : ℕ
+  pub flushed : Bool
   pub appended : Appends before after taken
-  pub runs : Runs words known (sunk [] 0) (sunk taken failures) status
+  pub runs : Runs words known (sunk [] 0) (sunk taken failures) answered
+  pub status_is : status ≡ settled answered flushed

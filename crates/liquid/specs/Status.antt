@@ -1,5 +1,5 @@
 -- The exit status of the program.
-use Rattle.std.specs.Prelude.{ℕ, Result, Ok, Err}
+use Rattle.std.specs.Prelude.{ℕ, Bool, true, false, Result, Ok, Err, nat_lt, if◌then◌else◌}
 use Rattle.liquid.specs.declared.fault.Fault.{Fault}
 use Rattle.liquid.specs.declared.fault.Fault.TheVariants.{Refused, Usage, Unreadable}
 
@@ -11,3 +11,8 @@ fault_status (Unreadable path) = 3
 abbrev pub exit_status : Result (Unit {0}) Fault → ℕ
 exit_status (Ok _) = 0
 exit_status (Err fault) = fault_status fault
+
+-- the status behind a flush of the output: where it failed, that of a refusal, unless nothing was rendered
+abbrev pub settled : ℕ → Bool → ℕ
+settled status true = status
+settled status false = if nat_lt status 2 then 1 else status

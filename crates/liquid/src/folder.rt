@@ -3,7 +3,7 @@ ghost use Rattle.liquid.specs.Files.{Reads};
 
 use std::alloc::Global;
 
-/// Why a file or a folder was not read.
+/// Why a file was not read.
 #[derive(Clone, Copy, Debug, PartialEq, Eq)]
 pub enum Unread {
     Fault,
@@ -16,9 +16,9 @@ pub trait Folder {
     ghost known: { Self → List ℕ → Option (Option (List ℕ)) } = { λ _ _. None };
 
     /// The bytes of the file at `path`.
+    ///
+    /// Where something is known of the file, bytes that are answered are those that are known. Which
+    /// fault is answered, and want of memory at a file that could be read, is left open.
     fn read(&mut self, alloc: Global, path: &str) -> Result<Vec<u8>, Unread>
         ensures reads { Reads (λ bytes. bytes.items) (known self.old path.now) result };
-
-    /// The names of the files directly in the folder at `path`; folders in it are passed over.
-    fn list(&mut self, alloc: Global, path: &str) -> Result<Vec<String>, Unread>;
 }

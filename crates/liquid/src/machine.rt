@@ -1,11 +1,11 @@
 //! The machine's own files.
-ghost use Rattle.std.specs.Prelude.{◌≡◌, ◌↔◌};
+ghost use Rattle.std.specs.Prelude.{◌≡◌, ◌↔◌, []};
 ghost use Rattle.std.specs.IoError.{error_kind};
 
 use crate::folder::{Folder, Unread};
 use std::alloc::Global;
-use std::fs;
-use std::io::{self, ErrorKind};
+use std::fs::{File, OpenFile};
+use std::io::{self, ErrorKind, Read};
 use std::rt::Files;
 
 /// The files of the machine that the runtime stands for.
@@ -24,25 +24,27 @@ fn unread(error: io::Error) -> Unread
     }
 }
 
-impl<R: Files + AllocGlobal + Clone + Drop> Folder for Machine<'_, R> {
-    fn read(&mut self, _alloc: Global, path: &str) -> Result<Vec<u8>, Unread> {
-        fs::read(self.rt, path).map_err(unread)
+// Room for the bytes of the open file by what the machine says of its length, which is no promise:
+// whatever it says, the file is read to its end.
+fn room_for<F: OpenFile>(alloc: Global, file: &F) -> Vec<u8>
+    ensures { result.items ≡ [] }
+{
+    let Ok(metadata) = file.metadata() else {
+        return Vec::new(alloc);
+    };
+    let length = usize::try_from(metadata.len()).unwrap_or(0);
+    // One byte more, so that the end is seen without more room.
+    match Vec::with_capacity(alloc, length.saturating_add(1)) {
+        Ok(room) => room,
+        Err(_) => Vec::new(alloc),
     }
+}
 
-    fn list(&mut self, alloc: Global, path: &str) -> Result<Vec<String>, Unread> {
-        let mut names = Vec::new(alloc);
-        for entry in fs::read_dir(self.rt, path).map_err(unread)? {
-            let entry = entry.map_err(unread)?;
-            if fs::metadata(self.rt, entry.path())
-                .map_err(unread)?
-                .is_file()
-            {
-                let name = String::from_str(alloc, entry.file_name());
-                names
-                    .push(name.map_err(|_| Unread::Memory)?)
-                    .map_err(|_| Unread::Memory)?;
-            }
-        }
-        Ok(names)
+impl<R: Files> Folder for Machine<'_, R> {
+    fn read(&mut self, alloc: Global, path: &str) -> Result<Vec<u8>, Unread> {
+        let mut file = File::open(self.rt, path).map_err(unread)?;
+        let mut bytes = room_for(alloc, &file);
+        file.read_to_end(&mut bytes).map_err(unread)?;
+        Ok(bytes)
     }
 }

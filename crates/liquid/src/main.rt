@@ -5,6 +5,7 @@ pub mod command;
 pub mod fault;
 pub mod folder;
 pub mod globals;
+pub mod in_memory;
 pub mod machine;
 pub mod run;
 #[cfg(test)]
@@ -14,7 +15,7 @@ use fault::Fault;
 use liquid_core::Error;
 use machine::Machine;
 use run::run;
-use std::io::{BufWriter, Write};
+use std::io::BufWriter;
 use std::process::ExitCode;
 use std::{env, io};
 
@@ -32,8 +33,7 @@ fn words(rt: &HostRuntime) -> Result<Vec<String>, Fault<'static>> {
     }
 }
 
-/// Runs the words over the machine's files and streams. Output is gathered, and written out at the
-/// end at the latest.
+/// Runs the words over the machine's files and streams, with the output gathered in a buffer.
 fn serve(rt: &HostRuntime) -> Result<u8, Fault<'static>> {
     let words = words(rt)?;
     let output = rt.stdout();
@@ -43,11 +43,7 @@ fn serve(rt: &HostRuntime) -> Result<u8, Fault<'static>> {
     let errors = rt.stderr();
     let mut err = io::writer(&errors);
     let mut files = Machine { rt };
-    let status = run(rt.alloc(), words.as_slice(), &mut files, &mut out, &mut err);
-    if out.flush().is_err() && status == 0 {
-        return Err(Fault::Refused(Error::with_msg(rt.alloc(), "Failed to render")));
-    }
-    Ok(status)
+    Ok(run(rt.alloc(), words.as_slice(), &mut files, &mut out, &mut err))
 }
 
 fn main(rt: HostRuntime) -> ExitCode {

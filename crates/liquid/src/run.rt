@@ -1,11 +1,11 @@
-ghost use Rattle.std.specs.Prelude.{◌≡◌, ◌≢◌, ◌↔◌, Some, false, true, map, string_bytes};
+ghost use Rattle.std.specs.Prelude.{◌≡◌, ◌≢◌, ◌↔◌, Some, false, is_ok, map, string_bytes};
 ghost use Rattle.liquid_runtime.specs.Maps.{names_of};
 ghost use Rattle.liquid_template.specs.Grows.{Grows};
 ghost use Rattle.liquid_template.specs.Outcome.{sunk};
 ghost use Rattle.liquid.specs.Command.{is_command};
 ghost use Rattle.liquid.specs.Globals.{globals_of};
 ghost use Rattle.liquid.specs.Program.{Prints, Renders, Treats, Runs};
-ghost use Rattle.liquid.specs.Status.{exit_status};
+ghost use Rattle.liquid.specs.Status.{exit_status, settled};
 
 use crate::command::Command;
 use crate::fault::Fault;
@@ -15,7 +15,7 @@ use liquid_core::parser::Language;
 use liquid_core::runtime::{BuiltRuntime, RuntimeBuilder};
 use liquid_core::{Error, Object, Sink, WriterSink, render_source};
 use std::alloc::Global;
-use std::io::Write;
+use std::io::{self, Write};
 
 /// Runs the command that the words behind the program's name give: `render TEMPLATE [NAME=TEXT]...`
 /// writes the template at that path to `out`, with each NAME a global text.
@@ -25,6 +25,12 @@ use std::io::Write;
 /// `err`; 3 where the template can't be read as UTF-8 text, with its path on `err`. What was written
 /// before a refusal stays written. A fault of `err` changes no status, and with status 0 nothing is
 /// written to `err`.
+///
+/// Want of memory has status 1, wherever it strikes. When it does is left open, and so is which of 3
+/// and 1 is answered where the template can't be read as text.
+///
+/// `out` is flushed before anything is written to `err`. Where that fails, a template that was
+/// rendered or refused is answered as at a sink that fails: with status 1 and "Failed to render".
 pub fn run<F: Folder, W: Write, E: Write>(
     alloc: Global,
     words: &[String],
@@ -33,14 +39,14 @@ pub fn run<F: Folder, W: Write, E: Write>(
     err: &mut E,
 ) -> u8
     ensures usage { (result ≡ 2) ↔ (is_command (map string_bytes words.now) ≡ false) }
-    ensures prints { is_command (map string_bytes words.now) ≡ true
-        → Prints (map string_bytes words.now) (F.known files.old) (W.contents out.old) (W.contents out.new) result }
+    ensures prints { Prints (map string_bytes words.now) (F.known files.old)
+        (W.contents out.old) (W.contents out.new) result }
     ensures quiet { result ≡ 0 → err.new ≡ err.old }
 {
     let mut sink = WriterSink::new(out);
-    let status = run_to(alloc, words, files, &mut sink, err);
-    let _ = sink.into_inner();
-    status
+    let answer = attempt(alloc, words, files, &mut sink);
+    let flushed = sink.into_inner().flush();
+    tell(settle(alloc, answer, flushed), err)
 }
 
 /// Does what `run` does, to a sink.
@@ -52,18 +58,43 @@ pub fn run_to<F: Folder, K: Sink, E: Write>(
     err: &mut E,
 ) -> u8
     ensures usage { (result ≡ 2) ↔ (is_command (map string_bytes words.now) ≡ false) }
-    ensures runs { is_command (map string_bytes words.now) ≡ true → Runs (map string_bytes words.now) (F.known files.old)
+    ensures runs { Runs (map string_bytes words.now) (F.known files.old)
         (sunk (K.taken sink.old) (K.failures sink.old)) (sunk (K.taken sink.new) (K.failures sink.new)) result }
     ensures quiet { result ≡ 0 → err.new ≡ err.old }
     ensures behind { Grows (K.taken sink.old) (K.behind sink.old) (K.taken sink.new) (K.behind sink.new) }
     ensures lent { K.lent sink.new ≡ K.lent sink.old }
 {
-    match attempt(alloc, words, files, sink) {
+    tell(attempt(alloc, words, files, sink), err)
+}
+
+/// The status of an answer, whose fault is written to `err`.
+fn tell<E: Write>(answer: Result<(), Fault<'_>>, err: &mut E) -> u8
+    ensures status { result ≡ exit_status answer.entry }
+    ensures quiet { result ≡ 0 → err.new ≡ err.old }
+{
+    match answer {
         Ok(()) => 0,
         Err(fault) => {
             let _ = write!(err, "{fault}");
             fault.status()
         }
+    }
+}
+
+/// What is answered once the output was flushed. Where that failed, what was rendered, or written
+/// before a refusal, is refused as at a sink that fails.
+fn settle<'w>(
+    alloc: Global,
+    answer: Result<(), Fault<'w>>,
+    flushed: io::Result<()>,
+) -> Result<(), Fault<'w>>
+    ensures { exit_status result ≡ settled (exit_status answer.entry) (is_ok flushed) }
+{
+    match (answer, flushed) {
+        (Ok(()) | Err(Fault::Refused(_)), Err(_)) => {
+            Err(Fault::Refused(Error::with_msg(alloc, "Failed to render")))
+        }
+        (answer, _) => answer,
     }
 }
 
@@ -75,7 +106,7 @@ fn attempt<'w, F: Folder, K: Sink>(
     sink: &mut K,
 ) -> Result<(), Fault<'w>>
     ensures usage { (exit_status result ≡ 2) ↔ (is_command (map string_bytes words.now) ≡ false) }
-    ensures runs { is_command (map string_bytes words.now) ≡ true → Runs (map string_bytes words.now) (F.known files.old)
+    ensures runs { Runs (map string_bytes words.now) (F.known files.old)
         (sunk (K.taken sink.old) (K.failures sink.old)) (sunk (K.taken sink.new) (K.failures sink.new)) (exit_status result) }
     ensures behind { Grows (K.taken sink.old) (K.behind sink.old) (K.taken sink.new) (K.behind sink.new) }
     ensures lent { K.lent sink.new ≡ K.lent sink.old }
@@ -164,8 +195,7 @@ fn render_over<K: Sink>(
     ensures behind { Grows (K.taken sink.old) (K.behind sink.old) (K.taken sink.new) (K.behind sink.new) }
     ensures lent { K.lent sink.new ≡ K.lent sink.old }
 {
-    let mut runtime: BuiltRuntime<(), ()> =
-        RuntimeBuilder::new(alloc).set_globals(globals).build();
+    let mut runtime: BuiltRuntime<(), ()> = RuntimeBuilder::new(alloc).set_globals(globals).build();
     let language = Language::empty(alloc);
     render_source(alloc, text, &language, &mut runtime, sink)
 }

@@ -10,7 +10,7 @@ use Rattle.liquid_dates.specs.Flags.{is_digit}
 use Rattle.liquid_dates.specs.Names.{month_name, short_month_name, weekday_name, short_weekday_name}
 use Rattle.liquid_dates.specs.Printed.{two_digits, four_digits}
 use Rattle.liquid_dates.specs.Pattern.{begins}
-use Rattle.liquid_dates.specs.DateText.{joined, two_below, year_form, month_form, weekday_form, dashed, day_month, slashed, clock}
+use Rattle.liquid_dates.proofs.PairForms.{joined, two_below, year_form, month_form, weekday_form, dashed, day_month, slashed, clock}
 use Rattle.liquid_dates.specs.DateReader.{Read, after_byte, two_at, four_at, year_behind, year_at, joined_at, whole_of, find_name, short_name_at, behind_text, month_at, short_month_at, weekday_at, dashed_at, long_at, short_at, slashed_at, clock_at}
 
 -- a reader reads a form: what it reads is of that form, and what is of that form is read before a rest that begins with no digit

@@ -3,12 +3,17 @@ use Rattle.std.proofs.Common.{◌≡◌, inl, inr, ℕ, List, refl, sym, ap, ◌
 use Rattle.std.specs.Borrow.{Bor}
 use Rattle.liquid_dates.specs.declared.date_time.DateTime.{DateTime}
 use Rattle.liquid_dates.specs.declared.stamps.Stamp.{Stamp}
-use Rattle.liquid_dates.specs.Instant.{civil_date, nanosecond, offset_seconds}
+use Rattle.liquid_dates.specs.Instant.{civil_date, civil_time, nanosecond, offset_seconds}
 use Rattle.liquid_dates.specs.Names.{month_name, short_month_name}
-use Rattle.liquid_dates.specs.DateText.{hms, joined, offset_form, timed_dashed, timed_fraction, timed_day_month, timed_slashed, timed_weekday, dashed_date_time, fraction_date_time, long_date_time, short_date_time, slashed_date_time, weekday_date_time, date_time_forms, with_given_offset, SameDateTime}
+use Rattle.liquid_dates.specs.DateText.{dashed_date_time, fraction_date_time, long_date_time, short_date_time, slashed_date_time, weekday_date_time, date_time_forms, with_given_offset, SameClock, SameDateTime}
+use Rattle.liquid_dates.proofs.PairForms.{hms, joined, offset_form, timed_dashed, timed_fraction, timed_day_month, timed_slashed, timed_weekday}
 use Rattle.liquid_dates.specs.DateReader.{read_of, stamp_clock, stamp_by_year, stamp_by_fraction, stamp_by_day, stamp_by_month, stamp_by_weekday, timed_dashed_at, timed_fraction_at, timed_long_at, timed_short_at, timed_slashed_at, timed_weekday_at, HasStamp, IsStamped, without_weekday}
 use Rattle.liquid_dates.proofs.DateTextLemmas.{some_pair}
 use Rattle.liquid_dates.proofs.TimedLemmas.{timed_dashed_reads, timed_fraction_reads, timed_long_reads, timed_short_reads, timed_slashed_reads, timed_weekday_reads, stamped_found, stamped_whole, joined_once}
+
+-- the same time of day shows the same on a clock
+same_clock : (a b : DateTime) → hms a.local ≡ hms b.local → SameClock (civil_time a) (civil_time b)
+same_clock a b e = (ap (λ p. p.0) e, ap (λ p. p.1.0) e, ap (λ p. p.1.1) e)
 
 abbrev by_year : DateTime → (ℤ × (ℕ × ℕ)) × (ℕ × (ℕ × ℕ))
 by_year dt = (((civil_date dt).year, ((civil_date dt).month, (civil_date dt).day)), hms dt.local)
@@ -67,7 +72,7 @@ unfolding dashed_date_time
 dashed_once text a b h k =
     let same = joined_once timed_dashed timed_dashed_at timed_dashed_reads text (by_year a) (by_year b) (offset_seconds a) (offset_seconds b) h.0 k.0 in
     let v = same.0 in
-    ((ap (λ p. p.0.0) v, ap (λ p. p.0.1.0) v, ap (λ p. p.0.1.1) v), ap (λ p. p.1) v, h.1 ∙ sym k.1, same.1)
+    ((ap (λ p. p.0.0) v, ap (λ p. p.0.1.0) v, ap (λ p. p.0.1.1) v), same_clock a b (ap (λ p. p.1) v), h.1 ∙ sym k.1, same.1)
 
 pub long_found : (given : Bool) (text : List ℕ) (read : Option (Stamp × Bor (List ℕ))) (dt : DateTime) → option_map stamp_by_day (read_of read) ≡ timed_long_at text → IfSome read (λ p. p.0.nanosecond ≡ 0) → IsStamped given read dt → long_date_time (with_given_offset given text) dt
 unfolding long_date_time
@@ -90,7 +95,7 @@ unfolding long_date_time
 long_once text a b h k =
     let same = joined_once (timed_day_month month_name) timed_long_at timed_long_reads text (by_day a) (by_day b) (offset_seconds a) (offset_seconds b) h.0 k.0 in
     let v = same.0 in
-    ((ap (λ p. p.0.1.1) v, ap (λ p. p.0.1.0) v, ap (λ p. p.0.0) v), ap (λ p. p.1) v, h.1 ∙ sym k.1, same.1)
+    ((ap (λ p. p.0.1.1) v, ap (λ p. p.0.1.0) v, ap (λ p. p.0.0) v), same_clock a b (ap (λ p. p.1) v), h.1 ∙ sym k.1, same.1)
 
 pub short_found : (given : Bool) (text : List ℕ) (read : Option (Stamp × Bor (List ℕ))) (dt : DateTime) → option_map stamp_by_day (read_of read) ≡ timed_short_at text → IfSome read (λ p. p.0.nanosecond ≡ 0) → IsStamped given read dt → short_date_time (with_given_offset given text) dt
 unfolding short_date_time
@@ -113,7 +118,7 @@ unfolding short_date_time
 short_once text a b h k =
     let same = joined_once (timed_day_month short_month_name) timed_short_at timed_short_reads text (by_day a) (by_day b) (offset_seconds a) (offset_seconds b) h.0 k.0 in
     let v = same.0 in
-    ((ap (λ p. p.0.1.1) v, ap (λ p. p.0.1.0) v, ap (λ p. p.0.0) v), ap (λ p. p.1) v, h.1 ∙ sym k.1, same.1)
+    ((ap (λ p. p.0.1.1) v, ap (λ p. p.0.1.0) v, ap (λ p. p.0.0) v), same_clock a b (ap (λ p. p.1) v), h.1 ∙ sym k.1, same.1)
 
 pub slashed_found : (given : Bool) (text : List ℕ) (read : Option (Stamp × Bor (List ℕ))) (dt : DateTime) → option_map stamp_by_month (read_of read) ≡ timed_slashed_at text → IfSome read (λ p. p.0.nanosecond ≡ 0) → IsStamped given read dt → slashed_date_time (with_given_offset given text) dt
 unfolding slashed_date_time
@@ -136,7 +141,7 @@ unfolding slashed_date_time
 slashed_once text a b h k =
     let same = joined_once timed_slashed timed_slashed_at timed_slashed_reads text (by_month a) (by_month b) (offset_seconds a) (offset_seconds b) h.0 k.0 in
     let v = same.0 in
-    ((ap (λ p. p.0.1.1) v, ap (λ p. p.0.0) v, ap (λ p. p.0.1.0) v), ap (λ p. p.1) v, h.1 ∙ sym k.1, same.1)
+    ((ap (λ p. p.0.1.1) v, ap (λ p. p.0.0) v, ap (λ p. p.0.1.0) v), same_clock a b (ap (λ p. p.1) v), h.1 ∙ sym k.1, same.1)
 
 pub fraction_found : (given : Bool) (text : List ℕ) (read : Option (Stamp × Bor (List ℕ))) (dt : DateTime) → option_map stamp_by_fraction (read_of read) ≡ timed_fraction_at text → IsStamped given read dt → fraction_date_time (with_given_offset given text) dt
 unfolding fraction_date_time
@@ -159,7 +164,7 @@ unfolding fraction_date_time
 fraction_once text a b h k =
     let same = joined_once timed_fraction timed_fraction_at timed_fraction_reads text (by_fraction a) (by_fraction b) (offset_seconds a) (offset_seconds b) h k in
     let v = same.0 in
-    ((ap (λ p. p.0.0) v, ap (λ p. p.0.1.0) v, ap (λ p. p.0.1.1) v), ap (λ p. p.1.0) v, ap (λ p. p.1.1) v, same.1)
+    ((ap (λ p. p.0.0) v, ap (λ p. p.0.1.0) v, ap (λ p. p.0.1.1) v), same_clock a b (ap (λ p. p.1.0) v), ap (λ p. p.1.1) v, same.1)
 
 abbrev by_weekday : ℕ → DateTime → ℕ × (ℕ × (ℕ × ((ℕ × (ℕ × ℕ)) × ℤ)))
 by_weekday w dt = (w, ((civil_date dt).month, ((civil_date dt).day, (hms dt.local, (civil_date dt).year))))
@@ -192,7 +197,7 @@ unfolding weekday_date_time
 weekday_once text a b (w, h, n) (x, k, o) =
     let same = joined_once timed_weekday timed_weekday_at timed_weekday_reads text (by_weekday w a) (by_weekday x b) (offset_seconds a) (offset_seconds b) h k in
     let v = same.0 in
-    ((ap (λ p. p.1.1.1.1) v, ap (λ p. p.1.0) v, ap (λ p. p.1.1.0) v), ap (λ p. p.1.1.1.0) v, n ∙ sym o, same.1)
+    ((ap (λ p. p.1.1.1.1) v, ap (λ p. p.1.0) v, ap (λ p. p.1.1.0) v), same_clock a b (ap (λ p. p.1.1.1.0) v), n ∙ sym o, same.1)
 
 -- a text has one date time by the first form that fits
 pub date_time_once : (text : List ℕ) (a b : DateTime) → date_time_forms text a → date_time_forms text b → SameDateTime a b

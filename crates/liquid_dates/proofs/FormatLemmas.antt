@@ -1,7 +1,10 @@
 -- Printing item by item is printing the reading.
-use Rattle.std.proofs.Common.{◌≡◌, ℕ, ◌<◌, List, [], ◌∷◌, ◌++◌, length, refl, sym, ap, ◌∙◌, Option, Some, None, Result, Ok, Err, append_assoc, append-nil}
-use Rattle.std.specs.Prelude.{encode_utf8_all}
-use Rattle.std.specs.Str.{chars, IsUtf8}
+use Rattle.std.proofs.Common.{◌≡◌, ◌≢◌, ℕ, ◌==◌, Bool, false, ◌<◌, List, [], ◌∷◌, ◌++◌, length, refl, sym, ap, ◌∙◌, Option, Some, None, Result, Ok, Err, append_assoc, append-nil, length-append, drop, arith, subst, rules}
+use Rattle.std.specs.Prelude.{encode_utf8, encode_utf8_all, MatchOption}
+use Rattle.std.specs.Str.{chars, IsUtf8, IsCharBoundary, NonePass, NoCharPasses}
+use Rattle.std.proofs.lemmas.Bool.Decides.{nat_tests}
+use Rattle.std.proofs.lemmas.Str.{chars-append, chars_past_char, chars_from_encodes, encodes-chars, IsUtf8-append, IsUtf8-encode, IsUtf8-drop, IsUtf8-take, IsCharBoundary-at_seam}
+use Rattle.std.proofs.lemmas.Str.Pattern.{IsSplitOnceResult, split_parts}
 use Rattle.std.specs.Borrow.{Bor}
 use Rattle.liquid_dates.specs.declared.date_time.DateTime.{DateTime}
 use Rattle.liquid_dates.specs.declared.directive.Directive.{Directive}
@@ -11,15 +14,20 @@ use Rattle.liquid_dates.specs.declared.error.DateFormatError.TheVariants.{NoForm
 use Rattle.liquid_dates.specs.Flags.{flags_of, width_of}
 use Rattle.liquid_dates.specs.Letters.{directive_of}
 use Rattle.liquid_dates.specs.Pattern.{Item, literal, directive, spelling, IsItem, IsFront, IsRefused, item_print, directive_print, print, answer_of, FormatsTo}
-use Rattle.liquid_dates.specs.PatternReader.{Read, directive_at, item_at, IsReadAs, IsPrinted, HasRest, OnRefusal, conversion_of, conversion_print}
-use Rattle.liquid_dates.proofs.PatternLemmas.{Describes, directive_describes, item_describes, front_more, one_reading, shorter}
+use Rattle.liquid_dates.specs.PatternReader.{ItemRead, directive_at, IsReadAs, IsPrinted, HasRest, OnRefusal, conversion_of, conversion_print}
+use Rattle.liquid_dates.proofs.PatternLemmas.{Describes, directive_describes, front_more, one_reading, shorter}
 
--- what was read has a spelling, then the rest
-pub spelled : (cs : List ℕ) (conversion : Conversion) (rest : Bor (List ℕ)) → IsReadAs (Ok (conversion, rest)) (directive_at cs) → HasRest (37 ∷ cs) (chars rest.now)
+-- behind its per cent a directive has the rest at its end
+pub spelled : (cs : List ℕ) (conversion : Conversion) (rest : Bor (List ℕ)) → IsReadAs (Ok (conversion, rest)) (directive_at cs) → HasRest cs (chars rest.now)
+unfolding spelling
 spelled cs conversion rest h = by_cases _ (directive_describes cs) h
   where
-    by_cases : (r : Read) → Describes (37 ∷ cs) r → IsReadAs (Ok (conversion, rest)) r → HasRest (37 ∷ cs) (chars rest.now)
-    by_cases (Ok (item, more)) d h = (spelling item, rw h.1 d.0)
+    by_item : (item : Item) → 37 ∷ cs ≡ spelling item ++ chars rest.now → HasRest cs (chars rest.now)
+    by_item (literal c) e = ([], ap (drop 1) e)
+    by_item (directive flags digits modifier letter) e = (flags ++ (digits ++ (modifier ++ letter)), ap (drop 1) e)
+
+    by_cases : (r : ItemRead) → Describes (37 ∷ cs) r → IsReadAs (Ok (conversion, rest)) r → HasRest cs (chars rest.now)
+    by_cases (Ok (item, more)) d h = by_item item (rw h.1 d.0)
     by_cases (Err e) d h = absurd h
 
 conversion_prints : (dt : DateTime) (item : Item) (conversion : Conversion) (text : List ℕ) → conversion_of item conversion → text ≡ encode_utf8_all (spelling item) → conversion_print dt conversion.flags conversion.width conversion.directive text ≡ item_print dt item
@@ -33,19 +41,24 @@ conversion_prints dt (directive flags digits modifier letter) conversion text h 
     by_letter (Some d) = refl
 
 -- what the code prints of it is what the item prints
-pub directive_printed : (dt : DateTime) (cs : List ℕ) (conversion : Conversion) (rest : Bor (List ℕ)) (text old new : List ℕ) → IsReadAs (Ok (conversion, rest)) (directive_at cs) → ((front : List ℕ) → 37 ∷ cs ≡ front ++ chars rest.now → text ≡ encode_utf8_all front) → new ≡ old ++ conversion_print dt conversion.flags conversion.width conversion.directive text → IsPrinted dt (directive_at cs) (chars rest.now) old new
+pub directive_printed : (dt : DateTime) (cs : List ℕ) (conversion : Conversion) (rest : Bor (List ℕ)) (text old new : List ℕ) → IsReadAs (Ok (conversion, rest)) (directive_at cs) → ((front : List ℕ) → cs ≡ front ++ chars rest.now → text ≡ encode_utf8_all front) → new ≡ old ++ conversion_print dt conversion.flags conversion.width conversion.directive (37 ∷ text) → IsPrinted dt (directive_at cs) (chars rest.now) old new
+unfolding spelling lib.Utf8.encode
 directive_printed dt cs conversion rest text old new h front is = by_cases _ (directive_describes cs) h
   where
-    by_cases : (r : Read) → Describes (37 ∷ cs) r → IsReadAs (Ok (conversion, rest)) r → IsPrinted dt r (chars rest.now) old new
+    by_item : (item : Item) → 37 ∷ cs ≡ spelling item ++ chars rest.now → conversion_of item conversion → 37 ∷ text ≡ encode_utf8_all (spelling item)
+    by_item (literal c) e h = absurd h
+    by_item (directive flags digits modifier letter) e h = ap (λ t. 37 ∷ t) (front (flags ++ (digits ++ (modifier ++ letter))) (ap (drop 1) e))
+
+    by_cases : (r : ItemRead) → Describes (37 ∷ cs) r → IsReadAs (Ok (conversion, rest)) r → IsPrinted dt r (chars rest.now) old new
     by_cases (Ok (item, more)) d h =
-        let e : text ≡ encode_utf8_all (spelling item) = front (spelling item) (rw h.1 d.0) in
-        (sym h.1, is ∙ ap (λ t. old ++ t) (conversion_prints dt item conversion text h.0 e))
+        let e : 37 ∷ text ≡ encode_utf8_all (spelling item) = by_item item (rw h.1 d.0) h.0 in
+        (sym h.1, is ∙ ap (λ t. old ++ t) (conversion_prints dt item conversion (37 ∷ text) h.0 e))
     by_cases (Err e) d h = absurd h
 
 pub read_utf8 : (cs : List ℕ) (conversion : Conversion) (rest : Bor (List ℕ)) → IsReadAs (Ok (conversion, rest)) (directive_at cs) → IsUtf8 rest.now
 read_utf8 cs conversion rest h = by_cases (directive_at cs) h
   where
-    by_cases : (r : Read) → IsReadAs (Ok (conversion, rest)) r → IsUtf8 rest.now
+    by_cases : (r : ItemRead) → IsReadAs (Ok (conversion, rest)) r → IsUtf8 rest.now
     by_cases (Ok (item, more)) h = h.2
     by_cases (Err e) h = absurd h
 
@@ -58,7 +71,7 @@ on_refusal InvalidWidth P h = h
 pub read_refused : (cs : List ℕ) (e : DateFormatError) → IsReadAs (Err e) (directive_at cs) → OnRefusal e (directive_at cs ≡ Err e)
 read_refused cs e h = by_cases (directive_at cs) h
   where
-    by_cases : (r : Read) → IsReadAs (Err e) r → OnRefusal e (r ≡ Err e)
+    by_cases : (r : ItemRead) → IsReadAs (Err e) r → OnRefusal e (r ≡ Err e)
     by_cases (Ok q) h = absurd h
     by_cases (Err r) h = on_refusal e (Err r ≡ Err e) (ap Err (sym h))
 
@@ -76,12 +89,12 @@ pub record Printed (dt : DateTime) (text rest old new : List ℕ) : Type 0 where
   pub is : IsItem item rest
   pub prints : new ≡ old ++ item_print dt item
 
-pub printed_item : (dt : DateTime) (text : List ℕ) (c : ℕ) (cs rest old new : List ℕ) → text ≡ c ∷ cs → IsPrinted dt (item_at c cs) rest old new → Printed dt text rest old new
-printed_item dt text c cs rest old new e h = by_cases (item_at c cs) (item_describes c cs) h
+pub printed_directive : (dt : DateTime) (cs rest old new : List ℕ) → IsPrinted dt (directive_at cs) rest old new → Printed dt (37 ∷ cs) rest old new
+printed_directive dt cs rest old new h = by_cases (directive_at cs) (directive_describes cs) h
   where
-    by_cases : (r : Read) → Describes (c ∷ cs) r → IsPrinted dt r rest old new → Printed dt text rest old new
+    by_cases : (r : ItemRead) → Describes (37 ∷ cs) r → IsPrinted dt r rest old new → Printed dt (37 ∷ cs) rest old new
     by_cases (Ok (item, more)) d h =
-        record { item = item; joined = e ∙ rw h.0 at d.0; is = rw h.0 at d.1; prints = h.1 }
+        record { item = item; joined = rw h.0 at d.0; is = rw h.0 at d.1; prints = h.1 }
     by_cases (Err r) d h = absurd h
 
 -- one item more of what is printed
@@ -98,9 +111,70 @@ printed_more dt text rest next old new items front bytes p = (
 pub printed_shorter : (dt : DateTime) (rest next old new : List ℕ) → Printed dt rest next old new → length next < length rest
 printed_shorter dt rest next old new p = rw p.joined (shorter p.item next)
 
--- a refusal of an item is a refusal of the text
-refused_item : (c : ℕ) (cs : List ℕ) (e : DateFormatError) (r : Read) → Describes (c ∷ cs) r → r ≡ Err e → IsRefused e (c ∷ cs)
-refused_item c cs e r d is = rw is at d
+-- characters that are no per cent, each copied
+pub copied_front : (dt : DateTime) (text cs more old : List ℕ) (items : List Item) → IsFront text items (cs ++ more) → NonePass (λ c. c == 37) cs → old ≡ print dt items → IsPrintedFront dt text more (old ++ encode_utf8_all cs)
+unfolding item_print spelling
+copied_front dt text [] more old items front none e = (items, front, append-nil old ∙ e)
+copied_front dt text (c ∷ cs) more old items front none e =
+    let item = literal c in
+    let is : IsFront text (items ++ (item ∷ [])) (cs ++ more) = front_more text items (c ∷ (cs ++ more)) item (cs ++ more) front refl (other c none.0) in
+    let printed : old ++ encode_utf8 c ≡ print dt (items ++ (item ∷ [])) = ap (λ t. t ++ encode_utf8 c) e ∙ sym (print_more dt items item) in
+    let rest = copied_front dt text cs more (old ++ encode_utf8 c) (items ++ (item ∷ [])) is none.1 printed in
+    (rest.0, rest.1, sym (append_assoc old (encode_utf8 c) (encode_utf8_all cs)) ∙ rest.2)
+  where
+    other : (c : ℕ) → (c == 37) ≡ false → c ≢ 37
+    other c h = grind (arith, nat_tests)
+
+-- the characters of a text of which none passes
+chars_pass : (p : ℕ → Bool) (bs : List ℕ) → IsUtf8 bs → NoCharPasses p bs → NonePass p (chars bs)
+chars_pass p bs u (cs, e, none) = subst (NonePass p) (chars_from_encodes cs bs u e) none
+
+-- a text, cut at its first per cent
+pub record Cut (text copied behind : List ℕ) : Type 0 where
+  pub joined : chars text ≡ chars copied ++ (37 ∷ chars behind)
+  pub none : NonePass (λ c. c == 37) (chars copied)
+  pub bytes : encode_utf8_all (chars copied) ≡ copied
+  pub utf8 : IsUtf8 behind
+
+pub cut_at : (text : List ℕ) (r : Option (Bor (List ℕ) × Bor (List ℕ))) → IsUtf8 text → IsSplitOnceResult 37 text r → MatchOption r (NonePass (λ c. c == 37) (chars text)) (λ x. Cut text x.0.now x.1.now)
+unfolding lib.Utf8.encode
+cut_at text None u h = chars_pass _ text u h
+cut_at text (Some x) u h =
+    let parts : text ≡ x.0.now ++ (37 ∷ x.1.now) = (split_parts 37 text (Some x) h (omega arith)).0 in
+    let end : IsCharBoundary text h.1 = subst (IsCharBoundary text) (sym h.2.1.ends) h.2.1.after in
+    let behind : IsUtf8 x.1.now = subst IsUtf8 (sym h.4) (IsUtf8-drop text h.1 u end) in
+    let rest : IsUtf8 (37 ∷ x.1.now) = IsUtf8-append (37 ∷ []) x.1.now (IsUtf8-encode 37 (search rules)) behind in
+    let start : IsCharBoundary text h.0 = subst (IsCharBoundary text) h.6 (IsCharBoundary-at_seam text x.0.now (37 ∷ x.1.now) parts rest) in
+    let copied : IsUtf8 x.0.now = subst IsUtf8 (sym h.3) (IsUtf8-take text h.0 u start) in
+    record {
+      joined = ap chars parts ∙ chars-append x.0.now (37 ∷ x.1.now) copied ∙ ap (λ t. chars x.0.now ++ t) (chars_past_char (37 ∷ x.1.now) x.1.now 37 rest refl);
+      none = chars_pass (λ c. c == 37) x.0.now copied (subst (NoCharPasses (λ c. c == 37)) (sym h.3) h.2.0);
+      bytes = encodes-chars x.0.now copied;
+      utf8 = behind;
+    }
+
+-- what stands before the per cent, copied
+pub cut_front : (dt : DateTime) (text rest copied behind old : List ℕ) (items : List Item) → IsFront text items (chars rest) → old ≡ print dt items → Cut rest copied behind → IsPrintedFront dt text (37 ∷ chars behind) (old ++ copied)
+cut_front dt text rest copied behind old items front bytes cut =
+    let p = copied_front dt text (chars copied) (37 ∷ chars behind) old items (subst (IsFront text items) cut.joined front) cut.none bytes in
+    (p.0, p.1, ap (λ t. old ++ t) (sym cut.bytes) ∙ p.2)
+
+pub cut_shorter : (rest copied behind next : List ℕ) → Cut rest copied behind → length next < length (37 ∷ chars behind) → length next < length (chars rest)
+cut_shorter rest copied behind next cut h =
+    omega (arith, ap length cut.joined, length-append (chars copied) (37 ∷ chars behind))
+
+pub prints : (dt : DateTime) (text rest out : List ℕ) (items : List Item) → IsFront text items rest → out ≡ print dt items → rest ≡ [] → FormatsTo dt text (Ok out)
+prints dt text rest out items front bytes ends = (items, None, (rest, front, ends), ap Ok bytes)
+
+-- a rest without a per cent, copied
+pub copied_rest : (dt : DateTime) (text rest old : List ℕ) (items : List Item) → IsFront text items (chars rest) → old ≡ print dt items → IsUtf8 rest → NonePass (λ c. c == 37) (chars rest) → FormatsTo dt text (Ok (old ++ rest))
+copied_rest dt text rest old items front bytes utf8 none =
+    let p = copied_front dt text (chars rest) [] old items (subst (IsFront text items) (sym (append-nil (chars rest))) front) none bytes in
+    prints dt text [] (old ++ rest) p.0 p.1 (ap (λ t. old ++ t) (sym (encodes-chars rest utf8)) ∙ p.2) refl
+
+-- a refusal of a directive is a refusal of the text
+refused_directive : (cs : List ℕ) (e : DateFormatError) (r : ItemRead) → Describes (37 ∷ cs) r → r ≡ Err e → IsRefused e (37 ∷ cs)
+refused_directive cs e r d is = rw is at d
 
 answer_refused : (e : DateFormatError) (P Q : Type 0) → (P → Q) → OnRefusal e P → OnRefusal e Q
 answer_refused Memory P Q f h = tt
@@ -108,13 +182,10 @@ answer_refused NoFormatSpecifier P Q f h = f h
 answer_refused NoFormatSpecifierAfterModifier P Q f h = f h
 answer_refused InvalidWidth P Q f h = f h
 
-pub refuses : (dt : DateTime) (text rest : List ℕ) (c : ℕ) (cs : List ℕ) (items : List Item) (e : DateFormatError) → IsFront text items rest → rest ≡ c ∷ cs → OnRefusal e (item_at c cs ≡ Err e) → OnRefusal e (FormatsTo dt text (Err e))
-refuses dt text rest c cs items e front is h =
-    answer_refused e (item_at c cs ≡ Err e) (FormatsTo dt text (Err e))
-    (λ refused. (items, Some e, (rest, front, rw is (refused_item c cs e (item_at c cs) (item_describes c cs) refused)), refl)) h
-
-pub prints : (dt : DateTime) (text rest out : List ℕ) (items : List Item) → IsFront text items rest → out ≡ print dt items → rest ≡ [] → FormatsTo dt text (Ok out)
-prints dt text rest out items front bytes ends = (items, None, (rest, front, ends), ap Ok bytes)
+pub refuses : (dt : DateTime) (text cs : List ℕ) (items : List Item) (e : DateFormatError) → IsFront text items (37 ∷ cs) → OnRefusal e (directive_at cs ≡ Err e) → OnRefusal e (FormatsTo dt text (Err e))
+refuses dt text cs items e front h =
+    answer_refused e (directive_at cs ≡ Err e) (FormatsTo dt text (Err e))
+    (λ refused. (items, Some e, (37 ∷ cs, front, refused_directive cs e (directive_at cs) (directive_describes cs) refused), refl)) h
 
 -- a pattern has one answer
 pub formats_once : (dt : DateTime) (text : List ℕ) (a b : Result (List ℕ) DateFormatError) → FormatsTo dt text a → FormatsTo dt text b → a ≡ b

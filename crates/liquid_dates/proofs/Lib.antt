@@ -10,6 +10,7 @@ pub mod PatternLemmas
 pub mod FrontLemmas
 pub mod FormatLemmas
 pub mod ReaderLemmas
+pub mod PairForms
 pub mod DateTextLemmas
 pub mod WholeLemmas
 pub mod TimedLemmas

@@ -7,7 +7,7 @@ use Rattle.liquid_dates.specs.declared.error.DateFormatError.{DateFormatError}
 use Rattle.liquid_dates.specs.declared.error.DateFormatError.TheVariants.{NoFormatSpecifier, NoFormatSpecifierAfterModifier, InvalidWidth, Memory}
 use Rattle.liquid_dates.specs.Flags.{is_flag, is_digit, digits_number, is_modifier}
 use Rattle.liquid_dates.specs.Pattern.{Item, literal, directive, spelling, begins, IsRun, IsModifier, IsLetter, IsDirective, IsItem, IsRefused, IsFront, IsReading}
-use Rattle.liquid_dates.specs.PatternReader.{front, behind, after_second_colon, behind_second_colon, after_colon, behind_colon, letter_front, letter_behind, Read, letter_at, behind_modifier, modifier_at, behind_width, directive_at, item_at}
+use Rattle.liquid_dates.specs.PatternReader.{front, behind, after_second_colon, behind_second_colon, after_colon, behind_colon, letter_front, letter_behind, ItemRead, letter_at, behind_modifier, modifier_at, behind_width, directive_at, item_at}
 use Rattle.liquid_dates.proofs.PatternReaderLemmas.{behind_width_fits, behind_width_great}
 
 -- the front and what is behind it are the text
@@ -95,7 +95,7 @@ letter_read (a ∷ b ∷ c ∷ []) rest h =
 letter_read (a ∷ b ∷ c ∷ d ∷ ds) rest h = absurd h
 
 -- what the reader says of a text is so
-abbrev pub Describes : List ℕ → Read → Type 0
+abbrev pub Describes : List ℕ → ItemRead → Type 0
 Describes text (Ok (item, rest)) = (text ≡ spelling item ++ rest) × IsItem item rest
 Describes text (Err e) = IsRefused e text
 
@@ -156,7 +156,7 @@ unfolding item_at
 item_describes c cs = item_describes_test c cs _ refl
 
 -- what the reader says of a text that is not empty
-abbrev pub read_at : List ℕ → Option Read
+abbrev pub read_at : List ℕ → Option ItemRead
 read_at [] = None
 read_at (c ∷ cs) = Some (item_at c cs)
 
@@ -217,12 +217,12 @@ begins_is text (i ∷ items) end (rest, (more, is, item, front), ends) =
     (more, rw is (item_read i more item), (rest, front, ends))
 
 -- the item and the rest of what was read
-item_or : Item → Option Read → Item
+item_or : Item → Option ItemRead → Item
 item_or other None = other
 item_or other (Some (Err e)) = other
 item_or other (Some (Ok (i, more))) = i
 
-rest_or : List ℕ → Option Read → List ℕ
+rest_or : List ℕ → Option ItemRead → List ℕ
 rest_or other None = other
 rest_or other (Some (Err e)) = other
 rest_or other (Some (Ok (i, more))) = more
@@ -267,7 +267,7 @@ unfolding spelling
 shorter (literal c) rest = omega arith
 shorter (directive f w m t) rest = omega (arith, length-append (f ++ (w ++ (m ++ t))) rest)
 
-reading_from : (text : List ℕ) (r : Read) → Describes text r → ((i : Item) (more : List ℕ) → length more < length text → Reading more) → Reading text
+reading_from : (text : List ℕ) (r : ItemRead) → Describes text r → ((i : Item) (more : List ℕ) → length more < length text → Reading more) → Reading text
 unfolding IsFront
 reading_from text (Ok (i, more)) h next =
     let rest = next i more (rw h.0 (shorter i more)) in

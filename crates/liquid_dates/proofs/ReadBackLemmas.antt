@@ -19,7 +19,8 @@ use Rattle.liquid_dates.specs.Names.{month_name, short_month_name}
 use Rattle.liquid_dates.specs.Flags.{is_digit, digits_number}
 use Rattle.liquid_dates.specs.Printed.{two_digits, four_digits, year_text, date_text, clock_text, fraction_digits, fraction_text, sign_of, offset_text, date_time_text}
 use Rattle.liquid_dates.specs.Instant.{civil_date, civil_time, offset_seconds, nanosecond}
-use Rattle.liquid_dates.specs.DateText.{year_form, dashed, day_month, dashed_date, long_date, short_date, clock, offset_form, fraction_form, timed_dashed, dashed_date_time, fraction_date_time, date_time_forms, is_offset_end, ends_in_offset, IsNow, IsDateText, IsDateTimeText}
+use Rattle.liquid_dates.specs.DateText.{dashed_date, long_date, short_date, dashed_date_time, fraction_date_time, date_time_forms, is_offset_end, ends_in_offset, IsNow, IsDateText, IsDateTimeText}
+use Rattle.liquid_dates.proofs.PairForms.{year_form, dashed, day_month, clock, offset_form, fraction_form, timed_dashed}
 use Rattle.liquid_dates.specs.DateReader.{timed_dashed_at, offset_end}
 use Rattle.liquid_dates.proofs.DateTextLemmas.{some_pair}
 use Rattle.liquid_dates.proofs.TimedLemmas.{stamped_whole, timed_dashed_reads}
@@ -285,7 +286,7 @@ fraction_printed dt small whole some =
 not_dashed : (dt b : DateTime) → 0 < nanosecond dt → ¬ (dashed_date_time (date_time_text dt) b)
 unfolding dashed_date_time
 not_dashed dt b some (form, none) =
-    let s = stamped_whole timed_dashed timed_dashed_at timed_dashed_reads true (date_time_text dt) _ _ form in
+    let s = stamped_whole timed_dashed timed_dashed_at timed_dashed_reads true (date_time_text dt) (((civil_date b).year, ((civil_date b).month, (civil_date b).day)), ((civil_time b).hour, ((civil_time b).minute, (civil_time b).second))) (offset_seconds b) form in
     let d = civil_date dt in
     let t = civil_time dt in
     let behind = 46 ∷ (fraction_digits 9 (nanosecond dt) ++ (32 ∷ offset_text (offset_seconds dt))) in

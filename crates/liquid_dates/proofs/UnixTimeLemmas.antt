@@ -1,5 +1,5 @@
 -- Whole seconds since 1970, and the cases of a date time's text.
-use Rattle.std.proofs.Common.{◌≡◌, ◌≢◌, inl, inr, ℕ, List, [], ◌∷◌, length, refl, sym, ◌∙◌, arith, false, nat_eq, Option, Some, None, ℤ, pos, IfSome, IfNone, IsSomeAnd}
+use Rattle.std.proofs.Common.{◌≡◌, ◌≢◌, inl, inr, ℕ, List, [], ◌∷◌, length, sym, ◌∙◌, arith, false, nat_eq, Option, Some, None, ℤ, pos, IfSome, IfNone, IsSomeAnd}
 use Rattle.std.specs.Prelude.{IsTrue, ◌↔◌}
 use Rattle.jiff_core.specs.DateTime.{civil_nanos, IsCivilNanos}
 use Rattle.jiff_core.specs.Timestamp.{nanos_of_seconds}
@@ -32,7 +32,7 @@ unix_once a b z h k =
     let same = civil_nanos_injective a.local b.local (unix_civil a z h ∙ sym (unix_civil b z k)) in
     let date = epoch_day_injective (civil_date a) (civil_date b) same.0 in
     let time = time_nanos_injective (civil_time a) (civil_time b) same.1 in
-    (date, rw (time.0, time.1, time.2) refl, h.1 ∙ sym k.1, h.2 ∙ sym k.2)
+    (date, (time.0, time.1, time.2), h.1 ∙ sym k.1, h.2 ∙ sym k.2)
 
 pub not_empty : (text : List ℕ) → nat_eq (length text) 0 ≡ false → text ≢ []
 not_empty [] e = λ _. cc

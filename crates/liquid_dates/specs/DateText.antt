@@ -7,9 +7,9 @@ use Rattle.std.specs.Char.{to_ascii_lowercase}
 use Rattle.std.specs.Str.{trim}
 use Rattle.std.specs.Str.Parse.{IsNumeral, without_leading_sign, signed_digits_value}
 use Rattle.jiff_core.specs.declared.civil.date.Date.{Date as CivilDate}
-use Rattle.jiff_core.specs.declared.civil.datetime.DateTime.{DateTime as CivilDateTime}
+use Rattle.jiff_core.specs.declared.civil.time.Time.{Time as CivilTime}
 use Rattle.liquid_dates.specs.declared.date_time.DateTime.{DateTime}
-use Rattle.liquid_dates.specs.Instant.{civil_date, offset_seconds, unix_seconds, nanosecond}
+use Rattle.liquid_dates.specs.Instant.{civil_date, civil_time, offset_seconds, unix_seconds, nanosecond}
 use Rattle.liquid_dates.specs.Names.{month_name, short_month_name, short_weekday_name}
 use Rattle.liquid_dates.specs.Flags.{is_digit, digits_number}
 use Rattle.liquid_dates.specs.Printed.{two_digits, four_digits}
@@ -18,69 +18,71 @@ use Rattle.liquid_dates.specs.Printed.{two_digits, four_digits}
 abbrev pub Form : Type 0 → Type 1
 Form A = List ℕ → A → Type 0
 
--- a form, a byte behind it, and a form behind that
-abbrev pub joined : {A B : Type 0} → Form A → ℕ → Form B → Form (A × B)
-joined F byte G text (a, b) =
-    (front : List ℕ) × (back : List ℕ) × (text ≡ front ++ (byte ∷ back)) × F front a × G back b
-
 -- the first form that fits the text: the one, or the other where the one fits with no value
 abbrev pub first : {A : Type 0} → Form A → Form A → Form A
 first {A} F G text a = F text a ⊎ (((b : A) → ¬ (F text b)) × G text a)
 
+-- which texts there are of something
+abbrev pub Texts : Type 1
+Texts = List ℕ → Type 0
+
+-- a text of the one, a byte behind it, and a text of the other
+abbrev pub joined : Texts → ℕ → Texts → Texts
+joined one byte other text =
+    (front : List ℕ) × (back : List ℕ) × (text ≡ front ++ (byte ∷ back)) × one front × other back
+
 -- two digits of a number below a limit
-abbrev pub two_below : ℕ → Form ℕ
-two_below limit text n = (n < limit) × (text ≡ two_digits n)
+abbrev pub two_below : ℕ → ℕ → Texts
+two_below limit n text = (n < limit) × (text ≡ two_digits n)
 
 -- four digits of a year, which may stand behind `-`
-abbrev pub year_form : Form ℤ
-year_form text y =
+abbrev pub year_texts : ℤ → Texts
+year_texts y text =
     (n : ℕ) × (n < 10000) × (((text ≡ four_digits n) × (y ≡ pos n)) ⊎ ((text ≡ 45 ∷ four_digits n) × (y ≡ neg_ℤ (pos n))))
 
 -- the name of a month
-abbrev pub month_form : (ℕ → List ℕ) → Form ℕ
-month_form name text m = IsInRange 1 12 m × (text ≡ name m)
+abbrev pub month_texts : (ℕ → List ℕ) → ℕ → Texts
+month_texts name m text = IsInRange 1 12 m × (text ≡ name m)
 
 -- the first three letters of a weekday
-abbrev pub weekday_form : Form ℕ
-weekday_form text w = (w < 7) × (text ≡ short_weekday_name w)
+abbrev pub weekday_texts : ℕ → Texts
+weekday_texts w text = (w < 7) × (text ≡ short_weekday_name w)
 
 -- a day of one digit or two
-abbrev pub short_day : Form ℕ
-short_day text n = ((n < 10) × (text ≡ (48 + n) ∷ [])) ⊎ two_below 100 text n
+abbrev pub short_day : ℕ → Texts
+short_day n text = ((n < 10) × (text ≡ (48 + n) ∷ [])) ⊎ two_below 100 n text
 
 -- one to nine digits of a fraction, in nanoseconds
-abbrev pub fraction_form : Form ℕ
-fraction_form text nano =
+abbrev pub fraction_texts : ℕ → Texts
+fraction_texts nano text =
     (list_all is_digit text ≡ true) × IsInRange 1 9 (length text) × (nano ≡ digits_number text * 10 ^ (9 - length text))
 
 -- `YYYY-MM-DD`
-abbrev pub dashed : Form (ℤ × (ℕ × ℕ))
-dashed = joined year_form 45 (joined (two_below 100) 45 (two_below 100))
+abbrev pub dashed : CivilDate → Texts
+dashed d = joined (year_texts d.year) 45 (joined (two_below 100 d.month) 45 (two_below 100 d.day))
 
 -- `DD Month YYYY`
-abbrev pub day_month : (ℕ → List ℕ) → Form (ℕ × (ℕ × ℤ))
-day_month name = joined (two_below 100) 32 (joined (month_form name) 32 year_form)
+abbrev pub day_month : (ℕ → List ℕ) → CivilDate → Texts
+day_month name d =
+    joined (two_below 100 d.day) 32 (joined (month_texts name d.month) 32 (year_texts d.year))
 
 -- `MM/DD/YYYY`
-abbrev pub slashed : Form (ℕ × (ℕ × ℤ))
-slashed = joined (two_below 100) 47 (joined (two_below 100) 47 year_form)
+abbrev pub slashed : CivilDate → Texts
+slashed d = joined (two_below 100 d.month) 47 (joined (two_below 100 d.day) 47 (year_texts d.year))
 
 -- `HH:MM:SS`
-abbrev pub clock : Form (ℕ × (ℕ × ℕ))
-clock = joined (two_below 24) 58 (joined (two_below 60) 58 (two_below 60))
+abbrev pub clock : CivilTime → Texts
+clock t = joined (two_below 24 t.hour) 58 (joined (two_below 60 t.minute) 58 (two_below 60 t.second))
 
 -- the forms of a date
 unfoldable pub dashed_date : Form CivilDate
-dashed_date text d = dashed text (d.year, (d.month, d.day))
+dashed_date text d = dashed d text
 
 unfoldable pub long_date : Form CivilDate
-long_date text d = day_month month_name text (d.day, (d.month, d.year))
+long_date text d = day_month month_name d text
 
 unfoldable pub short_date : Form CivilDate
-short_date text d = day_month short_month_name text (d.day, (d.month, d.year))
-
-unfoldable pub slashed_date : Form CivilDate
-slashed_date text d = slashed text (d.month, (d.day, d.year))
+short_date text d = day_month short_month_name d text
 
 -- `DD Month YYYY`, `DD Mon YYYY` or `YYYY-MM-DD`
 abbrev pub date_forms : Form CivilDate
@@ -96,67 +98,55 @@ abbrev pub SameDate : CivilDate → CivilDate → Type 0
 SameDate a b = (a.year ≡ b.year) × (a.month ≡ b.month) × (a.day ≡ b.day)
 
 -- `+` or `-`, two digits of hours and two of minutes
-abbrev pub offset_form : Form ℤ
-offset_form text z =
+abbrev pub offset_texts : ℤ → Texts
+offset_texts z text =
     (h : ℕ) × (m : ℕ) × (h < 100) × (m < 60)
     × (((text ≡ 43 ∷ (two_digits h ++ two_digits m)) × (z ≡ pos (h * 3600 + m * 60)))
     ⊎ ((text ≡ 45 ∷ (two_digits h ++ two_digits m)) × (z ≡ neg_ℤ (pos (h * 3600 + m * 60)))))
 
--- the hour, the minute and the second
-abbrev pub hms : CivilDateTime → ℕ × (ℕ × ℕ)
-hms dt = (dt.time.hour, (dt.time.minute, dt.time.second))
+-- a text of the date, a space and the clock
+abbrev pub timed : Texts → DateTime → Texts
+timed date dt = joined date 32 (clock (civil_time dt))
 
--- the forms of a date with a time, without the offset
-abbrev pub timed_dashed : Form ((ℤ × (ℕ × ℕ)) × (ℕ × (ℕ × ℕ)))
-timed_dashed = joined dashed 32 clock
-
-abbrev pub timed_fraction : Form ((ℤ × (ℕ × ℕ)) × ((ℕ × (ℕ × ℕ)) × ℕ))
-timed_fraction = joined dashed 32 (joined clock 46 fraction_form)
-
-abbrev pub timed_day_month : (ℕ → List ℕ) → Form ((ℕ × (ℕ × ℤ)) × (ℕ × (ℕ × ℕ)))
-timed_day_month name = joined (day_month name) 32 clock
-
-abbrev pub timed_slashed : Form ((ℕ × (ℕ × ℤ)) × (ℕ × (ℕ × ℕ)))
-timed_slashed = joined slashed 32 clock
-
-abbrev pub timed_weekday : Form (ℕ × (ℕ × (ℕ × ((ℕ × (ℕ × ℕ)) × ℤ))))
-timed_weekday =
-    joined weekday_form 32 (joined (month_form short_month_name) 32 (joined short_day 32 (joined clock 32 year_form)))
+-- the offset behind a space
+abbrev pub at_offset : Texts → DateTime → Texts
+at_offset local dt = joined local 32 (offset_texts (offset_seconds dt))
 
 -- `YYYY-MM-DD HH:MM:SS off`
 unfoldable pub dashed_date_time : Form DateTime
 dashed_date_time text dt =
-    joined timed_dashed 32 offset_form text ((((civil_date dt).year, ((civil_date dt).month, (civil_date dt).day)), hms dt.local), offset_seconds dt)
-    × (nanosecond dt ≡ 0)
+    at_offset (timed (dashed (civil_date dt)) dt) dt text × (nanosecond dt ≡ 0)
 
 -- `YYYY-MM-DD HH:MM:SS.fraction off`
 unfoldable pub fraction_date_time : Form DateTime
 fraction_date_time text dt =
-    joined timed_fraction 32 offset_form text ((((civil_date dt).year, ((civil_date dt).month, (civil_date dt).day)), (hms dt.local, nanosecond dt)), offset_seconds dt)
+    at_offset (joined (dashed (civil_date dt)) 32 (joined (clock (civil_time dt)) 46 (fraction_texts (nanosecond dt)))) dt text
 
--- `DD Month YYYY HH:MM:SS off` and `DD Mon YYYY HH:MM:SS off`
-abbrev pub day_month_date_time : (ℕ → List ℕ) → Form DateTime
-day_month_date_time name text dt =
-    joined (timed_day_month name) 32 offset_form text ((((civil_date dt).day, ((civil_date dt).month, (civil_date dt).year)), hms dt.local), offset_seconds dt)
-    × (nanosecond dt ≡ 0)
-
+-- `DD Month YYYY HH:MM:SS off`
 unfoldable pub long_date_time : Form DateTime
-long_date_time = day_month_date_time month_name
+long_date_time text dt =
+    at_offset (timed (day_month month_name (civil_date dt)) dt) dt text × (nanosecond dt ≡ 0)
 
+-- `DD Mon YYYY HH:MM:SS off`
 unfoldable pub short_date_time : Form DateTime
-short_date_time = day_month_date_time short_month_name
+short_date_time text dt =
+    at_offset (timed (day_month short_month_name (civil_date dt)) dt) dt text × (nanosecond dt ≡ 0)
 
 -- `MM/DD/YYYY HH:MM:SS off`
 unfoldable pub slashed_date_time : Form DateTime
 slashed_date_time text dt =
-    joined timed_slashed 32 offset_form text ((((civil_date dt).month, ((civil_date dt).day, (civil_date dt).year)), hms dt.local), offset_seconds dt)
-    × (nanosecond dt ≡ 0)
+    at_offset (timed (slashed (civil_date dt)) dt) dt text × (nanosecond dt ≡ 0)
+
+-- `Mon D HH:MM:SS YYYY`
+abbrev pub month_first : DateTime → Texts
+month_first dt =
+    joined (month_texts short_month_name (civil_date dt).month) 32
+    (joined (short_day (civil_date dt).day) 32 (joined (clock (civil_time dt)) 32 (year_texts (civil_date dt).year)))
 
 -- `Www Mon D HH:MM:SS YYYY off`, of any weekday
 unfoldable pub weekday_date_time : Form DateTime
 weekday_date_time text dt =
-    (w : ℕ) × joined timed_weekday 32 offset_form text ((w, ((civil_date dt).month, ((civil_date dt).day, (hms dt.local, (civil_date dt).year)))), offset_seconds dt)
-    × (nanosecond dt ≡ 0)
+    (w : ℕ) × at_offset (joined (weekday_texts w) 32 (month_first dt)) dt text × (nanosecond dt ≡ 0)
 
 -- the forms that begin with a day, a month or a weekday
 abbrev pub day_forms : Form DateTime
@@ -199,7 +189,11 @@ IsDateTimeText text moment dt =
     (text ≢ []) × ((IsNow text × (dt ≡ moment)) ⊎ ((¬ (IsNow text)) × (((z : ℤ) × IsWholeNumber text z × IsUnixTime z dt)
     ⊎ (((z : ℤ) → ¬ (IsWholeNumber text z)) × date_time_forms (with_given_offset (ends_in_offset text) text) dt))))
 
+-- two times of day show the same on a clock
+abbrev pub SameClock : CivilTime → CivilTime → Type 0
+SameClock a b = (a.hour ≡ b.hour) × (a.minute ≡ b.minute) × (a.second ≡ b.second)
+
 -- two date times have the same parts
 abbrev pub SameDateTime : DateTime → DateTime → Type 0
 SameDateTime a b =
-    SameDate (civil_date a) (civil_date b) × (hms a.local ≡ hms b.local) × (nanosecond a ≡ nanosecond b) × (offset_seconds a ≡ offset_seconds b)
+    SameDate (civil_date a) (civil_date b) × SameClock (civil_time a) (civil_time b) × (nanosecond a ≡ nanosecond b) × (offset_seconds a ≡ offset_seconds b)

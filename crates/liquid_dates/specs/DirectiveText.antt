@@ -1,11 +1,13 @@
 -- What a directive prints of a date time.
-use Rattle.std.specs.Prelude.{ℕ, ◌+◌, ◌-◌, ◌/◌, ◌%◌, ◌^◌, min, nat_lt, if◌then◌else◌, ℤ, pos, unsigned_abs, int_lt, int_rem, List, [], ◌∷◌, ◌++◌, length, replicate, Option, unwrap_or, codes, Bool, true, false}
+use Rattle.std.specs.Prelude.{ℕ, ◌+◌, ◌-◌, ◌/◌, ◌%◌, ◌^◌, min, nat_lt, if◌then◌else◌, ℤ, pos, unsigned_abs, int_lt, int_rem, List, [], ◌∷◌, ◌++◌, length, replicate, Option, unwrap_or, codes}
 use Rattle.std.specs.Fmt.{decimal}
 use Rattle.jiff_core.specs.Date.{weekday_of}
 use Rattle.liquid_dates.specs.declared.date_time.DateTime.{DateTime}
 use Rattle.liquid_dates.specs.declared.flags.Flags.{Flags}
 use Rattle.liquid_dates.specs.declared.flags.Filling.{Filling}
 use Rattle.liquid_dates.specs.declared.flags.Filling.TheVariants.{Unset, Zeros, Spaces}
+use Rattle.liquid_dates.specs.declared.flags.NumberFilling.{NumberFilling}
+use Rattle.liquid_dates.specs.declared.flags.NumberFilling.TheVariants.{SpacesBeforeSign, ZerosBehindSign}
 use Rattle.liquid_dates.specs.declared.flags.Case.{Case}
 use Rattle.liquid_dates.specs.declared.flags.Case.TheVariants.{Plain, Upper, Change}
 use Rattle.liquid_dates.specs.declared.directive.Number.{Number}
@@ -21,7 +23,7 @@ use Rattle.liquid_dates.specs.Instant.{civil_date, civil_time, nanosecond, offse
 use Rattle.liquid_dates.specs.Names.{month_name, short_month_name, weekday_name, short_weekday_name}
 use Rattle.liquid_dates.specs.Printed.{sign_of}
 use Rattle.liquid_dates.specs.Numbers.{number_value, default_width, hour_of_12}
-use Rattle.liquid_dates.specs.Filling.{filled_number, filled_text, fills_by_spaces, text_filler, cased}
+use Rattle.liquid_dates.specs.Filling.{filled_number, filled_text, number_filling, text_filler, cased}
 
 -- the width of a number: none under `-`, else the one given, else the default, with one more for a sign
 abbrev pub number_width : Flags → Option ℕ → Number → ℤ → ℕ
@@ -30,9 +32,9 @@ number_width flags width n z =
     else unwrap_or width (default_width n + (if int_lt z (pos 0) then 1 else 0))
 
 -- a number as its flags and its width say
-unfoldable pub number_text : Flags → Option ℕ → Bool → Number → DateTime → List ℕ
-number_text flags width spaced n dt =
-    filled_number (fills_by_spaces flags.filling spaced) (number_width flags width n (number_value n dt)) (number_value n dt)
+unfoldable pub number_text : Flags → Option ℕ → NumberFilling → Number → DateTime → List ℕ
+number_text flags width default n dt =
+    filled_number (number_filling flags.filling default) (number_width flags width n (number_value n dt)) (number_value n dt)
 
 -- the half of the day
 abbrev pub upper_half : ℕ → List ℕ
@@ -73,7 +75,7 @@ name_text flags width n dt =
 
 -- a number filled by zeros to two characters
 abbrev pub two : ℕ → List ℕ
-two n = filled_number false 2 (pos n)
+two n = filled_number ZerosBehindSign 2 (pos n)
 
 -- `HH:MM`
 unfoldable pub hour_minute_of : DateTime → List ℕ
@@ -91,26 +93,26 @@ clock_of_12 dt =
 
 -- the year, filled by zeros to four characters with its sign
 abbrev pub year_of_four : DateTime → List ℕ
-year_of_four dt = filled_number false 4 (civil_date dt).year
+year_of_four dt = filled_number ZerosBehindSign 4 (civil_date dt).year
 
 -- `YYYY-MM-DD`
-unfoldable pub dashed_date : DateTime → List ℕ
-dashed_date dt =
+unfoldable pub dashed_date_text : DateTime → List ℕ
+dashed_date_text dt =
     year_of_four dt ++ (45 ∷ (two (civil_date dt).month ++ (45 ∷ two (civil_date dt).day)))
 
 -- ` D-MON-YYYY`
-unfoldable pub named_date : DateTime → List ℕ
-named_date dt =
-    filled_number true 2 (pos (civil_date dt).day)
+unfoldable pub named_date_text : DateTime → List ℕ
+named_date_text dt =
+    filled_number SpacesBeforeSign 2 (pos (civil_date dt).day)
     ++ (45 ∷ (cased Upper (short_month_name (civil_date dt).month) ++ (45 ∷ year_of_four dt)))
 
 -- the remainder of the year by 100, filled by zeros to two characters with its sign
 unfoldable pub year_of_two : DateTime → List ℕ
-year_of_two dt = filled_number false 2 (int_rem (civil_date dt).year (pos 100))
+year_of_two dt = filled_number ZerosBehindSign 2 (int_rem (civil_date dt).year (pos 100))
 
 -- `MM/DD/YY`
-unfoldable pub slashed_date : DateTime → List ℕ
-slashed_date dt =
+unfoldable pub slashed_date_text : DateTime → List ℕ
+slashed_date_text dt =
     two (civil_date dt).month ++ (47 ∷ (two (civil_date dt).day
     ++ (47 ∷ year_of_two dt)))
 
@@ -118,7 +120,7 @@ slashed_date dt =
 unfoldable pub named_day : Case → DateTime → List ℕ
 named_day case dt =
     cased case (short_weekday_name (weekday_of (civil_date dt))) ++ (32 ∷ (cased case (short_month_name (civil_date dt).month)
-    ++ (32 ∷ filled_number true 2 (pos (civil_date dt).day))))
+    ++ (32 ∷ filled_number SpacesBeforeSign 2 (pos (civil_date dt).day))))
 
 -- `Www Mon  D HH:MM:SS YYYY`
 unfoldable pub date_and_time : Case → DateTime → List ℕ
@@ -126,10 +128,10 @@ date_and_time case dt = named_day case dt ++ (32 ∷ (clock_of dt ++ (32 ∷ yea
 
 -- a composite without its filling
 unfoldable pub composite_of : Case → Composite → DateTime → List ℕ
-composite_of case DashedDate dt = dashed_date dt
-composite_of case NamedDate dt = named_date dt
+composite_of case DashedDate dt = dashed_date_text dt
+composite_of case NamedDate dt = named_date_text dt
 composite_of case HourMinute dt = hour_minute_of dt
-composite_of case SlashedDate dt = slashed_date dt
+composite_of case SlashedDate dt = slashed_date_text dt
 composite_of case Clock dt = clock_of dt
 composite_of case ClockOf12 dt = clock_of_12 dt
 composite_of case DateAndTime dt = date_and_time case dt
@@ -152,7 +154,7 @@ composite_text flags width c dt =
 -- the first digits of the nine of the fraction, and zeros past nine
 unfoldable pub fraction_of : ℕ → ℕ → List ℕ
 fraction_of digits nano =
-    filled_number false (min digits 9) (pos (nano / 10 ^ (9 - digits))) ++ replicate (digits - 9) 48
+    filled_number ZerosBehindSign (min digits 9) (pos (nano / 10 ^ (9 - digits))) ++ replicate (digits - 9) 48
 
 -- the length of an offset whose hours have two digits
 abbrev pub offset_length : Offset → ℕ
@@ -170,9 +172,9 @@ signed_hours Spaces width seconds =
     replicate (width - (1 + length (decimal (unsigned_abs seconds / 3600)))) 32
     ++ (sign_of seconds ∷ decimal (unsigned_abs seconds / 3600))
 signed_hours Unset width seconds =
-    sign_of seconds ∷ filled_number false width (pos (unsigned_abs seconds / 3600))
+    sign_of seconds ∷ filled_number ZerosBehindSign width (pos (unsigned_abs seconds / 3600))
 signed_hours Zeros width seconds =
-    sign_of seconds ∷ filled_number false width (pos (unsigned_abs seconds / 3600))
+    sign_of seconds ∷ filled_number ZerosBehindSign width (pos (unsigned_abs seconds / 3600))
 
 -- the minutes and seconds behind them
 unfoldable pub offset_minutes : Offset → ℤ → List ℕ
@@ -189,7 +191,7 @@ offset_of flags width kind dt =
 
 -- what a directive prints
 unfoldable pub directive_text : DateTime → Flags → Option ℕ → Directive → List ℕ
-directive_text dt flags width (OfNumber n spaced) = number_text flags width spaced n dt
+directive_text dt flags width (OfNumber n default) = number_text flags width default n dt
 directive_text dt flags width (OfName n) = name_text flags width n dt
 directive_text dt flags width (OfComposite c) = composite_text flags width c dt
 directive_text dt flags width (OfFraction digits) = fraction_of (unwrap_or width digits) (nanosecond dt)

@@ -1,12 +1,18 @@
 -- What stands between the per cent of a directive and its letter: flags, a width, a modifier.
-use Rattle.std.specs.Prelude.{ℕ, ◌+◌, ◌-◌, ◌*◌, Bool, ◌&&◌, ◌||◌, ◌==◌, nat_le, if◌then◌else◌, List, [], ◌∷◌, Option, Some, None, fold, true, false}
+use Rattle.std.specs.Prelude.{ℕ, ◌+◌, ◌-◌, ◌*◌, Bool, ◌&&◌, ◌||◌, ◌==◌, nat_le, if◌then◌else◌, List, [], ◌∷◌, Option, Some, None, fold, true, false, codes}
 use Rattle.liquid_dates.specs.declared.flags.Flags.{Flags}
 use Rattle.liquid_dates.specs.declared.flags.Filling.TheVariants.{Unset, Zeros, Spaces}
 use Rattle.liquid_dates.specs.declared.flags.Case.TheVariants.{Plain, Upper, Change}
 
--- `-`, `_`, `0`, `^` or `#`
+-- a character is one of those
+abbrev pub is_one_of : List ℕ → ℕ → Bool
+is_one_of [] c = false
+is_one_of (d ∷ []) c = c == d
+is_one_of (d ∷ e ∷ ds) c = (c == d) || is_one_of (e ∷ ds) c
+
+-- a flag
 abbrev pub is_flag : ℕ → Bool
-is_flag c = (c == 45) || ((c == 95) || ((c == 48) || ((c == 94) || (c == 35))))
+is_flag = is_one_of (codes "-_0^#")
 
 -- no flag is given
 abbrev pub no_flags : Flags
@@ -15,10 +21,10 @@ no_flags = record { unfilled = false; filling = Unset; case = Plain }
 -- one flag more: `-` stays once given, a later `_` or `0` counts before an earlier one, and so of `^` and `#`
 abbrev pub with_flag : Flags → ℕ → Flags
 with_flag flags c =
-    if c == 45 then record flags { unfilled = true }
-    else (if c == 95 then record flags { filling = Spaces }
-    else (if c == 48 then record flags { filling = Zeros }
-    else (if c == 94 then record flags { case = Upper } else record flags { case = Change })))
+    if is_one_of (codes "-") c then record flags { unfilled = true }
+    else (if is_one_of (codes "_") c then record flags { filling = Spaces }
+    else (if is_one_of (codes "0") c then record flags { filling = Zeros }
+    else (if is_one_of (codes "^") c then record flags { case = Upper } else record flags { case = Change })))
 
 -- what the flags say together
 unfoldable pub flags_of : List ℕ → Flags
@@ -37,6 +43,6 @@ unfoldable pub width_of : List ℕ → Option ℕ
 width_of [] = None
 width_of (d ∷ ds) = Some (digits_number (d ∷ ds))
 
--- `E` or `O`, which change nothing
+-- a modifier, which changes nothing
 abbrev pub is_modifier : ℕ → Bool
-is_modifier c = (c == 69) || (c == 79)
+is_modifier = is_one_of (codes "EO")

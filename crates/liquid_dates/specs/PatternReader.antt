@@ -70,40 +70,40 @@ abbrev pub letter_behind : ℕ → List ℕ → List ℕ
 letter_behind c cs = if c == 58 then behind_colon cs else cs
 
 -- an item and what is behind it, or a refusal
-abbrev pub Read : Type 0
-Read = Result (Item × List ℕ) DateFormatError
+abbrev pub ItemRead : Type 0
+ItemRead = Result (Item × List ℕ) DateFormatError
 
 -- a directive from its letter on
-abbrev pub letter_at : List ℕ → List ℕ → List ℕ → ℕ → List ℕ → Read
+abbrev pub letter_at : List ℕ → List ℕ → List ℕ → ℕ → List ℕ → ItemRead
 letter_at flags digits modifier c cs =
     Ok (directive flags digits modifier (letter_front c cs), letter_behind c cs)
 
 -- from behind its modifier on
-abbrev pub behind_modifier : List ℕ → List ℕ → ℕ → List ℕ → Read
+abbrev pub behind_modifier : List ℕ → List ℕ → ℕ → List ℕ → ItemRead
 behind_modifier flags digits modifier [] = Err NoFormatSpecifierAfterModifier
 behind_modifier flags digits modifier (c ∷ cs) = letter_at flags digits (modifier ∷ []) c cs
 
 -- from its modifier on
-abbrev pub modifier_at : List ℕ → List ℕ → ℕ → List ℕ → Read
+abbrev pub modifier_at : List ℕ → List ℕ → ℕ → List ℕ → ItemRead
 modifier_at flags digits c cs =
     if is_modifier c then behind_modifier flags digits c cs else letter_at flags digits [] c cs
 
 -- from behind its width on
-abbrev pub behind_width : List ℕ → List ℕ → List ℕ → Read
+abbrev pub behind_width : List ℕ → List ℕ → List ℕ → ItemRead
 behind_width flags digits [] = Err NoFormatSpecifier
 behind_width flags digits (c ∷ cs) =
     if nat_lt (digits_number digits) (2 ^ 64) then modifier_at flags digits c cs else Err InvalidWidth
 
 -- from behind its flags on
-abbrev pub behind_flags : List ℕ → List ℕ → Read
+abbrev pub behind_flags : List ℕ → List ℕ → ItemRead
 behind_flags flags text = behind_width flags (front is_digit text) (behind is_digit text)
 
 -- from behind its per cent on
-unfoldable pub directive_at : List ℕ → Read
+unfoldable pub directive_at : List ℕ → ItemRead
 directive_at text = behind_flags (front is_flag text) (behind is_flag text)
 
 -- the item at the front of a text that begins with the character
-unfoldable pub item_at : ℕ → List ℕ → Read
+unfoldable pub item_at : ℕ → List ℕ → ItemRead
 item_at c cs = if c == 37 then directive_at cs else Ok (literal c, cs)
 
 -- what the code keeps of a directive
@@ -120,7 +120,7 @@ OnRefusal NoFormatSpecifierAfterModifier P = P
 OnRefusal InvalidWidth P = P
 
 -- a directive and the text behind it are what the reader says
-abbrev pub IsReadAs : Result (Conversion × Bor (List ℕ)) DateFormatError → Read → Type 0
+abbrev pub IsReadAs : Result (Conversion × Bor (List ℕ)) DateFormatError → ItemRead → Type 0
 IsReadAs (Ok (conversion, rest)) (Ok (item, more)) = conversion_of item conversion × (chars rest.now ≡ more) × IsUtf8 rest.now
 IsReadAs (Err e) (Err r) = e ≡ r
 IsReadAs _ _ = ⊥
@@ -135,7 +135,7 @@ abbrev pub HasRest : List ℕ → List ℕ → Type 0
 HasRest text rest = (front : List ℕ) × (text ≡ front ++ rest)
 
 -- the item that was read is printed, and the rest behind it is left
-abbrev pub IsPrinted : DateTime → Read → List ℕ → List ℕ → List ℕ → Type 0
+abbrev pub IsPrinted : DateTime → ItemRead → List ℕ → List ℕ → List ℕ → Type 0
 IsPrinted dt (Ok (item, more)) rest old new = (more ≡ rest) × (new ≡ old ++ item_print dt item)
 IsPrinted dt (Err e) rest old new = ⊥
 

@@ -8,7 +8,7 @@ ghost use Rattle.liquid_dates.specs.Names as Names;
 use crate::DateTime;
 use crate::directive::Composite;
 use crate::directive_text::{text_filler, upper_half};
-use crate::flags::{Case, Flags};
+use crate::flags::{Case, Flags, NumberFilling};
 use crate::names::{short_month_name, short_weekday_name};
 use crate::numbers::hour_of_12;
 use crate::writing::{fill, write_cased, write_number};
@@ -56,13 +56,13 @@ fn composite_of(
         ≡ string_bytes out.old ++ Spec.composite_of case composite date_time) }
 {
     match composite {
-        Composite::DashedDate => dashed_date(out, date_time),
-        Composite::NamedDate => named_date(out, date_time),
-        Composite::HourMinute => hour_minute(out, date_time),
-        Composite::SlashedDate => slashed_date(out, date_time),
-        Composite::Clock => clock(out, date_time),
-        Composite::ClockOf12 => clock_of_12(out, date_time),
-        Composite::DateAndTime => date_and_time(out, case, date_time),
+        Composite::DashedDate => write_dashed_date(out, date_time),
+        Composite::NamedDate => write_named_date(out, date_time),
+        Composite::HourMinute => write_hour_minute(out, date_time),
+        Composite::SlashedDate => write_slashed_date(out, date_time),
+        Composite::Clock => write_clock(out, date_time),
+        Composite::ClockOf12 => write_clock_of_12(out, date_time),
+        Composite::DateAndTime => write_date_and_time(out, case, date_time),
     }
 }
 
@@ -70,14 +70,19 @@ fn composite_of(
 pub(crate) fn write_two(out: &mut String, number: u8) -> Result<(), AllocError>
     ensures { OnOk result (string_bytes out.new ≡ string_bytes out.old ++ Spec.two number) }
 {
-    write_number(out, false, 2, i64::from(number))
+    write_number(out, NumberFilling::ZerosBehindSign, 2, i64::from(number))
 }
 
 fn write_year(out: &mut String, date_time: &DateTime) -> Result<(), AllocError>
     ensures { OnOk result
         (string_bytes out.new ≡ string_bytes out.old ++ Spec.year_of_four date_time.now) }
 {
-    write_number(out, false, 4, i64::from(date_time.year()))
+    write_number(
+        out,
+        NumberFilling::ZerosBehindSign,
+        4,
+        i64::from(date_time.year()),
+    )
 }
 
 // Appends the remainder of the year by 100, filled by zeros to two characters.
@@ -86,11 +91,16 @@ fn write_short_year(out: &mut String, date_time: &DateTime) -> Result<(), AllocE
     ensures { OnOk result
         (string_bytes out.new ≡ string_bytes out.old ++ Spec.year_of_two date_time.now) }
 {
-    write_number(out, false, 2, i64::from(date_time.year()) % 100)
+    write_number(
+        out,
+        NumberFilling::ZerosBehindSign,
+        2,
+        i64::from(date_time.year()) % 100,
+    )
 }
 
 #[tactic(auto, unfolding(crate::specs::DirectiveText::hour_minute_of))]
-fn hour_minute(out: &mut String, date_time: DateTime) -> Result<(), AllocError>
+fn write_hour_minute(out: &mut String, date_time: DateTime) -> Result<(), AllocError>
     ensures { OnOk result
         (string_bytes out.new ≡ string_bytes out.old ++ Spec.hour_minute_of date_time) }
 {
@@ -100,17 +110,17 @@ fn hour_minute(out: &mut String, date_time: DateTime) -> Result<(), AllocError>
 }
 
 #[tactic(auto, unfolding(crate::specs::DirectiveText::clock_of))]
-fn clock(out: &mut String, date_time: DateTime) -> Result<(), AllocError>
+fn write_clock(out: &mut String, date_time: DateTime) -> Result<(), AllocError>
     ensures { OnOk result
         (string_bytes out.new ≡ string_bytes out.old ++ Spec.clock_of date_time) }
 {
-    hour_minute(out, date_time)?;
+    write_hour_minute(out, date_time)?;
     out.push_str(":")?;
     write_two(out, date_time.second())
 }
 
 #[tactic(auto, unfolding(crate::specs::DirectiveText::clock_of_12))]
-fn clock_of_12(out: &mut String, date_time: DateTime) -> Result<(), AllocError>
+fn write_clock_of_12(out: &mut String, date_time: DateTime) -> Result<(), AllocError>
     ensures { OnOk result
         (string_bytes out.new ≡ string_bytes out.old ++ Spec.clock_of_12 date_time) }
 {
@@ -124,10 +134,10 @@ fn clock_of_12(out: &mut String, date_time: DateTime) -> Result<(), AllocError>
     out.push_str(upper_half(time))
 }
 
-#[tactic(auto, unfolding(crate::specs::DirectiveText::dashed_date))]
-fn dashed_date(out: &mut String, date_time: DateTime) -> Result<(), AllocError>
+#[tactic(auto, unfolding(crate::specs::DirectiveText::dashed_date_text))]
+fn write_dashed_date(out: &mut String, date_time: DateTime) -> Result<(), AllocError>
     ensures { OnOk result
-        (string_bytes out.new ≡ string_bytes out.old ++ Spec.dashed_date date_time) }
+        (string_bytes out.new ≡ string_bytes out.old ++ Spec.dashed_date_text date_time) }
 {
     write_year(out, &date_time)?;
     out.push_str("-")?;
@@ -136,22 +146,27 @@ fn dashed_date(out: &mut String, date_time: DateTime) -> Result<(), AllocError>
     write_two(out, date_time.day())
 }
 
-#[tactic(auto, unfolding(crate::specs::DirectiveText::named_date))]
-fn named_date(out: &mut String, date_time: DateTime) -> Result<(), AllocError>
+#[tactic(auto, unfolding(crate::specs::DirectiveText::named_date_text))]
+fn write_named_date(out: &mut String, date_time: DateTime) -> Result<(), AllocError>
     ensures { OnOk result
-        (string_bytes out.new ≡ string_bytes out.old ++ Spec.named_date date_time) }
+        (string_bytes out.new ≡ string_bytes out.old ++ Spec.named_date_text date_time) }
 {
-    write_number(out, true, 2, i64::from(date_time.day()))?;
+    write_number(
+        out,
+        NumberFilling::SpacesBeforeSign,
+        2,
+        i64::from(date_time.day()),
+    )?;
     out.push_str("-")?;
     write_short_month(out, Case::Upper, date_time)?;
     out.push_str("-")?;
     write_year(out, &date_time)
 }
 
-#[tactic(auto, unfolding(crate::specs::DirectiveText::slashed_date))]
-fn slashed_date(out: &mut String, date_time: DateTime) -> Result<(), AllocError>
+#[tactic(auto, unfolding(crate::specs::DirectiveText::slashed_date_text))]
+fn write_slashed_date(out: &mut String, date_time: DateTime) -> Result<(), AllocError>
     ensures { OnOk result
-        (string_bytes out.new ≡ string_bytes out.old ++ Spec.slashed_date date_time) }
+        (string_bytes out.new ≡ string_bytes out.old ++ Spec.slashed_date_text date_time) }
 {
     write_two(out, date_time.month())?;
     out.push_str("/")?;
@@ -161,19 +176,19 @@ fn slashed_date(out: &mut String, date_time: DateTime) -> Result<(), AllocError>
 }
 
 #[tactic(auto, unfolding(crate::specs::DirectiveText::date_and_time))]
-fn date_and_time(out: &mut String, case: Case, date_time: DateTime) -> Result<(), AllocError>
+fn write_date_and_time(out: &mut String, case: Case, date_time: DateTime) -> Result<(), AllocError>
     ensures { OnOk result
         (string_bytes out.new ≡ string_bytes out.old ++ Spec.date_and_time case date_time) }
 {
-    named_day(out, case, date_time)?;
+    write_named_day(out, case, date_time)?;
     out.push_str(" ")?;
-    clock(out, date_time)?;
+    write_clock(out, date_time)?;
     out.push_str(" ")?;
     write_year(out, &date_time)
 }
 
 #[tactic(auto, unfolding(crate::specs::DirectiveText::named_day))]
-fn named_day(out: &mut String, case: Case, date_time: DateTime) -> Result<(), AllocError>
+fn write_named_day(out: &mut String, case: Case, date_time: DateTime) -> Result<(), AllocError>
     ensures { OnOk result
         (string_bytes out.new ≡ string_bytes out.old ++ Spec.named_day case date_time) }
 {
@@ -182,7 +197,7 @@ fn named_day(out: &mut String, case: Case, date_time: DateTime) -> Result<(), Al
     out.push_str(" ")?;
     write_short_month(out, case, date_time)?;
     out.push_str(" ")?;
-    write_number(out, true, 2, i64::from(date.day))
+    write_number(out, NumberFilling::SpacesBeforeSign, 2, i64::from(date.day))
 }
 
 fn write_short_month(out: &mut String, case: Case, date_time: DateTime) -> Result<(), AllocError>

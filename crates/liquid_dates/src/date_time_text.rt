@@ -8,7 +8,8 @@ ghost use Rattle.liquid_dates.specs.DateText.{IsNow, IsDateTimeText, IsUnixTime,
 ghost use Rattle.liquid_dates.specs.DateText as Form;
 ghost use Rattle.liquid_dates.specs.Instant as Instant;
 
-use crate::reading::{after_byte, is_digit};
+use crate::flags::is_digit;
+use crate::reading::after_byte;
 use crate::stamps::{
     Stamp, offset_at, timed_dashed_at, timed_fraction_at, timed_long_at, timed_short_at,
     timed_slashed_at, timed_weekday_at,
@@ -29,7 +30,8 @@ fn is_offset_end(end: &[u8]) -> bool
         [sign, tens, hours, minute, last] => {
             (*sign == b'+' || *sign == b'-')
                 && ((*tens == b'0' || *tens == b'1')
-                    && (is_digit(*hours) && (is_digit(*minute) && is_digit(*last))))
+                    && (is_digit(char::from(*hours))
+                        && (is_digit(char::from(*minute)) && is_digit(char::from(*last)))))
         }
         _ => false,
     }

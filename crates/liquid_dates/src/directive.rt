@@ -1,6 +1,8 @@
 ghost use Rattle.std.specs.Prelude.{◌≡◌, codes};
 ghost use Rattle.liquid_dates.specs.Letters as Spec;
 
+use crate::flags::NumberFilling;
+
 /// A number that a directive prints.
 #[derive(Clone, Copy)]
 pub(crate) enum Number {
@@ -73,8 +75,8 @@ pub(crate) enum Offset {
 /// What a directive prints.
 #[derive(Clone, Copy)]
 pub(crate) enum Directive {
-    /// A number, and whether spaces fill it where no flag says otherwise.
-    OfNumber(Number, bool),
+    /// A number, and what fills it where no flag says otherwise.
+    OfNumber(Number, NumberFilling),
     OfName(Name),
     OfComposite(Composite),
     /// The fraction, and how many digits of it where no width is given.
@@ -88,8 +90,7 @@ pub(crate) fn letter_directive(letter: char) -> Option<Directive>
     ensures { result ≡ Spec.letter_directive letter }
 {
     if let Some(number) = number_letter(letter) {
-        let spaced = letter == 'e' || letter == 'k' || letter == 'l';
-        return Some(Directive::OfNumber(number, spaced));
+        return Some(Directive::OfNumber(number, letter_filling(letter)));
     }
     if let Some(name) = name_letter(letter) {
         return Some(Directive::OfName(name));
@@ -98,6 +99,15 @@ pub(crate) fn letter_directive(letter: char) -> Option<Directive>
         return Some(Directive::OfComposite(composite));
     }
     fraction_letter(letter)
+}
+
+fn letter_filling(letter: char) -> NumberFilling
+    ensures { result ≡ Spec.letter_filling letter }
+{
+    match letter {
+        'e' | 'k' | 'l' => NumberFilling::SpacesBeforeSign,
+        _ => NumberFilling::ZerosBehindSign,
+    }
 }
 
 #[tactic(auto, unfolding(crate::specs::Letters::number_letter))]

@@ -2,12 +2,12 @@ ghost use Rattle.std.specs.Prelude.{◌≡◌, ◌-◌, ◌^◌, ◌<◌, ◌++�
 ghost use Rattle.std.specs.Int.{IsInRange};
 ghost use Rattle.std.specs.String.{string_bytes};
 ghost use Rattle.liquid_dates.specs.DirectiveText as Spec;
-ghost use Rattle.liquid_dates.specs.Filling.{is_ascii_text, cased, fills_by_spaces, text_filler};
+ghost use Rattle.liquid_dates.specs.Filling.{is_ascii_text, cased, number_filling, text_filler};
 
 use crate::DateTime;
 use crate::composites::composite_text;
 use crate::directive::{Directive, Name, Number};
-use crate::flags::{Case, Filling, Flags};
+use crate::flags::{Case, Filling, Flags, NumberFilling};
 use crate::names::{month_name, short_month_name, short_weekday_name, weekday_name};
 use crate::numbers::{default_width, number_value};
 use crate::offset_text::offset_of;
@@ -28,8 +28,8 @@ pub(crate) fn write_directive(
         ≡ string_bytes out.old ++ Spec.directive_text date_time flags width directive) }
 {
     match directive {
-        Directive::OfNumber(number, spaced) => {
-            number_text(out, date_time, flags, width, number, spaced)
+        Directive::OfNumber(number, default) => {
+            number_text(out, date_time, flags, width, number, default)
         }
         Directive::OfName(name) => name_text(out, date_time, flags, width, name),
         Directive::OfComposite(composite) => {
@@ -49,14 +49,14 @@ fn number_text(
     flags: Flags,
     width: Option<usize>,
     number: Number,
-    spaced: bool,
+    default: NumberFilling,
 ) -> Result<(), AllocError>
     ensures { OnOk result (string_bytes out.new
-        ≡ string_bytes out.old ++ Spec.number_text flags width spaced number date_time) }
+        ≡ string_bytes out.old ++ Spec.number_text flags width default number date_time) }
 {
     let value = number_value(number, date_time);
     let width = number_width(flags, width, number, value);
-    write_number(out, fills_by_spaces(flags.filling, spaced), width, value)
+    write_number(out, number_filling(flags.filling, default), width, value)
 }
 
 fn number_width(flags: Flags, width: Option<usize>, number: Number, value: i64) -> usize
@@ -69,13 +69,14 @@ fn number_width(flags: Flags, width: Option<usize>, number: Number, value: i64) 
     width.unwrap_or(if value < 0 { default + 1 } else { default })
 }
 
-fn fills_by_spaces(filling: Filling, spaced: bool) -> bool
-    ensures { result ≡ fills_by_spaces filling spaced }
+// What a number is filled by: by what its letter says where no flag does.
+fn number_filling(filling: Filling, default: NumberFilling) -> NumberFilling
+    ensures { result ≡ number_filling filling default }
 {
     match filling {
-        Filling::Unset => spaced,
-        Filling::Zeros => false,
-        Filling::Spaces => true,
+        Filling::Unset => default,
+        Filling::Zeros => NumberFilling::ZerosBehindSign,
+        Filling::Spaces => NumberFilling::SpacesBeforeSign,
     }
 }
 
@@ -178,7 +179,7 @@ fn fraction_of(out: &mut String, digits: usize, nanosecond: u32) -> Result<(), A
 {
     write_number(
         out,
-        false,
+        NumberFilling::ZerosBehindSign,
         digits.min(9),
         i64::from(nanosecond / unit_of(digits)),
     )?;

@@ -1,5 +1,5 @@
 ghost use Rattle.std.specs.Prelude.{◌≡◌};
-ghost use Rattle.liquid_dates.specs.Flags.{is_flag, with_flag, no_flags};
+ghost use Rattle.liquid_dates.specs.Flags.{is_flag, with_flag, no_flags, is_digit};
 
 /// What a directive is filled by: the last of its flags `_` and `0`.
 #[derive(Clone, Copy)]
@@ -8,6 +8,13 @@ pub(crate) enum Filling {
     Unset,
     Zeros,
     Spaces,
+}
+
+/// What a number is filled by up to its width, and on which side of its sign.
+#[derive(Clone, Copy)]
+pub(crate) enum NumberFilling {
+    SpacesBeforeSign,
+    ZerosBehindSign,
 }
 
 /// In which case a directive prints letters: the last of its flags `^` and `#`.
@@ -63,6 +70,13 @@ impl Flags {
             },
         }
     }
+}
+
+/// Whether a character is one of `0` to `9`.
+pub(crate) fn is_digit(c: char) -> bool
+    ensures { result ≡ is_digit c }
+{
+    c >= '0' && c <= '9'
 }
 
 /// Whether a character is a flag.

@@ -2,12 +2,16 @@ ghost use Rattle.std.specs.Prelude.{◌≡◌, ℕ, List, ◌∷◌, ◌++◌, O
 ghost use Rattle.std.specs.Str.{chars, IsUtf8};
 ghost use Rattle.std.specs.String.{string_bytes};
 ghost use Rattle.liquid_dates.specs.Pattern.{FormatsTo};
-ghost use Rattle.liquid_dates.specs.PatternReader.{IsPrinted, HasRest, OnRefusal, IsAnswer, conversion_print, item_at, directive_at};
+ghost use Rattle.liquid_dates.specs.PatternReader.{IsPrinted, HasRest, OnRefusal, IsAnswer, conversion_print, directive_at};
 
 use crate::directive_text::write_directive;
-use crate::pattern::{Conversion, read_conversion, split_first};
+use crate::pattern::{Conversion, read_conversion};
 use crate::{DateFormatError, DateTime};
 use std::alloc::{AllocError, Global};
+
+// Directives mostly print more than they are spelled by: so much room spares the usual pattern a
+// second allocation.
+const ROOM: usize = 16;
 
 impl DateTime {
     /// What the date time prints by a `strftime` pattern, as `%Y-%m-%d`: a directive is a `%`, flags
@@ -26,70 +30,48 @@ impl DateTime {
         ensures only { (answer : Result (List ℕ) DateFormatError)
             → FormatsTo self.now (chars pattern.now) answer → IsAnswer result answer }
     {
-        let mut out = String::new(alloc);
+        let mut out = String::with_capacity(alloc, pattern.len().saturating_add(ROOM))?;
         let mut rest = pattern;
-        'items: while let Some((first, after)) = split_first(rest) {
-            match write_item(&mut out, self, rest, first, after) {
+        'directives: while let Some((copied, behind)) = rest.split_once('%') {
+            out.push_str(copied)?;
+            match write_directive_at(&mut out, self, behind) {
                 Ok(more) => rest = more,
                 Err(error) => return Err(error),
             }
         }
+        out.push_str(rest)?;
         Ok(out)
     }
 }
 
-// Appends what the item at the front of a text prints, and answers what is behind it. The text's
-// first character is taken.
-#[tactic(auto, unfolding(crate::specs::PatternReader::item_at, crate::specs::Pattern::item_print))]
-fn write_item<'a>(
-    out: &mut String,
-    date_time: &DateTime,
-    text: &'a str,
-    first: char,
-    after: &'a str,
-) -> Result<&'a str, DateFormatError>
-    requires { chars text.now ≡ first ∷ chars after.now }
-    ensures ok { IfOk result (λ rest. IsPrinted date_time.now (item_at first (chars after.now))
-        (chars rest.now) (string_bytes out.old) (string_bytes out.new)) }
-    ensures utf8 { IfOk result (λ rest. IsUtf8 rest.now) }
-    ensures err { IfErr result (λ e. OnRefusal e (item_at first (chars after.now) ≡ Err e)) }
-{
-    if first == '%' {
-        let rest = write_directive_at(out, date_time, text, after)?;
-        return Ok(rest);
-    }
-    out.push(first)?;
-    Ok(after)
-}
-
-// The same for a directive, whose per cent is taken.
+// Appends what the directive at the front of a text prints, and answers what is behind it. Its per
+// cent is taken.
 fn write_directive_at<'a>(
     out: &mut String,
     date_time: &DateTime,
-    text: &str,
-    after: &'a str,
+    text: &'a str,
 ) -> Result<&'a str, DateFormatError>
-    requires { chars text.now ≡ 37 ∷ chars after.now }
-    ensures ok { IfOk result (λ rest. IsPrinted date_time.now (directive_at (chars after.now))
+    ensures ok { IfOk result (λ rest. IsPrinted date_time.now (directive_at (chars text.now))
         (chars rest.now) (string_bytes out.old) (string_bytes out.new)) }
     ensures utf8 { IfOk result (λ rest. IsUtf8 rest.now) }
-    ensures err { IfErr result (λ e. OnRefusal e (directive_at (chars after.now) ≡ Err e)) }
+    ensures err { IfErr result (λ e. OnRefusal e (directive_at (chars text.now) ≡ Err e)) }
 {
-    let (conversion, rest) = read_conversion(after)?;
+    let (conversion, rest) = read_conversion(text)?;
     let spelling = front_of(text, rest);
     write_conversion(out, *date_time, conversion, spelling)?;
     Ok(rest)
 }
 
-// Appends what a directive prints: its own spelling where its letter stands for nothing.
+// Appends what a directive prints: its own spelling where its letter stands for nothing. The
+// spelling is what stands behind the per cent.
 fn write_conversion(
     out: &mut String,
     date_time: DateTime,
     conversion: Conversion,
     spelling: &str,
 ) -> Result<(), AllocError>
-    ensures { OnOk result (string_bytes out.new
-        ≡ string_bytes out.old ++ conversion_print date_time conversion.flags conversion.width conversion.directive spelling.now) }
+    ensures { OnOk result (string_bytes out.new ≡ string_bytes out.old
+        ++ conversion_print date_time conversion.flags conversion.width conversion.directive (37 ∷ spelling.now)) }
 {
     match conversion.directive {
         Some(directive) => {
@@ -101,7 +83,10 @@ fn write_conversion(
                 directive,
             )
         }
-        None => out.push_str(spelling),
+        None => {
+            out.push_str("%")?;
+            out.push_str(spelling)
+        }
     }
 }
 

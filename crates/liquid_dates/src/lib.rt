@@ -19,8 +19,6 @@ mod pattern;
 mod printed;
 mod reading;
 mod stamps;
-#[cfg(test)]
-mod tests;
 mod writing;
 
 pub use date::Date;

@@ -1,15 +1,16 @@
-ghost use Rattle.std.specs.Prelude.{◌≡◌, ◌/◌, ◌++◌, OnOk, [], ◌∷◌, false, pos, unsigned_abs};
+ghost use Rattle.std.specs.Prelude.{◌≡◌, ◌/◌, ◌++◌, OnOk, [], ◌∷◌, pos, unsigned_abs};
 ghost use Rattle.std.specs.String.{string_bytes};
 ghost use Rattle.jiff_core.specs.Timestamp.{IsOffsetSeconds};
 ghost use Rattle.liquid_dates.specs.DirectiveText as Spec;
 ghost use Rattle.liquid_dates.specs.Filling.{filled_number};
+ghost use Rattle.liquid_dates.specs.declared.flags.NumberFilling.TheVariants.{ZerosBehindSign};
 ghost use Rattle.liquid_dates.specs.Printed.{sign_of};
 
 use crate::DateTime;
 use crate::composites::write_two;
 use crate::directive::Offset;
-use crate::flags::{Filling, Flags};
-use crate::writing::{digit_count, fill, write_number};
+use crate::flags::{Filling, Flags, NumberFilling};
+use crate::writing::{digit_count, fill, write_digits, write_number};
 use std::alloc::AllocError;
 
 /// Appends the offset as its flags and its width say.
@@ -61,8 +62,8 @@ fn signed_hours(
                 width.saturating_sub(1 + digit_count(u64::from(hours))),
                 ' ',
             )?;
-            write_sign(out, seconds)?;
-            write!(out, "{hours}")
+            write_offset_sign(out, seconds)?;
+            write_digits(out, u64::from(hours))
         }
     }
 }
@@ -70,13 +71,18 @@ fn signed_hours(
 fn zero_filled_hours(out: &mut String, width: usize, seconds: i32) -> Result<(), AllocError>
     requires { IsOffsetSeconds seconds }
     ensures { OnOk result (string_bytes out.new ≡ string_bytes out.old
-        ++ (sign_of seconds ∷ filled_number false width (pos (unsigned_abs seconds / 3600)))) }
+        ++ (sign_of seconds ∷ filled_number ZerosBehindSign width (pos (unsigned_abs seconds / 3600)))) }
 {
-    write_sign(out, seconds)?;
-    write_number(out, false, width, i64::from(seconds.unsigned_abs() / 3600))
+    write_offset_sign(out, seconds)?;
+    write_number(
+        out,
+        NumberFilling::ZerosBehindSign,
+        width,
+        i64::from(seconds.unsigned_abs() / 3600),
+    )
 }
 
-fn write_sign(out: &mut String, seconds: i32) -> Result<(), AllocError>
+fn write_offset_sign(out: &mut String, seconds: i32) -> Result<(), AllocError>
     ensures { OnOk result
         (string_bytes out.new ≡ string_bytes out.old ++ sign_of seconds ∷ []) }
 {

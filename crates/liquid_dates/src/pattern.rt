@@ -7,7 +7,7 @@ ghost use Rattle.liquid_dates.specs.PatternReader.{IsReadAs};
 
 use crate::DateFormatError;
 use crate::directive::{Directive, Offset, letter_directive};
-use crate::flags::{Flags, is_flag};
+use crate::flags::{Flags, is_digit, is_flag};
 
 /// The width of a directive.
 #[derive(Clone, Copy)]
@@ -106,15 +106,10 @@ fn read_width(text: &str) -> (Width, &str)
     (width, rest)
 }
 
-fn is_digit(c: char) -> bool
-    ensures { result ≡ is_digit c }
-{
-    c >= '0' && c <= '9'
-}
-
 // What a letter stands for, and what is behind it. A `:` takes the next character, and a second
 // one takes one more.
 #[tactic(auto, unfolding(crate::specs::Letters::directive_of), using(crate::proofs::CharLemmas::colon_letter))]
+#[inline(always)]
 fn read_letter(first: char, text: &str) -> (Option<Directive>, &str)
     ensures directive { result.0 ≡ directive_of (Reader.letter_front first (chars text.now)) }
     ensures rest { chars result.1.now ≡ Reader.letter_behind first (chars text.now) }
@@ -151,6 +146,7 @@ fn is_modifier(c: char) -> bool
 }
 
 // A directive from its letter on, and what is behind it.
+#[inline(always)]
 fn with_letter(flags: Flags, width: Option<usize>, letter: char, text: &str) -> (Conversion, &str)
     ensures flags { result.0.flags ≡ flags }
     ensures width { result.0.width ≡ width }
@@ -169,6 +165,7 @@ fn with_letter(flags: Flags, width: Option<usize>, letter: char, text: &str) -> 
 }
 
 // A directive from behind its width on, where its first character is taken.
+#[inline(always)]
 fn from_modifier(
     flags: Flags,
     width: Option<usize>,

@@ -5,8 +5,8 @@ ghost use Rattle.std.specs.Str.{bytes_eq};
 ghost use Rattle.liquid_dates.specs.DateReader as Reader;
 ghost use Rattle.liquid_dates.specs.DateReader.{read_of, by_year, by_day, by_month};
 ghost use Rattle.liquid_dates.specs.Names.{short_month_name, short_weekday_name};
-ghost use Rattle.liquid_dates.specs.Flags.{is_digit};
 
+use crate::flags::is_digit;
 use crate::names::{month_name, short_month_name, short_weekday_name};
 
 /// The parts of a date that a text writes. The calendar need not have the day.
@@ -27,12 +27,6 @@ pub(crate) fn after_byte(byte: u8, text: &[u8]) -> Option<&[u8]>
     }
 }
 
-pub(crate) fn is_digit(byte: u8) -> bool
-    ensures { result ≡ is_digit byte }
-{
-    byte >= b'0' && byte <= b'9'
-}
-
 /// Two digits of a number below a limit.
 #[tactic(auto, unfolding(crate::specs::DateReader::two_at))]
 pub(crate) fn two_at(limit: u8, text: &[u8]) -> Option<(u8, &[u8])>
@@ -42,7 +36,7 @@ pub(crate) fn two_at(limit: u8, text: &[u8]) -> Option<(u8, &[u8])>
     let [tens, ones, rest @ ..] = text else {
         return None;
     };
-    if !is_digit(*tens) || !is_digit(*ones) {
+    if !is_digit(char::from(*tens)) || !is_digit(char::from(*ones)) {
         return None;
     }
     let number = 10 * (*tens - b'0') + (*ones - b'0');

@@ -3,9 +3,10 @@ ghost use Rattle.std.specs.Int.{IsInRange};
 ghost use Rattle.liquid_dates.specs.DateReader as Reader;
 ghost use Rattle.liquid_dates.specs.DateReader.{read_of, by_clock, stamp_by_year, stamp_by_fraction, stamp_by_day, stamp_by_month, stamp_by_weekday};
 
+use crate::flags::is_digit;
 use crate::reading::{
-    Ymd, after_byte, dashed_at, is_digit, long_at, short_at, short_month_at, slashed_at, two_at,
-    weekday_at, year_at,
+    Ymd, after_byte, dashed_at, long_at, short_at, short_month_at, slashed_at, two_at, weekday_at,
+    year_at,
 };
 
 /// A time of day that a text writes, to the second.
@@ -104,7 +105,7 @@ fn one_digit_at(text: &[u8]) -> Option<(u8, &[u8])>
     let [digit, rest @ ..] = text else {
         return None;
     };
-    if !is_digit(*digit) {
+    if !is_digit(char::from(*digit)) {
         return None;
     }
     Some((*digit - b'0', rest))
@@ -220,7 +221,7 @@ fn digits_from(text: &[u8]) -> (usize, u64, &[u8])
     let mut number = 0u64;
     let mut rest = text;
     'digits: while let [first, behind @ ..] = rest {
-        if !is_digit(*first) || count >= 10 {
+        if !is_digit(char::from(*first)) || count >= 10 {
             break;
         }
         number = number * 10 + u64::from(*first - b'0');

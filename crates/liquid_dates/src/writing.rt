@@ -1,11 +1,11 @@
-ghost use Rattle.std.specs.Prelude.{◌≡◌, ◌<◌, ◌++◌, OnOk, length, replicate};
+ghost use Rattle.std.specs.Prelude.{◌≡◌, ◌<◌, ◌+◌, ◌++◌, ◌∷◌, [], OnOk, length, replicate};
 ghost use Rattle.std.specs.Fmt.{decimal};
 ghost use Rattle.std.specs.String.{string_bytes};
 ghost use Rattle.liquid_dates.specs.Filling as Spec;
 ghost use Rattle.liquid_dates.specs.Filling.{is_ascii_text};
 ghost use Rattle.std.specs.Prelude.{true};
 
-use crate::flags::Case;
+use crate::flags::{Case, NumberFilling};
 use std::alloc::AllocError;
 
 /// Appends that many copies of an ASCII character. Room for all of them is made first.
@@ -24,23 +24,25 @@ pub(crate) fn fill(out: &mut String, count: usize, filler: char) -> Result<(), A
 #[tactic(auto, unfolding(crate::specs::Filling::filled_number))]
 pub(crate) fn write_number(
     out: &mut String,
-    spaces: bool,
+    filling: NumberFilling,
     width: usize,
     value: i64,
 ) -> Result<(), AllocError>
     ensures { OnOk result
-        (string_bytes out.new ≡ string_bytes out.old ++ Spec.filled_number spaces width value) }
+        (string_bytes out.new ≡ string_bytes out.old ++ Spec.filled_number filling width value) }
 {
-    let size = value.unsigned_abs();
     let missing = missing(width, value);
-    if spaces {
-        fill(out, missing, ' ')?;
-        write_sign(out, value)?;
-        return write_digits(out, size);
+    match filling {
+        NumberFilling::SpacesBeforeSign => {
+            fill(out, missing, ' ')?;
+            write_minus(out, value)?;
+        }
+        NumberFilling::ZerosBehindSign => {
+            write_minus(out, value)?;
+            fill(out, missing, '0')?;
+        }
     }
-    write_sign(out, value)?;
-    fill(out, missing, '0')?;
-    write_digits(out, size)
+    write_digits(out, value.unsigned_abs())
 }
 
 // How many characters a number lacks to a width.
@@ -54,7 +56,7 @@ fn missing(width: usize, value: i64) -> usize
     width.saturating_sub(digits)
 }
 
-fn write_sign(out: &mut String, value: i64) -> Result<(), AllocError>
+fn write_minus(out: &mut String, value: i64) -> Result<(), AllocError>
     ensures { OnOk result (string_bytes out.new ≡ string_bytes out.old ++ Spec.minus value) }
 {
     if value < 0 {
@@ -63,10 +65,23 @@ fn write_sign(out: &mut String, value: i64) -> Result<(), AllocError>
     Ok(())
 }
 
-fn write_digits(out: &mut String, number: u64) -> Result<(), AllocError>
+/// Appends the decimal digits of a number.
+#[tactic(auto, using(crate::proofs::DecimalLemmas::one_digit, crate::proofs::DecimalLemmas::last_digit))]
+pub(crate) fn write_digits(out: &mut String, number: u64) -> Result<(), AllocError>
     ensures { OnOk result (string_bytes out.new ≡ string_bytes out.old ++ decimal number) }
 {
-    write!(out, "{number}")
+    if number < 10 {
+        return write_digit(out, number as u8);
+    }
+    write_digits(out, number / 10)?;
+    write_digit(out, (number % 10) as u8)
+}
+
+fn write_digit(out: &mut String, digit: u8) -> Result<(), AllocError>
+    requires { digit < 10 }
+    ensures { OnOk result (string_bytes out.new ≡ string_bytes out.old ++ ((48 + digit) ∷ [])) }
+{
+    out.push(char::from(b'0' + digit))
 }
 
 /// How many decimal digits a number has.

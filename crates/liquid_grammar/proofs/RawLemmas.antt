@@ -1,5 +1,5 @@
 -- Where an opener begins, in one pass over a text.
-use Rattle.std.proofs.Common.{◌≡◌, ℕ, suc, ◌+◌, ◌<◌, ◌≤◌, Bool, true, false, cond, ◌&&◌, ◌||◌, ◌==◌, List, [], ◌∷◌, length, get_or, take, drop, slice_index, Option, Some, None, is_some, option_map, option_and_then, refl, sym, ap, ap₂, ◌∙◌, inl, inr, subst, arith, add-zero, get_or-drop, drop_of_length-le, eqb-true, eq-eqb, ne_eqb}
+use Rattle.std.proofs.Common.{◌≡◌, ℕ, zero, suc, ◌-◌, ◌+◌, ◌<◌, ◌≤◌, Bool, true, false, cond, ◌&&◌, ◌||◌, ◌==◌, List, [], ◌∷◌, length, get_or, take, drop, slice_index, Option, Some, None, is_some, option_map, option_and_then, refl, sym, ap, ap₂, ◌∙◌, inl, inr, subst, arith, add-zero, get_or-drop, drop_of_length-le, eqb-true, eq-eqb, ne_eqb}
 use Rattle.std.proofs.lemmas.Bool.{cases_lt, and_parts}
 use Rattle.std.proofs.lemmas.Bool.Decides.{nat_tests}
 use Rattle.std.proofs.lemmas.List.{drop_more}
@@ -8,7 +8,7 @@ use Rattle.std.specs.Option.{option_or}
 use Rattle.std.specs.List.{prefix_len}
 use Rattle.liquid_grammar.specs.Bytes.{is_white}
 use Rattle.liquid_grammar.specs.Grammar.{Opens}
-use Rattle.liquid_grammar.specs.Steps.{Reader, byte, right, white, braces, dashed_opener, opener, any_opener, begins_braces, EndsRaw}
+use Rattle.liquid_grammar.specs.Steps.{Reader, byte, right, white, braces, dashed_opener, opener, any_opener, begins_braces, white_start, EndsRaw}
 use Rattle.liquid_grammar.proofs.TextLemmas.{is_white_ascii}
 use Rattle.liquid_grammar.proofs.Exact.{begins_found, found_begins}
 use Rattle.liquid_grammar.proofs.GrammarExact.{is_some-map, exact-any_opener}
@@ -238,6 +238,62 @@ passed_other s white at h p e none =
       ];
       same = λ k l u. absurd (omega arith);
     }
+
+-- no open brace stands from `from` up to `at`
+abbrev pub Braceless : List ℕ → ℕ → ℕ → Type 0
+Braceless s from at = (k : ℕ) → from ≤ k → k < at → ¬ ((slice_index s k == 123) ≡ true)
+
+-- one more byte that is no open brace
+passed_step : (s : List ℕ) (white at : ℕ) → at < length s → ¬ ((slice_index s at == 123) ≡ true) → Passed s white at → Passed s (cond (is_white (slice_index s at)) white (at + 1)) (at + 1)
+passed_step s white at h none p = go (is_white (slice_index s at)) refl
+  where
+    no_braces : (t : Bool) → (slice_index s at == 123) ≡ t → begins_braces s at ≡ false
+    no_braces true e = absurd (none e)
+    no_braces false e = ap (λ t. t && (slice_index s (at + 1) == 123 || slice_index s (at + 1) == 37)) e
+
+    go : (t : Bool) → is_white (slice_index s at) ≡ t → Passed s (cond t white (at + 1)) (at + 1)
+    go true e = passed_white s white at h p e
+    go false e = passed_other s white at h p e (no_braces (slice_index s at == 123) refl)
+
+-- what was passed behind `from` without an open brace
+passed_on : (s : List ℕ) (from n : ℕ) → from + n ≤ length s → Passed s from from → Braceless s from (from + n) → Passed s (white_start s from n) (from + n)
+unfolding white_start
+passed_on s from zero h p none = let same : from ≡ from + 0 = omega arith in subst (λ x. Passed s from x) same p
+passed_on s from (suc n) h p none =
+    let next : from + n + 1 ≡ from + suc n = omega arith in
+    let before = passed_on s from n (omega arith) p (λ k l u. none k l (omega arith)) in
+    subst (λ x. Passed s (white_start s from (suc n)) x) next (passed_step s (white_start s from n) (from + n) (omega arith) (none (from + n) (omega arith) (omega arith)) before)
+
+pub passed_to : (s : List ℕ) (from at : ℕ) → from ≤ at → at ≤ length s → Passed s from from → Braceless s from at → Passed s (white_start s from (at - from)) at
+passed_to s from at l h p none =
+    let same : from + (at - from) ≡ at = omega (arith, l) in
+    subst (λ x. Passed s (white_start s from (at - from)) x) same (passed_on s from (at - from) (omega (arith, l, h)) p (λ k lo hi. none k lo (omega (arith, l, hi))))
+
+-- behind an open brace that begins no opener
+pub passed_brace : (s : List ℕ) (from at : ℕ) → from ≤ at → at < length s → Passed s from from → Braceless s from at → (slice_index s at == 123) ≡ true → begins_braces s at ≡ false → Passed s (at + 1) (at + 1)
+passed_brace s from at l h p none e other =
+    let b : slice_index s at ≡ 123 = eqb-true (slice_index s at) 123 e in
+    passed_other s (white_start s from (at - from)) at h (passed_to s from at l (omega (arith, h)) p none) (ap is_white b) other
+
+-- the white space before an index begins where the byte before it is not white, or at `from`
+pub white_start_less : (s : List ℕ) (from at : ℕ) → from < at → is_white (slice_index s (at - 1)) ≡ true → white_start s from (at - from) ≡ white_start s from (at - 1 - from)
+unfolding white_start
+white_start_less s from at h e =
+    let len : at - from ≡ suc (at - 1 - from) = omega (arith, h) in
+    let place : from + (at - 1 - from) ≡ at - 1 = omega (arith, h) in
+    ap (white_start s from) len ∙ ap (λ t. cond t (white_start s from (at - 1 - from)) (from + (at - 1 - from) + 1)) (ap (λ k. is_white (slice_index s k)) place ∙ e)
+
+pub white_start_here : (s : List ℕ) (from at : ℕ) → from < at → is_white (slice_index s (at - 1)) ≡ false → white_start s from (at - from) ≡ at
+unfolding white_start
+white_start_here s from at h e =
+    let len : at - from ≡ suc (at - 1 - from) = omega (arith, h) in
+    let place : from + (at - 1 - from) ≡ at - 1 = omega (arith, h) in
+    let next : from + (at - 1 - from) + 1 ≡ at = omega (arith, h) in
+    ap (white_start s from) len ∙ ap (λ t. cond t (white_start s from (at - 1 - from)) (from + (at - 1 - from) + 1)) (ap (λ k. is_white (slice_index s k)) place ∙ e) ∙ next
+
+pub white_start_from : (s : List ℕ) (from at : ℕ) → at ≡ from → white_start s from (at - from) ≡ from
+unfolding white_start
+white_start_from s from at e = let none : at - from ≡ 0 = omega (arith, e) in ap (white_start s from) none
 
 pub opens_from : (s : List ℕ) → opens s ≡ true → Opens s
 opens_from s = begins_found exact-any_opener s

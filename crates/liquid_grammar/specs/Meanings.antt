@@ -20,14 +20,14 @@ literal_of (Text text) = text_literal text.now
 literal_of (Integer text) = integer text.now
 literal_of (Decimal text) = decimal text.now
 
-abbrev pub kind_of : CodeFaultKind → FaultKind
-kind_of IntegerOutOfRange = integer_out_of_range
-kind_of DecimalNotSupported = decimal_not_supported
-kind_of NestedTooDeep = nested_too_deep
+abbrev pub fault_kind_of : CodeFaultKind → FaultKind
+fault_kind_of IntegerOutOfRange = integer_out_of_range
+fault_kind_of DecimalNotSupported = decimal_not_supported
+fault_kind_of NestedTooDeep = nested_too_deep
 
 -- the fault with its place as bytes
 abbrev pub fault_of : CodeFault → Fault
-fault_of fault = (kind_of fault.kind, fault.place.now)
+fault_of fault = (fault_kind_of fault.kind, fault.place.now)
 
 abbrev pub faults_of : Option CodeFault → Option Fault
 faults_of = option_map fault_of

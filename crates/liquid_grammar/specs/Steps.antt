@@ -1,5 +1,5 @@
 -- Readers: what each rule finds, computed. They lead from code to rules, and no public clause names them.
-use Rattle.std.specs.Prelude.{◌≡◌, ℕ, ◌-◌, ◌+◌, ◌<◌, ◌==◌, ◌&&◌, ◌||◌, Bool, cond, not, List, [], ◌∷◌, length, take, drop, slice_index, Option, Some, None, option_map, option_and_then, is_some}
+use Rattle.std.specs.Prelude.{◌≡◌, ℕ, zero, suc, ◌-◌, ◌+◌, ◌<◌, ◌==◌, ◌&&◌, ◌||◌, Bool, cond, not, List, [], ◌∷◌, length, take, drop, slice_index, Option, Some, None, option_map, option_and_then, is_some}
 use Rattle.std.specs.Option.{option_or}
 use Rattle.std.specs.List.{prefix_len}
 use Rattle.std.specs.Str.{IsCharBoundary}
@@ -94,6 +94,11 @@ lone_brace = text (both white (byte 123))
 abbrev pub begins_braces : List ℕ → ℕ → Bool
 begins_braces s at = slice_index s at == 123 && (slice_index s (at + 1) == 123 || slice_index s (at + 1) == 37)
 
+-- where the white space before the index `from + n` begins, not before `from`
+unfoldable pub white_start : List ℕ → (from n : ℕ) → ℕ
+white_start s from zero = from
+white_start s from (suc n) = cond (is_white (slice_index s (from + n))) (white_start s from n) (from + n + 1)
+
 -- raw text at the beginning of s ends before the index n
 pub record EndsRaw (s : List ℕ) (n : ℕ) : Type 0 where
   pub closed : (k : ℕ) → k < n → ¬ (Opens (drop k s))
@@ -101,8 +106,8 @@ pub record EndsRaw (s : List ℕ) (n : ℕ) : Type 0 where
   pub boundary : IsCharBoundary s n
 
 -- the result is what the reader found
-abbrev pub Finds : Option (Bor (List ℕ) × Bor (List ℕ)) → Option (List ℕ × List ℕ) → Type 0
-Finds result found = option_map (λ p. (p.0.now, p.1.now)) result ≡ found
+abbrev pub Splits : Option (Bor (List ℕ) × Bor (List ℕ)) → Option (List ℕ × List ℕ) → Type 0
+Splits result found = option_map (λ p. (p.0.now, p.1.now)) result ≡ found
 
 -- the result is what the reader left
 abbrev pub Leaves : {A : Type 0} → Option (Bor (List ℕ)) → Option (A × List ℕ) → Type 0

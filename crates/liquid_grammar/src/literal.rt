@@ -4,7 +4,7 @@ ghost use Rattle.std.specs.List.{prefix_len};
 ghost use Rattle.std.specs.Char.{is_ascii_digit};
 ghost use Rattle.liquid_grammar.specs.Literals as spec;
 ghost use Rattle.liquid_grammar.specs.Meanings.{FindsLiteral, literal_of};
-ghost use Rattle.liquid_grammar.specs.Steps.{Finds, Leaves};
+ghost use Rattle.liquid_grammar.specs.Steps.{Splits, Leaves};
 ghost use Rattle.liquid_grammar.specs.TokenSteps as read;
 
 use crate::bytes::{byte_at, starts_name};
@@ -49,7 +49,7 @@ pub(crate) fn word_literal(word: &str) -> Literal<'_>
 }
 
 fn text_literal(s: &str) -> Option<(&str, &str)>
-    ensures value { Finds result (read.text_of_quotes s.now) }
+    ensures value { Splits result (read.text_of_quotes s.now) }
     ensures shorter { IfSome result (λ x. length x.1.now < length s.now) }
 {
     match quoted(s, b'\'') {
@@ -62,7 +62,7 @@ fn text_literal(s: &str) -> Option<(&str, &str)>
 #[tactic(auto, unfolding(crate::specs::TokenSteps::quoted))]
 fn quoted(s: &str, quote: u8) -> Option<(&str, &str)>
     requires { quote < 128 }
-    ensures value { Finds result (read.quoted quote s.now) }
+    ensures value { Splits result (read.quoted quote s.now) }
     ensures shorter { IfSome result (λ x. length x.1.now < length s.now) }
 {
     let inside = eat(s, quote)?;
@@ -98,7 +98,7 @@ fn number(s: &str) -> Option<(Literal, &str)>
 
 #[tactic(auto, unfolding(crate::specs::TokenSteps::fractional))]
 fn fractional(s: &str) -> Option<(&str, &str)>
-    ensures value { Finds result (read.fractional s.now) }
+    ensures value { Splits result (read.fractional s.now) }
     ensures shorter { IfSome result (λ x. length x.1.now < length s.now) }
 {
     let (_, rest) = whole(s)?;
@@ -108,7 +108,7 @@ fn fractional(s: &str) -> Option<(&str, &str)>
 
 #[tactic(auto, unfolding(crate::specs::TokenSteps::whole))]
 fn whole(s: &str) -> Option<(&str, &str)>
-    ensures value { Finds result (read.whole s.now) }
+    ensures value { Splits result (read.whole s.now) }
     ensures shorter { IfSome result (λ x. length x.1.now < length s.now) }
 {
     let (_, rest) = digits(skip_sign(s))?;
@@ -128,7 +128,7 @@ fn skip_sign(s: &str) -> &str
 
 #[tactic(auto, unfolding(crate::specs::TokenSteps::digits))]
 fn digits(s: &str) -> Option<(&str, &str)>
-    ensures value { Finds result (read.digits s.now) }
+    ensures value { Splits result (read.digits s.now) }
     ensures shorter { IfSome result (λ x. length x.1.now < length s.now) }
 {
     let len = digit_len(s.as_bytes());

@@ -2,14 +2,14 @@
 ghost use Rattle.std.specs.Prelude.{◌≡◌, ◌<◌, ◌≤◌, length, IfSome};
 ghost use Rattle.liquid_grammar.specs.Grammar as spec;
 ghost use Rattle.liquid_grammar.specs.Steps as read;
-ghost use Rattle.liquid_grammar.specs.Steps.{Finds};
+ghost use Rattle.liquid_grammar.specs.Steps.{Splits};
 
 use crate::bytes::{byte_at, is_word, starts_name};
 
 /// The longest identifier that the text begins with, and what follows it.
 #[tactic(auto, unfolding(crate::specs::Steps::identifier))]
 pub(crate) fn identifier(s: &str) -> Option<(&str, &str)>
-    ensures value { Finds result (read.identifier s.now) }
+    ensures value { Splits result (read.identifier s.now) }
     ensures shorter { IfSome result (λ x. length x.1.now < length s.now) }
 {
     let bytes = s.as_bytes();
@@ -23,7 +23,7 @@ pub(crate) fn identifier(s: &str) -> Option<(&str, &str)>
 /// An identifier that is no literal word.
 #[tactic(auto, unfolding(crate::specs::Steps::name))]
 pub(crate) fn name(s: &str) -> Option<(&str, &str)>
-    ensures value { Finds result (read.name s.now) }
+    ensures value { Splits result (read.name s.now) }
     ensures shorter { IfSome result (λ x. length x.1.now < length s.now) }
 {
     let (word, rest) = identifier(s)?;

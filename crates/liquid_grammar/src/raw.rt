@@ -1,30 +1,57 @@
 //! Raw text.
-ghost use Rattle.std.specs.Prelude.{◌≡◌, ◌<◌, ◌≤◌, length};
+ghost use Rattle.std.specs.Prelude.{◌≡◌, ◌-◌, ◌<◌, ◌≤◌, length, IfSome};
 ghost use Rattle.liquid_grammar.specs.Steps as read;
 ghost use Rattle.liquid_grammar.specs.Steps.{EndsRaw};
+ghost use Rattle.memchr.specs.Find.{IsFirst, Passes, is_byte};
 
 use crate::bytes::{byte_at, is_white};
+use memchr::memchr;
 
 /// How many bytes stand before the first place where an opener begins, or all.
+///
+/// The bytes between two open braces are passed once, by vectors, and those of the white space before a dashed opener
+/// once more.
 pub(crate) fn raw_len(s: &str) -> usize
     ensures within { result ≤ length s.now }
     ensures ends { EndsRaw s.now result }
 {
     let bytes = s.as_bytes();
-    let mut white = 0;
-    'bytes: for at in 0..bytes.len() {
-        if begins_braces(bytes, at) {
+    let mut from = 0;
+    'braces: while let Some(brace) = next_brace(bytes, from) {
+        if begins_braces(bytes, brace) {
             // White space before an opener is the opener's where a dash follows the braces.
-            if byte_at(bytes, at + 2) == b'-' {
-                return white;
+            if byte_at(bytes, brace + 2) == b'-' {
+                return white_start(bytes, from, brace);
             }
-            return at;
+            return brace;
         }
-        if !is_white(bytes[at]) {
-            white = at + 1;
-        }
+        from = brace + 1;
     }
     bytes.len()
+}
+
+/// The first `{` at this place or behind it.
+fn next_brace(bytes: &[u8], from: usize) -> Option<usize>
+    requires { from ≤ length bytes.now }
+    ensures first { IsFirst (Passes (is_byte 123) bytes.now) from (length bytes.now) result }
+    ensures within { IfSome result (λ brace. brace < length bytes.now) }
+{
+    let brace = memchr(b'{', bytes.split_at(from).1)?;
+    Some(from + brace)
+}
+
+/// Where the white space that ends at `end` begins, not before `from`.
+fn white_start(bytes: &[u8], from: usize, end: usize) -> usize
+    requires order { from ≤ end }
+    requires fits { end ≤ length bytes.now }
+    ensures start { result ≡ read.white_start bytes.now from (end - from) }
+    ensures within { result ≤ end }
+{
+    let mut start = end;
+    'white: while start > from && is_white(bytes[start - 1]) {
+        start -= 1;
+    }
+    start
 }
 
 fn begins_braces(bytes: &[u8], at: usize) -> bool

@@ -3,7 +3,7 @@ ghost use Rattle.std.specs.Prelude.{◌≡◌, ◌-◌, ◌<◌, ◌≤◌, ◌+
 ghost use Rattle.std.specs.List.{prefix_len};
 ghost use Rattle.liquid_grammar.specs.Bytes as class;
 ghost use Rattle.liquid_grammar.specs.Steps as read;
-ghost use Rattle.liquid_grammar.specs.Steps.{Finds, Leaves};
+ghost use Rattle.liquid_grammar.specs.Steps.{Splits, Leaves};
 
 use crate::bytes::is_white;
 
@@ -26,7 +26,7 @@ pub(crate) fn eat(s: &str, byte: u8) -> Option<&str>
 #[inline]
 #[tactic(auto, unfolding(crate::specs::Steps::white))]
 pub(crate) fn split_white(s: &str) -> (&str, &str)
-    ensures value { Finds (Some result) (read.white s.now) }
+    ensures value { Splits (Some result) (read.white s.now) }
     ensures shorter { length result.1.now ≤ length s.now }
 {
     s.split_at(white_len(s.as_bytes()))

@@ -2,7 +2,5 @@
 #![tactic(auto)]
 
 pub mod scalar;
-#[cfg(test)]
-mod tests;
 
 pub use scalar::{Scalar, ScalarCow, ScalarOf, ScalarRender, ScalarSource, ScalarText};

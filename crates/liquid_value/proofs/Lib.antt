@@ -8,3 +8,5 @@ pub mod LooseByName
 pub mod Names
 pub mod Listed
 pub mod StepLemmas
+pub mod Collected
+pub mod Copies

@@ -1,8 +1,9 @@
 -- What holds of loose equality and of loose order.
-use Rattle.std.specs.Prelude.{◌≡◌, ℕ, List, Bool, true, false, ◌&&◌, ◌==◌, Option, None, Some, option_map}
+use Rattle.std.specs.Prelude.{◌≡◌, ℕ, List, [], Bool, true, false, ◌&&◌, ◌==◌, Option, None, Some, option_map}
 use Rattle.std.specs.declared.cmp.Ordering.TheVariants.{Equal}
 use Rattle.std.specs.Ordering.{nat_cmp, is_lt, ordering_reverse}
 use Rattle.std.specs.Cmp.Lexicographic.{slice_cmp}
+use Rattle.liquid_scalar.specs.Scalar.{text}
 use Rattle.liquid_value.specs.declared.state.State.{State}
 use Rattle.liquid_value.specs.declared.state.State.TheVariants.{Truthy, DefaultValue, Empty, Blank}
 use Rattle.liquid_value.specs.Loose.{value_eq}
@@ -41,6 +42,11 @@ LooseEqualityIsReflexive = (t : Tree) → without_truthy t ≡ true → value_eq
 -- between values without the truthy state, loose equality holds both ways
 abbrev pub LooseEqualityIsSymmetric : Type 0
 LooseEqualityIsSymmetric = (l r : Tree) → without_truthy l ≡ true → without_truthy r ≡ true → value_eq l r ≡ value_eq r l
+
+-- loose equality is not transitive: the empty text and the state `Empty` are equal, that state and the empty array are
+-- equal, and the empty text and the empty array are not
+abbrev pub LooseEqualityIsNotTransitive : Type 0
+LooseEqualityIsNotTransitive = (value_eq (scalar (text [])) (state Empty) ≡ true) × (value_eq (state Empty) (array no_items) ≡ true) × (value_eq (scalar (text [])) (array no_items) ≡ false)
 
 -- the order of two values swapped is their order reversed, and none stays none
 abbrev pub OrderSwappedIsReversed : Type 0

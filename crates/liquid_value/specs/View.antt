@@ -1,5 +1,5 @@
 -- The tree that a value means.
-use Rattle.std.specs.Prelude.{List, [], ◌∷◌, map, String, string_bytes}
+use Rattle.std.specs.Prelude.{ℕ, List, [], ◌∷◌, map, String, string_bytes}
 use Rattle.std.specs.declared.alloc.Global.{Global}
 use Rattle.liquid_scalar.specs.Scalar.{scal}
 use Rattle.liquid_value.specs.declared.value.Value.{Value, fold-Value}
@@ -35,3 +35,7 @@ items_view vs = items_of (map view vs)
 -- the members that a map's entries mean
 abbrev pub members_view : List (String Global × Value) → Members
 members_view es = members_of (map (λ e. (e.0, view e.1)) es)
+
+-- the name and the tree of an entry
+abbrev pub entry_view : String Global × Value → List ℕ × Tree
+entry_view e = (string_bytes e.0, view e.1)

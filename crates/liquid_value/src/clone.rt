@@ -1,8 +1,11 @@
-ghost use Rattle.std.specs.Prelude.{◌≡◌, IfOk};
-ghost use Rattle.liquid_value.specs.View.{view, items_view, members_view};
+ghost use Rattle.std.specs.Prelude.{◌≡◌, IfOk, map};
+ghost use Rattle.std.specs.List.Sorted.{IsStrictlySortedBy};
+ghost use Rattle.std.specs.Map.{keys_of};
+ghost use Rattle.std.specs.String.{string_cmp};
+ghost use Rattle.liquid_value.specs.View.{view, items_view, members_view, entry_view};
 
 use crate::value::{Array, Object, Value};
-use std::alloc::AllocError;
+use std::alloc::{AllocError, Global};
 use std::default::Emptied;
 
 impl Clone for Value {
@@ -38,15 +41,37 @@ pub(crate) fn copy_array(items: &Array) -> Result<Array, AllocError>
     Ok(copies)
 }
 
-/// A map from the same names to the same values.
+/// A map from the same names to the same values, built in the order of the names.
 #[cycle(copy)]
 pub(crate) fn copy_object(members: &Object) -> Result<Object, AllocError>
     ensures { IfOk result (λ m. members_view m.entries ≡ members_view members.now.entries) }
 {
-    let mut copies = Object::emptied(members)?;
+    match members.iter().next() {
+        Some((first, _)) => {
+            let alloc = *first.allocator();
+            object_in_order(alloc, copy_entries(alloc, members)?)
+        }
+        None => Object::emptied(members),
+    }
+}
+
+// The entries, copied, in the order of their names.
+#[cycle(copy)]
+fn copy_entries(alloc: Global, members: &Object) -> Result<Vec<(String, Value)>, AllocError>
+    ensures { IfOk result (λ v. map entry_view v.items ≡ map entry_view members.now.entries) }
+{
+    let mut copies = Vec::with_capacity(alloc, members.len())?;
     for (key, member) in members.iter() {
         let name = key.clone()?;
-        drop(copies.insert(name, copy(member)?)?);
+        copies.push((name, copy(member)?))?;
     }
     Ok(copies)
+}
+
+// The map of entries whose names ascend. It is built from the list, with no search for a name's place.
+fn object_in_order(alloc: Global, entries: Vec<(String, Value)>) -> Result<Object, AllocError>
+    requires { IsStrictlySortedBy string_cmp (keys_of entries.items) }
+    ensures { IfOk result (λ m. members_view m.entries ≡ members_view entries.items) }
+{
+    entries.into_iter().collect(alloc)
 }

@@ -1,5 +1,5 @@
 // The laws of the comparisons of values. Each function only states its law.
-ghost use Rattle.liquid_value.specs.LooseLaws.{LooseEqualityIsReflexive, LooseEqualityIsSymmetric, OrderSwappedIsReversed, EqualInOrderIsLooselyEqual, LooseEqualityOfObjectsGoesByName, in_name_order};
+ghost use Rattle.liquid_value.specs.LooseLaws.{LooseEqualityIsReflexive, LooseEqualityIsSymmetric, LooseEqualityIsNotTransitive, OrderSwappedIsReversed, EqualInOrderIsLooselyEqual, LooseEqualityOfObjectsGoesByName, in_name_order};
 ghost use Rattle.liquid_value.specs.StrictLaws.{StrictEqualityIsEquivalence, HashAgreesWithEquality};
 ghost use Rattle.std.specs.Prelude.{◌≡◌, true};
 ghost use Rattle.liquid_value.specs.View.{members_view};
@@ -16,6 +16,11 @@ pub fn loose_equality_is_reflexive()
 #[tactic(auto, using(crate::proofs::LooseEquality::value_eq_symm))]
 pub fn loose_equality_is_symmetric()
     ensures { LooseEqualityIsSymmetric }
+{}
+
+/// Loose equality is not transitive: `""` equals the state `Empty`, which equals the empty array, and `""` does not.
+pub fn loose_equality_is_not_transitive()
+    ensures { LooseEqualityIsNotTransitive }
 {}
 
 /// The order of two values swapped is their order reversed, and none stays none.

@@ -20,6 +20,3 @@ pub use compare::ValueViewCmp;
 pub use cow::ValueCow;
 pub use state::State;
 pub use value::{Array, Object, Value};
-
-#[cfg(test)]
-mod tests;

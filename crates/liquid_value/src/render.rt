@@ -1,5 +1,6 @@
 ghost use Rattle.std.specs.Prelude.{Some, ◌≡◌, ◌++◌, codes};
 ghost use Rattle.std.specs.Fmt.{WritesOnOk};
+ghost use Rattle.liquid_value.specs.Tree.{array, object};
 ghost use Rattle.liquid_value.specs.View.{view, items_view, members_view};
 ghost use Rattle.liquid_value.specs.Render.{render, render_items, render_members, source, listed_items, listed_member, listed_members};
 
@@ -100,19 +101,27 @@ pub(crate) fn write_source<W: fmt::Write>(value: &Value, f: &mut fmt::Formatter<
 {
     match value {
         Value::Scalar(scalar) => scalar.source().fmt(f),
-        Value::Array(items) => {
-            f.write_str("[")?;
-            list_items(items, f)?;
-            f.write_str("]")
-        }
-        Value::Object(members) => {
-            f.write_str("{")?;
-            list_members(members, f)?;
-            f.write_str("}")
-        }
+        Value::Array(items) => write_array_source(items, f),
+        Value::Object(members) => write_object_source(members, f),
         Value::State(state) => f.write_str(state.type_name()),
         Value::Nil => f.write_str("nil"),
     }
+}
+
+fn write_array_source<W: fmt::Write>(items: &Array, f: &mut fmt::Formatter<W>) -> fmt::Result
+    ensures { WritesOnOk W.write_str_gives f.old result (source (array (items_view items.now.items))) f.new }
+{
+    f.write_str("[")?;
+    list_items(items, f)?;
+    f.write_str("]")
+}
+
+fn write_object_source<W: fmt::Write>(members: &Object, f: &mut fmt::Formatter<W>) -> fmt::Result
+    ensures { WritesOnOk W.write_str_gives f.old result (source (object (members_view members.now.entries))) f.new }
+{
+    f.write_str("{")?;
+    list_members(members, f)?;
+    f.write_str("}")
 }
 
 fn list_items<W: fmt::Write>(items: &Array, f: &mut fmt::Formatter<W>) -> fmt::Result

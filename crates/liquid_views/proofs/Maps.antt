@@ -13,49 +13,50 @@ use Rattle.liquid_value.specs.Members.{get_member, put_member, member_count}
 use Rattle.liquid_value.specs.Tree.{Tree, Members, member}
 use Rattle.liquid_views.specs.Trees.{members_by}
 
-pub has_no_members_of_map : {V : Type 0} (tree : V → Tree) (es : List (String Global × V)) → has_no_members (members_by tree es) ≡ (length es == 0)
-has_no_members_of_map tree [] = refl
-has_no_members_of_map tree (e ∷ es) = search rules
+pub has_no_members_of_map : {K V : Type 0} (index : K → List ℕ) (tree : V → Tree) (es : List (K × V)) → has_no_members (members_by index tree es) ≡ (length es == 0)
+has_no_members_of_map index tree [] = refl
+has_no_members_of_map index tree (e ∷ es) = search rules
 
-pub count_of_map : {V : Type 0} (tree : V → Tree) (es : List (String Global × V)) → member_count (members_by tree es) ≡ length es
-count_of_map tree [] = refl
-count_of_map tree (e ∷ es) = ap suc (count_of_map tree es)
+pub count_of_map : {K V : Type 0} (index : K → List ℕ) (tree : V → Tree) (es : List (K × V)) → member_count (members_by index tree es) ≡ length es
+count_of_map index tree [] = refl
+count_of_map index tree (e ∷ es) = ap suc (count_of_map index tree es)
 
 found_or : {V : Type 0} (tree : V → Tree) (o : Ordering) (v : V) (rest : Option V) (more : Option Tree) → option_map tree rest ≡ more → option_map tree (cond (is_eq o) (Some v) rest) ≡ match_ordering o more (Some (tree v)) more
 found_or tree Less v rest more e = e
 found_or tree Equal v rest more e = refl
 found_or tree Greater v rest more e = e
 
-pub value_of_map : {V : Type 0} (tree : V → Tree) (name : List ℕ) (es : List (String Global × V))
-    → option_map tree (lookup (is_at (λ k. slice_cmp nat_cmp name (string_bytes k))) es) ≡ get_member name (members_by tree es)
-value_of_map tree name [] = refl
-value_of_map tree name (e ∷ es) = found_or tree (slice_cmp nat_cmp name (string_bytes e.0)) e.1 _ _ (value_of_map tree name es)
+pub value_of_map : {K V : Type 0} (index : K → List ℕ) (tree : V → Tree) (name : List ℕ) (es : List (K × V))
+    → option_map tree (lookup (is_at (λ k. slice_cmp nat_cmp name (index k))) es) ≡ get_member name (members_by index tree es)
+value_of_map index tree name [] = refl
+value_of_map index tree name (e ∷ es) = found_or tree (slice_cmp nat_cmp name (index e.0)) e.1 _ _ (value_of_map index tree name es)
 
 is_some-map : {V : Type 0} (tree : V → Tree) (r : Option V) → is_some (option_map tree r) ≡ is_some r
 is_some-map tree None = refl
 is_some-map tree (Some v) = refl
 
-pub found_of_map : {V : Type 0} (tree : V → Tree) (name : List ℕ) (es : List (String Global × V))
-    → is_some (lookup (is_at (λ k. slice_cmp nat_cmp name (string_bytes k))) es) ≡ is_some (get_member name (members_by tree es))
-found_of_map tree name es = sym (is_some-map tree _) ∙ ap is_some (value_of_map tree name es)
+pub found_of_map : {K V : Type 0} (index : K → List ℕ) (tree : V → Tree) (name : List ℕ) (es : List (K × V))
+    → is_some (lookup (is_at (λ k. slice_cmp nat_cmp name (index k))) es) ≡ is_some (get_member name (members_by index tree es))
+found_of_map index tree name es = sym (is_some-map tree _) ∙ ap is_some (value_of_map index tree name es)
 
-below_middle : {V : Type 0} (name : String Global) (es : List (String Global × V)) (e : String Global × V) (more : List (String Global × V)) → AllByRecursion (λ y. string_cmp name y ≡ Less) (keys_of (es ++ e ∷ more)) → string_cmp name e.0 ≡ Less
-below_middle name [] e more h = h.0
-below_middle name (x ∷ es) e more h = below_middle name es e more h.1
+below_middle : {K V : Type 0} (cmp : K → K → Ordering) (key : K) (es : List (K × V)) (e : K × V) (more : List (K × V)) → AllByRecursion (λ y. cmp key y ≡ Less) (keys_of (es ++ e ∷ more)) → cmp key e.0 ≡ Less
+below_middle cmp key [] e more h = h.0
+below_middle cmp key (x ∷ es) e more h = below_middle cmp key es e more h.1
 
--- a name above those before it goes last
-pub put_last : {V : Type 0} (tree : V → Tree) (done : List (String Global × V)) (e : String Global × V) (more : List (String Global × V)) → IsStrictlySortedBy string_cmp (keys_of (done ++ e ∷ more))
-    → put_member (string_bytes e.0) (tree e.1) (members_by tree done) ≡ members_by tree (done ++ e ∷ [])
+-- a key above those before it goes last, where keys are ordered as their texts
+pub put_last : {K V : Type 0} (index : K → List ℕ) (cmp : K → K → Ordering) → ((x y : K) → cmp x y ≡ slice_cmp nat_cmp (index x) (index y))
+    → (tree : V → Tree) (done : List (K × V)) (e : K × V) (more : List (K × V)) → IsStrictlySortedBy cmp (keys_of (done ++ e ∷ more))
+    → put_member (index e.0) (tree e.1) (members_by index tree done) ≡ members_by index tree (done ++ e ∷ [])
 unfolding IsStrictlySortedBy
-put_last tree [] e more h = refl
-put_last tree (first ∷ done) e more h =
-    let above : slice_cmp nat_cmp (string_bytes e.0) (string_bytes first.0) ≡ Greater =
-    nat_list_cmp_total.antisymm (string_bytes e.0) (string_bytes first.0) ∙ ap ordering_reverse (below_middle first.0 done e more h.0) in
-    rw above (ap (member (string_bytes first.0) (tree first.1)) (put_last tree done e more h.1))
+put_last index cmp ordered tree [] e more h = refl
+put_last index cmp ordered tree (first ∷ done) e more h =
+    let above : slice_cmp nat_cmp (index e.0) (index first.0) ≡ Greater =
+    nat_list_cmp_total.antisymm (index e.0) (index first.0) ∙ ap ordering_reverse (sym (ordered first.0 e.0) ∙ below_middle cmp first.0 done e more h.0) in
+    rw above (ap (member (index first.0) (tree first.1)) (put_last index cmp ordered tree done e more h.1))
 
 -- the text of the entries so far and the text of this one, before the text of those behind it
-pub map_turn : {V : Type 0} (tree : V → Tree) (text : Members → List ℕ) (piece : List ℕ → Tree → List ℕ) → ((key : List ℕ) (t : Tree) (ms : Members) → text (member key t ms) ≡ piece key t ++ text ms)
-    → (whole done : List ℕ) (es left : List (String Global × V)) (key : String Global) (v : V) → es ≡ (key, v) ∷ left
-    → whole ≡ done ++ text (members_by tree es) → whole ≡ (done ++ piece (string_bytes key) (tree v)) ++ text (members_by tree left)
-map_turn tree text piece step whole done es left key v is e =
-    e ∙ ap (λ ms. done ++ text (members_by tree ms)) is ∙ ap (λ more. done ++ more) (step _ _ _) ∙ sym (append_assoc done (piece (string_bytes key) (tree v)) _)
+pub map_turn : {K V : Type 0} (index : K → List ℕ) (tree : V → Tree) (text : Members → List ℕ) (piece : List ℕ → Tree → List ℕ) → ((key : List ℕ) (t : Tree) (ms : Members) → text (member key t ms) ≡ piece key t ++ text ms)
+    → (whole done : List ℕ) (es left : List (K × V)) (key : K) (v : V) → es ≡ (key, v) ∷ left
+    → whole ≡ done ++ text (members_by index tree es) → whole ≡ (done ++ piece (index key) (tree v)) ++ text (members_by index tree left)
+map_turn index tree text piece step whole done es left key v is e =
+    e ∙ ap (λ ms. done ++ text (members_by index tree ms)) is ∙ ap (λ more. done ++ more) (step _ _ _) ∙ sym (append_assoc done (piece (index key) (tree v)) _)

@@ -20,6 +20,3 @@ pub use index::ObjectIndex;
 pub use kind::ViewKind;
 pub use object::{ObjectRender, ObjectSource, ObjectView};
 pub use view::{ValueView, ViewRender, ViewSource};
-
-#[cfg(test)]
-mod tests;

@@ -8,6 +8,7 @@ ghost use Rattle.liquid_value.specs.View.{members_view};
 ghost use Rattle.liquid_value.specs.Names.{names};
 ghost use Rattle.liquid_views.specs.Trees.{members_by};
 
+use crate::index::ObjectIndex;
 use crate::kind::ViewKind;
 use crate::view::ValueView;
 use liquid_value::{Object, Value, ValueCow};
@@ -39,8 +40,8 @@ pub trait ObjectView: ValueView {
     ghost holds: { (s : Self) → Self.tree s ≡ object (members s) };
 }
 
-impl<V: ValueView> ValueView for BTreeMap<String, V> {
-    ghost tree = { λ m. object (members_by V.tree m.entries) };
+impl<K: ObjectIndex, V: ValueView> ValueView for BTreeMap<K, V> {
+    ghost tree = { λ m. object (members_by K.index V.tree m.entries) };
 
     #[tactic(auto, using(crate::proofs::Maps::has_no_members_of_map))]
     fn kind(&self) -> ViewKind<'_> {
@@ -53,7 +54,7 @@ impl<V: ValueView> ValueView for BTreeMap<String, V> {
 
     fn write_render<W: fmt::Write>(&self, f: &mut fmt::Formatter<W>) -> fmt::Result {
         for (key, value) in self.iter() {
-            write_member(key.as_str(), value, f)?;
+            write_member(key.as_index(), value, f)?;
         }
         Ok(())
     }
@@ -65,15 +66,15 @@ impl<V: ValueView> ValueView for BTreeMap<String, V> {
     }
 }
 
-fn copy_members<V: ValueView>(
+fn copy_members<K: ObjectIndex, V: ValueView>(
     alloc: Global,
-    members: &BTreeMap<String, V>,
+    members: &BTreeMap<K, V>,
 ) -> Result<Object, AllocError>
-    ensures { IfOk result (λ m. members_view m.entries ≡ members_by V.tree members.now.entries) }
+    ensures { IfOk result (λ m. members_view m.entries ≡ members_by K.index V.tree members.now.entries) }
 {
     let mut copies = Object::new(alloc);
     for (key, member) in members.iter() {
-        let name = key.clone()?;
+        let name = String::from_str(alloc, key.as_index())?;
         drop(copies.insert(name, member.to_value(alloc)?)?);
     }
     Ok(copies)
@@ -90,14 +91,14 @@ pub(crate) fn write_member<V: ValueView, W: fmt::Write>(
     value.write_render(f)
 }
 
-fn list_members<V: ValueView, W: fmt::Write>(
-    members: &BTreeMap<String, V>,
+fn list_members<K: ObjectIndex, V: ValueView, W: fmt::Write>(
+    members: &BTreeMap<K, V>,
     f: &mut fmt::Formatter<W>,
 ) -> fmt::Result
-    ensures { WritesOnOk W.write_str_gives f.old result (listed_members (members_by V.tree members.now.entries)) f.new }
+    ensures { WritesOnOk W.write_str_gives f.old result (listed_members (members_by K.index V.tree members.now.entries)) f.new }
 {
     for (key, value) in members.iter() {
-        list_member(key.as_str(), value, f)?;
+        list_member(key.as_index(), value, f)?;
     }
     Ok(())
 }
@@ -116,8 +117,8 @@ pub(crate) fn list_member<V: ValueView, W: fmt::Write>(
     f.write_str(", ")
 }
 
-impl<V: ValueView> ObjectView for BTreeMap<String, V> {
-    ghost members = { λ m. members_by V.tree m.entries };
+impl<K: ObjectIndex, V: ValueView> ObjectView for BTreeMap<K, V> {
+    ghost members = { λ m. members_by K.index V.tree m.entries };
 
     ghost holds = { λ m. refl };
 
@@ -128,12 +129,12 @@ impl<V: ValueView> ObjectView for BTreeMap<String, V> {
 
     #[tactic(auto, using(crate::proofs::Maps::found_of_map))]
     fn contains_key(&self, index: &str) -> bool {
-        BTreeMap::contains_key(self, index)
+        K::value_in(self, index).is_some()
     }
 
     #[tactic(auto, using(crate::proofs::Maps::value_of_map))]
     fn lookup(&self, alloc: Global, index: &str) -> Result<Option<ValueCow<'_>>, AllocError> {
-        match self.get(index) {
+        match K::value_in(self, index) {
             Some(value) => Ok(Some(value.to_cow(alloc)?)),
             None => Ok(None),
         }
@@ -142,7 +143,7 @@ impl<V: ValueView> ObjectView for BTreeMap<String, V> {
     fn keys(&self, alloc: Global) -> Result<Vec<&str>, AllocError> {
         let mut names = Vec::with_capacity(alloc, self.len())?;
         for (key, _) in self.iter() {
-            names.push(key.as_str())?;
+            names.push(key.as_index())?;
         }
         Ok(names)
     }

@@ -1,8 +1,8 @@
-use Rattle.std.proofs.Common.{◌≡◌, List, ◌++◌, String, Global}
+use Rattle.std.proofs.Common.{◌≡◌, List, ◌++◌}
 use Rattle.liquid_value.specs.View.{members_view}
 use Rattle.liquid_views.specs.Trees.{members_by}
 use Rattle.liquid_views.proofs.object.copy_members.Given as goal
 
 abbrev pub invariant-loop-key : goal.invariant-loop-key
 invariant-loop-key g l =
-    (done : List (String Global × g.row.V.Denot)) × (l.members.entries ≡ done ++ l.key-iterator) × (members_view l.copies.entries ≡ members_by g.V.ValueView.tree done)
+    (done : List (g.row.K.Denot × g.row.V.Denot)) × (l.members.entries ≡ done ++ l.key-iterator) × (members_view l.copies.entries ≡ members_by g.K.ObjectIndex.index g.V.ValueView.tree done)

@@ -1,36 +1,52 @@
-use Rattle.std.proofs.Common.{[], refl}
+use Rattle.std.proofs.Common.{[], refl, ◌∙◌}
 use Rattle.std.specs.Str.{chars}
 use Rattle.liquid_dates.specs.Pattern.{IsFront, print}
-use Rattle.liquid_dates.proofs.FormatLemmas.{printed_item, printed_more, printed_shorter, refuses, prints, formats_once, refuses_only}
+use Rattle.liquid_dates.proofs.FormatLemmas.{cut_at, cut_front, cut_shorter, copied_rest, printed_directive, printed_more, printed_shorter, refuses, formats_once, refuses_only}
 use Rattle.liquid_dates.proofs.date_time.DateTime.format.Goals as goal
 
-pub items-init : goal.items-init
+pub directives-init : goal.directives-init
 unfolding IsFront print
-items-init c = ([], refl, c.new-out.ensures.bytes, c.utf8.pattern)
+directives-init c = ([], refl, c.in_ok-out.ensures.bytes, c.utf8.pattern)
 
-pub items-smaller : goal.items-smaller
-items-smaller c =
-    printed_shorter _ _ _ _ _ (printed_item _ _ c.in-Some.first (chars c.in-Some.after.now) _ _ _ c.in-Some.ensures.cases c.in-Ok.ensures.ok)
+pub directives-smaller : goal.directives-smaller
+directives-smaller c =
+    let (items, front, bytes, utf8) = c.directives.invariant in
+    let cut = rw c.in-Some.is at (cut_at _ c.split_once.result utf8 c.split_once.ensures.cases) in
+    cut_shorter _ _ _ _ cut (printed_shorter _ _ _ _ _ (printed_directive _ (chars c.in-Some.behind.now) _ _ _ c.in-Ok.ensures.ok))
 
-pub items-preserved : goal.items-preserved
-items-preserved c =
-    let (items, front, bytes, utf8) = c.items.invariant in
-    let printed = printed_item _ _ c.in-Some.first (chars c.in-Some.after.now) _ _ _ c.in-Some.ensures.cases c.in-Ok.ensures.ok in
-    let more = printed_more _ _ _ _ _ _ items front bytes printed in
+pub directives-preserved : goal.directives-preserved
+directives-preserved c =
+    let (items, front, bytes, utf8) = c.directives.invariant in
+    let cut = rw c.in-Some.is at (cut_at _ c.split_once.result utf8 c.split_once.ensures.cases) in
+    let copied = cut_front c.args.self.now _ _ _ _ _ items front bytes cut in
+    let printed = printed_directive _ (chars c.in-Some.behind.now) _ _ _ c.in-Ok.ensures.ok in
+    let more = printed_more _ _ _ _ _ _ copied.0 copied.1 (c.in_ok-push_str.ensures.bytes ∙ copied.2) printed in
     (more.0, more.1, more.2, c.in-Ok.ensures.utf8)
 
 pub returns-in-Err-clause-refused : goal.returns-in-Err-clause-refused
 returns-in-Err-clause-refused c =
-    let (items, front, bytes, utf8) = c.items.invariant in
-    refuses c.args.self.now _ _ c.in-Some.first (chars c.in-Some.after.now) items c.in-Err.error front c.in-Some.ensures.cases c.in-Err.ensures.err
+    let (items, front, bytes, utf8) = c.directives.invariant in
+    let cut = rw c.in-Some.is at (cut_at _ c.split_once.result utf8 c.split_once.ensures.cases) in
+    let copied = cut_front c.args.self.now _ _ _ _ _ items front bytes cut in
+    refuses c.args.self.now _ (chars c.in-Some.behind.now) copied.0 c.in-Err.error copied.1 c.in-Err.ensures.err
 
 pub returns-in-Err-clause-only : goal.returns-in-Err-clause-only
 returns-in-Err-clause-only c = λ answer formats.
-    let (items, front, bytes, utf8) = c.items.invariant in
+    let (items, front, bytes, utf8) = c.directives.invariant in
+    let cut = rw c.in-Some.is at (cut_at _ c.split_once.result utf8 c.split_once.ensures.cases) in
+    let copied = cut_front c.args.self.now _ _ _ _ _ items front bytes cut in
     refuses_only c.args.self.now _ c.in-Err.error answer formats
-    (refuses c.args.self.now _ _ c.in-Some.first (chars c.in-Some.after.now) items c.in-Err.error front c.in-Some.ensures.cases c.in-Err.ensures.err)
+    (refuses c.args.self.now _ (chars c.in-Some.behind.now) copied.0 c.in-Err.error copied.1 c.in-Err.ensures.err)
+
+pub returns-clause-text : goal.returns-clause-text
+returns-clause-text c =
+    let (items, front, bytes, utf8) = c.directives.invariant in
+    let none = rw c.in_default.is at (cut_at _ c.split_once.result utf8 c.split_once.ensures.cases) in
+    rw c.in_ok-push_str-2.ensures.bytes (copied_rest c.args.self.now _ _ _ items front bytes utf8 none)
 
 pub returns-clause-only : goal.returns-clause-only
 returns-clause-only c = λ answer formats.
-    let (items, front, bytes, utf8) = c.items.invariant in
-    formats_once c.args.self.now _ answer _ formats (prints c.args.self.now _ _ _ items front bytes c.in_default.ensures.cases)
+    let (items, front, bytes, utf8) = c.directives.invariant in
+    let none = rw c.in_default.is at (cut_at _ c.split_once.result utf8 c.split_once.ensures.cases) in
+    rw c.in_ok-push_str-2.ensures.bytes
+    (formats_once c.args.self.now _ answer _ formats (copied_rest c.args.self.now _ _ _ items front bytes utf8 none))

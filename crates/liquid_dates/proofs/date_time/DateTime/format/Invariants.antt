@@ -4,10 +4,10 @@ use Rattle.std.specs.String.{string_bytes}
 use Rattle.liquid_dates.specs.Pattern.{Item, IsFront, print}
 use Rattle.liquid_dates.proofs.date_time.DateTime.format.Given as goal
 
-abbrev pub invariant-items : goal.invariant-items
-invariant-items l =
+abbrev pub invariant-directives : goal.invariant-directives
+invariant-directives l =
     (items : List Item) × IsFront (chars l.pattern) items (chars l.rest)
     × (string_bytes l.out ≡ print l.self items) × IsUtf8 l.rest
 
-abbrev pub decreases-items : goal.decreases-items
-decreases-items l = length (chars l.rest)
+abbrev pub decreases-directives : goal.decreases-directives
+decreases-directives l = length (chars l.rest)

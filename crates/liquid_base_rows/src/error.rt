@@ -1,0 +1,198 @@
+//! Errors with their texts, their causes, and what each helper of a result adds.
+use liquid_error::{
+    CauseOf, CloneableError, Error, Place, ResultLiquidChainExt, ResultLiquidExt,
+    ResultLiquidReplaceExt,
+};
+use std::alloc::{AllocError, Global};
+use std::process::Abort;
+use std::test::Fail;
+
+#[test]
+fn errors_have_texts(rt: HostRuntime) -> Result<(), Fail> {
+    let alloc = rt.alloc();
+    let error = Error::with_msg(alloc, "a")
+        .context(alloc, "k", "v")
+        .trace(alloc, "b")
+        .context(alloc, "l", "w")
+        .context(alloc, "m", "x")
+        .trace(alloc, "c");
+    assert_eq!(rt;
+        error.to_string(alloc)?.as_str(),
+        "liquid: a\n  with:\n    k=v\nfrom: b\n  with:\n    l=w\n    m=x\nfrom: c\n"
+    );
+    assert!(rt; !error.is_memory());
+    assert_eq!(rt; error.place(), None);
+    assert!(rt; error.source().is_none());
+    assert!(rt; error.into_err::<u8>().is_err());
+    let place = Place {
+        line: 2,
+        column: 13,
+    };
+    let placed = Error::at_place(alloc, "Invalid liquid", place);
+    assert_eq!(rt;
+        placed.to_string(alloc)?.as_str(),
+        "liquid: Invalid liquid (line 2, column 13)\n"
+    );
+    assert_eq!(rt; placed.place(), Some(place));
+    let starved = Error::Memory.trace(alloc, "a").context(alloc, "k", "v");
+    assert!(rt; starved.is_memory());
+    assert_eq!(rt;
+        starved.to_string(alloc)?.as_str(),
+        "liquid: out of memory\n"
+    );
+    Ok(())
+}
+
+/// An error with two causes, one behind the other.
+fn caused(alloc: Global) -> Result<Error, AllocError> {
+    let kept = CloneableError::new(alloc, Error::with_msg(alloc, "a"))?;
+    let middle = Error::with_msg(alloc, "b").cause(CauseOf::Cloneable(kept.clone()?));
+    let middle = Box::new(alloc, middle)?;
+    Ok(Error::with_msg(alloc, "c").cause(CauseOf::Error(middle)))
+}
+
+fn behind(error: &Error) -> Option<&Error> {
+    match error.source()? {
+        CauseOf::Error(inner) => Some(inner),
+        CauseOf::Cloneable(_) => None,
+    }
+}
+
+#[test]
+fn a_clone_has_the_same_causes(rt: HostRuntime) -> Result<(), Fail> {
+    let alloc = rt.alloc();
+    let copy = caused(alloc)?.clone()?;
+    assert_eq!(rt; copy.to_string(alloc)?.as_str(), "liquid: c\n");
+    let middle = behind(&copy).ok_or("an error")?;
+    assert_eq!(rt; middle.to_string(alloc)?.as_str(), "liquid: b\n");
+    let last = middle.source().ok_or("a cause")?.clone()?;
+    assert_eq!(rt; last.to_string(alloc)?.as_str(), "liquid: a\n\n");
+    Ok(())
+}
+
+fn refused(alloc: Global) -> liquid_error::Result<u8> {
+    Error::with_msg(alloc, "a").into_err()
+}
+
+/// Asserts that the error of the answer prints this text, and its cause that one.
+fn shows(
+    rt: &impl Abort,
+    alloc: Global,
+    answer: liquid_error::Result<u8>,
+    text: &str,
+    cause: &str,
+) -> Result<(), Fail> {
+    let error = answer.err().ok_or("an error")?;
+    let shown = error.to_string(alloc)?;
+    assert_eq!(rt; shown.as_str(), text);
+    let source = match error.source() {
+        Some(source) => source.to_string(alloc)?,
+        None => String::new(alloc),
+    };
+    assert_eq!(rt; source.as_str(), cause);
+    Ok(())
+}
+
+fn made(alloc: Global) -> Result<String, AllocError> {
+    String::from_str(alloc, "b")
+}
+
+#[test]
+fn errors_are_chained_and_replaced(rt: HostRuntime) -> Result<(), Fail> {
+    let alloc = rt.alloc();
+    let new = "liquid: b\n";
+    let kept = "liquid: a\n";
+    let text = || made(alloc);
+    shows(&rt, alloc, refused(alloc).chain(alloc, "b"), new, kept)?;
+    shows(
+        &rt,
+        alloc,
+        refused(alloc).chain_with(alloc, text),
+        new,
+        kept,
+    )?;
+    let lossy = "liquid: a\n\n";
+    shows(
+        &rt,
+        alloc,
+        refused(alloc).lossy_chain(alloc, "b"),
+        new,
+        lossy,
+    )?;
+    shows(
+        &rt,
+        alloc,
+        refused(alloc).lossy_chain_with(alloc, text),
+        new,
+        lossy,
+    )?;
+    shows(&rt, alloc, refused(alloc).replace(alloc, "b"), new, "")?;
+    shows(
+        &rt,
+        alloc,
+        refused(alloc).replace_with(alloc, text),
+        new,
+        "",
+    )?;
+    let starved: liquid_error::Result<u8> = Err(Error::Memory);
+    let memory = "liquid: out of memory\n";
+    shows(&rt, alloc, starved.replace(alloc, "b"), memory, "")
+}
+
+#[test]
+fn contexts_are_added(rt: HostRuntime) -> Result<(), Fail> {
+    let alloc = rt.alloc();
+    let made = || made(alloc);
+    let with = "liquid: a\n  with:\n    b=b\n";
+    shows(
+        &rt,
+        alloc,
+        refused(alloc).context_key("b").value(alloc, "b"),
+        with,
+        "",
+    )?;
+    shows(
+        &rt,
+        alloc,
+        refused(alloc).context_key("b").value_with(alloc, made),
+        with,
+        "",
+    )?;
+    shows(
+        &rt,
+        alloc,
+        refused(alloc).context_key_with(made).value(alloc, "b"),
+        with,
+        "",
+    )?;
+    shows(
+        &rt,
+        alloc,
+        refused(alloc).context_key_with(made).value_with(made),
+        with,
+        "",
+    )
+}
+
+#[test]
+fn traces_are_added_to_an_error_alone(rt: HostRuntime) -> Result<(), Fail> {
+    let alloc = rt.alloc();
+    let traced = "liquid: a\nfrom: b\n";
+    shows(&rt, alloc, refused(alloc).trace(alloc, "b"), traced, "")?;
+    shows(
+        &rt,
+        alloc,
+        refused(alloc).trace_with(alloc, || made(alloc)),
+        traced,
+        "",
+    )?;
+    let mut calls = 0u8;
+    let fine: liquid_error::Result<u8> = Ok(7);
+    let same = fine.trace_with(alloc, || {
+        calls = 1;
+        made(alloc)
+    });
+    assert!(rt; matches!(same, Ok(7)));
+    assert_eq!(rt; calls, 0);
+    Ok(())
+}

@@ -1,2 +1,0 @@
-mod errors;
-mod helpers;

@@ -1,8 +1,0 @@
-use Rattle.std.proofs.Common.{◌≡◌, ◌++◌, map}
-use Rattle.liquid_value.specs.Names.{names}
-use Rattle.liquid_views.specs.Trees.{members_by}
-use Rattle.liquid_views.proofs.object.BTreeMapStringObjectView.keys.Given as goal
-
-abbrev pub invariant-loop-key : goal.invariant-loop-key
-invariant-loop-key g l =
-    names (members_by g.V.ValueView.tree l.self.entries) ≡ map (λ key. key.now) l.names.items ++ names (members_by g.V.ValueView.tree l.key-iterator)
