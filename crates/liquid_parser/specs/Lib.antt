@@ -1,2 +1,5 @@
 pub mod Tree
+pub mod NodesOf
+pub mod Handed
+pub mod Lang
 pub mod Reading
