@@ -142,12 +142,12 @@ as_variable (literal t) = None
 
 abbrev pub as_literal : ExpressionShape → Option Tree
 as_literal (literal t) = Some t
-as_literal (variable name indexes) = None
+as_literal (variable name rest) = None
 
 -- the name of a variable without indexes
 abbrev pub as_identifier : ExpressionShape → Option (List ℕ)
 as_identifier (variable (text name) no_indexes) = Some name
-as_identifier (variable name indexes) = None
+as_identifier (variable name rest) = None
 as_identifier (literal t) = None
 
 abbrev pub expect_value : Token → Option ExpressionShape

@@ -1,5 +1,6 @@
 -- What a language gives to the reading: its filters, tags and blocks, each by its name, as functions over what they are handed.
-use Rattle.std.specs.Prelude.{ℕ, Bool, List, [], ◌∷◌, ◌++◌, Option, Some, None, Result, Ok, Err, codes}
+use Rattle.std.specs.Prelude.{ℕ, Bool, List, [], ◌∷◌, Option, Some, None, Result, Ok, Err, codes}
+use Rattle.std.specs.List.{join_by}
 use Rattle.liquid_error.specs.Refusal.{Refusal}
 use Rattle.liquid_plugins.specs.Expression.{ExpressionShape}
 use Rattle.liquid_plugins.specs.Chain.{ChainShape}
@@ -22,8 +23,6 @@ pub data Body : Type 0 where
 
 -- what a block means, over filters of shape F: P is what it plans while it is read, B what it has become at its end
 pub record BlockMeaning (F P B : Type 0) : Type 0 where
-  pub start_name : List ℕ
-  pub end_name : List ℕ
   pub dividers : List (List ℕ)
   pub escapes : Bool
   pub nests : Bool
@@ -31,17 +30,21 @@ pub record BlockMeaning (F P B : Type 0) : Type 0 where
   pub divide : P → List ℕ → Tokens → Result P Refusal
   pub finish : P → Body → Result B Refusal
 
+-- a block with the names of its start tag and its end tag
+pub record Block (F P B : Type 0) : Type 0 where
+  pub start_name : List ℕ
+  pub end_name : List ℕ
+  pub means : BlockMeaning F P B
+
 -- a language whose filters, tags, plans and blocks have these shapes
 pub record Lang (F T P B : Type 0) : Type 0 where
   pub filters : Filters F
   pub tags : Registry (Filters F → Tokens → Result T Refusal)
-  pub blocks : Registry (BlockMeaning F P B)
+  pub blocks : Registry (Block F P B)
 
 -- names joined by `, `
 abbrev pub listed : List (List ℕ) → List ℕ
-listed [] = []
-listed (name ∷ []) = name
-listed (name ∷ next ∷ names) = name ++ (codes ", " ++ listed (next ∷ names))
+listed = join_by (λ name. name) (codes ", ")
 
 abbrev pub made : {F : Type 0} → Result F Refusal → Option F
 made (Ok x) = Some x

@@ -3,3 +3,5 @@ pub mod NodesOf
 pub mod Handed
 pub mod Lang
 pub mod Reading
+pub mod Plugins
+pub mod Views

@@ -13,7 +13,7 @@ use Rattle.liquid_plugins.specs.Chain.{ChainShape}
 use Rattle.liquid_plugins.specs.ArgumentsOf.{Arguments}
 use Rattle.liquid_parser.specs.Tree.{NodeShape, text_node, chain_node, tag_node, block_node, nodes_from, parts_from}
 use Rattle.liquid_parser.specs.Handed.{expression_meant, arguments_meant, Tokens, handed, expect_nothing, place_in, slice_between}
-use Rattle.liquid_parser.specs.Lang.{Filters, Lang, BlockMeaning, Body, parts, escaped, listed}
+use Rattle.liquid_parser.specs.Lang.{Filters, Lang, Block, Body, parts, escaped, listed}
 
 -- how many blocks may be open at once
 abbrev pub block_limit : ℕ
@@ -99,7 +99,7 @@ escape end_name start_name nests level so_far (e ∷ es) =
 -- a block that is open: what it is, where the name of its start tag stands, its plan, the nodes before it in the list that it
 -- stands in, and its parts up to its last divider
 pub record Open (F T P B : Type 0) : Type 0 where
-  pub kind : BlockMeaning F P B
+  pub kind : Block F P B
   pub place : List ℕ
   pub plan : P
   pub before : List (NodeShape F T B)
@@ -127,7 +127,7 @@ module _ {F T P B : Type 0} (source : List ℕ) where
   -- the innermost block ends: it is a node of the list that it stands in
   abbrev pub finished : Open F T P B → List (Open F T P B) → Body → List (List (NodeShape F T B)) → Result (State F T P B) Refusal
   finished b blocks body of =
-      ok_then (placed_at (place_in source b.place) (b.kind.finish b.plan body))
+      ok_then (placed_at (place_in source b.place) (b.kind.means.finish b.plan body))
       (λ made. Ok (among blocks (b.before ++ block_with made of ∷ [])))
 
   -- a tag of the innermost block's end name ends it; a token behind the name is refused
@@ -142,8 +142,8 @@ module _ {F T P B : Type 0} (source : List ℕ) where
   abbrev pub as_divider : List (Open F T P B) → List (NodeShape F T B) → token.Tag → Option (Result (State F T P B) Refusal)
   as_divider [] nodes t = None
   as_divider (b ∷ blocks) nodes t =
-      if list_any (bytes_eq t.0) b.kind.dividers
-      then Some (ok_then (placed_at (place_in source (name_place t)) (b.kind.divide b.plan t.0 (handed source t)))
+      if list_any (bytes_eq t.0) b.kind.means.dividers
+      then Some (ok_then (placed_at (place_in source (name_place t)) (b.kind.means.divide b.plan t.0 (handed source t)))
       (λ plan. Ok (among (record b { plan = plan; parts = b.parts ++ nodes ∷ [] } ∷ blocks) [])))
       else None
 
@@ -176,8 +176,8 @@ module _ {F T P B : Type 0} (l : Lang F T P B) (source : List ℕ) (outside : �
   as_block blocks nodes t =
       option_map (λ kind.
       if nat_lt (outside + length blocks) block_limit
-      then (ok_then (placed_at (place_in source (name_place t)) (kind.begin l.filters (handed source t)))
-      (λ plan. Ok (entered kind.escapes (record { kind = kind; place = name_place t; plan = plan; before = nodes; parts = [] }) blocks)))
+      then (ok_then (placed_at (place_in source (name_place t)) (kind.means.begin l.filters (handed source t)))
+      (λ plan. Ok (entered kind.means.escapes (record { kind = kind; place = name_place t; plan = plan; before = nodes; parts = [] }) blocks)))
       else Err (refused_at source (codes "Nested too deep") (name_place t)))
       (l.blocks.get t.0)
 
@@ -204,7 +204,7 @@ module _ {F T P B : Type 0} (l : Lang F T P B) (source : List ℕ) (outside : �
 
   abbrev pub step : State F T P B → Element → List ℕ → Result (State F T P B) Refusal
   step (among blocks nodes) e behind = element_read blocks nodes e behind
-  step (inside b blocks level so_far) e behind = escape_read source b blocks so_far (text_of e) (level_behind b.kind.end_name b.kind.start_name b.kind.nests level e)
+  step (inside b blocks level so_far) e behind = escape_read source b blocks so_far (text_of e) (level_behind b.kind.end_name b.kind.start_name b.kind.means.nests level e)
 
   -- the elements are handed out from left to right, and the first refusal is the answer
   abbrev pub read : State F T P B → List Element → Result (List (NodeShape F T B)) Refusal

@@ -1,6 +1,15 @@
 //! From template text to nodes: the reading of a text.
 #![tactic(auto)]
 
+pub mod block;
+pub mod body;
+mod cursor;
+pub mod language;
 pub mod node;
+mod place;
+mod stack;
+mod steps;
+pub mod tag;
+pub mod tokens;
 
 pub use node::Node;
