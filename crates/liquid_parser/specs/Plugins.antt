@@ -1,12 +1,12 @@
 -- What the tokens, bodies and plug-ins of the program mean to the reading.
-use Rattle.std.specs.Prelude.{◌≡◌, ℕ, List, map, option_map, Result, string_bytes, String}
-use Rattle.std.specs.BTreeMap.{get_by_text, keys}
+use Rattle.std.specs.Prelude.{◌≡◌, ℕ, List, option_map, Result}
+use Rattle.std.specs.FinMap.{get, keys}
 use Rattle.liquid_error.specs.Refusal.{Refusal}
 use Rattle.liquid_grammar.specs.Rules.{Repeated, At, ◌▷◌}
 use Rattle.liquid_grammar.specs.Grammar.{White}
 use Rattle.liquid_grammar.specs.Tokens as token
 use Rattle.liquid_grammar.specs.Tokens.{TokenRule}
-use Rattle.liquid_plugins.specs.declared.registry.PluginRegistry.{PluginRegistry}
+use Rattle.liquid_runtime.specs.Maps.{NameMap}
 use Rattle.liquid_plugins.specs.ArgumentsOf.{Arguments}
 use Rattle.liquid_parser.specs.declared.tokens.TagTokenIter.{TagTokenIter}
 use Rattle.liquid_parser.specs.declared.body.BlockBody.{BlockBody}
@@ -23,8 +23,8 @@ pub record AreTokens (t : TagTokenIter) (ts : Tokens) : Type 0 where
   pub is : ts ≡ handed t.source.now tag
 
 -- plug-ins by what each of them means
-abbrev pub registry_of : {A P : Type 0} → (P → A) → PluginRegistry P → Registry A
-registry_of of r = record { get = λ name. option_map of (get_by_text r.plugins name); names = map string_bytes (keys r.plugins) }
+abbrev pub registry_of : {A P : Type 0} → (P → A) → NameMap P → Registry A
+registry_of of plugins = record { get = λ name. option_map of (get plugins name); names = keys plugins }
 
 -- blocks with the names that they tell themselves
 abbrev pub block_of : {K F P B : Type 0} → (start_name end_name : K → List ℕ) → (K → BlockMeaning F P B) → K → Block F P B

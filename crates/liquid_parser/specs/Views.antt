@@ -1,9 +1,7 @@
 -- What the parser's stack means to the reading.
-use Rattle.std.specs.Prelude.{◌≡◌, ℕ, ◌+◌, List, [], ◌∷◌, ◌++◌, length, map, reverse, Option, Some, None, Result, Ok, Err, IfSome}
+use Rattle.std.specs.Prelude.{◌≡◌, ℕ, ◌+◌, List, [], ◌∷◌, ◌++◌, length, map, reverse, Result, Ok, Err, unwrap_or, if◌then◌else◌, nat_lt, codes}
 use Rattle.std.specs.Option.{option_or}
-use Rattle.liquid_error.specs.declared.error.Error.{Error}
 use Rattle.liquid_error.specs.Refusal.{Refusal, ok_then}
-use Rattle.liquid_error.specs.Told.{told}
 use Rattle.liquid_grammar.specs.Tokens as token
 use Rattle.liquid_parser.specs.declared.node.Node.{Node}
 use Rattle.liquid_parser.specs.declared.stack.HandedTag.{HandedTag}
@@ -15,7 +13,7 @@ use Rattle.liquid_parser.specs.Tree.{NodeShape, tag_node}
 use Rattle.liquid_parser.specs.NodesOf.{shapes_of}
 use Rattle.liquid_parser.specs.Handed.{Tokens, handed, place_in, expect_nothing}
 use Rattle.liquid_parser.specs.Lang.{Filters, Lang, Block, parts}
-use Rattle.liquid_parser.specs.Reading.{Open, State, among, inside, as_end, as_divider, as_tag, as_block, name_place, placed_at, block_with}
+use Rattle.liquid_parser.specs.Reading.{Open, State, among, inside, as_tag, as_block, unknown_tag, entered, block_limit, refused_at, name_place, placed_at, block_with}
 use Rattle.liquid_parser.specs.Plugins.{AreTokens}
 
 -- a tag of the program stands for one of the source
@@ -69,16 +67,13 @@ module _ {F T P B : Type 0} (source : List ℕ) (t : token.Tag) where
       ok_then (placed_at (place_in source b.place) (b.kind.means.finish b.plan (parts (length b.parts + 1))))
       (λ made. Ok (b.before ++ block_with made (b.parts ++ nodes ∷ []) ∷ [])))
 
--- an answer of the first that answers at all; want of memory says nothing
-abbrev pub Asks : {A B : Type 0} → (A → B) → Result (Option A) Error → Option (Result B Refusal) → Type 0
-Asks f (Ok (Some a)) meant = meant ≡ Some (Ok (f a))
-Asks f (Ok None) meant = meant ≡ None
-Asks f (Err e) meant = IfSome (told e) (λ r. meant ≡ Some (Err r))
+-- a tag of the language, else a block of it, else a refusal
+abbrev pub outer_read : {F T P B : Type 0} → Lang F T P B → List ℕ → token.Tag → List (Open F T P B) → List (NodeShape F T B) → Result (State F T P B) Refusal
+outer_read l source t blocks nodes = unwrap_or (option_or (as_tag l source 0 blocks nodes t) (as_block l source 0 blocks nodes t)) (Err (unknown_tag l source 0 t))
 
--- the innermost block's end, else a divider of it
-abbrev pub inner_asked : {F T P B : Type 0} → List ℕ → token.Tag → Open F T P B → List (Open F T P B) → List (NodeShape F T B) → Option (Result (State F T P B) Refusal)
-inner_asked source t b blocks nodes = option_or (as_end source (b ∷ blocks) nodes t) (as_divider source (b ∷ blocks) nodes t)
-
--- a tag of the language, else a block of it
-abbrev pub outer_asked : {F T P B : Type 0} → Lang F T P B → List ℕ → token.Tag → List (Open F T P B) → List (NodeShape F T B) → Option (Result (State F T P B) Refusal)
-outer_asked l source t blocks nodes = option_or (as_tag l source 0 blocks nodes t) (as_block l source 0 blocks nodes t)
+-- a block begins in so many open ones, unless these are too many
+abbrev pub block_begun : {F T P B : Type 0} → Lang F T P B → List ℕ → token.Tag → Block F P B → List (Open F T P B) → List (NodeShape F T B) → Result (State F T P B) Refusal
+block_begun l source t kind blocks nodes =
+    if nat_lt (length blocks) block_limit
+    then ok_then (begun source t l.filters kind nodes) (λ b. Ok (entered l source 0 kind.means.escapes b blocks))
+    else Err (refused_at source (codes "Nested too deep") (name_place t))

@@ -8,9 +8,7 @@ ghost use Rattle.liquid_parser.specs.Plugins.{AreTokens, registry_of, body_of};
 use crate::body::BlockBody;
 use crate::tokens::TagTokenIter;
 use liquid_error::Error;
-use liquid_plugins::filter::ParseFilter;
-use liquid_plugins::meant::Meant;
-use liquid_plugins::registry::PluginRegistry;
+use liquid_plugins::{Meant, ParseFilter, PluginRegistry};
 use std::alloc::Global;
 
 /// What a block tells about itself.

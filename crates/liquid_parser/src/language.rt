@@ -1,6 +1,6 @@
 //! Languages.
 
-use liquid_plugins::registry::PluginRegistry;
+use liquid_plugins::PluginRegistry;
 
 /// What a template may use: filters, tags and blocks, each by its name.
 #[derive(Drop)]

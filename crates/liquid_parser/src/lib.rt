@@ -1,10 +1,12 @@
 //! From template text to nodes: the reading of a text.
 #![tactic(auto)]
 
+mod asked;
 pub mod block;
 pub mod body;
 mod cursor;
 pub mod language;
+mod names;
 pub mod node;
 mod place;
 mod stack;

@@ -1,6 +1,6 @@
 //! The nodes of a template.
 
-use liquid_plugins::expression::FilterChain;
+use liquid_plugins::FilterChain;
 
 /// A part of a template that is rendered by itself: over the filters `X` of its chains, what tags are made to, `T`, and what
 /// blocks are made to, `B`.

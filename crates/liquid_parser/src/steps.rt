@@ -15,8 +15,7 @@ use crate::place::place_in;
 use crate::stack::{HandedTag, OpenBlock, ParserState};
 use crate::tag::ParseTag;
 use liquid_error::Error;
-use liquid_plugins::filter::ParseFilter;
-use liquid_plugins::registry::PluginRegistry;
+use liquid_plugins::{ParseFilter, PluginRegistry};
 use std::alloc::Global;
 
 /// The node of a tag.
@@ -68,7 +67,10 @@ pub(crate) fn divided<'a, F: ParseFilter, T: ParseTag<F>, B: ParseBlock<F>>(
     ensures { (source : List ℕ) (t : token.Tag) → IsHanded tag.entry source t
         → Gives (λ _. open_view F.Filter.shape T.Node.shape B.Node.shape B.Plan.shape (block_of B.start_name B.end_name B.meaning) block.new) result (parted source t (open_view F.Filter.shape T.Node.shape B.Node.shape B.Plan.shape (block_of B.start_name B.end_name B.meaning) block.old) (shapes_of F.Filter.shape T.Node.shape B.Node.shape nodes.items)) }
 {
-    match block.kind.divide(alloc, &mut block.plan, tag.name, tag.tokens) {
+    match block
+        .kind
+        .divide(alloc, &mut block.plan, tag.name, tag.tokens)
+    {
         Ok(()) => {
             block.parts.push(nodes)?;
             Ok(())
