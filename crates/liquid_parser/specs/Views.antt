@@ -74,6 +74,6 @@ outer_read l source t blocks nodes = unwrap_or (option_or (as_tag l source 0 blo
 -- a block begins in so many open ones, unless these are too many
 abbrev pub block_begun : {F T P B : Type 0} → Lang F T P B → List ℕ → token.Tag → Block F P B → List (Open F T P B) → List (NodeShape F T B) → Result (State F T P B) Refusal
 block_begun l source t kind blocks nodes =
-    if nat_lt (length blocks) block_limit
+    if nat_lt (0 + length blocks) block_limit
     then ok_then (begun source t l.filters kind nodes) (λ b. Ok (entered l source 0 kind.means.escapes b blocks))
     else Err (refused_at source (codes "Nested too deep") (name_place t))

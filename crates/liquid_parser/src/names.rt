@@ -25,5 +25,10 @@ pub(crate) fn listed<P: Drop>(
 pub(crate) fn is_among(names: &[&str], name: &str) -> bool
     ensures { result ≡ list_any (bytes_eq name.now) (map (λ n. n.now) names.now) }
 {
-    names.iter().any(|other| name == *other)
+    for other in names {
+        if name == *other {
+            return true;
+        }
+    }
+    false
 }
