@@ -1,8 +1,10 @@
 -- What a tag is asked, from the steps of the parser.
-use Rattle.std.proofs.Common.{◌≡◌, ◌+◌, ℕ, Bool, true, false, List, [], ◌∷◌, ◌++◌, length, Option, Some, None, Result, Ok, Err, refl, sym, ap, ◌∙◌}
+use Rattle.std.proofs.Common.{◌≡◌, ◌+◌, ℕ, Bool, true, false, List, [], ◌∷◌, ◌++◌, length, Option, Some, None, Result, Ok, Err, refl, sym, ap, ◌∙◌, subst}
 use Rattle.std.specs.Prelude.{IfSome, bytes_eq, map, reverse, nat_lt, if◌then◌else◌, codes}
 use Rattle.std.proofs.lemmas.List.{map_push, reverse-append, length-reverse, length-map}
 use Rattle.std.specs.List.{list_any}
+use Rattle.liquid_error.specs.declared.error.Error.{Error}
+use Rattle.liquid_error.specs.Told.{Gives}
 use Rattle.liquid_error.specs.Refusal.{Refusal, ok_then}
 use Rattle.liquid_grammar.specs.Tokens as token
 use Rattle.liquid_parser.specs.Tree.{NodeShape, tag_node}
@@ -47,6 +49,10 @@ then_err (Some x) r m k e h = e ∙ ap (λ n. ok_then n k) h
 pub err_now : {C : Type 0} (told : Option Refusal) (r : Result C Refusal) (x : Refusal) → r ≡ Err x → IfSome told (λ y. y ≡ x) → IfSome told (λ y. r ≡ Err y)
 err_now None r x e h = tt
 err_now (Some y) r x e h = e ∙ ap (λ z. Err z) (sym h)
+
+-- the answer of another call
+pub with_outer : {A C : Type 0} (f : A → C) (r m : Result C Refusal) (result : Result A Error) → r ≡ m → Gives f result m → Gives f result r
+with_outer f r m result e h = subst (λ x. Gives f result x) (sym e) h
 
 -- the block that is pushed last is the innermost
 pub push_block : {A C : Type 0} (f : A → C) (old : List A) (a : A) {new : List A} → new ≡ old ++ a ∷ [] → reverse (map f new) ≡ f a ∷ reverse (map f old)

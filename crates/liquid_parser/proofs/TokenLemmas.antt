@@ -54,13 +54,13 @@ some_token {s = s} {rest = rest} (x ∷ ts) source w t (more {middle = middle} m
 -- the same of a cursor
 pub none_expected : (t : TagTokenIter) (ts : Tokens) (rest white : List ℕ) → AreTokens t ts → White t.rest.now rest white → ¬ (Begins TokenRule rest) → expect_nothing ts ≡ Ok tt
 none_expected t ts rest white a w none =
-    let tokens : Repeated (White ▷ TokenRule) t.rest.now a.tag.1.behind a.tag.1.what = subst (λ p. Repeated (White ▷ TokenRule) p a.tag.1.behind a.tag.1.what) a.begins a.match.match in
+    let tokens : Repeated (White ▷ TokenRule) t.rest.now a.tag.1.behind a.tag.1.what = subst (λ p. Repeated (White ▷ TokenRule) p a.tag.1.behind a.tag.1.what) a.begins a.match in
     ap (λ x. none_left (Tokens.left x)) a.is ∙ ap (λ ys. none_left (map (handed_token t.source.now) ys)) (no_tokens w none tokens)
 
 pub one_expected : (t : TagTokenIter) (ts : Tokens) (rest left white : List ℕ) (shape : Token) → AreTokens t ts → White t.rest.now rest white → TokenRule rest left shape
     → expect_nothing ts ≡ Err (located (codes "Unexpected token") (place_in t.source.now rest))
 one_expected t ts rest left white shape a w found =
-    let tokens : Repeated (White ▷ TokenRule) t.rest.now a.tag.1.behind a.tag.1.what = subst (λ p. Repeated (White ▷ TokenRule) p a.tag.1.behind a.tag.1.what) a.begins a.match.match in
+    let tokens : Repeated (White ▷ TokenRule) t.rest.now a.tag.1.behind a.tag.1.what = subst (λ p. Repeated (White ▷ TokenRule) p a.tag.1.behind a.tag.1.what) a.begins a.match in
     ap (λ x. none_left (Tokens.left x)) a.is ∙ some_token a.tag.1.what t.source.now w found tokens
 
 pub if_some_weaker : {A : Type 0} {P Q : A → Type 0} (o : Option A) → ((x : A) → P x → Q x) → IfSome o P → IfSome o Q

@@ -2,7 +2,7 @@
 use Rattle.std.specs.Prelude.{◌≡◌, ℕ, List, option_map, Result}
 use Rattle.std.specs.FinMap.{get, keys}
 use Rattle.liquid_error.specs.Refusal.{Refusal}
-use Rattle.liquid_grammar.specs.Rules.{Repeated, At, ◌▷◌}
+use Rattle.liquid_grammar.specs.Rules.{Repeated, ◌▷◌}
 use Rattle.liquid_grammar.specs.Grammar.{White}
 use Rattle.liquid_grammar.specs.Tokens as token
 use Rattle.liquid_grammar.specs.Tokens.{TokenRule}
@@ -19,7 +19,7 @@ use Rattle.liquid_parser.specs.Lang.{Registry, Filters, Lang, Block, BlockMeanin
 pub record AreTokens (t : TagTokenIter) (ts : Tokens) : Type 0 where
   pub tag : token.Tag
   pub begins : tag.1.place ≡ t.rest.now
-  pub match : At (Repeated (White ▷ TokenRule)) tag.1.place tag.1.behind tag.1
+  pub match : Repeated (White ▷ TokenRule) tag.1.place tag.1.behind tag.1.what
   pub is : ts ≡ handed t.source.now tag
 
 -- plug-ins by what each of them means
