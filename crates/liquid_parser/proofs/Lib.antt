@@ -1,3 +1,5 @@
 pub mod TokenLemmas
 pub mod StepLemmas
 pub mod AskedLemmas
+pub mod Shapes
+pub mod Indexes

@@ -5,3 +5,4 @@ pub mod Lang
 pub mod Reading
 pub mod Plugins
 pub mod Views
+pub mod Built

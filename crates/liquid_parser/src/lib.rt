@@ -3,6 +3,7 @@
 
 mod asked;
 pub mod block;
+mod build;
 pub mod body;
 mod cursor;
 pub mod language;
