@@ -3,3 +3,9 @@ pub mod StepLemmas
 pub mod AskedLemmas
 pub mod Shapes
 pub mod Indexes
+pub mod ArgumentsLeft
+pub mod FiltersLeft
+pub mod ReadingSteps
+pub mod EscapeLemmas
+pub mod ElementLemmas
+pub mod Slices

@@ -1,14 +1,18 @@
 //! From template text to nodes: the reading of a text.
 #![tactic(auto)]
 
+mod arguments;
 mod asked;
 pub mod block;
 mod build;
 pub mod body;
 mod cursor;
+mod escape;
+mod filters;
 pub mod language;
 mod names;
 pub mod node;
+pub mod parser;
 mod place;
 mod stack;
 mod steps;
