@@ -1,12 +1,21 @@
 //! From template text to nodes: the reading of a text.
 #![tactic(auto)]
 
+mod arguments;
+mod asked;
+pub mod block;
+mod build;
+pub mod body;
+mod cursor;
+mod escape;
+mod filters;
 pub mod language;
-pub mod node;
+mod names;
 pub mod parser;
-#[cfg(test)]
-mod tests;
+mod place;
+mod stack;
+mod steps;
+pub mod tag;
+pub mod tokens;
 
-pub use language::Language;
-pub use node::Node;
-pub use parser::{one_reading, parse};
+pub use liquid_tree::Node;

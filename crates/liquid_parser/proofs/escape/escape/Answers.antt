@@ -1,0 +1,24 @@
+use Rattle.std.proofs.Common.{◌≡◌, sym, ap, ◌∙◌, arith, rules}
+use Rattle.liquid_grammar.proofs.TextLemmas.{IsCharBoundary-before_rest}
+use Rattle.liquid_parser.proofs.EscapeLemmas.{going_next, going_end, going_none, going_behind}
+use Rattle.liquid_parser.proofs.Slices.{front_ends, front_is}
+use Rattle.liquid_parser.proofs.escape.escape.Goals as goal
+
+pub elements-preserved : goal.elements-preserved
+elements-preserved c =
+    let found = c.in-Some.ensures.found in
+    (search rules, omega (arith, c.in-Some-2.ensures.within, c.in-Some.ensures.shorter, c.elements.invariant.1),
+    going_next _ _ _ _ _ _ found.0 _ _ c.elements.invariant.2 found.1 (sym (c.in-Some-2.ensures.value _ _ found.0 found.1 found.2)))
+
+pub split_at-requires : goal.split_at-requires
+split_at-requires c = ?
+
+pub returns-in-None-clause-value : goal.returns-in-None-clause-value
+returns-in-None-clause-value c es cover =
+    let found = c.in-Some.ensures.found in
+    going_end _ _ _ _ _ _ _ found.0 _ c.elements.invariant.2 found.1 (sym (c.in-None.ensures.value _ _ found.0 found.1 found.2)) ? es cover
+
+pub returns-in-None-clause-within : goal.returns-in-None-clause-within
+returns-in-None-clause-within c =
+    let found = c.in-Some.ensures.found in
+    going_behind _ _ _ _ _ _ found.0 _ c.elements.invariant.2 found.1
