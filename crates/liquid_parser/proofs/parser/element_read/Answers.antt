@@ -22,4 +22,4 @@ returns-in-Tag g c e is m = c.tag_element.ensures c.args.place.now c.args.behind
 
 pub returns : goal.returns
 returns g c e is m =
-    invalid_step (language_of g.F.ParseFilter.makes g.T.ParseTag.gives (block_of g.B.BlockReflection.start_name g.B.BlockReflection.end_name g.B.ParseBlock.meaning) c.args.language.now) c.args.source.now (blocks_view g.F.Filter.Meant.shape g.T.Node.Meant.shape g.B.Node.Meant.shape g.B.Plan.Meant.shape (block_of g.B.BlockReflection.start_name g.B.BlockReflection.end_name g.B.ParseBlock.meaning) c.args.state.open.items) (shapes_of g.F.Filter.Meant.shape g.T.Node.Meant.shape g.B.Node.Meant.shape c.args.state.nodes.items) _ _ c.args.place.now c.args.behind.now _ _ e is (rw c.in-Invalid.is at m) c.match_white.ensures.value c.refused_at.ensures
+    invalid_step (language_of g.F.ParseFilter.makes g.T.ParseTag.gives (block_of g.B.BlockReflection.start_name g.B.BlockReflection.end_name g.B.ParseBlock.meaning) c.args.language.now) c.args.source.now (blocks_view g.F.Filter.Meant.shape g.T.Node.Meant.shape g.B.Node.Meant.shape g.B.Plan.Meant.shape (block_of g.B.BlockReflection.start_name g.B.BlockReflection.end_name g.B.ParseBlock.meaning) c.args.state.open.items) (shapes_of g.F.Filter.Meant.shape g.T.Node.Meant.shape g.B.Node.Meant.shape c.args.state.nodes.items) c.in-Invalid.field-0 _ c.args.place.now c.args.behind.now _ _ e is (rw c.in-Invalid.is at m) c.match_white.ensures.value c.refused_at.ensures
