@@ -203,17 +203,24 @@ fn expressions_are_copied_compared_and_taken_apart(rt: HostRuntime) -> Result<()
     let mut more = Vec::new(alloc);
     more.push(expression(alloc, Name("foo"), &[Word("bar")])?)?;
     variable.extend(more)?;
-    assert_eq!(rt; variable.to_string(alloc)?.as_str(), "foo[0][\"bar\"][foo[\"bar\"]]");
+    assert_eq!(rt;
+        variable.to_string(alloc)?.as_str(),
+        "foo[0][\"bar\"][foo[\"bar\"]]"
+    );
     let copy = variable.clone()?;
     assert!(rt; copy == variable);
     assert!(rt; Expression::Variable(copy) == Expression::Variable(variable.clone()?));
     assert!(rt; Expression::Variable(variable.clone()?) != part_of(alloc, Name("foo"))?);
-    assert!(rt; Expression::Variable(variable.clone()?).into_literal().is_none());
-    let again = Expression::Variable(variable.clone()?).into_variable().unwrap();
-    assert!(rt; again == variable);
+    assert!(rt;
+        Expression::Variable(variable.clone()?)
+            .into_literal()
+            .is_none()
+    );
+    let again = Expression::Variable(variable.clone()?).into_variable();
+    assert!(rt; again == Some(variable));
     let literal = part_of(alloc, Word("a"))?;
     assert_eq!(rt; literal.to_string(alloc)?.as_str(), "\"a\"");
-    assert!(rt; literal.into_literal().unwrap() == Value::scalar(text(alloc, "a")?));
+    assert!(rt; literal.into_literal() == Some(Value::scalar(text(alloc, "a")?)));
     Ok(())
 }
 
@@ -225,16 +232,20 @@ fn what_is_tried_is_not_refused(rt: HostRuntime) -> Result<(), Fail> {
         let entry = expression(alloc, row.entry, row.indexes)?;
         let tried = entry.try_evaluate(alloc, &runtime)?;
         match entry.evaluate(alloc, &runtime) {
-            Ok(value) => assert!(rt; tried.unwrap() == value),
+            Ok(value) => assert!(rt; tried == Some(value)),
             Err(_) => assert!(rt; tried.is_none()),
         }
     }
-    let variable = expression(alloc, Name("box"), &[Name("word")])?;
-    let variable = variable.into_variable().unwrap();
-    assert_eq!(rt; variable.evaluate(alloc, &runtime)?.to_string(alloc)?.as_str(), "box.part");
+    let mut variable = Variable::with_literal(alloc, text(alloc, "box")?);
+    let mut more = Vec::new(alloc);
+    more.push(part_of(alloc, Name("word"))?)?;
+    variable.extend(more)?;
+    let path = variable.evaluate(alloc, &runtime)?.to_string(alloc)?;
+    assert_eq!(rt; path.as_str(), "box.part");
     assert!(rt; variable.try_evaluate(alloc, &runtime)?.is_some());
-    let variable = expression(alloc, Name("box"), &[Name("one")])?;
-    let variable = variable.into_variable().unwrap();
+    let mut more = Vec::new(alloc);
+    more.push(part_of(alloc, Name("one"))?)?;
+    variable.extend(more)?;
     assert!(rt; variable.evaluate(alloc, &runtime).is_err());
     assert!(rt; variable.try_evaluate(alloc, &runtime)?.is_none());
     Ok(())
@@ -253,29 +264,58 @@ fn called(
     }
 }
 
+/// Arguments of a filter whose input is 5, and what it makes of them.
+struct Call {
+    filter: Filters,
+    given: &'static [Part],
+    answer: &'static str,
+}
+
+const UNEXPECTED: &str = "liquid: Unexpected arguments\n";
+
+const CALLS: [Call; 6] = [
+    Call {
+        filter: Filters::Append,
+        given: &[Word("%")],
+        answer: "5%",
+    },
+    Call {
+        filter: Filters::Append,
+        given: &[],
+        answer: UNEXPECTED,
+    },
+    Call {
+        filter: Filters::Append,
+        given: &[Number(1), Number(2)],
+        answer: UNEXPECTED,
+    },
+    Call {
+        filter: Filters::Append,
+        given: &[Name("y")],
+        answer: "liquid: Unknown variable\n  with:\n    requested variable=y\n",
+    },
+    Call {
+        filter: Filters::Fail,
+        given: &[],
+        answer: "liquid: bad\n",
+    },
+    Call {
+        filter: Filters::Fail,
+        given: &[Number(1)],
+        answer: UNEXPECTED,
+    },
+];
+
 #[test]
 fn filters_are_called_without_a_template(rt: HostRuntime) -> Result<(), Fail> {
     let alloc = rt.alloc();
-    let unexpected = "liquid: Unexpected arguments\n";
-    let rows: [(Filters, &[Part], &str); 6] = [
-        (Filters::Append, &[Word("%")], "5%"),
-        (Filters::Append, &[], unexpected),
-        (Filters::Append, &[Number(1), Number(2)], unexpected),
-        (
-            Filters::Append,
-            &[Name("y")],
-            "liquid: Unknown variable\n  with:\n    requested variable=y\n",
-        ),
-        (Filters::Fail, &[], "liquid: bad\n"),
-        (Filters::Fail, &[Number(1)], unexpected),
-    ];
-    for (filter, given, answer) in &rows {
-        let text = called(alloc, *filter, arguments(alloc, given)?)?;
-        assert_eq!(rt; text.as_str(), *answer);
+    for call in &CALLS {
+        let text = called(alloc, call.filter, arguments(alloc, call.given)?)?;
+        assert_eq!(rt; text.as_str(), call.answer);
     }
     let mut given = arguments(alloc, &[Number(1)])?;
     given.keyword.push(("by", part_of(alloc, Number(2))?))?;
-    assert_eq!(rt; called(alloc, Filters::Append, given)?.as_str(), unexpected);
+    assert_eq!(rt; called(alloc, Filters::Append, given)?.as_str(), UNEXPECTED);
     assert_eq!(rt; Filters::Append.name(), "append");
     assert_eq!(rt; Filters::Append.positional_parameters()[0].name, "value");
     assert!(rt; Filters::Fail.keyword_parameters().is_empty());

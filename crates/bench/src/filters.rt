@@ -66,10 +66,7 @@ impl FilterParameters for AppendParameters {
 
     ghost evaluates = { λ e seen. evaluate seen e };
 
-    fn from_args(
-        alloc: Global,
-        arguments: FilterArguments<'_>,
-    ) -> Result<AppendParameters, Error> {
+    fn from_args(alloc: Global, arguments: FilterArguments<'_>) -> Result<AppendParameters, Error> {
         let mut positional = arguments.positional;
         if positional.len() != 1 || arguments.keyword.len() != 0 {
             return Err(unexpected_arguments(alloc));
@@ -81,11 +78,7 @@ impl FilterParameters for AppendParameters {
     }
 
     #[tactic(auto, using(liquid_plugins::proofs::ErasedLemmas::evaluate_erased))]
-    fn evaluate<'s, R: Runtime>(
-        &'s self,
-        alloc: Global,
-        runtime: &'s R,
-    ) -> Result<Value, Error> {
+    fn evaluate<'s, R: Runtime>(&'s self, alloc: Global, runtime: &'s R) -> Result<Value, Error> {
         match self.value.evaluate(alloc, runtime) {
             Ok(value) => Ok(value.into_owned()?),
             Err(error) => Err(error),
