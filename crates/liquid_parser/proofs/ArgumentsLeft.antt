@@ -1,5 +1,5 @@
 -- What is left of the arguments of a filter, behind those that were built.
-use Rattle.std.proofs.Common.{◌≡◌, ℕ, Bool, true, false, List, [], ◌∷◌, ◌++◌, Option, None, Some, refl, sym, ap, ◌∙◌}
+use Rattle.std.proofs.Common.{◌≡◌, ℕ, Bool, true, false, List, [], ◌∷◌, ◌++◌, Option, None, Some, Bor, refl, sym, ap, ◌∙◌, subst}
 use Rattle.std.specs.Prelude.{option_map}
 use Rattle.liquid_grammar.specs.declared.parts.ArgumentStart.{ArgumentStart}
 use Rattle.liquid_grammar.specs.Faults.{argument_fault, first_fault, value_fault}
@@ -8,6 +8,8 @@ use Rattle.liquid_grammar.specs.Tokens.{Argument, positional, keyword}
 use Rattle.liquid_grammar.specs.Values.{Value, ValueRule}
 use Rattle.liquid_plugins.specs.ArgumentsOf.{Arguments}
 use Rattle.liquid_plugins.specs.Expression.{ExpressionShape}
+use Rattle.liquid_plugins.specs.ExpressionOf.{expression_of}
+use Rattle.liquid_plugins.specs.declared.expression.Expression.{Expression}
 use Rattle.liquid_parser.specs.Handed.{arguments_meant, with_argument, expression_meant}
 use Rattle.liquid_parser.proofs.Indexes.{first_none, second_none}
 
@@ -76,3 +78,21 @@ pub left_none : (first : Bool) (s rest : List ℕ) (built meant : Arguments) →
 left_none first s rest built meant left n =
     sym (left.joined ∙ (ap (λ given. join built (arguments_meant given)) n.none
     ∙ (ap (λ p. record { positional = p; keyword = built.keyword ++ [] }) (append_none built.positional) ∙ ap (λ k. record { positional = built.positional; keyword = k }) (append_none built.keyword))))
+
+-- a keyword argument in the program
+abbrev pub key_of : Bor (List ℕ) × Expression → List ℕ × ExpressionShape
+key_of k = (k.0.now, expression_of k.1)
+
+pub keyword_then : (rest middle end : List ℕ) (built meant : Arguments) (o : Option (List ℕ)) (name : List ℕ) (e e' : ExpressionShape) (ks : List (List ℕ × ExpressionShape))
+    → Left false middle end (with_last o e built) meant → o ≡ Some name → e' ≡ e → rest ≡ middle → ks ≡ built.keyword ++ (name, e') ∷ [] → Left false rest end (record built { keyword = ks }) meant
+keyword_then rest middle end built meant o name e e' ks left named same behind is =
+    subst (λ r. Left false r end (record built { keyword = ks }) meant) (sym behind)
+    (subst (λ k. Left false middle end (record built { keyword = k }) meant) (sym (is ∙ ap (λ x. built.keyword ++ (name, x) ∷ []) same))
+    (subst (λ o'. Left false middle end (with_last o' e built) meant) named left))
+
+pub positional_then : (rest middle end : List ℕ) (built meant : Arguments) (o : Option (List ℕ)) (e e' : ExpressionShape) (es : List ExpressionShape)
+    → Left false middle end (with_last o e built) meant → o ≡ None → e' ≡ e → rest ≡ middle → es ≡ built.positional ++ e' ∷ [] → Left false rest end (record built { positional = es }) meant
+positional_then rest middle end built meant o e e' es left named same behind is =
+    subst (λ r. Left false r end (record built { positional = es }) meant) (sym behind)
+    (subst (λ k. Left false middle end (record built { positional = k }) meant) (sym (is ∙ ap (λ x. built.positional ++ x ∷ []) same))
+    (subst (λ o'. Left false middle end (with_last o' e built) meant) named left))

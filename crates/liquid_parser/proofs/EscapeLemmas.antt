@@ -38,9 +38,12 @@ module _ (body end_name start_name : List ℕ) (nests : Bool) where
     whole = g.whole ∙ (ap (λ r. g.so_far ++ r) is.joined ∙ sym (append_assoc g.so_far (text_of e) behind));
     onward = λ es c.
         let w = g.onward es c in
-        let t = taken rest behind e w.0 is w.1 in
-        (t.others, t.cover, w.2 ∙ (ap (escape end_name start_name nests level g.so_far) t.is
-        ∙ ap (λ o. option_map_or (λ n. escape end_name start_name nests n (g.so_far ++ text_of e) t.others) o (Some (g.so_far, t.others))) at));
+        let t = taken rest behind e w.0 is w.1 in (
+          t.others,
+          t.cover,
+          w.2 ∙ (ap (escape end_name start_name nests level g.so_far) t.is
+              ∙ ap (λ o. option_map_or (λ n. escape end_name start_name nests n (g.so_far ++ text_of e) t.others) o (Some (g.so_far, t.others))) at),
+        );
   }
 
   -- the end of the body
@@ -49,10 +52,13 @@ module _ (body end_name start_name : List ℕ) (nests : Bool) where
       → (es : List Element) → Cover body es → (left : List Element) × Cover behind left × (escape end_name start_name nests 0 [] es ≡ Some (text, left))
   going_end rest behind text e level g is at same es c =
       let w = g.onward es c in
-      let t = taken rest behind e w.0 is w.1 in
-      (t.others, t.cover, w.2 ∙ (ap (escape end_name start_name nests level g.so_far) t.is
-      ∙ (ap (λ o. option_map_or (λ n. escape end_name start_name nests n (g.so_far ++ text_of e) t.others) o (Some (g.so_far, t.others))) at
-      ∙ ap (λ x. Some (x, t.others)) same)))
+      let t = taken rest behind e w.0 is w.1 in (
+        t.others,
+        t.cover,
+        w.2 ∙ (ap (escape end_name start_name nests level g.so_far) t.is
+            ∙ (ap (λ o. option_map_or (λ n. escape end_name start_name nests n (g.so_far ++ text_of e) t.others) o (Some (g.so_far, t.others))) at
+            ∙ ap (λ x. Some (x, t.others)) same)),
+      )
 
   pub going_behind : (rest behind : List ℕ) (e : Element) (level : ℕ) → Going body end_name start_name nests rest level → IsElement rest behind e → (front : List ℕ) × (body ≡ front ++ behind)
   going_behind rest behind e level g is = (g.so_far ++ text_of e, g.whole ∙ (ap (λ r. g.so_far ++ r) is.joined ∙ sym (append_assoc g.so_far (text_of e) behind)))

@@ -1,6 +1,7 @@
 -- What is left of the filters of a chain, behind those that were made.
 use Rattle.std.proofs.Common.{◌≡◌, ℕ, List, [], ◌∷◌, ◌++◌, Option, Some, None, Result, Ok, Err, refl, sym, ap, ◌∙◌, subst}
-use Rattle.std.specs.Prelude.{IfSome}
+use Rattle.std.specs.Prelude.{IfSome, option_map}
+use Rattle.std.proofs.lemmas.Option.{same_Some}
 use Rattle.liquid_error.specs.Refusal.{Refusal, ok_then}
 use Rattle.liquid_grammar.specs.declared.parts.FilterStart.{FilterStart}
 use Rattle.liquid_grammar.specs.Faults.{filter_fault, first_fault}
@@ -9,7 +10,11 @@ use Rattle.liquid_grammar.specs.Rules.{Repeated, ends, more}
 use Rattle.liquid_grammar.specs.Tokens as token
 use Rattle.liquid_grammar.specs.Tokens.{Behind, FilterRule}
 use Rattle.liquid_parser.specs.Lang.{Filters}
-use Rattle.liquid_parser.specs.Reading.{filters_read, filter_or}
+use Rattle.liquid_grammar.proofs.TokenExact.{exact-filter}
+use Rattle.liquid_plugins.specs.ArgumentsOf.{Arguments}
+use Rattle.liquid_parser.specs.Handed.{arguments_meant, place_in, slice_between}
+use Rattle.liquid_parser.specs.Reading.{filters_read, filter_or, filter_refused, refusal_of_filter}
+use Rattle.liquid_parser.proofs.Slices.{front_ends}
 use Rattle.liquid_parser.proofs.Indexes.{first_none, second_none}
 
 -- filters behind others
@@ -81,3 +86,22 @@ module _ {F : Type 0} (filters : Filters F) (source : List ℕ) where
 
   pub left_none : (s rest : List ℕ) (made : List F) (meant : Result (List F) Refusal) → (left : Left s rest made meant) → NoneLeft s rest left.filters_left → meant ≡ Ok made
   left_none s rest made meant left n = left.joined ∙ (ap (λ fs. behind_all made (filters_read filters source fs)) n.none ∙ ap (λ xs. Ok xs) (append_none made))
+
+  -- what a filter makes of its arguments
+  pub made_ok : (make : Arguments → Result F Refusal) (f : token.Filter) (a : Arguments) (x : F) → filters.get f.what.0 ≡ Some make → a ≡ arguments_meant f.what.1 → make a ≡ Ok x
+      → filter_or filters source (filters.get f.what.0) f ≡ Ok x
+  made_ok make f a x has same is =
+      ap (λ o. filter_or filters source o f) has ∙ ap (filter_refused (place_in source f.place) (slice_between f.place f.behind)) (ap make (sym same) ∙ is)
+
+  pub made_err : (make : Arguments → Result F Refusal) (f : token.Filter) (a : Arguments) (o o' : Option Refusal) → filters.get f.what.0 ≡ Some make → a ≡ arguments_meant f.what.1
+      → IfSome o (λ r. make a ≡ Err r) → IfSome o' (λ r. option_map (refusal_of_filter (place_in source f.place) (slice_between f.place f.behind)) o ≡ Some r)
+      → IfSome o' (λ r. filter_or filters source (filters.get f.what.0) f ≡ Err r)
+  made_err make f a o None has same is new = tt
+  made_err make f a None (Some r) has same is new = cc new
+  made_err make f a (Some q) (Some r) has same is new =
+      ap (λ o. filter_or filters source o f) has
+      ∙ (ap (filter_refused (place_in source f.place) (slice_between f.place f.behind)) (ap make (sym same) ∙ is)
+      ∙ ap (λ x. Err x) (same_Some _ _ new))
+
+pub cut_here : (f : token.Filter) → FilterRule f.place f.behind f → f.place ≡ slice_between f.place f.behind ++ f.behind
+cut_here f m = let cut = exact-filter.cuts f.place f.behind f m in front_ends f.place cut.0 f.behind cut.1

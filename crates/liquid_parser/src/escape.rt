@@ -29,7 +29,13 @@ pub(crate) fn escaped_read<'a, F: ParseFilter, T: ParseTag<F>, B: ParseBlock<F>>
     body: &'a str,
     block: OpenBlock<'a, B, B::Plan, Node<F::Filter, T::Node, B::Node>>,
     around: Vec<OpenBlock<'a, B, B::Plan, Node<F::Filter, T::Node, B::Node>>>,
-) -> Result<(ParserState<'a, B, B::Plan, Node<F::Filter, T::Node, B::Node>>, &'a str), Error>
+) -> Result<
+    (
+        ParserState<'a, B, B::Plan, Node<F::Filter, T::Node, B::Node>>,
+        &'a str,
+    ),
+    Error,
+>
     ensures value { (l : Lang F.Filter.Shape T.Node.Shape B.Plan.Shape B.Node.Shape) (es : List cover.Element) → Cover body.now es
         → LeadsTo (state_view F.Filter.shape T.Node.shape B.Node.shape B.Plan.shape (block_of B.start_name B.end_name B.meaning)) l source.now result (read l source.now 0 (inside (open_view F.Filter.shape T.Node.shape B.Node.shape B.Plan.shape (block_of B.start_name B.end_name B.meaning) block.entry) (blocks_view F.Filter.shape T.Node.shape B.Node.shape B.Plan.shape (block_of B.start_name B.end_name B.meaning) around.entry.items) 0 []) es) }
     ensures within { IfOk result (λ p. (front : List ℕ) × (body.now ≡ front ++ p.1.now)) }

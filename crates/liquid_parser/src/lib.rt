@@ -4,8 +4,8 @@
 mod arguments;
 mod asked;
 pub mod block;
-mod build;
 pub mod body;
+mod build;
 mod cursor;
 mod escape;
 mod filters;

@@ -66,12 +66,16 @@ fn nodes_of<'a, F: ParseFilter + Drop, T: ParseTag<F> + Drop, B: ParseBlock<F> +
     };
     let mut rest = text;
     'elements: while let Some((element, behind)) = next_element(rest) {
-        match element_read(alloc, text, rest, state, element, behind, language) {
-            Ok(Next::Among(next)) => {
+        let step = match element_read(alloc, text, rest, state, element, behind, language) {
+            Ok(step) => step,
+            Err(error) => return Err(error),
+        };
+        match step {
+            Next::Among(next) => {
                 state = next;
                 rest = behind;
             }
-            Ok(Next::Escaped(block, around)) => {
+            Next::Escaped(block, around) => {
                 match escaped_read::<F, T, B>(alloc, text, behind, block, around) {
                     Ok((next, after)) => {
                         state = next;
@@ -80,7 +84,6 @@ fn nodes_of<'a, F: ParseFilter + Drop, T: ParseTag<F> + Drop, B: ParseBlock<F> +
                     Err(error) => return Err(error),
                 }
             }
-            Err(error) => return Err(error),
         }
     }
     ended::<F, T, B>(alloc, text, state)
@@ -102,7 +105,9 @@ fn element_read<'a, F: ParseFilter + Drop, T: ParseTag<F> + Drop, B: ParseBlock<
     match element {
         Element::Raw(text) => {
             let mut state = state;
-            state.nodes.push(Node::Text(String::from_str(alloc, text)?))?;
+            state
+                .nodes
+                .push(Node::Text(String::from_str(alloc, text)?))?;
             Ok(Next::Among(state))
         }
         Element::Expression(expression) => chain_read(alloc, source, state, expression, language),
