@@ -1,5 +1,5 @@
 -- Variables that are whole texts.
-use Rattle.std.proofs.Common.{◌≡◌, ℕ, List, [], ◌∷◌, Option, Some, None, Result, Ok, refl, sym, ap, ◌∙◌, subst, true, false, ◌==◌, length, arith, eqb-true}
+use Rattle.std.proofs.Common.{◌≡◌, ℕ, List, [], ◌∷◌, Option, Some, None, Ok, refl, sym, ap, ◌∙◌, subst, true, false, ◌==◌, length, arith, eqb-true}
 use Rattle.liquid_error.specs.Refusal.{ok_then}
 use Rattle.liquid_grammar.specs.Faults.{Fault, fault_within, value_fault, indexes_fault}
 use Rattle.liquid_grammar.specs.Grammar.{Identifier}

@@ -1,6 +1,5 @@
 -- The shapes of a template's nodes, from the shapes of what plug-ins made.
 use Rattle.std.specs.Prelude.{List, map, string_bytes}
-use Rattle.std.specs.Global.{Vec}
 use Rattle.liquid_plugins.specs.ExpressionOf.{chain_of}
 use Rattle.liquid_parser.specs.Tree.{NodeShape, text_node, chain_node, tag_node, block_node, Nodes, nodes_from, parts_from}
 use Rattle.liquid_parser.specs.declared.node.Node.{Node, fold-Node}

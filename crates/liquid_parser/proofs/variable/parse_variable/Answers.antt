@@ -1,4 +1,4 @@
-use Rattle.std.proofs.Common.{◌≡◌, [], sym, ap, ◌∙◌, subst, List, ℕ}
+use Rattle.std.proofs.Common.{◌≡◌, [], ap, ◌∙◌, subst, List, ℕ}
 use Rattle.liquid_grammar.specs.Faults.{value_fault}
 use Rattle.liquid_grammar.specs.Values.{Value, VariableRule}
 use Rattle.liquid_parser.proofs.VariableLemmas.{one_variable, no_bytes, some_bytes}
