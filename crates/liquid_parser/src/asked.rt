@@ -10,13 +10,13 @@ ghost use Rattle.liquid_parser.specs.Views.{IsHanded, open_view, blocks_view, ne
 use crate::block::ParseBlock;
 use crate::language::Language;
 use crate::names::{is_among, listed};
-use liquid_tree::Node;
 use crate::place::refused_at;
 use crate::stack::{HandedTag, Next, OpenBlock, ParserState};
 use crate::steps::{closed, divided, opened, tag_node};
 use crate::tag::ParseTag;
 use liquid_error::Error;
 use liquid_plugins::ParseFilter;
+use liquid_tree::Node;
 use std::alloc::Global;
 
 /// How many blocks may be open at once.

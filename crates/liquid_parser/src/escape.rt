@@ -12,7 +12,6 @@ ghost use Rattle.liquid_parser.specs.Reading.{inside, read, unclosed_by};
 ghost use Rattle.liquid_parser.specs.Views.{open_view, blocks_view, state_view};
 
 use crate::block::ParseBlock;
-use liquid_tree::Node;
 use crate::place::refused_at;
 use crate::stack::{OpenBlock, ParserState};
 use crate::steps::sliced;
@@ -20,6 +19,7 @@ use crate::tag::ParseTag;
 use liquid_error::Error;
 use liquid_grammar::{Element, next_element, next_token, parts_are_matches};
 use liquid_plugins::ParseFilter;
+use liquid_tree::Node;
 use std::alloc::{AllocError, Global};
 
 /// The escaped body of a block that has just begun is read to its end: how far the text is read then, and what follows.

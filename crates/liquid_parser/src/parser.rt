@@ -19,7 +19,6 @@ use crate::block::ParseBlock;
 use crate::escape::{escaped_read, unclosed};
 use crate::filters::parse_chain;
 use crate::language::Language;
-use liquid_tree::Node;
 use crate::place::{check, refused_at};
 use crate::stack::{HandedTag, Next, OpenBlock, ParserState};
 use crate::tag::ParseTag;
@@ -27,6 +26,7 @@ use crate::tokens::TagTokenIter;
 use liquid_error::Error;
 use liquid_grammar::{ChainText, Element, TagText, match_white, next_element, parts_are_matches};
 use liquid_plugins::ParseFilter;
+use liquid_tree::Node;
 use std::alloc::Global;
 
 /// The nodes of a template's text, in their order.

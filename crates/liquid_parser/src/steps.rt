@@ -10,12 +10,12 @@ ghost use Rattle.liquid_parser.specs.Views.{IsHanded, open_view, blocks_view, st
 
 use crate::block::ParseBlock;
 use crate::body::BlockBody;
-use liquid_tree::Node;
 use crate::place::place_in;
 use crate::stack::{HandedTag, OpenBlock, ParserState};
 use crate::tag::ParseTag;
 use liquid_error::Error;
 use liquid_plugins::{ParseFilter, PluginRegistry};
+use liquid_tree::Node;
 use std::alloc::Global;
 
 /// The node of a tag.

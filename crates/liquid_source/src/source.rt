@@ -9,10 +9,7 @@ ghost use Rattle.liquid_template.specs.Sunk.{sunk};
 ghost use Rattle.liquid_tree.specs.Tree.{NodeShape};
 
 use liquid_error::Error;
-use liquid_parser::block::ParseBlock;
-use liquid_parser::language::Language;
-use liquid_parser::parser::parse;
-use liquid_parser::tag::ParseTag;
+use liquid_parser::{Language, ParseBlock, ParseTag, parse};
 use liquid_plugins::{ParseFilter, Renderable};
 use liquid_runtime::Runtime;
 use liquid_template::{PartialStore, Sink, Template};
@@ -42,10 +39,10 @@ where
     ensures rendered { (answer : Result (List (NodeShape F.Filter.Shape T.Node.Shape B.Node.Shape)) Refusal)
         → Reads (language_of F.makes T.gives (block_of B.start_name B.end_name B.meaning) language.now) text.now answer
         → Rendered (setting R.Register.fresh F.Filter.answers F.Filter.shown T.Node.starts T.Node.count T.Node.tells B.Node.starts B.Node.count B.Node.tells (option_map R.Store.finds (R.store runtime.old)))
-            answer (R.view runtime.old)
-            (sunk (K.taken sink.old) (K.failures sink.old) (K.behind sink.old) (K.lent sink.old))
-            (sunk (K.taken sink.new) (K.failures sink.new) (K.behind sink.new) (K.lent sink.new))
-            (R.view runtime.new) result }
+        answer (R.view runtime.old)
+        (sunk (K.taken sink.old) (K.failures sink.old) (K.behind sink.old) (K.lent sink.old))
+        (sunk (K.taken sink.new) (K.failures sink.new) (K.behind sink.new) (K.lent sink.new))
+        (R.view runtime.new) result }
     ensures kept { R.restores runtime.new ≡ R.restores runtime.old }
     ensures finds { option_map R.Store.finds (R.store runtime.new) ≡ option_map R.Store.finds (R.store runtime.old) }
     ensures same { R.lent runtime.new ≡ R.lent runtime.old }
