@@ -3,3 +3,5 @@ pub mod StepLemmas
 pub mod AskedLemmas
 pub mod Shapes
 pub mod Indexes
+pub mod HandedLemmas
+pub mod ExpectLemmas

@@ -6,3 +6,4 @@ pub mod Reading
 pub mod Plugins
 pub mod Views
 pub mod Built
+pub mod Cursors
