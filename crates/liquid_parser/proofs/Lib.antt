@@ -5,3 +5,4 @@ pub mod Shapes
 pub mod Indexes
 pub mod HandedLemmas
 pub mod ExpectLemmas
+pub mod TagLemmas

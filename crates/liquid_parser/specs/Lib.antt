@@ -7,3 +7,4 @@ pub mod Plugins
 pub mod Views
 pub mod Built
 pub mod Cursors
+pub mod WholeTag

@@ -12,14 +12,17 @@ mod names;
 mod next_token;
 pub mod node;
 mod place;
+mod read_tag;
 mod stack;
 mod steps;
 pub mod tag;
+mod tag_cursor;
 mod tag_token;
 mod token;
 pub mod tokens;
 mod try_match;
 
 pub use node::Node;
+pub use tag_cursor::Tag;
 pub use tag_token::{TagToken, TryMatchToken};
 pub use tokens::TagTokenIter;
