@@ -1,1 +1,2 @@
 pub mod Drips
+pub mod Filters

@@ -1,6 +1,6 @@
 //! Templates with what they come to, through the calls that users make.
 use crate::dripping::Dripping;
-use liquid_core::model::{Array, Date, DateTime, Object, State, Value};
+use liquid_core::model::{Array, Date, DateTime, Object, ScalarCow, State, Value};
 use liquid_core::parser::{Language, parse};
 use liquid_core::runtime::{BuiltRuntime, Runtime, RuntimeBuilder, Template};
 use liquid_core::{Error, TextSink, render_source};
@@ -60,7 +60,10 @@ fn value_of(alloc: Global, given: Given) -> Result<Value, Fail> {
     })
 }
 
-fn runtime_of(alloc: Global, globals: &[(&'static str, Given)]) -> Result<BuiltRuntime, Fail> {
+fn runtime_of(
+    alloc: Global,
+    globals: &[(&'static str, Given)],
+) -> Result<BuiltRuntime<(), ()>, Fail> {
     let mut object = Object::new(alloc);
     for (name, given) in globals {
         object.insert(String::from_str(alloc, name)?, value_of(alloc, *given)?)?;
@@ -291,7 +294,7 @@ fn a_built_runtime_has_the_globals_alone(rt: HostRuntime) -> Result<(), Fail> {
     let runtime = runtime_of(alloc, &[("x", Given::Number(1))])?;
     assert!(rt; runtime.try_get_name("x").is_some());
     assert!(rt; runtime.try_get_name("y").is_none());
-    match runtime.get_name(alloc, "y") {
+    match runtime.get(alloc, &[ScalarCow::from("y")]) {
         Ok(_) => Err(Fail::from("y has a value")),
         Err(error) => {
             assert!(rt; error.place().is_none());

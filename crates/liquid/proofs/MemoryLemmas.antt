@@ -16,6 +16,6 @@ cut_at_once r at = record { part = []; left = written r; pieces = refl; taken = 
 
 pub nothing_rendered : (text : List ℕ) (globals : Names) (at : Sunk) (error : Error) → told error ≡ None → Renders text globals at at (Err error)
 nothing_rendered text globals at error memory (Ok nodes) reads =
-    subst (λ (o : Option Refusal). MatchOption o (Cut (run (built_view globals) nodes) at at) (Stopped (run (built_view globals) nodes) at at)) (sym memory) (cut_at_once (run (built_view globals) nodes) at)
+    subst (λ (o : Option Refusal). MatchOption o (Cut (run (built_view tt 32 globals) nodes) at at) (Stopped (run (built_view tt 32 globals) nodes) at at)) (sym memory) (cut_at_once (run (built_view tt 32 globals) nodes) at)
 nothing_rendered text globals at error memory (Err refusal) reads =
     (refl, subst (λ (o : Option Refusal). IfSome o (λ reason. reason ≡ refusal)) (sym memory) tt)

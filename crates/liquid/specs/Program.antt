@@ -11,7 +11,7 @@ use Rattle.liquid.specs.Globals.{globals_of}
 
 -- what the text is read as was rendered over a built runtime of these globals
 abbrev pub Renders : List ℕ → Names → Sunk → Sunk → Result (Unit {0}) Error → Type 0
-Renders text globals before after result = (answer : Answer) → Reads text answer → Rendered answer (built_view globals) before after result
+Renders text globals before after result = (answer : Answer) → Reads text answer → Rendered answer (built_view tt 32 globals) before after result
 
 -- 0 where the template was rendered, 1 where it was refused
 abbrev pub status_of : Result (Unit {0}) Error → ℕ

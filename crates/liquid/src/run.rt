@@ -12,7 +12,7 @@ use crate::fault::Fault;
 use crate::folder::{Folder, Unread};
 use crate::globals::globals;
 use liquid_core::parser::Language;
-use liquid_core::runtime::RuntimeBuilder;
+use liquid_core::runtime::{BuiltRuntime, RuntimeBuilder};
 use liquid_core::{Error, Object, Sink, WriterSink, render_source};
 use std::alloc::Global;
 use std::io::Write;
@@ -164,7 +164,8 @@ fn render_over<K: Sink>(
     ensures behind { Grows (K.taken sink.old) (K.behind sink.old) (K.taken sink.new) (K.behind sink.new) }
     ensures lent { K.lent sink.new ≡ K.lent sink.old }
 {
-    let mut runtime = RuntimeBuilder::new(alloc).set_globals(globals).build();
+    let mut runtime: BuiltRuntime<(), ()> =
+        RuntimeBuilder::new(alloc).set_globals(globals).build();
     let language = Language::empty(alloc);
     render_source(alloc, text, &language, &mut runtime, sink)
 }

@@ -16,6 +16,7 @@ pub mod error {
 /// Values.
 pub mod model {
     pub use liquid_dates::{Date, DateError, DateFormatError, DateTime};
+    pub use liquid_paths::{Path, PathIter, find, try_find};
     pub use liquid_scalar::{Scalar, ScalarCow, ScalarOf};
     pub use liquid_value::{Array, Object, State, Value, ValueCow, ValueViewCmp};
     pub use liquid_views::{
@@ -39,8 +40,10 @@ pub mod parser {
 /// Names and frames, and templates rendered over them.
 pub mod runtime {
     pub use liquid_runtime::{
-        BuiltRuntime, GlobalFrame, IndexFrame, Runtime, RuntimeBuilder, RuntimeCore, StackFrame,
+        BuiltRuntime, Frame, Fresh, GlobalFrame, IndexFrame, Interrupt, InterruptRegister,
+        Registers, Runtime, RuntimeBuilder, RuntimeCore, SandboxedStackFrame, Scopes, StackFrame,
     };
+    pub use liquid_scopes::ChainedScopes;
     pub use liquid_template::Template;
 }
 

@@ -1,5 +1,5 @@
 -- What a tag is asked, from the steps of the parser.
-use Rattle.std.proofs.Common.{◌≡◌, ◌+◌, ℕ, Bool, true, false, List, [], ◌∷◌, ◌++◌, length, Option, Some, None, Result, Ok, Err, refl, sym, ap, ◌∙◌, subst}
+use Rattle.std.proofs.Common.{◌≡◌, ◌+◌, ◌<◌, arith, ℕ, Bool, true, false, List, [], ◌∷◌, ◌++◌, length, Option, Some, None, Result, Ok, Err, refl, sym, ap, ◌∙◌, subst}
 use Rattle.std.specs.Prelude.{IfSome, bytes_eq, map, reverse, nat_lt, if◌then◌else◌, codes}
 use Rattle.std.proofs.lemmas.List.{map_push, reverse-append, length-reverse, length-map}
 use Rattle.std.specs.List.{list_any}
@@ -57,6 +57,10 @@ with_outer f r m result e h = subst (λ x. Gives f result x) (sym e) h
 -- the block that is pushed last is the innermost
 pub push_block : {A C : Type 0} (f : A → C) (old : List A) (a : A) {new : List A} → new ≡ old ++ a ∷ [] → reverse (map f new) ≡ f a ∷ reverse (map f old)
 push_block f old a e = ap (λ x. reverse (map f x)) e ∙ (ap reverse (map_push f old a) ∙ reverse-append (map f old) (f a ∷ []))
+
+pub nothing_left : {A : Type 0} (xs : List A) → (0 < length xs → false ≡ true) → xs ≡ []
+nothing_left [] none = refl
+nothing_left (x ∷ xs) none = cc (none (omega arith))
 
 pub blocks_count : {A C : Type 0} (f : A → C) (xs : List A) → length (reverse (map f xs)) ≡ length xs
 blocks_count f xs = length-reverse (map f xs) ∙ length-map xs f

@@ -50,10 +50,10 @@ no_value : (v : Value) (fs : List token.Filter) → is_value_kind (chain_kind v 
 no_value v [] e = let both : true ≡ false = sym (values_are v) ∙ e in cc
 no_value v (f ∷ fs) e = refl
 
-has_parts : (t : TagToken) (handed : Token) (is : IsToken t handed) (p : TokenParts) → t.text.parts ≡ p → HasParts p t.text.place.now t.text.rest.now is.matched
+pub has_parts : (t : TagToken) (handed : Token) (is : IsToken t handed) (p : TokenParts) → t.text.parts ≡ p → HasParts p t.text.place.now t.text.rest.now is.matched
 has_parts t handed is p e = subst (λ x. HasParts x t.text.place.now t.text.rest.now is.matched) e is.parts
 
-shape_of_parts : (t : TagToken) (handed : Token) (is : IsToken t handed) (matched : token.Token) → is.matched ≡ matched → handed.shape ≡ (handed_token t.source.now matched).shape
+pub shape_of_parts : (t : TagToken) (handed : Token) (is : IsToken t handed) (matched : token.Token) → is.matched ≡ matched → handed.shape ≡ (handed_token t.source.now matched).shape
 shape_of_parts t handed is matched e = ap (λ x. Token.shape x) is.is ∙ ap (λ x. Token.shape (handed_token t.source.now x)) e
 
 pub chain_value : (t : TagToken) (handed : Token) (k : TokenKind) → IsToken t handed → t.text.parts ≡ parts.Chain k → is_value_kind (token_kind_of k) ≡ true → IsValue t.text.place.now handed (token_kind_of k)
@@ -111,10 +111,6 @@ identifier_expected place handed k is = ap (λ s. option_and_then as_identifier 
 
 pub literal_expected : (place : List ℕ) (handed : Token) (k : Kind) → IsValue place handed k → expect_literal handed ≡ option_map literal_tree (literal_of_kind k)
 literal_expected place handed k is = ap (λ s. option_and_then as_literal (value_of s)) is.is ∙ (value_literal is.value ∙ ap (λ x. option_map literal_tree (literal_of_kind x)) (sym is.kind_is))
-
--- the two ends of a range
-pub range_parts : (t : TagToken) (handed : Token) (is : IsToken t handed) (p : TokenParts) → t.text.parts ≡ p → HasParts p t.text.place.now t.text.rest.now is.matched
-range_parts t handed is p e = has_parts t handed is p e
 
 -- literals, variables and identifiers are values
 pub values_of_kinds : (k : TokenKind) → ((l : CodeLiteral) × k ≡ kind.Literal l) ⊎ ((k ≡ kind.Variable) ⊎ ((name : Bor (List ℕ)) × k ≡ kind.Identifier name)) → is_value_kind (token_kind_of k) ≡ true

@@ -6,3 +6,10 @@ pub mod Indexes
 pub mod HandedLemmas
 pub mod ExpectLemmas
 pub mod TagLemmas
+pub mod ArgumentsLeft
+pub mod FiltersLeft
+pub mod ReadingSteps
+pub mod EscapeLemmas
+pub mod ElementLemmas
+pub mod Slices
+pub mod ChainMade

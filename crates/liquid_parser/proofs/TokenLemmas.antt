@@ -14,7 +14,7 @@ use Rattle.liquid_parser.specs.Handed as hand
 use Rattle.liquid_parser.specs.Handed.{Tokens, handed, handed_token, expect_nothing, none_left, unexpected, place_in}
 use Rattle.liquid_parser.specs.Plugins.{AreTokens}
 
-same_rest : (s a b v w : List ℕ) → White s a v → White s b w → a ≡ b
+pub same_rest : (s a b v w : List ℕ) → White s a v → White s b w → a ≡ b
 unfolding read.white
 same_rest s a b v w m n = ap (λ (x : List ℕ × List ℕ). x.1) (same_Some _ _ (sym (exact-white.complete s a v m) ∙ exact-white.complete s b w n))
 

@@ -1,5 +1,6 @@
 -- What the cursor over a tag's tokens hands out, and what attempts to read a token answer.
-use Rattle.std.specs.Prelude.{◌≡◌, ℕ, List, [], ◌∷◌, length, Option, Some, None, Result, Ok, Err, IfSome, bytes_eq, if◌then◌else◌, ⊤}
+use Rattle.std.specs.Prelude.{◌≡◌, ℕ, List, [], ◌∷◌, length, Option, Some, None, Result, Ok, Err, IfSome, bytes_eq, if◌then◌else◌, ⊤, option_and_then, option_map}
+use Rattle.std.specs.Result.{result_ok}
 use Rattle.liquid_error.specs.declared.error.Error.{Error}
 use Rattle.liquid_error.specs.Refusal.{Refusal}
 use Rattle.liquid_error.specs.Told.{told}
@@ -9,11 +10,14 @@ use Rattle.liquid_grammar.specs.Parts.{HasParts}
 use Rattle.liquid_grammar.specs.Tokens as token
 use Rattle.liquid_grammar.specs.Tokens.{TokenRule}
 use Rattle.liquid_grammar.specs.Values.{Value, ValueRule}
+use Rattle.liquid_plugins.specs.ArgumentsOf.{Arguments}
+use Rattle.liquid_plugins.specs.Chain.{ChainShape}
 use Rattle.liquid_parser.specs.declared.tag_token.TagToken.{TagToken}
 use Rattle.liquid_parser.specs.declared.tag_token.TryMatchToken.{TryMatchToken}
 use Rattle.liquid_parser.specs.declared.tag_token.TryMatchToken.TheVariants.{Matches, Fails}
 use Rattle.liquid_parser.specs.declared.tokens.TagTokenIter.{TagTokenIter}
-use Rattle.liquid_parser.specs.Handed.{Token, Tokens, handed_token, chain, expression_meant, token_error}
+use Rattle.liquid_parser.specs.Handed.{Token, Tokens, TokenShape, Call, handed_token, chain, range, symbol, expression_meant, token_error}
+use Rattle.liquid_parser.specs.Lang.{Filters}
 use Rattle.liquid_parser.specs.Plugins.{AreTokens}
 
 -- a token of the source; its literals and brackets have no fault
@@ -59,6 +63,24 @@ Tries of token (Fails t) meant = (meant ≡ None) × (t ≡ token)
 -- whether a token is this text
 abbrev pub expect_str : List ℕ → Token → Option (Unit {0})
 expect_str expected t = if bytes_eq t.text expected then Some tt else None
+
+-- the filter that is made of arguments; none where there is no such filter or it refuses them
+abbrev pub made_by : {F : Type 0} → Option (Arguments → Result F Refusal) → Arguments → Option F
+made_by None arguments = None
+made_by (Some make) arguments = result_ok (make arguments)
+
+abbrev pub calls_made : {F : Type 0} → Filters F → List Call → Option (List F)
+calls_made filters [] = Some []
+calls_made filters (c ∷ cs) = option_and_then (λ x. option_map (λ xs. x ∷ xs) (calls_made filters cs)) (made_by (filters.get c.name) c.arguments)
+
+abbrev pub chain_made : {F : Type 0} → Filters F → TokenShape → Option (ChainShape F)
+chain_made filters (chain e calls) = option_map (λ xs. record { entry = e; filters = xs }) (calls_made filters calls)
+chain_made filters (range a b) = None
+chain_made filters (symbol s) = None
+
+-- a chain whose filters are all made
+abbrev pub expect_filter_chain : {F : Type 0} → Filters F → Token → Option (ChainShape F)
+expect_filter_chain filters t = chain_made filters t.shape
 
 -- what matched
 abbrev pub matched_of : {A : Type 0} → TryMatchToken A → Option A

@@ -8,3 +8,4 @@ pub mod Views
 pub mod Built
 pub mod Cursors
 pub mod WholeTag
+pub mod Escaped

@@ -30,9 +30,12 @@ placed_at place (Ok x) = Ok x
 placed_at place (Err r) = Err (or_placed place r)
 
 -- the same of a filter, with its text
+abbrev pub refusal_of_filter : Place → List ℕ → Refusal → Refusal
+refusal_of_filter place source r = with_context (codes "filter") source (with_trace (codes "Filter parsing error") (or_placed place r))
+
 abbrev pub filter_refused : {A : Type 0} → Place → List ℕ → Result A Refusal → Result A Refusal
 filter_refused place source (Ok x) = Ok x
-filter_refused place source (Err r) = Err (with_context (codes "filter") source (with_trace (codes "Filter parsing error") (or_placed place r)))
+filter_refused place source (Err r) = Err (refusal_of_filter place source r)
 
 abbrev pub is_empty : {A : Type 0} → List A → Bool
 is_empty [] = true
@@ -119,10 +122,14 @@ beginning = among [] []
 abbrev pub block_with : {F T B : Type 0} → B → List (List (NodeShape F T B)) → NodeShape F T B
 block_with made of = block_node made (parts_from (map nodes_from of))
 
+-- the refusal of a text that ends inside a block with this end name
+abbrev pub unclosed_by : List ℕ → List ℕ → Refusal
+unclosed_by source end_name = refused_at source (codes "Unclosed block. {% " ++ (end_name ++ codes " %} tag expected.")) []
+
 -- a block is read to its end
 module _ {F T P B : Type 0} (source : List ℕ) where
   abbrev pub unclosed : Open F T P B → Refusal
-  unclosed b = refused_at source (codes "Unclosed block. {% " ++ (b.kind.end_name ++ codes " %} tag expected.")) []
+  unclosed b = unclosed_by source b.kind.end_name
 
   -- the innermost block ends: it is a node of the list that it stands in
   abbrev pub finished : Open F T P B → List (Open F T P B) → Body → List (List (NodeShape F T B)) → Result (State F T P B) Refusal

@@ -10,7 +10,7 @@ use Rattle.liquid_parser.specs.Handed.{handed}
 use Rattle.liquid_parser.specs.Plugins.{AreTokens}
 use Rattle.liquid_parser.specs.Reading.{checked}
 
--- a tag of the source, with this text, of which no token is taken yet
+-- a tag of the source, with this text
 pub record IsTag (tag : Tag) (source text : List ℕ) (t : token.Tag) : Type 0 where
   pub name_is : tag.name.now ≡ t.0
   pub text_is : tag.text.now ≡ text

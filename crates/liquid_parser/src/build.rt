@@ -114,8 +114,8 @@ pub(crate) fn literal_value(alloc: Global, literal: Literal<'_>) -> Result<Value
         Literal::Blank => Ok(Value::State(State::Blank)),
         Literal::Truth(truth) => Ok(Value::Scalar(ScalarOf::Bool(truth))),
         Literal::Text(text) => Ok(Value::Scalar(ScalarOf::Str(String::from_str(alloc, text)?))),
-        Literal::Integer(digits) => Ok(Value::Scalar(ScalarOf::Integer(
-            integer_of(digits).unwrap_or(0),
-        ))),
+        Literal::Integer(digits) => Ok(Value::Scalar(ScalarOf::Integer(integer_of(digits).unwrap_or(
+            0,
+        )))),
     }
 }

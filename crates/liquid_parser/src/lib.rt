@@ -1,16 +1,21 @@
 //! From template text to nodes: the reading of a text.
 #![tactic(auto)]
 
+mod arguments;
 mod asked;
 pub mod block;
-mod build;
 pub mod body;
+mod build;
 mod cursor;
+mod escape;
 mod expect;
+mod expect_chain;
+mod filters;
 pub mod language;
 mod names;
 mod next_token;
 pub mod node;
+pub mod parser;
 mod place;
 mod read_tag;
 mod stack;

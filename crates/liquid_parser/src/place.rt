@@ -1,5 +1,5 @@
 //! Places in a source.
-ghost use Rattle.std.specs.Prelude.{◌≡◌, IfSome};
+ghost use Rattle.std.specs.Prelude.{◌≡◌, ◌++◌, ℕ, List, IfSome};
 ghost use Rattle.liquid_error.specs.Told.{told, Gives};
 ghost use Rattle.liquid_grammar.specs.Meanings.{faults_of};
 ghost use Rattle.liquid_parser.specs.Handed as spec;
@@ -25,6 +25,16 @@ pub(crate) fn place_in(source: &str, behind: &str) -> Place
         }
     }
     Place { line, column }
+}
+
+/// What stands between a place and the place behind it.
+pub(crate) fn slice_between<'a>(place: &'a str, behind: &str) -> &'a str
+    ensures { (text : List ℕ) → place.now ≡ text ++ behind.now → result.now ≡ text }
+{
+    match place.split_at_checked(place.len().saturating_sub(behind.len())) {
+        Some((text, _)) => text,
+        None => place,
+    }
 }
 
 /// A refusal with this message about the place that has this text behind it.

@@ -56,13 +56,14 @@ impl<'a> Tag<'a> {
         self.text
     }
 
-    /// The tokens that are left. What is taken from them is taken from the tag.
-    pub fn tokens(&mut self) -> &mut TagTokenIter<'a>
+    /// A cursor over the tag's tokens, from the first one on. It is a copy: what it hands out stays in the tag.
+    pub fn tokens(&self) -> TagTokenIter<'a>
+        ensures { result ≡ self.now.tokens }
     {
-        &mut self.tokens
+        self.tokens
     }
 
-    /// The tokens that are left.
+    /// The cursor over the tag's tokens.
     pub fn into_tokens(self) -> TagTokenIter<'a>
         ensures { result ≡ self.entry.tokens }
     {

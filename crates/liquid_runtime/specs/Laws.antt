@@ -1,23 +1,49 @@
 -- The laws of names and frames.
-use Rattle.std.specs.Prelude.{◌≡◌, ℕ, List}
+use Rattle.std.specs.Prelude.{◌≡◌, ◌≢◌, ℕ, List, [], ◌∷◌, None, is_some}
+use Rattle.std.specs.List.{list_any}
 use Rattle.std.specs.Option.{option_or}
+use Rattle.std.specs.Ordering.{nat_cmp, eq_by_cmp}
+use Rattle.std.specs.Cmp.Lexicographic.{slice_cmp}
 use Rattle.std.specs.FinMap.{get}
+use Rattle.std.specs.Result.{result_ok}
+use Rattle.liquid_scalar.specs.Scalar.{text}
+use Rattle.liquid_value.specs.Tree.{Tree}
+use Rattle.liquid_paths.specs.Walk.{Path}
 use Rattle.liquid_runtime.specs.Maps.{Names, over}
-use Rattle.liquid_runtime.specs.View.{View, lookup}
-use Rattle.liquid_runtime.specs.Frames.{stack_view, global_view, built_view}
+use Rattle.liquid_runtime.specs.View.{View}
+use Rattle.liquid_runtime.specs.NamesSeen.{lookup, roots}
+use Rattle.liquid_runtime.specs.Lookup.{try_path, found}
+use Rattle.liquid_runtime.specs.Sets.{put_global, put_index}
+use Rattle.liquid_runtime.specs.Frames.{begin_stack, begin_global, built_view}
 
 -- of two maps laid over one another the left one has the first word
 abbrev pub LeftNamesFirst : Type 0
 LeftNamesFirst = (front back : Names) (name : List ℕ) → get (over front back) name ≡ option_or (get front name) (get back name)
 
--- in a stack frame a name has its value in the frame's data, else the value that it has below
-abbrev pub StackNamesFirst : Type 0
-StackNamesFirst = (names : Names) (v : View) (name : List ℕ) → lookup (stack_view names v) name ≡ option_or (get names name) (lookup v name)
+-- the call that may refuse gives a value exactly where the other one does, and then the same
+abbrev pub GetAgrees : Type 0 → Type 0
+GetAgrees Reg = (v : View Reg) (path : Path) → result_ok (found v path) ≡ try_path v path
 
--- a fresh global frame hides no name and adds none
-abbrev pub GlobalFrameKeepsNames : Type 0
-GlobalFrameKeepsNames = (v : View) (name : List ℕ) → lookup (global_view v) name ≡ lookup v name
+-- a path of one text has a value exactly if that text is among the names
+abbrev pub RootsAreSeen : Type 0 → Type 0
+RootsAreSeen Reg = (v : View Reg) (name : List ℕ) → is_some (try_path v (text name ∷ [])) ≡ list_any (eq_by_cmp (slice_cmp nat_cmp) name) (roots v)
+
+-- to set a global changes no lookup of another name and no index variable
+abbrev pub SetGlobalKeepsOthers : Type 0 → Type 0
+SetGlobalKeepsOthers Reg = (v : View Reg) (name other : List ℕ) (t : Tree) → other ≢ name → (lookup (put_global v name t) other ≡ lookup v other) × ((put_global v name t).index ≡ v.index)
+
+-- to set an index variable changes no global and no lookup of another name
+abbrev pub SetIndexKeepsOthers : Type 0 → Type 0
+SetIndexKeepsOthers Reg = (v : View Reg) (name other : List ℕ) (t : Tree) → other ≢ name → (lookup (put_index v name t) other ≡ lookup v other) × ((put_index v name t).globals ≡ v.globals)
+
+-- in a stack frame a name has its value in the frame's data, else the value that it has below
+abbrev pub StackNamesFirst : Type 0 → Type 0
+StackNamesFirst Reg = (names : Names) (v : View Reg) (name : List ℕ) → lookup (begin_stack names None v) name ≡ option_or (get names name) (lookup v name)
+
+-- a global frame that begins hides no name and adds none
+abbrev pub GlobalFrameKeepsNames : Type 0 → Type 0
+GlobalFrameKeepsNames Reg = (v : View Reg) (name : List ℕ) → lookup (begin_global v) name ≡ lookup v name
 
 -- a built runtime has the caller's globals and no other name
-abbrev pub GlobalsAreSeen : Type 0
-GlobalsAreSeen = (globals : Names) (name : List ℕ) → lookup (built_view globals) name ≡ get globals name
+abbrev pub GlobalsAreSeen : Type 0 → Type 0
+GlobalsAreSeen Reg = (fresh : Reg) (depth : ℕ) (globals : Names) (name : List ℕ) → lookup (built_view fresh depth globals) name ≡ get globals name

@@ -1,14 +1,16 @@
--- What a template sees: its layers of names, and what a name gives.
-use Rattle.std.specs.Prelude.{ℕ, List, Option, Result, codes, unwrap_or}
-use Rattle.std.specs.Option.{ok_or}
-use Rattle.std.specs.FinMap.{empty, get}
-use Rattle.liquid_error.specs.Refusal.{Refusal, plain, with_context}
-use Rattle.liquid_value.specs.Tree.{Tree}
-use Rattle.liquid_runtime.specs.Maps.{Names, over}
+-- What a template sees and may change: maps of names and flags, without a list of frames.
+use Rattle.std.specs.Prelude.{ℕ, List, Bool, Option}
+use Rattle.liquid_runtime.specs.Maps.{Names}
+use Rattle.liquid_runtime.specs.declared.registers.Interrupt.{Interrupt}
 
--- the layers of names, nearest first
-pub record View : Type 0 where
-  -- the data of the open frames
+-- what lies below all frames: the index variables, or the names of a sandboxed frame, which seal off all that is outside
+pub data Floor : Type 0 where
+  unsealed : Floor
+  sealed : Names → Floor
+
+-- the names, nearest layer first, and what else a template meets; Reg is the caller's register
+pub record View (Reg : Type 0) : Type 0 where
+  -- the data of the open stack frames
   pub locals : Names
   -- what is assigned in the nearest global frame, if there is one
   pub globals : Option Names
@@ -16,19 +18,15 @@ pub record View : Type 0 where
   pub base : Names
   -- the index variables, if there is a frame for them
   pub index : Option Names
-
--- all names with their values: a nearer layer's value hides those of the layers below
-abbrev pub names_seen : View → Names
-names_seen v = over v.locals (over (unwrap_or v.globals empty) (over v.base (unwrap_or v.index empty)))
-
--- the value of a name
-abbrev pub lookup : View → List ℕ → Option Tree
-lookup v name = get (names_seen v) name
-
--- the refusal of a name that has no value
-abbrev pub unknown_variable : List ℕ → Refusal
-unknown_variable name = with_context (codes "requested variable") name (plain (codes "Unknown variable"))
-
--- the value of a name, or the refusal
-abbrev pub found : View → List ℕ → Result Tree Refusal
-found v name = ok_or (lookup v name) (unknown_variable name)
+  -- whether what is assigned is seen
+  pub shown : Bool
+  -- where the names end
+  pub floor : Floor
+  -- the name of the template, if one is set
+  pub name : Option (List ℕ)
+  -- what a node asked of the list around it
+  pub interrupt : Option Interrupt
+  -- the caller's register
+  pub register : Reg
+  -- how many partials may be open inside one another
+  pub depth : ℕ

@@ -1,54 +1,91 @@
-ghost use Rattle.std.specs.Prelude.{◌≡◌};
+ghost use Rattle.std.specs.Prelude.{◌≡◌, [], None, Some};
 ghost use Rattle.std.specs.FinMap.{empty};
 ghost use Rattle.liquid_runtime.specs.Frames.{built_view};
 ghost use Rattle.liquid_runtime.specs.Maps.{names_of};
 
 use crate::global_frame::GlobalFrame;
 use crate::index_frame::IndexFrame;
+use crate::registers::Fresh;
 use crate::runtime::Runtime;
-use crate::runtime_core::RuntimeCore;
+use crate::runtime_core::{DEFAULT_DEPTH, RuntimeCore};
 use crate::stack_frame::StackFrame;
 use liquid_value::Object;
 use std::alloc::Global;
+use std::marker::PhantomData;
 
 /// The runtime that a builder makes: a global frame over a stack frame of the caller's globals
 /// over an index frame over a core.
-pub type BuiltRuntime = GlobalFrame<StackFrame<IndexFrame>>;
+pub type BuiltRuntime<V, S> = GlobalFrame<StackFrame<IndexFrame<V, S>>>;
 
-/// Gathers what a runtime begins with.
+/// Gathers what a runtime begins with. `V` is the register of what it builds, and `S` the type of its
+/// store of partial templates.
 #[derive(Drop)]
-pub struct RuntimeBuilder {
+pub struct RuntimeBuilder<V, S> {
     alloc: Global,
     globals: Object,
+    store: Option<S>,
+    depth: u32,
+    register: PhantomData<V>,
 }
 
-impl RuntimeBuilder {
-    ghost use Rattle.liquid_runtime.specs.Built.{globals_of};
+impl<V: Fresh, S: Drop> RuntimeBuilder<V, S> {
+    ghost use Rattle.liquid_runtime.specs.Built.{globals_of, store_of, depth_of};
 
-    /// A builder without globals. What it builds takes its memory from `alloc`.
-    #[tactic(auto, using(crate::proofs::FrameLookups::fresh))]
+    /// A builder without globals and without a store, with a depth of 32. What it builds takes its
+    /// memory from `alloc`.
+    #[tactic(auto, using(crate::proofs::FrameLookups::frame_lookups))]
     pub fn new(alloc: Global) -> Self
-        ensures { globals_of result ≡ empty }
+        ensures globals { globals_of result ≡ empty }
+        ensures store { store_of result ≡ None }
+        ensures depth { depth_of result ≡ 32 }
     {
         RuntimeBuilder {
             alloc,
             globals: Object::new(alloc),
+            store: None,
+            depth: DEFAULT_DEPTH,
+            register: PhantomData,
         }
     }
 
     /// The builder with these globals in place of those that it had.
     pub fn set_globals(mut self, globals: Object) -> Self
-        ensures { globals_of result ≡ names_of globals }
+        ensures globals { globals_of result ≡ names_of globals }
+        ensures store { store_of result ≡ store_of self }
+        ensures depth { depth_of result ≡ depth_of self }
     {
         self.globals = globals;
         self
     }
 
-    /// The runtime in which a template sees the builder's globals.
-    pub fn build(self) -> BuiltRuntime
-        ensures { ⟦<BuiltRuntime as Runtime>⟧.view result ≡ built_view (globals_of self) }
+    /// The builder with this store of partial templates in place of any other.
+    pub fn set_partials(mut self, store: S) -> Self
+        ensures globals { globals_of result ≡ globals_of self }
+        ensures store { store_of result ≡ Some store }
+        ensures depth { depth_of result ≡ depth_of self }
     {
-        let index = IndexFrame::new(self.alloc, RuntimeCore::new());
+        self.store = Some(store);
+        self
+    }
+
+    /// The builder with this many partial templates that may be open inside one another.
+    pub fn set_depth(mut self, depth: u32) -> Self
+        ensures globals { globals_of result ≡ globals_of self }
+        ensures store { store_of result ≡ store_of self }
+        ensures depth { depth_of result ≡ depth }
+    {
+        self.depth = depth;
+        self
+    }
+
+    /// The runtime in which a template sees the builder's globals.
+    pub fn build(self) -> BuiltRuntime<V, S>
+        ensures view { ⟦<BuiltRuntime<V, S> as Runtime>⟧.view result ≡ built_view V.fresh (depth_of self) (globals_of self) }
+        ensures store { ⟦<BuiltRuntime<V, S> as Runtime>⟧.store result ≡ store_of self }
+        ensures same { ⟦<BuiltRuntime<V, S> as Runtime>⟧.lent result ≡ [] }
+    {
+        let core = RuntimeCore::with(self.store, self.depth);
+        let index = IndexFrame::new(self.alloc, core);
         let stack = StackFrame::new(index, self.globals);
         GlobalFrame::new(self.alloc, stack)
     }

@@ -1,24 +1,30 @@
-ghost use Rattle.std.specs.Prelude.{◌≡◌};
-ghost use Rattle.liquid_runtime.specs.Frames.{core_view, index_view, indexed_view};
+ghost use Rattle.std.specs.Prelude.{◌≡◌, [], Some};
+ghost use Rattle.liquid_runtime.specs.Frames.{begin_index};
+ghost use Rattle.liquid_runtime.specs.FrameViews.{core_with, indexed_view};
 ghost use Rattle.liquid_runtime.specs.Maps.{names_of};
 
+use crate::names::{add_names, set_name, value_of};
+use crate::registers::{Fresh, Registers};
 use crate::runtime::Runtime;
 use crate::runtime_core::RuntimeCore;
+use liquid_error::Error;
 use liquid_value::{Object, Value};
-use std::alloc::Global;
+use std::alloc::{AllocError, Global};
+use std::collections::BTreeSet;
 
 /// The frame of the index variables, over the core. Only a builder makes it.
 #[derive(Drop)]
-pub struct IndexFrame {
-    parent: RuntimeCore,
+pub struct IndexFrame<V, S> {
+    parent: RuntimeCore<V, S>,
     variables: Object,
 }
 
-impl IndexFrame {
+impl<V: Fresh, S: Drop> IndexFrame<V, S> {
     /// A frame without index variables.
-    #[tactic(auto, using(crate::proofs::FrameLookups::fresh))]
-    pub(crate) fn new(alloc: Global, parent: RuntimeCore) -> Self
-        ensures { ⟦<IndexFrame as Runtime>⟧.view result ≡ index_view core_view }
+    #[tactic(auto, using(crate::proofs::FrameLookups::frame_lookups))]
+    pub(crate) fn new(alloc: Global, parent: RuntimeCore<V, S>) -> Self
+        ensures view { ⟦<IndexFrame<V, S> as Runtime>⟧.view result ≡ begin_index (⟦<RuntimeCore<V, S> as Runtime>⟧.view parent) }
+        ensures store { ⟦<IndexFrame<V, S> as Runtime>⟧.store result ≡ ⟦<RuntimeCore<V, S> as Runtime>⟧.store parent }
     {
         IndexFrame {
             parent,
@@ -27,14 +33,69 @@ impl IndexFrame {
     }
 }
 
-impl Runtime for IndexFrame {
-    ghost view = { λ frame. indexed_view (names_of frame.variables) core_view };
+impl<V: Fresh, S: Drop> Runtime for IndexFrame<V, S> {
+    type Register = V;
 
-    #[tactic(auto, using(crate::proofs::FrameLookups::object_first))]
+    type Store = S;
+
+    ghost view = { λ f. indexed_view (names_of f.variables) (core_with f.parent.registers f.parent.depth) };
+
+    ghost store = { λ f. f.parent.store };
+
+    ghost relent = { λ f w. record f { parent = record f.parent { registers = w } } };
+
+    ghost restored = { λ f w. record f { parent = record f.parent { store = Some w } } };
+
+    ghost restores = { λ c. [] };
+
+    ghost lent = { λ c. [] };
+
+    fn name(&self) -> Option<&str> {
+        None
+    }
+
+    #[tactic(auto, using(crate::proofs::FrameLookups::frame_lookups))]
     fn try_get_name(&self, name: &str) -> Option<&Value> {
-        match self.variables.get(name) {
-            Some(value) => Some(value),
-            None => self.parent.try_get_name(name),
-        }
+        value_of(&self.variables, name)
+    }
+
+    #[tactic(auto, using(crate::proofs::FrameLookups::frame_lookups))]
+    fn seals(&self, name: &str) -> bool {
+        self.parent.seals(name)
+    }
+
+    #[tactic(auto, using(crate::proofs::FrameLookups::frame_lookups))]
+    fn roots(&self, alloc: Global) -> Result<BTreeSet<String>, AllocError> {
+        let below = self.parent.roots(alloc)?;
+        add_names(&self.variables, below)
+    }
+
+    fn get_index(&self, name: &str) -> Option<&Value> {
+        value_of(&self.variables, name)
+    }
+
+    fn set_global(&mut self, name: String, value: Value) -> Result<Option<Value>, Error> {
+        self.parent.set_global(name, value)
+    }
+
+    #[tactic(auto, using(crate::proofs::FrameLookups::frame_lookups))]
+    fn set_index(&mut self, name: String, value: Value) -> Result<Option<Value>, Error> {
+        set_name(&mut self.variables, name, value)
+    }
+
+    fn registers(&self) -> &Registers<V> {
+        self.parent.registers()
+    }
+
+    fn registers_mut(&mut self) -> &mut Registers<V> {
+        self.parent.registers_mut()
+    }
+
+    fn partials(&mut self) -> Option<&mut S> {
+        self.parent.partials()
+    }
+
+    fn depth(&self) -> u32 {
+        self.parent.depth()
     }
 }

@@ -1,31 +1,60 @@
-//! The laws of names and frames, each as the contract of a function.
+//! The laws of names and frames, each as the contract of a function. `V` is the type of the register.
 ghost use Rattle.liquid_runtime.specs.Laws.{
+  GetAgrees,
   GlobalFrameKeepsNames,
   GlobalsAreSeen,
   LeftNamesFirst,
+  RootsAreSeen,
+  SetGlobalKeepsOthers,
+  SetIndexKeepsOthers,
   StackNamesFirst,
 };
 
+use crate::registers::Fresh;
+
 /// Of two maps of names laid over one another the left one has the first word.
-#[tactic(auto, using(crate::proofs::FrameLookups::frame_laws))]
+#[tactic(auto, using(crate::proofs::SetLaws::laws))]
 pub fn left_names_first()
     ensures { LeftNamesFirst }
 {}
 
-/// In a stack frame a name has its value in the frame's data, else the value that it has below.
-#[tactic(auto, using(crate::proofs::FrameLookups::frame_laws))]
-pub fn stack_names_first()
-    ensures { StackNamesFirst }
+/// `get` gives a value exactly where `try_get` does, and then the same one.
+#[tactic(auto, using(crate::proofs::SetLaws::laws))]
+pub fn get_agrees_with_try_get<V: Fresh>()
+    ensures { GetAgrees V }
 {}
 
-/// A fresh global frame hides no name and adds none.
-#[tactic(auto, using(crate::proofs::FrameLookups::frame_laws))]
-pub fn global_frame_keeps_names()
-    ensures { GlobalFrameKeepsNames }
+/// A path of one text leads to a value exactly if that text is among the roots.
+#[tactic(auto, using(crate::proofs::SetLaws::laws))]
+pub fn roots_are_the_names_seen<V: Fresh>()
+    ensures { RootsAreSeen V }
+{}
+
+/// To set a global changes no other name, and no index variable.
+#[tactic(auto, using(crate::proofs::SetLaws::laws))]
+pub fn set_global_changes_no_other_name<V: Fresh>()
+    ensures { SetGlobalKeepsOthers V }
+{}
+
+/// To set an index variable changes no other name, and no global.
+#[tactic(auto, using(crate::proofs::SetLaws::laws))]
+pub fn set_index_changes_no_other_name<V: Fresh>()
+    ensures { SetIndexKeepsOthers V }
+{}
+
+/// In a stack frame a name has its value in the frame's data, else the value that it has below.
+#[tactic(auto, using(crate::proofs::SetLaws::laws))]
+pub fn stack_names_first<V: Fresh>()
+    ensures { StackNamesFirst V }
+{}
+
+/// A global frame that begins hides no name and adds none.
+#[tactic(auto, using(crate::proofs::SetLaws::laws))]
+pub fn global_frame_keeps_names<V: Fresh>()
+    ensures { GlobalFrameKeepsNames V }
 {}
 
 /// A built runtime has the caller's globals and no other name.
-#[tactic(auto, using(crate::proofs::FrameLookups::frame_laws))]
-pub fn globals_are_seen()
-    ensures { GlobalsAreSeen }
+pub fn globals_are_seen<V: Fresh>()
+    ensures { GlobalsAreSeen V }
 {}

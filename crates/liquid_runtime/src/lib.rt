@@ -1,21 +1,29 @@
-//! Names and frames: what a template sees while it is rendered.
+//! Names and frames: what a template sees and changes while it is rendered.
 #![tactic(auto)]
 
 mod builder;
 mod global_frame;
 mod index_frame;
 mod laws;
+pub mod names;
+mod registers;
 mod runtime;
 mod runtime_core;
+mod sandboxed_frame;
+mod scopes;
 mod stack_frame;
 
 pub use builder::{BuiltRuntime, RuntimeBuilder};
 pub use global_frame::GlobalFrame;
 pub use index_frame::IndexFrame;
-pub use laws::{global_frame_keeps_names, globals_are_seen, left_names_first, stack_names_first};
+pub use laws::{
+    get_agrees_with_try_get, global_frame_keeps_names, globals_are_seen, left_names_first,
+    roots_are_the_names_seen, set_global_changes_no_other_name, set_index_changes_no_other_name,
+    stack_names_first,
+};
+pub use registers::{Fresh, Interrupt, InterruptRegister, Registers};
 pub use runtime::Runtime;
 pub use runtime_core::RuntimeCore;
+pub use sandboxed_frame::SandboxedStackFrame;
+pub use scopes::{Frame, Scopes};
 pub use stack_frame::StackFrame;
-
-#[cfg(test)]
-mod tests;

@@ -1,41 +1,232 @@
-ghost use Rattle.std.specs.Prelude.{◌≡◌, IfSome, None, OnErr};
-ghost use Rattle.std.specs.Option.{option_map};
+ghost use Rattle.std.specs.Prelude.{◌≡◌, ℕ, List, ◌∷◌, Option, Some, IsSome, IfOk, IfSome, OnOk, OnErr, string_bytes, option_map};
+ghost use Rattle.std.specs.Borrow.{sem, LendsIf};
+ghost use denote.Ref.{at_last};
 ghost use Rattle.liquid_error.specs.Told.{told, Gives};
+ghost use Rattle.liquid_paths.specs.InPlace.{InPlace};
+ghost use Rattle.liquid_paths.specs.PathOf.{indexes_of};
 ghost use Rattle.liquid_value.specs.View.{view as tree_of};
-ghost use Rattle.liquid_runtime.specs.View.{View, lookup, found, unknown_variable as unknown_variable_refusal};
+ghost use Rattle.liquid_value.specs.Cow.{cow_view};
+ghost use Rattle.liquid_runtime.specs.Calls.{LendsRegisters, registers_of, with_registers, value_in};
+ghost use Rattle.liquid_runtime.specs.Frames.{Restore};
+ghost use Rattle.liquid_runtime.specs.Lookup.{try_path, found, unknown_variable as unknown_variable_refusal};
+ghost use Rattle.liquid_runtime.specs.NamesSeen.{lookup, names_seen, comes_from_seal};
+ghost use Rattle.liquid_runtime.specs.Roots.{NamesOf};
+ghost use Rattle.liquid_runtime.specs.Sets.{old_global, put_global, old_index, put_index};
+ghost use Rattle.liquid_runtime.specs.View.{View};
 
+use crate::registers::{Fresh, Registers};
 use liquid_error::Error;
-use liquid_value::Value;
-use std::alloc::Global;
+use liquid_paths::{find_behind, try_find};
+use liquid_scalar::ScalarCow;
+use liquid_value::{Value, ValueCow};
+use std::alloc::{AllocError, Global};
+use std::collections::BTreeSet;
 
-/// What a template sees and changes while it is rendered: names with their values.
+/// What a template sees and changes while it is rendered: names with their values, index variables,
+/// the interrupt and one register of the caller's type, and the store of partial templates.
+///
+/// Looking up never changes anything. `Register` is the caller's register, and `Store` any type of
+/// store that a caller sets.
 pub trait Runtime {
-    ghost view: { Self → View };
+    type Register: Fresh;
 
-    /// The value of the name, or `None` where the name has none.
+    type Store;
+
+    ghost use Rattle.liquid_runtime.specs.declared.registers.Registers.{Registers};
+
+    ghost view: { Self → View Self.Register };
+
+    ghost store: { Self → Option Self.Store };
+
+    // what it is once the registers, or the store, that it lends have changed
+    ghost relent: { Self → Registers Self.Register → Self };
+
+    ghost restored: { Self → Self.Store → Self };
+
+    // what the endings of its frames restore, the innermost first
+    ghost restores: { Self → List (Restore Self.Register) };
+
+    // the references that it stands on, the outermost first: no call puts another in its place
+    ghost lent: { Self → List ℕ };
+
+    /// The name of the template, if one is set.
+    fn name(&self) -> Option<&str>
+        ensures { option_map (λ r. r.now) result ≡ (view self.now).name };
+
+    /// The value of one name, where it stands, or `None` where the name has none.
     fn try_get_name(&self, name: &str) -> Option<&Value>
-        ensures { option_map (λ value. tree_of value.now) result ≡ lookup (view self.now) name.now };
+        ensures { option_map (λ r. tree_of r.now) result ≡ lookup (view self.now) name.now };
 
-    /// The value of the name. A name without a value is refused as "Unknown variable", with the
-    /// name as the context `requested variable`. Memory is taken only for that refusal.
-    fn get_name(&self, alloc: Global, name: &str) -> Result<&Value, Error>
-        ensures gives { Gives (λ value. tree_of value.now) result (found (view self.now) name.now) }
+    /// Whether the name, if it has a value, is the own name of a sandboxed frame.
+    fn seals(&self, name: &str) -> bool
+        ensures { result ≡ comes_from_seal (view self.now) name.now };
 
-        // Memory is wanted only where the name has no value.
-        ensures refuses { OnErr result (lookup (view self.now) name.now ≡ None) }
+    /// The names that have a value. An `Err` is want of memory.
+    fn roots(&self, alloc: Global) -> Result<BTreeSet<String>, AllocError>
+        ensures { IfOk result (λ names. NamesOf (names_seen (view self.now)) names) };
+
+    /// The value of a path, whose first index is a name, or `None` where the path leads to none. The
+    /// empty path leads to none. The value is borrowed where it stands; only a `size` is made. An
+    /// `Err` is want of memory.
+    fn try_get(
+        &self,
+        alloc: Global,
+        path: &[ScalarCow<'_>],
+    ) -> Result<Option<ValueCow<'_>>, AllocError>
+        ensures gives { IfOk result (λ value. option_map cow_view value ≡ try_path (view self.now) (indexes_of path.now)) }
+        ensures in_place { IfOk result (λ value. IfSome value InPlace) }
     {
-        match self.try_get_name(name) {
-            Some(value) => Ok(value),
-            None => Err(unknown_variable(alloc, name)),
+        match path.split_first() {
+            None => Ok(None),
+            Some((first, rest)) => {
+                let name = first.to_kstr(alloc)?;
+                match self.try_get_name(name.as_str()) {
+                    None => Ok(None),
+                    Some(value) => try_find(alloc, value, rest),
+                }
+            }
         }
     }
+
+    /// The value of a path, borrowed as by `try_get`. A name without a value is refused as "Unknown
+    /// variable", with the context `requested variable`; the empty path asks for `nil`. Where the
+    /// name has a value and the rest leads nowhere, a sandboxed frame's own name is refused in the
+    /// same way, and another as "Unknown index" with the contexts that `find` puts on it.
+    fn get(&self, alloc: Global, path: &[ScalarCow<'_>]) -> Result<ValueCow<'_>, Error>
+        ensures gives { Gives cow_view result (found (view self.now) (indexes_of path.now)) }
+        ensures in_place { IfOk result InPlace }
+    {
+        match path.split_first() {
+            None => Err(unknown_variable(alloc, "nil")),
+            Some((first, _)) => match first.to_kstr(alloc) {
+                Err(_) => Err(Error::Memory),
+                Ok(name) => match self.try_get_name(name.as_str()) {
+                    None => Err(unknown_variable(alloc, name.as_str())),
+                    Some(value) => match find_behind(alloc, 1, value, path) {
+                        Ok(found) => Ok(found),
+                        Err(error) => {
+                            if !error.is_memory() && self.seals(name.as_str()) {
+                                Err(unknown_variable(alloc, name.as_str()))
+                            } else {
+                                Err(error)
+                            }
+                        }
+                    },
+                },
+            },
+        }
+    }
+
+    /// The value of an index variable, whether templates see it or not. It takes no memory.
+    fn get_index(&self, name: &str) -> Option<&Value>
+        ensures { option_map (λ r. tree_of r.now) result ≡ value_in (view self.now).index name.now };
+
+    /// Assigns a name in the nearest global frame, and answers its old value there. Refused as "No
+    /// global frame" where there is none. An `Err` changes nothing.
+    fn set_global(&mut self, name: String, value: Value) -> Result<Option<Value>, Error>
+        ensures gives { Gives (option_map tree_of) result (old_global (view self.old) (string_bytes name)) }
+        ensures sets { OnOk result (view self.new ≡ put_global (view self.old) (string_bytes name) (tree_of value)) }
+        ensures unchanged { OnErr result (view self.new ≡ view self.old) }
+        ensures stays { store self.new ≡ store self.old }
+        ensures kept { restores self.new ≡ restores self.old }
+        ensures same { lent self.new ≡ lent self.old };
+
+    /// Sets an index variable, and answers its old value. Refused as "No index frame" where there is
+    /// no frame for them. An `Err` changes nothing.
+    fn set_index(&mut self, name: String, value: Value) -> Result<Option<Value>, Error>
+        ensures gives { Gives (option_map tree_of) result (old_index (view self.old) (string_bytes name)) }
+        ensures sets { OnOk result (view self.new ≡ put_index (view self.old) (string_bytes name) (tree_of value)) }
+        ensures unchanged { OnErr result (view self.new ≡ view self.old) }
+        ensures stays { store self.new ≡ store self.old }
+        ensures kept { restores self.new ≡ restores self.old }
+        ensures same { lent self.new ≡ lent self.old };
+
+    /// The interrupt and the register, of the nearest sandboxed frame if there is one.
+    fn registers(&self) -> &Registers<Self::Register>
+        ensures { result.now ≡ registers_of (view self.now) };
+
+    /// The same to write to.
+    fn registers_mut(&mut self) -> &mut Registers<Self::Register>
+        ensures* lends { sem 𝓛 (LendsRegisters Self.row Self.Register.row self.entry result (relent self.old)) }
+        ensures after { (w : Registers Self.Register) → view (relent self.old w) ≡ with_registers w (view self.old) }
+        ensures stays { (w : Registers Self.Register) → store (relent self.old w) ≡ store self.old }
+        ensures kept { (w : Registers Self.Register) → restores (relent self.old w) ≡ restores self.old }
+        ensures same { (w : Registers Self.Register) → lent (relent self.old w) ≡ lent self.old }
+        ensures value { result.now ≡ registers_of (view self.old) };
+
+    /// The store of partial templates, to write to, if one was set.
+    fn partials(&mut self) -> Option<&mut Self::Store>
+        ensures* lends { sem 𝓛 (LendsIf Self.row Self.Store.row self.entry result (restored self.old) self.old) }
+        ensures after { (w : Self.Store) → IsSome (store self.old) → store (restored self.old w) ≡ Some w }
+        ensures view { (w : Self.Store) → IsSome (store self.old) → view (restored self.old w) ≡ view self.old }
+        ensures kept { (w : Self.Store) → IsSome (store self.old) → restores (restored self.old w) ≡ restores self.old }
+        ensures same { (w : Self.Store) → IsSome (store self.old) → lent (restored self.old w) ≡ lent self.old }
+        ensures value { option_map (λ r. r.now) result ≡ store self.old };
+
+    /// How many partial templates may be open inside one another.
+    fn depth(&self) -> u32
+        ensures { result ≡ (view self.now).depth };
 }
 
 impl<R: Runtime> Runtime for &mut R {
-    ghost view = { λ runtime. R.view runtime.now };
+    type Register = R::Register;
+
+    type Store = R::Store;
+
+    ghost view = { λ r. R.view r.now };
+
+    ghost store = { λ r. R.store r.now };
+
+    ghost relent = { λ r w. at_last r (R.relent r.now w) };
+
+    ghost restored = { λ r w. at_last r (R.restored r.now w) };
+
+    ghost restores = { λ r. R.restores r.now };
+
+    ghost lent = { λ r. r.ghost_name ∷ R.lent r.now };
+
+    fn name(&self) -> Option<&str> {
+        (**self).name()
+    }
 
     fn try_get_name(&self, name: &str) -> Option<&Value> {
         (**self).try_get_name(name)
+    }
+
+    fn seals(&self, name: &str) -> bool {
+        (**self).seals(name)
+    }
+
+    fn roots(&self, alloc: Global) -> Result<BTreeSet<String>, AllocError> {
+        (**self).roots(alloc)
+    }
+
+    fn get_index(&self, name: &str) -> Option<&Value> {
+        (**self).get_index(name)
+    }
+
+    fn set_global(&mut self, name: String, value: Value) -> Result<Option<Value>, Error> {
+        (**self).set_global(name, value)
+    }
+
+    fn set_index(&mut self, name: String, value: Value) -> Result<Option<Value>, Error> {
+        (**self).set_index(name, value)
+    }
+
+    fn registers(&self) -> &Registers<R::Register> {
+        (**self).registers()
+    }
+
+    fn registers_mut(&mut self) -> &mut Registers<R::Register> {
+        (**self).registers_mut()
+    }
+
+    fn partials(&mut self) -> Option<&mut R::Store> {
+        (**self).partials()
+    }
+
+    fn depth(&self) -> u32 {
+        (**self).depth()
     }
 }
 

@@ -1,27 +1,109 @@
-ghost use Rattle.std.specs.Prelude.{◌≡◌};
+ghost use Rattle.std.specs.Prelude.{◌≡◌, [], None, Some};
 ghost use Rattle.liquid_runtime.specs.Frames.{core_view};
+ghost use Rattle.liquid_runtime.specs.FrameViews.{core_with};
 
+use crate::registers::{Fresh, Registers};
 use crate::runtime::Runtime;
+use liquid_error::Error;
 use liquid_value::Value;
+use std::alloc::{AllocError, Global};
+use std::collections::BTreeSet;
 
-/// The lowest runtime: it has no names.
+/// How many partials may be open inside one another where no builder says it.
+pub(crate) const DEFAULT_DEPTH: u32 = 32;
+
+/// The lowest runtime: it has no names, and nowhere to set one.
 #[derive(Drop)]
-pub struct RuntimeCore {}
+pub struct RuntimeCore<V, S> {
+    registers: Registers<V>,
+    store: Option<S>,
+    depth: u32,
+}
 
-impl RuntimeCore {
-    /// A runtime without names.
+impl<V: Fresh, S: Drop> RuntimeCore<V, S> {
+    /// A core without a store, under which 32 partials may be open inside one another.
     pub fn new() -> Self
-        ensures { ⟦<RuntimeCore as Runtime>⟧.view result ≡ core_view }
+        ensures view { ⟦<RuntimeCore<V, S> as Runtime>⟧.view result ≡ core_view V.fresh 32 }
+        ensures store { ⟦<RuntimeCore<V, S> as Runtime>⟧.store result ≡ None }
     {
-        RuntimeCore {}
+        RuntimeCore::with(None, DEFAULT_DEPTH)
+    }
+
+    /// A core over this store, under which so many partials may be open inside one another.
+    pub(crate) fn with(store: Option<S>, depth: u32) -> Self
+        ensures view { ⟦<RuntimeCore<V, S> as Runtime>⟧.view result ≡ core_view V.fresh depth }
+        ensures store { ⟦<RuntimeCore<V, S> as Runtime>⟧.store result ≡ store }
+    {
+        RuntimeCore {
+            registers: Registers::fresh(),
+            store,
+            depth,
+        }
     }
 }
 
-impl Runtime for RuntimeCore {
-    ghost view = { λ _. core_view };
+impl<V: Fresh, S: Drop> Runtime for RuntimeCore<V, S> {
+    type Register = V;
 
-    #[tactic(auto, using(crate::proofs::FrameLookups::fresh))]
+    type Store = S;
+
+    ghost view = { λ c. core_with c.registers c.depth };
+
+    ghost store = { λ c. c.store };
+
+    ghost relent = { λ c w. record c { registers = w } };
+
+    ghost restored = { λ c w. record c { store = Some w } };
+
+    ghost restores = { λ c. [] };
+
+    ghost lent = { λ c. [] };
+
+    fn name(&self) -> Option<&str> {
+        None
+    }
+
+    #[tactic(auto, using(crate::proofs::FrameLookups::frame_lookups))]
     fn try_get_name(&self, _name: &str) -> Option<&Value> {
         None
+    }
+
+    #[tactic(auto, using(crate::proofs::FrameLookups::frame_lookups))]
+    fn seals(&self, _name: &str) -> bool {
+        false
+    }
+
+    #[tactic(auto, using(crate::proofs::FrameLookups::frame_lookups))]
+    fn roots(&self, alloc: Global) -> Result<BTreeSet<String>, AllocError> {
+        Ok(BTreeSet::new(alloc))
+    }
+
+    #[tactic(auto, using(crate::proofs::FrameLookups::frame_lookups))]
+    fn get_index(&self, _name: &str) -> Option<&Value> {
+        None
+    }
+
+    fn set_global(&mut self, name: String, _value: Value) -> Result<Option<Value>, Error> {
+        Err(Error::with_msg(*name.allocator(), "No global frame"))
+    }
+
+    fn set_index(&mut self, name: String, _value: Value) -> Result<Option<Value>, Error> {
+        Err(Error::with_msg(*name.allocator(), "No index frame"))
+    }
+
+    fn registers(&self) -> &Registers<V> {
+        &self.registers
+    }
+
+    fn registers_mut(&mut self) -> &mut Registers<V> {
+        &mut self.registers
+    }
+
+    fn partials(&mut self) -> Option<&mut S> {
+        self.store.as_mut()
+    }
+
+    fn depth(&self) -> u32 {
+        self.depth
     }
 }

@@ -13,7 +13,7 @@ use Rattle.liquid_template.specs.Outcome.{Sunk, Cut, Stopped, Outcome}
 use Rattle.liquid_template.specs.Rendering.{Rendered}
 
 -- a text that is read as nodes comes to their run
-pub Rendered-read : (answer : Answer) (v : View) (nodes : List NodeShape) (before after : Sunk) (result : Result (Unit {0}) Error)
+pub Rendered-read : {Reg : Type 0} (answer : Answer) (v : View Reg) (nodes : List NodeShape) (before after : Sunk) (result : Result (Unit {0}) Error)
     → answer ≡ Ok nodes → Outcome (run v nodes) before after result → Rendered answer v before after result
 Rendered-read answer v nodes before after result is o = rw is o
 
@@ -29,7 +29,7 @@ same_refusal refusal None h = h
 same_refusal refusal (Some reason) h = cc h
 
 -- a text that is refused, or whose reading ran out of memory, leaves the sink as it was
-pub Rendered-refused : (answer : Answer) (v : View) (s : Sunk) (e : Error)
+pub Rendered-refused : {Reg : Type 0} (answer : Answer) (v : View Reg) (s : Sunk) (e : Error)
     → IfSome (told e) (λ refusal. answer ≡ Err refusal) → Rendered answer v s s (Err e)
 Rendered-refused (Ok nodes) v s e h = not_read nodes (run v nodes) s (told e) h
 Rendered-refused (Err refusal) v s e h = (refl, same_refusal refusal (told e) h)

@@ -14,6 +14,6 @@ Refuses refusal (Ok _) = ⊥
 Refuses refusal (Err error) = IfSome (told error) (λ reason. reason ≡ refusal)
 
 -- a text that is read as a tree is rendered as the tree's run; one that is refused is refused alike, and nothing is written
-abbrev pub Rendered : Answer → View → Sunk → Sunk → Result (Unit {0}) Error → Type 0
+abbrev pub Rendered : {Reg : Type 0} → Answer → View Reg → Sunk → Sunk → Result (Unit {0}) Error → Type 0
 Rendered (Ok nodes) v before after result = Outcome (run v nodes) before after result
 Rendered (Err refusal) v before after result = (after ≡ before) × Refuses refusal result

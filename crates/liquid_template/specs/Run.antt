@@ -1,10 +1,12 @@
 -- What rendering nodes comes to: a finished list of steps and an end.
-use Rattle.std.specs.Prelude.{ℕ, List, [], ◌∷◌, ◌++◌, Option, None, Some, Result, Ok, Err}
+use Rattle.std.specs.Prelude.{ℕ, List, [], ◌∷◌, ◌++◌, Option, None, Some, Result, Ok, Err, ok_or}
 use Rattle.std.specs.List.{concat}
 use Rattle.liquid_error.specs.Refusal.{Refusal}
 use Rattle.liquid_value.specs.Tree.{Tree}
 use Rattle.liquid_value.specs.Render.{render}
-use Rattle.liquid_runtime.specs.View.{View, found}
+use Rattle.liquid_runtime.specs.View.{View}
+use Rattle.liquid_runtime.specs.NamesSeen.{lookup}
+use Rattle.liquid_runtime.specs.Lookup.{unknown_variable}
 use Rattle.liquid_parser.specs.Tree.{NodeShape, text, name}
 
 -- the pieces that are written, in order, and the refusal that ends them, if one does
@@ -43,12 +45,12 @@ value_run (Ok value) = one_piece (render value)
 value_run (Err refusal) = refused refusal
 
 -- a text is written as it stands, a name as what it gives in the view
-abbrev pub node_run : View → NodeShape → Run
+abbrev pub node_run : {Reg : Type 0} → View Reg → NodeShape → Run
 node_run v (text bytes) = one_piece bytes
-node_run v (name n) = value_run (found v n)
+node_run v (name n) = value_run (ok_or (lookup v n) (unknown_variable n))
 
 -- the nodes in order, up to the first one that is refused
-abbrev pub run : View → List NodeShape → Run
+abbrev pub run : {Reg : Type 0} → View Reg → List NodeShape → Run
 run v [] = done
 run v (n ∷ ns) = and_then (node_run v n) (run v ns)
 

@@ -1,7 +1,9 @@
 //! Rendering nodes.
-ghost use Rattle.std.specs.Prelude.{◌≡◌, IsUtf8, OnOk, map};
+ghost use Rattle.std.specs.Prelude.{◌≡◌, IfSome, IsUtf8, OnOk, map};
+ghost use Rattle.liquid_error.specs.Told.{told};
 ghost use Rattle.liquid_value.specs.View.{view as tree_of};
 ghost use Rattle.liquid_value.specs.Render.{render};
+ghost use Rattle.liquid_runtime.specs.Lookup.{unknown_variable as unknown_variable_refusal};
 ghost use Rattle.liquid_parser.specs.Tree.{shape};
 ghost use Rattle.liquid_template.specs.Grows.{Grows};
 ghost use Rattle.liquid_template.specs.Outcome.{Outcome, sunk};
@@ -54,11 +56,18 @@ fn render_node<K: Sink, R: Runtime>(
 {
     match node {
         Node::Text(text) => write_piece(alloc, sink, text.as_str()),
-        Node::Name(name) => match runtime.get_name(alloc, name.as_str()) {
-            Ok(value) => render_value(alloc, value, sink),
-            Err(error) => Err(error),
+        Node::Name(name) => match runtime.try_get_name(name.as_str()) {
+            Some(value) => render_value(alloc, value, sink),
+            None => Err(unknown_variable(alloc, name.as_str())),
         },
     }
+}
+
+// The refusal of a name that has no value.
+fn unknown_variable(alloc: Global, name: &str) -> Error
+    ensures { IfSome (told result) (λ refusal. refusal ≡ unknown_variable_refusal name.now) }
+{
+    Error::with_msg(alloc, "Unknown variable").context(alloc, "requested variable", name)
 }
 
 // Writes the text that the value renders as.

@@ -54,13 +54,13 @@ fn name_node(alloc: Global, name: &str) -> Result<Node, AllocError> {
     Ok(Node::Name(name.to_string(alloc)?))
 }
 
-fn runtime_with(alloc: Global, name: &str, value: Value) -> Result<BuiltRuntime, AllocError> {
+fn runtime_with(alloc: Global, name: &str, value: Value) -> Result<BuiltRuntime<(), ()>, AllocError> {
     let mut globals = Object::new(alloc);
     globals.insert(name.to_string(alloc)?, value)?;
     Ok(RuntimeBuilder::new(alloc).set_globals(globals).build())
 }
 
-fn world(alloc: Global) -> Result<BuiltRuntime, AllocError> {
+fn world(alloc: Global) -> Result<BuiltRuntime<(), ()>, AllocError> {
     let text = "World".to_string(alloc)?;
     runtime_with(alloc, "name", Value::Scalar(ScalarOf::Str(text)))
 }
@@ -169,7 +169,7 @@ fn bytes_that_are_no_text_are_refused(rt: HostRuntime) {
 #[test]
 fn text_before_an_unknown_name_is_written(rt: HostRuntime) -> Result<(), Fail> {
     let alloc = rt.alloc();
-    let mut runtime = RuntimeBuilder::new(alloc).build();
+    let mut runtime: BuiltRuntime<(), ()> = RuntimeBuilder::new(alloc).build();
     let mut sink = TextSink::new(alloc);
     let language = Language::empty(alloc);
     let answer = render_source(alloc, "a{{ x }}b", &language, &mut runtime, &mut sink);

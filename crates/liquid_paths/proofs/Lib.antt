@@ -1,0 +1,4 @@
+pub mod Values
+pub mod Turns
+pub mod Refusals
+pub mod Agreement

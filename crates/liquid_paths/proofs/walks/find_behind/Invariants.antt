@@ -1,0 +1,10 @@
+use Rattle.std.proofs.Common.{◌≡◌, take, drop}
+use Rattle.liquid_value.specs.Cow.{cow_view}
+use Rattle.liquid_value.specs.View.{view}
+use Rattle.liquid_paths.specs.Walk.{find_behind}
+use Rattle.liquid_paths.specs.PathOf.{indexes_of}
+use Rattle.liquid_paths.specs.InPlace.{InPlace}
+use Rattle.liquid_paths.proofs.walks.find_behind.Given as goal
+
+abbrev pub invariant-loop-place : goal.invariant-loop-place
+invariant-loop-place l = (find_behind (indexes_of (take l.front l.path)) (view l.value) (indexes_of (drop l.front l.path)) ≡ find_behind (indexes_of (take l.place l.path)) (cow_view l.at) (indexes_of (drop l.place l.path))) × InPlace l.at

@@ -1,0 +1,5 @@
+pub mod Step
+pub mod Walk
+pub mod PathOf
+pub mod InPlace
+pub mod Laws

@@ -1,0 +1,48 @@
+-- What a filter sees of a view is all that an expression needs.
+use Rattle.std.proofs.Common.{◌≡◌, [], ◌∷◌, Option, Result, Ok, Err, refl, ap, ◌∙◌, cond, true, false, Bool, ◌&&◌}
+use Rattle.std.specs.Prelude.{ok_or, unwrap_or, is_none}
+use Rattle.std.specs.FinMap.{empty, get}
+use Rattle.liquid_error.specs.Refusal.{Refusal}
+use Rattle.liquid_runtime.specs.Maps.{Names, over}
+use Rattle.liquid_scalar.specs.Scalar.{render_scalar}
+use Rattle.liquid_value.specs.Parts.{as_scalar}
+use Rattle.liquid_error.specs.Refusal.{ok_then}
+use Rattle.liquid_runtime.specs.Erased.{erase, without_names}
+use Rattle.liquid_runtime.specs.View.{View}
+use Rattle.liquid_runtime.specs.NamesSeen.{upper_names, floor_names, is_sealed}
+use Rattle.liquid_runtime.specs.Lookup.{found, sealed_answer, unknown_variable}
+use Rattle.liquid_paths.specs.Walk.{Path, find_behind}
+use Rattle.liquid_plugins.specs.Expression.{ExpressionShape, literal, variable, Indexes, no_indexes, index}
+use Rattle.liquid_plugins.specs.Evaluation.{evaluate, path_of, expected_scalar}
+
+shown_erased : (b : Bool) (globals : Option Names) → cond b (unwrap_or (cond b globals (without_names globals)) empty) empty ≡ cond b (unwrap_or globals empty) empty
+shown_erased true globals = refl
+shown_erased false globals = refl
+
+ok_then-same : {A B : Type 0} (r : Result A Refusal) (f g : A → Result B Refusal) → ((x : A) → f x ≡ g x) → ok_then r f ≡ ok_then r g
+ok_then-same (Ok x) f g e = e x
+ok_then-same (Err refusal) f g e = refl
+
+module _ {Reg : Type 0} where
+  pub upper_erased : (v : View Reg) → upper_names (erase v) ≡ upper_names v
+  upper_erased v = ap (λ m. over v.locals (over m v.base)) (shown_erased v.shown v.globals)
+
+  pub found_erased : (v : View Reg) (path : Path) → found (erase v) path ≡ found v path
+  found_erased v [] = refl
+  found_erased v (name ∷ path) =
+      ap (λ (upper : Names). ok_then (ok_or (get (over upper (floor_names v)) (render_scalar name)) (unknown_variable (render_scalar name)))
+      (λ t. sealed_answer (is_sealed v.floor && is_none (get upper (render_scalar name))) (render_scalar name) (find_behind (name ∷ []) t path)))
+      (upper_erased v)
+
+  mutual
+    pub evaluate_erased : (v : View Reg) (e : ExpressionShape) → evaluate (erase v) e ≡ evaluate v e
+    evaluate_erased v (literal t) = refl
+    evaluate_erased v (variable name is) =
+        ap (λ r. ok_then r (λ path. found (erase v) (name ∷ path))) (path_erased v is)
+        ∙ ok_then-same (path_of v is) (λ path. found (erase v) (name ∷ path)) (λ path. found v (name ∷ path)) (λ path. found_erased v (name ∷ path))
+
+    path_erased : (v : View Reg) (is : Indexes) → path_of (erase v) is ≡ path_of v is
+    path_erased v no_indexes = refl
+    path_erased v (index e es) =
+        ap (λ r. ok_then r (λ t. ok_then (ok_or (as_scalar t) (expected_scalar t)) (λ scalar. ok_then (path_of (erase v) es) (λ path. Ok (scalar ∷ path))))) (evaluate_erased v e)
+        ∙ ap (λ q. ok_then (evaluate v e) (λ t. ok_then (ok_or (as_scalar t) (expected_scalar t)) (λ scalar. ok_then q (λ path. Ok (scalar ∷ path))))) (path_erased v es)

@@ -1,0 +1,5 @@
+pub mod Agreement
+pub mod ErasedLemmas
+pub mod PathSteps
+pub mod Registries
+pub mod Uneven

@@ -1,0 +1,20 @@
+-- The path of a variable, index by index.
+use Rattle.std.proofs.Common.{◌≡◌, ℕ, ◌+◌, ◌<◌, List, ◌++◌, length, drop, get_or, Option, option_map, Result, Ok, ap, ◌∙◌, add-one}
+use Rattle.std.proofs.Math.Seq.{drop-cons}
+use Rattle.liquid_error.specs.Refusal.{Refusal}
+use Rattle.liquid_error.specs.Refusal.{ok_then}
+use Rattle.liquid_paths.specs.Walk.{Path}
+use Rattle.liquid_plugins.specs.Expression.{index}
+use Rattle.liquid_plugins.specs.ExpressionOf.{expression_of, expressions_of}
+use Rattle.liquid_plugins.specs.declared.expression.Expression.{Expression}
+
+-- a path behind a front, if there is one
+abbrev pub try_behind : Path → Option Path → Option Path
+try_behind front o = option_map (λ path. front ++ path) o
+
+-- a path behind a front
+abbrev pub behind : Path → Result Path Refusal → Result Path Refusal
+behind front r = ok_then r (λ path. Ok (front ++ path))
+
+pub expressions_of-drop : (es : List Expression) (i : ℕ) (e : Expression) → i < length es → e ≡ get_or es i e → expressions_of (drop i es) ≡ index (expression_of e) (expressions_of (drop (i + 1) es))
+expressions_of-drop es i e within is = ap expressions_of (drop-cons es i e within) ∙ rw (add-one, ← is)

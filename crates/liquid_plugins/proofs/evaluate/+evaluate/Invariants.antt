@@ -1,0 +1,13 @@
+use Rattle.std.proofs.Common.{◌≡◌, drop, string_bytes}
+use Rattle.liquid_scalar.specs.Scalar.{scal}
+use Rattle.liquid_paths.specs.PathOf.{path_of as code_path_of}
+use Rattle.liquid_plugins.specs.Evaluation.{path_of}
+use Rattle.liquid_plugins.specs.ExpressionOf.{expressions_of}
+use Rattle.liquid_plugins.specs.Parts.{named_path}
+use Rattle.liquid_plugins.proofs.PathSteps.{behind}
+use Rattle.liquid_plugins.proofs.evaluate.+evaluate.Given as goal
+
+abbrev pub invariant-named_path-loop-index : goal.invariant-named_path-loop-index
+invariant-named_path-loop-index g l =
+    let v = g.R.Runtime.view l.runtime in
+    named_path v (scal string_bytes l.name) (expressions_of l.indexes.items) ≡ behind (code_path_of l.path) (path_of v (expressions_of (drop l.index-index l.index-items)))

@@ -1,0 +1,125 @@
+//! What chains come to over a runtime, and the text that they display.
+ghost use Rattle.std.specs.Prelude.{◌≡◌, ◌++◌, codes, map, Some};
+ghost use Rattle.std.specs.Fmt.{WritesOnOk};
+ghost use Rattle.std.specs.List.{flat_map, join_by};
+ghost use Rattle.liquid_error.specs.Refusal.{with_trace, with_context};
+ghost use Rattle.liquid_error.specs.Told.{Gives, Becomes};
+ghost use Rattle.liquid_value.specs.Cow.{cow_view};
+ghost use Rattle.liquid_value.specs.Render.{source};
+ghost use Rattle.liquid_runtime.specs.Erased.{erase};
+ghost use Rattle.liquid_plugins.specs.Chain.{filtered, chain_value, chain_text};
+ghost use Rattle.liquid_plugins.specs.ExpressionOf.{expression_of, chain_of};
+
+use crate::expression::{Expression, FilterChain};
+use crate::filter::Filter;
+use crate::text::write_expression;
+use liquid_error::Error;
+use liquid_runtime::Runtime;
+use liquid_value::ValueCow;
+use liquid_value::render::ValueSource;
+use std::alloc::Global;
+use std::fmt;
+
+impl<X: Filter> FilterChain<X> {
+    /// A chain of an expression and filters.
+    pub fn new(entry: Expression, filters: Vec<X>) -> FilterChain<X>
+        ensures { chain_of X.shape result ≡ record { entry = expression_of entry; filters = map X.shape filters.items } }
+    {
+        FilterChain { entry, filters }
+    }
+
+    /// What the chain comes to, or the first refusal from the left.
+    ///
+    /// The refusal of a filter gets the trace `Filter error` with the filter's label and the source of its input.
+    pub fn evaluate<'s, R: Runtime>(
+        &'s self,
+        alloc: Global,
+        runtime: &'s R,
+    ) -> Result<ValueCow<'s>, Error>
+        ensures { Gives cow_view result (chain_value (record { answers = X.answers; label = X.shown }) (chain_of X.shape self.now) (R.view runtime.now)) }
+    {
+        match self.entry.evaluate(alloc, runtime) {
+            Ok(value) => apply(alloc, value, self.filters.as_slice(), runtime),
+            Err(error) => Err(error),
+        }
+    }
+}
+
+/// The value through the filters, from left to right.
+fn apply<'s, X: Filter, R: Runtime>(
+    alloc: Global,
+    value: ValueCow<'s>,
+    filters: &'s [X],
+    runtime: &'s R,
+) -> Result<ValueCow<'s>, Error>
+    ensures { Gives cow_view result (filtered (record { answers = X.answers; label = X.shown }) (erase (R.view runtime.now)) (map X.shape filters.now) (cow_view value.entry)) }
+{
+    let mut current = value;
+    for filter in filters {
+        match filter.evaluate(alloc, &current, runtime) {
+            Ok(next) => current = ValueCow::Owned(next),
+            Err(error) => return Err(filter_refused(alloc, filter, &current, error)),
+        }
+    }
+    Ok(current)
+}
+
+/// The refusal of a filter, with its label and its input.
+fn filter_refused<X: Filter>(alloc: Global, filter: &X, input: &ValueCow<'_>, error: Error) -> Error
+    ensures { Becomes (λ r. with_context (codes "input") (source (cow_view input.now)) (with_context (codes "filter") (X.shown (X.shape filter.now)) (with_trace (codes "Filter error") r))) error result }
+{
+    let source = match ValueSource::new(input.as_view()).to_string(alloc) {
+        Ok(source) => source,
+        Err(_) => return Error::Memory,
+    };
+    with_filter(alloc, error, filter.label(), source.as_str())
+}
+
+/// The refusal with the trace of a filter, its label and its input's source.
+fn with_filter(alloc: Global, error: Error, label: &str, source: &str) -> Error
+    ensures { Becomes (λ r. with_context (codes "input") source.now (with_context (codes "filter") label.now (with_trace (codes "Filter error") r))) error result }
+{
+    error
+        .trace(alloc, "Filter error")
+        .context(alloc, "filter", label)
+        .context(alloc, "input", source)
+}
+
+/// The entry, ` | `, and the labels with ` | ` between.
+impl<X: Filter> fmt::Display for FilterChain<X> {
+    ghost output = { λ c. Some (chain_text (record { answers = X.answers; label = X.shown }) (chain_of X.shape c)) };
+
+    fn fmt<W: fmt::Write>(&self, f: &mut fmt::Formatter<W>) -> fmt::Result {
+        write_expression(&self.entry, f)?;
+        f.write_str(" | ")?;
+        write_labels(self.filters.as_slice(), f)
+    }
+}
+
+fn write_labels<X: Filter, W: fmt::Write>(filters: &[X], f: &mut fmt::Formatter<W>) -> fmt::Result
+    ensures { WritesOnOk W.write_str_gives f.old result (join_by X.shown (codes " | ") (map X.shape filters.now)) f.new }
+{
+    match filters {
+        [] => Ok(()),
+        [first, rest @ ..] => {
+            f.write_str(first.label())?;
+            write_more(rest, f)
+        }
+    }
+}
+
+fn write_more<X: Filter, W: fmt::Write>(filters: &[X], f: &mut fmt::Formatter<W>) -> fmt::Result
+    ensures { WritesOnOk W.write_str_gives f.old result (flat_map (λ x. codes " | " ++ X.shown x) (map X.shape filters.now)) f.new }
+{
+    for filter in filters {
+        write_next(filter, f)?;
+    }
+    Ok(())
+}
+
+fn write_next<X: Filter, W: fmt::Write>(filter: &X, f: &mut fmt::Formatter<W>) -> fmt::Result
+    ensures { WritesOnOk W.write_str_gives f.old result (codes " | " ++ X.shown (X.shape filter.now)) f.new }
+{
+    f.write_str(" | ")?;
+    f.write_str(filter.label())
+}

@@ -1,0 +1,223 @@
+//! What expressions come to over a runtime.
+ghost use Rattle.std.specs.Prelude.{ok_or, ◌≡◌, string_bytes, IfOk, IfSome, option_map};
+ghost use Rattle.liquid_error.specs.Told.{told, Gives};
+ghost use Rattle.liquid_scalar.specs.Scalar.{scal};
+ghost use Rattle.liquid_value.specs.Cow.{cow_view};
+ghost use Rattle.liquid_value.specs.Parts.{as_scalar};
+ghost use Rattle.liquid_value.specs.View.{view as tree_of};
+ghost use Rattle.liquid_paths.specs.InPlace.{InPlace};
+ghost use Rattle.liquid_paths.specs.PathOf.{index_of, path_of};
+ghost use Rattle.liquid_plugins.specs.Evaluation.{evaluate, expected_scalar, try_evaluate};
+ghost use Rattle.liquid_plugins.specs.ExpressionOf.{expression_of, expressions_of, name_of, own_indexes_of};
+ghost use Rattle.liquid_plugins.specs.Parts.{named_path, try_named_path};
+
+use crate::expression::{Expression, Variable, VariableOf};
+use liquid_error::Error;
+use liquid_paths::Path;
+use liquid_runtime::Runtime;
+use liquid_scalar::{Scalar, ScalarCow, ScalarOf};
+use liquid_value::render::ValueSource;
+use liquid_value::{Value, ValueCow};
+use std::alloc::{AllocError, Global};
+use std::borrow::CowStr;
+
+impl Expression {
+    /// What the expression comes to, or the first refusal from the left: a literal's value, and
+    /// what the runtime has at a variable's path. A value that stands in either is borrowed.
+    pub fn evaluate<'c, R: Runtime>(
+        &'c self,
+        alloc: Global,
+        runtime: &'c R,
+    ) -> Result<ValueCow<'c>, Error>
+        ensures gives { Gives cow_view result (evaluate (R.view runtime.now) (expression_of self.now)) }
+        ensures in_place { IfOk result InPlace }
+    {
+        evaluate(alloc, self, runtime)
+    }
+
+    /// What the expression comes to, if it comes to a value. An `Err` is want of memory.
+    pub fn try_evaluate<'c, R: Runtime>(
+        &'c self,
+        alloc: Global,
+        runtime: &'c R,
+    ) -> Result<Option<ValueCow<'c>>, AllocError>
+        ensures gives { IfOk result (λ value. option_map cow_view value ≡ try_evaluate (R.view runtime.now) (expression_of self.now)) }
+        ensures in_place { IfOk result (λ value. IfSome value InPlace) }
+    {
+        try_evaluate(alloc, self, runtime)
+    }
+}
+
+impl VariableOf<Expression> {
+    /// The path of the variable, or the first refusal of an index from the left.
+    pub fn evaluate<'c, R: Runtime>(
+        &'c self,
+        alloc: Global,
+        runtime: &'c R,
+    ) -> Result<Path<'c>, Error>
+        ensures { Gives path_of result (named_path (R.view runtime.now) (name_of self.now) (own_indexes_of self.now)) }
+    {
+        named_path(alloc, &self.variable, &self.indexes, runtime)
+    }
+
+    /// The path of the variable, if each index comes to a scalar. An `Err` is want of memory.
+    pub fn try_evaluate<'c, R: Runtime>(
+        &'c self,
+        alloc: Global,
+        runtime: &'c R,
+    ) -> Result<Option<Path<'c>>, AllocError>
+        ensures { IfOk result (λ path. option_map path_of path ≡ try_named_path (R.view runtime.now) (name_of self.now) (own_indexes_of self.now)) }
+    {
+        try_named_path(alloc, &self.variable, &self.indexes, runtime)
+    }
+}
+
+/// What the expression comes to, or the first refusal from the left.
+#[cycle(evaluate)]
+fn evaluate<'c, R: Runtime>(
+    alloc: Global,
+    expression: &'c Expression,
+    runtime: &'c R,
+) -> Result<ValueCow<'c>, Error>
+    ensures gives { Gives cow_view result (evaluate (R.view runtime.now) (expression_of expression.now)) }
+    ensures in_place { IfOk result InPlace }
+{
+    match expression {
+        Expression::Literal(value) => Ok(ValueCow::Borrowed(value)),
+        Expression::Variable(variable) => match named_path(
+            alloc,
+            &variable.variable,
+            &variable.indexes,
+            runtime,
+        ) {
+            Ok(path) => runtime.get(alloc, path.as_slice()),
+            Err(error) => Err(error),
+        },
+    }
+}
+
+/// The path of a name, and of what the indexes come to, from left to right.
+#[cycle(evaluate)]
+fn named_path<'c, R: Runtime>(
+    alloc: Global,
+    name: &'c Scalar,
+    indexes: &'c Vec<Expression>,
+    runtime: &'c R,
+) -> Result<Path<'c>, Error>
+    ensures { Gives path_of result (named_path (R.view runtime.now) (scal string_bytes name.now) (expressions_of indexes.now.items)) }
+{
+    let mut path = Path::with_index(alloc, name.as_ref())?;
+    for index in indexes {
+        match evaluate(alloc, index, runtime) {
+            Ok(value) => match index_of(alloc, value) {
+                Ok(scalar) => path.push(scalar)?,
+                Err(error) => return Err(error),
+            },
+            Err(error) => return Err(error),
+        }
+    }
+    Ok(path)
+}
+
+/// What the expression comes to, if it comes to a value.
+#[cycle(try_evaluate)]
+fn try_evaluate<'c, R: Runtime>(
+    alloc: Global,
+    expression: &'c Expression,
+    runtime: &'c R,
+) -> Result<Option<ValueCow<'c>>, AllocError>
+    ensures gives { IfOk result (λ value. option_map cow_view value ≡ try_evaluate (R.view runtime.now) (expression_of expression.now)) }
+    ensures in_place { IfOk result (λ value. IfSome value InPlace) }
+{
+    match expression {
+        Expression::Literal(value) => Ok(Some(ValueCow::Borrowed(value))),
+        Expression::Variable(variable) => {
+            match try_named_path(alloc, &variable.variable, &variable.indexes, runtime)? {
+                Some(path) => runtime.try_get(alloc, path.as_slice()),
+                None => Ok(None),
+            }
+        }
+    }
+}
+
+/// The path of a name, and of what the indexes come to, if each comes to a scalar.
+#[cycle(try_evaluate)]
+fn try_named_path<'c, R: Runtime>(
+    alloc: Global,
+    name: &'c Scalar,
+    indexes: &'c Vec<Expression>,
+    runtime: &'c R,
+) -> Result<Option<Path<'c>>, AllocError>
+    ensures { IfOk result (λ path. option_map path_of path ≡ try_named_path (R.view runtime.now) (scal string_bytes name.now) (expressions_of indexes.now.items)) }
+{
+    let mut path = Path::with_index(alloc, name.as_ref())?;
+    for index in indexes {
+        match try_evaluate(alloc, index, runtime)? {
+            Some(value) => match scalar_of(value) {
+                Some(scalar) => path.push(scalar)?,
+                None => return Ok(None),
+            },
+            None => return Ok(None),
+        }
+    }
+    Ok(Some(path))
+}
+
+/// The scalar that a value is, if it is one.
+fn scalar_of<'c>(value: ValueCow<'c>) -> Option<ScalarCow<'c>>
+    ensures { option_map index_of result ≡ as_scalar (cow_view value.entry) }
+{
+    match value {
+        ValueCow::Borrowed(value) => match value {
+            Value::Scalar(scalar) => Some(scalar.as_ref()),
+            _ => None,
+        },
+        ValueCow::Owned(value) => match value {
+            Value::Scalar(scalar) => Some(owned_index(scalar)),
+            _ => None,
+        },
+    }
+}
+
+/// The scalar of an index's value, or the refusal where it is none.
+fn index_of<'c>(alloc: Global, value: ValueCow<'c>) -> Result<ScalarCow<'c>, Error>
+    ensures { Gives index_of result (ok_or (as_scalar (cow_view value.entry)) (expected_scalar (cow_view value.entry))) }
+{
+    match value {
+        ValueCow::Borrowed(value) => match value {
+            Value::Scalar(scalar) => Ok(scalar.as_ref()),
+            _ => Err(expected_scalar(alloc, value)),
+        },
+        ValueCow::Owned(value) => match value {
+            Value::Scalar(scalar) => Ok(owned_index(scalar)),
+            other => Err(expected_scalar(alloc, &other)),
+        },
+    }
+}
+
+/// The refusal of an index that is no scalar.
+fn expected_scalar(alloc: Global, value: &Value) -> Error
+    ensures { IfSome (told result) (λ r. r ≡ expected_scalar (tree_of value.now)) }
+{
+    match ValueSource::new(value).to_string(alloc) {
+        Ok(source) => Error::with_msg(alloc, "Expected scalar").context(
+            alloc,
+            "found",
+            source.as_str(),
+        ),
+        Err(_) => Error::Memory,
+    }
+}
+
+/// The same scalar with a text that may be borrowed.
+fn owned_index<'c>(scalar: Scalar) -> ScalarCow<'c>
+    ensures { index_of result ≡ scal string_bytes scalar }
+{
+    match scalar {
+        ScalarOf::Integer(number) => ScalarOf::Integer(number),
+        ScalarOf::Bool(truth) => ScalarOf::Bool(truth),
+        ScalarOf::Str(text) => ScalarOf::Str(CowStr::Owned(text)),
+        ScalarOf::Date(date) => ScalarOf::Date(date),
+        ScalarOf::DateTime(date_time) => ScalarOf::DateTime(date_time),
+    }
+}

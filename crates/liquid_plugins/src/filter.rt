@@ -1,0 +1,72 @@
+//! Filters, and what makes them.
+ghost use Rattle.std.specs.Prelude.{◌≡◌, ℕ, List, Result};
+ghost use Rattle.liquid_error.specs.Refusal.{Refusal};
+ghost use Rattle.liquid_error.specs.Told.{Gives};
+ghost use Rattle.liquid_value.specs.Tree.{Tree};
+ghost use Rattle.liquid_value.specs.Cow.{cow_view};
+ghost use Rattle.liquid_value.specs.View.{view as tree_of};
+ghost use Rattle.liquid_error.specs.Refusal.{ok_then};
+ghost use Rattle.liquid_runtime.specs.Erased.{Erased, erase};
+ghost use Rattle.liquid_plugins.specs.ArgumentsOf.{Arguments, arguments_of};
+ghost use Rattle.liquid_plugins.specs.NoNames.{no_names_seen};
+
+use crate::meant::Meant;
+use crate::parameters::FilterArguments;
+use crate::reflection::FilterReflection;
+use liquid_error::Error;
+use liquid_runtime::{BuiltRuntime, Runtime, RuntimeBuilder};
+use liquid_value::{Value, ValueCow};
+use std::alloc::Global;
+
+/// A filter of a chain.
+///
+/// It reads the runtime and can't write to it. What it answers is a function of itself, its input
+/// and what it sees of the names: globals that are hidden from a template are hidden from it too.
+pub trait Filter: Meant + Drop {
+    // what it answers, by its input and what it sees of the view
+    ghost answers: { Self.Shape → Tree → Erased → Result Tree Refusal };
+
+    // its label
+    ghost shown: { Self.Shape → List ℕ };
+
+    /// The value that the filter makes of the input, or its refusal.
+    fn evaluate<'s, R: Runtime>(
+        &'s self,
+        alloc: Global,
+        input: &ValueCow<'_>,
+        runtime: &'s R,
+    ) -> Result<Value, Error>
+        ensures { Gives tree_of result (answers (Self.shape self.now) (cow_view input.now) (erase (R.view runtime.now))) };
+
+    /// The text that stands for the filter where a chain is shown and in the errors out of it.
+    fn label(&self) -> &str
+        ensures { result.now ≡ shown (Self.shape self.now) };
+}
+
+/// Makes the filters of a name, each of its arguments.
+pub trait ParseFilter: FilterReflection {
+    type Filter: Filter;
+
+    // the shape of the filter that arguments make, or the refusal
+    ghost makes: { Self → Arguments → Result Self.Filter.Shape Refusal };
+
+    /// The filter that the arguments make, or the refusal of arguments that don't fit.
+    fn parse(&self, alloc: Global, arguments: FilterArguments<'_>) -> Result<Self::Filter, Error>
+        ensures { Gives Self.Filter.shape result (makes self.now (arguments_of arguments.entry)) };
+}
+
+/// What the filter of these arguments makes of the input, over a runtime that has no names.
+pub fn call_filter<P: ParseFilter>(
+    alloc: Global,
+    filter: &P,
+    input: &ValueCow<'_>,
+    arguments: FilterArguments<'_>,
+) -> Result<Value, Error>
+    ensures { Gives tree_of result (ok_then (P.makes filter.now (arguments_of arguments.entry)) (λ x. P.Filter.answers x (cow_view input.now) no_names_seen)) }
+{
+    let runtime: BuiltRuntime<(), ()> = RuntimeBuilder::new(alloc).build();
+    match filter.parse(alloc, arguments) {
+        Ok(filter) => filter.evaluate(alloc, input, &runtime),
+        Err(error) => Err(error),
+    }
+}

@@ -1,0 +1,22 @@
+//! The laws of expressions, each as the contract of a function.
+ghost use Rattle.liquid_plugins.specs.Laws.{EvaluateAgrees, EvaluatesErased, PathsAgree};
+
+use liquid_runtime::Fresh;
+
+/// `evaluate` of an expression gives a value exactly where `try_evaluate` has one, and then the same.
+#[tactic(auto, using(crate::proofs::Agreement::evaluate_agrees))]
+pub fn evaluate_agrees_with_try_evaluate<V: Fresh>()
+    ensures { EvaluateAgrees V }
+{}
+
+/// `evaluate` of a variable gives a path exactly where `try_evaluate` has one, and then the same.
+#[tactic(auto, using(crate::proofs::Agreement::paths_agree))]
+pub fn paths_agree_with_tried_paths<V: Fresh>()
+    ensures { PathsAgree V }
+{}
+
+/// An expression comes to the same in what a filter sees of the names as in all of them.
+#[tactic(auto, using(crate::proofs::ErasedLemmas::evaluate_erased))]
+pub fn filters_see_enough<V: Fresh>()
+    ensures { EvaluatesErased V }
+{}

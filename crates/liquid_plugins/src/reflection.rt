@@ -1,0 +1,31 @@
+//! What filters say of themselves, for documentation.
+
+/// A parameter of a filter.
+#[derive(Debug, Clone, Copy, PartialEq, Eq)]
+pub struct ParameterReflection {
+    pub name: &'static str,
+    pub description: &'static str,
+    pub is_optional: bool,
+}
+
+/// The parameters that a filter takes.
+pub trait FilterParametersReflection {
+    /// Those by place, in order.
+    fn positional_parameters() -> &'static [ParameterReflection];
+
+    /// Those by keyword.
+    fn keyword_parameters() -> &'static [ParameterReflection];
+}
+
+/// A filter's name, description and parameters.
+pub trait FilterReflection {
+    fn name(&self) -> &str;
+
+    fn description(&self) -> &str;
+
+    /// The parameters by place, in order.
+    fn positional_parameters(&self) -> &'static [ParameterReflection];
+
+    /// The parameters by keyword.
+    fn keyword_parameters(&self) -> &'static [ParameterReflection];
+}

@@ -1,0 +1,39 @@
+//! Variables: a name, and indexes that lead from its value to one inside.
+ghost use Rattle.std.specs.Prelude.{◌≡◌, ◌++◌, [], ◌∷◌, map, string_bytes, IfOk};
+ghost use Rattle.liquid_scalar.specs.Scalar.{scal};
+ghost use Rattle.liquid_plugins.specs.Expression.{variable, no_indexes};
+ghost use Rattle.liquid_plugins.specs.ExpressionOf.{expression_of, indexes_of, index_list, literal_of, name_of, variable_of};
+
+use crate::expression::{Expression, Variable, VariableOf};
+use liquid_scalar::Scalar;
+use std::alloc::{AllocError, Global};
+
+impl VariableOf<Expression> {
+    /// The variable of this name, without indexes.
+    pub fn with_literal<S: Into<Scalar>>(alloc: Global, value: S) -> Variable
+        ensures { (s : _) × S.converts value s × (variable_of result ≡ variable (scal string_bytes s) no_indexes) }
+    {
+        VariableOf {
+            variable: value.into(),
+            indexes: Vec::new(alloc),
+        }
+    }
+
+    /// The variable with one more index, a literal. Where memory is refused the variable is dropped.
+    pub fn push_literal<S: Into<Scalar>>(self, value: S) -> Result<Variable, AllocError>
+        ensures { IfOk result (λ v. (s : _) × S.converts value s × (variable_of v ≡ variable (name_of self) (indexes_of (index_list self ++ literal_of (scal string_bytes s) ∷ [])))) }
+    {
+        let mut variable = self;
+        variable.indexes.push(Expression::with_literal(value))?;
+        Ok(variable)
+    }
+}
+
+/// Adds indexes behind the others. Where memory is refused a beginning of them is added.
+impl Extend<Expression> for VariableOf<Expression> {
+    ghost extend_gives = { λ v indexes w. variable_of w ≡ variable (name_of v) (indexes_of (index_list v ++ map expression_of indexes)) };
+
+    fn extend<U: IntoIterator<Item = Expression>>(&mut self, iter: U) -> Result<(), AllocError> {
+        self.indexes.extend(iter)
+    }
+}

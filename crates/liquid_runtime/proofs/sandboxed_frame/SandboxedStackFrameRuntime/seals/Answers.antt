@@ -1,0 +1,7 @@
+use Rattle.std.proofs.Common.{sym, option_map, string_bytes}
+use Rattle.liquid_runtime.specs.Maps.{names_of}
+use Rattle.liquid_runtime.proofs.FrameLaws.{seal_sandboxed}
+use Rattle.liquid_runtime.proofs.sandboxed_frame.SandboxedStackFrameRuntime.seals.Goals as goal
+
+pub returns : goal.returns
+returns g c = let f = c.args.self.now in sym (seal_sandboxed f.registers.value (names_of f.names) (option_map (λ s. string_bytes s) f.name) (g.P.Runtime.view f.parent) c.args._name.now)

@@ -1,0 +1,98 @@
+ghost use Rattle.std.specs.Prelude.{◌≡◌, ◌↔◌, IsTrue, IsSome, None, Some};
+
+/// What a node asks of the list of elements around it: to go on with the next turn of a loop, or to
+/// leave the loop.
+#[derive(Debug, Clone, Copy, PartialEq, Eq, Drop)]
+pub enum Interrupt {
+    Continue,
+    Break,
+}
+
+/// Holds the interrupt that stands, if one does.
+#[derive(Debug, Clone, PartialEq, Eq, Drop)]
+pub struct InterruptRegister {
+    pub(crate) current: Option<Interrupt>,
+}
+
+impl InterruptRegister {
+    ghost use Rattle.liquid_runtime.specs.Calls.{interrupt_of};
+
+    /// Whether an interrupt stands.
+    pub fn interrupted(&self) -> bool
+        ensures { IsTrue result ↔ IsSome (interrupt_of self.now) }
+    {
+        self.current.is_some()
+    }
+
+    /// Lets this interrupt stand, in place of any other.
+    pub fn set(&mut self, interrupt: Interrupt)
+        ensures { interrupt_of self.new ≡ Some interrupt }
+    {
+        self.current = Some(interrupt);
+    }
+
+    /// Answers the interrupt that stands, and lets none stand.
+    pub fn reset(&mut self) -> Option<Interrupt>
+        ensures answers { result ≡ interrupt_of self.old }
+        ensures leaves { interrupt_of self.new ≡ None }
+    {
+        self.current.take()
+    }
+}
+
+/// No interrupt.
+impl Default for InterruptRegister {
+    ghost use Rattle.liquid_runtime.specs.Calls.{interrupt_of};
+
+    ghost is_default = { λ register. interrupt_of register ≡ None };
+
+    fn default() -> InterruptRegister {
+        InterruptRegister { current: None }
+    }
+}
+
+/// A register's first value, which is always the same.
+pub trait Fresh: Drop {
+    ghost fresh: { Self };
+
+    fn fresh() -> Self
+        ensures { result ≡ fresh };
+}
+
+/// A register for callers that need none.
+impl Fresh for () {
+    ghost fresh = { tt };
+
+    fn fresh() {}
+}
+
+/// The interrupt, and one register of the caller's type. A sandboxed frame has registers of its own.
+#[derive(Drop)]
+pub struct Registers<V> {
+    pub interrupt: InterruptRegister,
+    pub value: V,
+}
+
+impl<V: Fresh> Registers<V> {
+    ghost use Rattle.liquid_runtime.specs.Calls.{fresh_registers};
+
+    pub(crate) fn fresh() -> Registers<V>
+        ensures { result ≡ fresh_registers V.fresh }
+    {
+        Registers {
+            interrupt: InterruptRegister { current: None },
+            value: V::fresh(),
+        }
+    }
+}
+
+/// No interrupt, and the register's first value.
+impl<V: Fresh> Default for Registers<V> {
+    ghost use Rattle.liquid_runtime.specs.Calls.{fresh_registers};
+
+    ghost is_default = { λ registers. registers ≡ fresh_registers V.fresh };
+
+    fn default() -> Registers<V> {
+        Registers::fresh()
+    }
+}

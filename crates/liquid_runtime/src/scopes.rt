@@ -1,0 +1,64 @@
+ghost use Rattle.std.specs.Prelude.{◌≡◌, ℕ, List, [], ◌∷◌, ◌<◌, length, None, IfErr, OnOk, OnErr};
+ghost use Rattle.liquid_error.specs.Told.{told};
+ghost use Rattle.liquid_runtime.specs.View.{View};
+ghost use Rattle.liquid_runtime.specs.Frames.{Restore, scope_base, beginning, restored_by};
+ghost use Rattle.liquid_runtime.specs.OpenFrames.{opened, EndsFirst};
+ghost use Rattle.liquid_runtime.specs.Calls.{frame_of};
+
+use crate::registers::Fresh;
+use crate::runtime::Runtime;
+use liquid_error::Error;
+use liquid_value::Object;
+use std::alloc::Global;
+
+/// A frame, as a value: none, names with the name of the template if it sets one, the same alone, or
+/// a frame that takes what a template assigns.
+#[derive(Drop)]
+pub enum Frame {
+    None,
+    Stack(Object, Option<String>),
+    Sandboxed(Object, Option<String>),
+    Global,
+}
+
+/// A runtime over one base, on which frames are pushed and popped.
+pub trait Scopes: Runtime {
+    type Base: Runtime<Register = Self::Register, Store = Self::Store>;
+
+    /// Scopes over this base, without a frame of their own.
+    fn new(alloc: Global, base: Self::Base) -> Self
+        ensures view { Self.view result ≡ Self.Base.view base }
+        ensures store { Self.store result ≡ Self.Base.store base }
+        ensures kept { Self.restores result ≡ scope_base ∷ Self.Base.restores base }
+        ensures same { Self.lent result ≡ Self.Base.lent base };
+
+    /// Begins a frame. A none frame changes nothing and counts like any other. An `Err` is want of
+    /// memory, and leaves everything as it was.
+    fn push(&mut self, frame: Frame) -> Result<(), Error>
+        ensures ok { OnOk result (Self.view self.new ≡ beginning Self.Register.fresh (frame_of frame) (Self.view self.old)) }
+        ensures opens { OnOk result (Self.restores self.new ≡ restored_by (frame_of frame) (Self.view self.old) ∷ Self.restores self.old) }
+        ensures err { IfErr result (λ e. told e ≡ None) }
+        ensures unchanged { OnErr result (Self.view self.new ≡ Self.view self.old) }
+        ensures kept { OnErr result (Self.restores self.new ≡ Self.restores self.old) }
+        ensures stays { Self.store self.new ≡ Self.store self.old }
+        ensures same { Self.lent self.new ≡ Self.lent self.old };
+
+    /// Ends the frame that was begun last; the caller has pushed one that it has not popped.
+    fn pop(&mut self)
+        requires { 0 < length (opened (Self.restores self.old)) }
+        ensures ends { EndsFirst (Self.restores self.old) (Self.view self.old) (Self.restores self.new) (Self.view self.new) }
+        ensures stays { Self.store self.new ≡ Self.store self.old }
+        ensures same { Self.lent self.new ≡ Self.lent self.old };
+
+    /// How many frames are open.
+    fn frames(&self) -> usize
+        ensures { result ≡ length (opened (Self.restores self.now)) };
+
+    /// The base again; the caller has popped every frame.
+    fn into_base(self) -> Self::Base
+        requires { opened (Self.restores self) ≡ [] }
+        ensures view { Self.Base.view result ≡ Self.view self }
+        ensures store { Self.Base.store result ≡ Self.store self }
+        ensures kept { scope_base ∷ Self.Base.restores result ≡ Self.restores self }
+        ensures same { Self.Base.lent result ≡ Self.lent self };
+}

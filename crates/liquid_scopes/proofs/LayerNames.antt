@@ -1,0 +1,18 @@
+-- The names that are seen under a layer.
+use Rattle.std.proofs.Common.{ap, sym, ◌∙◌}
+use Rattle.std.specs.Prelude.{String, is_some}
+use Rattle.std.specs.BTreeSet.{BTreeSet, contains_text}
+use Rattle.std.specs.declared.alloc.Global.{Global}
+use Rattle.liquid_runtime.specs.View.{View}
+use Rattle.liquid_runtime.specs.Roots.{NamesOf}
+use Rattle.liquid_runtime.specs.NamesSeen.{names_seen}
+use Rattle.liquid_runtime.proofs.FrameLaws.{lookup_sandboxed}
+use Rattle.liquid_runtime.proofs.FrameLookups.{roots_stack, roots_global}
+use Rattle.liquid_scopes.specs.Layers.{Layer, none_layer, stack_layer, global_layer, sandboxed_layer, layer_view, LayerNames}
+
+module _ {Reg : Type 0} where
+  pub roots_layer : (l : Layer Reg) (v : View Reg) (below set : BTreeSet (String Global)) → LayerNames l below set → NamesOf (names_seen v) below → NamesOf (names_seen (layer_view l v)) set
+  roots_layer none_layer v below set is of = λ q. ap (λ s. contains_text s q) is ∙ of q
+  roots_layer (stack_layer d n) v below set is of = roots_stack d n v below set is of
+  roots_layer (global_layer g) v below set is of = roots_global g v below set is of
+  roots_layer (sandboxed_layer d n saved) v below set is of = λ q. is q ∙ ap is_some (sym (lookup_sandboxed v.register d n v q))

@@ -1,0 +1,2 @@
+pub mod LayerLaws
+pub mod LayerNames

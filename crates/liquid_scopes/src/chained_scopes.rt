@@ -1,0 +1,168 @@
+ghost use Rattle.std.specs.Prelude.{◌≡◌, ◌∷◌, map};
+ghost use Rattle.liquid_runtime.specs.Frames.{scope_base};
+ghost use Rattle.liquid_scopes.specs.Layers.{shown_over, restoring, LastGlobal};
+ghost use Rattle.liquid_scopes.specs.LinkLayers.{layer_of};
+
+use crate::link::{Link, closing, opening};
+use liquid_error::Error;
+use liquid_runtime::{Frame, Registers, Runtime, Scopes};
+use liquid_value::Value;
+use std::alloc::{AllocError, Global};
+use std::collections::BTreeSet;
+
+/// Scopes whose frames stand in a list over their base. A name is looked up frame by frame.
+pub struct ChainedScopes<R: Runtime> {
+    alloc: Global,
+    base: R,
+    links: Vec<Link<R::Register>>,
+}
+
+impl<R: Runtime> ChainedScopes<R> {
+    // The place of the innermost global frame.
+    fn last_global(&self) -> Option<usize>
+        ensures { LastGlobal (map layer_of self.now.links.items) result }
+    {
+        let mut at = None;
+        for i in 0..self.links.len() {
+            if self.links[i].is_global() {
+                at = Some(i);
+            }
+        }
+        at
+    }
+}
+
+impl<R: Runtime> Runtime for ChainedScopes<R> {
+    type Register = R::Register;
+
+    type Store = R::Store;
+
+    ghost view = { λ s. shown_over (R.view s.base) (map layer_of s.links.items) };
+
+    ghost store = { λ s. R.store s.base };
+
+    ghost relent = { λ s w. record s { base = R.relent s.base w } };
+
+    ghost restored = { λ s w. record s { base = R.restored s.base w } };
+
+    ghost restores = { λ s. restoring (R.view s.base) (map layer_of s.links.items) (scope_base ∷ R.restores s.base) };
+
+    ghost lent = { λ s. R.lent s.base };
+
+    fn name(&self) -> Option<&str> {
+        let mut name = self.base.name();
+        for link in &self.links {
+            name = link.name_over(name);
+        }
+        name
+    }
+
+    fn try_get_name(&self, name: &str) -> Option<&Value> {
+        let mut found = self.base.try_get_name(name);
+        for link in &self.links {
+            found = link.found(name, found);
+        }
+        found
+    }
+
+    fn seals(&self, name: &str) -> bool {
+        let below = self.base.seals(name);
+        let mut sealed = below;
+        for link in &self.links {
+            sealed = link.seals(name, sealed);
+        }
+        sealed
+    }
+
+    fn roots(&self, alloc: Global) -> Result<BTreeSet<String>, AllocError> {
+        let mut names = self.base.roots(alloc)?;
+        for link in &self.links {
+            names = link.roots_over(alloc, names)?;
+        }
+        Ok(names)
+    }
+
+    fn get_index(&self, name: &str) -> Option<&Value> {
+        self.base.get_index(name)
+    }
+
+    fn set_global(&mut self, name: String, value: Value) -> Result<Option<Value>, Error> {
+        match self.last_global() {
+            Some(i) => match self.links[i].assign(name, value) {
+                Ok(old) => Ok(old),
+                Err(e) => Err(e),
+            },
+            None => match self.base.set_global(name, value) {
+                Ok(old) => Ok(old),
+                Err(e) => Err(e),
+            },
+        }
+    }
+
+    fn set_index(&mut self, name: String, value: Value) -> Result<Option<Value>, Error> {
+        match self.base.set_index(name, value) {
+            Ok(old) => Ok(old),
+            Err(e) => Err(e),
+        }
+    }
+
+    fn registers(&self) -> &Registers<R::Register> {
+        self.base.registers()
+    }
+
+    fn registers_mut(&mut self) -> &mut Registers<R::Register> {
+        self.base.registers_mut()
+    }
+
+    fn partials(&mut self) -> Option<&mut R::Store> {
+        self.base.partials()
+    }
+
+    fn depth(&self) -> u32 {
+        self.base.depth()
+    }
+}
+
+impl<R: Runtime> Scopes for ChainedScopes<R> {
+    type Base = R;
+
+    fn new(alloc: Global, base: R) -> ChainedScopes<R> {
+        ChainedScopes {
+            alloc,
+            base,
+            links: Vec::new(alloc),
+        }
+    }
+
+    fn push(&mut self, frame: Frame) -> Result<(), Error> {
+        match self.links.reserve(1) {
+            Ok(()) => {}
+            Err(_) => return Err(Error::Memory),
+        }
+        let link = opening(self.alloc, &mut self.base, frame);
+        match self.links.push(link) {
+            Ok(()) => return Ok(()),
+            Err(_) => return Err(Error::Memory),
+        }
+    }
+
+    fn pop(&mut self) {
+        match self.links.pop() {
+            Some(link) => closing(&mut self.base, link),
+            None => {}
+        }
+    }
+
+    fn frames(&self) -> usize {
+        self.links.len()
+    }
+
+    fn into_base(self) -> R {
+        let ChainedScopes {
+            alloc: _alloc,
+            base,
+            links: _links,
+        } = self;
+        base
+    }
+}

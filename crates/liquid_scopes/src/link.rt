@@ -1,0 +1,161 @@
+ghost use Rattle.std.specs.Prelude.{◌≡◌, true, IfOk, OnOk, OnErr, IfErr, None, string_bytes, option_map};
+ghost use Rattle.std.specs.FinMap.{get, insert};
+ghost use Rattle.liquid_error.specs.Told.{told};
+ghost use Rattle.liquid_value.specs.View.{view as tree_of};
+ghost use Rattle.liquid_runtime.specs.View.{View};
+ghost use Rattle.liquid_runtime.specs.Frames.{beginning, restored_by, ending};
+ghost use Rattle.liquid_runtime.specs.Calls.{frame_of, registers_of, with_registers};
+ghost use Rattle.liquid_scopes.specs.Layers.{layer_found, layer_seals, layer_name, layer_view, layer_restores, is_global, assigned, LayerNames};
+ghost use Rattle.liquid_scopes.specs.LinkLayers.{layer_of};
+
+use liquid_error::Error;
+use liquid_runtime::names::{add_names, only_names, own_name, set_name, value_of};
+use liquid_runtime::{Frame, Registers, Runtime};
+use liquid_value::{Object, Value};
+use std::alloc::{AllocError, Global};
+use std::collections::BTreeSet;
+use std::mem;
+
+/// A frame that stands over the base, with what it holds.
+#[derive(Drop)]
+pub(crate) enum Link<V> {
+    None,
+    Stack(Object, Option<String>),
+    Global(Object),
+    // With the registers that its ending gives back.
+    Sandboxed(Object, Option<String>, Registers<V>),
+}
+
+impl<V> Link<V> {
+    #[tactic(auto, using(liquid_runtime::proofs::FrameLookups::own_first))]
+    pub(crate) fn found<'a>(&'a self, name: &str, below: Option<&'a Value>) -> Option<&'a Value>
+        ensures { option_map (λ r. tree_of r.now) result ≡ layer_found (layer_of self.now) name.now (option_map (λ r. tree_of r.now) below.entry) }
+    {
+        match self {
+            Link::None => below,
+            Link::Stack(data, _) => match value_of(data, name) {
+                Some(value) => Some(value),
+                None => below,
+            },
+            Link::Global(assigned) => match value_of(assigned, name) {
+                Some(value) => Some(value),
+                None => below,
+            },
+            Link::Sandboxed(data, _, _) => value_of(data, name),
+        }
+    }
+
+    #[tactic(auto, using(liquid_runtime::proofs::FrameLookups::own_first))]
+    pub(crate) fn seals(&self, name: &str, below: bool) -> bool
+        ensures { result ≡ layer_seals (layer_of self.now) name.now below }
+    {
+        match self {
+            Link::None => below,
+            Link::Stack(data, _) => match value_of(data, name) {
+                Some(_) => false,
+                None => below,
+            },
+            Link::Global(assigned) => match value_of(assigned, name) {
+                Some(_) => false,
+                None => below,
+            },
+            Link::Sandboxed(_, _, _) => true,
+        }
+    }
+
+    // The names that are seen under the link, from those that are seen below it.
+    pub(crate) fn roots_over(
+        &self,
+        alloc: Global,
+        below: BTreeSet<String>,
+    ) -> Result<BTreeSet<String>, AllocError>
+        ensures { IfOk result (λ names. LayerNames (layer_of self.now) below names) }
+    {
+        match self {
+            Link::None => Ok(below),
+            Link::Stack(data, _) => add_names(data, below),
+            Link::Global(assigned) => add_names(assigned, below),
+            Link::Sandboxed(data, _, _) => only_names(alloc, data),
+        }
+    }
+
+    pub(crate) fn name_over<'a>(&'a self, below: Option<&'a str>) -> Option<&'a str>
+        ensures { option_map (λ r. r.now) result ≡ layer_name (layer_of self.now) (option_map (λ r. r.now) below.entry) }
+    {
+        match self {
+            Link::None => below,
+            Link::Stack(_, name) => match own_name(name) {
+                Some(name) => Some(name),
+                None => below,
+            },
+            Link::Global(_) => below,
+            Link::Sandboxed(_, name, _) => match own_name(name) {
+                Some(name) => Some(name),
+                None => below,
+            },
+        }
+    }
+
+    pub(crate) fn is_global(&self) -> bool
+        ensures { result ≡ is_global (layer_of self.now) }
+    {
+        match self {
+            Link::None => false,
+            Link::Stack(_, _) => false,
+            Link::Global(_) => true,
+            Link::Sandboxed(_, _, _) => false,
+        }
+    }
+
+    pub(crate) fn assign(&mut self, name: String, value: Value) -> Result<Option<Value>, Error>
+        requires { is_global (layer_of self.old) ≡ true }
+        ensures old { IfOk result (λ old. option_map tree_of old ≡ get (assigned (layer_of self.old)) (string_bytes name)) }
+        ensures global { is_global (layer_of self.new) ≡ true }
+        ensures sets { OnOk result (assigned (layer_of self.new) ≡ insert (assigned (layer_of self.old)) (string_bytes name) (tree_of value)) }
+        ensures err { IfErr result (λ e. told e ≡ None) }
+        ensures unchanged { OnErr result (assigned (layer_of self.new) ≡ assigned (layer_of self.old)) }
+        ensures absent { OnErr result (None ≡ get (assigned (layer_of self.old)) (string_bytes name)) }
+    {
+        match self {
+            Link::Global(assigned) => set_name(assigned, name, value),
+            _ => Err(Error::Memory),
+        }
+    }
+}
+
+// The link of a frame that begins over the base: a sandboxed one takes the base's registers into the link.
+#[tactic(auto, using(liquid_runtime::proofs::Objects::changed_objects))]
+pub(crate) fn opening<R: Runtime>(alloc: Global, base: &mut R, frame: Frame) -> Link<R::Register>
+    ensures registers { R.view base.new ≡ with_registers (registers_of (R.view base.new)) (R.view base.old) }
+    ensures begins { (v : View R.Register) → registers_of v ≡ registers_of (R.view base.old) → layer_view (layer_of result) (with_registers (registers_of (R.view base.new)) v) ≡ beginning R.Register.fresh (frame_of frame) v }
+    ensures restores { (v : View R.Register) → registers_of v ≡ registers_of (R.view base.old) → layer_restores (layer_of result) (with_registers (registers_of (R.view base.new)) v) ≡ restored_by (frame_of frame) v }
+    ensures stays { R.store base.new ≡ R.store base.old }
+    ensures kept { R.restores base.new ≡ R.restores base.old }
+    ensures same { R.lent base.new ≡ R.lent base.old }
+{
+    match frame {
+        Frame::None => Link::None,
+        Frame::Stack(d, n) => Link::Stack(d, n),
+        Frame::Global => Link::Global(Object::new(alloc)),
+        Frame::Sandboxed(d, n) => {
+            let saved = mem::replace(base.registers_mut(), Registers::default());
+            Link::Sandboxed(d, n, saved)
+        }
+    }
+}
+
+// What the ending of a link's frame gives back to the base.
+pub(crate) fn closing<R: Runtime>(base: &mut R, link: Link<R::Register>)
+    ensures registers { R.view base.new ≡ with_registers (registers_of (R.view base.new)) (R.view base.old) }
+    ensures ends { (v : View R.Register) → registers_of v ≡ registers_of (R.view base.old) → with_registers (registers_of (R.view base.new)) v ≡ ending (layer_restores (layer_of link) v) (layer_view (layer_of link) v) }
+    ensures stays { R.store base.new ≡ R.store base.old }
+    ensures kept { R.restores base.new ≡ R.restores base.old }
+    ensures same { R.lent base.new ≡ R.lent base.old }
+{
+    match link {
+        Link::None => {}
+        Link::Stack(_d, _n) => {}
+        Link::Global(_g) => {}
+        Link::Sandboxed(_d, _n, saved) => *base.registers_mut() = saved,
+    }
+}
