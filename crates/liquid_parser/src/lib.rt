@@ -7,6 +7,8 @@ pub mod block;
 pub mod body;
 mod build;
 mod cursor;
+#[cfg(test)]
+mod cursor_tests;
 mod escape;
 mod expect;
 mod expect_chain;
