@@ -1,21 +1,21 @@
 -- The first token of a tag, as the cursor hands it out.
-use Rattle.std.proofs.Common.{◌≡◌, ℕ, List, [], ◌∷◌, map, Option, Some, None, Ok, Err, refl, sym, ap, ◌∙◌, subst}
+use Rattle.std.proofs.Common.{◌≡◌, ℕ, List, [], ◌∷◌, map, Some, None, Ok, Err, refl, sym, ap, ◌∙◌, subst}
 use Rattle.std.proofs.lemmas.Option.{same_Some}
 use Rattle.liquid_error.specs.declared.place.Place.{Place}
 use Rattle.liquid_error.specs.Refusal.{located}
 use Rattle.liquid_grammar.specs.declared.parts.TokenText.{TokenText}
 use Rattle.liquid_grammar.specs.declared.parts.TokenParts.{TokenParts}
 use Rattle.liquid_grammar.specs.declared.parts.TokenParts.TheVariants as parts
-use Rattle.liquid_grammar.specs.Faults.{token_fault, first_fault, tag_fault}
+use Rattle.liquid_grammar.specs.Faults.{token_fault, first_fault}
 use Rattle.liquid_grammar.specs.Grammar.{White}
 use Rattle.liquid_grammar.specs.Parts as part
 use Rattle.liquid_grammar.specs.Parts.{NoneLeft, First, HasParts}
-use Rattle.liquid_grammar.specs.Rules.{Repeated, ends, more, here, instead, ◌▷◌}
+use Rattle.liquid_grammar.specs.Rules.{Repeated, more, here, instead, ◌▷◌}
 use Rattle.liquid_grammar.specs.Tokens as token
 use Rattle.liquid_grammar.specs.Tokens.{range, chain, symbol, TokenRule}
 use Rattle.liquid_parser.specs.declared.tag_token.TagToken.{TagToken}
 use Rattle.liquid_parser.specs.declared.tokens.TagTokenIter.{TagTokenIter}
-use Rattle.liquid_parser.specs.Cursors.{IsToken, IsHandedOut, HandsOut, HandsOutOr, first_of, next}
+use Rattle.liquid_parser.specs.Cursors.{IsToken, IsHandedOut, first_of, next}
 use Rattle.liquid_parser.specs.Handed.{Token, Tokens, handed, handed_token, place_in, slice_between, expect_next, first_or}
 use Rattle.liquid_parser.specs.Plugins.{AreTokens}
 use Rattle.liquid_parser.proofs.Indexes.{first_none, second_none}
@@ -105,8 +105,8 @@ one_handed t ts text a f =
     let at_place : TokenRule text.place.now (behind_of f.part) f.part = subst (λ p. TokenRule p (behind_of f.part) f.part) (parts_place text.parts _ _ f.part has) rule in
     let behind : place_in source (behind_of f.part) ≡ place_in source f.middle = ap (place_in source) (parts_behind text.parts _ _ f.part f.found.has) in
     let token : Token = handed_token source f.part in
-    let others : List Token = map (handed_token source) f.others in
-    ((token, record { behind = token.behind; left = others }),
+    let others : List Token = map (handed_token source) f.others in (
+      (token, record { behind = token.behind; left = others }),
       ap (λ x. first_of (Tokens.left x)) a.is ∙ ap (λ xs. first_of (map (handed_token source) xs)) f.joined,
       record {
         token_is = record {

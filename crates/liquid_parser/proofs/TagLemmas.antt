@@ -1,9 +1,9 @@
 -- A text that is a tag, as an element.
-use Rattle.std.proofs.Common.{◌≡◌, ◌⊎◌, inl, inr, ℕ, ◌==◌, Bool, true, false, List, [], ◌∷◌, length, refl, sym, subst, arith, eqb-true}
+use Rattle.std.proofs.Common.{◌≡◌, ◌⊎◌, inl, inr, ℕ, ◌==◌, true, false, List, [], ◌∷◌, length, refl, sym, subst, arith, eqb-true}
 use Rattle.std.proofs.lemmas.List.{append-nil}
 use Rattle.std.specs.Borrow.{Bor}
 use Rattle.liquid_grammar.specs.Cover.{Element, raw, tag_element, expression, invalid, IsElement}
-use Rattle.liquid_grammar.specs.Elements.{Means, MeansTag}
+use Rattle.liquid_grammar.specs.Elements.{Means}
 use Rattle.liquid_grammar.specs.Tokens.{Tag, TagRule}
 use Rattle.liquid_grammar.specs.declared.element.ChainText.{ChainText}
 use Rattle.liquid_grammar.specs.declared.element.Element.{Element as CodeElement}

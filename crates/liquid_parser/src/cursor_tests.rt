@@ -50,15 +50,24 @@ fn kinds(alloc: Global, token: TagToken<'_>) -> Result<String, AllocError> {
 fn tags_have_tokens(rt: HostRuntime) -> Result<(), Fail> {
     let alloc = rt.alloc();
     let rows = [
-        ("{% t (1..3) a | append: 1 == b %}", "(1..3) / a | append: 1 / == / b"),
+        (
+            "{% t (1..3) a | append: 1 == b %}",
+            "(1..3) / a | append: 1 / == / b",
+        ),
         ("{%-t-%} \n", ""),
         ("{% t a.b[0],'c' %}", "a.b[0] / , / 'c'"),
         ("", "liquid: Invalid liquid (line 1, column 1)"),
         ("{% t %} ", "liquid: Invalid liquid (line 1, column 1)"),
         ("a{% t %}", "liquid: Invalid liquid (line 1, column 1)"),
         ("{{ t }}", "liquid: Invalid liquid (line 1, column 1)"),
-        ("{% t\n4.5 %}", "liquid: Decimal not supported (line 2, column 1)"),
-        ("{% t a 9223372036854775808 %}", "liquid: Integer out of range (line 1, column 8)"),
+        (
+            "{% t\n4.5 %}",
+            "liquid: Decimal not supported (line 2, column 1)",
+        ),
+        (
+            "{% t a 9223372036854775808 %}",
+            "liquid: Integer out of range (line 1, column 8)",
+        ),
     ];
     for (text, tokens) in rows {
         assert_eq!(rt; texts(alloc, text)?.as_str(), tokens);
@@ -83,7 +92,10 @@ fn tokens_are_what_they_look_like(rt: HostRuntime) -> Result<(), Fail> {
         let token = tokens.expect_next(alloc, "Token expected")?;
         assert_eq!(rt; kinds(alloc, token)?.as_str(), matches, "{text}");
         let refused = told(alloc, &token.raise_error(alloc))?;
-        assert_eq!(rt; refused.as_str(), "liquid: Unexpected token (line 1, column 6)");
+        assert_eq!(rt;
+            refused.as_str(),
+            "liquid: Unexpected token (line 1, column 6)"
+        );
         let end = match tokens.expect_next(alloc, "Token expected") {
             Ok(token) => String::from_str(alloc, token.as_str())?,
             Err(error) => told(alloc, &error)?,

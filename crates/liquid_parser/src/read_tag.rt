@@ -34,11 +34,7 @@ impl<'a> Tag<'a> {
                 }),
                 Err(error) => Err(error),
             },
-            None => Err(Error::at_place(
-                alloc,
-                "Invalid liquid",
-                Place { line: 1, column: 1 },
-            )),
+            None => Err(Error::at_place(alloc, "Invalid liquid", Place { line: 1, column: 1 })),
         }
     }
 
@@ -78,13 +74,7 @@ fn whole_tag<'a>(text: &'a str) -> Option<TagText<'a>>
 {
     let (element, rest) = next_element(text)?;
     match element {
-        Element::Tag(tag) => {
-            if rest.is_empty() {
-                Some(tag)
-            } else {
-                None
-            }
-        }
+        Element::Tag(tag) => { if rest.is_empty() { Some(tag) } else { None } }
         Element::Raw(_) | Element::Expression(_) | Element::Invalid(_) => None,
     }
 }

@@ -1,4 +1,4 @@
-use Rattle.std.proofs.Common.{Err, ap, sym, ◌∙◌}
+use Rattle.std.proofs.Common.{ap, sym, ◌∙◌}
 use Rattle.liquid_error.specs.Told.{told}
 use Rattle.liquid_parser.specs.Reading.{checked}
 use Rattle.liquid_parser.proofs.TokenLemmas.{if_some_weaker}

@@ -1,5 +1,4 @@
-use Rattle.std.proofs.Common.{ap, ◌∙◌, sym}
-use Rattle.liquid_parser.specs.Handed.{Token}
+use Rattle.std.proofs.Common.{◌∙◌, sym}
 use Rattle.liquid_parser.proofs.HandedLemmas.{token_text}
 use Rattle.liquid_parser.proofs.tag_token.TagToken.as_str.Goals as goal
 

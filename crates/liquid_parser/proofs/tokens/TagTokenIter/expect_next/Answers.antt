@@ -1,6 +1,5 @@
 use Rattle.std.proofs.Common.{Err, sym, ◌∙◌, ap}
 use Rattle.liquid_error.specs.Told.{told}
-use Rattle.liquid_error.specs.Refusal.{located}
 use Rattle.liquid_parser.proofs.HandedLemmas.{or_handed, or_none}
 use Rattle.liquid_parser.proofs.TokenLemmas.{if_some_weaker}
 use Rattle.liquid_parser.proofs.tokens.TagTokenIter.expect_next.Goals as goal
