@@ -3,6 +3,9 @@ pub mod StepLemmas
 pub mod AskedLemmas
 pub mod Shapes
 pub mod Indexes
+pub mod HandedLemmas
+pub mod ExpectLemmas
+pub mod TagLemmas
 pub mod ArgumentsLeft
 pub mod FiltersLeft
 pub mod ReadingSteps
@@ -10,3 +13,4 @@ pub mod EscapeLemmas
 pub mod ElementLemmas
 pub mod Slices
 pub mod VariableLemmas
+pub mod ChainMade

@@ -4,5 +4,7 @@ pub mod Reading
 pub mod Plugins
 pub mod Views
 pub mod Built
+pub mod Cursors
+pub mod WholeTag
 pub mod Escaped
 pub mod Variables
