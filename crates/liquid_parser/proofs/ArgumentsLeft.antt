@@ -1,10 +1,10 @@
 -- What is left of the arguments of a filter, behind those that were built.
-use Rattle.std.proofs.Common.{◌≡◌, ℕ, Bool, true, false, List, [], ◌∷◌, ◌++◌, Option, None, Some, Bor, refl, sym, ap, ◌∙◌, subst}
+use Rattle.std.proofs.Common.{◌≡◌, ℕ, Bool, false, List, [], ◌∷◌, ◌++◌, Option, None, Some, Bor, refl, sym, ap, ◌∙◌, subst}
 use Rattle.std.specs.Prelude.{option_map}
 use Rattle.liquid_grammar.specs.declared.parts.ArgumentStart.{ArgumentStart}
 use Rattle.liquid_grammar.specs.Faults.{argument_fault, first_fault, value_fault}
 use Rattle.liquid_grammar.specs.Parts.{NoneLeft, First, IsArgument, ArgumentsFrom, argument_by}
-use Rattle.liquid_grammar.specs.Tokens.{Argument, positional, keyword}
+use Rattle.liquid_grammar.specs.Tokens.{Argument}
 use Rattle.liquid_grammar.specs.Values.{Value, ValueRule}
 use Rattle.liquid_plugins.specs.ArgumentsOf.{Arguments}
 use Rattle.liquid_plugins.specs.Expression.{ExpressionShape}

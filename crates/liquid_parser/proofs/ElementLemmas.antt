@@ -15,7 +15,6 @@ use Rattle.liquid_grammar.specs.Grammar.{White}
 use Rattle.liquid_grammar.specs.Meanings.{faults_of}
 use Rattle.liquid_grammar.specs.Tokens as token
 use Rattle.liquid_grammar.specs.Tokens.{ChainRule, ExpressionRule, TagRule}
-use Rattle.liquid_plugins.specs.Chain.{ChainShape}
 use Rattle.liquid_tree.specs.Tree.{NodeShape, text_node, chain_node}
 use Rattle.liquid_parser.specs.Lang.{Lang}
 use Rattle.liquid_parser.specs.Reading.{State, Open, among, step, checked, chain_read, tag_read, refused_at}

@@ -3,7 +3,7 @@ use Rattle.std.proofs.Common.{◌≡◌, ℕ, Bool, List, [], ◌∷◌, ◌++�
 use Rattle.std.specs.Prelude.{IfSome}
 use Rattle.std.specs.Option.{option_map_or}
 use Rattle.liquid_error.specs.Refusal.{Refusal, ok_then}
-use Rattle.liquid_grammar.specs.Cover.{Element, text_of, joined, IsElement, Cover, done, next}
+use Rattle.liquid_grammar.specs.Cover.{Element, text_of, IsElement, Cover, done, next}
 use Rattle.liquid_grammar.proofs.CoverLemmas.{cover_of}
 use Rattle.liquid_tree.specs.Tree.{NodeShape}
 use Rattle.liquid_parser.specs.Lang.{Lang, escaped}

@@ -6,7 +6,7 @@ use Rattle.liquid_error.specs.Refusal.{Refusal, ok_then}
 use Rattle.liquid_grammar.specs.declared.parts.FilterStart.{FilterStart}
 use Rattle.liquid_grammar.specs.Faults.{filter_fault, first_fault}
 use Rattle.liquid_grammar.specs.Parts.{NoneLeft, First, IsFilter}
-use Rattle.liquid_grammar.specs.Rules.{Repeated, ends, more}
+use Rattle.liquid_grammar.specs.Rules.{Repeated, more}
 use Rattle.liquid_grammar.specs.Tokens as token
 use Rattle.liquid_grammar.specs.Tokens.{Behind, FilterRule}
 use Rattle.liquid_parser.specs.Lang.{Filters}

@@ -1,5 +1,5 @@
 -- What is left of the indexes of a variable, behind those that were built.
-use Rattle.std.proofs.Common.{◌≡◌, ℕ, List, [], ◌∷◌, ◌++◌, Option, None, Some, refl, sym, ap, ◌∙◌, subst}
+use Rattle.std.proofs.Common.{◌≡◌, ℕ, List, [], ◌∷◌, ◌++◌, Option, None, Some, refl, sym, ap, ◌∙◌}
 use Rattle.std.specs.Option.{option_or}
 use Rattle.liquid_grammar.specs.declared.parts.IndexStart.{IndexStart}
 use Rattle.liquid_grammar.specs.Faults.{indexes_fault, index_fault}

@@ -9,3 +9,4 @@ pub mod ReadingSteps
 pub mod EscapeLemmas
 pub mod ElementLemmas
 pub mod Slices
+pub mod VariableLemmas

@@ -1,9 +1,9 @@
 -- The reading of a text, element by element: what an unfinished reading keeps, how it goes on, and how it ends.
-use Rattle.std.proofs.Common.{◌≡◌, ℕ, List, [], ◌∷◌, ◌++◌, Option, None, Some, Result, Ok, Err, append_assoc, refl, sym, ap, ◌∙◌, subst}
+use Rattle.std.proofs.Common.{◌≡◌, ℕ, List, [], ◌∷◌, ◌++◌, Option, None, Some, Result, Ok, Err, append_assoc, refl, sym, ap, ◌∙◌}
 use Rattle.std.specs.Prelude.{IfSome}
 use Rattle.liquid_error.specs.declared.error.Error.{Error}
 use Rattle.liquid_error.specs.Told.{told, Gives}
-use Rattle.liquid_grammar.specs.Cover.{Element, text_of, joined, IsElement, Cover, done, next}
+use Rattle.liquid_grammar.specs.Cover.{Element, text_of, IsElement, Cover, done, next}
 use Rattle.liquid_grammar.proofs.CoverLemmas.{cover_of, joined_cover}
 use Rattle.liquid_tree.specs.Tree.{NodeShape}
 use Rattle.liquid_error.specs.Refusal.{Refusal, ok_then}

@@ -1,5 +1,5 @@
 -- What plug-ins are handed: tokens without the text around them, and arguments of filters.
-use Rattle.std.specs.Prelude.{ℕ, ◌-◌, List, [], ◌∷◌, ◌++◌, map, length, take, Option, Some, None, option_and_then, Result, Ok, Err, unwrap_or, codes, pos}
+use Rattle.std.specs.Prelude.{ℕ, ◌-◌, List, [], ◌∷◌, map, length, take, Option, Some, None, option_and_then, Result, Ok, Err, unwrap_or, codes, pos}
 use Rattle.liquid_error.specs.declared.place.Place.{Place}
 use Rattle.liquid_error.specs.Refusal.{Refusal, located}
 use Rattle.liquid_grammar.specs.Literals as matched

@@ -5,3 +5,4 @@ pub mod Plugins
 pub mod Views
 pub mod Built
 pub mod Escaped
+pub mod Variables

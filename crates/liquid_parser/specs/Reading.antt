@@ -12,7 +12,7 @@ use Rattle.liquid_grammar.specs.Cover.{Element, raw, tag_element, expression, in
 use Rattle.liquid_plugins.specs.Chain.{ChainShape}
 use Rattle.liquid_plugins.specs.ArgumentsOf.{Arguments}
 use Rattle.liquid_tree.specs.Tree.{NodeShape, text_node, chain_node, tag_node, block_node, nodes_from, parts_from}
-use Rattle.liquid_parser.specs.Handed.{expression_meant, arguments_meant, Tokens, handed, expect_nothing, place_in, slice_between}
+use Rattle.liquid_parser.specs.Handed.{expression_meant, arguments_meant, handed, expect_nothing, place_in, slice_between}
 use Rattle.liquid_parser.specs.Lang.{Filters, Lang, Block, Body, parts, escaped, listed}
 
 -- how many blocks may be open at once

@@ -45,7 +45,7 @@ pub(crate) fn build_value<'a>(
 
 /// The variable of this name, with the indexes that the text begins with.
 #[cycle(build)]
-fn build_variable<'a>(
+pub(crate) fn build_variable<'a>(
     alloc: Global,
     name: &str,
     s: &'a str,

@@ -3,19 +3,28 @@
 
 mod arguments;
 mod asked;
-pub mod block;
-pub mod body;
+mod block;
+mod body;
 mod build;
 mod cursor;
 mod escape;
 mod filters;
-pub mod language;
+mod language;
 mod names;
-pub mod parser;
+mod parser;
 mod place;
 mod stack;
 mod steps;
-pub mod tag;
-pub mod tokens;
+mod tag;
+mod tokens;
+mod variable;
 
+pub use asked::BLOCK_LIMIT;
+pub use block::{BlockReflection, ParseBlock};
+pub use body::BlockBody;
+pub use language::Language;
 pub use liquid_tree::Node;
+pub use parser::{one_reading, parse};
+pub use tag::{ParseTag, TagReflection};
+pub use tokens::TagTokenIter;
+pub use variable::parse_variable;

@@ -9,10 +9,7 @@ ghost use Rattle.liquid_template.specs.Sunk.{sunk};
 ghost use Rattle.liquid_tree.specs.Tree.{NodeShape};
 
 use liquid_error::Error;
-use liquid_parser::block::ParseBlock;
-use liquid_parser::language::Language;
-use liquid_parser::parser::parse;
-use liquid_parser::tag::ParseTag;
+use liquid_parser::{Language, ParseBlock, ParseTag, parse};
 use liquid_plugins::{ParseFilter, Renderable};
 use liquid_runtime::Runtime;
 use liquid_template::{PartialStore, Sink, Template};

@@ -1,4 +1,4 @@
-use Rattle.std.proofs.Common.{◌≡◌, ◌+◌, true, false, arith, ap, ◌∙◌, ◌∷◌, [], length, map, Ok, sym}
+use Rattle.std.proofs.Common.{◌≡◌, ◌+◌, true, false, arith, ap, ◌∙◌, [], length, Ok, sym}
 use Rattle.std.specs.Prelude.{nat_lt}
 use Rattle.std.proofs.lemmas.Bool.Decides.{nat_tests}
 use Rattle.liquid_tree.specs.NodesOf.{shapes_of}

@@ -1,4 +1,4 @@
-use Rattle.std.proofs.Common.{◌≡◌, None, Some, ap, ◌∙◌, ◌∷◌, [], ◌++◌, map, Ok, sym, subst, option_map}
+use Rattle.std.proofs.Common.{◌≡◌, None, Some, ap, ◌∙◌, ◌∷◌, [], ◌++◌, Ok, sym, subst, option_map}
 use Rattle.std.specs.FinMap.{get}
 use Rattle.std.proofs.lemmas.List.{map_push}
 use Rattle.liquid_tree.specs.NodesOf.{node_of, shapes_of}

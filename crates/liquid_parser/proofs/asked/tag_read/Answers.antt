@@ -1,4 +1,4 @@
-use Rattle.std.proofs.Common.{◌≡◌, [], ◌∷◌, ap, ◌∙◌, sym, length, arith}
+use Rattle.std.proofs.Common.{◌≡◌, [], ap, ◌∙◌, sym, length, arith}
 use Rattle.std.proofs.lemmas.List.{append-nil}
 use Rattle.liquid_tree.specs.NodesOf.{shapes_of}
 use Rattle.liquid_parser.specs.Plugins.{language_of, block_of}

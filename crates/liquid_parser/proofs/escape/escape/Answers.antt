@@ -1,6 +1,6 @@
-use Rattle.std.proofs.Common.{◌≡◌, sym, ap, ◌∙◌, arith, rules}
+use Rattle.std.proofs.Common.{sym, ◌∙◌, arith, rules}
 use Rattle.liquid_grammar.proofs.TextLemmas.{IsCharBoundary-before_rest}
-use Rattle.liquid_parser.proofs.EscapeLemmas.{going_next, going_end, going_none, going_behind}
+use Rattle.liquid_parser.proofs.EscapeLemmas.{going_next, going_end, going_behind}
 use Rattle.liquid_parser.proofs.Slices.{front_ends, front_is}
 use Rattle.liquid_parser.proofs.escape.escape.Goals as goal
 

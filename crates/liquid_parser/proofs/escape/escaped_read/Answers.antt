@@ -1,4 +1,3 @@
-use Rattle.std.proofs.Common.{◌≡◌, sym, ap, ◌∙◌}
 use Rattle.liquid_parser.specs.Plugins.{block_of}
 use Rattle.liquid_parser.specs.Views.{open_view, blocks_view}
 use Rattle.liquid_parser.proofs.EscapeLemmas.{escaped_ok, escaped_err, escaped_open}

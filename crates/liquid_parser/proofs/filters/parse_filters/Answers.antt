@@ -1,4 +1,4 @@
-use Rattle.std.proofs.Common.{◌≡◌, ◌++◌, ◌∷◌, [], map, sym, ap, ◌∙◌, subst, rules}
+use Rattle.std.proofs.Common.{◌++◌, ◌∷◌, [], map, sym, ap, ◌∙◌, subst, rules}
 use Rattle.std.proofs.lemmas.List.{map_push}
 use Rattle.liquid_error.specs.Told.{told}
 use Rattle.liquid_parser.specs.Plugins.{registry_of}

@@ -1,5 +1,4 @@
-use Rattle.std.proofs.Common.{◌≡◌, ◌++◌, ◌∷◌, [], Ok, sym, ap, ◌∙◌}
-use Rattle.std.specs.Prelude.{string_bytes}
+use Rattle.std.proofs.Common.{Ok, sym, ap, ◌∙◌}
 use Rattle.liquid_tree.specs.NodesOf.{node_of, shapes_of}
 use Rattle.liquid_parser.specs.Plugins.{language_of, block_of}
 use Rattle.liquid_parser.specs.Reading.{among}

@@ -1,4 +1,4 @@
-use Rattle.std.proofs.Common.{◌≡◌, [], sym, ap, ◌∙◌, subst, rules}
+use Rattle.std.proofs.Common.{[], ap, ◌∙◌, subst, rules}
 use Rattle.liquid_tree.specs.NodesOf.{shapes_of}
 use Rattle.liquid_parser.specs.Plugins.{language_of, block_of}
 use Rattle.liquid_parser.specs.Reading.{among}

@@ -1,4 +1,4 @@
-use Rattle.std.proofs.Common.{◌≡◌, ◌-◌, length, take, ap, sym, ◌∙◌, subst, arith}
+use Rattle.std.proofs.Common.{◌≡◌, ◌-◌, length, take, ap, sym, ◌∙◌, subst}
 use Rattle.std.specs.Str.{IsCharBoundary}
 use Rattle.liquid_grammar.proofs.TextLemmas.{IsCharBoundary-before_rest}
 use Rattle.liquid_parser.proofs.Slices.{front_ends, front_is}

@@ -1,4 +1,4 @@
-use Rattle.std.proofs.Common.{◌≡◌, ap, ◌∙◌, map, Ok, sym}
+use Rattle.std.proofs.Common.{ap, ◌∙◌, Ok, sym}
 use Rattle.liquid_tree.specs.NodesOf.{node_of}
 use Rattle.liquid_parser.specs.Plugins.{block_of}
 use Rattle.liquid_parser.specs.Reading.{among}

@@ -1,6 +1,5 @@
-use Rattle.std.proofs.Common.{◌≡◌, Err, IfSome, sym, ◌∙◌, ap, arith, subst}
+use Rattle.std.proofs.Common.{Err, sym, ◌∙◌, ap}
 use Rattle.liquid_error.specs.Told.{told}
-use Rattle.liquid_parser.specs.Handed.{expect_nothing}
 use Rattle.liquid_parser.proofs.TokenLemmas.{none_expected, one_expected, if_some_weaker}
 use Rattle.liquid_parser.proofs.tokens.TagTokenIter.expect_nothing.Goals as goal
 
