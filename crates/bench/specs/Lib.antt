@@ -1,2 +1,3 @@
 pub mod Drips
 pub mod Filters
+pub mod ProgramLanguage

@@ -1,20 +1,22 @@
 -- Where memory runs out before anything is written, that is an outcome of each rendering.
-use Rattle.std.proofs.Common.{◌≡◌, ℕ, List, [], Option, None, Ok, Err, refl, sym, subst, inl}
-use Rattle.std.proofs.lemmas.List.{append-nil}
-use Rattle.std.specs.Prelude.{MatchOption, IfSome}
+use Rattle.std.proofs.Common.{◌≡◌, ℕ, List, Option, None, Ok, Err, refl, sym, subst}
+use Rattle.std.specs.Prelude.{IfSome}
 use Rattle.liquid_error.specs.declared.error.Error.{Error}
 use Rattle.liquid_error.specs.Refusal.{Refusal}
 use Rattle.liquid_error.specs.Told.{told}
 use Rattle.liquid_runtime.specs.Maps.{Names}
-use Rattle.liquid_template.specs.Run.{Run, run, written}
-use Rattle.liquid_template.specs.Outcome.{Sunk, Cut, Stopped}
+use Rattle.liquid_tree.specs.Tree.{nodes_from}
+use Rattle.liquid_template.specs.Rendering.{template_run}
+use Rattle.liquid_template.specs.Sunk.{Sunk}
+use Rattle.liquid_template.proofs.Framing.{renders_memory}
+use Rattle.bench.specs.ProgramLanguage.{ProgramAnswer, program_setting}
+use Rattle.liquid_source.specs.Rendered.{Rendered}
 use Rattle.liquid.specs.Program.{Renders, built_over}
 
-cut_at_once : (r : Run) (at : Sunk) → Cut r at at
-cut_at_once r at = record { part = []; left = written r; pieces = refl; taken = sym (append-nil at.taken); failures = inl refl }
+nothing_comes : (globals : Names) (at : Sunk) (error : Error) → told error ≡ None → (answer : ProgramAnswer) → Rendered program_setting answer (built_over globals) at at (built_over globals) (Err error)
+nothing_comes globals at error memory (Ok nodes) = renders_memory (template_run program_setting (nodes_from nodes) (built_over globals)) (built_over globals) at error memory
+nothing_comes globals at error memory (Err refusal) =
+    (refl, (refl, subst (λ (o : Option Refusal). IfSome o (λ reason. reason ≡ refusal)) (sym memory) tt))
 
 pub nothing_rendered : (text : List ℕ) (globals : Names) (at : Sunk) (error : Error) → told error ≡ None → Renders text globals at at (Err error)
-nothing_rendered text globals at error memory (Ok nodes) reads =
-    subst (λ (o : Option Refusal). MatchOption o (Cut (run (built_over globals) nodes) at at) (Stopped (run (built_over globals) nodes) at at)) (sym memory) (cut_at_once (run (built_over globals) nodes) at)
-nothing_rendered text globals at error memory (Err refusal) reads =
-    (refl, subst (λ (o : Option Refusal). IfSome o (λ reason. reason ≡ refusal)) (sym memory) tt)
+nothing_rendered text globals at error memory = record { left = built_over globals; rendered = λ answer reads. nothing_comes globals at error memory answer }

@@ -3,7 +3,7 @@ use Rattle.std.proofs.Common.{◌≡◌, ℕ, List, Option, None, Some, Ok, Err,
 use Rattle.liquid_error.specs.declared.error.Error.{Error}
 use Rattle.liquid_error.specs.Told.{told}
 use Rattle.liquid_runtime.specs.Maps.{Names}
-use Rattle.liquid_template.specs.Outcome.{Sunk}
+use Rattle.liquid_template.specs.Sunk.{Sunk}
 use Rattle.liquid.specs.Files.{Reads}
 use Rattle.liquid.specs.Program.{Treats}
 use Rattle.liquid.proofs.MemoryLemmas.{nothing_rendered}

@@ -3,29 +3,36 @@ use Rattle.std.specs.Prelude.{◌≡◌, ℕ, true, false, ◌⊎◌, List, [], 
 use Rattle.std.specs.BTreeMap.{get_by_text}
 use Rattle.liquid_runtime.specs.Maps.{Names}
 use Rattle.liquid_runtime.specs.View.{View}
-use Rattle.liquid_runtime.specs.Frames.{built_view}
-use Rattle.liquid_parser.specs.Reading.{Answer, Reads}
-use Rattle.liquid_template.specs.Run.{Run, run, written}
+use Rattle.liquid_tree.specs.Tree.{nodes_from}
+use Rattle.liquid_parser.specs.Reading.{Reads}
+use Rattle.liquid_template.specs.Run.{Run, written}
+use Rattle.liquid_template.specs.Rendering.{template_run}
+use Rattle.bench.specs.ProgramLanguage.{ProgramAnswer, ProgramNode, program_language, program_setting}
 use Rattle.liquid.specs.declared.in_memory.InMemoryFolder.{InMemoryFolder}
 use Rattle.liquid.specs.Command.{is_command}
 use Rattle.liquid.specs.Globals.{globals_of}
+use Rattle.liquid.specs.Program.{built_over}
 
 -- the bytes of the file at a path
 abbrev pub bytes_at : InMemoryFolder → List ℕ → Option (List ℕ)
 bytes_at folder path = option_map (λ v. v.items) (get_by_text folder.files path)
 
 -- the output is all pieces of the run, which has no refusal
-abbrev pub IsWhole : Run → List ℕ → Type 0
+abbrev pub IsWhole : Run (Unit {0}) → List ℕ → Type 0
 IsWhole r output = (output ≡ written r) × (r.refusal ≡ None)
 
 -- the output is a beginning of all pieces joined
-abbrev pub IsBeginning : Run → List ℕ → Type 0
+abbrev pub IsBeginning : Run (Unit {0}) → List ℕ → Type 0
 IsBeginning r output = (left : List ℕ) × (written r ≡ output ++ left)
 
+-- what the program's templates of these nodes come to
+abbrev pub program_run : View (Unit {0}) → List ProgramNode → Run (Unit {0})
+program_run v nodes = template_run program_setting (nodes_from nodes) v
+
 -- status 0 shows the whole run of what the text is read as, status 1 a beginning of it; a text that is refused shows nothing
-abbrev pub ShowsAnswer : Answer → View → List ℕ → ℕ → Type 0
+abbrev pub ShowsAnswer : ProgramAnswer → View (Unit {0}) → List ℕ → ℕ → Type 0
 ShowsAnswer (Ok nodes) v output status =
-    ((status ≡ 0) × IsWhole (run v nodes) output) ⊎ ((status ≡ 1) × IsBeginning (run v nodes) output)
+    ((status ≡ 0) × IsWhole (program_run v nodes) output) ⊎ ((status ≡ 1) × IsBeginning (program_run v nodes) output)
 ShowsAnswer (Err refusal) v output status = (output ≡ []) × (status ≡ 1)
 
 -- nothing is shown: there is no such text, or memory ran out
@@ -36,7 +43,7 @@ ShowsNothing output status = (output ≡ []) × ((status ≡ 3) ⊎ (status ≡ 
 abbrev pub ShowsFile : Option (List ℕ) → Names → List ℕ → ℕ → Type 0
 ShowsFile None globals output status = ShowsNothing output status
 ShowsFile (Some bytes) globals output status =
-    (IsUtf8 bytes → (answer : Answer) → Reads bytes answer → ShowsAnswer answer (built_view globals) output status)
+    (IsUtf8 bytes → (answer : ProgramAnswer) → Reads program_language bytes answer → ShowsAnswer answer (built_over globals) output status)
     × (¬ (IsUtf8 bytes) → ShowsNothing output status)
 
 -- the file that the second word names, with the globals that the words behind it set

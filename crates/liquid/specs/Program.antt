@@ -5,9 +5,10 @@ use Rattle.liquid_error.specs.declared.error.Error.{Error}
 use Rattle.liquid_runtime.specs.Maps.{Names}
 use Rattle.liquid_runtime.specs.Frames.{built_view}
 use Rattle.liquid_runtime.specs.View.{View}
-use Rattle.liquid_parser.specs.Reading.{Answer, Reads}
-use Rattle.liquid_template.specs.Outcome.{Sunk, sunk}
-use Rattle.liquid_template.specs.Rendering.{Rendered}
+use Rattle.liquid_parser.specs.Reading.{Reads}
+use Rattle.liquid_template.specs.Sunk.{Sunk, sunk}
+use Rattle.liquid_source.specs.Rendered.{Rendered}
+use Rattle.bench.specs.ProgramLanguage.{ProgramAnswer, program_language, program_setting}
 use Rattle.liquid.specs.Command.{is_command}
 use Rattle.liquid.specs.Globals.{globals_of}
 use Rattle.liquid.specs.Status.{settled}
@@ -16,9 +17,10 @@ use Rattle.liquid.specs.Status.{settled}
 abbrev pub built_over : Names → View (Unit {0})
 built_over globals = built_view tt 32 globals
 
--- what the text is read as was rendered over a built runtime of these globals
-abbrev pub Renders : List ℕ → Names → Sunk → Sunk → Result (Unit {0}) Error → Type 0
-Renders text globals before after result = (answer : Answer) → Reads text answer → Rendered answer (built_over globals) before after result
+-- what the text is read as in the program's language was rendered over a built runtime of these globals, which left a view
+pub record Renders (text : List ℕ) (globals : Names) (before after : Sunk) (result : Result (Unit {0}) Error) : Type 0 where
+  pub left : View (Unit {0})
+  pub rendered : (answer : ProgramAnswer) → Reads program_language text answer → Rendered program_setting answer (built_over globals) before after left result
 
 -- 0 where the template was rendered, 1 where it was refused
 abbrev pub status_of : Result (Unit {0}) Error → ℕ
@@ -52,12 +54,13 @@ abbrev pub Runs : List (List ℕ) → (List ℕ → Option (Option (List ℕ))) 
 Runs words known before after status =
     (is_command words ≡ true → Executes words known before after status) × (is_command words ≡ false → (after ≡ before) × (status ≡ 2))
 
--- what lies behind the output grew by what a fresh sink takes when the words are run; then the output was flushed
+-- what lies behind the output grew by what a fresh sink over it takes when the words are run; then the output was flushed
 pub record Prints (words : List (List ℕ)) (known : List ℕ → Option (Option (List ℕ))) (before after : Option (List ℕ)) (status : ℕ) : Type 0 where
   pub taken : List ℕ
   pub failures : ℕ
+  pub lent : List ℕ
   pub answered : ℕ
   pub flushed : Bool
   pub appended : Appends before after taken
-  pub runs : Runs words known (sunk [] 0) (sunk taken failures) answered
+  pub runs : Runs words known (sunk [] 0 before lent) (sunk taken failures after lent) answered
   pub status_is : status ≡ settled answered flushed

@@ -1,7 +1,8 @@
 ghost use Rattle.std.specs.Prelude.{◌≡◌, ◌≢◌, ◌↔◌, Some, false, is_ok, map, string_bytes};
 ghost use Rattle.liquid_runtime.specs.Maps.{names_of};
 ghost use Rattle.liquid_template.specs.Grows.{Grows};
-ghost use Rattle.liquid_template.specs.Outcome.{sunk};
+ghost use Rattle.liquid_template.specs.Sunk.{sunk};
+ghost use Rattle.bench.specs.ProgramLanguage.{meaning_of, program_language};
 ghost use Rattle.liquid.specs.Command.{is_command};
 ghost use Rattle.liquid.specs.Globals.{globals_of};
 ghost use Rattle.liquid.specs.Program.{Prints, Renders, Treats, Runs};
@@ -11,6 +12,7 @@ use crate::command::Command;
 use crate::fault::Fault;
 use crate::folder::{Folder, Unread};
 use crate::globals::globals;
+use bench::{Blocks, Filters, Tags, language};
 use liquid_core::parser::Language;
 use liquid_core::runtime::{BuiltRuntime, RuntimeBuilder};
 use liquid_core::{Error, Object, Sink, WriterSink, render_source};
@@ -59,7 +61,7 @@ pub fn run_to<F: Folder, K: Sink, E: Write>(
 ) -> u8
     ensures usage { (result ≡ 2) ↔ (is_command (map string_bytes words.now) ≡ false) }
     ensures runs { Runs (map string_bytes words.now) (F.known files.old)
-        (sunk (K.taken sink.old) (K.failures sink.old)) (sunk (K.taken sink.new) (K.failures sink.new)) result }
+        (sunk (K.taken sink.old) (K.failures sink.old) (K.behind sink.old) (K.lent sink.old)) (sunk (K.taken sink.new) (K.failures sink.new) (K.behind sink.new) (K.lent sink.new)) result }
     ensures quiet { result ≡ 0 → err.new ≡ err.old }
     ensures behind { Grows (K.taken sink.old) (K.behind sink.old) (K.taken sink.new) (K.behind sink.new) }
     ensures lent { K.lent sink.new ≡ K.lent sink.old }
@@ -107,7 +109,7 @@ fn attempt<'w, F: Folder, K: Sink>(
 ) -> Result<(), Fault<'w>>
     ensures usage { (exit_status result ≡ 2) ↔ (is_command (map string_bytes words.now) ≡ false) }
     ensures runs { Runs (map string_bytes words.now) (F.known files.old)
-        (sunk (K.taken sink.old) (K.failures sink.old)) (sunk (K.taken sink.new) (K.failures sink.new)) (exit_status result) }
+        (sunk (K.taken sink.old) (K.failures sink.old) (K.behind sink.old) (K.lent sink.old)) (sunk (K.taken sink.new) (K.failures sink.new) (K.behind sink.new) (K.lent sink.new)) (exit_status result) }
     ensures behind { Grows (K.taken sink.old) (K.behind sink.old) (K.taken sink.new) (K.behind sink.new) }
     ensures lent { K.lent sink.new ≡ K.lent sink.old }
 {
@@ -128,7 +130,7 @@ fn render_file<'w, F: Folder, K: Sink>(
 ) -> Result<(), Fault<'w>>
     ensures command { exit_status result ≢ 2 }
     ensures treats { Treats (F.known files.old template.now) (globals_of (map string_bytes assignments.now))
-        (sunk (K.taken sink.old) (K.failures sink.old)) (sunk (K.taken sink.new) (K.failures sink.new)) (exit_status result) }
+        (sunk (K.taken sink.old) (K.failures sink.old) (K.behind sink.old) (K.lent sink.old)) (sunk (K.taken sink.new) (K.failures sink.new) (K.behind sink.new) (K.lent sink.new)) (exit_status result) }
     ensures behind { Grows (K.taken sink.old) (K.behind sink.old) (K.taken sink.new) (K.behind sink.new) }
     ensures lent { K.lent sink.new ≡ K.lent sink.old }
 {
@@ -150,7 +152,7 @@ fn render_bytes<'w, K: Sink>(
 ) -> Result<(), Fault<'w>>
     ensures command { exit_status result ≢ 2 }
     ensures treats { Treats (Some (Some bytes.now)) (globals_of (map string_bytes assignments.now))
-        (sunk (K.taken sink.old) (K.failures sink.old)) (sunk (K.taken sink.new) (K.failures sink.new)) (exit_status result) }
+        (sunk (K.taken sink.old) (K.failures sink.old) (K.behind sink.old) (K.lent sink.old)) (sunk (K.taken sink.new) (K.failures sink.new) (K.behind sink.new) (K.lent sink.new)) (exit_status result) }
     ensures behind { Grows (K.taken sink.old) (K.behind sink.old) (K.taken sink.new) (K.behind sink.new) }
     ensures lent { K.lent sink.new ≡ K.lent sink.old }
 {
@@ -164,7 +166,6 @@ fn render_bytes<'w, K: Sink>(
 }
 
 /// Writes what the text comes to, with the globals that the words set.
-
 #[tactic(auto, using(crate::proofs::UntouchedSinks::untouched))]
 fn render_text<K: Sink>(
     alloc: Global,
@@ -173,7 +174,7 @@ fn render_text<K: Sink>(
     sink: &mut K,
 ) -> Result<(), Error>
     ensures renders { Renders text.now (globals_of (map string_bytes assignments.now))
-        (sunk (K.taken sink.old) (K.failures sink.old)) (sunk (K.taken sink.new) (K.failures sink.new)) result }
+        (sunk (K.taken sink.old) (K.failures sink.old) (K.behind sink.old) (K.lent sink.old)) (sunk (K.taken sink.new) (K.failures sink.new) (K.behind sink.new) (K.lent sink.new)) result }
     ensures behind { Grows (K.taken sink.old) (K.behind sink.old) (K.taken sink.new) (K.behind sink.new) }
     ensures lent { K.lent sink.new ≡ K.lent sink.old }
 {
@@ -184,6 +185,7 @@ fn render_text<K: Sink>(
 }
 
 /// Writes what the text comes to over these globals.
+#[tactic(auto, using(crate::proofs::UntouchedSinks::untouched))]
 fn render_over<K: Sink>(
     alloc: Global,
     text: &str,
@@ -191,11 +193,30 @@ fn render_over<K: Sink>(
     sink: &mut K,
 ) -> Result<(), Error>
     ensures renders { Renders text.now (names_of globals)
-        (sunk (K.taken sink.old) (K.failures sink.old)) (sunk (K.taken sink.new) (K.failures sink.new)) result }
+        (sunk (K.taken sink.old) (K.failures sink.old) (K.behind sink.old) (K.lent sink.old)) (sunk (K.taken sink.new) (K.failures sink.new) (K.behind sink.new) (K.lent sink.new)) result }
+    ensures behind { Grows (K.taken sink.old) (K.behind sink.old) (K.taken sink.new) (K.behind sink.new) }
+    ensures lent { K.lent sink.new ≡ K.lent sink.old }
+{
+    match language(alloc) {
+        Ok(language) => render_in_language(alloc, text, &language, globals, sink),
+        Err(_) => Err(Error::Memory),
+    }
+}
+
+/// Writes what the text comes to in the program's language.
+fn render_in_language<K: Sink>(
+    alloc: Global,
+    text: &str,
+    language: &Language<Filters, Tags, Blocks>,
+    globals: Object,
+    sink: &mut K,
+) -> Result<(), Error>
+    requires { meaning_of language.now ≡ program_language }
+    ensures renders { Renders text.now (names_of globals)
+        (sunk (K.taken sink.old) (K.failures sink.old) (K.behind sink.old) (K.lent sink.old)) (sunk (K.taken sink.new) (K.failures sink.new) (K.behind sink.new) (K.lent sink.new)) result }
     ensures behind { Grows (K.taken sink.old) (K.behind sink.old) (K.taken sink.new) (K.behind sink.new) }
     ensures lent { K.lent sink.new ≡ K.lent sink.old }
 {
     let mut runtime: BuiltRuntime<(), ()> = RuntimeBuilder::new(alloc).set_globals(globals).build();
-    let language = Language::empty(alloc);
-    render_source(alloc, text, &language, &mut runtime, sink)
+    render_source(alloc, text, language, &mut runtime, sink)
 }

@@ -17,7 +17,7 @@ pub mod error {
 /// Values.
 pub mod model {
     pub use liquid_dates::{Date, DateError, DateFormatError, DateTime};
-    pub use liquid_paths::{Path, PathIter, find, try_find};
+    pub use liquid_paths::{Path, PathIter, PathText, find, find_behind, step, try_find};
     pub use liquid_scalar::{Scalar, ScalarCow, ScalarOf, ScalarRender, ScalarSource, ScalarText};
     pub use liquid_value::contents::{is_empty_array, is_empty_object};
     pub use liquid_value::render::{ValueRender, ValueSource};
@@ -74,6 +74,18 @@ pub mod laws {
         pub use liquid_views::laws::contains_key_agrees_with_get;
     }
 
+    /// Of paths.
+    pub mod paths {
+        pub use liquid_paths::find_agrees_with_try_find;
+    }
+
+    /// Of expressions and of what filters see.
+    pub mod plugins {
+        pub use liquid_plugins::{
+            evaluate_agrees_with_try_evaluate, filters_see_enough, paths_agree_with_tried_paths,
+        };
+    }
+
     /// Of readings.
     pub mod parser {
         pub use liquid_parser::one_reading;
@@ -82,31 +94,51 @@ pub mod laws {
     /// Of names and frames.
     pub mod runtime {
         pub use liquid_runtime::{
-            global_frame_keeps_names, globals_are_seen, left_names_first, stack_names_first,
+            get_agrees_with_try_get, global_frame_keeps_names, globals_are_seen, left_names_first,
+            roots_are_the_names_seen, set_global_changes_no_other_name,
+            set_index_changes_no_other_name, stack_names_first,
         };
     }
 }
 
-/// From text to nodes.
+/// From text to nodes, and the plug-ins that a language has: what they are made of and how they tell
+/// what they are.
 pub mod parser {
-    pub use liquid_parser::{Language, Node, parse};
+    pub use liquid_parser::{
+        BLOCK_LIMIT, BlockBody, BlockReflection, Language, Node, ParseBlock, ParseTag,
+        TagReflection, TagTokenIter, parse, parse_variable,
+    };
+    pub use liquid_plugins::{
+        Bytes, ChainMark, Discreet, Filter, FilterArguments, FilterChain, FilterParameters,
+        FilterParametersReflection, FilterReflection, ListOf, Meant, ParameterReflection,
+        ParseFilter, PluginNames, PluginRegistry, Plugins, TreeMark, call_filter,
+    };
 }
 
-/// Names and frames, and templates rendered over them.
+/// Names and frames, expressions, and templates rendered over them.
 pub mod runtime {
+    pub use liquid_plugins::{
+        Expression, ExpressionMark, Renderable, Turn, Variable, VariableOf,
+    };
     pub use liquid_runtime::{
         BuiltRuntime, Frame, Fresh, GlobalFrame, IndexFrame, Interrupt, InterruptRegister,
         Registers, Runtime, RuntimeBuilder, RuntimeCore, SandboxedStackFrame, Scopes, StackFrame,
     };
     pub use liquid_scopes::ChainedScopes;
-    pub use liquid_template::Template;
+    pub use liquid_template::{PartialStore, Template};
 }
 
 pub use liquid_error::{Error, Result};
-pub use liquid_parser::{Language, Node};
+pub use liquid_parser::{
+    BlockReflection, Language, Node, ParseBlock, ParseTag, TagReflection, TagTokenIter,
+};
+pub use liquid_plugins::{
+    Expression, Filter, FilterParameters, FilterReflection, ParseFilter, Renderable,
+};
 pub use liquid_runtime::{Runtime, RuntimeBuilder};
+pub use liquid_source::render_source;
 pub use liquid_template::{
-    History, Sink, SinkFault, Template, TextSink, WriterSink, render_source,
+    History, PartialStore, Sink, SinkFault, Template, TextSink, WriterSink,
 };
 pub use liquid_value::{Object, Value, ValueCow};
 pub use liquid_views::{ObjectView, ValueView};

@@ -4,6 +4,7 @@ ghost use Rattle.liquid_error.specs.Refusal.{Refusal};
 ghost use Rattle.liquid_parser.specs.Plugins.{block_of, language_of};
 ghost use Rattle.liquid_parser.specs.Reading.{Reads};
 ghost use Rattle.liquid_source.specs.Rendered.{Rendered};
+ghost use Rattle.liquid_template.specs.Pours.{Pours};
 ghost use Rattle.liquid_template.specs.Runs.{setting};
 ghost use Rattle.liquid_template.specs.Sunk.{sunk};
 ghost use Rattle.liquid_tree.specs.Tree.{NodeShape};
@@ -43,6 +44,9 @@ where
         (sunk (K.taken sink.old) (K.failures sink.old) (K.behind sink.old) (K.lent sink.old))
         (sunk (K.taken sink.new) (K.failures sink.new) (K.behind sink.new) (K.lent sink.new))
         (R.view runtime.new) result }
+    ensures pours { Pours
+        (sunk (K.taken sink.old) (K.failures sink.old) (K.behind sink.old) (K.lent sink.old))
+        (sunk (K.taken sink.new) (K.failures sink.new) (K.behind sink.new) (K.lent sink.new)) result }
     ensures kept { R.restores runtime.new ≡ R.restores runtime.old }
     ensures finds { option_map R.Store.finds (R.store runtime.new) ≡ option_map R.Store.finds (R.store runtime.old) }
     ensures same { R.lent runtime.new ≡ R.lent runtime.old }

@@ -1,3 +1,4 @@
+use Rattle.liquid_template.proofs.Pouring.{pours_refused}
 use Rattle.liquid_source.proofs.Readings.{Rendered-read, Rendered-refused}
 use Rattle.liquid_source.proofs.source.render_source.Goals as goal
 
@@ -6,3 +7,9 @@ returns-in-Err-clause-rendered g c = λ answer reads. Rendered-refused _ answer 
 
 pub returns-in-Ok-clause-rendered : goal.returns-in-Ok-clause-rendered
 returns-in-Ok-clause-rendered g c = λ answer reads. Rendered-read _ answer _ _ _ _ _ _ (c.in-Ok.ensures.only answer reads) (rw (c.new.ensures) at c.render_to.ensures.renders)
+
+pub returns-in-Ok-clause-pours : goal.returns-in-Ok-clause-pours
+returns-in-Ok-clause-pours g c = c.render_to.ensures.renders.pours
+
+pub returns-in-Err-clause-pours : goal.returns-in-Err-clause-pours
+returns-in-Err-clause-pours g c = pours_refused _ c.in-Err.error
