@@ -105,8 +105,8 @@ pub mod laws {
 /// what they are.
 pub mod parser {
     pub use liquid_parser::{
-        BLOCK_LIMIT, BlockBody, BlockReflection, Language, Node, ParseBlock, ParseTag,
-        TagReflection, TagTokenIter, parse, parse_variable,
+        BLOCK_LIMIT, BlockBody, BlockReflection, Language, Node, ParseBlock, ParseTag, Tag,
+        TagReflection, TagToken, TagTokenIter, TryMatchToken, parse, parse_variable,
     };
     pub use liquid_plugins::{
         Bytes, ChainMark, Discreet, Filter, FilterArguments, FilterChain, FilterParameters,
@@ -117,9 +117,7 @@ pub mod parser {
 
 /// Names and frames, expressions, and templates rendered over them.
 pub mod runtime {
-    pub use liquid_plugins::{
-        Expression, ExpressionMark, Renderable, Turn, Variable, VariableOf,
-    };
+    pub use liquid_plugins::{Expression, ExpressionMark, Renderable, Turn, Variable, VariableOf};
     pub use liquid_runtime::{
         BuiltRuntime, Frame, Fresh, GlobalFrame, IndexFrame, Interrupt, InterruptRegister,
         Registers, Runtime, RuntimeBuilder, RuntimeCore, SandboxedStackFrame, Scopes, StackFrame,
@@ -137,8 +135,6 @@ pub use liquid_plugins::{
 };
 pub use liquid_runtime::{Runtime, RuntimeBuilder};
 pub use liquid_source::render_source;
-pub use liquid_template::{
-    History, PartialStore, Sink, SinkFault, Template, TextSink, WriterSink,
-};
+pub use liquid_template::{History, PartialStore, Sink, SinkFault, Template, TextSink, WriterSink};
 pub use liquid_value::{Object, Value, ValueCow};
 pub use liquid_views::{ObjectView, ValueView};
