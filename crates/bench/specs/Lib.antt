@@ -1,1 +1,7 @@
 pub mod Drips
+pub mod Turning
+pub mod Tags
+pub mod TagLaws
+pub mod Blocks
+pub mod BlockLaws
+pub mod Hostile
