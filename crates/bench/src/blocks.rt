@@ -1,7 +1,10 @@
 //! Blocks for tests: what they are made to, and how that is rendered.
-ghost use Rattle.std.specs.Prelude.{◌≡◌, string_bytes};
+ghost use Rattle.std.specs.FinMap.{empty, insert};
+ghost use Rattle.std.specs.Prelude.{◌≡◌, IfOk, string_bytes};
 ghost use Rattle.liquid_error.specs.Told.{Gives};
+ghost use Rattle.liquid_value.specs.View.{view as tree_of};
 ghost use Rattle.liquid_runtime.specs.Calls.{frame_of};
+ghost use Rattle.liquid_runtime.specs.Maps.{names_of};
 ghost use Rattle.liquid_plugins.specs.Evaluation.{evaluate};
 ghost use Rattle.liquid_plugins.specs.ExpressionOf.{expression_of};
 ghost use Rattle.bench.specs.Blocks.{block_of, block_tells, bound, next_stage};
@@ -12,8 +15,8 @@ ghost use Rattle.bench.specs.declared.blocks.Stage.TheVariants.{First};
 use liquid_error::Error;
 use liquid_plugins::{Bytes, Discreet, Expression, ExpressionMark, Meant, Renderable, Turn};
 use liquid_runtime::{Frame, Fresh, Runtime};
-use liquid_value::Object;
-use std::alloc::Global;
+use liquid_value::{Object, Value};
+use std::alloc::{AllocError, Global};
 
 /// What a block is made to.
 #[derive(Drop)]
@@ -97,7 +100,7 @@ impl<V: Fresh> Renderable<V> for BlockNode {
             (BlockNode::Box, Stage::Second) => Ok(Turn::Body(0, Frame::None, None)),
             (BlockNode::Box, Stage::Third) => Ok(Turn::Text(String::from_str(alloc, "]")?)),
             (BlockNode::Sbox, Stage::First) => {
-                Ok(Turn::Body(0, Frame::Sandboxed(Object::new(alloc), None), None))
+                Ok(Turn::Body(0, Frame::Sandboxed(no_names(alloc), None), None))
             }
             (BlockNode::Swap, Stage::First) => Ok(Turn::Body(1, Frame::None, None)),
             (BlockNode::Swap, Stage::Second) => Ok(Turn::Body(0, Frame::None, None)),
@@ -132,7 +135,6 @@ fn next_stage(stage: Stage) -> Stage
 }
 
 /// A stack frame of one name, which has what the expression comes to.
-#[tactic(auto, using(liquid_runtime::proofs::ObjectNames::changed_objects))]
 fn bound<R: Runtime>(
     alloc: Global,
     name: &String,
@@ -141,11 +143,29 @@ fn bound<R: Runtime>(
 ) -> Result<Frame, Error>
     ensures { Gives frame_of result (bound (string_bytes name.now) (evaluate (R.view runtime.now) (expression_of expression.now))) }
 {
-    let value = match expression.evaluate(alloc, runtime) {
-        Ok(value) => value.into_owned()?,
-        Err(error) => return Err(error),
-    };
-    let mut names = Object::new(alloc);
+    match expression.evaluate(alloc, runtime) {
+        Ok(value) => {
+            let names = one_name(alloc, name, value.into_owned()?)?;
+            Ok(Frame::Stack(names, None))
+        }
+        Err(error) => Err(error),
+    }
+}
+
+/// An object of one name, which has this value.
+#[tactic(auto, using(liquid_runtime::proofs::ObjectNames::changed_objects))]
+fn one_name(alloc: Global, name: &String, value: Value) -> Result<Object, AllocError>
+    ensures { IfOk result (λ object. names_of object ≡ insert empty (string_bytes name.now) (tree_of value)) }
+{
+    let mut names = no_names(alloc);
     names.insert(name.clone()?, value)?;
-    Ok(Frame::Stack(names, None))
+    Ok(names)
+}
+
+/// An object without names.
+#[tactic(auto, using(liquid_runtime::proofs::ObjectNames::changed_objects))]
+fn no_names(alloc: Global) -> Object
+    ensures { names_of result ≡ empty }
+{
+    Object::new(alloc)
 }
