@@ -5,3 +5,5 @@ pub mod TagLaws
 pub mod Blocks
 pub mod BlockLaws
 pub mod Hostile
+pub mod LeakLaw
+pub mod OnePartial

@@ -4,9 +4,15 @@
 pub mod blocks;
 pub mod dripping;
 pub mod hostile;
+mod laws;
+#[cfg(test)]
+mod node_rows;
+pub mod partial;
 pub mod tags;
 
 pub use blocks::{BlockNode, Stage};
 pub use dripping::Dripping;
 pub use hostile::{HostileBlockNode, HostileTagNode};
+pub use laws::leak_is_not_discreet;
+pub use partial::OnePartial;
 pub use tags::{LeakyTagNode, TagNode};
