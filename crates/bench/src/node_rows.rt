@@ -13,6 +13,7 @@ use liquid_template::{PartialStore, Template, TextSink};
 use liquid_tree::Node;
 use liquid_value::{Object, Value, ValueCow};
 use std::alloc::{AllocError, Global};
+use std::mem;
 use std::rc::Rc;
 use std::test::Fail;
 
@@ -51,6 +52,35 @@ type Element = Node<Same, LeakyTagNode, BlockNode>;
 
 type HostileElement = Node<Same, HostileTagNode, HostileBlockNode>;
 
+/// A block, by its kind and what it is given.
+#[derive(Clone, Copy)]
+enum Kind {
+    Box,
+    Sbox,
+    Swap,
+    Raw(&'static str),
+    With(&'static str, i64),
+    /// The second name's value under the first name.
+    WithName(&'static str, &'static str),
+    Glob,
+}
+
+/// A step of a template. A block's parts stand between `Begin` and `End`, divided by `Mid`.
+#[derive(Clone, Copy)]
+enum Step {
+    Text(&'static str),
+    Shown(&'static str),
+    Set(&'static str, i64),
+    Leak(&'static str, i64),
+    Inc(&'static str),
+    Brk,
+    Begin,
+    Mid,
+    End(Kind),
+}
+
+use Step::{Begin, Brk, End, Inc, Leak, Mid, Set, Shown, Text};
+
 fn text(alloc: Global, text: &str) -> Result<String, AllocError> {
     String::from_str(alloc, text)
 }
@@ -63,34 +93,88 @@ fn variable(alloc: Global, name: &str) -> Result<Expression, AllocError> {
     Ok(Expression::Variable(Variable::with_literal(alloc, text(alloc, name)?)))
 }
 
-fn shown(alloc: Global, name: &str) -> Result<Element, AllocError> {
-    Ok(Node::Chain(FilterChain::new(variable(alloc, name)?, Vec::new(alloc))))
+/// A node without parts, or none for a step that has to do with parts.
+fn leaf(alloc: Global, step: Step) -> Result<Option<Element>, AllocError> {
+    let tag = match step {
+        Text(piece) => return Ok(Some(written(alloc, piece)?)),
+        Shown(name) => {
+            let chain = FilterChain::new(variable(alloc, name)?, Vec::new(alloc));
+            return Ok(Some(Node::Chain(chain)));
+        }
+        Leak(name, number) => {
+            let name = text(alloc, name)?;
+            return Ok(Some(Node::Tag(LeakyTagNode::Leak(name, Expression::with_literal(number)))));
+        }
+        Set(name, number) => TagNode::Set(text(alloc, name)?, Expression::with_literal(number)),
+        Inc(name) => TagNode::Inc(text(alloc, name)?),
+        Brk => TagNode::Brk,
+        Begin | Mid | End(_) => return Ok(None),
+    };
+    Ok(Some(Node::Tag(LeakyTagNode::Plain(tag))))
 }
 
-fn set(alloc: Global, name: &str, number: i64) -> Result<Element, AllocError> {
-    let value = Expression::with_literal(number);
-    Ok(Node::Tag(LeakyTagNode::Plain(TagNode::Set(text(alloc, name)?, value))))
+fn block(alloc: Global, kind: Kind) -> Result<BlockNode, AllocError> {
+    Ok(match kind {
+        Kind::Box => BlockNode::Box,
+        Kind::Sbox => BlockNode::Sbox,
+        Kind::Swap => BlockNode::Swap,
+        Kind::Raw(slice) => BlockNode::Raw(text(alloc, slice)?),
+        Kind::With(name, number) => {
+            BlockNode::With(text(alloc, name)?, Expression::with_literal(number))
+        }
+        Kind::WithName(name, other) => {
+            BlockNode::With(text(alloc, name)?, variable(alloc, other)?)
+        }
+        Kind::Glob => BlockNode::Glob,
+    })
 }
 
-fn leak(alloc: Global, name: &str, number: i64) -> Result<Element, AllocError> {
-    let value = Expression::with_literal(number);
-    Ok(Node::Tag(LeakyTagNode::Leak(text(alloc, name)?, value)))
+/// A block that is open: the nodes before it, and its parts so far.
+#[derive(Drop)]
+struct Open {
+    outer: Vec<Element>,
+    parts: Vec<Vec<Element>>,
 }
 
-fn inc(alloc: Global, name: &str) -> Result<Element, AllocError> {
-    Ok(Node::Tag(LeakyTagNode::Plain(TagNode::Inc(text(alloc, name)?))))
+fn nodes(alloc: Global, steps: &[Step]) -> Result<Vec<Element>, Fail> {
+    let mut list = Vec::new(alloc);
+    let mut open: Vec<Open> = Vec::new(alloc);
+    for step in steps {
+        match leaf(alloc, *step)? {
+            Some(node) => list.push(node)?,
+            None => place(alloc, *step, &mut list, &mut open)?,
+        }
+    }
+    Ok(list)
 }
 
-fn brk() -> Element {
-    Node::Tag(LeakyTagNode::Plain(TagNode::Brk))
-}
-
-fn part<T: Drop, B: Drop>(
+/// Begins, divides or ends a block.
+fn place(
     alloc: Global,
-    block: B,
-    body: Vec<Node<Same, T, B>>,
-) -> Result<Node<Same, T, B>, AllocError> {
-    Ok(Node::Block(block, vec![in alloc; body]?))
+    step: Step,
+    list: &mut Vec<Element>,
+    open: &mut Vec<Open>,
+) -> Result<(), Fail> {
+    let done = mem::replace(list, Vec::new(alloc));
+    match step {
+        End(kind) => {
+            let Some(Open { outer, mut parts }) = open.pop() else {
+                return Err(Fail::from("no block is open"));
+            };
+            parts.push(done)?;
+            *list = outer;
+            list.push(Node::Block(block(alloc, kind)?, parts))?;
+        }
+        Mid => match open.last_mut() {
+            Some(block) => block.parts.push(done)?,
+            None => return Err(Fail::from("no block is open")),
+        },
+        _ => open.push(Open {
+            outer: done,
+            parts: Vec::new(alloc),
+        })?,
+    }
+    Ok(())
 }
 
 /// A runtime without globals and without partials.
@@ -122,162 +206,128 @@ where
     Ok(all)
 }
 
+const UNKNOWN_G: &str = "liquid: Unknown variable\n  with:\n    requested variable=g\n";
+
+const ROWS: [(&[Step], &str); 11] = [
+    (&[Begin, End(Kind::Box)], "[]"),
+    (
+        &[Begin, Text("x"), Brk, Text("y"), End(Kind::Sbox), Text("z")],
+        "xz",
+    ),
+    (
+        &[Begin, Text("x"), Brk, Text("y"), End(Kind::Box), Text("z")],
+        "[x]",
+    ),
+    (&[Begin, Text("a"), Mid, Text("b"), End(Kind::Swap)], "ba"),
+    (&[Begin, End(Kind::Raw("{{ a }}"))], "{{ a }}"),
+    (
+        &[
+            Begin,
+            Set("x", 2),
+            Shown("x"),
+            End(Kind::With("x", 1)),
+            Shown("x"),
+        ],
+        "12",
+    ),
+    (
+        &[
+            Set("g", 1),
+            Begin,
+            Shown("g"),
+            Set("g", 5),
+            Shown("g"),
+            End(Kind::Glob),
+            Shown("g"),
+        ],
+        "151",
+    ),
+    (
+        &[Begin, Set("g", 5), Shown("g"), End(Kind::Glob), Shown("g")],
+        "5liquid: Unknown variable\n  with:\n    requested variable=g\n",
+    ),
+    (
+        &[
+            Set("test", 42),
+            Begin,
+            Shown("test"),
+            End(Kind::With("test", 3)),
+            Shown("test"),
+        ],
+        "342",
+    ),
+    (
+        &[Begin, Text("x"), End(Kind::WithName("x", "g"))],
+        UNKNOWN_G,
+    ),
+    (&[Leak("g", 1), Leak("g", 2), Shown("g")], "12"),
+];
+
 #[test]
 fn tags_and_blocks_are_rendered(rt: HostRuntime) -> Result<(), Fail> {
     let alloc = rt.alloc();
-    let unknown_g = "5liquid: Unknown variable\n  with:\n    requested variable=g\n";
-    let with = BlockNode::With(text(alloc, "x")?, Expression::with_literal(1i64));
-    let with_test = BlockNode::With(text(alloc, "test")?, Expression::with_literal(3i64));
-    let with_unknown = BlockNode::With(text(alloc, "x")?, variable(alloc, "g")?);
-    let sbox = vec![in alloc; written(alloc, "x")?, brk(), written(alloc, "y")?]?;
-    let boxed = vec![in alloc; written(alloc, "x")?, brk(), written(alloc, "y")?]?;
-    let swapped = vec![in alloc;
-        vec![in alloc; written(alloc, "a")?]?,
-        vec![in alloc; written(alloc, "b")?]?,
-    ]?;
-    let inside = vec![in alloc; set(alloc, "x", 2)?, shown(alloc, "x")?]?;
-    let globs = vec![in alloc; shown(alloc, "g")?, set(alloc, "g", 5)?, shown(alloc, "g")?]?;
-    let rows: [(Vec<Element>, &str); 11] = [
-        (
-            vec![in alloc; part(alloc, BlockNode::Box, Vec::new(alloc))?]?,
-            "[]",
-        ),
-        (
-            vec![in alloc; part(alloc, BlockNode::Sbox, sbox)?, written(alloc, "z")?]?,
-            "xz",
-        ),
-        (
-            vec![in alloc; part(alloc, BlockNode::Box, boxed)?, written(alloc, "z")?]?,
-            "[x]",
-        ),
-        (vec![in alloc; Node::Block(BlockNode::Swap, swapped)]?, "ba"),
-        (
-            vec![in alloc;
-                part(
-                    alloc,
-                    BlockNode::Raw(text(alloc, "{{ a }}")?),
-                    Vec::new(alloc)
-                )?,
-            ]?,
-            "{{ a }}",
-        ),
-        (
-            vec![in alloc; part(alloc, with, inside)?, shown(alloc, "x")?]?,
-            "12",
-        ),
-        (
-            vec![in alloc;
-                set(alloc, "g", 1)?,
-                part(alloc, BlockNode::Glob, globs)?,
-                shown(alloc, "g")?,
-            ]?,
-            "151",
-        ),
-        (
-            vec![in alloc;
-                part(
-                    alloc,
-                    BlockNode::Glob,
-                    vec![in alloc; set(alloc, "g", 5)?, shown(alloc, "g")?]?
-                )?,
-                shown(alloc, "g")?,
-            ]?,
-            unknown_g,
-        ),
-        (
-            vec![in alloc;
-                set(alloc, "test", 42)?,
-                part(alloc, with_test, vec![in alloc; shown(alloc, "test")?]?)?,
-                shown(alloc, "test")?,
-            ]?,
-            "342",
-        ),
-        (
-            vec![in alloc; part(alloc, with_unknown, vec![in alloc; written(alloc, "x")?]?)?]?,
-            "liquid: Unknown variable\n  with:\n    requested variable=g\n",
-        ),
-        (
-            vec![in alloc;
-                leak(alloc, "g", 1)?,
-                leak(alloc, "g", 2)?,
-                shown(alloc, "g")?,
-            ]?,
-            "12",
-        ),
-    ];
-    for (nodes, expected) in rows {
-        let all = rendered(alloc, nodes, &mut runtime(alloc))?;
-        assert_eq!(rt; all.as_str(), expected);
+    for (steps, expected) in &ROWS {
+        let all = rendered(alloc, nodes(alloc, steps)?, &mut runtime(alloc))?;
+        assert_eq!(rt; all.as_str(), *expected);
     }
     Ok(())
 }
 
 type Store = OnePartial<Same, LeakyTagNode, BlockNode>;
 
-/// The store of the partial `p` of these nodes.
-fn store(alloc: Global, nodes: Vec<Element>) -> Result<Store, AllocError> {
+/// The store of the partial `p` of these steps.
+fn store(alloc: Global, steps: &[Step]) -> Result<Store, Fail> {
     Ok(OnePartial {
         name: text(alloc, "p")?,
-        template: Rc::new(alloc, Template::new(nodes))?,
+        template: Rc::new(alloc, Template::new(nodes(alloc, steps)?))?,
     })
 }
 
-/// `x`, and then the partial `p` again.
-fn endless(alloc: Global) -> Result<Store, AllocError> {
-    store(
-        alloc,
-        vec![in alloc; written(alloc, "x")?, inc(alloc, "p")?]?,
-    )
-}
+const TOO_DEEP: &str = "liquid: Partials nest too deep\n";
 
 #[test]
 fn partials_are_rendered_without_a_frame(rt: HostRuntime) -> Result<(), Fail> {
     let alloc = rt.alloc();
-    let too_deep = "liquid: Partials nest too deep\n";
-    let rows = [
-        ("p", 3, "xxxliquid: Partials nest too deep\n"),
-        ("p", 0, too_deep),
+    let endless = [Text("x"), Inc("p")];
+    let sets = [Shown("x"), Set("x", 2)];
+    let rows: [(&[Step], &[Step], u32, &str); 5] = [
         (
-            "q",
+            &endless,
+            &[Inc("p")],
+            3,
+            "xxxliquid: Partials nest too deep\n",
+        ),
+        (&endless, &[Inc("p")], 0, TOO_DEEP),
+        (
+            &endless,
+            &[Inc("q")],
             3,
             "liquid: Unknown partial-template\n  with:\n    requested partial=q\n    available partials=p\n",
         ),
-        ("q", 0, too_deep),
+        (&endless, &[Inc("q")], 0, TOO_DEEP),
+        (&sets, &[Set("x", 1), Inc("p"), Shown("x")], 3, "12"),
     ];
-    for (name, depth, expected) in rows {
+    for (partial, steps, depth, expected) in rows {
         let mut runtime: BuiltRuntime<(), Store> = RuntimeBuilder::new(alloc)
-            .set_partials(endless(alloc)?)
+            .set_partials(store(alloc, partial)?)
             .set_depth(depth)
             .build();
-        let all = rendered(alloc, vec![in alloc; inc(alloc, name)?]?, &mut runtime)?;
+        let all = rendered(alloc, nodes(alloc, steps)?, &mut runtime)?;
         assert_eq!(rt; all.as_str(), expected);
     }
-    let partial = store(
-        alloc,
-        vec![in alloc; shown(alloc, "x")?, set(alloc, "x", 2)?]?,
-    )?;
-    let mut seen: BuiltRuntime<(), Store> = RuntimeBuilder::new(alloc)
-        .set_partials(partial)
-        .build();
-    let around = vec![in alloc; set(alloc, "x", 1)?, inc(alloc, "p")?, shown(alloc, "x")?]?;
-    assert_eq!(rt; rendered(alloc, around, &mut seen)?.as_str(), "12");
     Ok(())
 }
 
 #[test]
 fn no_partial_is_found_where_there_are_none(rt: HostRuntime) -> Result<(), Fail> {
     let alloc = rt.alloc();
-    let without = rendered(
-        alloc,
-        vec![in alloc; inc(alloc, "p")?]?,
-        &mut runtime(alloc),
-    )?;
+    let without = rendered(alloc, nodes(alloc, &[Inc("p")])?, &mut runtime(alloc))?;
     assert_eq!(rt;
         without.as_str(),
         "liquid: Partial does not exist\n  with:\n    name=p\n"
     );
     let mut empty: BuiltRuntime<(), ()> = RuntimeBuilder::new(alloc).set_partials(()).build();
-    let unknown = rendered(alloc, vec![in alloc; inc(alloc, "p")?]?, &mut empty)?;
+    let unknown = rendered(alloc, nodes(alloc, &[Inc("p")])?, &mut empty)?;
     assert_eq!(rt;
         unknown.as_str(),
         "liquid: Unknown partial-template\n  with:\n    requested partial=p\n    available partials=\n"
@@ -290,8 +340,12 @@ fn an_interrupt_ends_a_list_behind_an_element(rt: HostRuntime) -> Result<(), Fai
     let alloc = rt.alloc();
     let mut interrupted = runtime(alloc);
     interrupted.registers_mut().interrupt.set(Interrupt::Break);
-    let nodes: Vec<Element> = vec![in alloc; written(alloc, "a")?, written(alloc, "b")?]?;
-    assert_eq!(rt; rendered(alloc, nodes, &mut interrupted)?.as_str(), "a");
+    let all = rendered(
+        alloc,
+        nodes(alloc, &[Text("a"), Text("b")])?,
+        &mut interrupted,
+    )?;
+    assert_eq!(rt; all.as_str(), "a");
     Ok(())
 }
 
@@ -304,11 +358,11 @@ fn leak_writes_what_a_sandbox_hides(rt: HostRuntime) -> Result<(), Fail> {
             outside.set_global(text(alloc, "s")?, Value::scalar(text(alloc, "S")?))?;
         }
         let mut sandbox = SandboxedStackFrame::new(outside, Object::new(alloc));
-        let leaked = rendered(alloc, vec![in alloc; leak(alloc, "s", 1)?]?, &mut sandbox)?;
+        let leaked = rendered(alloc, nodes(alloc, &[Leak("s", 1)])?, &mut sandbox)?;
         assert_eq!(rt; leaked.as_str(), expected);
     }
     let mut core: RuntimeCore<(), ()> = RuntimeCore::new();
-    let refused = rendered(alloc, vec![in alloc; set(alloc, "s", 1)?]?, &mut core)?;
+    let refused = rendered(alloc, nodes(alloc, &[Set("s", 1)])?, &mut core)?;
     assert_eq!(rt; refused.as_str(), "liquid: No global frame\n");
     Ok(())
 }
@@ -317,20 +371,14 @@ fn leak_writes_what_a_sandbox_hides(rt: HostRuntime) -> Result<(), Fail> {
 fn a_sink_that_fails_leaves_what_was_set_before(rt: HostRuntime) -> Result<(), Fail> {
     let alloc = rt.alloc();
     let mut runtime = runtime(alloc);
-    let boxed = part(
-        alloc,
-        BlockNode::Box,
-        vec![in alloc; written(alloc, "ab")?]?,
-    )?;
-    let sets = vec![in alloc;
-        set(alloc, "g", 1)?,
-        written(alloc, "ab")?,
-        set(alloc, "g", 2)?,
-    ]?;
-    let rows: [(Vec<Element>, u64, &str); 2] = [(vec![in alloc; boxed]?, 2, "[a"), (sets, 1, "a")];
-    for (nodes, puts, expected) in rows {
+    let rows: [(&[Step], u64, &str); 2] = [
+        (&[Begin, Text("ab"), End(Kind::Box)], 2, "[a"),
+        (&[Set("g", 1), Text("ab"), Set("g", 2)], 1, "a"),
+    ];
+    for (steps, puts, expected) in rows {
         let mut sink = Dripping::new(alloc, puts);
-        match Template::new(nodes).render_to(alloc, &mut sink, &mut runtime) {
+        let template = Template::new(nodes(alloc, steps)?);
+        match template.render_to(alloc, &mut sink, &mut runtime) {
             Ok(()) => return Err(Fail::from("the sink did not fail")),
             Err(error) => {
                 assert_eq!(rt;
@@ -341,38 +389,40 @@ fn a_sink_that_fails_leaves_what_was_set_before(rt: HostRuntime) -> Result<(), F
         }
         assert_eq!(rt; sink.as_bytes(), expected.as_bytes());
     }
-    let left = rendered(alloc, vec![in alloc; shown(alloc, "g")?]?, &mut runtime)?;
+    let left = rendered(alloc, nodes(alloc, &[Shown("g")])?, &mut runtime)?;
     assert_eq!(rt; left.as_str(), "1");
     Ok(())
+}
+
+/// The nodes, with `.` behind them.
+fn before_a_point(alloc: Global, node: HostileElement) -> Result<Vec<HostileElement>, AllocError> {
+    Ok(vec![in alloc; node, written(alloc, ".")?]?)
+}
+
+/// A block whose one part is a text.
+fn around(
+    alloc: Global,
+    block: HostileBlockNode,
+    piece: &str,
+) -> Result<HostileElement, AllocError> {
+    let part = vec![in alloc; written(alloc, piece)?]?;
+    Ok(Node::Block(block, vec![in alloc; part]?))
 }
 
 #[test]
 fn bad_will_is_rendered_to_its_end(rt: HostRuntime) -> Result<(), Fail> {
     let alloc = rt.alloc();
-    let plain = HostileBlockNode::Plain(BlockNode::Box);
+    let boxed = HostileBlockNode::Plain(BlockNode::Box);
     let rows: [(HostileElement, &str); 5] = [
         (Node::Tag(HostileTagNode::Spin), "sss."),
         (Node::Tag(HostileTagNode::Mute), "."),
         (Node::Tag(HostileTagNode::Plain(TagNode::Brk)), ""),
-        (
-            part(
-                alloc,
-                HostileBlockNode::Far,
-                vec![in alloc; written(alloc, "a")?]?,
-            )?,
-            ".",
-        ),
-        (
-            part(alloc, plain, vec![in alloc; written(alloc, "x")?]?)?,
-            "[x].",
-        ),
+        (around(alloc, HostileBlockNode::Far, "a")?, "."),
+        (around(alloc, boxed, "x")?, "[x]."),
     ];
     for (node, expected) in rows {
-        let nodes = vec![in alloc; node, written(alloc, ".")?]?;
-        assert_eq!(rt;
-            rendered(alloc, nodes, &mut runtime(alloc))?.as_str(),
-            expected
-        );
+        let all = rendered(alloc, before_a_point(alloc, node)?, &mut runtime(alloc))?;
+        assert_eq!(rt; all.as_str(), expected);
     }
     Ok(())
 }
