@@ -1,4 +1,5 @@
 pub mod Drips
+pub mod Filters
 pub mod Turning
 pub mod Tags
 pub mod TagLaws

@@ -15,3 +15,7 @@ pub mod SpansOfRules
 pub mod MatchLemmas
 pub mod KindLemmas
 pub mod HeadLemmas
+pub mod PartLemmas
+pub mod IndexPartLemmas
+pub mod FilterPartLemmas
+pub mod TokenPartLemmas

@@ -1,12 +1,12 @@
 -- The faults of lists of parts, and of parts behind something else.
-use Rattle.std.proofs.Common.{◌≡◌, ℕ, List, ◌∷◌, Option, Some, None, option_map, option_and_then, refl, sym, ap, ap₂, ◌∙◌}
+use Rattle.std.proofs.Common.{◌≡◌, ℕ, List, ◌∷◌, Option, Some, None, option_map, option_and_then, Bor, refl, sym, ap, ap₂, ◌∙◌}
 use Rattle.std.specs.Option.{option_or}
 use Rattle.liquid_grammar.specs.Rules.{Rule}
 use Rattle.liquid_grammar.specs.Values.{Value}
 use Rattle.liquid_grammar.specs.Tokens.{Argument, Filter}
 use Rattle.liquid_grammar.specs.declared.fault.Fault.{Fault as CodeFault}
 use Rattle.liquid_grammar.specs.Faults.{Fault, first_fault, value_fault, argument_fault, filter_fault, chain_fault, range_fault}
-use Rattle.liquid_grammar.specs.Meanings.{Scanned, scan, faults_of}
+use Rattle.liquid_grammar.specs.Meanings.{Scanned, Scans, scan, scanned_of, faults_of}
 use Rattle.liquid_grammar.specs.Steps.{Reader, both, right, left}
 use Rattle.liquid_grammar.specs.TokenSteps.{placed, repeated, separated, behind, argument, arguments, value, filter, chain_of, range_start, dots, range_end, ranged}
 use Rattle.liquid_grammar.specs.BracketSteps.{adds}
@@ -163,6 +163,12 @@ range_no_end s r₀ r₁ r₂ r₃ g h e₀ e₁ e₂ e₃ e₄ =
     let values = both_some (left value dots) value r₀ v.0 x₃.0 v.1 (ap value v.2 ∙ x₃.1) in
     let inner = right_some range_start range_values s x₀.0 ((v.0.0, x₃.0.0), x₃.0.1) x₀.1 (ap range_values x₀.2 ∙ values) in
     sym (ap (scan range_fault) (left_of_none (right range_start range_values) range_end s (both_none_behind (right range_start range_values) range_end s ((v.0.0, x₃.0.0), x₃.0.1) inner (ap range_end x₃.3 ∙ left_none (range_end r₃) e₄))))
+
+-- what an early return of None tells of a range
+pub no_range : (s : List ℕ) (r : Option (Bor (List ℕ) × Bor (List ℕ) × Option CodeFault × Bor (List ℕ))) → r ≡ None → None ≡ scan range_fault (ranged s) → Scans range_fault (option_map (λ p. (p.2, p.3)) r) (ranged s)
+no_range s r e h =
+    let seen : Option (Bor (List ℕ) × Bor (List ℕ) × Option CodeFault × Bor (List ℕ)) → Option Scanned = λ r. option_map scanned_of (option_map (λ p. (p.2, p.3)) r) in
+    ap seen e ∙ h
 
 abbrev next_filter : Reader Filter
 next_filter = behind 124 filter

@@ -46,7 +46,7 @@ pub exact-literal : Exact read.literal LiteralRule
 unfolding read.literal
 exact-literal = exact-either exact-word (exact-either (exact-seen text_literal (exact-either (exact-quoted 39) (exact-quoted 34))) exact-number)
 
-shrinks-identifier : Shrinks Identifier
+pub shrinks-identifier : Shrinks Identifier
 shrinks-identifier = shrinks-text (shrinks-first (shrinks-one starts_name) exact-name_bytes.cuts)
 
 pub shrinks-name : Shrinks Name
@@ -103,7 +103,7 @@ exact-value = record {
   cuts = λ s rest a m. (exact-nested (suc (length s))).cuts s rest a m;
 }
 
-exact-keyword_start : Exact read.keyword_start (Identifier ◁ White ◁ Byte 58 ◁ White)
+pub exact-keyword_start : Exact read.keyword_start (Identifier ◁ White ◁ Byte 58 ◁ White)
 unfolding read.keyword_start
 exact-keyword_start = exact-left (exact-left (exact-left exact-identifier exact-white) (exact-byte 58)) exact-white
 
@@ -129,6 +129,9 @@ pub exact-filter : Exact read.filter FilterRule
 unfolding read.filter
 exact-filter = exact-at (exact-seen (λ p. (p.0, arguments_of p.1)) (exact-both exact-identifier (exact-optional exact-arguments)))
 
+pub shrinks-filter : Shrinks FilterRule
+shrinks-filter s rest a m = shrinks-seen (λ p. (p.0, arguments_of p.1)) (shrinks-first shrinks-identifier (exact-optional exact-arguments).cuts) s rest a.what m.match
+
 pub exact-filters : Exact (read.repeated (read.behind 124 read.filter)) (Repeated (Behind 124 FilterRule))
 exact-filters = exact-repeated (exact-behind 124 exact-filter) (shrinks-behind 124 exact-filter)
 
@@ -136,15 +139,15 @@ pub exact-chain : Exact read.chain_of ChainRule
 unfolding read.chain_of
 exact-chain = exact-at (exact-both exact-value exact-filters)
 
-exact-dots : Exact read.dots Dots
+pub exact-dots : Exact read.dots Dots
 unfolding read.dots
 exact-dots = exact-left (exact-right (exact-right exact-white (exact-byte 46)) (exact-byte 46)) exact-white
 
-exact-range_start : Exact read.range_start RangeStart
+pub exact-range_start : Exact read.range_start RangeStart
 unfolding read.range_start
 exact-range_start = exact-right (exact-byte 40) exact-white
 
-exact-range_end : Exact read.range_end RangeEnd
+pub exact-range_end : Exact read.range_end RangeEnd
 unfolding read.range_end
 exact-range_end = exact-right exact-white (exact-byte 41)
 

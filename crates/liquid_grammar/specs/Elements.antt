@@ -1,5 +1,5 @@
 -- What an element of the program means.
-use Rattle.std.specs.Prelude.{◌≡◌, List, ℕ}
+use Rattle.std.specs.Prelude.{◌≡◌, ◌++◌, List, ℕ}
 use Rattle.liquid_grammar.specs.declared.element.TagText.{TagText}
 use Rattle.liquid_grammar.specs.declared.element.ChainText.{ChainText}
 use Rattle.liquid_grammar.specs.declared.element.Element.{Element as CodeElement}
@@ -15,8 +15,9 @@ use Rattle.liquid_grammar.specs.Cover.{Element, raw, tag_element, expression, in
 abbrev pub Taken : Type 0
 Taken = Element × List ℕ
 
--- the tag's name, where its tokens begin and end, its text and its first fault
+-- where the tag's name begins, the name, where its tokens begin, its text and its first fault
 pub record MeansTag (t : TagText) (tag : shape.Tag) (text : List ℕ) : Type 0 where
+  pub place_is : t.place.now ≡ tag.0 ++ tag.1.place
   pub name_is : t.name.now ≡ tag.0
   pub tokens_are : t.tokens.now ≡ tag.1.place
   pub text_is : t.text.now ≡ text

@@ -17,3 +17,4 @@ pub mod Matches
 pub mod Kinds
 pub mod KindMeanings
 pub mod Spans
+pub mod Parts

@@ -1,5 +1,5 @@
 -- How a call's answer stands to a rule: it found the match that begins there, or none begins.
-use Rattle.std.specs.Prelude.{◌≡◌, ℕ, List, Option, MatchOption}
+use Rattle.std.specs.Prelude.{◌≡◌, ℕ, ◌<◌, List, length, Option, MatchOption}
 use Rattle.std.specs.Borrow.{Bor}
 use Rattle.liquid_grammar.specs.declared.fault.Fault.{Fault as CodeFault}
 use Rattle.liquid_grammar.specs.Rules.{Rule, Begins}
@@ -23,3 +23,7 @@ Matches R fault s result = MatchOption result (¬ (Begins R s)) (λ p. HasMatch 
 -- at most one end and shape is related to a text
 abbrev pub Single : {A : Type 0} → Rule A → Type 0
 Single {A} R = (s r₁ r₂ : List ℕ) (a₁ a₂ : A) → R s r₁ a₁ → R s r₂ a₂ → ◌≡◌ {A = A × List ℕ} (a₁, r₁) (a₂, r₂)
+
+-- each match takes one byte at least
+abbrev pub Takes : {A : Type 0} → Rule A → Type 0
+Takes {A} R = (s rest : List ℕ) (a : A) → R s rest a → length rest < length s

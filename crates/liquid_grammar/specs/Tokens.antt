@@ -27,9 +27,17 @@ pub data Token : Type 0 where
 abbrev pub Tag : Type 0
 Tag = List ℕ × Placed (List Token)
 
+-- an identifier and `:`, with the white space behind them
+abbrev pub KeywordStart : Rule (List ℕ)
+KeywordStart = Identifier ◁ White ◁ Byte 58 ◁ White
+
+-- an identifier, `:` and a value
+abbrev pub KeywordRule : Rule Argument
+KeywordRule = Seen (λ p. keyword p.0 p.1) (Then KeywordStart ValueRule)
+
 -- an identifier, `:` and a value; else a value
 abbrev pub ArgumentRule : Rule Argument
-ArgumentRule = Else (Seen (λ p. keyword p.0 p.1) (Then (Identifier ◁ White ◁ Byte 58 ◁ White) ValueRule)) (Seen positional ValueRule)
+ArgumentRule = Else KeywordRule (Seen positional ValueRule)
 
 -- the separator between white space, and R behind it
 abbrev pub Behind : {A : Type 0} → ℕ → Rule A → Rule A

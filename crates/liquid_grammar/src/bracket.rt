@@ -146,7 +146,7 @@ fn depth_fault<'a>(place: &'a str, depth: usize) -> Option<Fault<'a>>
 
 /// What follows `[` and white space.
 #[tactic(auto, unfolding(crate::specs::TokenSteps::open_bracket))]
-fn open_bracket(s: &str) -> Option<&str>
+pub(crate) fn open_bracket(s: &str) -> Option<&str>
     ensures value { Leaves result (read.open_bracket s.now) }
     ensures shorter { IfSome result (λ rest. length rest.now < length s.now) }
 {
@@ -155,7 +155,7 @@ fn open_bracket(s: &str) -> Option<&str>
 
 /// What follows white space and `]`.
 #[tactic(auto, unfolding(crate::specs::TokenSteps::close_bracket))]
-fn close_bracket(s: &str) -> Option<&str>
+pub(crate) fn close_bracket(s: &str) -> Option<&str>
     ensures value { Leaves result (read.close_bracket s.now) }
     ensures shorter { IfSome result (λ rest. length rest.now < length s.now) }
 {

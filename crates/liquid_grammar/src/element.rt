@@ -16,6 +16,8 @@ use crate::token::{expression, tag};
 /// A tag of a template.
 #[derive(Clone, Copy, Debug, PartialEq, Eq)]
 pub struct TagText<'a> {
+    /// The text from the name on.
+    pub place: &'a str,
     pub name: &'a str,
     /// The text from behind the name on, past the tag's end.
     pub tokens: &'a str,
@@ -73,14 +75,15 @@ fn marked<'a>(s: &'a str) -> (Element<'a>, &'a str)
     ensures { (e : spec.Element) × IsElement s.now result.1.now e × Means result.0 e }
 {
     match tag(s) {
-        Some((name, tokens, fault, rest)) => (
+        Some(found) => (
             Element::Tag(TagText {
-                name,
-                tokens,
-                text: before(s, rest),
-                fault,
+                place: found.place,
+                name: found.name,
+                tokens: found.tokens,
+                text: before(s, found.rest),
+                fault: found.fault,
             }),
-            rest,
+            found.rest,
         ),
         None => match expression(s) {
             Some((chain, kind, fault, rest)) => (

@@ -4,7 +4,7 @@ ghost use Rattle.liquid_grammar.specs.Tokens as spec;
 ghost use Rattle.liquid_grammar.specs.Faults.{argument_fault, filter_fault, chain_fault, first_fault};
 ghost use Rattle.liquid_grammar.specs.KindMeanings.{FindsKind};
 ghost use Rattle.liquid_grammar.specs.Meanings.{Scans};
-ghost use Rattle.liquid_grammar.specs.Steps.{Leaves};
+ghost use Rattle.liquid_grammar.specs.Steps.{Finds, Leaves};
 ghost use Rattle.liquid_grammar.specs.Steps as step;
 ghost use Rattle.liquid_grammar.specs.TokenSteps as read;
 
@@ -118,20 +118,21 @@ fn keyword<'a>(s: &'a str) -> Option<(Option<Fault<'a>>, &'a str)>
     ensures value { Scans argument_fault result (read.keyword_argument s.now) }
     ensures shorter { IfSome result (λ x. length x.1.now < length s.now) }
 {
-    value(keyword_start(s)?)
+    value(keyword_start(s)?.1)
 }
 
-/// What follows an identifier and `:` between white space.
+/// The identifier before `:`, and what follows the colon and its white space.
 #[tactic(auto, unfolding(crate::specs::TokenSteps::keyword_start))]
-fn keyword_start(s: &str) -> Option<&str>
-    ensures value { Leaves result (read.keyword_start s.now) }
-    ensures shorter { IfSome result (λ rest. length rest.now < length s.now) }
+pub(crate) fn keyword_start(s: &str) -> Option<(&str, &str)>
+    ensures value { Finds result (read.keyword_start s.now) }
+    ensures shorter { IfSome result (λ x. length x.1.now < length s.now) }
 {
-    Some(skip_white(eat(skip_white(identifier(s)?.1), b':')?))
+    let (name, rest) = identifier(s)?;
+    Some((name, skip_white(eat(skip_white(rest), b':')?)))
 }
 
 /// What follows a separator between white space.
-fn behind(s: &str, separator: u8) -> Option<&str>
+pub(crate) fn behind(s: &str, separator: u8) -> Option<&str>
     requires { separator < 128 }
     ensures value { Leaves result (read.separated separator s.now) }
     ensures shorter { IfSome result (λ rest. length rest.now < length s.now) }

@@ -8,9 +8,9 @@ ghost use Rattle.liquid_grammar.specs.TokenSteps as read;
 use crate::literal::{Literal, text_or_number, word_literal};
 use crate::name::{identifier, is_literal_word};
 
-/// A literal, or a name.
-#[derive(Clone, Copy)]
-pub(crate) enum Head<'a> {
+/// What a value begins with: a literal, or the name of a variable.
+#[derive(Clone, Copy, Debug, PartialEq, Eq)]
+pub enum Head<'a> {
     Literal(Literal<'a>),
     Name(&'a str),
 }

@@ -1,12 +1,14 @@
 //! Laws of the definitions: each is the clause of a function that does nothing.
 ghost use Rattle.std.specs.Prelude.{◌≡◌, ℕ, List, ◌<◌, length, drop, ◌↔◌};
-ghost use Rattle.liquid_grammar.specs.Grammar.{Opens, Identifier};
+ghost use Rattle.liquid_grammar.specs.Grammar.{White, Opens, Identifier};
 ghost use Rattle.liquid_grammar.specs.Literals.{LiteralRule};
-ghost use Rattle.liquid_grammar.specs.Values.{Value, ValueOver, ValueRule, IndexRule};
+ghost use Rattle.liquid_grammar.specs.Values.{Value, ValueOver, ValueRule, IndexRule, CloseBracket};
 ghost use Rattle.liquid_grammar.specs.Tokens.{Chain, Tag, ArgumentRule, FilterRule, ChainRule, TokenRule, ExpressionRule, TagRule};
-ghost use Rattle.liquid_grammar.specs.Matches.{Single};
+ghost use Rattle.liquid_grammar.specs.Matches.{Single, Takes};
 ghost use Rattle.liquid_grammar.specs.Cover.{Element, raw, IsElement, Cover, OnlyCover, joined};
 ghost use Rattle.liquid_grammar.specs.Elements.{Taken};
+ghost use Rattle.liquid_grammar.specs.Rules.{Begins, Repeated, ◌▷◌};
+ghost use Rattle.liquid_grammar.specs.Parts.{IsChain};
 ghost use Rattle.liquid_grammar.specs.Spans.{AreSlices, chain_spans, tag_spans};
 
 /// Each text has one cover.
@@ -34,10 +36,12 @@ pub fn no_opener_inside_raw()
 
 /// Each rule relates at most one end and shape to a text.
 pub fn one_match()
+    ensures whites { Single White }
     ensures identifiers { Single Identifier }
     ensures literals { Single LiteralRule }
     ensures values { Single ValueRule }
     ensures indexes { Single IndexRule }
+    ensures close_brackets { Single CloseBracket }
     ensures arguments { Single ArgumentRule }
     ensures filters { Single FilterRule }
     ensures chains { Single ChainRule }
@@ -50,6 +54,28 @@ pub fn one_match()
 #[tactic(auto, using(crate::proofs::ValueLaw::value_law))]
 pub fn value_law()
     ensures { (s rest : List ℕ) (v : Value) → ValueRule s rest v ↔ ValueOver ValueRule s rest v }
+{}
+
+/// Each match of these rules takes one byte at least.
+pub fn matches_take_bytes()
+    ensures identifiers { Takes Identifier }
+    ensures values { Takes ValueRule }
+    ensures indexes { Takes IndexRule }
+    ensures filters { Takes FilterRule }
+    ensures tokens { Takes TokenRule }
+{}
+
+/// No index begins where a close bracket does.
+#[tactic(auto, using(crate::proofs::IndexPartLemmas::close_or_index))]
+pub fn no_index_at_close_bracket()
+    ensures { (s : List ℕ) → Begins CloseBracket s → ¬ (Begins IndexRule s) }
+{}
+
+/// The parts of a match are matches themselves, at the places that the shape names.
+pub fn parts_are_matches()
+    ensures chains { (s rest : List ℕ) (chain : Chain) → ChainRule s rest chain → IsChain s rest chain }
+    ensures expressions { (s rest : List ℕ) (chain : Chain) → ExpressionRule s rest chain → ChainRule chain.place chain.behind chain }
+    ensures tags { (s rest : List ℕ) (tag : Tag) → TagRule s rest tag → Repeated (White ▷ TokenRule) tag.1.place tag.1.behind tag.1.what }
 {}
 
 /// Each part of an expression or a tag is a slice of the text, and stands between characters.

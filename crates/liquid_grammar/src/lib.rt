@@ -15,6 +15,7 @@ mod matching;
 mod matching_tests;
 mod name;
 mod opener;
+mod parts;
 mod place;
 mod raw;
 #[cfg(test)]
@@ -26,14 +27,20 @@ mod value;
 pub use bracket::BRACKET_LIMIT;
 pub use element::{ChainText, Element, TagText, next_element};
 pub use fault::{Fault, FaultKind, integer_of};
+pub use head::Head;
 pub use kind::{TokenKind, chain_kind, token_kind};
 pub use laws::{
-    elements_joined_are_the_text, no_opener_inside_raw, one_cover, one_element, one_match,
-    spans_are_slices, value_law,
+    elements_joined_are_the_text, matches_take_bytes, no_index_at_close_bracket,
+    no_opener_inside_raw, one_cover, one_element, one_match, parts_are_matches, spans_are_slices,
+    value_law,
 };
 pub use literal::Literal;
 pub use matching::{
     match_argument, match_chain, match_expression, match_filter, match_identifier, match_index,
     match_literal, match_tag, match_token, match_value, match_variable, match_white,
+};
+pub use parts::{
+    ArgumentStart, FilterStart, IndexStart, TokenParts, TokenText, close_bracket, next_argument,
+    next_filter, next_index, next_token, value_head,
 };
 pub use place::line_and_column;

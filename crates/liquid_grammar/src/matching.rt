@@ -114,7 +114,7 @@ pub fn match_tag<'a>(s: &'a str) -> Option<(Option<Fault<'a>>, &'a str)>
     ensures shorter { IfSome result (λ x. length x.1.now < length s.now) }
 {
     match tag(s) {
-        Some((_, _, fault, rest)) => Some((fault, rest)),
+        Some(found) => Some((found.fault, found.rest)),
         None => None,
     }
 }

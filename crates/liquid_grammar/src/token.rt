@@ -1,9 +1,10 @@
 //! Tokens, expressions and tags.
-ghost use Rattle.std.specs.Prelude.{◌≡◌, ◌<◌, ◌≤◌, length, Some, IfSome, option_map};
+ghost use Rattle.std.specs.Prelude.{◌≡◌, ◌<◌, ◌≤◌, ◌++◌, length, Some, IfSome, option_map};
 ghost use Rattle.liquid_grammar.specs.Tokens as spec;
 ghost use Rattle.liquid_grammar.specs.Faults.{range_fault, token_fault, first_fault};
 ghost use Rattle.liquid_grammar.specs.KindMeanings.{FindsKind};
 ghost use Rattle.liquid_grammar.specs.Meanings.{Scans, SeesTag, SeesChain};
+ghost use Rattle.liquid_grammar.specs.Parts.{HasEnds};
 ghost use Rattle.liquid_grammar.specs.Steps.{Finds, Leaves};
 ghost use Rattle.liquid_grammar.specs.Steps as step;
 ghost use Rattle.liquid_grammar.specs.TokenSteps as read;
@@ -17,24 +18,44 @@ use crate::opener::{closer, opener};
 use crate::text::{eat, skip_white};
 use crate::value::value;
 
-/// The tag that the text begins with: its name, the text from its tokens on, its first fault, and what follows it.
-#[tactic(auto, unfolding(crate::specs::TokenSteps::tag))]
-pub(crate) fn tag<'a>(s: &'a str) -> Option<(&'a str, &'a str, Option<Fault<'a>>, &'a str)>
-    ensures value { SeesTag result (read.tag s.now) }
-    ensures shorter { IfSome result (λ x. length x.3.now < length s.now) }
-{
-    let (name, start) = tag_start(s)?;
-    let (fault, rest) = tokens(start);
-    Some((name, start, fault, closer(skip_white(rest), b'%')?))
+/// A tag that was matched: the texts from its name on and from behind it on, its first fault, and what follows it.
+#[derive(Clone, Copy)]
+pub(crate) struct TagMatch<'a> {
+    pub(crate) place: &'a str,
+    pub(crate) name: &'a str,
+    pub(crate) tokens: &'a str,
+    pub(crate) fault: Option<Fault<'a>>,
+    pub(crate) rest: &'a str,
 }
 
-/// The name of the tag that may begin here, and what follows the name.
-#[tactic(auto, unfolding(crate::specs::TokenSteps::tag_start))]
-fn tag_start(s: &str) -> Option<(&str, &str)>
-    ensures value { Finds result (read.tag_start s.now) }
-    ensures shorter { IfSome result (λ x. length x.1.now < length s.now) }
+/// The tag that the text begins with.
+#[tactic(auto, unfolding(crate::specs::TokenSteps::tag))]
+pub(crate) fn tag<'a>(s: &'a str) -> Option<TagMatch<'a>>
+    ensures value { SeesTag (option_map (λ t. (t.name, t.tokens, t.fault, t.rest)) result) (read.tag s.now) }
+    ensures place { IfSome result (λ t. t.place.now ≡ t.name.now ++ t.tokens.now) }
+    ensures shorter { IfSome result (λ t. length t.rest.now < length s.now) }
 {
-    identifier(skip_white(opener(s, b'%')?))
+    let (place, name, start) = tag_start(s)?;
+    let (fault, rest) = tokens(start);
+    Some(TagMatch {
+        place,
+        name,
+        tokens: start,
+        fault,
+        rest: closer(skip_white(rest), b'%')?,
+    })
+}
+
+/// The text from the name on of the tag that may begin here, the name, and what follows it.
+#[tactic(auto, unfolding(crate::specs::TokenSteps::tag_start), using(crate::proofs::PartLemmas::identifier_joined))]
+fn tag_start(s: &str) -> Option<(&str, &str, &str)>
+    ensures value { Finds (option_map (λ p. (p.1, p.2)) result) (read.tag_start s.now) }
+    ensures place { IfSome result (λ p. p.0.now ≡ p.1.now ++ p.2.now) }
+    ensures shorter { IfSome result (λ p. length p.2.now < length s.now) }
+{
+    let place = skip_white(opener(s, b'%')?);
+    let (name, rest) = identifier(place)?;
+    Some((place, name, rest))
 }
 
 /// The expression that the text begins with: the text from its chain on, the chain's kind, its first fault, and what
@@ -99,10 +120,24 @@ pub(crate) fn range<'a>(s: &'a str) -> Option<(Option<Fault<'a>>, &'a str)>
     ensures value { Scans range_fault result (read.ranged s.now) }
     ensures shorter { IfSome result (λ x. length x.1.now < length s.now) }
 {
-    let (start, rest) = value(range_start(s)?)?;
-    let (stop, rest) = value(dots(rest)?)?;
+    let (_, _, fault, rest) = range_parts(s)?;
+    Some((fault, rest))
+}
+
+/// The texts from the two values of a range on, its first fault, and what follows it.
+pub(crate) fn range_parts<'a>(
+    s: &'a str,
+) -> Option<(&'a str, &'a str, Option<Fault<'a>>, &'a str)>
+    ensures value { Scans range_fault (option_map (λ p. (p.2, p.3)) result) (read.ranged s.now) }
+    ensures ends { IfSome result (λ p. HasEnds s.now p.3.now p.0.now p.1.now) }
+    ensures shorter { IfSome result (λ p. length p.3.now < length s.now) }
+{
+    let start = range_start(s)?;
+    let (first, rest) = value(start)?;
+    let stop = dots(rest)?;
+    let (second, rest) = value(stop)?;
     let rest = range_end(rest)?;
-    Some((start.or(stop), rest))
+    Some((start, stop, first.or(second), rest))
 }
 
 #[tactic(auto, unfolding(crate::specs::TokenSteps::range_start))]

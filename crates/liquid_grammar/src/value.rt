@@ -4,7 +4,7 @@ ghost use Rattle.liquid_grammar.specs.Values.{gather};
 ghost use Rattle.liquid_grammar.specs.Faults.{value_fault, indexes_fault, index_fault};
 ghost use Rattle.liquid_grammar.specs.KindMeanings.{FindsValueKind};
 ghost use Rattle.liquid_grammar.specs.Meanings.{Scans};
-ghost use Rattle.liquid_grammar.specs.Steps.{Leaves};
+ghost use Rattle.liquid_grammar.specs.Steps.{Finds, Leaves};
 ghost use Rattle.liquid_grammar.specs.TokenSteps as read;
 
 use crate::bracket::bracketed;
@@ -77,10 +77,18 @@ pub(crate) fn index<'a>(s: &'a str) -> Option<(Option<Fault<'a>>, &'a str)>
 }
 
 /// What follows `.` and an identifier.
-#[tactic(auto, unfolding(crate::specs::TokenSteps::named))]
 pub(crate) fn named(s: &str) -> Option<&str>
     ensures value { Leaves result (read.named s.now) }
     ensures shorter { IfSome result (λ rest. length rest.now < length s.now) }
 {
-    Some(identifier(eat(s, b'.')?)?.1)
+    Some(named_index(s)?.1)
+}
+
+/// The identifier behind `.`, and what follows it.
+#[tactic(auto, unfolding(crate::specs::TokenSteps::named))]
+pub(crate) fn named_index(s: &str) -> Option<(&str, &str)>
+    ensures value { Finds result (read.named s.now) }
+    ensures shorter { IfSome result (λ x. length x.1.now < length s.now) }
+{
+    identifier(eat(s, b'.')?)
 }

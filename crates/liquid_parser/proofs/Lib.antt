@@ -1,3 +1,12 @@
-pub mod Front
-pub mod NodeLemmas
+pub mod TokenLemmas
+pub mod StepLemmas
+pub mod AskedLemmas
+pub mod Shapes
+pub mod Indexes
+pub mod ArgumentsLeft
+pub mod FiltersLeft
 pub mod ReadingSteps
+pub mod EscapeLemmas
+pub mod ElementLemmas
+pub mod Slices
+pub mod VariableLemmas

@@ -21,8 +21,9 @@ pub struct FilterArguments<'a> {
 
 /// Parameters of a filter, as a type of its own: made of arguments, and evaluated at each call.
 ///
-/// `'s` is how long the parameters and the runtime stay, which evaluated parameters may borrow from.
-pub trait FilterParameters<'s>: FilterParametersReflection + Meant + Drop {
+/// What they come to is owned. A filter that only reads a value can do without: it evaluates the
+/// expression itself, which borrows.
+pub trait FilterParameters: FilterParametersReflection + Meant + Drop {
     /// What the parameters come to over a runtime.
     type EvaluatedFilterParameters: Meant;
 
@@ -37,7 +38,7 @@ pub trait FilterParameters<'s>: FilterParametersReflection + Meant + Drop {
         ensures { Gives Self.shape result (makes (arguments_of arguments.entry)) };
 
     /// What the parameters come to, or the first refusal of one of them.
-    fn evaluate<R: Runtime>(
+    fn evaluate<'s, R: Runtime>(
         &'s self,
         alloc: Global,
         runtime: &'s R,

@@ -1,19 +1,19 @@
-use Rattle.std.proofs.Common.{sym, refl, take, ◌-◌, length}
+use Rattle.std.proofs.Common.{ℕ, List, sym, refl, ap₂, ◌∙◌, ◌++◌, take, ◌-◌, length}
 use Rattle.liquid_grammar.specs.Cover.{tag_element, expression, invalid}
 use Rattle.liquid_grammar.proofs.CoverLemmas.{tag_found, expression_found, no_tag, no_expression, tag_ends, expression_ends, tag_element_is, expression_is, invalid_is, brace_found}
 use Rattle.liquid_grammar.proofs.element.marked.Goals as goal
 
 pub before-requires-clause-ends : goal.before-requires-clause-ends
 before-requires-clause-ends c =
-    let found = tag_found c.args.s.now _ _ c.in-Some.rest.now _ c.in-Some.ensures.value in
-    tag_ends c.args.s.now c.in-Some.rest.now found.0 found.1
+    let found = tag_found c.args.s.now _ _ c.in-Some.found.rest.now _ c.in-Some.ensures.value in
+    tag_ends c.args.s.now c.in-Some.found.rest.now found.0 found.1
 
 pub returns-in-Some : goal.returns-in-Some
 returns-in-Some c =
-    let found = tag_found c.args.s.now _ _ c.in-Some.rest.now _ c.in-Some.ensures.value in (
-      tag_element found.0 (take (length c.args.s.now - length c.in-Some.rest.now) c.args.s.now),
-      tag_element_is c.args.s.now c.in-Some.rest.now found.0 found.1,
-      record { name_is = found.2; tokens_are = found.3; text_is = c.before-in-Some.ensures; fault_is = found.4 },
+    let found = tag_found c.args.s.now _ _ c.in-Some.found.rest.now _ c.in-Some.ensures.value in (
+      tag_element found.0 (take (length c.args.s.now - length c.in-Some.found.rest.now) c.args.s.now),
+      tag_element_is c.args.s.now c.in-Some.found.rest.now found.0 found.1,
+      record { place_is = c.in-Some.ensures.place ∙ ap₂ (λ (x y : List ℕ). x ++ y) found.2 found.3; name_is = found.2; tokens_are = found.3; text_is = c.before-in-Some.ensures; fault_is = found.4 },
     )
 
 pub before-requires-in-Some-expression-clause-ends : goal.before-requires-in-Some-expression-clause-ends

@@ -1,6 +1,6 @@
 use Rattle.liquid_grammar.proofs.MatchLemmas.{single}
-use Rattle.liquid_grammar.proofs.GrammarExact.{exact-identifier}
-use Rattle.liquid_grammar.proofs.TokenExact.{exact-literal, exact-value, exact-index, exact-argument, exact-filter, exact-chain, exact-token, exact-full_expression, exact-tag}
+use Rattle.liquid_grammar.proofs.GrammarExact.{exact-white, exact-identifier}
+use Rattle.liquid_grammar.proofs.TokenExact.{exact-literal, exact-value, exact-index, exact-close_bracket, exact-argument, exact-filter, exact-chain, exact-token, exact-full_expression, exact-tag}
 use Rattle.liquid_grammar.proofs.laws.one_match.Goals as goal
 
 pub returns-clause-identifiers : goal.returns-clause-identifiers
@@ -32,3 +32,9 @@ returns-clause-expressions c = single exact-full_expression
 
 pub returns-clause-tags : goal.returns-clause-tags
 returns-clause-tags c = single exact-tag
+
+pub returns-clause-whites : goal.returns-clause-whites
+returns-clause-whites c = single exact-white
+
+pub returns-clause-close_brackets : goal.returns-clause-close_brackets
+returns-clause-close_brackets c = single exact-close_bracket

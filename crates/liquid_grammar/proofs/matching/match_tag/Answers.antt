@@ -3,7 +3,7 @@ use Rattle.liquid_grammar.proofs.matching.match_tag.Goals as goal
 
 pub returns-in-Some-clause-value : goal.returns-in-Some-clause-value
 returns-in-Some-clause-value c =
-    let found = tag_found c.args.s.now _ _ c.in-Some.rest.now _ c.in-Some.ensures.value in
+    let found = tag_found c.args.s.now _ _ c.in-Some.found.rest.now _ c.in-Some.ensures.value in
     record { shape = found.0; match = found.1; is = found.4 }
 
 pub returns-in-None-clause-value : goal.returns-in-None-clause-value

@@ -1,32 +1,41 @@
-use Rattle.std.proofs.Common.{map, Err, option_map, rules, subst, sym, ap, ◌∙◌, ◌++◌}
-use Rattle.std.proofs.lemmas.List.{map_push}
-use Rattle.liquid_parser.specs.Tree.{shape, shapes}
-use Rattle.liquid_parser.specs.Reading.{Reads, white_before, invalid_liquid}
-use Rattle.liquid_parser.proofs.Front.{brace_stands, front_ends, front_is}
-use Rattle.liquid_parser.proofs.ReadingSteps.{Goes, Goes-node, Reads-refused, Reads-end, refuses}
+use Rattle.std.proofs.Common.{◌≡◌, [], sym, ap, ◌∙◌, subst, rules}
+use Rattle.liquid_parser.specs.NodesOf.{shapes_of}
+use Rattle.liquid_parser.specs.Plugins.{language_of, block_of}
+use Rattle.liquid_parser.specs.Reading.{among}
+use Rattle.liquid_parser.specs.Views.{open_view, blocks_view, state_view}
+use Rattle.liquid_parser.proofs.ReadingSteps.{Goes, Goes-begin, Goes-step, Goes-escaped, Reads-escaped, refused, ends}
 use Rattle.liquid_parser.proofs.parser.nodes_of.Goals as goal
 
-pub invalid_liquid-requires-clause-ends : goal.invalid_liquid-requires-clause-ends
-invalid_liquid-requires-clause-ends c =
-    let goes = c.loop-element.invariant.1 in
-    let stands = brace_stands c.args.text.now goes.front c.loop-element.rest.now _ _ goes.joined c.match_white.ensures.value in
-    front_ends c.args.text.now (goes.front ++ white_before c.loop-element.rest.now) _ stands
+pub elements-init : goal.elements-init
+elements-init g c = (search rules, Goes-begin (language_of g.F.ParseFilter.makes g.T.ParseTag.gives (block_of g.B.BlockReflection.start_name g.B.BlockReflection.end_name g.B.ParseBlock.meaning) c.args.language.now) c.args.text.now _ (ap (λ os. among (blocks_view g.F.Filter.Meant.shape g.T.Node.Meant.shape g.B.Node.Meant.shape g.B.Plan.Meant.shape (block_of g.B.BlockReflection.start_name g.B.BlockReflection.end_name g.B.ParseBlock.meaning) os) (shapes_of g.F.Filter.Meant.shape g.T.Node.Meant.shape g.B.Node.Meant.shape c.new-2.result.items)) c.new.ensures.items ∙ ap (λ ns. among (blocks_view g.F.Filter.Meant.shape g.T.Node.Meant.shape g.B.Node.Meant.shape g.B.Plan.Meant.shape (block_of g.B.BlockReflection.start_name g.B.BlockReflection.end_name g.B.ParseBlock.meaning) []) (shapes_of g.F.Filter.Meant.shape g.T.Node.Meant.shape g.B.Node.Meant.shape ns)) c.new-2.ensures.items))
 
-pub returns-in-None : goal.returns-in-None
-returns-in-None c =
-    let goes = c.loop-element.invariant.1 in
+pub elements-preserved-in-Among : goal.elements-preserved-in-Among
+elements-preserved-in-Among g c =
+    let goes = c.elements.invariant.1 in
     let found = c.in-Some.ensures.found in
-    let none = sym (c.in_ok-node.ensures found.0 found.2) ∙ ap (option_map shape) c.in-None.is in
-    let stands = brace_stands c.args.text.now goes.front c.loop-element.rest.now _ _ goes.joined c.match_white.ensures.value in
-    let front = front_is c.args.text.now (goes.front ++ white_before c.loop-element.rest.now) _ stands in
-    refuses c.args.text.now _ _ (subst (λ f. Reads c.args.text.now (Err (invalid_liquid f))) (sym front) (Reads-refused goes found.1 none)) c.invalid_liquid.ensures
+    (search rules, Goes-step _ _ _ _ found.0 _ _ goes found.1 (rw c.in-Among.is at c.in-Ok.ensures found.0 found.1 found.2))
+
+pub elements-preserved : goal.elements-preserved
+elements-preserved g c =
+    let goes = c.elements.invariant.1 in
+    let found = c.in-Some.ensures.found in
+    let inside_goes = Goes-step _ _ _ _ found.0 _ _ goes found.1 (rw c.in-Escaped.is at c.in-Ok.ensures found.0 found.1 found.2) in
+    let front = c.in-Ok-escaped_read.ensures.within in
+    (search rules, Goes-escaped _ _ c.in-Some.behind.now c.in-Ok-escaped_read.after.now (open_view g.F.Filter.Meant.shape g.T.Node.Meant.shape g.B.Node.Meant.shape g.B.Plan.Meant.shape (block_of g.B.BlockReflection.start_name g.B.BlockReflection.end_name g.B.ParseBlock.meaning) c.in-Escaped.block) (blocks_view g.F.Filter.Meant.shape g.T.Node.Meant.shape g.B.Node.Meant.shape g.B.Plan.Meant.shape (block_of g.B.BlockReflection.start_name g.B.BlockReflection.end_name g.B.ParseBlock.meaning) c.in-Escaped.around.items) (state_view g.F.Filter.Meant.shape g.T.Node.Meant.shape g.B.Node.Meant.shape g.B.Plan.Meant.shape (block_of g.B.BlockReflection.start_name g.B.BlockReflection.end_name g.B.ParseBlock.meaning) c.in-Ok-escaped_read.next) inside_goes front.0 front.1 (c.in-Ok-escaped_read.ensures.value (language_of g.F.ParseFilter.makes g.T.ParseTag.gives (block_of g.B.BlockReflection.start_name g.B.BlockReflection.end_name g.B.ParseBlock.meaning) c.args.language.now)))
+
+pub returns-in-Err-escaped_read : goal.returns-in-Err-escaped_read
+returns-in-Err-escaped_read g c =
+    let goes = c.elements.invariant.1 in
+    let found = c.in-Some.ensures.found in
+    let inside_goes = Goes-step _ _ _ _ found.0 _ _ goes found.1 (rw c.in-Escaped.is at c.in-Ok.ensures found.0 found.1 found.2) in
+    Reads-escaped _ _ c.in-Some.behind.now (open_view g.F.Filter.Meant.shape g.T.Node.Meant.shape g.B.Node.Meant.shape g.B.Plan.Meant.shape (block_of g.B.BlockReflection.start_name g.B.BlockReflection.end_name g.B.ParseBlock.meaning) c.in-Escaped.block) (blocks_view g.F.Filter.Meant.shape g.T.Node.Meant.shape g.B.Node.Meant.shape g.B.Plan.Meant.shape (block_of g.B.BlockReflection.start_name g.B.BlockReflection.end_name g.B.ParseBlock.meaning) c.in-Escaped.around.items) _ inside_goes (c.in-Err-escaped_read.ensures.value (language_of g.F.ParseFilter.makes g.T.ParseTag.gives (block_of g.B.BlockReflection.start_name g.B.BlockReflection.end_name g.B.ParseBlock.meaning) c.args.language.now))
+
+pub returns-in-Err : goal.returns-in-Err
+returns-in-Err g c =
+    let goes = c.elements.invariant.1 in
+    let found = c.in-Some.ensures.found in
+    refused _ _ _ _ found.0 _ _ goes found.1 (c.in-Err.ensures found.0 found.1 found.2)
 
 pub returns : goal.returns
-returns c = Reads-end (subst (λ rest. Goes c.args.text.now rest (shapes c.loop-element.nodes)) c.in_default.ensures.found c.loop-element.invariant.1)
-
-pub loop-element-preserved : goal.loop-element-preserved
-loop-element-preserved c =
-    let found = c.in-Some.ensures.found in
-    let gives = sym (c.in_ok-node.ensures found.0 found.2) ∙ ap (option_map shape) c.in-Some-2.is in
-    let goes = Goes-node (shape c.in-Some-2.node) c.loop-element.invariant.1 found.1 gives in
-    (search rules, subst (Goes c.args.text.now c.in-Some.behind.now) (sym (ap (map shape) c.in_ok-push-in-Some-2.ensures.items ∙ map_push shape c.loop-element.nodes.items c.in-Some-2.node)) goes)
+returns g c =
+    ends _ _ _ _ c.ended.result (subst (λ rest. Goes (language_of g.F.ParseFilter.makes g.T.ParseTag.gives (block_of g.B.BlockReflection.start_name g.B.BlockReflection.end_name g.B.ParseBlock.meaning) c.args.language.now) c.args.text.now rest (state_view g.F.Filter.Meant.shape g.T.Node.Meant.shape g.B.Node.Meant.shape g.B.Plan.Meant.shape (block_of g.B.BlockReflection.start_name g.B.BlockReflection.end_name g.B.ParseBlock.meaning) c.elements.state)) c.in_default.ensures.found c.elements.invariant.1) c.ended.ensures

@@ -1,0 +1,154 @@
+-- What the next filter and the next argument are, by the readers that found their beginnings.
+use Rattle.std.proofs.Common.{◌≡◌, ℕ, Bool, true, false, ◌==◌, List, [], ◌∷◌, Option, Some, None, option_map, Bor, refl, sym, ap, ◌∙◌, subst}
+use Rattle.std.specs.Option.{option_or}
+use Rattle.liquid_grammar.specs.declared.parts.FilterStart.{FilterStart}
+use Rattle.liquid_grammar.specs.declared.parts.ArgumentStart.{ArgumentStart}
+use Rattle.liquid_grammar.specs.Rules.{Rule, Begins, Seen, Else, here, instead, Repeated, ends, more, Byte, Optional, Nothing, ◌▷◌}
+use Rattle.liquid_grammar.specs.Grammar.{White, Identifier}
+use Rattle.liquid_grammar.specs.Values.{Value, ValueRule}
+use Rattle.liquid_grammar.specs.Tokens.{Argument, positional, keyword, Filter, Behind, KeywordStart, KeywordRule, ArgumentRule, Arguments, arguments_of, FilterRule}
+use Rattle.liquid_grammar.specs.declared.head.Head.{Head}
+use Rattle.liquid_grammar.specs.Parts.{HasHead, NoneLeft, First, IsFilter, IsArgument, ArgumentsFrom, separator}
+use Rattle.liquid_grammar.specs.Steps.{Reader, white, identifier}
+use Rattle.liquid_grammar.specs.TokenSteps.{optional, separated, behind, argument, arguments, keyword_start}
+use Rattle.liquid_grammar.proofs.Exact.{Exact, same_match, none_begins, exact-right, exact-byte}
+use Rattle.liquid_grammar.proofs.ExactRepeated.{exact-optional, repeated_total}
+use Rattle.liquid_grammar.proofs.GrammarExact.{exact-white, exact-identifier}
+use Rattle.liquid_grammar.proofs.TokenExact.{exact-behind, exact-filter, exact-argument, exact-arguments, exact-more_arguments, exact-keyword_start}
+use Rattle.liquid_grammar.proofs.FlatBrackets.{left_some, left_none}
+use Rattle.liquid_grammar.proofs.PartLemmas.{first_part, none_left, after_begins, none_before, none_after}
+
+-- a separator between white space
+abbrev Separated : ℕ → Rule (List ℕ)
+Separated byte = White ▷ Byte byte ▷ White
+
+exact-separated : (byte : ℕ) → Exact (separated byte) (Separated byte)
+exact-separated byte = exact-right (exact-right exact-white (exact-byte byte)) exact-white
+
+-- what stands behind a separator
+pub behind_begins : {A : Type 0} {R : Rule A} (byte : ℕ) (s place rest : List ℕ) (a : A) → Some place ≡ option_map (λ p. p.1) (separated byte s) → R place rest a → Behind byte R s rest a
+behind_begins byte s place rest a e m = after_begins (exact-separated byte) s place rest a e m
+
+pub no_separator : {A : Type 0} {R : Rule A} (byte : ℕ) (s : List ℕ) → None ≡ option_map (λ p. p.1) (separated byte s) → ¬ (Begins (Behind byte R) s)
+no_separator byte s e = none_before (exact-separated byte) s e
+
+pub none_behind : {A : Type 0} {R : Rule A} (byte : ℕ) (s place : List ℕ) → Some place ≡ option_map (λ p. p.1) (separated byte s) → ¬ (Begins R place) → ¬ (Begins (Behind byte R) s)
+none_behind byte s place e none = none_after (exact-separated byte) s place e none
+
+-- an optional part or none is found everywhere
+optional_total : {A : Type 0} (f : Reader A) (s : List ℕ) → (x : Option A × List ℕ) × (optional f s ≡ Some x)
+optional_total {A} f s = go (f s)
+  where
+    go : (o : Option (A × List ℕ)) → let some : A × List ℕ → Option A × List ℕ = λ a. (Some a.0, a.1) in (x : Option A × List ℕ) × (option_or (option_map some o) (Some (None, s)) ≡ Some x)
+    go (Some x) = ((Some x.0, x.1), refl)
+    go None = ((None, s), refl)
+
+-- a filter by its name
+pub filter_first : (f : FilterStart) (s rest : List ℕ) (filters : List Filter) → Some f.place.now ≡ option_map (λ p. p.1) (separated 124 s) → Some (f.name.now, f.rest.now) ≡ identifier f.place.now
+    → Repeated (Behind 124 FilterRule) s rest filters → First (IsFilter f) (Repeated (Behind 124 FilterRule)) rest filters
+filter_first f s rest filters e h ms =
+    let o = optional_total arguments f.rest.now in
+    let end = o.0.1 in
+    let found : Optional Arguments f.rest.now end o.0.0 = (exact-optional exact-arguments).sound f.rest.now end o.0.0 o.1 in
+    let filter : Filter = record { place = f.place.now; behind = end; what = (f.name.now, arguments_of o.0.0) } in
+    let m : FilterRule f.place.now end filter = record {
+      begins = refl;
+      ends = refl;
+      match = record {
+        from = (f.name.now, o.0.0);
+        match = record { middle = f.rest.now; before = exact-identifier.sound f.place.now f.rest.now f.name.now (sym h); after = found };
+        is = refl;
+      };
+    } in
+    first_part (exact-behind 124 exact-filter) (IsFilter f) s end rest filter filters (behind_begins 124 s f.place.now end filter e m)
+    (record { place_is = refl; behind_is = refl; name_is = refl; arguments = record { from = o.0.0; match = found; is = refl } })
+    ms
+
+pub no_filter_name : (s : List ℕ) → None ≡ identifier s → ¬ (Begins FilterRule s)
+no_filter_name s e b =
+    none_begins exact-identifier s (sym e) (record { rest = b.match.match.match.middle; shape = b.match.match.from.0; match = b.match.match.match.before })
+
+-- no argument is left where none begins behind the separator
+pub no_argument_left : (is_first : Bool) (s rest : List ℕ) (found : List Argument) → ¬ (Begins (Behind (separator is_first) ArgumentRule) s) → ArgumentsFrom is_first s rest found → NoneLeft s rest found
+no_argument_left true s rest found none m = go m.from m.match m.is
+  where
+    go : (o : Option (List Argument)) → Optional Arguments s rest o → found ≡ arguments_of o → NoneLeft s rest found
+    go o (here x) e = absurd (none (record { rest = x.match.match.middle; shape = x.match.from.0; match = x.match.match.before }))
+    go o (instead unmatched x) e = record { none = e ∙ ap arguments_of x.is; ends = x.stays }
+no_argument_left false s rest found none m = none_left s rest found m none
+
+-- the arguments begin with the one that is matched behind the separator
+pub argument_first : (a : ArgumentStart) (is_first : Bool) (s middle rest : List ℕ) (part_here : Argument) (found : List Argument) → Behind (separator is_first) ArgumentRule s middle part_here → IsArgument a middle part_here
+    → ArgumentsFrom is_first s rest found → First (IsArgument a) (ArgumentsFrom false) rest found
+argument_first a true s middle rest part_here found n is m = go m.from m.match m.is
+  where
+    part : (t : List ℕ) (p : Argument) → Behind 58 ArgumentRule s t p → IsArgument a t p
+    part t p b = subst (λ (x : Argument × List ℕ). IsArgument a x.1 x.0) (same_match (exact-behind 58 exact-argument) s middle t part_here p n b) is
+
+    go : (o : Option (List Argument)) → Optional Arguments s rest o → found ≡ arguments_of o → First (IsArgument a) (ArgumentsFrom false) rest found
+    go o (here x) e =
+        let then = x.match.match in
+        record {
+          part = x.match.from.0;
+          others = x.match.from.1;
+          middle = then.middle;
+          joined = e ∙ ap arguments_of x.is ∙ x.match.is;
+          found = part then.middle x.match.from.0 then.before;
+          then = then.after;
+        }
+    go o (instead unmatched x) e =
+        let all = repeated_total (behind 44 argument) middle in
+        absurd (unmatched (record {
+          rest = all.0.1;
+          shape = _;
+          match = record {
+            from = part_here ∷ all.0.0;
+            match = record { from = (part_here, all.0.0); match = record { middle = middle; before = n; after = exact-more_arguments.sound middle all.0.1 all.0.0 all.1 }; is = refl };
+            is = refl;
+          };
+        }))
+argument_first a false s middle rest part_here found n is m = first_part (exact-behind 44 exact-argument) (IsArgument a) s middle rest part_here found n is m
+
+-- a keyword argument, by its name and the beginning of its value
+pub no_keyword_start : (s : List ℕ) → None ≡ keyword_start s → ¬ (Begins KeywordRule s)
+no_keyword_start s e b = none_begins exact-keyword_start s (sym e) (record { rest = b.match.match.middle; shape = b.match.from.0; match = b.match.match.before })
+
+pub no_keyword_value : (s value name : List ℕ) → Some (name, value) ≡ keyword_start s → ¬ (Begins ValueRule value) → ¬ (Begins KeywordRule s)
+no_keyword_value s value name e none b =
+    let then = b.match.match in
+    let same = same_match exact-keyword_start s then.middle value b.match.from.0 name then.before (exact-keyword_start.sound s value name (sym e)) in
+    let moved : Begins ValueRule then.middle = record { rest = b.rest; shape = b.match.from.1; match = then.after } in
+    none (subst (λ t. Begins ValueRule t) (ap (λ (p : List ℕ × List ℕ). p.1) same) moved)
+
+pub keyword_found : (s value name after : List ℕ) (h : Head) → Some (name, value) ≡ keyword_start s → HasHead value h after → KeywordStart s value name × Begins ValueRule value
+keyword_found s value name after h e has = (exact-keyword_start.sound s value name (sym e), record { rest = has.rest; shape = has.value; match = has.match })
+
+-- the separator, as the program has it
+pub at_separator : (byte wanted : ℕ) (s : List ℕ) (o : Option (List ℕ)) → byte ≡ wanted → o ≡ option_map (λ p. p.1) (separated byte s) → o ≡ option_map (λ p. p.1) (separated wanted s)
+at_separator byte wanted s o is e = subst (λ b. o ≡ option_map (λ p. p.1) (separated b s)) is e
+
+-- the next argument, with a name and without
+pub keyword_first : (name value : Bor (List ℕ)) (is_first : Bool) (s place rest : List ℕ) (found : List Argument) → Some place ≡ option_map (λ p. p.1) (separated (separator is_first) s)
+    → KeywordStart place value.now name.now → Begins ValueRule value.now → ArgumentsFrom is_first s rest found
+    → let a : ArgumentStart = record { name = Some name; value = value } in First (IsArgument a) (ArgumentsFrom false) rest found
+keyword_first name value is_first s place rest found e start b m =
+    let a : ArgumentStart = record { name = Some name; value = value } in
+    let part = keyword name.now b.shape in
+    let here_is : ArgumentRule place b.rest part = here (record { from = (name.now, b.shape); match = record { middle = value.now; before = start; after = b.match }; is = refl }) in
+    argument_first a is_first s b.rest rest part found (behind_begins (separator is_first) s place b.rest part e here_is) (record { value = b.shape; is = refl; match = b.match }) m
+
+pub positional_first : (place : Bor (List ℕ)) (after : List ℕ) (h : Head) (is_first : Bool) (s rest : List ℕ) (found : List Argument) → Some place.now ≡ option_map (λ p. p.1) (separated (separator is_first) s)
+    → ¬ (Begins KeywordRule place.now) → HasHead place.now h after → ArgumentsFrom is_first s rest found
+    → let a : ArgumentStart = record { name = None; value = place } in First (IsArgument a) (ArgumentsFrom false) rest found
+positional_first place after h is_first s rest found e none has m =
+    let a : ArgumentStart = record { name = None; value = place } in
+    let part = positional has.value in
+    let stands : ArgumentRule place.now has.rest part = instead none (record { from = has.value; match = has.match; is = refl }) in
+    argument_first a is_first s has.rest rest part found (behind_begins (separator is_first) s place.now has.rest part e stands) (record { value = has.value; is = refl; match = has.match }) m
+
+pub no_argument_value : (place : List ℕ) → ¬ (Begins KeywordRule place) → ¬ (Begins ValueRule place) → ¬ (Begins ArgumentRule place)
+no_argument_value place none valueless b = go b.match
+  where
+    go : ArgumentRule place b.rest b.shape → ⊥
+    go (here m) = none (record { rest = b.rest; shape = b.shape; match = m })
+    go (instead _ m) = valueless (record { rest = b.rest; shape = m.from; match = m.match })

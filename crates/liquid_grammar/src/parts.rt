@@ -1,0 +1,199 @@
+//! The parts of a matched text, handed out from left to right, so that a builder walks the text once.
+ghost use Rattle.std.specs.Prelude.{◌≡◌, ℕ, false, List, ◌<◌, length, IfSome, MatchOption};
+ghost use Rattle.liquid_grammar.specs.Rules.{Begins, Repeated, ◌▷◌};
+ghost use Rattle.liquid_grammar.specs.Grammar.{White};
+ghost use Rattle.liquid_grammar.specs.Values.{Value, Index, CloseBracket, ValueRule, IndexRule};
+ghost use Rattle.liquid_grammar.specs.Tokens.{Argument, Filter, Token, Behind, FilterRule, KeywordStart, KeywordRule, TokenRule};
+ghost use Rattle.liquid_grammar.specs.Parts as part;
+ghost use Rattle.liquid_grammar.specs.Parts.{NoneLeft, First, IsHead, HasHead, IsIndex, IsFilter, ArgumentsFrom, IsArgument, HasParts, IsToken};
+
+use crate::bracket::{self, bracketed};
+use crate::filter::{behind, chain_and_kind, keyword_start};
+use crate::head::{Head, read_head};
+use crate::kind::TokenKind;
+use crate::name::identifier;
+use crate::text::{before, skip_white};
+use crate::token::{range_parts, symbol};
+use crate::value::named_index;
+
+/// How an index begins.
+#[derive(Clone, Copy, Debug, PartialEq, Eq)]
+pub enum IndexStart<'a> {
+    /// A name behind `.`.
+    Named(&'a str),
+    /// `[`, with the value of the index behind it.
+    Bracket,
+}
+
+/// How a filter begins.
+#[derive(Clone, Copy, Debug, PartialEq, Eq)]
+pub struct FilterStart<'a> {
+    /// The text from the filter's name on.
+    pub place: &'a str,
+    pub name: &'a str,
+    /// What follows the name: the filter's arguments, if it has any.
+    pub rest: &'a str,
+}
+
+/// How an argument begins.
+#[derive(Clone, Copy, Debug, PartialEq, Eq)]
+pub struct ArgumentStart<'a> {
+    /// The name of a keyword argument.
+    pub name: Option<&'a str>,
+    /// The text from the argument's value on.
+    pub value: &'a str,
+}
+
+/// What a token is made of.
+#[derive(Clone, Copy, Debug, PartialEq, Eq)]
+pub enum TokenParts<'a> {
+    /// The texts from the two values of a range on.
+    Range { start: &'a str, stop: &'a str },
+    /// A chain, which begins where the token does, and what it is.
+    Chain(TokenKind<'a>),
+    /// The text of a symbol.
+    Symbol(&'a str),
+}
+
+/// A token of a tag.
+#[derive(Clone, Copy, Debug, PartialEq, Eq)]
+pub struct TokenText<'a> {
+    /// The text from the token on.
+    pub place: &'a str,
+    pub parts: TokenParts<'a>,
+    /// What follows the token.
+    pub rest: &'a str,
+}
+
+/// The literal or the name that a value begins with, and what follows it. None where no value begins.
+pub fn value_head(s: &str) -> Option<(Head<'_>, &str)>
+    ensures found { MatchOption result (¬ (Begins ValueRule s.now)) (λ p. HasHead s.now p.0 p.1.now) }
+    ensures only { (rest : List ℕ) (v : Value) → ValueRule s.now rest v
+        → MatchOption result ⊥ (λ p. IsHead s.now rest p.0 p.1.now v) }
+    ensures shorter { IfSome result (λ p. length p.1.now < length s.now) }
+{
+    read_head(s)
+}
+
+/// The beginning of the next index of a variable inside as many open brackets, and what follows it.
+/// None where no index is left.
+pub fn next_index<'a>(s: &'a str, depth: usize) -> Option<(IndexStart<'a>, &'a str)>
+    ensures only { (rest : List ℕ) (is : List Index) → Repeated IndexRule s.now rest is
+        → (0 < depth → Begins CloseBracket rest)
+        → MatchOption result (NoneLeft s.now rest is)
+            (λ p. First (IsIndex s.now p.0 p.1.now) (Repeated IndexRule) rest is) }
+    ensures shorter { IfSome result (λ p. length p.1.now < length s.now) }
+{
+    match named_index(s) {
+        Some((name, rest)) => Some((IndexStart::Named(name), rest)),
+        None if depth == 0 => {
+            let _ = bracketed(s)?;
+            Some((IndexStart::Bracket, bracket::open_bracket(s)?))
+        }
+        // Inside brackets what begins with one is an index: else nothing would close them.
+        None => Some((IndexStart::Bracket, bracket::open_bracket(s)?)),
+    }
+}
+
+/// What follows a close bracket and the white space before it.
+pub fn close_bracket(s: &str) -> Option<&str>
+    ensures found { MatchOption result (¬ (Begins CloseBracket s.now)) (λ rest. (byte : ℕ) × CloseBracket s.now rest.now byte) }
+    ensures only { (rest : List ℕ) (byte : ℕ) → CloseBracket s.now rest byte → MatchOption result ⊥ (λ after. after.now ≡ rest) }
+    ensures shorter { IfSome result (λ rest. length rest.now < length s.now) }
+{
+    bracket::close_bracket(s)
+}
+
+/// The beginning of the next filter of a chain. None where no filter is left.
+pub fn next_filter(s: &str) -> Option<FilterStart<'_>>
+    ensures only { (rest : List ℕ) (filters : List Filter) → Repeated (Behind 124 FilterRule) s.now rest filters
+        → MatchOption result (NoneLeft s.now rest filters)
+            (λ f. First (IsFilter f) (Repeated (Behind 124 FilterRule)) rest filters) }
+    ensures shorter { IfSome result (λ f. length f.rest.now < length s.now) }
+{
+    let place = behind(s, b'|')?;
+    let (name, rest) = identifier(place)?;
+    Some(FilterStart { place, name, rest })
+}
+
+/// The beginning of the next argument of a filter, and of its first one behind the filter's name.
+/// None where no argument is left.
+pub fn next_argument(s: &str, is_first: bool) -> Option<ArgumentStart<'_>>
+    ensures only { (rest : List ℕ) (arguments : List Argument) → ArgumentsFrom is_first s.now rest arguments
+        → MatchOption result (NoneLeft s.now rest arguments)
+            (λ a. First (IsArgument a) (ArgumentsFrom false) rest arguments) }
+    ensures shorter { IfSome result (λ a. length a.value.now < length s.now) }
+{
+    let place = behind(s, separator(is_first))?;
+    match keyword_name(place) {
+        Some((name, value)) => Some(ArgumentStart {
+            name: Some(name),
+            value,
+        }),
+        None => {
+            value_head(place)?;
+            Some(ArgumentStart {
+                name: None,
+                value: place,
+            })
+        }
+    }
+}
+
+fn separator(is_first: bool) -> u8
+    ensures value { result ≡ part.separator is_first }
+    ensures ascii { result < 128 }
+{
+    if is_first { b':' } else { b',' }
+}
+
+/// The name of the keyword argument that the text begins with, and the text from its value on.
+fn keyword_name(s: &str) -> Option<(&str, &str)>
+    ensures value { MatchOption result (¬ (Begins KeywordRule s.now))
+        (λ p. KeywordStart s.now p.1.now p.0.now × Begins ValueRule p.1.now) }
+    ensures shorter { IfSome result (λ p. length p.1.now < length s.now) }
+{
+    let (name, value) = keyword_start(s)?;
+    value_head(value)?;
+    Some((name, value))
+}
+
+/// The next token of a tag. None where no token is left.
+pub fn next_token(s: &str) -> Option<TokenText<'_>>
+    ensures only { (rest : List ℕ) (tokens : List Token) → Repeated (White ▷ TokenRule) s.now rest tokens
+        → MatchOption result (NoneLeft s.now rest tokens)
+            (λ t. First (IsToken t) (Repeated (White ▷ TokenRule)) rest tokens) }
+    ensures shorter { IfSome result (λ t. length t.rest.now < length s.now) }
+{
+    token_at(skip_white(s))
+}
+
+/// The token that stands here.
+fn token_at(place: &str) -> Option<TokenText<'_>>
+    ensures value { MatchOption result (¬ (Begins TokenRule place.now))
+        (λ t. (token : Token) × TokenRule place.now t.rest.now token × (t.place.now ≡ place.now) × HasParts t.parts place.now t.rest.now token) }
+    ensures shorter { IfSome result (λ t. length t.rest.now < length place.now) }
+{
+    match range_parts(place) {
+        Some((start, stop, _, rest)) => Some(TokenText {
+            place,
+            parts: TokenParts::Range { start, stop },
+            rest,
+        }),
+        None => match chain_and_kind(place) {
+            Some((kind, _, rest)) => Some(TokenText {
+                place,
+                parts: TokenParts::Chain(kind),
+                rest,
+            }),
+            None => {
+                let rest = symbol(place)?;
+                Some(TokenText {
+                    place,
+                    parts: TokenParts::Symbol(before(place, rest)),
+                    rest,
+                })
+            }
+        },
+    }
+}

@@ -1,0 +1,69 @@
+-- What is left of the indexes of a variable, behind those that were built.
+use Rattle.std.proofs.Common.{◌≡◌, ℕ, List, [], ◌∷◌, ◌++◌, Option, None, Some, refl, sym, ap, ◌∙◌, subst}
+use Rattle.std.specs.Option.{option_or}
+use Rattle.liquid_grammar.specs.declared.parts.IndexStart.{IndexStart}
+use Rattle.liquid_grammar.specs.Faults.{indexes_fault, index_fault}
+use Rattle.liquid_grammar.specs.Parts.{NoneLeft, First, IsIndex}
+use Rattle.liquid_grammar.specs.Rules.{Repeated}
+use Rattle.liquid_grammar.specs.Values.{Index, gather, IndexRule}
+use Rattle.liquid_plugins.specs.Expression.{ExpressionShape, Indexes, no_indexes, index}
+use Rattle.liquid_plugins.specs.ExpressionOf.{indexes_of}
+use Rattle.liquid_parser.specs.Handed.{indexes_meant, index_meant}
+
+-- indexes in front of others
+abbrev pub join : List ExpressionShape → Indexes → Indexes
+join [] is = is
+join (e ∷ es) is = index e (join es is)
+
+join_all : (es : List ExpressionShape) → join es no_indexes ≡ indexes_of es
+join_all [] = refl
+join_all (e ∷ es) = ap (index e) (join_all es)
+
+join_last : (es : List ExpressionShape) (e : ExpressionShape) (is : Indexes) → join (es ++ e ∷ []) is ≡ join es (index e is)
+join_last [] e is = refl
+join_last (f ∷ es) e is = ap (index f) (join_last es e is)
+
+pub first_none : {A : Type 0} (a b : Option A) → option_or a b ≡ None → a ≡ None
+first_none None b e = refl
+first_none (Some x) b e = cc
+
+pub second_none : {A : Type 0} (a b : Option A) → option_or a b ≡ None → b ≡ None
+second_none None b e = e
+second_none (Some x) b e = cc
+
+pub record Left (depth : ℕ) (s rest : List ℕ) (built : List ExpressionShape) (meant : Indexes) : Type 0 where
+  pub indexes : List Index
+  pub match : Repeated IndexRule s rest indexes
+  pub fine : indexes_fault depth (gather indexes) ≡ None
+  pub joined : meant ≡ join built (indexes_meant (gather indexes))
+
+pub left_all : (depth : ℕ) (s rest : List ℕ) (is : List Index) → Repeated IndexRule s rest is → indexes_fault depth (gather is) ≡ None → Left depth s rest [] (indexes_meant (gather is))
+left_all depth s rest is m fine = record { indexes = is; match = m; fine = fine; joined = refl }
+
+-- one more index, and what is left behind it
+pub record Next (depth : ℕ) (s : List ℕ) (start : IndexStart) (after rest : List ℕ) (built : List ExpressionShape) (meant : Indexes) : Type 0 where
+  pub middle : List ℕ
+  pub index_here : Index
+  pub found : IsIndex s start after middle index_here
+  pub fine : index_fault depth index_here ≡ None
+  pub then : Left depth middle rest (built ++ index_meant index_here ∷ []) meant
+
+pub left_next : (depth : ℕ) (s rest : List ℕ) (built : List ExpressionShape) (meant : Indexes) (start : IndexStart) (after : List ℕ)
+    → (left : Left depth s rest built meant) → First (IsIndex s start after) (Repeated IndexRule) rest left.indexes → Next depth s start after rest built meant
+left_next depth s rest built meant start after left f =
+    let fine : indexes_fault depth (gather (f.part ∷ f.others)) ≡ None = ap (λ is. indexes_fault depth (gather is)) (sym f.joined) ∙ left.fine in
+    record {
+      middle = f.middle;
+      index_here = f.part;
+      found = f.found;
+      fine = first_none _ _ fine;
+      then = record {
+        indexes = f.others;
+        match = f.then;
+        fine = second_none _ _ fine;
+        joined = left.joined ∙ (ap (λ is. join built (indexes_meant (gather is))) f.joined ∙ sym (join_last built (index_meant f.part) (indexes_meant (gather f.others))));
+      };
+    }
+
+pub left_none : (depth : ℕ) (s rest : List ℕ) (built : List ExpressionShape) (meant : Indexes) → (left : Left depth s rest built meant) → NoneLeft s rest left.indexes → indexes_of built ≡ meant
+left_none depth s rest built meant left n = sym (left.joined ∙ (ap (λ is. join built (indexes_meant (gather is))) n.none ∙ join_all built))

@@ -1,0 +1,26 @@
+-- The shapes of a template's nodes, from the shapes of what plug-ins made.
+use Rattle.std.specs.Prelude.{List, map, string_bytes}
+use Rattle.std.specs.Global.{Vec}
+use Rattle.liquid_plugins.specs.ExpressionOf.{chain_of}
+use Rattle.liquid_parser.specs.Tree.{NodeShape, text_node, chain_node, tag_node, block_node, Nodes, nodes_from, parts_from}
+use Rattle.liquid_parser.specs.declared.node.Node.{Node, fold-Node}
+use Rattle.liquid_parser.specs.declared.node.Node.TheOpen.{Node-F}
+
+module _ {X N K F T B : Type 0} (filter : X → F) (tag : N → T) (block : K → B) where
+  -- one level of a node, with each node inside already seen as its shape
+  abbrev pub node_step : Node-F X N K (NodeShape F T B) → NodeShape F T B
+  node_step (Node-F.Text s) = text_node (string_bytes s)
+  node_step (Node-F.Chain c) = chain_node (chain_of filter c)
+  node_step (Node-F.Tag n) = tag_node (tag n)
+  node_step (Node-F.Block b parts) = block_node (block b) (parts_from (map (λ ns. nodes_from ns.items) parts.items))
+
+  -- the shape of a node
+  unfoldable pub node_of : Node X N K → NodeShape F T B
+  node_of = fold-Node X N K (NodeShape F T B) node_step
+
+  -- the shapes of a list of nodes, and the same as nodes of a tree
+  abbrev pub shapes_of : List (Node X N K) → List (NodeShape F T B)
+  shapes_of = map node_of
+
+  abbrev pub nodes_of : List (Node X N K) → Nodes F T B
+  nodes_of ns = nodes_from (shapes_of ns)

@@ -1,0 +1,39 @@
+//! What the parser keeps of the blocks that are open.
+
+use crate::tokens::TagTokenIter;
+
+/// A tag with its tokens.
+#[derive(Clone, Copy)]
+pub(crate) struct HandedTag<'a> {
+    pub(crate) name: &'a str,
+    /// The text from the name on.
+    pub(crate) from: &'a str,
+    pub(crate) tokens: TagTokenIter<'a>,
+}
+
+/// A block that is open.
+#[derive(Drop)]
+pub(crate) struct OpenBlock<'a, K, P, N> {
+    pub(crate) kind: &'a K,
+    /// The text from the name of its start tag on.
+    pub(crate) from: &'a str,
+    pub(crate) plan: P,
+    /// The nodes before it in the list that it stands in.
+    pub(crate) before: Vec<N>,
+    /// Its parts up to its last divider.
+    pub(crate) parts: Vec<Vec<N>>,
+}
+
+/// How far a text is read: the open blocks, innermost last, and the nodes of the innermost list so far.
+#[derive(Drop)]
+pub(crate) struct ParserState<'a, K, P, N> {
+    pub(crate) open: Vec<OpenBlock<'a, K, P, N>>,
+    pub(crate) nodes: Vec<N>,
+}
+
+/// What comes next: an element among the nodes, or the escaped body of a block that has just begun inside of others.
+#[derive(Drop)]
+pub(crate) enum Next<'a, K, P, N> {
+    Among(ParserState<'a, K, P, N>),
+    Escaped(OpenBlock<'a, K, P, N>, Vec<OpenBlock<'a, K, P, N>>),
+}
