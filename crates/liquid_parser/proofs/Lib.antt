@@ -10,3 +10,5 @@ pub mod EscapeLemmas
 pub mod ElementLemmas
 pub mod Slices
 pub mod VariableLemmas
+pub mod HandedLemmas
+pub mod ExpectLemmas

@@ -8,3 +8,4 @@ pub mod Views
 pub mod Built
 pub mod Escaped
 pub mod Variables
+pub mod Cursors

@@ -1,9 +1,10 @@
 -- What the tokens, bodies and plug-ins of the program mean to the reading.
-use Rattle.std.specs.Prelude.{◌≡◌, ℕ, List, option_map, Result}
+use Rattle.std.specs.Prelude.{◌≡◌, ℕ, List, None, option_map, Result}
 use Rattle.std.specs.FinMap.{get, keys}
 use Rattle.liquid_error.specs.Refusal.{Refusal}
 use Rattle.liquid_grammar.specs.Rules.{Repeated, ◌▷◌}
 use Rattle.liquid_grammar.specs.Grammar.{White}
+use Rattle.liquid_grammar.specs.Faults.{tag_fault}
 use Rattle.liquid_grammar.specs.Tokens as token
 use Rattle.liquid_grammar.specs.Tokens.{TokenRule}
 use Rattle.liquid_runtime.specs.Maps.{NameMap}
@@ -15,11 +16,12 @@ use Rattle.liquid_parser.specs.declared.language.Language.{Language}
 use Rattle.liquid_parser.specs.Handed.{Tokens, handed}
 use Rattle.liquid_parser.specs.Lang.{Registry, Filters, Lang, Block, BlockMeaning, Body, parts, escaped}
 
--- the tokens of a tag of the source, which begin where the cursor stands
+-- the tokens of a tag of the source, which begin where the cursor stands; their literals and brackets have no fault
 pub record AreTokens (t : TagTokenIter) (ts : Tokens) : Type 0 where
   pub tag : token.Tag
   pub begins : tag.1.place ≡ t.rest.now
   pub match : Repeated (White ▷ TokenRule) tag.1.place tag.1.behind tag.1.what
+  pub fine : tag_fault tag ≡ None
   pub is : ts ≡ handed t.source.now tag
 
 -- plug-ins by what each of them means

@@ -105,7 +105,7 @@ fn build_index<'a>(
 }
 
 /// What a literal stands for.
-fn literal_value(alloc: Global, literal: Literal<'_>) -> Result<Value, AllocError>
+pub(crate) fn literal_value(alloc: Global, literal: Literal<'_>) -> Result<Value, AllocError>
     ensures { IfOk result (λ v. tree_of v ≡ literal_tree (literal_of literal.entry)) }
 {
     match literal {

@@ -1,0 +1,124 @@
+-- What a token is, by its parts.
+use Rattle.std.proofs.Common.{◌≡◌, ◌⊎◌, inl, inr, ℕ, Bool, true, false, List, [], ◌∷◌, map, Option, Some, None, refl, sym, ap, ◌∙◌, subst}
+use Rattle.std.specs.Prelude.{option_map, option_and_then}
+use Rattle.std.specs.Borrow.{Bor}
+use Rattle.liquid_grammar.specs.declared.kind.TokenKind.{TokenKind}
+use Rattle.liquid_grammar.specs.declared.kind.TokenKind.TheVariants as kind
+use Rattle.liquid_grammar.specs.declared.literal.Literal.{Literal as CodeLiteral}
+use Rattle.liquid_grammar.specs.declared.parts.TokenParts.{TokenParts}
+use Rattle.liquid_grammar.specs.declared.parts.TokenParts.TheVariants as parts
+use Rattle.liquid_grammar.specs.Faults.{token_fault, value_fault}
+use Rattle.liquid_grammar.specs.KindMeanings.{token_kind_of}
+use Rattle.liquid_grammar.specs.Kinds.{Kind, range_kind, symbol_kind, filtered_kind, literal_kind, variable_kind, identifier_kind, value_kind, chain_kind, identifier_of}
+use Rattle.liquid_grammar.specs.Literals.{Literal}
+use Rattle.liquid_grammar.specs.Parts.{HasParts, IsChainToken, IsRangeToken, BeginsValue}
+use Rattle.liquid_grammar.specs.Tokens as token
+use Rattle.liquid_grammar.specs.Values.{Value, literal_value, variable_value, no_index, more_indexes, ValueRule}
+use Rattle.liquid_plugins.specs.Expression.{ExpressionShape}
+use Rattle.liquid_value.specs.Tree.{Tree}
+use Rattle.liquid_parser.specs.declared.tag_token.TagToken.{TagToken}
+use Rattle.liquid_parser.specs.Cursors.{IsToken, IsValue}
+use Rattle.liquid_parser.specs.Handed.{Token, TokenShape, chain, range, symbol, call_of, handed_token, expression_meant, literal_tree, value_of, ends_of, as_identifier, as_literal, expect_value, expect_range, expect_identifier, expect_literal}
+use Rattle.liquid_parser.proofs.Indexes.{first_none, second_none}
+
+pub is_value_kind : Kind → Bool
+is_value_kind range_kind = false
+is_value_kind symbol_kind = false
+is_value_kind filtered_kind = false
+is_value_kind (literal_kind l) = true
+is_value_kind variable_kind = true
+is_value_kind (identifier_kind n) = true
+
+pub are_value_parts : TokenParts → Bool
+are_value_parts (parts.Range start stop) = false
+are_value_parts (parts.Chain k) = is_value_kind (token_kind_of k)
+are_value_parts (parts.Symbol s) = false
+
+values_are : (v : Value) → is_value_kind (value_kind v) ≡ true
+unfolding is_value_kind
+values_are (literal_value p b l) = refl
+values_are (variable_value p b n no_index) = refl
+values_are (variable_value p b n (more_indexes i is)) = refl
+
+-- a chain of such a kind has no filters, and one of another kind is no value
+no_filters : (v : Value) (fs : List token.Filter) → is_value_kind (chain_kind v fs) ≡ true → fs ≡ []
+unfolding is_value_kind
+no_filters v [] e = refl
+no_filters v (f ∷ fs) e = cc
+
+no_value : (v : Value) (fs : List token.Filter) → is_value_kind (chain_kind v fs) ≡ false → value_of (chain (expression_meant v) (map call_of fs)) ≡ None
+no_value v [] e = let both : true ≡ false = sym (values_are v) ∙ e in cc
+no_value v (f ∷ fs) e = refl
+
+has_parts : (t : TagToken) (handed : Token) (is : IsToken t handed) (p : TokenParts) → t.text.parts ≡ p → HasParts p t.text.place.now t.text.rest.now is.matched
+has_parts t handed is p e = subst (λ x. HasParts x t.text.place.now t.text.rest.now is.matched) e is.parts
+
+shape_of_parts : (t : TagToken) (handed : Token) (is : IsToken t handed) (matched : token.Token) → is.matched ≡ matched → handed.shape ≡ (handed_token t.source.now matched).shape
+shape_of_parts t handed is matched e = ap (λ x. Token.shape x) is.is ∙ ap (λ x. Token.shape (handed_token t.source.now x)) e
+
+pub chain_value : (t : TagToken) (handed : Token) (k : TokenKind) → IsToken t handed → t.text.parts ≡ parts.Chain k → is_value_kind (token_kind_of k) ≡ true → IsValue t.text.place.now handed (token_kind_of k)
+chain_value t handed k is e fits =
+    let h : IsChainToken (token_kind_of k) t.text.place.now t.text.rest.now is.matched = has_parts t handed is (parts.Chain k) e in
+    let value : Value = h.chain_here.what.0 in
+    let filters : List token.Filter = h.chain_here.what.1 in
+    let none : filters ≡ [] = no_filters value filters (ap is_value_kind (sym h.kind_is) ∙ fits) in
+    record {
+      value = value;
+      rest = h.match.match.middle;
+      match = h.match.match.before;
+      fine = first_none _ _ (ap token_fault (sym h.is) ∙ is.fine);
+      is = shape_of_parts t handed is _ h.is ∙ ap (λ fs. chain (expression_meant value) (map call_of fs)) none;
+      kind_is = h.kind_is ∙ ap (chain_kind value) none;
+    }
+
+pub other_value : (t : TagToken) (handed : Token) (p : TokenParts) → IsToken t handed → t.text.parts ≡ p → are_value_parts p ≡ false → expect_value handed ≡ None
+unfolding are_value_parts
+other_value t handed (parts.Range start stop) is e other =
+    let h = has_parts t handed is (parts.Range start stop) e in
+    ap value_of (shape_of_parts t handed is _ h.is)
+other_value t handed (parts.Chain k) is e other =
+    let h = has_parts t handed is (parts.Chain k) e in
+    ap value_of (shape_of_parts t handed is _ h.is) ∙ no_value h.chain_here.what.0 h.chain_here.what.1 (ap is_value_kind (sym h.kind_is) ∙ other)
+other_value t handed (parts.Symbol s) is e other =
+    let h = has_parts t handed is (parts.Symbol s) e in
+    ap value_of (shape_of_parts t handed is _ h)
+
+-- a value as an identifier and as a literal, by its kind
+value_identifier : (v : Value) → as_identifier (expression_meant v) ≡ identifier_of (value_kind v)
+value_identifier (literal_value p b l) = refl
+value_identifier (variable_value p b n no_index) = refl
+value_identifier (variable_value p b n (more_indexes i is)) = refl
+
+pub literal_of_kind : Kind → Option Literal
+literal_of_kind range_kind = None
+literal_of_kind symbol_kind = None
+literal_of_kind filtered_kind = None
+literal_of_kind (literal_kind l) = Some l
+literal_of_kind variable_kind = None
+literal_of_kind (identifier_kind n) = None
+
+value_literal : (v : Value) → as_literal (expression_meant v) ≡ option_map literal_tree (literal_of_kind (value_kind v))
+unfolding literal_of_kind
+value_literal (literal_value p b l) = refl
+value_literal (variable_value p b n no_index) = refl
+value_literal (variable_value p b n (more_indexes i is)) = refl
+
+pub value_expected : (place : List ℕ) (handed : Token) (k : Kind) (is : IsValue place handed k) → expect_value handed ≡ Some (expression_meant is.value)
+value_expected place handed k is = ap value_of is.is
+
+pub identifier_expected : (place : List ℕ) (handed : Token) (k : Kind) → IsValue place handed k → expect_identifier handed ≡ identifier_of k
+identifier_expected place handed k is = ap (λ s. option_and_then as_identifier (value_of s)) is.is ∙ (value_identifier is.value ∙ ap identifier_of (sym is.kind_is))
+
+pub literal_expected : (place : List ℕ) (handed : Token) (k : Kind) → IsValue place handed k → expect_literal handed ≡ option_map literal_tree (literal_of_kind k)
+literal_expected place handed k is = ap (λ s. option_and_then as_literal (value_of s)) is.is ∙ (value_literal is.value ∙ ap (λ x. option_map literal_tree (literal_of_kind x)) (sym is.kind_is))
+
+-- the two ends of a range
+pub range_parts : (t : TagToken) (handed : Token) (is : IsToken t handed) (p : TokenParts) → t.text.parts ≡ p → HasParts p t.text.place.now t.text.rest.now is.matched
+range_parts t handed is p e = has_parts t handed is p e
+
+-- literals, variables and identifiers are values
+pub values_of_kinds : (k : TokenKind) → ((l : CodeLiteral) × k ≡ kind.Literal l) ⊎ ((k ≡ kind.Variable) ⊎ ((name : Bor (List ℕ)) × k ≡ kind.Identifier name)) → is_value_kind (token_kind_of k) ≡ true
+unfolding is_value_kind
+values_of_kinds k (inl e) = ap (λ x. is_value_kind (token_kind_of x)) e.1
+values_of_kinds k (inr (inl e)) = ap (λ x. is_value_kind (token_kind_of x)) e
+values_of_kinds k (inr (inr e)) = ap (λ x. is_value_kind (token_kind_of x)) e.1

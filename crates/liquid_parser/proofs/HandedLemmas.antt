@@ -1,0 +1,148 @@
+-- The first token of a tag, as the cursor hands it out.
+use Rattle.std.proofs.Common.{◌≡◌, ℕ, List, [], ◌∷◌, map, Option, Some, None, Ok, Err, refl, sym, ap, ◌∙◌, subst}
+use Rattle.std.proofs.lemmas.Option.{same_Some}
+use Rattle.liquid_error.specs.declared.place.Place.{Place}
+use Rattle.liquid_error.specs.Refusal.{located}
+use Rattle.liquid_grammar.specs.declared.parts.TokenText.{TokenText}
+use Rattle.liquid_grammar.specs.declared.parts.TokenParts.{TokenParts}
+use Rattle.liquid_grammar.specs.declared.parts.TokenParts.TheVariants as parts
+use Rattle.liquid_grammar.specs.Faults.{token_fault, first_fault, tag_fault}
+use Rattle.liquid_grammar.specs.Grammar.{White}
+use Rattle.liquid_grammar.specs.Parts as part
+use Rattle.liquid_grammar.specs.Parts.{NoneLeft, First, HasParts}
+use Rattle.liquid_grammar.specs.Rules.{Repeated, ends, more, here, instead, ◌▷◌}
+use Rattle.liquid_grammar.specs.Tokens as token
+use Rattle.liquid_grammar.specs.Tokens.{range, chain, symbol, TokenRule}
+use Rattle.liquid_parser.specs.declared.tag_token.TagToken.{TagToken}
+use Rattle.liquid_parser.specs.declared.tokens.TagTokenIter.{TagTokenIter}
+use Rattle.liquid_parser.specs.Cursors.{IsToken, IsHandedOut, HandsOut, HandsOutOr, first_of, next}
+use Rattle.liquid_parser.specs.Handed.{Token, Tokens, handed, handed_token, place_in, slice_between, expect_next, first_or}
+use Rattle.liquid_parser.specs.Plugins.{AreTokens}
+use Rattle.liquid_parser.proofs.Indexes.{first_none, second_none}
+
+pub place_of : token.Token → List ℕ
+place_of (range r) = r.place
+place_of (chain c) = c.place
+place_of (symbol s) = s.place
+
+pub behind_of : token.Token → List ℕ
+behind_of (range r) = r.behind
+behind_of (chain c) = c.behind
+behind_of (symbol s) = s.behind
+
+pub handed_place : (source : List ℕ) (t : token.Token) → (handed_token source t).place ≡ place_in source (place_of t)
+unfolding place_of
+handed_place source (range r) = refl
+handed_place source (chain c) = refl
+handed_place source (symbol s) = refl
+
+pub handed_behind : (source : List ℕ) (t : token.Token) → (handed_token source t).behind ≡ place_in source (behind_of t)
+unfolding behind_of
+handed_behind source (range r) = refl
+handed_behind source (chain c) = refl
+handed_behind source (symbol s) = refl
+
+pub handed_text : (source : List ℕ) (t : token.Token) → (handed_token source t).text ≡ slice_between (place_of t) (behind_of t)
+unfolding place_of behind_of
+handed_text source (range r) = refl
+handed_text source (chain c) = refl
+handed_text source (symbol s) = refl
+
+-- a token stands where its rule says
+pub rule_place : {s rest : List ℕ} {t : token.Token} → TokenRule s rest t → place_of t ≡ s
+unfolding place_of
+rule_place (here m) = ap place_of m.is ∙ m.match.begins
+rule_place (instead none (here m)) = ap place_of m.is ∙ m.match.begins
+rule_place (instead none (instead none' m)) = ap place_of m.is ∙ m.match.begins
+
+pub rule_behind : {s rest : List ℕ} {t : token.Token} → TokenRule s rest t → behind_of t ≡ rest
+unfolding behind_of
+rule_behind (here m) = ap behind_of m.is ∙ m.match.ends
+rule_behind (instead none (here m)) = ap behind_of m.is ∙ m.match.ends
+rule_behind (instead none (instead none' m)) = ap behind_of m.is ∙ m.match.ends
+
+-- and where its parts say
+parts_place : (p : TokenParts) (s rest : List ℕ) (t : token.Token) → HasParts p s rest t → place_of t ≡ s
+unfolding place_of
+parts_place (parts.Range start stop) s rest t h = ap place_of h.is
+parts_place (parts.Chain kind) s rest t h = ap place_of h.is ∙ h.match.begins
+parts_place (parts.Symbol text) s rest t h = ap place_of h
+
+parts_behind : (p : TokenParts) (s rest : List ℕ) (t : token.Token) → HasParts p s rest t → behind_of t ≡ rest
+unfolding behind_of
+parts_behind (parts.Range start stop) s rest t h = ap behind_of h.is
+parts_behind (parts.Chain kind) s rest t h = ap behind_of h.is ∙ h.match.ends
+parts_behind (parts.Symbol text) s rest t h = ap behind_of h
+
+-- the first token by its own rule, at its own places
+first_rule : {s rest : List ℕ} {t : token.Token} {ts : List token.Token} → Repeated (White ▷ TokenRule) s rest (t ∷ ts) → TokenRule (place_of t) (behind_of t) t
+first_rule {t = t} (more {middle = middle} m ms) =
+    let rule : TokenRule m.match.middle middle t = subst (λ x. TokenRule m.match.middle middle x) (sym m.is) m.match.after in
+    subst (λ p. TokenRule p (behind_of t) t) (sym (rule_place rule)) (subst (λ p. TokenRule m.match.middle p t) (sym (rule_behind rule)) rule)
+
+tokens_of : (t : TagTokenIter) (ts : Tokens) (a : AreTokens t ts) → Repeated (White ▷ TokenRule) t.rest.now a.tag.1.behind a.tag.1.what
+tokens_of t ts a = subst (λ p. Repeated (White ▷ TokenRule) p a.tag.1.behind a.tag.1.what) a.begins a.match
+
+pub cursor_tokens : (t : TagTokenIter) (ts : Tokens) (a : AreTokens t ts) → Repeated (White ▷ TokenRule) t.rest.now a.tag.1.behind a.tag.1.what
+cursor_tokens t ts a = tokens_of t ts a
+
+-- the cursor stands just behind what came before
+pub cursor_place : (t : TagTokenIter) (ts : Tokens) → AreTokens t ts → ts.behind ≡ place_in t.source.now t.rest.now
+cursor_place t ts a = ap (λ x. Tokens.behind x) a.is ∙ ap (place_in t.source.now) a.begins
+
+-- no token is left
+pub none_handed : (t : TagTokenIter) (ts : Tokens) (a : AreTokens t ts) → NoneLeft t.rest.now a.tag.1.behind a.tag.1.what → next ts ≡ None
+none_handed t ts a n = ap (λ x. first_of (Tokens.left x)) a.is ∙ ap (λ xs. first_of (map (handed_token t.source.now) xs)) n.none
+
+-- a token is handed out
+pub one_handed : (t : TagTokenIter) (ts : Tokens) (text : TokenText) (a : AreTokens t ts) → First (part.IsToken text) (Repeated (White ▷ TokenRule)) a.tag.1.behind a.tag.1.what
+    → (given : Token × Tokens) × (next ts ≡ Some given) × IsHandedOut (record { source = t.source; text = text }) (record { source = t.source; rest = text.rest }) given
+one_handed t ts text a f =
+    let source : List ℕ = t.source.now in
+    let fine : first_fault token_fault (f.part ∷ f.others) ≡ None = ap (first_fault token_fault) (sym f.joined) ∙ a.fine in
+    let has : HasParts text.parts text.place.now text.rest.now f.part = subst (λ p. HasParts text.parts text.place.now p f.part) (sym f.found.ends) f.found.has in
+    let rule = first_rule (subst (λ xs. Repeated (White ▷ TokenRule) t.rest.now a.tag.1.behind xs) f.joined (tokens_of t ts a)) in
+    let at_place : TokenRule text.place.now (behind_of f.part) f.part = subst (λ p. TokenRule p (behind_of f.part) f.part) (parts_place text.parts _ _ f.part has) rule in
+    let behind : place_in source (behind_of f.part) ≡ place_in source f.middle = ap (place_in source) (parts_behind text.parts _ _ f.part f.found.has) in
+    let token : Token = handed_token source f.part in
+    let others : List Token = map (handed_token source) f.others in
+    ((token, record { behind = token.behind; left = others }),
+      ap (λ x. first_of (Tokens.left x)) a.is ∙ ap (λ xs. first_of (map (handed_token source) xs)) f.joined,
+      record {
+        token_is = record {
+          matched = f.part;
+          match = subst (λ p. TokenRule text.place.now p f.part) (parts_behind text.parts _ _ f.part has) at_place;
+          parts = has;
+          fine = first_none _ _ fine;
+          is = refl;
+        };
+        left = record {
+          tag = (a.tag.0, record { place = f.middle; behind = a.tag.1.behind; what = f.others });
+          begins = sym f.found.ends;
+          match = f.then;
+          fine = second_none _ _ fine;
+          is = ap (λ p. record { behind = p; left = others }) (handed_behind source f.part ∙ behind);
+        };
+      },
+    )
+
+or_given : (message : List ℕ) (behind : Place) (left : List Token) (given : Token × Tokens) → first_of left ≡ Some given → first_or message behind left ≡ Ok given
+or_given message behind [] given e = cc
+or_given message behind (t ∷ ts) given e = ap (λ x. Ok x) (same_Some _ _ e)
+
+or_refused : (message : List ℕ) (behind : Place) (left : List Token) → first_of left ≡ None → first_or message behind left ≡ Err (located message behind)
+or_refused message behind [] e = refl
+or_refused message behind (t ∷ ts) e = cc
+
+-- the same of `expect_next`
+pub or_handed : (message : List ℕ) (ts : Tokens) (given : Token × Tokens) → next ts ≡ Some given → expect_next message ts ≡ Ok given
+or_handed message ts given e = or_given message ts.behind ts.left given e
+
+pub or_none : (message : List ℕ) (ts : Tokens) → next ts ≡ None → expect_next message ts ≡ Err (located message ts.behind)
+or_none message ts e = or_refused message ts.behind ts.left e
+
+-- the text and the place of a token
+pub token_text : (t : TagToken) (handed : Token) → IsToken t handed → handed.text ≡ slice_between t.text.place.now t.text.rest.now
+token_text t handed is =
+    ap (λ x. Token.text x) is.is ∙ (handed_text t.source.now is.matched
+    ∙ (ap (λ p. slice_between p (behind_of is.matched)) (rule_place is.match) ∙ ap (slice_between t.text.place.now) (rule_behind is.match)))

@@ -1,0 +1,85 @@
+-- What the cursor over a tag's tokens hands out, and what attempts to read a token answer.
+use Rattle.std.specs.Prelude.{◌≡◌, ℕ, List, [], ◌∷◌, length, Option, Some, None, Result, Ok, Err, IfSome, bytes_eq, if◌then◌else◌, ⊤}
+use Rattle.liquid_error.specs.declared.error.Error.{Error}
+use Rattle.liquid_error.specs.Refusal.{Refusal}
+use Rattle.liquid_error.specs.Told.{told}
+use Rattle.liquid_grammar.specs.Faults.{token_fault, value_fault}
+use Rattle.liquid_grammar.specs.Kinds.{Kind, value_kind}
+use Rattle.liquid_grammar.specs.Parts.{HasParts}
+use Rattle.liquid_grammar.specs.Tokens as token
+use Rattle.liquid_grammar.specs.Tokens.{TokenRule}
+use Rattle.liquid_grammar.specs.Values.{Value, ValueRule}
+use Rattle.liquid_parser.specs.declared.tag_token.TagToken.{TagToken}
+use Rattle.liquid_parser.specs.declared.tag_token.TryMatchToken.{TryMatchToken}
+use Rattle.liquid_parser.specs.declared.tag_token.TryMatchToken.TheVariants.{Matches, Fails}
+use Rattle.liquid_parser.specs.declared.tokens.TagTokenIter.{TagTokenIter}
+use Rattle.liquid_parser.specs.Handed.{Token, Tokens, handed_token, chain, expression_meant, token_error}
+use Rattle.liquid_parser.specs.Plugins.{AreTokens}
+
+-- a token of the source; its literals and brackets have no fault
+pub record IsToken (t : TagToken) (handed : Token) : Type 0 where
+  pub matched : token.Token
+  pub match : TokenRule t.text.place.now t.text.rest.now matched
+  pub parts : HasParts t.text.parts t.text.place.now t.text.rest.now matched
+  pub fine : token_fault matched ≡ None
+  pub is : handed ≡ handed_token t.source.now matched
+
+abbrev pub first_of : List Token → Option (Token × Tokens)
+first_of [] = None
+first_of (t ∷ more) = Some (t, record { behind = t.behind; left = more })
+
+-- the first token, and those behind it
+abbrev pub next : Tokens → Option (Token × Tokens)
+next ts = first_of ts.left
+
+-- a token was handed out, and the cursor stands behind it
+pub record IsHandedOut (t : TagToken) (cursor : TagTokenIter) (given : Token × Tokens) : Type 0 where
+  pub token_is : IsToken t given.0
+  pub left : AreTokens cursor given.1
+
+-- what was handed out is meant; where that is nothing, the same tokens are left
+abbrev pub HandsOut : Option TagToken → TagTokenIter → Tokens → Option (Token × Tokens) → Type 0
+HandsOut (Some t) cursor ts meant = (given : Token × Tokens) × (meant ≡ Some given) × IsHandedOut t cursor given
+HandsOut None cursor ts meant = (meant ≡ None) × AreTokens cursor ts
+
+-- the same of a call that refuses where no token is left; want of memory says nothing of the meaning
+abbrev pub HandsOutOr : Result TagToken Error → TagTokenIter → Tokens → Result (Token × Tokens) Refusal → Type 0
+HandsOutOr (Ok t) cursor ts meant = (given : Token × Tokens) × (meant ≡ Ok given) × IsHandedOut t cursor given
+HandsOutOr (Err e) cursor ts meant = IfSome (told e) (λ r. meant ≡ Err r) × AreTokens cursor ts
+
+-- how much text is left behind the last token that was handed out: each further token makes it less
+abbrev pub bytes_left : TagTokenIter → ℕ
+bytes_left t = length t.rest.now
+
+-- an attempt to read the token: what it is, or the token again
+abbrev pub Tries : {A M : Type 0} → (A → M) → TagToken → TryMatchToken A → Option M → Type 0
+Tries of token (Matches x) meant = meant ≡ Some (of x)
+Tries of token (Fails t) meant = (meant ≡ None) × (t ≡ token)
+
+-- whether a token is this text
+abbrev pub expect_str : List ℕ → Token → Option (Unit {0})
+expect_str expected t = if bytes_eq t.text expected then Some tt else None
+
+-- what matched
+abbrev pub matched_of : {A : Type 0} → TryMatchToken A → Option A
+matched_of (Matches x) = Some x
+matched_of (Fails t) = None
+
+-- the token that is refused, where one is
+abbrev pub FailedToken : {A : Type 0} → TryMatchToken A → Token → Type 0
+FailedToken (Matches x) handed = ⊤
+FailedToken (Fails t) handed = IsToken t handed
+
+-- what matched, else the token is refused with a message of the caller's own
+abbrev pub or_refused : {A : Type 0} → List ℕ → Token → Option A → Result A Refusal
+or_refused message t (Some x) = Ok x
+or_refused message t None = Err (token_error message t)
+
+-- the value that a token is, by its kind: a chain without filters
+pub record IsValue (place : List ℕ) (handed : Token) (kind : Kind) : Type 0 where
+  pub value : Value
+  pub rest : List ℕ
+  pub match : ValueRule place rest value
+  pub fine : value_fault value ≡ None
+  pub is : handed.shape ≡ chain (expression_meant value) []
+  pub kind_is : kind ≡ value_kind value
