@@ -8,3 +8,7 @@ pub mod BlockLaws
 pub mod Hostile
 pub mod LeakLaw
 pub mod OnePartial
+pub mod Asked
+pub mod TagPlugins
+pub mod BlockPlugins
+pub mod Languages

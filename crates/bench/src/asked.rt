@@ -4,15 +4,29 @@ ghost use Rattle.liquid_error.specs.Told.{Gives};
 ghost use Rattle.liquid_plugins.specs.ExpressionOf.{expression_of};
 ghost use Rattle.liquid_parser.specs.Handed.{Tokens, expect_identifier, expect_value};
 ghost use Rattle.liquid_parser.specs.Plugins.{AreTokens};
-ghost use Rattle.bench.specs.Asked.{Takes, name_alone, name_and_value, next_as};
+ghost use Rattle.bench.specs.Asked.{Takes, name_alone, name_and_value, next_as, nothing_for};
 
 use liquid_error::Error;
 use liquid_parser::TagTokenIter;
-use liquid_plugins::Expression;
+use liquid_plugins::{Expression, Meant};
 use std::alloc::Global;
 
 /// The message of a token that is missing.
 const TOKEN_EXPECTED: &str = "Token expected";
+
+/// This node, where there is no token.
+pub(crate) fn alone<N: Meant + Drop>(
+    alloc: Global,
+    tokens: TagTokenIter<'_>,
+    node: N,
+) -> Result<N, Error>
+    ensures { (ts : Tokens) → AreTokens tokens.entry ts → Gives N.shape result (nothing_for (N.shape node) ts) }
+{
+    match tokens.expect_nothing(alloc) {
+        Ok(()) => Ok(node),
+        Err(error) => Err(error),
+    }
+}
 
 /// A name, and no token behind it.
 pub(crate) fn name_alone(alloc: Global, tokens: TagTokenIter<'_>) -> Result<String, Error>

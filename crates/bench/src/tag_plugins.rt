@@ -5,7 +5,7 @@ ghost use Rattle.liquid_parser.specs.Plugins.{AreTokens};
 ghost use Rattle.bench.specs.TagPlugins.{hostile_given, leaky_given, tag_given};
 ghost use Rattle.bench.specs.Tags.{tag_of};
 
-use crate::asked::{name_alone, name_and_value};
+use crate::asked::{alone, name_alone, name_and_value};
 use crate::hostile::HostileTagNode;
 use crate::tags::{LeakyTagNode, TagNode};
 use liquid_error::Error;
@@ -82,10 +82,7 @@ fn plain_tag(alloc: Global, tag: Tags, tokens: TagTokenIter<'_>) -> Result<TagNo
             Ok(name) => Ok(TagNode::Inc(name)),
             Err(error) => Err(error),
         },
-        Tags::Brk => match tokens.expect_nothing(alloc) {
-            Ok(()) => Ok(TagNode::Brk),
-            Err(error) => Err(error),
-        },
+        Tags::Brk => alone(alloc, tokens, TagNode::Brk),
     }
 }
 
@@ -163,14 +160,8 @@ impl<F: ParseFilter> ParseTag<F> for HostileTags {
                 Ok(node) => Ok(HostileTagNode::Plain(node)),
                 Err(error) => Err(error),
             },
-            HostileTags::Spin => match tokens.expect_nothing(alloc) {
-                Ok(()) => Ok(HostileTagNode::Spin),
-                Err(error) => Err(error),
-            },
-            HostileTags::Mute => match tokens.expect_nothing(alloc) {
-                Ok(()) => Ok(HostileTagNode::Mute),
-                Err(error) => Err(error),
-            },
+            HostileTags::Spin => alone(alloc, tokens, HostileTagNode::Spin),
+            HostileTags::Mute => alone(alloc, tokens, HostileTagNode::Mute),
         }
     }
 }

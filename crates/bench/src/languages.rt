@@ -1,0 +1,102 @@
+//! Languages of the test plug-ins.
+ghost use Rattle.std.specs.Prelude.{◌≡◌, IfOk};
+ghost use Rattle.bench.specs.Languages.{
+  hostile_blocks,
+  hostile_tags,
+  leaky_tags,
+  plain_blocks,
+  plain_tags,
+  the_filters,
+};
+
+use crate::block_plugins::{Blocks, HostileBlocks};
+use crate::filters::Filters;
+use crate::tag_plugins::{HostileTags, LeakyTags, Tags};
+use liquid_parser::Language;
+use liquid_plugins::PluginRegistry;
+use std::alloc::{AllocError, Global};
+
+/// The program's language: the filters, tags and blocks that hide nothing and leak nothing, each
+/// under the name that it tells.
+pub fn language(alloc: Global) -> Result<Language<Filters, Tags, Blocks>, AllocError>
+    ensures { IfOk result (λ l. (l.filters ≡ the_filters) × (l.tags ≡ plain_tags) × (l.blocks ≡ plain_blocks)) }
+{
+    let mut tags = PluginRegistry::new(alloc);
+    tags.register("set", Tags::Set)?;
+    tags.register("inc", Tags::Inc)?;
+    tags.register("brk", Tags::Brk)?;
+    Ok(Language {
+        filters: filters(alloc)?,
+        tags,
+        blocks: blocks(alloc)?,
+    })
+}
+
+/// The same language with the tag `leak`.
+pub fn leaky_language(alloc: Global) -> Result<Language<Filters, LeakyTags, Blocks>, AllocError>
+    ensures { IfOk result (λ l. (l.filters ≡ the_filters) × (l.tags ≡ leaky_tags) × (l.blocks ≡ plain_blocks)) }
+{
+    let mut tags = PluginRegistry::new(alloc);
+    tags.register("set", LeakyTags::Plain(Tags::Set))?;
+    tags.register("inc", LeakyTags::Plain(Tags::Inc))?;
+    tags.register("brk", LeakyTags::Plain(Tags::Brk))?;
+    tags.register("leak", LeakyTags::Leak)?;
+    Ok(Language {
+        filters: filters(alloc)?,
+        tags,
+        blocks: blocks(alloc)?,
+    })
+}
+
+/// The program's language with the tags `spin` and `mute` and the blocks `far` and `b`, which are of
+/// bad will.
+pub fn hostile_language(
+    alloc: Global,
+) -> Result<Language<Filters, HostileTags, HostileBlocks>, AllocError>
+    ensures { IfOk result (λ l. (l.filters ≡ the_filters) × (l.tags ≡ hostile_tags) × (l.blocks ≡ hostile_blocks)) }
+{
+    let mut tags = PluginRegistry::new(alloc);
+    tags.register("set", HostileTags::Plain(Tags::Set))?;
+    tags.register("inc", HostileTags::Plain(Tags::Inc))?;
+    tags.register("brk", HostileTags::Plain(Tags::Brk))?;
+    tags.register("spin", HostileTags::Spin)?;
+    tags.register("mute", HostileTags::Mute)?;
+    let mut blocks = PluginRegistry::new(alloc);
+    blocks.register("box", HostileBlocks::Plain(Blocks::Box))?;
+    blocks.register("sbox", HostileBlocks::Plain(Blocks::Sbox))?;
+    blocks.register("swap", HostileBlocks::Plain(Blocks::Swap))?;
+    blocks.register("raw", HostileBlocks::Plain(Blocks::Raw))?;
+    blocks.register("with", HostileBlocks::Plain(Blocks::With))?;
+    blocks.register("glob", HostileBlocks::Plain(Blocks::Glob))?;
+    blocks.register("far", HostileBlocks::Far)?;
+    blocks.register("b", HostileBlocks::Odd)?;
+    Ok(Language {
+        filters: filters(alloc)?,
+        tags,
+        blocks,
+    })
+}
+
+/// The filters of each language.
+fn filters(alloc: Global) -> Result<PluginRegistry<Filters>, AllocError>
+    ensures { IfOk result (λ r. r ≡ the_filters) }
+{
+    let mut filters = PluginRegistry::new(alloc);
+    filters.register("append", Filters::Append)?;
+    filters.register("fail", Filters::Fail)?;
+    Ok(filters)
+}
+
+/// The blocks of the program's language.
+fn blocks(alloc: Global) -> Result<PluginRegistry<Blocks>, AllocError>
+    ensures { IfOk result (λ r. r ≡ plain_blocks) }
+{
+    let mut blocks = PluginRegistry::new(alloc);
+    blocks.register("box", Blocks::Box)?;
+    blocks.register("sbox", Blocks::Sbox)?;
+    blocks.register("swap", Blocks::Swap)?;
+    blocks.register("raw", Blocks::Raw)?;
+    blocks.register("with", Blocks::With)?;
+    blocks.register("glob", Blocks::Glob)?;
+    Ok(blocks)
+}
