@@ -41,11 +41,12 @@ pub next_taken : {A M : Type 0} (of : A → M) (expect : Token → Option M) (ts
     → ((t : Token) → IsToken token t → Tries of token attempt (expect t))
     → ((t : Token) → FailedToken attempt t → or_unexpected t (matched_of attempt) ≡ Ok x)
     → (rest : Tokens) × (next_as expect ts ≡ Ok (of x, rest)) × AreTokens cursor rest
-next_taken of expect ts token cursor attempt x h tries gives =
-    (h.0.1,
-    ap (λ q. ok_then q (λ given. ok_then (or_unexpected given.0 (expect given.0)) (λ y. Ok (y, given.1)))) h.1
-    ∙ ap (λ q. ok_then q (λ y. Ok (y, h.0.1))) (value_taken of expect h.0.0 token attempt x h.2.token_is (tries h.0.0 h.2.token_is) gives),
-    h.2.left)
+next_taken of expect ts token cursor attempt x h tries gives = (
+  h.0.1,
+  ap (λ q. ok_then q (λ given. ok_then (or_unexpected given.0 (expect given.0)) (λ y. Ok (y, given.1)))) h.1
+      ∙ ap (λ q. ok_then q (λ y. Ok (y, h.0.1))) (value_taken of expect h.0.0 token attempt x h.2.token_is (tries h.0.0 h.2.token_is) gives),
+  h.2.left,
+)
 
 -- the next token is refused
 pub next_refused : {A M : Type 0} (of : A → M) (expect : Token → Option M) (ts : Tokens) (token : TagToken) (cursor : TagTokenIter) (attempt : TryMatchToken A) (o : Option Refusal)
@@ -53,6 +54,6 @@ pub next_refused : {A M : Type 0} (of : A → M) (expect : Token → Option M) (
     → ((t : Token) → IsToken token t → Tries of token attempt (expect t))
     → ((t : Token) → FailedToken attempt t → IfSome o (λ r. or_unexpected t (matched_of attempt) ≡ Err r))
     → IfSome o (λ r. next_as expect ts ≡ Err r)
-next_refused of expect ts token cursor attempt o h tries gives =
-    subst (λ q. IfSome o (λ r. ok_then q (λ given. ok_then (or_unexpected given.0 (expect given.0)) (λ y. Ok (y, given.1))) ≡ Err r)) (sym h.1)
-    (refused_then o (or_unexpected h.0.0 (expect h.0.0)) (λ y. Ok (y, h.0.1)) (value_refused of expect h.0.0 token attempt o h.2.token_is (tries h.0.0 h.2.token_is) gives))
+next_refused {M = M} of expect ts token cursor attempt o h tries gives =
+    subst (λ q. IfSome o (λ r. ok_then {B = M × Tokens} q (λ given. ok_then {B = M × Tokens} (or_unexpected given.0 (expect given.0)) (λ y. Ok (y, given.1))) ≡ Err r)) (sym h.1)
+    (refused_then {B = M × Tokens} o (or_unexpected h.0.0 (expect h.0.0)) (λ y. Ok (y, h.0.1)) (value_refused of expect h.0.0 token attempt o h.2.token_is (tries h.0.0 h.2.token_is) gives))
