@@ -1,5 +1,5 @@
 -- A global that is hidden and that `leak` writes.
-use Rattle.std.proofs.Common.{◌≡◌, ℕ, List, [], codes, None, Some, Result, Ok, Err, refl, sym, ap, ◌∙◌, subst}
+use Rattle.std.proofs.Common.{◌≡◌, ℕ, List, [], codes, None, Some, Result, Ok, refl, sym, ap, ◌∙◌}
 use Rattle.std.specs.Ordering.{nat_cmp}
 use Rattle.std.specs.Cmp.Lexicographic.{slice_cmp, nat_list_cmp_total}
 use Rattle.std.specs.FinMap.{empty, insert, get, get-empty, get-insert}
@@ -11,7 +11,7 @@ use Rattle.liquid_runtime.specs.View.{View}
 use Rattle.liquid_runtime.specs.Frames.{core_view}
 use Rattle.liquid_plugins.specs.Expression.{literal}
 use Rattle.liquid_plugins.specs.Turns.{Told, TurnShape, text_turn}
-use Rattle.liquid_plugins.specs.Discreet.{hiding, Discreet}
+use Rattle.liquid_plugins.specs.Discreet.{hiding}
 use Rattle.bench.specs.declared.tags.LeakyTagShape.TheVariants as shape
 use Rattle.bench.specs.LeakLaw.{leaky_tags, LeakIsNotDiscreet}
 

@@ -1,5 +1,5 @@
 -- What the test blocks mean.
-use Rattle.std.specs.Prelude.{ℕ, List, codes, None, Result, Ok, Err, string_bytes}
+use Rattle.std.specs.Prelude.{ℕ, List, codes, None, Result, Ok, string_bytes}
 use Rattle.std.specs.FinMap.{empty, insert}
 use Rattle.liquid_error.specs.Refusal.{Refusal, ok_then}
 use Rattle.liquid_value.specs.Tree.{Tree}

@@ -10,7 +10,7 @@ use Rattle.liquid_runtime.specs.Written.{written_of}
 use Rattle.liquid_runtime.specs.Frames.{no_frame}
 use Rattle.liquid_plugins.specs.Expression.{ExpressionShape}
 use Rattle.liquid_plugins.specs.Evaluation.{evaluate}
-use Rattle.liquid_plugins.specs.Turns.{TurnShape, partial_turn, end_turn}
+use Rattle.liquid_plugins.specs.Turns.{partial_turn, end_turn}
 use Rattle.liquid_plugins.specs.Discreet.{hiding, overlaid, HidesGlobals}
 use Rattle.liquid_plugins.proofs.ErasedLemmas.{evaluate_erased}
 use Rattle.bench.specs.declared.tags.TagShape.{TagShape}

@@ -1,5 +1,5 @@
 -- What the calls of a node tell, in a few words.
-use Rattle.std.specs.Prelude.{ℕ, Result, Ok}
+use Rattle.std.specs.Prelude.{Result, Ok}
 use Rattle.liquid_error.specs.Refusal.{Refusal, ok_then}
 use Rattle.liquid_runtime.specs.View.{View}
 use Rattle.liquid_runtime.specs.Written.{written_of}

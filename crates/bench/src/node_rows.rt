@@ -285,35 +285,39 @@ fn store(alloc: Global, steps: &[Step]) -> Result<Store, Fail> {
 
 const TOO_DEEP: &str = "liquid: Partials nest too deep\n";
 
+const ENDLESS: &[Step] = &[Text("x"), Inc("p")];
+
+const SETS: &[Step] = &[Shown("x"), Set("x", 2)];
+
+/// A partial, a template, how deep partials may nest, and what comes of it.
+const PARTIAL_ROWS: [(&[Step], &[Step], u32, &str); 5] = [
+    (
+        ENDLESS,
+        &[Inc("p")],
+        3,
+        "xxxliquid: Partials nest too deep\n",
+    ),
+    (ENDLESS, &[Inc("p")], 0, TOO_DEEP),
+    (
+        ENDLESS,
+        &[Inc("q")],
+        3,
+        "liquid: Unknown partial-template\n  with:\n    requested partial=q\n    available partials=p\n",
+    ),
+    (ENDLESS, &[Inc("q")], 0, TOO_DEEP),
+    (SETS, &[Set("x", 1), Inc("p"), Shown("x")], 3, "12"),
+];
+
 #[test]
 fn partials_are_rendered_without_a_frame(rt: HostRuntime) -> Result<(), Fail> {
     let alloc = rt.alloc();
-    let endless = [Text("x"), Inc("p")];
-    let sets = [Shown("x"), Set("x", 2)];
-    let rows: [(&[Step], &[Step], u32, &str); 5] = [
-        (
-            &endless,
-            &[Inc("p")],
-            3,
-            "xxxliquid: Partials nest too deep\n",
-        ),
-        (&endless, &[Inc("p")], 0, TOO_DEEP),
-        (
-            &endless,
-            &[Inc("q")],
-            3,
-            "liquid: Unknown partial-template\n  with:\n    requested partial=q\n    available partials=p\n",
-        ),
-        (&endless, &[Inc("q")], 0, TOO_DEEP),
-        (&sets, &[Set("x", 1), Inc("p"), Shown("x")], 3, "12"),
-    ];
-    for (partial, steps, depth, expected) in rows {
+    for (partial, steps, depth, expected) in &PARTIAL_ROWS {
         let mut runtime: BuiltRuntime<(), Store> = RuntimeBuilder::new(alloc)
             .set_partials(store(alloc, partial)?)
-            .set_depth(depth)
+            .set_depth(*depth)
             .build();
         let all = rendered(alloc, nodes(alloc, steps)?, &mut runtime)?;
-        assert_eq!(rt; all.as_str(), expected);
+        assert_eq!(rt; all.as_str(), *expected);
     }
     Ok(())
 }
@@ -367,16 +371,18 @@ fn leak_writes_what_a_sandbox_hides(rt: HostRuntime) -> Result<(), Fail> {
     Ok(())
 }
 
+/// A template, how many puts its sink takes, and what is written.
+const SINK_ROWS: [(&[Step], u64, &str); 2] = [
+    (&[Begin, Text("ab"), End(Kind::Box)], 2, "[a"),
+    (&[Set("g", 1), Text("ab"), Set("g", 2)], 1, "a"),
+];
+
 #[test]
 fn a_sink_that_fails_leaves_what_was_set_before(rt: HostRuntime) -> Result<(), Fail> {
     let alloc = rt.alloc();
     let mut runtime = runtime(alloc);
-    let rows: [(&[Step], u64, &str); 2] = [
-        (&[Begin, Text("ab"), End(Kind::Box)], 2, "[a"),
-        (&[Set("g", 1), Text("ab"), Set("g", 2)], 1, "a"),
-    ];
-    for (steps, puts, expected) in rows {
-        let mut sink = Dripping::new(alloc, puts);
+    for (steps, puts, expected) in &SINK_ROWS {
+        let mut sink = Dripping::new(alloc, *puts);
         let template = Template::new(nodes(alloc, steps)?);
         match template.render_to(alloc, &mut sink, &mut runtime) {
             Ok(()) => return Err(Fail::from("the sink did not fail")),
