@@ -1,0 +1,2 @@
+pub mod Leak
+pub mod AskedLemmas

@@ -1,3 +1,15 @@
 pub mod Drips
 pub mod Filters
 pub mod ProgramLanguage
+pub mod Turning
+pub mod Tags
+pub mod TagLaws
+pub mod Blocks
+pub mod BlockLaws
+pub mod Hostile
+pub mod LeakLaw
+pub mod OnePartial
+pub mod Asked
+pub mod TagPlugins
+pub mod BlockPlugins
+pub mod Languages

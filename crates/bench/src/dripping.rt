@@ -2,7 +2,7 @@ ghost use Rattle.std.specs.Prelude.{◌≡◌, ◌+◌, ◌<◌, ◌≤◌, [], 
 ghost use Rattle.liquid_template.specs.Put.{taken_part, failure_count};
 ghost use Rattle.bench.specs.Drips.{puts_left, Drips};
 
-use liquid_core::{History, Sink, SinkFault};
+use liquid_template::{History, Sink, SinkFault};
 use std::alloc::Global;
 
 /// A sink that takes one byte a put, and fails from a chosen put on.

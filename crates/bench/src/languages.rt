@@ -1,168 +1,105 @@
-//! The language of the program: the test filters, and as yet no tag and no block.
-ghost use Rattle.std.specs.Prelude.{◌≡◌, [], false, IfOk, Err, map};
-ghost use Rattle.liquid_error.specs.Refusal.{plain};
-ghost use Rattle.liquid_plugins.specs.Turns.{end_turn};
-ghost use Rattle.bench.specs.ProgramLanguage.{
-  absent_block,
-  absent_given,
-  absent_starts,
-  absent_tells,
-  meaning_of,
-  program_language,
+//! Languages of the test plug-ins.
+ghost use Rattle.std.specs.Prelude.{◌≡◌, IfOk};
+ghost use Rattle.bench.specs.Languages.{
+  hostile_blocks,
+  hostile_tags,
+  leaky_tags,
+  plain_blocks,
+  plain_tags,
+  the_filters,
 };
 
+ghost use Rattle.bench.specs.ProgramLanguage.{meaning_of, program_language};
+
+use crate::block_plugins::{Blocks, HostileBlocks};
 use crate::filters::Filters;
-use liquid_error::Error;
-use liquid_parser::{
-    BlockBody, BlockReflection, Language, ParseBlock, ParseTag, TagReflection, TagTokenIter,
-};
-use liquid_plugins::{Meant, ParseFilter, PluginRegistry, Renderable, Turn};
-use liquid_runtime::{Fresh, Runtime};
+use crate::tag_plugins::{HostileTags, LeakyTags, Tags};
+use liquid_parser::Language;
+use liquid_plugins::PluginRegistry;
 use std::alloc::{AllocError, Global};
 
-/// The tags of the program's language.
-pub type Tags = Absent;
+/// The program's language: the filters, tags and blocks that hide nothing and leak nothing, each
+/// under the name that it tells.
+pub fn language(alloc: Global) -> Result<Language<Filters, Tags, Blocks>, AllocError>
+    ensures registered { IfOk result (λ l. (l.filters ≡ the_filters) × (l.tags ≡ plain_tags) × (l.blocks ≡ plain_blocks)) }
+    ensures means { IfOk result (λ l. meaning_of l ≡ program_language) }
+{
+    let mut tags = PluginRegistry::new(alloc);
+    tags.register("set", Tags::Set)?;
+    tags.register("inc", Tags::Inc)?;
+    tags.register("brk", Tags::Brk)?;
+    Ok(Language {
+        filters: filters(alloc)?,
+        tags,
+        blocks: blocks(alloc)?,
+    })
+}
+
+/// The same language with the tag `leak`.
+pub fn leaky_language(alloc: Global) -> Result<Language<Filters, LeakyTags, Blocks>, AllocError>
+    ensures { IfOk result (λ l. (l.filters ≡ the_filters) × (l.tags ≡ leaky_tags) × (l.blocks ≡ plain_blocks)) }
+{
+    let mut tags = PluginRegistry::new(alloc);
+    tags.register("set", LeakyTags::Plain(Tags::Set))?;
+    tags.register("inc", LeakyTags::Plain(Tags::Inc))?;
+    tags.register("brk", LeakyTags::Plain(Tags::Brk))?;
+    tags.register("leak", LeakyTags::Leak)?;
+    Ok(Language {
+        filters: filters(alloc)?,
+        tags,
+        blocks: blocks(alloc)?,
+    })
+}
+
+/// The program's language with the tags `spin` and `mute` and the blocks `far` and `b`, which are of
+/// bad will.
+pub fn hostile_language(
+    alloc: Global,
+) -> Result<Language<Filters, HostileTags, HostileBlocks>, AllocError>
+    ensures { IfOk result (λ l. (l.filters ≡ the_filters) × (l.tags ≡ hostile_tags) × (l.blocks ≡ hostile_blocks)) }
+{
+    let mut tags = PluginRegistry::new(alloc);
+    tags.register("set", HostileTags::Plain(Tags::Set))?;
+    tags.register("inc", HostileTags::Plain(Tags::Inc))?;
+    tags.register("brk", HostileTags::Plain(Tags::Brk))?;
+    tags.register("spin", HostileTags::Spin)?;
+    tags.register("mute", HostileTags::Mute)?;
+    let mut blocks = PluginRegistry::new(alloc);
+    blocks.register("box", HostileBlocks::Plain(Blocks::Box))?;
+    blocks.register("sbox", HostileBlocks::Plain(Blocks::Sbox))?;
+    blocks.register("swap", HostileBlocks::Plain(Blocks::Swap))?;
+    blocks.register("raw", HostileBlocks::Plain(Blocks::Raw))?;
+    blocks.register("with", HostileBlocks::Plain(Blocks::With))?;
+    blocks.register("glob", HostileBlocks::Plain(Blocks::Glob))?;
+    blocks.register("far", HostileBlocks::Far)?;
+    blocks.register("b", HostileBlocks::Odd)?;
+    Ok(Language {
+        filters: filters(alloc)?,
+        tags,
+        blocks,
+    })
+}
+
+/// The filters of each language.
+fn filters(alloc: Global) -> Result<PluginRegistry<Filters>, AllocError>
+    ensures { IfOk result (λ r. r ≡ the_filters) }
+{
+    let mut filters = PluginRegistry::new(alloc);
+    filters.register("append", Filters::Append)?;
+    filters.register("fail", Filters::Fail)?;
+    Ok(filters)
+}
 
 /// The blocks of the program's language.
-pub type Blocks = Absent;
-
-/// A plug-in, a plan or a node of which there is none.
-#[derive(Drop)]
-pub enum Absent {}
-
-impl Meant for Absent {
-    type Shape = Absent;
-
-    ghost shape = { λ x. x };
-}
-
-impl TagReflection for Absent {
-    fn tag(&self) -> &str {
-        match *self {}
-    }
-
-    fn description(&self) -> &str {
-        match *self {}
-    }
-}
-
-impl<F: ParseFilter> ParseTag<F> for Absent {
-    type Node = Absent;
-
-    ghost gives = { absent_given };
-
-    fn parse(
-        &self,
-        _alloc: Global,
-        _tokens: TagTokenIter<'_>,
-        _filters: &PluginRegistry<F>,
-    ) -> Result<Absent, Error> {
-        match *self {}
-    }
-}
-
-impl BlockReflection for Absent {
-    ghost start_name = { λ _. [] };
-
-    ghost end_name = { λ _. [] };
-
-    fn start_tag(&self) -> &str {
-        match *self {}
-    }
-
-    fn end_tag(&self) -> &str {
-        match *self {}
-    }
-
-    fn description(&self) -> &str {
-        match *self {}
-    }
-}
-
-impl<F: ParseFilter> ParseBlock<F> for Absent {
-    type Plan = Absent;
-    type Node = Absent;
-
-    ghost meaning = { absent_block };
-
-    fn dividers(&self) -> &[&str] {
-        match *self {}
-    }
-
-    fn escapes(&self) -> bool {
-        match *self {}
-    }
-
-    fn nests(&self) -> bool {
-        match *self {}
-    }
-
-    fn begin(
-        &self,
-        _alloc: Global,
-        _tokens: TagTokenIter<'_>,
-        _filters: &PluginRegistry<F>,
-    ) -> Result<Absent, Error> {
-        match *self {}
-    }
-
-    fn divide(
-        &self,
-        _alloc: Global,
-        _plan: &mut Absent,
-        _name: &str,
-        _tokens: TagTokenIter<'_>,
-    ) -> Result<(), Error> {
-        match *self {}
-    }
-
-    fn finish(
-        &self,
-        _alloc: Global,
-        _plan: Absent,
-        _body: BlockBody<'_>,
-    ) -> Result<Absent, Error> {
-        match *self {}
-    }
-}
-
-impl<V: Fresh> Renderable<V> for Absent {
-    type Progress = u64;
-
-    ghost starts = { absent_starts };
-
-    ghost count = { λ turns. turns };
-
-    ghost tells = { absent_tells };
-
-    fn start<R: Runtime<Register = V>>(
-        &self,
-        _alloc: Global,
-        _runtime: &mut R,
-    ) -> Result<u64, Error> {
-        match *self {}
-    }
-
-    fn turns(progress: &u64) -> u64 {
-        *progress
-    }
-
-    fn turn<R: Runtime<Register = V>>(
-        &self,
-        _alloc: Global,
-        _progress: &mut u64,
-        _runtime: &mut R,
-    ) -> Result<Turn, Error> {
-        match *self {}
-    }
-}
-
-/// The program's language: the filters `append` and `fail`. Its only refusal is want of memory.
-pub fn language(alloc: Global) -> Result<Language<Filters, Tags, Blocks>, AllocError>
-    ensures { IfOk result (λ language. meaning_of language ≡ program_language) }
+fn blocks(alloc: Global) -> Result<PluginRegistry<Blocks>, AllocError>
+    ensures { IfOk result (λ r. r ≡ plain_blocks) }
 {
-    let mut language = Language::empty(alloc);
-    language.filters.register("append", Filters::Append)?;
-    language.filters.register("fail", Filters::Fail)?;
-    Ok(language)
+    let mut blocks = PluginRegistry::new(alloc);
+    blocks.register("box", Blocks::Box)?;
+    blocks.register("sbox", Blocks::Sbox)?;
+    blocks.register("swap", Blocks::Swap)?;
+    blocks.register("raw", Blocks::Raw)?;
+    blocks.register("with", Blocks::With)?;
+    blocks.register("glob", Blocks::Glob)?;
+    Ok(blocks)
 }

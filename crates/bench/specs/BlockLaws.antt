@@ -1,0 +1,36 @@
+-- Blocks whose turns do not depend on hidden globals.
+use Rattle.std.proofs.Common.{◌≡◌, None, Ok, refl, ap, ◌∙◌}
+use Rattle.std.specs.FinMap.{empty}
+use Rattle.liquid_error.specs.Refusal.{ok_then}
+use Rattle.liquid_runtime.specs.Maps.{Names}
+use Rattle.liquid_runtime.specs.View.{View}
+use Rattle.liquid_plugins.specs.Turns.{body_turn}
+use Rattle.liquid_plugins.specs.Discreet.{hiding, HidesGlobals}
+use Rattle.bench.specs.declared.blocks.BlockShape.{BlockShape}
+use Rattle.bench.specs.declared.blocks.BlockShape.TheVariants as shape
+use Rattle.bench.specs.declared.blocks.Stage.{Stage}
+use Rattle.bench.specs.declared.blocks.Stage.TheVariants.{First, Second, Third, Over}
+use Rattle.bench.specs.Turning.{answers_only, begins_with}
+use Rattle.bench.specs.TagLaws.{answers_hide, evaluate_hidden}
+use Rattle.bench.specs.Blocks.{block_answers, block_tells, bound, next_stage}
+
+module _ {Reg : Type 0} where
+  -- a turn answers the same, whatever is hidden
+  same_answer : (n : BlockShape) (stage : Stage) (g : Names) (v : View Reg) → block_answers n stage (hiding g v) ≡ block_answers n stage (hiding empty v)
+  same_answer shape.Box stage g v = refl
+  same_answer shape.Sbox stage g v = refl
+  same_answer shape.Swap stage g v = refl
+  same_answer (shape.Raw slice) stage g v = refl
+  same_answer (shape.With name e) First g v = ap (λ r. ok_then (bound name r) (λ frame. Ok (body_turn 0 frame None))) (evaluate_hidden g v e)
+  same_answer (shape.With name e) Second g v = refl
+  same_answer (shape.With name e) Third g v = refl
+  same_answer (shape.With name e) Over g v = refl
+  same_answer shape.Glob stage g v = refl
+
+  pub block_start_hides : (n : BlockShape) → HidesGlobals {Reg = Reg} (begins_with First)
+  block_start_hides n g v = answers_hide (Ok First) tt g v
+
+  pub block_turn_hides : (n : BlockShape) (stage : Stage) → HidesGlobals {Reg = Reg} (block_tells n stage)
+  block_turn_hides n stage g v =
+      ap (λ answer. answers_only answer (next_stage stage) (hiding g v)) (same_answer n stage g v)
+      ∙ answers_hide (block_answers n stage (hiding empty v)) (next_stage stage) g v

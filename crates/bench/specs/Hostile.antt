@@ -1,0 +1,48 @@
+-- What the tags and blocks of bad will mean.
+use Rattle.std.specs.Prelude.{ℕ, codes, None, Ok}
+use Rattle.liquid_runtime.specs.View.{View}
+use Rattle.liquid_runtime.specs.Frames.{no_frame}
+use Rattle.liquid_plugins.specs.Turns.{TurnShape, text_turn, body_turn, end_turn, Told}
+use Rattle.bench.specs.Turning.{answers_only, begins_with}
+use Rattle.bench.specs.Tags.{tag_of, tag_tells}
+use Rattle.bench.specs.Blocks.{block_of, block_tells, once}
+use Rattle.bench.specs.declared.blocks.Stage.{Stage}
+use Rattle.bench.specs.declared.blocks.Stage.TheVariants.{Over}
+use Rattle.bench.specs.declared.hostile.HostileTagNode.{HostileTagNode}
+use Rattle.bench.specs.declared.hostile.HostileTagNode.TheVariants as tag
+use Rattle.bench.specs.declared.hostile.HostileTagShape.{HostileTagShape}
+use Rattle.bench.specs.declared.hostile.HostileTagShape.TheVariants as shape
+use Rattle.bench.specs.declared.hostile.HostileBlockNode.{HostileBlockNode}
+use Rattle.bench.specs.declared.hostile.HostileBlockNode.TheVariants as block
+use Rattle.bench.specs.declared.hostile.HostileBlockShape.{HostileBlockShape}
+use Rattle.bench.specs.declared.hostile.HostileBlockShape.TheVariants as block_shape
+
+-- the shapes
+abbrev pub hostile_tag_of : HostileTagNode → HostileTagShape
+hostile_tag_of (tag.Plain node) = shape.Plain (tag_of node)
+hostile_tag_of tag.Spin = shape.Spin
+hostile_tag_of tag.Mute = shape.Mute
+
+abbrev pub hostile_block_of : HostileBlockNode → HostileBlockShape
+hostile_block_of (block.Plain node) = block_shape.Plain (block_of node)
+hostile_block_of block.Far = block_shape.Far
+
+-- how many turns a tag says that it has
+abbrev pub turns_said : HostileTagShape → ℕ
+turns_said (shape.Plain node) = 1
+turns_said shape.Spin = 3
+turns_said shape.Mute = 0
+
+abbrev pub hostile_tag_starts : {Reg : Type 0} → HostileTagShape → View Reg → Told ℕ (Unit {0}) Reg
+hostile_tag_starts n = begins_with (turns_said n)
+
+-- what a turn tells; `spin` and `mute` never say that they have ended
+abbrev pub hostile_tag_tells : {Reg : Type 0} → HostileTagShape → ℕ → View Reg → Told TurnShape ℕ Reg
+hostile_tag_tells (shape.Plain node) progress v = tag_tells node progress v
+hostile_tag_tells shape.Spin progress v = answers_only (Ok (text_turn (codes "s"))) progress v
+hostile_tag_tells shape.Mute progress v = answers_only (Ok (text_turn (codes "s"))) progress v
+
+-- `far` asks once for a part that it does not have
+abbrev pub hostile_block_tells : {Reg : Type 0} → HostileBlockShape → Stage → View Reg → Told TurnShape Stage Reg
+hostile_block_tells (block_shape.Plain node) stage v = block_tells node stage v
+hostile_block_tells block_shape.Far stage v = answers_only (Ok (once (body_turn 9 no_frame None) end_turn stage)) Over v

@@ -1,0 +1,270 @@
+//! The test blocks, as plug-ins.
+ghost use Rattle.std.specs.Prelude.{◌≡◌};
+ghost use Rattle.liquid_error.specs.Told.{Gives};
+ghost use Rattle.liquid_parser.specs.Handed.{Tokens};
+ghost use Rattle.liquid_parser.specs.Plugins.{AreTokens, body_of};
+ghost use Rattle.bench.specs.BlockPlugins.{
+  begun,
+  block_meaning,
+  dividers_of,
+  end_of,
+  escapes_of,
+  finished,
+  hostile_end_of,
+  hostile_meaning,
+  hostile_start_of,
+  start_of,
+};
+ghost use Rattle.bench.specs.Blocks.{block_of};
+
+use crate::asked::{alone, name_and_value};
+use crate::blocks::BlockNode;
+use crate::hostile::HostileBlockNode;
+use liquid_error::Error;
+use liquid_parser::{BlockBody, BlockReflection, ParseBlock, TagTokenIter};
+use liquid_plugins::{ParseFilter, PluginRegistry};
+use std::alloc::Global;
+
+/// The divider of `swap`.
+static MID: [&str; 1] = ["mid"];
+
+static NO_DIVIDERS: [&str; 0] = [];
+
+/// The blocks of the program's language.
+#[derive(Debug, Clone, Copy, PartialEq, Eq)]
+pub enum Blocks {
+    Box,
+    Sbox,
+    Swap,
+    Raw,
+    With,
+    Glob,
+}
+
+/// These blocks, and two of bad will. `Odd` is a box, and tells the names of one, whatever name it
+/// is registered by.
+#[derive(Debug, Clone, Copy, PartialEq, Eq)]
+pub enum HostileBlocks {
+    Plain(Blocks),
+    Far,
+    Odd,
+}
+
+impl BlockReflection for Blocks {
+    ghost start_name = { start_of };
+
+    ghost end_name = { end_of };
+
+    fn start_tag(&self) -> &str {
+        match self {
+            Blocks::Box => "box",
+            Blocks::Sbox => "sbox",
+            Blocks::Swap => "swap",
+            Blocks::Raw => "raw",
+            Blocks::With => "with",
+            Blocks::Glob => "glob",
+        }
+    }
+
+    fn end_tag(&self) -> &str {
+        match self {
+            Blocks::Box => "endbox",
+            Blocks::Sbox => "endsbox",
+            Blocks::Swap => "endswap",
+            Blocks::Raw => "endraw",
+            Blocks::With => "endwith",
+            Blocks::Glob => "endglob",
+        }
+    }
+
+    fn description(&self) -> &str {
+        match self {
+            Blocks::Box => "Writes its body in brackets.",
+            Blocks::Sbox => "Renders its body where no name is seen.",
+            Blocks::Swap => "Renders what stands behind `mid`, and then what stands before it.",
+            Blocks::Raw => "Writes its body as it stands.",
+            Blocks::With => "Renders its body with one name.",
+            Blocks::Glob => "Renders its body with globals of its own.",
+        }
+    }
+}
+
+impl<F: ParseFilter> ParseBlock<F> for Blocks {
+    type Plan = BlockNode;
+
+    type Node = BlockNode;
+
+    ghost meaning = { block_meaning };
+
+    fn dividers(&self) -> &[&str] {
+        match self {
+            Blocks::Swap => &MID,
+            _ => &NO_DIVIDERS,
+        }
+    }
+
+    fn escapes(&self) -> bool {
+        match self {
+            Blocks::Raw => true,
+            _ => false,
+        }
+    }
+
+    fn nests(&self) -> bool {
+        false
+    }
+
+    fn begin(
+        &self,
+        alloc: Global,
+        tokens: TagTokenIter<'_>,
+        _filters: &PluginRegistry<F>,
+    ) -> Result<BlockNode, Error> {
+        plain_block(alloc, *self, tokens)
+    }
+
+    fn divide(
+        &self,
+        alloc: Global,
+        _plan: &mut BlockNode,
+        _name: &str,
+        tokens: TagTokenIter<'_>,
+    ) -> Result<(), Error> {
+        tokens.expect_nothing(alloc)
+    }
+
+    fn finish(
+        &self,
+        alloc: Global,
+        plan: BlockNode,
+        body: BlockBody<'_>,
+    ) -> Result<BlockNode, Error> {
+        finished(alloc, plan, body)
+    }
+}
+
+/// What a block of the program's language plans: the node that it will be.
+fn plain_block(alloc: Global, block: Blocks, tokens: TagTokenIter<'_>) -> Result<BlockNode, Error>
+    ensures { (ts : Tokens) → AreTokens tokens.entry ts → Gives block_of result (begun block ts) }
+{
+    match block {
+        Blocks::With => match name_and_value(alloc, tokens) {
+            Ok((name, value)) => Ok(BlockNode::With(name, value)),
+            Err(error) => Err(error),
+        },
+        Blocks::Box => alone(alloc, tokens, BlockNode::Box),
+        Blocks::Sbox => alone(alloc, tokens, BlockNode::Sbox),
+        Blocks::Swap => alone(alloc, tokens, BlockNode::Swap),
+        Blocks::Raw => alone(alloc, tokens, BlockNode::Raw(String::new(alloc))),
+        Blocks::Glob => alone(alloc, tokens, BlockNode::Glob),
+    }
+}
+
+/// The node of a plan: a plan of a text takes the text of its body.
+fn finished(alloc: Global, plan: BlockNode, body: BlockBody<'_>) -> Result<BlockNode, Error>
+    ensures { Gives block_of result (finished (block_of plan) (body_of body.entry)) }
+{
+    match (plan, body) {
+        (BlockNode::Raw(_), BlockBody::Escaped(slice)) => {
+            Ok(BlockNode::Raw(String::from_str(alloc, slice)?))
+        }
+        (node, _) => Ok(node),
+    }
+}
+
+impl BlockReflection for HostileBlocks {
+    ghost start_name = { hostile_start_of };
+
+    ghost end_name = { hostile_end_of };
+
+    fn start_tag(&self) -> &str {
+        match self {
+            HostileBlocks::Plain(block) => block.start_tag(),
+            HostileBlocks::Far => "far",
+            HostileBlocks::Odd => "box",
+        }
+    }
+
+    fn end_tag(&self) -> &str {
+        match self {
+            HostileBlocks::Plain(block) => block.end_tag(),
+            HostileBlocks::Far => "endfar",
+            HostileBlocks::Odd => "endbox",
+        }
+    }
+
+    fn description(&self) -> &str {
+        match self {
+            HostileBlocks::Plain(block) => block.description(),
+            HostileBlocks::Far => "Asks for a part that it does not have.",
+            HostileBlocks::Odd => "A box by any name.",
+        }
+    }
+}
+
+impl<F: ParseFilter> ParseBlock<F> for HostileBlocks {
+    type Plan = HostileBlockNode;
+
+    type Node = HostileBlockNode;
+
+    ghost meaning = { hostile_meaning };
+
+    fn dividers(&self) -> &[&str] {
+        match self {
+            HostileBlocks::Plain(Blocks::Swap) => &MID,
+            _ => &NO_DIVIDERS,
+        }
+    }
+
+    fn escapes(&self) -> bool {
+        match self {
+            HostileBlocks::Plain(Blocks::Raw) => true,
+            _ => false,
+        }
+    }
+
+    fn nests(&self) -> bool {
+        false
+    }
+
+    fn begin(
+        &self,
+        alloc: Global,
+        tokens: TagTokenIter<'_>,
+        _filters: &PluginRegistry<F>,
+    ) -> Result<HostileBlockNode, Error> {
+        match self {
+            HostileBlocks::Plain(block) => match plain_block(alloc, *block, tokens) {
+                Ok(plan) => Ok(HostileBlockNode::Plain(plan)),
+                Err(error) => Err(error),
+            },
+            HostileBlocks::Far => alone(alloc, tokens, HostileBlockNode::Far),
+            HostileBlocks::Odd => alone(alloc, tokens, HostileBlockNode::Plain(BlockNode::Box)),
+        }
+    }
+
+    fn divide(
+        &self,
+        alloc: Global,
+        _plan: &mut HostileBlockNode,
+        _name: &str,
+        tokens: TagTokenIter<'_>,
+    ) -> Result<(), Error> {
+        tokens.expect_nothing(alloc)
+    }
+
+    fn finish(
+        &self,
+        alloc: Global,
+        plan: HostileBlockNode,
+        body: BlockBody<'_>,
+    ) -> Result<HostileBlockNode, Error> {
+        match plan {
+            HostileBlockNode::Plain(plan) => match finished(alloc, plan, body) {
+                Ok(node) => Ok(HostileBlockNode::Plain(node)),
+                Err(error) => Err(error),
+            },
+            HostileBlockNode::Far => Ok(HostileBlockNode::Far),
+        }
+    }
+}

@@ -1,0 +1,144 @@
+//! Tags and blocks of bad will: they ask for turns and parts that there are not.
+ghost use Rattle.bench.specs.Hostile.{
+  hostile_block_of,
+  hostile_block_tells,
+  hostile_tag_of,
+  hostile_tag_starts,
+  hostile_tag_tells,
+};
+ghost use Rattle.bench.specs.Turning.{begins_with};
+ghost use Rattle.bench.specs.declared.blocks.Stage.TheVariants.{First};
+
+use crate::blocks::{BlockNode, BlockShape, Stage};
+use crate::tags::{TagNode, TagShape};
+use liquid_error::Error;
+use liquid_plugins::{Meant, Renderable, Turn};
+use liquid_runtime::{Frame, Fresh, Runtime};
+use std::alloc::Global;
+
+/// What a tag is made to where there are tags of bad will.
+#[derive(Drop)]
+pub enum HostileTagNode {
+    /// A tag of the program's language.
+    Plain(TagNode),
+    /// Says that it has three turns, and writes `s` at every turn that it is given.
+    Spin,
+    /// Says that it has no turns, and would write `s` at every turn that it is given.
+    Mute,
+}
+
+/// Stands for the shape of such a tag.
+pub enum HostileTagShape {
+    Plain(TagShape),
+    Spin,
+    Mute,
+}
+
+/// What a block is made to where there are blocks of bad will.
+#[derive(Drop)]
+pub enum HostileBlockNode {
+    /// A block of the program's language.
+    Plain(BlockNode),
+    /// Asks for a tenth part, and then ends.
+    Far,
+}
+
+/// Stands for the shape of such a block.
+pub enum HostileBlockShape {
+    Plain(BlockShape),
+    Far,
+}
+
+impl Meant for HostileTagNode {
+    type Shape = HostileTagShape;
+
+    ghost shape = { hostile_tag_of };
+}
+
+/// The progress is the number of turns.
+impl<V: Fresh> Renderable<V> for HostileTagNode {
+    type Progress = u64;
+
+    ghost starts = { hostile_tag_starts };
+
+    ghost count = { λ turns. turns };
+
+    ghost tells = { hostile_tag_tells };
+
+    fn start<R: Runtime<Register = V>>(
+        &self,
+        _alloc: Global,
+        _runtime: &mut R,
+    ) -> Result<u64, Error> {
+        match self {
+            HostileTagNode::Plain(_) => Ok(1),
+            HostileTagNode::Spin => Ok(3),
+            HostileTagNode::Mute => Ok(0),
+        }
+    }
+
+    fn turns(progress: &u64) -> u64 {
+        *progress
+    }
+
+    fn turn<R: Runtime<Register = V>>(
+        &self,
+        alloc: Global,
+        progress: &mut u64,
+        runtime: &mut R,
+    ) -> Result<Turn, Error> {
+        match self {
+            HostileTagNode::Plain(tag) => tag.turn(alloc, progress, runtime),
+            HostileTagNode::Spin | HostileTagNode::Mute => {
+                Ok(Turn::Text(String::from_str(alloc, "s")?))
+            }
+        }
+    }
+}
+
+impl Meant for HostileBlockNode {
+    type Shape = HostileBlockShape;
+
+    ghost shape = { hostile_block_of };
+}
+
+impl<V: Fresh> Renderable<V> for HostileBlockNode {
+    type Progress = Stage;
+
+    ghost starts = { λ _. begins_with First };
+
+    ghost count = { λ _. 3 };
+
+    ghost tells = { hostile_block_tells };
+
+    fn start<R: Runtime<Register = V>>(
+        &self,
+        _alloc: Global,
+        _runtime: &mut R,
+    ) -> Result<Stage, Error> {
+        Ok(Stage::First)
+    }
+
+    fn turns(_progress: &Stage) -> u64 {
+        3
+    }
+
+    fn turn<R: Runtime<Register = V>>(
+        &self,
+        alloc: Global,
+        progress: &mut Stage,
+        runtime: &mut R,
+    ) -> Result<Turn, Error> {
+        match self {
+            HostileBlockNode::Plain(block) => block.turn(alloc, progress, runtime),
+            HostileBlockNode::Far => {
+                let stage = *progress;
+                *progress = Stage::Over;
+                match stage {
+                    Stage::First => Ok(Turn::Body(9, Frame::None, None)),
+                    _ => Ok(Turn::End),
+                }
+            }
+        }
+    }
+}

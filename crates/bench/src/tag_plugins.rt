@@ -1,0 +1,167 @@
+//! The test tags, as plug-ins.
+ghost use Rattle.liquid_error.specs.Told.{Gives};
+ghost use Rattle.liquid_parser.specs.Handed.{Tokens};
+ghost use Rattle.liquid_parser.specs.Plugins.{AreTokens};
+ghost use Rattle.bench.specs.TagPlugins.{hostile_given, leaky_given, tag_given};
+ghost use Rattle.bench.specs.Tags.{tag_of};
+
+use crate::asked::{alone, name_alone, name_and_value};
+use crate::hostile::HostileTagNode;
+use crate::tags::{LeakyTagNode, TagNode};
+use liquid_error::Error;
+use liquid_parser::{ParseTag, TagReflection, TagTokenIter};
+use liquid_plugins::{ParseFilter, PluginRegistry};
+use std::alloc::Global;
+
+/// The tags of the program's language.
+#[derive(Debug, Clone, Copy, PartialEq, Eq)]
+pub enum Tags {
+    Set,
+    Inc,
+    Brk,
+}
+
+/// These tags and `leak`.
+#[derive(Debug, Clone, Copy, PartialEq, Eq)]
+pub enum LeakyTags {
+    Plain(Tags),
+    Leak,
+}
+
+/// The tags of the program's language, and two of bad will.
+#[derive(Debug, Clone, Copy, PartialEq, Eq)]
+pub enum HostileTags {
+    Plain(Tags),
+    Spin,
+    Mute,
+}
+
+impl TagReflection for Tags {
+    fn tag(&self) -> &str {
+        match self {
+            Tags::Set => "set",
+            Tags::Inc => "inc",
+            Tags::Brk => "brk",
+        }
+    }
+
+    fn description(&self) -> &str {
+        match self {
+            Tags::Set => "Sets a global to a value, and writes nothing.",
+            Tags::Inc => "Renders the partial of a name, without a frame.",
+            Tags::Brk => "Leaves the loop around it.",
+        }
+    }
+}
+
+impl<F: ParseFilter> ParseTag<F> for Tags {
+    type Node = TagNode;
+
+    ghost gives = { λ tag _ ts. tag_given tag ts };
+
+    fn parse(
+        &self,
+        alloc: Global,
+        tokens: TagTokenIter<'_>,
+        _filters: &PluginRegistry<F>,
+    ) -> Result<TagNode, Error> {
+        plain_tag(alloc, *self, tokens)
+    }
+}
+
+/// The node of a tag of the program's language.
+fn plain_tag(alloc: Global, tag: Tags, tokens: TagTokenIter<'_>) -> Result<TagNode, Error>
+    ensures { (ts : Tokens) → AreTokens tokens.entry ts → Gives tag_of result (tag_given tag ts) }
+{
+    match tag {
+        Tags::Set => match name_and_value(alloc, tokens) {
+            Ok((name, value)) => Ok(TagNode::Set(name, value)),
+            Err(error) => Err(error),
+        },
+        Tags::Inc => match name_alone(alloc, tokens) {
+            Ok(name) => Ok(TagNode::Inc(name)),
+            Err(error) => Err(error),
+        },
+        Tags::Brk => alone(alloc, tokens, TagNode::Brk),
+    }
+}
+
+impl TagReflection for LeakyTags {
+    fn tag(&self) -> &str {
+        match self {
+            LeakyTags::Plain(tag) => tag.tag(),
+            LeakyTags::Leak => "leak",
+        }
+    }
+
+    fn description(&self) -> &str {
+        match self {
+            LeakyTags::Plain(tag) => tag.description(),
+            LeakyTags::Leak => "Sets a global to a value, and writes its old value.",
+        }
+    }
+}
+
+impl<F: ParseFilter> ParseTag<F> for LeakyTags {
+    type Node = LeakyTagNode;
+
+    ghost gives = { λ tag _ ts. leaky_given tag ts };
+
+    fn parse(
+        &self,
+        alloc: Global,
+        tokens: TagTokenIter<'_>,
+        _filters: &PluginRegistry<F>,
+    ) -> Result<LeakyTagNode, Error> {
+        match self {
+            LeakyTags::Plain(tag) => match plain_tag(alloc, *tag, tokens) {
+                Ok(node) => Ok(LeakyTagNode::Plain(node)),
+                Err(error) => Err(error),
+            },
+            LeakyTags::Leak => match name_and_value(alloc, tokens) {
+                Ok((name, value)) => Ok(LeakyTagNode::Leak(name, value)),
+                Err(error) => Err(error),
+            },
+        }
+    }
+}
+
+impl TagReflection for HostileTags {
+    fn tag(&self) -> &str {
+        match self {
+            HostileTags::Plain(tag) => tag.tag(),
+            HostileTags::Spin => "spin",
+            HostileTags::Mute => "mute",
+        }
+    }
+
+    fn description(&self) -> &str {
+        match self {
+            HostileTags::Plain(tag) => tag.description(),
+            HostileTags::Spin => "Writes `s` at each of its turns, and never ends.",
+            HostileTags::Mute => "Has no turns.",
+        }
+    }
+}
+
+impl<F: ParseFilter> ParseTag<F> for HostileTags {
+    type Node = HostileTagNode;
+
+    ghost gives = { λ tag _ ts. hostile_given tag ts };
+
+    fn parse(
+        &self,
+        alloc: Global,
+        tokens: TagTokenIter<'_>,
+        _filters: &PluginRegistry<F>,
+    ) -> Result<HostileTagNode, Error> {
+        match self {
+            HostileTags::Plain(tag) => match plain_tag(alloc, *tag, tokens) {
+                Ok(node) => Ok(HostileTagNode::Plain(node)),
+                Err(error) => Err(error),
+            },
+            HostileTags::Spin => alone(alloc, tokens, HostileTagNode::Spin),
+            HostileTags::Mute => alone(alloc, tokens, HostileTagNode::Mute),
+        }
+    }
+}

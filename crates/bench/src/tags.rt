@@ -1,0 +1,182 @@
+//! Tags for tests: what they are made to, and how that is rendered.
+ghost use Rattle.std.specs.Prelude.{◌≡◌, IfOk, option_map, string_bytes};
+ghost use Rattle.liquid_error.specs.Told.{Gives};
+ghost use Rattle.liquid_value.specs.View.{view as tree_of};
+ghost use Rattle.liquid_runtime.specs.Written.{SameFrames};
+ghost use Rattle.liquid_plugins.specs.Evaluation.{evaluate};
+ghost use Rattle.liquid_plugins.specs.ExpressionOf.{expression_of};
+ghost use Rattle.liquid_plugins.specs.TurnOf.{Leaves};
+ghost use Rattle.bench.specs.Tags.{assigned, leaky_of, leaky_tells, render_old, tag_of, tag_tells};
+ghost use Rattle.bench.specs.Turning.{begins_with};
+ghost use Rattle.bench.specs.TagLaws.{tag_start_hides, tag_turn_hides};
+
+use liquid_error::Error;
+use liquid_plugins::{Bytes, Discreet, Expression, ExpressionMark, Meant, Renderable, Turn};
+use liquid_runtime::{Frame, Fresh, Interrupt, Runtime};
+use liquid_value::Value;
+use liquid_value::render::ValueRender;
+use std::alloc::{AllocError, Global};
+
+/// What a tag of the program's language is made to.
+#[derive(Drop)]
+pub enum TagNode {
+    /// Sets the global of a name to what an expression comes to.
+    Set(String, Expression),
+    /// Renders the partial of a name, without a frame.
+    Inc(String),
+    /// Lets the interrupt `Break` stand.
+    Brk,
+}
+
+/// Stands for the shape of a tag.
+pub enum TagShape {
+    Set(Bytes, ExpressionMark),
+    Inc(Bytes),
+    Brk,
+}
+
+impl Meant for TagNode {
+    type Shape = TagShape;
+
+    ghost shape = { tag_of };
+}
+
+/// Each tag takes one turn; the progress is the number of turns.
+impl<V: Fresh> Renderable<V> for TagNode {
+    type Progress = u64;
+
+    ghost starts = { λ _. begins_with 1 };
+
+    ghost count = { λ turns. turns };
+
+    ghost tells = { tag_tells };
+
+    fn start<R: Runtime<Register = V>>(
+        &self,
+        _alloc: Global,
+        _runtime: &mut R,
+    ) -> Result<u64, Error> {
+        Ok(1)
+    }
+
+    fn turns(progress: &u64) -> u64 {
+        *progress
+    }
+
+    fn turn<R: Runtime<Register = V>>(
+        &self,
+        alloc: Global,
+        _progress: &mut u64,
+        runtime: &mut R,
+    ) -> Result<Turn, Error> {
+        match self {
+            TagNode::Set(name, expression) => match assign(alloc, name, expression, runtime) {
+                Ok(_) => Ok(Turn::End),
+                Err(error) => Err(error),
+            },
+            TagNode::Inc(name) => Ok(Turn::Partial(name.clone()?, Frame::None, None)),
+            TagNode::Brk => {
+                runtime.registers_mut().interrupt.set(Interrupt::Break);
+                Ok(Turn::End)
+            }
+        }
+    }
+}
+
+impl<V: Fresh> Discreet<V> for TagNode {
+    ghost start_hides = { tag_start_hides };
+
+    ghost turn_hides = { tag_turn_hides };
+}
+
+/// What a tag is made to where there is `leak` too.
+#[derive(Drop)]
+pub enum LeakyTagNode {
+    /// A tag of the program's language.
+    Plain(TagNode),
+    /// Sets a global as `set` does, and writes the render of its old value.
+    Leak(String, Expression),
+}
+
+/// Stands for the shape of such a tag.
+pub enum LeakyTagShape {
+    Plain(TagShape),
+    Leak(Bytes, ExpressionMark),
+}
+
+impl Meant for LeakyTagNode {
+    type Shape = LeakyTagShape;
+
+    ghost shape = { leaky_of };
+}
+
+/// Each tag takes one turn; the progress is the number of turns.
+impl<V: Fresh> Renderable<V> for LeakyTagNode {
+    type Progress = u64;
+
+    ghost starts = { λ _. begins_with 1 };
+
+    ghost count = { λ turns. turns };
+
+    ghost tells = { leaky_tells };
+
+    fn start<R: Runtime<Register = V>>(
+        &self,
+        _alloc: Global,
+        _runtime: &mut R,
+    ) -> Result<u64, Error> {
+        Ok(1)
+    }
+
+    fn turns(progress: &u64) -> u64 {
+        *progress
+    }
+
+    fn turn<R: Runtime<Register = V>>(
+        &self,
+        alloc: Global,
+        progress: &mut u64,
+        runtime: &mut R,
+    ) -> Result<Turn, Error> {
+        match self {
+            LeakyTagNode::Plain(tag) => tag.turn(alloc, progress, runtime),
+            LeakyTagNode::Leak(name, expression) => {
+                match assign(alloc, name, expression, runtime) {
+                    Ok(old) => Ok(Turn::Text(rendered(alloc, old)?)),
+                    Err(error) => Err(error),
+                }
+            }
+        }
+    }
+}
+
+/// Sets a global to what the expression comes to, and answers its old value.
+fn assign<R: Runtime>(
+    alloc: Global,
+    name: &String,
+    expression: &Expression,
+    runtime: &mut R,
+) -> Result<Option<Value>, Error>
+    ensures answer { Gives (option_map tree_of) result (assigned (string_bytes name.now) (evaluate (R.view runtime.old) (expression_of expression.now)) (R.view runtime.old)).answer }
+    ensures after { Leaves result (assigned (string_bytes name.now) (evaluate (R.view runtime.old) (expression_of expression.now)) (R.view runtime.old)).written (R.view runtime.old) (R.view runtime.new) }
+    ensures frames { SameFrames (R.view runtime.old) (R.view runtime.new) }
+    ensures stays { R.store runtime.new ≡ R.store runtime.old }
+    ensures kept { R.restores runtime.new ≡ R.restores runtime.old }
+    ensures same { R.lent runtime.new ≡ R.lent runtime.old }
+{
+    let value = match expression.evaluate(alloc, &*runtime) {
+        Ok(value) => value.into_owned()?,
+        Err(error) => return Err(error),
+    };
+    runtime.set_global(name.clone()?, value)
+}
+
+/// The render of a value, empty where there is none.
+fn rendered(alloc: Global, value: Option<Value>) -> Result<String, AllocError>
+    ensures { IfOk result (λ text. string_bytes text ≡ render_old (option_map tree_of value)) }
+{
+    match value {
+        Some(value) => ValueRender::new(&value).to_string(alloc),
+        None => Ok(String::new(alloc)),
+    }
+}
