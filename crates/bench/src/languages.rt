@@ -8,7 +8,6 @@ ghost use Rattle.bench.specs.Languages.{
   plain_tags,
   the_filters,
 };
-
 ghost use Rattle.bench.specs.ProgramLanguage.{meaning_of, program_language};
 
 use crate::block_plugins::{Blocks, HostileBlocks};
