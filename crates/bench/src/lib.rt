@@ -32,3 +32,5 @@ mod frames;
 mod node_rows;
 #[cfg(test)]
 mod rows;
+#[cfg(test)]
+mod text_rows;

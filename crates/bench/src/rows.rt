@@ -1,7 +1,8 @@
 //! Templates with what they come to, through the calls that users make.
 use crate::dripping::Dripping;
+use crate::languages::language;
 use liquid_core::model::{Array, Date, DateTime, Object, ScalarCow, State, Value};
-use liquid_core::parser::{Language, parse};
+use liquid_core::parser::parse;
 use liquid_core::runtime::{BuiltRuntime, Runtime, RuntimeBuilder, Template};
 use liquid_core::{Error, TextSink, render_source};
 use std::alloc::{AllocError, Global};
@@ -9,7 +10,7 @@ use std::test::Fail;
 
 /// A global.
 #[derive(Clone, Copy)]
-enum Given {
+pub(crate) enum Given {
     Nil,
     Number(i64),
     Flag(bool),
@@ -23,6 +24,8 @@ enum Given {
     Items,
     /// The object of `b`, which is 2, and `a`, which is `x`.
     Pairs,
+    /// The array of the numbers from nought up to this one, which is not in it.
+    Numbers(i64),
 }
 
 fn items(alloc: Global) -> Result<Array, AllocError> {
@@ -31,6 +34,14 @@ fn items(alloc: Global) -> Result<Array, AllocError> {
     items.push(Value::scalar(String::from_str(alloc, "a")?))?;
     items.push(Value::Nil)?;
     Ok(items)
+}
+
+fn numbers(alloc: Global, end: i64) -> Result<Array, AllocError> {
+    let mut numbers = Array::new(alloc);
+    for number in 0..end {
+        numbers.push(Value::scalar(number))?;
+    }
+    Ok(numbers)
 }
 
 fn pairs(alloc: Global) -> Result<Object, AllocError> {
@@ -57,10 +68,11 @@ fn value_of(alloc: Global, given: Given) -> Result<Value, Fail> {
         Given::Moment => moment()?,
         Given::Items => Value::Array(items(alloc)?),
         Given::Pairs => Value::Object(pairs(alloc)?),
+        Given::Numbers(end) => Value::Array(numbers(alloc, end)?),
     })
 }
 
-fn runtime_of(
+pub(crate) fn runtime_of(
     alloc: Global,
     globals: &[(&'static str, Given)],
 ) -> Result<BuiltRuntime<(), ()>, Fail> {
@@ -72,11 +84,11 @@ fn runtime_of(
 }
 
 /// A template over globals, what is written, and the error's text, empty where there is none.
-struct Row {
-    template: &'static str,
-    globals: &'static [(&'static str, Given)],
-    written: &'static str,
-    error: &'static str,
+pub(crate) struct Row {
+    pub(crate) template: &'static str,
+    pub(crate) globals: &'static [(&'static str, Given)],
+    pub(crate) written: &'static str,
+    pub(crate) error: &'static str,
 }
 
 const UNKNOWN_X: &str = "liquid: Unknown variable\n  with:\n    requested variable=x\n";
@@ -204,12 +216,12 @@ const ROWS: [Row; 19] = [
         template: "{{ nil }}",
         globals: &[],
         written: "",
-        error: "liquid: Invalid liquid (line 1, column 1)\n",
+        error: "",
     },
 ];
 
 /// The error's text, empty where there is none.
-fn error_text(alloc: Global, answer: &Result<(), Error>) -> Result<String, AllocError> {
+pub(crate) fn error_text(alloc: Global, answer: &Result<(), Error>) -> Result<String, AllocError> {
     match answer {
         Ok(()) => Ok(String::new(alloc)),
         Err(error) => error.to_string(alloc),
@@ -219,7 +231,7 @@ fn error_text(alloc: Global, answer: &Result<(), Error>) -> Result<String, Alloc
 #[test]
 fn rows_are_rendered_at_once(rt: HostRuntime) -> Result<(), Fail> {
     let alloc = rt.alloc();
-    let language = Language::empty(alloc);
+    let language = language(alloc)?;
     for row in &ROWS {
         let mut runtime = runtime_of(alloc, row.globals)?;
         let mut sink = TextSink::new(alloc);
@@ -238,7 +250,7 @@ fn rows_are_rendered_at_once(rt: HostRuntime) -> Result<(), Fail> {
 #[test]
 fn rows_are_parsed_and_then_rendered(rt: HostRuntime) -> Result<(), Fail> {
     let alloc = rt.alloc();
-    let language = Language::empty(alloc);
+    let language = language(alloc)?;
     for row in &ROWS {
         let mut runtime = runtime_of(alloc, row.globals)?;
         let rendered = match parse(alloc, row.template, &language) {
@@ -259,7 +271,7 @@ fn rows_are_parsed_and_then_rendered(rt: HostRuntime) -> Result<(), Fail> {
 #[test]
 fn a_sink_that_fails_keeps_the_beginning(rt: HostRuntime) -> Result<(), Fail> {
     let alloc = rt.alloc();
-    let language = Language::empty(alloc);
+    let language = language(alloc)?;
     let rows = [
         (1, "", "liquid: Failed to render\n"),
         (2, "H", "liquid: Failed to render\n"),
@@ -281,7 +293,7 @@ fn a_sink_that_fails_keeps_the_beginning(rt: HostRuntime) -> Result<(), Fail> {
 #[test]
 fn an_empty_value_makes_no_put(rt: HostRuntime) -> Result<(), Fail> {
     let alloc = rt.alloc();
-    let language = Language::empty(alloc);
+    let language = language(alloc)?;
     let mut runtime = runtime_of(alloc, &[("x", Given::Text("")), ("y", Given::Nil)])?;
     let mut sink = Dripping::new(alloc, 0);
     render_source(alloc, "{{ x }}{{ y }}", &language, &mut runtime, &mut sink)?;
