@@ -1,7 +1,8 @@
 //! Templates with what they come to, through the calls that users make.
 use crate::dripping::Dripping;
+use crate::languages::language;
 use liquid_core::model::{Array, Date, DateTime, Object, ScalarCow, State, Value};
-use liquid_core::parser::{Language, parse};
+use liquid_core::parser::parse;
 use liquid_core::runtime::{BuiltRuntime, Runtime, RuntimeBuilder, Template};
 use liquid_core::{Error, TextSink, render_source};
 use std::alloc::{AllocError, Global};
@@ -81,7 +82,7 @@ struct Row {
 
 const UNKNOWN_X: &str = "liquid: Unknown variable\n  with:\n    requested variable=x\n";
 
-const ROWS: [Row; 19] = [
+const ROWS: [Row; 20] = [
     Row {
         template: "Hello {{ name }}!",
         globals: &[("name", Given::Text("World"))],
@@ -201,10 +202,16 @@ const ROWS: [Row; 19] = [
         error: "",
     },
     Row {
-        template: "{{ nil }}",
+        template: "[{{ nil }}]",
         globals: &[],
-        written: "",
-        error: "liquid: Invalid liquid (line 1, column 1)\n",
+        written: "[]",
+        error: "",
+    },
+    Row {
+        template: "{{ x | append: \"!\" }}",
+        globals: &[("x", Given::Text("hello"))],
+        written: "hello!",
+        error: "",
     },
 ];
 
@@ -219,7 +226,7 @@ fn error_text(alloc: Global, answer: &Result<(), Error>) -> Result<String, Alloc
 #[test]
 fn rows_are_rendered_at_once(rt: HostRuntime) -> Result<(), Fail> {
     let alloc = rt.alloc();
-    let language = Language::empty(alloc);
+    let language = language(alloc)?;
     for row in &ROWS {
         let mut runtime = runtime_of(alloc, row.globals)?;
         let mut sink = TextSink::new(alloc);
@@ -238,7 +245,7 @@ fn rows_are_rendered_at_once(rt: HostRuntime) -> Result<(), Fail> {
 #[test]
 fn rows_are_parsed_and_then_rendered(rt: HostRuntime) -> Result<(), Fail> {
     let alloc = rt.alloc();
-    let language = Language::empty(alloc);
+    let language = language(alloc)?;
     for row in &ROWS {
         let mut runtime = runtime_of(alloc, row.globals)?;
         let rendered = match parse(alloc, row.template, &language) {
@@ -259,7 +266,7 @@ fn rows_are_parsed_and_then_rendered(rt: HostRuntime) -> Result<(), Fail> {
 #[test]
 fn a_sink_that_fails_keeps_the_beginning(rt: HostRuntime) -> Result<(), Fail> {
     let alloc = rt.alloc();
-    let language = Language::empty(alloc);
+    let language = language(alloc)?;
     let rows = [
         (1, "", "liquid: Failed to render\n"),
         (2, "H", "liquid: Failed to render\n"),
@@ -281,7 +288,7 @@ fn a_sink_that_fails_keeps_the_beginning(rt: HostRuntime) -> Result<(), Fail> {
 #[test]
 fn an_empty_value_makes_no_put(rt: HostRuntime) -> Result<(), Fail> {
     let alloc = rt.alloc();
-    let language = Language::empty(alloc);
+    let language = language(alloc)?;
     let mut runtime = runtime_of(alloc, &[("x", Given::Text("")), ("y", Given::Nil)])?;
     let mut sink = Dripping::new(alloc, 0);
     render_source(alloc, "{{ x }}{{ y }}", &language, &mut runtime, &mut sink)?;
