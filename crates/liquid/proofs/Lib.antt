@@ -5,4 +5,5 @@ pub mod MemoryLemmas
 pub mod TreatmentLemmas
 pub mod UntouchedSinks
 pub mod FilesInMemory
+pub mod RunLemmas
 pub mod ShownRuns

@@ -99,6 +99,6 @@ pub Shows-printed : (words : List (List ℕ)) (files : List ℕ → Option (List
 Shows-printed words files output status p =
     let same : p.taken ≡ output = sym p.appended in
     subst (λ s. Shows words files output s) (sym p.status_is) (subst (λ o. Shows words files o (settled p.answered p.flushed)) same (
-      λ command. shown_command (Some []) (Some output) p.lent words files p.taken p.failures p.answered p.flushed (p.runs.0 command),
+      λ command. shown_command (Some []) p.behind p.lent words files p.taken p.failures p.answered p.flushed (p.runs.0 command),
       λ none. (ap (λ s. s.taken) (p.runs.1 none).0, rw (p.runs.1 none).1 (usage_status p.flushed)),
     ))

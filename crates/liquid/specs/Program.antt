@@ -58,9 +58,10 @@ Runs words known before after status =
 pub record Prints (words : List (List ℕ)) (known : List ℕ → Option (Option (List ℕ))) (before after : Option (List ℕ)) (status : ℕ) : Type 0 where
   pub taken : List ℕ
   pub failures : ℕ
+  pub behind : Option (List ℕ)
   pub lent : List ℕ
   pub answered : ℕ
   pub flushed : Bool
   pub appended : Appends before after taken
-  pub runs : Runs words known (sunk [] 0 before lent) (sunk taken failures after lent) answered
+  pub runs : Runs words known (sunk [] 0 before lent) (sunk taken failures behind lent) answered
   pub status_is : status ≡ settled answered flushed
