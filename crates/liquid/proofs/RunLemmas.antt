@@ -11,14 +11,16 @@ use Rattle.liquid_template.specs.Grows.{Grows}
 use Rattle.liquid_template.specs.Nodes.{Setting}
 use Rattle.liquid_template.specs.Sunk.{Sunk, sunk}
 use Rattle.bench.specs.declared.filters.AnyShape.{AnyShape}
-use Rattle.bench.specs.declared.languages.Absent.{Absent}
+use Rattle.bench.specs.declared.tags.TagShape.{TagShape}
+use Rattle.bench.specs.declared.blocks.BlockShape.{BlockShape}
+use Rattle.bench.specs.declared.blocks.Stage.{Stage}
 use Rattle.bench.specs.ProgramLanguage.{ProgramAnswer, program_language, program_setting}
 use Rattle.liquid_source.specs.Rendered.{Rendered}
 use Rattle.liquid.specs.Program.{Renders, Runs, Prints, built_over}
 use Rattle.liquid.specs.Status.{settled}
 
 -- a language that means the program's, a setting that is the program's, and the view of a built runtime
-pub Renders-over : (l : Lang AnyShape Absent Absent Absent) (s : Setting (Unit {0}) AnyShape Absent ℕ Absent ℕ) (v left : View (Unit {0})) (depth : ℕ) (names globals : Names) (text : List ℕ) (before after : Sunk) (result : Result (Unit {0}) Error)
+pub Renders-over : (l : Lang AnyShape TagShape BlockShape BlockShape) (s : Setting (Unit {0}) AnyShape TagShape ℕ BlockShape Stage) (v left : View (Unit {0})) (depth : ℕ) (names globals : Names) (text : List ℕ) (before after : Sunk) (result : Result (Unit {0}) Error)
     → ((answer : ProgramAnswer) → Reads l text answer → Rendered s answer v before after left result)
     → l ≡ program_language → s ≡ program_setting → v ≡ built_view tt depth names → depth ≡ 32 → names ≡ globals
     → Renders text globals before after result
