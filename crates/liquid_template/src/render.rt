@@ -27,12 +27,7 @@ impl<X: Filter, T, B> Template<X, T, B> {
     /// that were assigned, index variables and registers stay as the template left them. A failure
     /// of the sink is refused as "Failed to render". At want of memory a beginning of the text is
     /// written.
-    pub fn render_in<S, K>(
-        &self,
-        alloc: Global,
-        sink: &mut K,
-        scopes: &mut S,
-    ) -> Result<(), Error>
+    pub fn render_in<S, K>(&self, alloc: Global, sink: &mut K, scopes: &mut S) -> Result<(), Error>
     where
         S: Scopes,
         T: Renderable<S::Register>,
@@ -56,12 +51,7 @@ impl<X: Filter, T, B> Template<X, T, B> {
 
     /// Writes what the template comes to in the runtime's view, piece by piece, as `render_in` does
     /// over scopes of its own.
-    pub fn render_to<R, K>(
-        &self,
-        alloc: Global,
-        sink: &mut K,
-        runtime: &mut R,
-    ) -> Result<(), Error>
+    pub fn render_to<R, K>(&self, alloc: Global, sink: &mut K, runtime: &mut R) -> Result<(), Error>
     where
         R: Runtime,
         T: Renderable<R::Register>,

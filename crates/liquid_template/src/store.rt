@@ -8,9 +8,8 @@ ghost use Rattle.liquid_template.specs.Partials.{unknown_partial};
 ghost use Rattle.liquid_template.specs.TemplateOf.{template_nodes};
 
 use crate::template::Template;
-use liquid_plugins::Filter;
-use liquid_plugins::Meant;
 use liquid_error::Error;
+use liquid_plugins::{Filter, Meant};
 use std::alloc::Global;
 use std::rc::Rc;
 
