@@ -9,12 +9,11 @@ use Rattle.liquid_error.specs.Refusal.{Refusal}
 use Rattle.liquid_error.specs.Told.{told}
 use Rattle.liquid_runtime.specs.Maps.{Names}
 use Rattle.liquid_runtime.specs.View.{View}
-use Rattle.liquid_runtime.specs.Frames.{built_view}
 use Rattle.liquid_parser.specs.Reading.{Answer}
 use Rattle.liquid_template.specs.Run.{Run, run, written}
 use Rattle.liquid_template.specs.Outcome.{Sunk, sunk, BrokenOff, Cut, Stopped, Outcome}
 use Rattle.liquid_template.specs.Rendering.{Rendered}
-use Rattle.liquid.specs.Program.{status_of, Fails, Treats, Executes, Prints}
+use Rattle.liquid.specs.Program.{built_over, status_of, Fails, Treats, Executes, Prints}
 use Rattle.liquid.specs.Status.{settled}
 use Rattle.liquid.specs.InMemory.{IsBeginning, IsWhole, ShowsAnswer, ShowsNothing, ShowsFile, ShowsCommand, Shows}
 
@@ -59,7 +58,7 @@ shown_outcome : (r : Run) (output : List ℕ) (failures : ℕ) (flushed : Bool) 
 shown_outcome r output failures flushed (Ok u) o = shown_whole r output flushed o.0.taken o.1
 shown_outcome r output failures flushed (Err error) o = inr (refused_status flushed, stopped_begins r output failures (told error) o)
 
-shown_answer : (answer : Answer) (v : View) (output : List ℕ) (failures : ℕ) (flushed : Bool) (result : Result (Unit {0}) Error)
+shown_answer : (answer : Answer) (v : View (Unit {0})) (output : List ℕ) (failures : ℕ) (flushed : Bool) (result : Result (Unit {0}) Error)
     → Rendered answer v fresh (sunk output failures) result → ShowsAnswer answer v output (settled (status_of result) flushed)
 shown_answer (Ok nodes) v output failures flushed result o = shown_outcome (run v nodes) output failures flushed result o
 shown_answer (Err refusal) v output failures flushed (Ok u) o = absurd o.1
@@ -75,8 +74,8 @@ shown_file None globals output failures answered flushed fails = shown_nothing o
 shown_file (Some bytes) globals output failures answered flushed treats = (
   λ text answer reads.
       let finishes = treats.0 text in
-      subst (λ s. ShowsAnswer answer (built_view globals) output (settled s flushed)) (sym finishes.status_is)
-      (shown_answer answer (built_view globals) output failures flushed finishes.result (finishes.renders answer reads)),
+      subst (λ s. ShowsAnswer answer (built_over globals) output (settled s flushed)) (sym finishes.status_is)
+      (shown_answer answer (built_over globals) output failures flushed finishes.result (finishes.renders answer reads)),
   λ no_text. shown_nothing output failures answered flushed (treats.1 no_text),
 )
 

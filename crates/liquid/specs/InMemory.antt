@@ -3,12 +3,12 @@ use Rattle.std.specs.Prelude.{◌≡◌, ℕ, true, false, ◌⊎◌, List, [], 
 use Rattle.std.specs.BTreeMap.{get_by_text}
 use Rattle.liquid_runtime.specs.Maps.{Names}
 use Rattle.liquid_runtime.specs.View.{View}
-use Rattle.liquid_runtime.specs.Frames.{built_view}
 use Rattle.liquid_parser.specs.Reading.{Answer, Reads}
 use Rattle.liquid_template.specs.Run.{Run, run, written}
 use Rattle.liquid.specs.declared.in_memory.InMemoryFolder.{InMemoryFolder}
 use Rattle.liquid.specs.Command.{is_command}
 use Rattle.liquid.specs.Globals.{globals_of}
+use Rattle.liquid.specs.Program.{built_over}
 
 -- the bytes of the file at a path
 abbrev pub bytes_at : InMemoryFolder → List ℕ → Option (List ℕ)
@@ -23,7 +23,7 @@ abbrev pub IsBeginning : Run → List ℕ → Type 0
 IsBeginning r output = (left : List ℕ) × (written r ≡ output ++ left)
 
 -- status 0 shows the whole run of what the text is read as, status 1 a beginning of it; a text that is refused shows nothing
-abbrev pub ShowsAnswer : Answer → View → List ℕ → ℕ → Type 0
+abbrev pub ShowsAnswer : Answer → View (Unit {0}) → List ℕ → ℕ → Type 0
 ShowsAnswer (Ok nodes) v output status =
     ((status ≡ 0) × IsWhole (run v nodes) output) ⊎ ((status ≡ 1) × IsBeginning (run v nodes) output)
 ShowsAnswer (Err refusal) v output status = (output ≡ []) × (status ≡ 1)
@@ -36,7 +36,7 @@ ShowsNothing output status = (output ≡ []) × ((status ≡ 3) ⊎ (status ≡ 
 abbrev pub ShowsFile : Option (List ℕ) → Names → List ℕ → ℕ → Type 0
 ShowsFile None globals output status = ShowsNothing output status
 ShowsFile (Some bytes) globals output status =
-    (IsUtf8 bytes → (answer : Answer) → Reads bytes answer → ShowsAnswer answer (built_view globals) output status)
+    (IsUtf8 bytes → (answer : Answer) → Reads bytes answer → ShowsAnswer answer (built_over globals) output status)
     × (¬ (IsUtf8 bytes) → ShowsNothing output status)
 
 -- the file that the second word names, with the globals that the words behind it set

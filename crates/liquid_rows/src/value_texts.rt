@@ -53,14 +53,8 @@ fn object_of_nil(alloc: Global) -> Result<Object, AllocError> {
 
 fn holding(alloc: Global, state: State) -> Result<Object, AllocError> {
     let mut object = object_of_nil(alloc)?;
-    drop(object.insert(
-        String::from_str(alloc, "c")?,
-        array_of_nil(alloc)?,
-    )?);
-    drop(object.insert(
-        String::from_str(alloc, "b")?,
-        Value::State(state),
-    )?);
+    drop(object.insert(String::from_str(alloc, "c")?, array_of_nil(alloc)?)?);
+    drop(object.insert(String::from_str(alloc, "b")?, Value::State(state))?);
     Ok(object)
 }
 
