@@ -193,13 +193,16 @@ fn paths_lead_to_values(rt: HostRuntime) -> Result<(), Fail> {
             is_found
         );
     }
-    let list = value
-        .as_object()
-        .unwrap()
-        .get("list")
-        .unwrap()
-        .as_array()
-        .unwrap();
+    Ok(())
+}
+
+#[test]
+fn a_list_has_as_many_places_from_its_end(rt: HostRuntime) -> Result<(), Fail> {
+    let alloc = rt.alloc();
+    let mut list = Vec::new(alloc);
+    for number in 0..10i64 {
+        list.push(Value::scalar(number))?;
+    }
     assert!(rt; !list.contains_key(-11));
     assert!(rt; list.contains_key(-10));
     Ok(())
