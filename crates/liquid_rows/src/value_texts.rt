@@ -147,8 +147,8 @@ fn lent_shows<V: ValueView>(
     shows(alloc, &view, render, source)
 }
 
-/// Whether the value, a copy of it, references to them and what it holds display the two texts.
-fn value_shows(
+/// Whether the types that display a value write the two texts.
+fn value_is_displayed(
     alloc: Global,
     value: &Value,
     render: &str,
@@ -156,18 +156,62 @@ fn value_shows(
 ) -> Result<bool, AllocError> {
     let rendered = ValueRender::new(value).to_string(alloc)?;
     let shown = ValueSource::new(value).to_string(alloc)?;
-    let copy = value.clone()?;
-    let displayed = rendered.as_str() == render
-        && shown.as_str() == source
-        && shows(alloc, value, render, source)?
-        && lent_shows(alloc, &copy, render, source)?;
-    match copy {
+    Ok(rendered.as_str() == render && shown.as_str() == source)
+}
+
+/// Whether the value displays the two texts.
+fn value_shows(
+    alloc: Global,
+    value: &Value,
+    render: &str,
+    source: &str,
+) -> Result<bool, AllocError> {
+    shows(alloc, value, render, source)
+}
+
+/// Whether a reference to the value displays the two texts.
+fn lent_value_shows(
+    alloc: Global,
+    value: &Value,
+    render: &str,
+    source: &str,
+) -> Result<bool, AllocError> {
+    lent_shows(alloc, value, render, source)
+}
+
+/// Whether an object among the values displays the two texts.
+fn own_object_shows(
+    alloc: Global,
+    object: &Object,
+    render: &str,
+    source: &str,
+) -> Result<bool, AllocError> {
+    object_shows(alloc, object, render, source)
+}
+
+/// Whether a reference to an object among the values displays the two texts.
+fn lent_own_object_shows(
+    alloc: Global,
+    object: &Object,
+    render: &str,
+    source: &str,
+) -> Result<bool, AllocError> {
+    lent_object_shows(alloc, object, render, source)
+}
+
+/// Whether the value is no object, or it and a reference to it display the two texts as an object.
+fn held_object_shows(
+    alloc: Global,
+    value: Value,
+    render: &str,
+    source: &str,
+) -> Result<bool, AllocError> {
+    match value {
         Value::Object(object) => Ok(
-            displayed
-                && object_shows(alloc, &object, render, source)?
-                && lent_object_shows(alloc, &object, render, source)?,
+            own_object_shows(alloc, &object, render, source)?
+                && lent_own_object_shows(alloc, &object, render, source)?,
         ),
-        _ => Ok(displayed),
+        _ => Ok(true),
     }
 }
 
@@ -176,7 +220,11 @@ fn nil_and_states_are_shown(rt: HostRuntime) -> Result<(), Fail> {
     let alloc = rt.alloc();
     for (given, render, source) in &TEXTS {
         let value = value_of(alloc, *given)?;
+        assert!(rt; value_is_displayed(alloc, &value, *render, *source)?);
         assert!(rt; value_shows(alloc, &value, *render, *source)?);
+        let copy = value.clone()?;
+        assert!(rt; lent_value_shows(alloc, &copy, *render, *source)?);
+        assert!(rt; held_object_shows(alloc, value, *render, *source)?);
     }
     Ok(())
 }
