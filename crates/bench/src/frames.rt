@@ -58,8 +58,8 @@ fn numbers(alloc: Global, pairs: &[(&'static str, i64)]) -> Result<Object, Alloc
 /// `list` with ten numbers, `empty` without any, `word`, and `box` with `size` and `part` inside.
 fn values(alloc: Global) -> Result<Object, AllocError> {
     let mut list = Vec::new(alloc);
-    for number in 0..10i64 {
-        list.push(Value::scalar(number * number))?;
+    for square in [0i64, 1, 4, 9, 16, 25, 36, 49, 64, 81] {
+        list.push(Value::scalar(square))?;
     }
     let mut object = Object::new(alloc);
     object.insert(text(alloc, "list")?, Value::Array(list))?;
@@ -193,13 +193,16 @@ fn paths_lead_to_values(rt: HostRuntime) -> Result<(), Fail> {
             is_found
         );
     }
-    let list = value
-        .as_object()
-        .unwrap()
-        .get("list")
-        .unwrap()
-        .as_array()
-        .unwrap();
+    Ok(())
+}
+
+#[test]
+fn a_list_has_as_many_places_from_its_end(rt: HostRuntime) -> Result<(), Fail> {
+    let alloc = rt.alloc();
+    let mut list = Vec::new(alloc);
+    for number in 0..10i64 {
+        list.push(Value::scalar(number))?;
+    }
     assert!(rt; !list.contains_key(-11));
     assert!(rt; list.contains_key(-10));
     Ok(())
@@ -295,7 +298,7 @@ fn a_global_is_set_below_a_frame(rt: HostRuntime) -> Result<(), Fail> {
     assert_eq!(rt; frame.name(), Some("page"));
     assert_eq!(rt; name_text(alloc, &frame, "test")?.as_str(), "3");
     let old = frame.set_global(text(alloc, "test")?, Value::scalar(43i64))?;
-    assert_eq!(rt; old.unwrap().render().to_string(alloc)?.as_str(), "42");
+    assert!(rt; old == Some(Value::scalar(42i64)));
     frame.set_global(text(alloc, "global")?, Value::scalar(5i64))?;
     assert_eq!(rt; name_text(alloc, &frame, "test")?.as_str(), "3");
     drop(frame);
