@@ -33,4 +33,6 @@ mod node_rows;
 #[cfg(test)]
 mod rows;
 #[cfg(test)]
+mod sinks;
+#[cfg(test)]
 mod text_rows;
