@@ -100,7 +100,7 @@ fn tokens_are_what_they_look_like(rt: HostRuntime) -> Result<(), Fail> {
             Ok(token) => String::from_str(alloc, token.as_str())?,
             Err(error) => told(alloc, &error)?,
         };
-        let column = text.len() - 2;
+        let column = text.len().saturating_sub(2);
         let wanted = format!(in alloc; "liquid: Token expected (line 1, column {column})")?;
         assert_eq!(rt; end, wanted);
     }
