@@ -16,8 +16,11 @@ fn texts(alloc: Global, text: &str) -> Result<String, AllocError> {
         Err(error) => return told(alloc, &error),
     };
     let mut texts = Vec::new(alloc);
-    while let Some(token) = tokens.next() {
-        texts.push(token.as_str())?;
+    for _ in 0..text.len() {
+        match tokens.next() {
+            Some(token) => texts.push(token.as_str())?,
+            None => return texts.join(alloc, " / "),
+        }
     }
     texts.join(alloc, " / ")
 }
