@@ -1,2 +1,3 @@
 pub mod Leak
 pub mod AskedLemmas
+pub mod PartialLemmas

@@ -75,31 +75,36 @@ block_meaning b = record {
   finish = finished;
 }
 
--- the same of the blocks of bad will; `odd` is a box and has the names of one
+-- the same of the blocks of bad will; `odd` is a box and has the names of one, `early` is a `swap` whose end has its divider's name
 abbrev pub hostile_start_of : HostileBlocks → List ℕ
 hostile_start_of (hostile.Plain b) = start_of b
 hostile_start_of hostile.Far = codes "far"
 hostile_start_of hostile.Odd = codes "box"
+hostile_start_of hostile.Early = codes "early"
 
 abbrev pub hostile_end_of : HostileBlocks → List ℕ
 hostile_end_of (hostile.Plain b) = end_of b
 hostile_end_of hostile.Far = codes "endfar"
 hostile_end_of hostile.Odd = codes "endbox"
+hostile_end_of hostile.Early = codes "mid"
 
 abbrev pub hostile_dividers_of : HostileBlocks → List (List ℕ)
 hostile_dividers_of (hostile.Plain b) = dividers_of b
 hostile_dividers_of hostile.Far = []
 hostile_dividers_of hostile.Odd = []
+hostile_dividers_of hostile.Early = codes "mid" ∷ []
 
 abbrev pub hostile_escapes_of : HostileBlocks → Bool
 hostile_escapes_of (hostile.Plain b) = escapes_of b
 hostile_escapes_of hostile.Far = false
 hostile_escapes_of hostile.Odd = false
+hostile_escapes_of hostile.Early = false
 
 abbrev pub hostile_begun : HostileBlocks → Tokens → Result HostileBlockShape Refusal
 hostile_begun (hostile.Plain b) ts = ok_then (begun b ts) (λ plan. Ok (hostile_shape.Plain plan))
 hostile_begun hostile.Far ts = nothing_for hostile_shape.Far ts
 hostile_begun hostile.Odd ts = nothing_for (hostile_shape.Plain shape.Box) ts
+hostile_begun hostile.Early ts = nothing_for (hostile_shape.Plain shape.Swap) ts
 
 abbrev pub hostile_finished : HostileBlockShape → Body → Result HostileBlockShape Refusal
 hostile_finished (hostile_shape.Plain plan) body = ok_then (finished plan body) (λ n. Ok (hostile_shape.Plain n))

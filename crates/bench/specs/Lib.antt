@@ -8,7 +8,6 @@ pub mod Blocks
 pub mod BlockLaws
 pub mod Hostile
 pub mod LeakLaw
-pub mod OnePartial
 pub mod Asked
 pub mod TagPlugins
 pub mod BlockPlugins

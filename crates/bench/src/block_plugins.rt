@@ -41,13 +41,14 @@ pub enum Blocks {
     Glob,
 }
 
-/// These blocks, and two of bad will. `Odd` is a box, and tells the names of one, whatever name it
-/// is registered by.
+/// These blocks, and three of bad will. `Odd` is a box, and tells the names of one, whatever name it
+/// is registered by. `Early` is a `swap` whose end is called as its divider is.
 #[derive(Debug, Clone, Copy, PartialEq, Eq)]
 pub enum HostileBlocks {
     Plain(Blocks),
     Far,
     Odd,
+    Early,
 }
 
 impl BlockReflection for Blocks {
@@ -182,6 +183,7 @@ impl BlockReflection for HostileBlocks {
             HostileBlocks::Plain(block) => block.start_tag(),
             HostileBlocks::Far => "far",
             HostileBlocks::Odd => "box",
+            HostileBlocks::Early => "early",
         }
     }
 
@@ -190,6 +192,7 @@ impl BlockReflection for HostileBlocks {
             HostileBlocks::Plain(block) => block.end_tag(),
             HostileBlocks::Far => "endfar",
             HostileBlocks::Odd => "endbox",
+            HostileBlocks::Early => "mid",
         }
     }
 
@@ -198,6 +201,7 @@ impl BlockReflection for HostileBlocks {
             HostileBlocks::Plain(block) => block.description(),
             HostileBlocks::Far => "Asks for a part that it does not have.",
             HostileBlocks::Odd => "A box by any name.",
+            HostileBlocks::Early => "Ends at its own divider.",
         }
     }
 }
@@ -211,7 +215,7 @@ impl<F: ParseFilter> ParseBlock<F> for HostileBlocks {
 
     fn dividers(&self) -> &[&str] {
         match self {
-            HostileBlocks::Plain(Blocks::Swap) => &MID,
+            HostileBlocks::Plain(Blocks::Swap) | HostileBlocks::Early => &MID,
             _ => &NO_DIVIDERS,
         }
     }
@@ -240,6 +244,7 @@ impl<F: ParseFilter> ParseBlock<F> for HostileBlocks {
             },
             HostileBlocks::Far => alone(alloc, tokens, HostileBlockNode::Far),
             HostileBlocks::Odd => alone(alloc, tokens, HostileBlockNode::Plain(BlockNode::Box)),
+            HostileBlocks::Early => alone(alloc, tokens, HostileBlockNode::Plain(BlockNode::Swap)),
         }
     }
 

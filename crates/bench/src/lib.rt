@@ -1,4 +1,4 @@
-//! Sinks, filters, tags, blocks and languages for tests, and the tests that cross the crates.
+//! Sinks, filters, tags, blocks and languages for tests.
 #![tactic(auto)]
 
 mod asked;
@@ -23,16 +23,3 @@ pub use laws::leak_is_not_discreet;
 pub use partial::OnePartial;
 pub use tag_plugins::{HostileTags, LeakyTags, Tags};
 pub use tags::{LeakyTagNode, TagNode};
-
-#[cfg(test)]
-mod chains;
-#[cfg(test)]
-mod frames;
-#[cfg(test)]
-mod node_rows;
-#[cfg(test)]
-mod rows;
-#[cfg(test)]
-mod sinks;
-#[cfg(test)]
-mod text_rows;

@@ -1,22 +1,27 @@
 -- What an insertion makes of the files in memory.
 use Rattle.std.proofs.Common.{◌≡◌, ℕ, Bool, true, false, cond, List, Option, Some, refl, ap, ◌∙◌, string_bytes}
-use Rattle.std.specs.Prelude.{String, option_map, if◌then◌else◌}
+use Rattle.std.specs.Prelude.{String, map, option_map, if◌then◌else◌}
 use Rattle.std.specs.Global.{Vec}
-use Rattle.std.specs.BTreeMap.{get_by_text, Updates}
+use Rattle.std.specs.BTreeMap.{BTreeMap, get_by_text, Updates}
 use Rattle.std.specs.Str.{bytes_eq}
 use Rattle.std.specs.String.{string_cmp}
 use Rattle.std.proofs.lemmas.Map.Text.{btree_map_updates_text}
 use Rattle.std.specs.declared.alloc.Global.{Global}
-use Rattle.liquid.specs.declared.in_memory.InMemoryFolder.{InMemoryFolder}
-use Rattle.liquid.specs.InMemory.{bytes_at}
 
-choose_items : (b : Bool) (file : Vec ℕ) (rest : Option (Vec ℕ)) → option_map (λ v. v.items) (cond b (Some file) rest) ≡ cond b (Some file.items) (option_map (λ v. v.items) rest)
-choose_items true file rest = refl
-choose_items false file rest = refl
+choose : {A B : Type 0} (f : A → B) (b : Bool) (x : A) (rest : Option A) → option_map f (cond b (Some x) rest) ≡ cond b (Some (f x)) (option_map f rest)
+choose f true x rest = refl
+choose f false x rest = refl
 
 -- the file stands at its path, and all others where they stood
-pub bytes_at-insert : (old new : InMemoryFolder) (k : String Global) (file : Vec ℕ) → Updates string_cmp old.files new.files k (Some file)
-    → (p : List ℕ) → bytes_at new p ≡ (if bytes_eq (string_bytes k) p then Some file.items else bytes_at old p)
+pub bytes_at-insert : (old new : BTreeMap (String Global) (Vec ℕ)) (k : String Global) (file : Vec ℕ) → Updates string_cmp old new k (Some file)
+    → (p : List ℕ) → option_map (λ v. v.items) (get_by_text new p) ≡ (if bytes_eq (string_bytes k) p then Some file.items else option_map (λ v. v.items) (get_by_text old p))
 bytes_at-insert old new k file updates p =
-    ap (option_map (λ v. v.items)) (btree_map_updates_text (string_bytes k) old.files new.files (Some file) updates p)
-    ∙ choose_items (bytes_eq (string_bytes k) p) file (get_by_text old.files p)
+    ap (option_map (λ v. v.items)) (btree_map_updates_text (string_bytes k) old new (Some file) updates p)
+    ∙ choose (λ v. v.items) (bytes_eq (string_bytes k) p) file (get_by_text old p)
+
+-- so does the list of a folder
+pub names_at-insert : (old new : BTreeMap (String Global) (Vec (String Global))) (k : String Global) (names : Vec (String Global)) → Updates string_cmp old new k (Some names)
+    → (p : List ℕ) → option_map (λ v. map string_bytes v.items) (get_by_text new p) ≡ (if bytes_eq (string_bytes k) p then Some (map string_bytes names.items) else option_map (λ v. map string_bytes v.items) (get_by_text old p))
+names_at-insert old new k names updates p =
+    ap (option_map (λ v. map string_bytes v.items)) (btree_map_updates_text (string_bytes k) old new (Some names) updates p)
+    ∙ choose (λ v. map string_bytes v.items) (bytes_eq (string_bytes k) p) names (get_by_text old p)

@@ -1,8 +1,9 @@
-pub mod AssignmentWords
-pub mod Assigned
-pub mod ObjectFacts
+pub mod CommandWords
 pub mod MemoryLemmas
-pub mod TreatmentLemmas
+pub mod GatheredLemmas
+pub mod FolderLemmas
+pub mod GlobalLemmas
+pub mod ExecutedLemmas
 pub mod UntouchedSinks
 pub mod FilesInMemory
 pub mod RunLemmas

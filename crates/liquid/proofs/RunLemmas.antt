@@ -2,35 +2,41 @@
 use Rattle.std.proofs.Common.{◌≡◌, ℕ, Bool, List, [], ◌++◌, Option, None, Some, Result, refl, sym, ap, subst, ◌∙◌}
 use Rattle.std.specs.Io.KnownBytes.{Appends, Keeps}
 use Rattle.liquid_error.specs.declared.error.Error.{Error}
-use Rattle.liquid_runtime.specs.Frames.{built_view}
 use Rattle.liquid_runtime.specs.Maps.{Names}
 use Rattle.liquid_runtime.specs.View.{View}
 use Rattle.liquid_parser.specs.Lang.{Lang}
 use Rattle.liquid_parser.specs.Reading.{Reads}
 use Rattle.liquid_template.specs.Grows.{Grows}
-use Rattle.liquid_template.specs.Nodes.{Setting}
 use Rattle.liquid_template.specs.Sunk.{Sunk, sunk}
 use Rattle.bench.specs.declared.filters.AnyShape.{AnyShape}
 use Rattle.bench.specs.declared.tags.TagShape.{TagShape}
 use Rattle.bench.specs.declared.blocks.BlockShape.{BlockShape}
-use Rattle.bench.specs.declared.blocks.Stage.{Stage}
-use Rattle.bench.specs.ProgramLanguage.{ProgramAnswer, program_language, program_setting}
+use Rattle.bench.specs.ProgramLanguage.{ProgramAnswer, program_language}
 use Rattle.liquid_source.specs.Rendered.{Rendered}
-use Rattle.liquid.specs.Program.{Renders, Runs, Prints, built_over}
+use Rattle.liquid_partials.specs.Compiled.{Compiled}
+use Rattle.liquid_partials.specs.Sources.{Texts}
+use Rattle.liquid_partials.proofs.StoreLemmas.{one_store}
+use Rattle.liquid.specs.Program.{ProgramFound, setting_over, IsFoundIn, Renders, Runs, Prints, built_over}
 use Rattle.liquid.specs.Status.{settled}
 
--- a language that means the program's, a setting that is the program's, and the view of a built runtime
-pub Renders-over : (l : Lang AnyShape TagShape BlockShape BlockShape) (s : Setting (Unit {0}) AnyShape TagShape ℕ BlockShape Stage) (v left : View (Unit {0})) (depth : ℕ) (names globals : Names) (text : List ℕ) (before after : Sunk) (result : Result (Unit {0}) Error)
-    → ((answer : ProgramAnswer) → Reads l text answer → Rendered s answer v before after left result)
-    → l ≡ program_language → s ≡ program_setting → v ≡ built_view tt depth names → depth ≡ 32 → names ≡ globals
-    → Renders text globals before after result
-Renders-over l s v left depth names globals text before after result given same_l same_s built same_depth same_names =
-    let same_v : v ≡ built_over globals = built ∙ ap (λ d. built_view tt d names) same_depth ∙ ap (λ n. built_view tt 32 n) same_names in
+-- a source has at most one store
+one_found : (partials : Option Texts) (found other : Option ProgramFound) → IsFoundIn partials found → IsFoundIn partials other → found ≡ other
+one_found None found other is also = is ∙ sym also
+one_found (Some texts) None other is also = absurd is
+one_found (Some texts) (Some found) None is also = absurd also
+one_found (Some texts) (Some found) (Some other) is also = ap Some (sym (one_store program_language texts found other is also))
+
+-- a language that means the program's, what the runtime's store finds, and the view of a built runtime
+pub Renders-over : (l : Lang AnyShape TagShape BlockShape BlockShape) (stored : Option ProgramFound) (v left : View (Unit {0})) (names : Names) (partials : Option Texts) (text : List ℕ) (before after : Sunk) (result : Result (Unit {0}) Error) (found : Option ProgramFound)
+    → ((answer : ProgramAnswer) → Reads l text answer → Rendered (setting_over stored) answer v before after left result)
+    → l ≡ program_language → stored ≡ found → v ≡ built_over names → IsFoundIn partials found
+    → Renders text names partials before after result
+Renders-over l stored v left names partials text before after result found given same_l same_stored same_v is_found =
     record {
       left = left;
-      rendered = λ answer reads.
-          subst (λ w. Rendered program_setting answer w before after left result) same_v
-          (subst (λ t. Rendered t answer v before after left result) same_s (given answer (subst (λ m. Reads m text answer) (sym same_l) reads)));
+      rendered = λ answer reads other is_other.
+          subst (λ w. Rendered (setting_over other) answer w before after left result) same_v
+          (subst (λ t. Rendered (setting_over t) answer v before after left result) (same_stored ∙ one_found partials found other is_found is_other) (given answer (subst (λ m. Reads m text answer) (sym same_l) reads)));
     }
 
 appends_kept : (before between after : Option (List ℕ)) (more : List ℕ) → Appends before between more → Keeps between after → Appends before after more
@@ -40,12 +46,12 @@ appends_kept (Some x) (Some y) None more appended kept = absurd kept
 appends_kept (Some x) (Some y) (Some z) more appended kept = kept ∙ appended
 
 -- a run over a sink that has taken nothing, then a flush
-pub Prints-settled : (words : List (List ℕ)) (known : List ℕ → Option (Option (List ℕ))) (taken : List ℕ) (failures : ℕ) (behind : Option (List ℕ)) (lent : List ℕ)
+pub Prints-settled : (words : List (List ℕ)) (known : List ℕ → Option (Option (List ℕ))) (listed : List ℕ → Option (Option (List (List ℕ)))) (taken : List ℕ) (failures : ℕ) (behind : Option (List ℕ)) (lent : List ℕ)
     (taken_after : List ℕ) (failures_after : ℕ) (behind_after : Option (List ℕ)) (lent_after : List ℕ) (before between after : Option (List ℕ)) (answered status : ℕ) (flushed : Bool)
-    → Runs words known (sunk taken failures behind lent) (sunk taken_after failures_after behind_after lent_after) answered
+    → Runs words known listed (sunk taken failures behind lent) (sunk taken_after failures_after behind_after lent_after) answered
     → taken ≡ [] → failures ≡ 0 → behind ≡ before → lent_after ≡ lent → Grows taken behind taken_after behind_after → between ≡ behind_after → Keeps between after
-    → status ≡ settled answered flushed → Prints words known before after status
-Prints-settled words known taken failures behind lent taken_after failures_after behind_after lent_after before between after answered status flushed runs nothing none same_before same_lent grows same_between kept is =
+    → status ≡ settled answered flushed → Prints words known listed before after status
+Prints-settled words known listed taken failures behind lent taken_after failures_after behind_after lent_after before between after answered status flushed runs nothing none same_before same_lent grows same_between kept is =
     let start : sunk taken failures behind lent ≡ sunk [] 0 before lent = rw nothing (rw none (rw same_before refl)) in
     let stop : sunk taken_after failures_after behind_after lent_after ≡ sunk taken_after failures_after behind_after lent = rw same_lent refl in
     record {
@@ -60,7 +66,14 @@ Prints-settled words known taken failures behind lent taken_after failures_after
           (appends_kept before between after grows.more
           (subst (λ b. Appends before b grows.more) (sym same_between) (subst (λ b. Appends b behind_after grows.more) same_before grows.behind_is)) kept);
       runs =
-          subst (λ s. Runs words known s (sunk taken_after failures_after behind_after lent) answered) start
-          (subst (λ s. Runs words known (sunk taken failures behind lent) s answered) stop runs);
+          subst (λ s. Runs words known listed s (sunk taken_after failures_after behind_after lent) answered) start
+          (subst (λ s. Runs words known listed (sunk taken failures behind lent) s answered) stop runs);
       status_is = is;
     }
+
+-- a store that was compiled of the partials
+pub found_in : (partials : Option Texts) (source texts : Texts) (l : Lang AnyShape TagShape BlockShape BlockShape) (found : ProgramFound)
+    → partials ≡ Some source → texts ≡ source → l ≡ program_language → Compiled l texts found → IsFoundIn partials (Some found)
+found_in partials source texts l found is same_texts same_l compiled =
+    subst (λ p. IsFoundIn p (Some found)) (sym is)
+    (subst (λ t. Compiled program_language t found) same_texts (subst (λ m. Compiled m texts found) same_l compiled))

@@ -1,22 +1,7 @@
--- The command line `render TEMPLATE [NAME=TEXT]...`.
-use Rattle.std.specs.Prelude.{◌==◌, ◌&&◌, ℕ, List, [], ◌∷◌, Bool, false, not, length, codes, nat_eq, nat_lt}
+-- The command line `render TEMPLATE GLOBALS.json [DIR]`.
+use Rattle.std.specs.Prelude.{◌&&◌, ℕ, List, [], ◌∷◌, Bool, false, not, Option, None, Some, codes, nat_eq}
 use Rattle.std.specs.Str.{bytes_eq}
-use Rattle.std.specs.List.{list_all, starts_with, position_or_len, before_first, after_first}
-
--- `=`
-abbrev pub is_equals : ℕ → Bool
-is_equals b = b == 61
-
--- `NAME=TEXT`: an `=` stands in the word, and not at its beginning
-abbrev pub is_assignment : List ℕ → Bool
-is_assignment word = nat_lt 0 (position_or_len is_equals word) && nat_lt (position_or_len is_equals word) (length word)
-
--- the name stands before the first `=`, the text behind it
-abbrev pub name_of : List ℕ → List ℕ
-name_of word = before_first is_equals word
-
-abbrev pub text_of : List ℕ → List ℕ
-text_of word = after_first is_equals word
+use Rattle.std.specs.List.{starts_with}
 
 -- `render`
 abbrev pub is_verb : List ℕ → Bool
@@ -28,6 +13,19 @@ is_path word = not (starts_with nat_eq word (codes "--"))
 
 -- whether the words are a command
 abbrev pub is_command : List (List ℕ) → Bool
-is_command [] = false
-is_command (verb ∷ []) = false
-is_command (verb ∷ template ∷ assignments) = is_verb verb && (is_path template && list_all is_assignment assignments)
+is_command (verb ∷ template ∷ globals ∷ []) = is_verb verb && is_path template
+is_command (verb ∷ template ∷ globals ∷ folder ∷ []) = is_verb verb && is_path template
+is_command other = false
+
+-- a word that may be left out
+abbrev pub option_words : Option (List ℕ) → List (List ℕ)
+option_words None = []
+option_words (Some word) = word ∷ []
+
+abbrev pub first_word : List (List ℕ) → Option (List ℕ)
+first_word [] = None
+first_word (word ∷ words) = Some word
+
+-- the words of a command by its paths
+abbrev pub command_words : List ℕ → List ℕ → Option (List ℕ) → List (List ℕ)
+command_words template globals folder = codes "render" ∷ template ∷ globals ∷ option_words folder

@@ -1,20 +1,20 @@
--- The globals that the words of a command set.
-use Rattle.std.specs.Prelude.{ℕ, List, Option, None, Some, reverse, if◌then◌else◌}
-use Rattle.std.specs.List.{filter_map}
-use Rattle.std.specs.FinMap.{from_entries, insert}
-use Rattle.liquid_scalar.specs.Scalar.{text}
-use Rattle.liquid_value.specs.Tree.{Tree, scalar}
+-- The globals that a text of JSON gives.
+use Rattle.std.specs.Prelude.{ℕ, List, [], ◌∷◌, Option, Result, option_map}
+use Rattle.std.specs.FinMap.{from_entries}
+use Rattle.serde_json.specs.Read.{read}
+use Rattle.liquid_error.specs.Refusal.{Refusal}
+use Rattle.liquid_value.specs.Tree.{Tree, Members, no_members, member}
 use Rattle.liquid_runtime.specs.Maps.{Names}
-use Rattle.liquid.specs.Command.{is_assignment, name_of, text_of}
+use Rattle.liquid_json.specs.Given.{object_given}
 
--- the name and the text that a word sets
-abbrev pub global_of : List ℕ → Option (List ℕ × Tree)
-global_of word = if is_assignment word then Some (name_of word, scalar (text (text_of word))) else None
+abbrev pub entries_of : Members → List (List ℕ × Tree)
+entries_of no_members = []
+entries_of (member name t ms) = (name, t) ∷ entries_of ms
 
--- the names with the global that the word sets
-abbrev pub assigned : Names → List ℕ → Names
-assigned names word = if is_assignment word then insert names (name_of word) (scalar (text (text_of word))) else names
+-- the members of an object as names with their values
+abbrev pub global_names : Members → Names
+global_names ms = from_entries (entries_of ms)
 
--- the globals of all words; of two with one name the later one
-abbrev pub globals_of : List (List ℕ) → Names
-globals_of words = from_entries (filter_map global_of (reverse words))
+-- the object that a text is, a refusal of what it is instead, or none where it is no JSON
+abbrev pub object_read : List ℕ → Option (Result Members Refusal)
+object_read text = option_map object_given (read text)

@@ -1,25 +1,13 @@
-ghost use Rattle.std.specs.Prelude.{◌≡◌, ◌++◌, ◌∷◌, [], ℕ, List, Option, None, Some, map, string_bytes, option_map, IfSome, is_some, IsTrue, ◌↔◌, codes};
-ghost use Rattle.std.specs.List.{list_all};
-ghost use Rattle.liquid.specs.Command.{is_command, is_assignment, is_path, is_verb, name_of, text_of};
+ghost use Rattle.std.specs.Prelude.{◌≡◌, ◌∷◌, IfSome, is_some, map, option_map, string_bytes};
+ghost use Rattle.liquid.specs.Command.{command_words, first_word, is_command, is_path, is_verb};
 
-/// `render TEMPLATE [NAME=TEXT]...`: the path of a template, and the words that set globals.
+/// `render TEMPLATE GLOBALS.json [DIR]`: the paths of a template, of its globals and of the folder of
+/// its partials, if there is one.
 #[derive(Clone, Copy)]
 pub struct Command<'w> {
     pub template: &'w str,
-    pub assignments: &'w [String],
-}
-
-/// The name and the text of `NAME=TEXT`: the name stands before the first `=` and is not empty.
-pub fn assignment(word: &str) -> Option<(&str, &str)>
-    ensures test { is_some result ≡ is_assignment word.now }
-    ensures parts { IfSome result (λ p. (p.0.now ≡ name_of word.now) × (p.1.now ≡ text_of word.now)) }
-{
-    let (name, text) = word.split_once('=')?;
-    if name.is_empty() {
-        None
-    } else {
-        Some((name, text))
-    }
+    pub globals: &'w str,
+    pub folder: Option<&'w str>,
 }
 
 fn is_verb(word: &str) -> bool
@@ -34,17 +22,19 @@ fn is_path(word: &str) -> bool
     !word.starts_with("--")
 }
 
-fn are_assignments(words: &[String]) -> bool
-    ensures { result ≡ list_all (λ w. is_assignment (string_bytes w)) words.now }
+fn is_command(verb: &str, template: &str, globals: &str, rest: &[String]) -> bool
+    ensures { result ≡ is_command (verb.now ∷ template.now ∷ globals.now ∷ map string_bytes rest.now) }
 {
-    words.iter().all(|word| assignment(word.as_str()).is_some())
+    is_verb(verb) && is_path(template) && rest.len() < 2
 }
 
-#[tactic(auto, using(crate::proofs::AssignmentWords::assignments_map))]
-fn is_command(verb: &str, template: &str, assignments: &[String]) -> bool
-    ensures { result ≡ is_command (verb.now ∷ template.now ∷ map string_bytes assignments.now) }
+fn first_of(words: &[String]) -> Option<&str>
+    ensures { option_map (λ word. word.now) result ≡ first_word (map string_bytes words.now) }
 {
-    is_verb(verb) && is_path(template) && are_assignments(assignments)
+    match words.first() {
+        Some(word) => Some(word.as_str()),
+        None => None,
+    }
 }
 
 impl<'w> Command<'w> {
@@ -52,14 +42,16 @@ impl<'w> Command<'w> {
     pub fn from_words(words: &'w [String]) -> Option<Command<'w>>
         ensures test { is_some result ≡ is_command (map string_bytes words.now) }
         ensures words { IfSome result (λ c. map string_bytes words.now
-            ≡ codes "render" ∷ c.template.now ∷ map string_bytes c.assignments.now) }
+            ≡ command_words c.template.now c.globals.now (option_map (λ f. f.now) c.folder)) }
     {
         let (verb, rest) = words.split_first()?;
-        let (template, assignments) = rest.split_first()?;
-        if is_command(verb.as_str(), template.as_str(), assignments) {
+        let (template, rest) = rest.split_first()?;
+        let (globals, rest) = rest.split_first()?;
+        if is_command(verb.as_str(), template.as_str(), globals.as_str(), rest) {
             Some(Command {
                 template: template.as_str(),
-                assignments,
+                globals: globals.as_str(),
+                folder: first_of(rest),
             })
         } else {
             None

@@ -9,11 +9,20 @@ pub enum Fault<'w> {
     #[error("{0}")]
     Refused(Error),
     /// The words are no command.
-    #[error("usage: liquid render TEMPLATE [NAME=TEXT]...\n")]
+    #[error("usage: liquid render TEMPLATE GLOBALS.json [DIR]\n")]
     Usage,
-    /// The file at this path can't be read as text.
+    /// The file at this path can't be read as text, or no list of the folder at it.
     #[error("liquid: cannot read {0}\n")]
     Unreadable(&'w str),
+    /// The same of a file in a folder.
+    #[error("liquid: cannot read {0}\n")]
+    UnreadableInFolder(String),
+    /// The text of the file at this path is no JSON.
+    #[error("liquid: bad JSON in {0}\n")]
+    BadJson(&'w str),
+    /// The JSON of the globals is no object of values.
+    #[error("{0}")]
+    NoGlobals(Error),
 }
 
 impl Fault<'_> {
@@ -26,7 +35,10 @@ impl Fault<'_> {
         match self {
             Fault::Refused(_) => 1,
             Fault::Usage => 2,
-            Fault::Unreadable(_) => 3,
+            Fault::Unreadable(_)
+            | Fault::UnreadableInFolder(_)
+            | Fault::BadJson(_)
+            | Fault::NoGlobals(_) => 3,
         }
     }
 }

@@ -1,28 +1,31 @@
 //! Files in memory, and the program run over them.
-ghost use Rattle.std.specs.Prelude.{◌≡◌, ◌↔◌, List, ℕ, [], None, Some, OnOk, OnErr, false, map, string_bytes, if◌then◌else◌};
+ghost use Rattle.std.specs.Prelude.{◌≡◌, ◌↔◌, List, ℕ, [], None, Some, OnOk, OnErr, IfOk, false, map, string_bytes, if◌then◌else◌};
 ghost use Rattle.std.specs.Str.{bytes_eq};
 ghost use Rattle.liquid.specs.Command.{is_command};
-ghost use Rattle.liquid.specs.InMemory.{bytes_at, Shows};
+ghost use Rattle.liquid.specs.InMemory.{bytes_at, names_at, Shows};
 
 use crate::folder::{Folder, Unread};
 use crate::run::run;
 use std::alloc::{AllocError, Global};
 use std::collections::BTreeMap;
 
-/// Files in memory, by their paths. What they hold is known, so what is proved of a run over them
-/// names their bytes.
+/// Files in memory, and lists of the names in folders, by their paths. What they hold is known, so
+/// what is proved of a run over them names their bytes.
 #[derive(Drop)]
 pub struct InMemoryFolder {
     files: BTreeMap<String, Vec<u8>>,
+    folders: BTreeMap<String, Vec<String>>,
 }
 
 impl InMemoryFolder {
-    /// A folder without files. Takes no memory.
+    /// A folder without files and lists. Takes no memory.
     pub fn new(alloc: Global) -> InMemoryFolder
-        ensures { (path : List ℕ) → bytes_at result path ≡ None }
+        ensures files { (path : List ℕ) → bytes_at result path ≡ None }
+        ensures folders { (path : List ℕ) → names_at result path ≡ None }
     {
         InMemoryFolder {
             files: BTreeMap::new(alloc),
+            folders: BTreeMap::new(alloc),
         }
     }
 
@@ -32,9 +35,27 @@ impl InMemoryFolder {
         ensures added { OnOk result ((p : List ℕ) → bytes_at self.new p
             ≡ (if bytes_eq path.now p then Some bytes.now else bytes_at self.old p)) }
         ensures kept { OnErr result ((p : List ℕ) → bytes_at self.new p ≡ bytes_at self.old p) }
+        ensures folders { (p : List ℕ) → names_at self.new p ≡ names_at self.old p }
     {
         let bytes = bytes.to_vec(alloc)?;
         self.files.insert(String::from_str(alloc, path)?, bytes)?;
+        Ok(())
+    }
+
+    /// Puts the list of the names in a folder at its path, in place of the one that stands there; the
+    /// files themselves are added by `add`. Where memory runs out the lists stay as they were.
+    pub fn add_list(
+        &mut self,
+        alloc: Global,
+        path: &str,
+        names: Vec<String>,
+    ) -> Result<(), AllocError>
+        ensures added { OnOk result ((p : List ℕ) → names_at self.new p
+            ≡ (if bytes_eq path.now p then Some (map string_bytes names.items) else names_at self.old p)) }
+        ensures kept { OnErr result ((p : List ℕ) → names_at self.new p ≡ names_at self.old p) }
+        ensures files { (p : List ℕ) → bytes_at self.new p ≡ bytes_at self.old p }
+    {
+        self.folders.insert(String::from_str(alloc, path)?, names)?;
         Ok(())
     }
 }
@@ -42,12 +63,31 @@ impl InMemoryFolder {
 impl Folder for InMemoryFolder {
     ghost known = { λ folder path. Some (bytes_at folder path) };
 
+    ghost listed = { λ folder path. Some (names_at folder path) };
+
     fn read(&mut self, alloc: Global, path: &str) -> Result<Vec<u8>, Unread> {
         match self.files.get(path) {
             Some(bytes) => bytes.to_vec(alloc).map_err(|_| Unread::Memory),
             None => Err(Unread::Fault),
         }
     }
+
+    fn list(&mut self, alloc: Global, path: &str) -> Result<Vec<String>, Unread> {
+        match self.folders.get(path) {
+            Some(names) => copied(alloc, names).map_err(|_| Unread::Memory),
+            None => Err(Unread::Fault),
+        }
+    }
+}
+
+fn copied(alloc: Global, names: &Vec<String>) -> Result<Vec<String>, AllocError>
+    ensures { IfOk result (λ copies. map string_bytes copies.items ≡ map string_bytes names.now.items) }
+{
+    let mut copies = Vec::with_capacity(alloc, names.len())?;
+    for name in names {
+        copies.push(name.clone()?)?;
+    }
+    Ok(copies)
 }
 
 /// What a run of the program came to: its status, and what it wrote to its output and to its error
@@ -62,7 +102,7 @@ pub struct Ran {
 /// Runs the words over files in memory, with both streams in memory, as `run` does.
 pub fn run_in_memory(alloc: Global, words: &[String], files: &mut InMemoryFolder) -> Ran
     ensures usage { (result.status ≡ 2) ↔ (is_command (map string_bytes words.now) ≡ false) }
-    ensures shows { Shows (map string_bytes words.now) (bytes_at files.old) result.out.items result.status }
+    ensures shows { Shows (map string_bytes words.now) (bytes_at files.old) (names_at files.old) result.out.items result.status }
     ensures quiet { result.status ≡ 0 → result.err.items ≡ [] }
 {
     let mut out = Vec::new(alloc);

@@ -4,7 +4,7 @@ ghost use Rattle.std.specs.IoError.{error_kind};
 
 use crate::folder::{Folder, Unread};
 use std::alloc::Global;
-use std::fs::{File, OpenFile};
+use std::fs::{self, DirEntry, File, OpenFile};
 use std::io::{self, ErrorKind, Read};
 use std::rt::Files;
 
@@ -40,11 +40,33 @@ fn room_for<F: OpenFile>(alloc: Global, file: &F) -> Vec<u8>
     }
 }
 
-impl<R: Files> Folder for Machine<'_, R> {
+// Whether the entry is no file. One of which nothing is told counts as a file, so that it is its read
+// that is refused.
+fn is_passed_over<R: Files>(rt: &R, entry: &DirEntry<R>) -> bool {
+    match fs::metadata(rt, entry.path()) {
+        Ok(metadata) => !metadata.is_file(),
+        Err(_) => false,
+    }
+}
+
+impl<R: Files + AllocGlobal + Clone + Drop> Folder for Machine<'_, R> {
     fn read(&mut self, alloc: Global, path: &str) -> Result<Vec<u8>, Unread> {
         let mut file = File::open(self.rt, path).map_err(unread)?;
         let mut bytes = room_for(alloc, &file);
         file.read_to_end(&mut bytes).map_err(unread)?;
         Ok(bytes)
+    }
+
+    fn list(&mut self, alloc: Global, path: &str) -> Result<Vec<String>, Unread> {
+        let mut names = Vec::new(alloc);
+        for entry in fs::read_dir(self.rt, path).map_err(unread)? {
+            let entry = entry.map_err(unread)?;
+            if !is_passed_over(self.rt, &entry) {
+                let name = String::from_str(alloc, entry.file_name());
+                let name = name.map_err(|_| Unread::Memory)?;
+                names.push(name).map_err(|_| Unread::Memory)?;
+            }
+        }
+        Ok(names)
     }
 }

@@ -4,7 +4,7 @@
 pub mod command;
 pub mod fault;
 pub mod folder;
-pub mod globals;
+pub mod gather;
 pub mod in_memory;
 pub mod machine;
 pub mod run;

@@ -1,35 +1,50 @@
-ghost use Rattle.std.specs.Prelude.{◌≡◌, ◌≢◌, ◌↔◌, Some, false, is_ok, map, string_bytes};
+ghost use Rattle.std.specs.Prelude.{◌≡◌, ◌≢◌, ◌↔◌, false, is_ok, map, option_map, string_bytes, IfOk};
+ghost use Rattle.liquid_runtime.specs.Frames.{built_view};
 ghost use Rattle.liquid_runtime.specs.Maps.{names_of};
 ghost use Rattle.liquid_template.specs.Grows.{Grows};
 ghost use Rattle.liquid_template.specs.Sunk.{sunk};
 ghost use Rattle.bench.specs.ProgramLanguage.{meaning_of, program_language};
-ghost use Rattle.liquid.specs.Command.{is_command};
-ghost use Rattle.liquid.specs.Globals.{globals_of};
-ghost use Rattle.liquid.specs.Program.{Prints, Renders, Treats, Runs};
+ghost use Rattle.liquid.specs.Command.{command_words, is_command};
+ghost use Rattle.liquid.specs.Program.{Prints, Renders, Executes, IsFoundIn, Runs};
 ghost use Rattle.liquid.specs.Status.{exit_status, settled};
 
 use crate::command::Command;
 use crate::fault::Fault;
-use crate::folder::{Folder, Unread};
-use crate::globals::globals;
-use bench::{Blocks, Filters, Tags, language};
+use crate::folder::Folder;
+use crate::gather::{globals_of, partials_of, text_of};
+use bench::blocks::BlockNode;
+use bench::filters::AnyFilter;
+use bench::languages::language;
+use bench::tags::TagNode;
+use bench::{Blocks, Filters, Tags};
 use liquid_core::parser::Language;
-use liquid_core::runtime::{BuiltRuntime, RuntimeBuilder};
-use liquid_core::{Error, Object, Sink, WriterSink, render_source};
-use std::alloc::Global;
+use liquid_core::partials::{InMemorySource, OnDemandCompiler, OnDemandStore, PartialCompiler};
+use liquid_core::runtime::{BuiltRuntime, Runtime, RuntimeBuilder};
+use liquid_core::{Error, Object, PartialStore, Sink, WriterSink, render_source};
+use std::alloc::{AllocError, Global};
 use std::io::{self, Write};
+use std::rc::Rc;
 
-/// Runs the command that the words behind the program's name give: `render TEMPLATE [NAME=TEXT]...`
-/// writes the template at that path to `out`, with each NAME a global text.
+/// The program's language.
+type ProgramLanguage = Language<Filters, Tags, Blocks>;
+
+/// The program's store of partials.
+type Store = OnDemandStore<InMemorySource, Filters, Tags, Blocks>;
+
+/// Runs the command that the words behind the program's name give: `render TEMPLATE GLOBALS.json [DIR]`
+/// writes the template at that path to `out`, over the globals that the JSON object gives. Each file
+/// directly in the folder DIR is a partial under its file name.
 ///
 /// It answers the exit status: 0 where the template was rendered; 1 where parsing or rendering was
 /// refused, with the error's text on `err`; 2 where the words are no command, with the usage on
-/// `err`; 3 where the template can't be read as UTF-8 text, with its path on `err`. What was written
-/// before a refusal stays written. A fault of `err` changes no status, and with status 0 nothing is
-/// written to `err`.
+/// `err`; 3 where a file can't be read as UTF-8 text, or the globals are no JSON, with the path on
+/// `err`, and where the JSON is no object of values, with the error's text. The files are read in
+/// their order, each is turned into what it stands for before the next is read, and the first fault
+/// is answered. What was written before a refusal stays written. A fault of `err` changes no status,
+/// and with status 0 nothing is written to `err`.
 ///
 /// Want of memory has status 1, wherever it strikes. When it does is left open, and so is which of 3
-/// and 1 is answered where the template can't be read as text.
+/// and 1 is answered where a file can't be read as what it is to be.
 ///
 /// `out` is flushed before anything is written to `err`. Where that fails, a template that was
 /// rendered or refused is answered as at a sink that fails: with status 1 and "Failed to render".
@@ -41,7 +56,7 @@ pub fn run<F: Folder, W: Write, E: Write>(
     err: &mut E,
 ) -> u8
     ensures usage { (result ≡ 2) ↔ (is_command (map string_bytes words.now) ≡ false) }
-    ensures prints { Prints (map string_bytes words.now) (F.known files.old)
+    ensures prints { Prints (map string_bytes words.now) (F.known files.old) (F.listed files.old)
         (W.contents out.old) (W.contents out.new) result }
     ensures quiet { result ≡ 0 → err.new ≡ err.old }
 {
@@ -60,7 +75,7 @@ pub fn run_to<F: Folder, K: Sink, E: Write>(
     err: &mut E,
 ) -> u8
     ensures usage { (result ≡ 2) ↔ (is_command (map string_bytes words.now) ≡ false) }
-    ensures runs { Runs (map string_bytes words.now) (F.known files.old)
+    ensures runs { Runs (map string_bytes words.now) (F.known files.old) (F.listed files.old)
         (sunk (K.taken sink.old) (K.failures sink.old) (K.behind sink.old) (K.lent sink.old)) (sunk (K.taken sink.new) (K.failures sink.new) (K.behind sink.new) (K.lent sink.new)) result }
     ensures quiet { result ≡ 0 → err.new ≡ err.old }
     ensures behind { Grows (K.taken sink.old) (K.behind sink.old) (K.taken sink.new) (K.behind sink.new) }
@@ -108,115 +123,116 @@ fn attempt<'w, F: Folder, K: Sink>(
     sink: &mut K,
 ) -> Result<(), Fault<'w>>
     ensures usage { (exit_status result ≡ 2) ↔ (is_command (map string_bytes words.now) ≡ false) }
-    ensures runs { Runs (map string_bytes words.now) (F.known files.old)
+    ensures runs { Runs (map string_bytes words.now) (F.known files.old) (F.listed files.old)
         (sunk (K.taken sink.old) (K.failures sink.old) (K.behind sink.old) (K.lent sink.old)) (sunk (K.taken sink.new) (K.failures sink.new) (K.behind sink.new) (K.lent sink.new)) (exit_status result) }
     ensures behind { Grows (K.taken sink.old) (K.behind sink.old) (K.taken sink.new) (K.behind sink.new) }
     ensures lent { K.lent sink.new ≡ K.lent sink.old }
 {
     match Command::from_words(words) {
-        Some(command) => render_file(alloc, command.template, command.assignments, files, sink),
+        Some(command) => execute(alloc, command, files, sink),
         None => Err(Fault::Usage),
     }
 }
 
-/// Reads the template and writes what it comes to.
+/// Reads what the command names, and writes what its template comes to.
 #[tactic(auto, using(crate::proofs::UntouchedSinks::untouched))]
-fn render_file<'w, F: Folder, K: Sink>(
+fn execute<'w, F: Folder, K: Sink>(
     alloc: Global,
-    template: &'w str,
-    assignments: &[String],
+    command: Command<'w>,
     files: &mut F,
     sink: &mut K,
 ) -> Result<(), Fault<'w>>
     ensures command { exit_status result ≢ 2 }
-    ensures treats { Treats (F.known files.old template.now) (globals_of (map string_bytes assignments.now))
+    ensures executes { Executes (command_words command.entry.template.now command.entry.globals.now (option_map (λ f. f.now) command.entry.folder)) (F.known files.old) (F.listed files.old)
         (sunk (K.taken sink.old) (K.failures sink.old) (K.behind sink.old) (K.lent sink.old)) (sunk (K.taken sink.new) (K.failures sink.new) (K.behind sink.new) (K.lent sink.new)) (exit_status result) }
     ensures behind { Grows (K.taken sink.old) (K.behind sink.old) (K.taken sink.new) (K.behind sink.new) }
     ensures lent { K.lent sink.new ≡ K.lent sink.old }
 {
-    match files.read(alloc, template) {
-        Ok(bytes) => render_bytes(alloc, bytes.as_slice(), template, assignments, sink),
-        Err(Unread::Fault) => Err(Fault::Unreadable(template)),
-        Err(Unread::Memory) => Err(Fault::Refused(Error::Memory)),
+    let template = text_of(alloc, files, command.template)?;
+    let json = text_of(alloc, files, command.globals)?;
+    let globals = globals_of(alloc, json.as_str(), command.globals)?;
+    drop(json);
+    let partials = partials_of(alloc, files, command.folder)?;
+    match render_over(alloc, template.as_str(), globals, partials, sink) {
+        Ok(()) => Ok(()),
+        Err(error) => Err(Fault::Refused(error)),
     }
 }
 
-/// Writes what the bytes of a template come to.
-#[tactic(auto, using(crate::proofs::UntouchedSinks::untouched))]
-fn render_bytes<'w, K: Sink>(
-    alloc: Global,
-    bytes: &[u8],
-    template: &'w str,
-    assignments: &[String],
-    sink: &mut K,
-) -> Result<(), Fault<'w>>
-    ensures command { exit_status result ≢ 2 }
-    ensures treats { Treats (Some (Some bytes.now)) (globals_of (map string_bytes assignments.now))
-        (sunk (K.taken sink.old) (K.failures sink.old) (K.behind sink.old) (K.lent sink.old)) (sunk (K.taken sink.new) (K.failures sink.new) (K.behind sink.new) (K.lent sink.new)) (exit_status result) }
-    ensures behind { Grows (K.taken sink.old) (K.behind sink.old) (K.taken sink.new) (K.behind sink.new) }
-    ensures lent { K.lent sink.new ≡ K.lent sink.old }
-{
-    match str::from_utf8(bytes) {
-        Ok(text) => match render_text(alloc, text, assignments, sink) {
-            Ok(()) => Ok(()),
-            Err(error) => Err(Fault::Refused(error)),
-        },
-        Err(_) => Err(Fault::Unreadable(template)),
-    }
-}
-
-/// Writes what the text comes to, with the globals that the words set.
-#[tactic(auto, using(crate::proofs::UntouchedSinks::untouched))]
-fn render_text<K: Sink>(
-    alloc: Global,
-    text: &str,
-    assignments: &[String],
-    sink: &mut K,
-) -> Result<(), Error>
-    ensures renders { Renders text.now (globals_of (map string_bytes assignments.now))
-        (sunk (K.taken sink.old) (K.failures sink.old) (K.behind sink.old) (K.lent sink.old)) (sunk (K.taken sink.new) (K.failures sink.new) (K.behind sink.new) (K.lent sink.new)) result }
-    ensures behind { Grows (K.taken sink.old) (K.behind sink.old) (K.taken sink.new) (K.behind sink.new) }
-    ensures lent { K.lent sink.new ≡ K.lent sink.old }
-{
-    match globals(alloc, assignments) {
-        Ok(object) => render_over(alloc, text, object, sink),
-        Err(_) => Err(Error::Memory),
-    }
-}
-
-/// Writes what the text comes to over these globals.
+/// Writes what the text comes to over these globals and these partials.
 #[tactic(auto, using(crate::proofs::UntouchedSinks::untouched))]
 fn render_over<K: Sink>(
     alloc: Global,
     text: &str,
     globals: Object,
+    partials: Option<InMemorySource>,
     sink: &mut K,
 ) -> Result<(), Error>
-    ensures renders { Renders text.now (names_of globals)
+    ensures renders { Renders text.now (names_of globals) partials
         (sunk (K.taken sink.old) (K.failures sink.old) (K.behind sink.old) (K.lent sink.old)) (sunk (K.taken sink.new) (K.failures sink.new) (K.behind sink.new) (K.lent sink.new)) result }
     ensures behind { Grows (K.taken sink.old) (K.behind sink.old) (K.taken sink.new) (K.behind sink.new) }
     ensures lent { K.lent sink.new ≡ K.lent sink.old }
 {
-    match language(alloc) {
-        Ok(language) => render_in_language(alloc, text, &language, globals, sink),
+    match shared_language(alloc) {
+        Ok(language) => render_in_language(alloc, text, &language, globals, partials, sink),
         Err(_) => Err(Error::Memory),
     }
 }
 
+fn shared_language(alloc: Global) -> Result<Rc<ProgramLanguage>, AllocError>
+    ensures { IfOk result (λ language. meaning_of language.value ≡ program_language) }
+{
+    Ok(Rc::new(alloc, language(alloc)?)?)
+}
+
 /// Writes what the text comes to in the program's language.
+#[tactic(auto, using(crate::proofs::UntouchedSinks::untouched))]
 fn render_in_language<K: Sink>(
     alloc: Global,
     text: &str,
-    language: &Language<Filters, Tags, Blocks>,
+    language: &Rc<ProgramLanguage>,
     globals: Object,
+    partials: Option<InMemorySource>,
     sink: &mut K,
 ) -> Result<(), Error>
-    requires { meaning_of language.now ≡ program_language }
-    ensures renders { Renders text.now (names_of globals)
+    requires { meaning_of language.now.value ≡ program_language }
+    ensures renders { Renders text.now (names_of globals) partials
         (sunk (K.taken sink.old) (K.failures sink.old) (K.behind sink.old) (K.lent sink.old)) (sunk (K.taken sink.new) (K.failures sink.new) (K.behind sink.new) (K.lent sink.new)) result }
     ensures behind { Grows (K.taken sink.old) (K.behind sink.old) (K.taken sink.new) (K.behind sink.new) }
     ensures lent { K.lent sink.new ≡ K.lent sink.old }
 {
-    let mut runtime: BuiltRuntime<(), ()> = RuntimeBuilder::new(alloc).set_globals(globals).build();
-    render_source(alloc, text, language, &mut runtime, sink)
+    match store_of(alloc, language, partials) {
+        Ok(store) => {
+            let mut runtime = runtime_of(alloc, globals, store);
+            render_source(alloc, text, language, &mut runtime, sink)
+        }
+        Err(_) => Err(Error::Memory),
+    }
+}
+
+/// A store of the partials, if there are any, in this language.
+fn store_of(
+    alloc: Global,
+    language: &Rc<ProgramLanguage>,
+    partials: Option<InMemorySource>,
+) -> Result<Option<Store>, AllocError>
+    requires { meaning_of language.now.value ≡ program_language }
+    ensures { IfOk result (λ store. IsFoundIn partials (option_map ⟦<Store as PartialStore<AnyFilter, TagNode, BlockNode>>⟧.finds store)) }
+{
+    match partials {
+        Some(source) => Ok(Some(OnDemandCompiler::new(source).compile(alloc, language.clone()?)?)),
+        None => Ok(None),
+    }
+}
+
+/// The runtime over these globals and this store, if there is one.
+fn runtime_of(alloc: Global, globals: Object, store: Option<Store>) -> BuiltRuntime<(), Store>
+    ensures view { ⟦<BuiltRuntime<(), Store> as Runtime>⟧.view result ≡ built_view tt 32 (names_of globals) }
+    ensures store { ⟦<BuiltRuntime<(), Store> as Runtime>⟧.store result ≡ store }
+{
+    let builder = RuntimeBuilder::new(alloc).set_globals(globals);
+    match store {
+        Some(store) => builder.set_partials(store).build(),
+        None => builder.build(),
+    }
 }

@@ -17,6 +17,7 @@ pub mod error {
 /// Values.
 pub mod model {
     pub use liquid_dates::{Date, DateError, DateFormatError, DateTime};
+    pub use liquid_json::{from_value, into_object, into_value, to_object, to_scalar, to_value};
     pub use liquid_paths::{Path, PathIter, PathText, find, find_behind, step, try_find};
     pub use liquid_scalar::{Scalar, ScalarCow, ScalarOf, ScalarRender, ScalarSource, ScalarText};
     pub use liquid_value::contents::{is_empty_array, is_empty_object};
@@ -86,9 +87,19 @@ pub mod laws {
         };
     }
 
+    /// Of stores of partials.
+    pub mod partials {
+        pub use liquid_partials::{one_store, stores_agree};
+    }
+
     /// Of readings.
     pub mod parser {
         pub use liquid_parser::one_reading;
+    }
+
+    /// Of runs in a sandbox.
+    pub mod template {
+        pub use liquid_template::{outsides_agree, sandboxed_runs_are_isolated};
     }
 
     /// Of names and frames.
@@ -105,14 +116,24 @@ pub mod laws {
 /// what they are.
 pub mod parser {
     pub use liquid_parser::{
-        BLOCK_LIMIT, BlockBody, BlockReflection, Language, Node, ParseBlock, ParseTag, Tag,
-        TagReflection, TagToken, TagTokenIter, TryMatchToken, parse, parse_variable,
+        BLOCK_LIMIT, BlockBody, BlockElement, BlockReflection, Exp, InvalidLiquidToken, Language,
+        NoPlugin, Node, ParseBlock, ParseTag, Raw, Tag, TagBlock, TagReflection, TagToken,
+        TagTokenIter, TryMatchToken, parse, parse_variable,
     };
     pub use liquid_plugins::{
         Bytes, ChainMark, Discreet, Filter, FilterArguments, FilterChain, FilterParameters,
         FilterParametersReflection, FilterReflection, ListOf, Meant, ParameterReflection,
         ParseFilter, PluginNames, PluginRegistry, Plugins, TreeMark, call_filter,
     };
+}
+
+/// Partials: sources of texts, and the stores that are compiled of them.
+pub mod partials {
+    pub use liquid_partials::{
+        EagerCompiler, EagerStore, InMemorySource, OnDemandCompiler, OnDemandStore,
+        PartialCompiler, PartialSource,
+    };
+    pub use liquid_template::unknown_partial;
 }
 
 /// Names and frames, expressions, and templates rendered over them.
@@ -122,7 +143,7 @@ pub mod runtime {
         BuiltRuntime, Frame, Fresh, GlobalFrame, IndexFrame, Interrupt, InterruptRegister,
         Registers, Runtime, RuntimeBuilder, RuntimeCore, SandboxedStackFrame, Scopes, StackFrame,
     };
-    pub use liquid_scopes::ChainedScopes;
+    pub use liquid_scopes::{ChainedScopes, FlatScopes, Looks};
     pub use liquid_template::{PartialStore, Template};
 }
 

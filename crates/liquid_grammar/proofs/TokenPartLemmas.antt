@@ -13,7 +13,7 @@ use Rattle.liquid_grammar.specs.Steps.{both, right, left, white}
 use Rattle.liquid_grammar.specs.TokenSteps.{value, range_start, dots, range_end, ranged, chain_of, symbol_of}
 use Rattle.liquid_grammar.proofs.Exact.{none_begins, front_of, before_end, leaves_end}
 use Rattle.liquid_grammar.proofs.GrammarExact.{exact-white}
-use Rattle.liquid_grammar.proofs.TokenExact.{exact-value, exact-range, exact-chain, exact-symbol, exact-next_token}
+use Rattle.liquid_grammar.proofs.TokenExact.{exact-value, exact-range, exact-chain, exact-symbol, exact-token, exact-next_token}
 use Rattle.liquid_grammar.proofs.ValueScan.{scan_some, scan_none}
 use Rattle.liquid_grammar.proofs.Scanning.{both_some, right_some, left_found}
 use Rattle.liquid_grammar.proofs.FlatBrackets.{left_some, left_none}
@@ -93,12 +93,20 @@ no_token s none chainless symbolless b = go b.match
     go (instead _ (instead _ m)) = none_begins exact-symbol s (left_none (symbol_of s) symbolless) (record { rest = b.rest; shape = m.from.what; match = m.match.match })
 
 -- the tokens from here on begin with the one behind the white space
-pub token_first : (s place : List ℕ) (r : Option TokenText) → Some place ≡ option_map (λ p. p.1) (white s)
-    → MatchOption r (¬ (Begins TokenRule place)) (λ t. (token : Token) × TokenRule place t.rest.now token × (t.place.now ≡ place) × HasParts t.parts place t.rest.now token)
-    → (rest : List ℕ) (tokens : List Token) → Repeated (White ▷ TokenRule) s rest tokens
-    → MatchOption r (NoneLeft s rest tokens) (λ t. First (IsToken t) (Repeated (White ▷ TokenRule)) rest tokens)
-token_first s place None e none rest tokens m = none_left s rest tokens m (none_after exact-white s place e none)
-token_first s place (Some t) e found rest tokens m =
-    first_part exact-next_token (IsToken t) s t.rest.now rest found.0 tokens (after_begins exact-white s place t.rest.now found.0 e found.1)
-    (record { ends = refl; has = subst (λ p. HasParts t.parts p t.rest.now found.0) (sym found.2) found.3 })
+pub no_token_first : (s place rest : List ℕ) (tokens : List Token) → Some place ≡ option_map (λ p. p.1) (white s) → ¬ (Begins TokenRule place) → Repeated (White ▷ TokenRule) s rest tokens → NoneLeft s rest tokens
+no_token_first s place rest tokens e none m = none_left s rest tokens m (none_after exact-white s place e none)
+
+pub token_first : (s : List ℕ) (t : TokenText) → Some t.place.now ≡ option_map (λ p. p.1) (white s)
+    → (token : Token) × TokenRule t.place.now t.rest.now token × HasParts t.parts t.place.now t.rest.now token
+    → (rest : List ℕ) (tokens : List Token) → Repeated (White ▷ TokenRule) s rest tokens → First (IsToken t) (Repeated (White ▷ TokenRule)) rest tokens
+token_first s t e found rest tokens m =
+    first_part exact-next_token (IsToken t) s t.rest.now rest found.0 tokens (after_begins exact-white s t.place.now t.rest.now found.0 e found.1)
+    (record { ends = refl; has = found.2 })
     m
+
+-- what a token takes is the beginning of the text
+pub token_ends : (place rest : List ℕ) (token : Token) → TokenRule place rest token → place ≡ take (length place - length rest) place ++ rest
+token_ends place rest token m = before_end place rest (exact-token.cuts place rest token m)
+
+pub text_before : (place rest text : List ℕ) (token : Token) → TokenRule place rest token → text ≡ take (length place - length rest) place → place ≡ text ++ rest
+text_before place rest text token m is = token_ends place rest token m ∙ ap (λ t. t ++ rest) (sym is)

@@ -1,5 +1,5 @@
 //! The parts of a matched text, handed out from left to right, so that a builder walks the text once.
-ghost use Rattle.std.specs.Prelude.{◌≡◌, ℕ, false, List, ◌<◌, length, IfSome, MatchOption};
+ghost use Rattle.std.specs.Prelude.{◌≡◌, ℕ, false, List, ◌<◌, ◌++◌, length, IfSome, MatchOption};
 ghost use Rattle.liquid_grammar.specs.Rules.{Begins, Repeated, ◌▷◌};
 ghost use Rattle.liquid_grammar.specs.Grammar.{White};
 ghost use Rattle.liquid_grammar.specs.Values.{Value, Index, CloseBracket, ValueRule, IndexRule};
@@ -60,6 +60,8 @@ pub enum TokenParts<'a> {
 pub struct TokenText<'a> {
     /// The text from the token on.
     pub place: &'a str,
+    /// The text of the token.
+    pub text: &'a str,
     pub parts: TokenParts<'a>,
     /// What follows the token.
     pub rest: &'a str,
@@ -163,36 +165,32 @@ pub fn next_token(s: &str) -> Option<TokenText<'_>>
     ensures only { (rest : List ℕ) (tokens : List Token) → Repeated (White ▷ TokenRule) s.now rest tokens
         → MatchOption result (NoneLeft s.now rest tokens)
         (λ t. First (IsToken t) (Repeated (White ▷ TokenRule)) rest tokens) }
+    ensures cut { IfSome result (λ t. t.place.now ≡ t.text.now ++ t.rest.now) }
     ensures shorter { IfSome result (λ t. length t.rest.now < length s.now) }
 {
-    token_at(skip_white(s))
+    let place = skip_white(s);
+    let (parts, rest) = token_parts(place)?;
+    Some(TokenText {
+        place,
+        text: before(place, rest),
+        parts,
+        rest,
+    })
 }
 
-/// The token that stands here.
-fn token_at(place: &str) -> Option<TokenText<'_>>
+/// What the token that stands here is made of, and what follows it.
+fn token_parts(place: &str) -> Option<(TokenParts<'_>, &str)>
     ensures value { MatchOption result (¬ (Begins TokenRule place.now))
-        (λ t. (token : Token) × TokenRule place.now t.rest.now token × (t.place.now ≡ place.now) × HasParts t.parts place.now t.rest.now token) }
-    ensures shorter { IfSome result (λ t. length t.rest.now < length place.now) }
+        (λ p. (token : Token) × TokenRule place.now p.1.now token × HasParts p.0 place.now p.1.now token) }
+    ensures shorter { IfSome result (λ p. length p.1.now < length place.now) }
 {
     match range_parts(place) {
-        Some((start, stop, _, rest)) => Some(TokenText {
-            place,
-            parts: TokenParts::Range { start, stop },
-            rest,
-        }),
+        Some((start, stop, _, rest)) => Some((TokenParts::Range { start, stop }, rest)),
         None => match chain_and_kind(place) {
-            Some((kind, _, rest)) => Some(TokenText {
-                place,
-                parts: TokenParts::Chain(kind),
-                rest,
-            }),
+            Some((kind, _, rest)) => Some((TokenParts::Chain(kind), rest)),
             None => {
                 let rest = symbol(place)?;
-                Some(TokenText {
-                    place,
-                    parts: TokenParts::Symbol(before(place, rest)),
-                    rest,
-                })
+                Some((TokenParts::Symbol(before(place, rest)), rest))
             }
         },
     }

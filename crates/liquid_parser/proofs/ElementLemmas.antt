@@ -1,91 +1,172 @@
--- The steps of the reading over the elements of the program.
+-- The elements of the program, as they are handed out and read.
 use Rattle.std.proofs.Common.{◌≡◌, ℕ, List, [], ◌∷◌, ◌++◌, Option, Some, None, Result, Ok, Err, Bor, refl, sym, ap, ◌∙◌, subst}
 use Rattle.std.specs.Prelude.{IfSome, codes}
 use Rattle.std.proofs.lemmas.Bool.{eqb-true}
-use Rattle.liquid_error.specs.declared.error.Error.{Error}
 use Rattle.liquid_error.specs.Refusal.{Refusal, ok_then}
-use Rattle.liquid_error.specs.Told.{Gives}
 use Rattle.liquid_grammar.specs.declared.element.TagText.{TagText}
 use Rattle.liquid_grammar.specs.declared.element.ChainText.{ChainText}
-use Rattle.liquid_grammar.specs.declared.element.Element.TheVariants.{Raw, Tag, Expression, Invalid}
-use Rattle.liquid_grammar.specs.Cover.{Element, raw, tag_element, expression, invalid, IsElement}
-use Rattle.liquid_grammar.specs.Elements.{Means, MeansTag}
-use Rattle.liquid_grammar.specs.Faults.{Fault, chain_fault}
+use Rattle.liquid_grammar.specs.declared.element.Element.TheVariants as found
+use Rattle.liquid_grammar.specs.Cover.{Element, raw, tag_element, expression, invalid, text_of, IsElement}
+use Rattle.liquid_grammar.specs.Elements.{Means}
+use Rattle.liquid_grammar.specs.Faults.{Fault, tag_fault, chain_fault}
 use Rattle.liquid_grammar.specs.Grammar.{White}
 use Rattle.liquid_grammar.specs.Meanings.{faults_of}
+use Rattle.liquid_grammar.specs.Rules.{Repeated, ◌▷◌}
 use Rattle.liquid_grammar.specs.Tokens as token
-use Rattle.liquid_grammar.specs.Tokens.{ChainRule, ExpressionRule, TagRule}
+use Rattle.liquid_grammar.specs.Tokens.{ChainRule, ExpressionRule, TagRule, TokenRule}
 use Rattle.liquid_tree.specs.Tree.{NodeShape, text_node, chain_node}
+use Rattle.liquid_parser.specs.declared.element_cursor.Raw.{Raw as RawCursor}
+use Rattle.liquid_parser.specs.declared.element_cursor.Exp.{Exp as ExpCursor}
+use Rattle.liquid_parser.specs.declared.element_cursor.InvalidLiquidToken.{InvalidLiquidToken}
+use Rattle.liquid_parser.specs.declared.element_cursor.BlockElement.TheVariants as cursor
+use Rattle.liquid_parser.specs.declared.tag_cursor.Tag.{Tag}
+use Rattle.liquid_parser.specs.Elements.{IsExpression, IsInvalid, StandsFor}
+use Rattle.liquid_parser.specs.ElementReading.{HandsOver, element_checked, expression_read}
 use Rattle.liquid_parser.specs.Lang.{Lang}
 use Rattle.liquid_parser.specs.Reading.{State, Open, among, step, checked, chain_read, tag_read, refused_at}
+use Rattle.liquid_parser.specs.Views.{advanced, node_added, past_escaped}
+use Rattle.liquid_parser.specs.WholeTag.{IsTag}
 use Rattle.liquid_parser.proofs.TokenLemmas.{same_rest}
 
 checked_none : (source : List ℕ) (o : Option Fault) → checked source o ≡ Ok tt → o ≡ None
 checked_none source None e = refl
 checked_none source (Some fault) e = cc
 
-then_refused : {A B : Type 0} (o : Option Refusal) (m : Result A Refusal) (k : A → Result B Refusal) → IfSome o (λ r. m ≡ Err r) → IfSome o (λ r. ok_then m k ≡ Err r)
-then_refused None m k h = tt
-then_refused (Some r) m k h = ap (λ n. ok_then n k) h
+-- the text of an element
+pub raw_text : (x : RawCursor) (source behind : List ℕ) (e : Element) → StandsFor (cursor.Raw x) source behind e → x.text.now ≡ text_of e
+raw_text x source behind (raw text) m = m
+raw_text x source behind (tag_element t text) m = absurd m
+raw_text x source behind (expression c text) m = absurd m
+raw_text x source behind (invalid text) m = absurd m
 
-module _ {F T P B : Type 0} (l : Lang F T P B) (source : List ℕ) (blocks : List (Open F T P B)) (nodes : List (NodeShape F T B)) where
-  pub raw_step : (t : Bor (List ℕ)) (s rest : List ℕ) (e : Element) → Means (Raw t) e → step l source 0 (among blocks nodes) e rest ≡ Ok (among blocks (nodes ++ text_node t.now ∷ []))
-  raw_step t s rest (raw x) m = ap (λ y. Ok (among blocks (nodes ++ text_node y ∷ []))) (sym m)
-  raw_step t s rest (tag_element tag x) m = absurd m
-  raw_step t s rest (expression chain x) m = absurd m
-  raw_step t s rest (invalid x) m = absurd m
+pub tag_text : (x : Tag) (source behind : List ℕ) (e : Element) → StandsFor (cursor.Tag x) source behind e → x.text.now ≡ text_of e
+tag_text x source behind (tag_element t text) m = m.1
+tag_text x source behind (raw text) m = absurd m
+tag_text x source behind (expression c text) m = absurd m
+tag_text x source behind (invalid text) m = absurd m
 
-  pub tag_refused : (t : TagText) (o : Option Refusal) (s rest : List ℕ) (e : Element) → Means (Tag t) e → IfSome o (λ r. checked source (faults_of t.fault) ≡ Err r)
-      → IfSome o (λ r. step l source 0 (among blocks nodes) e rest ≡ Err r)
-  tag_refused t o s rest (tag_element tag x) m h = then_refused o _ (λ _. tag_read l source 0 blocks nodes tag) (subst (λ f. IfSome o (λ r. checked source f ≡ Err r)) m.fault_is h)
-  tag_refused t o s rest (raw x) m h = absurd m
-  tag_refused t o s rest (expression chain x) m h = absurd m
-  tag_refused t o s rest (invalid x) m h = absurd m
+pub expression_text : (x : ExpCursor) (source behind : List ℕ) (e : Element) → StandsFor (cursor.Expression x) source behind e → x.text.now ≡ text_of e
+expression_text x source behind (expression c text) m = m.1
+expression_text x source behind (raw text) m = absurd m
+expression_text x source behind (tag_element t text) m = absurd m
+expression_text x source behind (invalid text) m = absurd m
 
-  pub tag_step : {A : Type 0} (f : A → State F T P B) (result : Result A Error) (t : TagText) (s rest : List ℕ) (e : Element) → IsElement s rest e → Means (Tag t) e
-      → checked source (faults_of t.fault) ≡ Ok tt
-      → ((tag : token.Tag) (x : List ℕ) → MeansTag t tag x → TagRule s rest tag → Gives f result (tag_read l source 0 blocks nodes tag)) → Gives f result (step l source 0 (among blocks nodes) e rest)
-  tag_step f result t s rest (tag_element tag x) is m fine h =
-      subst (λ c. Gives f result (ok_then c (λ _. tag_read l source 0 blocks nodes tag))) (sym (ap (checked source) (sym m.fault_is) ∙ fine)) (h tag x m is.kind)
-  tag_step f result t s rest (raw x) is m fine h = absurd m
-  tag_step f result t s rest (expression chain x) is m fine h = absurd m
-  tag_step f result t s rest (invalid x) is m fine h = absurd m
+pub invalid_text : (x : InvalidLiquidToken) (source behind : List ℕ) (e : Element) → StandsFor (cursor.Invalid x) source behind e → x.text.now ≡ text_of e
+invalid_text x source behind (invalid text) m = m.1
+invalid_text x source behind (raw text) m = absurd m
+invalid_text x source behind (tag_element t text) m = absurd m
+invalid_text x source behind (expression c text) m = absurd m
 
-  pub chain_refused : (t : ChainText) (o : Option Refusal) (s rest : List ℕ) (e : Element) → Means (Expression t) e → IfSome o (λ r. checked source (faults_of t.fault) ≡ Err r)
-      → IfSome o (λ r. step l source 0 (among blocks nodes) e rest ≡ Err r)
-  chain_refused t o s rest (expression chain x) m h =
-      then_refused o _ (λ _. ok_then (chain_read l.filters source chain) (λ made. Ok (among blocks (nodes ++ chain_node made ∷ [])))) (subst (λ f. IfSome o (λ r. checked source f ≡ Err r)) m.fault_is h)
-  chain_refused t o s rest (tag_element tag x) m h = absurd m
-  chain_refused t o s rest (raw x) m h = absurd m
-  chain_refused t o s rest (invalid x) m h = absurd m
+-- elements are handed over
+module _ (source : Bor (List ℕ)) (s behind : List ℕ) where
+  pub raw_over : (t : Bor (List ℕ)) (e : Element) → Means (found.Raw t) e → HandsOver (Ok (cursor.Raw (record { text = t }))) source.now behind e
+  raw_over t (raw text) m = (refl, m)
+  raw_over t (tag_element tag text) m = absurd m
+  raw_over t (expression c text) m = absurd m
+  raw_over t (invalid text) m = absurd m
 
-  -- a chain that stands here, without a fault
-  pub record IsHere (t : ChainText) (e : Element) (rest : List ℕ) : Type 0 where
-    pub chain : token.Chain
-    pub match : ChainRule t.chain.now chain.behind chain
-    pub fine : chain_fault chain ≡ None
-    pub is : step l source 0 (among blocks nodes) e rest ≡ ok_then (chain_read l.filters source chain) (λ made. Ok (among blocks (nodes ++ chain_node made ∷ [])))
+  pub tag_over : ((r rest : List ℕ) (tag : token.Tag) → TagRule r rest tag → Repeated (White ▷ TokenRule) tag.1.place tag.1.behind tag.1.what)
+      → (t : TagText) (e : Element) → IsElement s behind e → Means (found.Tag t) e → checked source.now (faults_of t.fault) ≡ Ok tt
+      → HandsOver (Ok (cursor.Tag (record { name = t.name; from = t.place; text = t.text; tokens = record { source = source; rest = t.tokens } }))) source.now behind e
+  tag_over tokens t (tag_element tag text) is m ok =
+      let fine : tag_fault tag ≡ None = sym m.fault_is ∙ checked_none source.now _ ok in (
+        ap (checked source.now) fine,
+        (
+          record {
+            name_is = m.name_is;
+            from_is = m.place_is;
+            source_is = refl;
+            tokens_are = record { tag = tag; begins = sym m.tokens_are; match = tokens s behind tag is.kind; fine = fine; is = refl };
+            fine = fine;
+          },
+          m.text_is,
+        ),
+      )
+  tag_over tokens t (raw text) is m ok = absurd m
+  tag_over tokens t (expression c text) is m ok = absurd m
+  tag_over tokens t (invalid text) is m ok = absurd m
 
-  pub chain_here : ((s rest : List ℕ) (c : token.Chain) → ExpressionRule s rest c → ChainRule c.place c.behind c)
-      → (t : ChainText) (s rest : List ℕ) (e : Element) → IsElement s rest e → Means (Expression t) e → checked source (faults_of t.fault) ≡ Ok tt → IsHere t e rest
-  chain_here within t s rest (expression chain x) is m fine = record {
-    chain = chain;
-    match = subst (λ p. ChainRule p chain.behind chain) (sym m.chain_is) (within s rest chain is.kind.match);
-    fine = sym m.fault_is ∙ checked_none source _ fine;
-    is = ap (λ c. ok_then c (λ _. ok_then (chain_read l.filters source chain) (λ made. Ok (among blocks (nodes ++ chain_node made ∷ []))))) (ap (checked source) (sym m.fault_is) ∙ fine);
-  }
-  chain_here within t s rest (tag_element tag x) is m fine = absurd m
-  chain_here within t s rest (raw x) is m fine = absurd m
-  chain_here within t s rest (invalid x) is m fine = absurd m
+  pub tag_not_over : (t : TagText) (o : Option Refusal) (e : Element) → Means (found.Tag t) e → IfSome o (λ r. checked source.now (faults_of t.fault) ≡ Err r) → IfSome o (λ r. element_checked source.now e ≡ Err r)
+  tag_not_over t o (tag_element tag text) m h = subst (λ f. IfSome o (λ r. checked source.now f ≡ Err r)) m.fault_is h
+  tag_not_over t o (raw text) m h = absurd m
+  tag_not_over t o (expression c text) m h = absurd m
+  tag_not_over t o (invalid text) m h = absurd m
 
-  pub invalid_step : (t : Bor (List ℕ)) (o : Option Refusal) (s rest brace white : List ℕ) (e : Element) → IsElement s rest e → Means (Invalid t) e → White s brace white
-      → IfSome o (λ r. r ≡ refused_at source (codes "Invalid liquid") brace) → IfSome o (λ r. step l source 0 (among blocks nodes) e rest ≡ Err r)
-  invalid_step t None s rest brace white e is m w h = tt
-  invalid_step t (Some r) s rest brace white (invalid x) is m w h =
+  pub expression_over : ((r rest : List ℕ) (c : token.Chain) → ExpressionRule r rest c → ChainRule c.place c.behind c)
+      → (t : ChainText) (e : Element) → IsElement s behind e → Means (found.Expression t) e → checked source.now (faults_of t.fault) ≡ Ok tt
+      → HandsOver (Ok (cursor.Expression (record { source = source; text = t.text; chain = t.chain }))) source.now behind e
+  expression_over within t (expression c text) is m ok =
+      let fine : chain_fault c ≡ None = sym m.fault_is ∙ checked_none source.now _ ok in (
+        ap (checked source.now) fine,
+        (record { source_is = refl; match = subst (λ p. ChainRule p c.behind c) (sym m.chain_is) (within s behind c is.kind.match); fine = fine }, m.text_is),
+      )
+  expression_over within t (raw text) is m ok = absurd m
+  expression_over within t (tag_element tag text) is m ok = absurd m
+  expression_over within t (invalid text) is m ok = absurd m
+
+  pub expression_not_over : (t : ChainText) (o : Option Refusal) (e : Element) → Means (found.Expression t) e → IfSome o (λ r. checked source.now (faults_of t.fault) ≡ Err r) → IfSome o (λ r. element_checked source.now e ≡ Err r)
+  expression_not_over t o (expression c text) m h = subst (λ f. IfSome o (λ r. checked source.now f ≡ Err r)) m.fault_is h
+  expression_not_over t o (raw text) m h = absurd m
+  expression_not_over t o (tag_element tag text) m h = absurd m
+  expression_not_over t o (invalid text) m h = absurd m
+
+  pub invalid_over : (t brace : Bor (List ℕ)) (white : List ℕ) (e : Element) → IsElement s behind e → Means (found.Invalid t) e → White s brace.now white
+      → HandsOver (Ok (cursor.Invalid (record { source = source; text = t; brace = brace }))) source.now behind e
+  invalid_over t brace white (invalid text) is m w =
       let lone = is.kind.brace.match in
-      let same : lone.middle ≡ brace = same_rest s lone.middle brace _ _ lone.before w in
-      let stands : brace ≡ 123 ∷ rest = sym same ∙ (lone.after.front ∙ ap (λ b. b ∷ rest) (eqb-true _ 123 lone.after.passes)) in
-      ap (λ p. Err (refused_at source (codes "Invalid liquid") p)) (sym stands) ∙ ap (λ y. Err y) (sym h)
-  invalid_step t (Some r) s rest brace white (raw x) is m w h = absurd m
-  invalid_step t (Some r) s rest brace white (tag_element tag x) is m w h = absurd m
-  invalid_step t (Some r) s rest brace white (expression chain x) is m w h = absurd m
+      let same : lone.middle ≡ brace.now = same_rest s lone.middle brace.now _ _ lone.before w in (
+        refl,
+        (record { source_is = refl; brace_is = sym same ∙ (lone.after.front ∙ ap (λ b. b ∷ behind) (eqb-true _ 123 lone.after.passes)) }, m),
+      )
+  invalid_over t brace white (raw text) is m w = absurd m
+  invalid_over t brace white (tag_element tag text) is m w = absurd m
+  invalid_over t brace white (expression c text) is m w = absurd m
+
+-- elements are read
+module _ {F T P B : Type 0} (l : Lang F T P B) (source : List ℕ) (outside : ℕ) (blocks : List (Open F T P B)) (nodes : List (NodeShape F T B)) where
+  pub raw_step : (x : RawCursor) (behind : List ℕ) (e : Element) → StandsFor (cursor.Raw x) source behind e → step l source outside (among blocks nodes) e behind ≡ Ok (among blocks (nodes ++ text_node x.text.now ∷ []))
+  raw_step x behind (raw text) m = ap (λ y. Ok (among blocks (nodes ++ text_node y ∷ []))) (sym m)
+  raw_step x behind (tag_element tag text) m = absurd m
+  raw_step x behind (expression c text) m = absurd m
+  raw_step x behind (invalid text) m = absurd m
+
+  pub tag_step : (x : Tag) (behind : List ℕ) (e : Element) → StandsFor (cursor.Tag x) source behind e
+      → (tag : token.Tag) × IsTag x source tag × (step l source outside (among blocks nodes) e behind ≡ tag_read l source outside blocks nodes tag)
+  tag_step x behind (tag_element tag text) m = (tag, m.0, ap (λ f. ok_then (checked source f) (λ _. tag_read l source outside blocks nodes tag)) m.0.fine)
+  tag_step x behind (raw text) m = absurd m
+  tag_step x behind (expression c text) m = absurd m
+  tag_step x behind (invalid text) m = absurd m
+
+  node_made : {A : Type 0} (m : Result A Refusal) (f : A → NodeShape F T B) → ok_then m (λ a. Ok (among blocks (nodes ++ f a ∷ []))) ≡ node_added blocks nodes (ok_then m (λ a. Ok (f a)))
+  node_made (Ok a) f = refl
+  node_made (Err r) f = refl
+
+  pub expression_step : (x : ExpCursor) (behind : List ℕ) (e : Element) → StandsFor (cursor.Expression x) source behind e
+      → (c : token.Chain) × IsExpression x source c × (step l source outside (among blocks nodes) e behind ≡ node_added blocks nodes (expression_read l.filters source c))
+  expression_step x behind (expression c text) m = (
+    c,
+    m.0,
+    ap (λ f. ok_then (checked source f) (λ _. ok_then (chain_read l.filters source c) (λ made. Ok (among blocks (nodes ++ chain_node made ∷ []))))) m.0.fine
+        ∙ node_made (chain_read l.filters source c) (λ made. chain_node made),
+  )
+  expression_step x behind (raw text) m = absurd m
+  expression_step x behind (tag_element tag text) m = absurd m
+  expression_step x behind (invalid text) m = absurd m
+
+  pub invalid_step : (x : InvalidLiquidToken) (behind : List ℕ) (e : Element) → StandsFor (cursor.Invalid x) source behind e
+      → IsInvalid x source behind × (step l source outside (among blocks nodes) e behind ≡ Err (refused_at source (codes "Invalid liquid") (123 ∷ behind)))
+  invalid_step x behind (invalid text) m = (m.0, refl)
+  invalid_step x behind (raw text) m = absurd m
+  invalid_step x behind (tag_element tag text) m = absurd m
+  invalid_step x behind (expression c text) m = absurd m
+
+  fault_first : {A C : Type 0} (m : Result A Refusal) (k : A → Result (State F T P B) Refusal) (n : State F T P B → Result C Refusal) (r : Refusal) → m ≡ Err r → ok_then (ok_then m k) n ≡ Err r
+  fault_first m k n r h = ap (λ x. ok_then (ok_then x k) n) h
+
+  -- an element with a fault
+  pub unchecked_step : (e : Element) (behind : List ℕ) (es : List Element) (r : Refusal) → element_checked source e ≡ Err r → advanced l source outside (among blocks nodes) source behind e es ≡ Err r
+  unchecked_step (tag_element tag text) behind es r h = fault_first _ (λ _. tag_read l source outside blocks nodes tag) (λ n. past_escaped source n es) r h
+  unchecked_step (expression c text) behind es r h =
+      fault_first _ (λ _. ok_then (chain_read l.filters source c) (λ made. Ok (among blocks (nodes ++ chain_node made ∷ [])))) (λ n. past_escaped source n es) r h
+  unchecked_step (raw text) behind es r h = cc
+  unchecked_step (invalid text) behind es r h = cc

@@ -3,11 +3,11 @@ use Rattle.std.proofs.Common.{◌≡◌, ℕ, Bool, List, [], ◌∷◌, ◌++�
 use Rattle.std.specs.Prelude.{IfSome}
 use Rattle.std.specs.Option.{option_map_or}
 use Rattle.liquid_error.specs.Refusal.{Refusal, ok_then}
-use Rattle.liquid_grammar.specs.Cover.{Element, text_of, IsElement, Cover, done, next}
+use Rattle.liquid_grammar.specs.Cover.{Element, text_of, IsElement, Cover, done, next, joined}
 use Rattle.liquid_grammar.proofs.CoverLemmas.{cover_of}
-use Rattle.liquid_tree.specs.Tree.{NodeShape}
 use Rattle.liquid_parser.specs.Lang.{Lang, escaped}
-use Rattle.liquid_parser.specs.Reading.{State, Open, inside, read, escape, level_behind, escape_read, finished, unclosed}
+use Rattle.liquid_parser.specs.Reading.{State, Open, among, inside, step, escape, level_behind, escape_read, finished, unclosed}
+use Rattle.liquid_parser.specs.Views.{escaped_body, past_escaped}
 
 -- `rest` is left of the body, behind this text, and so many starts wait for their ends
 pub record Going (body end_name start_name : List ℕ) (nests : Bool) (rest : List ℕ) (level : ℕ) : Type 0 where
@@ -15,21 +15,21 @@ pub record Going (body end_name start_name : List ℕ) (nests : Bool) (rest : Li
   pub whole : body ≡ so_far ++ rest
   pub onward : (es : List Element) → Cover body es → (left : List Element) × Cover rest left × (escape end_name start_name nests 0 [] es ≡ escape end_name start_name nests level so_far left)
 
+-- the first element of what is left, and those behind it
+pub record Taken (rest behind : List ℕ) (e : Element) (left : List Element) : Type 0 where
+  pub others : List Element
+  pub is : left ≡ e ∷ others
+  pub cover : Cover behind others
+
+pub taken : (rest behind : List ℕ) (e : Element) (left : List Element) → IsElement rest behind e → Cover rest left → Taken rest behind e left
+taken rest behind e left is c =
+    let o = cover_of behind in
+    let r = cover_of rest in
+    record { others = o.elements; is = r.only left c ∙ sym (r.only (e ∷ o.elements) (next is o.cover)); cover = o.cover }
+
 module _ (body end_name start_name : List ℕ) (nests : Bool) where
   pub going_first : Going body end_name start_name nests body 0
   going_first = record { so_far = []; whole = refl; onward = λ es c. (es, c, refl) }
-
-  -- the first element of what is left, and those behind it
-  pub record Taken (rest behind : List ℕ) (e : Element) (left : List Element) : Type 0 where
-    pub others : List Element
-    pub is : left ≡ e ∷ others
-    pub cover : Cover behind others
-
-  pub taken : (rest behind : List ℕ) (e : Element) (left : List Element) → IsElement rest behind e → Cover rest left → Taken rest behind e left
-  taken rest behind e left is c =
-      let o = cover_of behind in
-      let r = cover_of rest in
-      record { others = o.elements; is = r.only left c ∙ sym (r.only (e ∷ o.elements) (next is o.cover)); cover = o.cover }
 
   pub going_next : (rest behind : List ℕ) (e : Element) (level level' : ℕ) → Going body end_name start_name nests rest level → IsElement rest behind e
       → level_behind end_name start_name nests level e ≡ Some level' → Going body end_name start_name nests behind level'
@@ -71,33 +71,41 @@ module _ (body end_name start_name : List ℕ) (nests : Bool) where
       let none : w.0 ≡ [] = r.only w.0 (subst (λ x. Cover x w.0) empty w.1) ∙ sym (r.only [] done) in
       w.2 ∙ ap (escape end_name start_name nests level g.so_far) none
 
--- the reading of an escaped body is that of what follows its end
-module _ {F T P B : Type 0} (l : Lang F T P B) (source : List ℕ) (b : Open F T P B) (blocks : List (Open F T P B)) where
-  abbrev pub behind_end : Option (List ℕ × List Element) → Result (List (NodeShape F T B)) Refusal
-  behind_end None = Err (unclosed source b)
-  behind_end (Some p) = ok_then (finished source b blocks (escaped p.0) []) (λ n. read l source 0 n p.1)
-
-  abbrev escape_by : ℕ → List ℕ → List Element → Option (List ℕ × List Element)
-  escape_by = escape b.kind.end_name b.kind.start_name b.kind.means.nests
-
-  pub inside_read : (level : ℕ) (so_far : List ℕ) (es : List Element) → read l source 0 (inside b blocks level so_far) es ≡ behind_end (escape_by level so_far es)
-  inside_read level so_far [] = refl
-  inside_read level so_far (e ∷ es) = go (level_behind b.kind.end_name b.kind.start_name b.kind.means.nests level e) (λ n. inside_read n (so_far ++ text_of e) es)
+-- a reading that goes on behind each element goes on behind the end of an escaped body
+module _ {F T P B A : Type 0} (l : Lang F T P B) (source : List ℕ) (outside : ℕ) (k : State F T P B → List Element → Result A Refusal)
+    (ends : (b : Open F T P B) (blocks : List (Open F T P B)) (level : ℕ) (so_far : List ℕ) → k (inside b blocks level so_far) [] ≡ Err (unclosed source b))
+    (steps : (b : Open F T P B) (blocks : List (Open F T P B)) (level : ℕ) (so_far : List ℕ) (e : Element) (es : List Element) → k (inside b blocks level so_far) (e ∷ es) ≡ ok_then (step l source outside (inside b blocks level so_far) e (joined es)) (λ n. k n es)) where
+  past_read : (b : Open F T P B) (blocks : List (Open F T P B)) (level : ℕ) (so_far : List ℕ) (es : List Element) → k (inside b blocks level so_far) es ≡ ok_then (past_escaped source (inside b blocks level so_far) es) (λ p. k p.0 p.1)
+  past_read b blocks level so_far [] = ends b blocks level so_far
+  past_read b blocks level so_far (e ∷ es) =
+      steps b blocks level so_far e es ∙ go (level_behind b.kind.end_name b.kind.start_name b.kind.means.nests level e) (λ n. past_read b blocks n (so_far ++ text_of e) es)
     where
-      go : (o : Option ℕ) → ((n : ℕ) → read l source 0 (inside b blocks n (so_far ++ text_of e)) es ≡ behind_end (escape_by n (so_far ++ text_of e) es))
-          → ok_then (escape_read source b blocks so_far (text_of e) o) (λ n. read l source 0 n es) ≡ behind_end (option_map_or (λ n. escape_by n (so_far ++ text_of e) es) o (Some (so_far, es)))
-      go None onward = refl
+      finish_then : (m : Result (State F T P B) Refusal) → ok_then m (λ n. k n es) ≡ ok_then {A = State F T P B × List Element} (ok_then m (λ n. Ok (n, es))) (λ p. k p.0 p.1)
+      finish_then (Ok n) = refl
+      finish_then (Err r) = refl
+
+      go : (o : Option ℕ) → ((n : ℕ) → k (inside b blocks n (so_far ++ text_of e)) es ≡ ok_then (escaped_body source b blocks (escape b.kind.end_name b.kind.start_name b.kind.means.nests n (so_far ++ text_of e) es)) (λ p. k p.0 p.1))
+          → ok_then (escape_read b blocks so_far (text_of e) o) (λ n. k n es)
+          ≡ ok_then (escaped_body source b blocks (option_map_or (λ n. escape b.kind.end_name b.kind.start_name b.kind.means.nests n (so_far ++ text_of e) es) o (Some (so_far, es)))) (λ p. k p.0 p.1)
+      go None onward = finish_then (finished b blocks (escaped so_far) [])
       go (Some n) onward = onward n
 
-  pub escaped_ok : (es left : List Element) (text : List ℕ) (state : State F T P B) → escape_by 0 [] es ≡ Some (text, left) → finished source b blocks (escaped text) [] ≡ Ok state
-      → read l source 0 (inside b blocks 0 []) es ≡ read l source 0 state left
-  escaped_ok es left text state e f = inside_read 0 [] es ∙ (ap behind_end e ∙ ap (λ r. ok_then r (λ n. read l source 0 n left)) f)
+  pub past_then : (r : Result (State F T P B) Refusal) (es : List Element) → ok_then r (λ n. k n es) ≡ ok_then (ok_then r (λ n. past_escaped source n es)) (λ p. k p.0 p.1)
+  past_then (Err e) es = refl
+  past_then (Ok (among blocks nodes)) es = refl
+  past_then (Ok (inside b blocks level so_far)) es = past_read b blocks level so_far es
 
-  pub escaped_err : (o : Option Refusal) (es left : List Element) (text : List ℕ) → escape_by 0 [] es ≡ Some (text, left) → IfSome o (λ r. finished source b blocks (escaped text) [] ≡ Err r)
-      → IfSome o (λ r. read l source 0 (inside b blocks 0 []) es ≡ Err r)
-  escaped_err None es left text e f = tt
-  escaped_err (Some r) es left text e f = inside_read 0 [] es ∙ (ap behind_end e ∙ ap (λ q. ok_then q (λ n. read l source 0 n left)) f)
+-- the answers of a call that reads an escaped body
+module _ {F T P B : Type 0} (source : List ℕ) (b : Open F T P B) (blocks : List (Open F T P B)) where
+  pub escaped_ok : (o : Option (List ℕ × List Element)) (left : List Element) (text : List ℕ) (state : State F T P B) → o ≡ Some (text, left) → finished b blocks (escaped text) [] ≡ Ok state
+      → escaped_body source b blocks o ≡ Ok (state, left)
+  escaped_ok o left text state e f = ap (escaped_body source b blocks) e ∙ ap (λ r. ok_then r (λ n. Ok (n, left))) f
 
-  pub escaped_open : (o : Option Refusal) (es : List Element) → escape_by 0 [] es ≡ None → IfSome o (λ r. r ≡ unclosed source b) → IfSome o (λ r. read l source 0 (inside b blocks 0 []) es ≡ Err r)
-  escaped_open None es e f = tt
-  escaped_open (Some r) es e f = inside_read 0 [] es ∙ (ap behind_end e ∙ ap (λ x. Err x) (sym f))
+  pub escaped_err : (told : Option Refusal) (o : Option (List ℕ × List Element)) (left : List Element) (text : List ℕ) → o ≡ Some (text, left) → IfSome told (λ r. finished b blocks (escaped text) [] ≡ Err r)
+      → IfSome told (λ r. escaped_body source b blocks o ≡ Err r)
+  escaped_err None o left text e f = tt
+  escaped_err (Some r) o left text e f = ap (escaped_body source b blocks) e ∙ ap (λ q. ok_then q (λ n. Ok (n, left))) f
+
+  pub escaped_open : (told : Option Refusal) (o : Option (List ℕ × List Element)) → o ≡ None → IfSome told (λ r. r ≡ unclosed source b) → IfSome told (λ r. escaped_body source b blocks o ≡ Err r)
+  escaped_open None o e f = tt
+  escaped_open (Some r) o e f = ap (escaped_body source b blocks) e ∙ ap (λ x. Err x) (sym f)

@@ -1,5 +1,5 @@
 -- The first token of a tag, as the cursor hands it out.
-use Rattle.std.proofs.Common.{◌≡◌, ℕ, List, [], ◌∷◌, map, Some, None, Ok, Err, refl, sym, ap, ◌∙◌, subst}
+use Rattle.std.proofs.Common.{◌≡◌, ℕ, List, [], ◌∷◌, ◌++◌, map, Some, None, Ok, Err, refl, sym, ap, ◌∙◌, subst}
 use Rattle.std.proofs.lemmas.Option.{same_Some}
 use Rattle.liquid_error.specs.declared.place.Place.{Place}
 use Rattle.liquid_error.specs.Refusal.{located}
@@ -10,7 +10,7 @@ use Rattle.liquid_grammar.specs.Faults.{token_fault, first_fault}
 use Rattle.liquid_grammar.specs.Grammar.{White}
 use Rattle.liquid_grammar.specs.Parts as part
 use Rattle.liquid_grammar.specs.Parts.{NoneLeft, First, HasParts}
-use Rattle.liquid_grammar.specs.Rules.{Repeated, more, here, instead, ◌▷◌}
+use Rattle.liquid_grammar.specs.Rules.{Repeated, more, ◌▷◌}
 use Rattle.liquid_grammar.specs.Tokens as token
 use Rattle.liquid_grammar.specs.Tokens.{range, chain, symbol, TokenRule}
 use Rattle.liquid_parser.specs.declared.tag_token.TagToken.{TagToken}
@@ -19,49 +19,9 @@ use Rattle.liquid_parser.specs.Cursors.{IsToken, IsHandedOut, first_of, next}
 use Rattle.liquid_parser.specs.Handed.{Token, Tokens, handed, handed_token, place_in, slice_between, expect_next, first_or}
 use Rattle.liquid_parser.specs.Plugins.{AreTokens}
 use Rattle.liquid_parser.proofs.Indexes.{first_none, second_none}
+use Rattle.liquid_parser.proofs.TokenLemmas.{place_of, behind_of, handed_behind, handed_text, rule_place, rule_behind}
 
-pub place_of : token.Token → List ℕ
-place_of (range r) = r.place
-place_of (chain c) = c.place
-place_of (symbol s) = s.place
-
-pub behind_of : token.Token → List ℕ
-behind_of (range r) = r.behind
-behind_of (chain c) = c.behind
-behind_of (symbol s) = s.behind
-
-pub handed_place : (source : List ℕ) (t : token.Token) → (handed_token source t).place ≡ place_in source (place_of t)
-unfolding place_of
-handed_place source (range r) = refl
-handed_place source (chain c) = refl
-handed_place source (symbol s) = refl
-
-pub handed_behind : (source : List ℕ) (t : token.Token) → (handed_token source t).behind ≡ place_in source (behind_of t)
-unfolding behind_of
-handed_behind source (range r) = refl
-handed_behind source (chain c) = refl
-handed_behind source (symbol s) = refl
-
-pub handed_text : (source : List ℕ) (t : token.Token) → (handed_token source t).text ≡ slice_between (place_of t) (behind_of t)
-unfolding place_of behind_of
-handed_text source (range r) = refl
-handed_text source (chain c) = refl
-handed_text source (symbol s) = refl
-
--- a token stands where its rule says
-pub rule_place : {s rest : List ℕ} {t : token.Token} → TokenRule s rest t → place_of t ≡ s
-unfolding place_of
-rule_place (here m) = ap place_of m.is ∙ m.match.begins
-rule_place (instead none (here m)) = ap place_of m.is ∙ m.match.begins
-rule_place (instead none (instead none' m)) = ap place_of m.is ∙ m.match.begins
-
-pub rule_behind : {s rest : List ℕ} {t : token.Token} → TokenRule s rest t → behind_of t ≡ rest
-unfolding behind_of
-rule_behind (here m) = ap behind_of m.is ∙ m.match.ends
-rule_behind (instead none (here m)) = ap behind_of m.is ∙ m.match.ends
-rule_behind (instead none (instead none' m)) = ap behind_of m.is ∙ m.match.ends
-
--- and where its parts say
+-- a token stands where its parts say
 parts_place : (p : TokenParts) (s rest : List ℕ) (t : token.Token) → HasParts p s rest t → place_of t ≡ s
 unfolding place_of
 parts_place (parts.Range start stop) s rest t h = ap place_of h.is
@@ -95,9 +55,9 @@ pub none_handed : (t : TagTokenIter) (ts : Tokens) (a : AreTokens t ts) → None
 none_handed t ts a n = ap (λ x. first_of (Tokens.left x)) a.is ∙ ap (λ xs. first_of (map (handed_token t.source.now) xs)) n.none
 
 -- a token is handed out
-pub one_handed : (t : TagTokenIter) (ts : Tokens) (text : TokenText) (a : AreTokens t ts) → First (part.IsToken text) (Repeated (White ▷ TokenRule)) a.tag.1.behind a.tag.1.what
+pub one_handed : (t : TagTokenIter) (ts : Tokens) (text : TokenText) → text.place.now ≡ text.text.now ++ text.rest.now → (a : AreTokens t ts) → First (part.IsToken text) (Repeated (White ▷ TokenRule)) a.tag.1.behind a.tag.1.what
     → (given : Token × Tokens) × (next ts ≡ Some given) × IsHandedOut (record { source = t.source; text = text }) (record { source = t.source; rest = text.rest }) given
-one_handed t ts text a f =
+one_handed t ts text cut a f =
     let source : List ℕ = t.source.now in
     let fine : first_fault token_fault (f.part ∷ f.others) ≡ None = ap (first_fault token_fault) (sym f.joined) ∙ a.fine in
     let has : HasParts text.parts text.place.now text.rest.now f.part = subst (λ p. HasParts text.parts text.place.now p f.part) (sym f.found.ends) f.found.has in
@@ -113,6 +73,7 @@ one_handed t ts text a f =
           matched = f.part;
           match = subst (λ p. TokenRule text.place.now p f.part) (parts_behind text.parts _ _ f.part has) at_place;
           parts = has;
+          cut = cut;
           fine = first_none _ _ fine;
           is = refl;
         };

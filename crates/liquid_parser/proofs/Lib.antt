@@ -14,3 +14,8 @@ pub mod ElementLemmas
 pub mod Slices
 pub mod VariableLemmas
 pub mod ChainMade
+pub mod OneNode
+pub mod ClosingLemmas
+pub mod BlockLemmas
+pub mod AllLemmas
+pub mod ParsedLemmas

@@ -16,8 +16,8 @@ use Rattle.liquid_tree.specs.NodesOf.{node_step, node_of, shapes_of}
 use Rattle.liquid_parser.specs.Handed.{handed, place_in, expect_nothing}
 use Rattle.liquid_parser.specs.Lang as lang
 use Rattle.liquid_parser.specs.Lang.{Filters, parts}
-use Rattle.liquid_parser.specs.Reading.{Open, placed_at, name_place, block_with}
-use Rattle.liquid_parser.specs.Views.{begun, closed}
+use Rattle.liquid_parser.specs.Reading.{Open, among, placed_at, name_place, block_with}
+use Rattle.liquid_parser.specs.Views.{begun, closed, node_added}
 
 pub placed_ok : {A B : Type 0} (place : Place) (m : Result A Refusal) (k : A → Result B Refusal) (x : A) → m ≡ Ok x → ok_then (placed_at place m) k ≡ k x
 placed_ok place m k x h = ap (λ n. ok_then (placed_at place n) k) h
@@ -28,18 +28,25 @@ placed_err None o' place p m k h e same = subst (λ q. IfSome q (λ r. ok_then (
 placed_err (Some r) o' place p m k h e same =
     subst (λ q. IfSome q (λ r. ok_then (placed_at place m) k ≡ Err r)) (sym e) (ap (λ n. ok_then (placed_at place n) k) h ∙ ap (λ q. Err (or_placed q r)) (sym same))
 
+pub then_refused : {A B : Type 0} (o : Option Refusal) (m : Result A Refusal) (k : A → Result B Refusal) → IfSome o (λ r. m ≡ Err r) → IfSome o (λ r. ok_then m k ≡ Err r)
+then_refused None m k h = tt
+then_refused (Some r) m k h = ap (λ n. ok_then n k) h
+
+pub added_err : {F T P B : Type 0} (blocks : List (Open F T P B)) (nodes : List (NodeShape F T B)) (o : Option Refusal) (m : Result (NodeShape F T B) Refusal) → IfSome o (λ r. m ≡ Err r) → IfSome o (λ r. node_added blocks nodes m ≡ Err r)
+added_err blocks nodes o m h = then_refused o m (λ node. Ok (among blocks (nodes ++ node ∷ []))) h
+
 module _ {F T P B : Type 0} (source : List ℕ) (t : token.Tag) where
-  pub opened_ok : (filters : Filters F) (kind : lang.Block F P B) (nodes : List (NodeShape F T B)) (plan : P) (from : List ℕ) (ps : List (List (NodeShape F T B)))
-      → kind.means.begin filters (handed source t) ≡ Ok plan → from ≡ name_place t → ps ≡ []
-      → begun source t filters kind nodes ≡ Ok (record { kind = kind; place = from; plan = plan; before = nodes; parts = ps })
-  opened_ok filters kind nodes plan from ps h f e =
+  pub opened_ok : (filters : Filters F) (kind : lang.Block F P B) (nodes : List (NodeShape F T B)) (plan : P) (at : Place) (ps : List (List (NodeShape F T B)))
+      → kind.means.begin filters (handed source t) ≡ Ok plan → at ≡ place_in source (name_place t) → ps ≡ []
+      → begun source t filters kind nodes ≡ Ok (record { kind = kind; place = at; plan = plan; before = nodes; parts = ps })
+  opened_ok filters kind nodes plan at ps h f e =
       placed_ok (place_in source (name_place t)) _ _ plan h
       ∙ (ap (λ q. Ok (record { kind = kind; place = q; plan = plan; before = nodes; parts = [] })) (sym f)
-      ∙ ap (λ q. Ok (record { kind = kind; place = from; plan = plan; before = nodes; parts = q })) (sym e))
+      ∙ ap (λ q. Ok (record { kind = kind; place = at; plan = plan; before = nodes; parts = q })) (sym e))
 
   abbrev pub ending : (b : Open F T P B) (nodes : List (NodeShape F T B)) → Result (List (NodeShape F T B)) Refusal
   ending b nodes =
-      ok_then (placed_at (place_in source b.place) (b.kind.means.finish b.plan (parts (length b.parts + 1))))
+      ok_then (placed_at b.place (b.kind.means.finish b.plan (parts (length b.parts + 1))))
       (λ made. Ok (b.before ++ block_with made (b.parts ++ nodes ∷ []) ∷ []))
 
   pub closed_ok : (b : Open F T P B) (nodes after : List (NodeShape F T B)) (n : ℕ) (made : B)
@@ -48,14 +55,14 @@ module _ {F T P B : Type 0} (source : List ℕ) (t : token.Tag) where
       → closed source t b nodes ≡ Ok after
   closed_ok b nodes after n made none h count e =
       ap (λ x. ok_then x (λ _. ending b nodes)) none
-      ∙ (placed_ok (place_in source b.place) _ (λ made. Ok (b.before ++ block_with made (b.parts ++ nodes ∷ []) ∷ [])) made (subst (λ m. b.kind.means.finish b.plan (parts m) ≡ Ok made) count h)
+      ∙ (placed_ok b.place _ (λ made. Ok (b.before ++ block_with made (b.parts ++ nodes ∷ []) ∷ [])) made (subst (λ m. b.kind.means.finish b.plan (parts m) ≡ Ok made) count h)
       ∙ ap (λ q. Ok q) (sym e))
 
   pub closed_err : (b : Open F T P B) (nodes : List (NodeShape F T B)) (n : ℕ) (o o' : Option Refusal) (p : Place)
-      → expect_nothing (handed source t) ≡ Ok tt → n ≡ length b.parts + 1 → IfSome o (λ r. b.kind.means.finish b.plan (parts n) ≡ Err r) → o' ≡ option_map (or_placed p) o → p ≡ place_in source b.place
+      → expect_nothing (handed source t) ≡ Ok tt → n ≡ length b.parts + 1 → IfSome o (λ r. b.kind.means.finish b.plan (parts n) ≡ Err r) → o' ≡ option_map (or_placed p) o → p ≡ b.place
       → IfSome o' (λ r. closed source t b nodes ≡ Err r)
   closed_err b nodes n o o' p none count h e same =
-      let go = placed_err o o' (place_in source b.place) p (b.kind.means.finish b.plan (parts (length b.parts + 1))) (λ made. Ok (b.before ++ block_with made (b.parts ++ nodes ∷ []) ∷ [])) (subst (λ m. IfSome o (λ r. b.kind.means.finish b.plan (parts m) ≡ Err r)) count h) e same in
+      let go = placed_err o o' b.place p (b.kind.means.finish b.plan (parts (length b.parts + 1))) (λ made. Ok (b.before ++ block_with made (b.parts ++ nodes ∷ []) ∷ [])) (subst (λ m. IfSome o (λ r. b.kind.means.finish b.plan (parts m) ≡ Err r)) count h) e same in
       subst (λ x. IfSome o' (λ r. ok_then x (λ _. ending b nodes) ≡ Err r)) (sym none) go
 
   pub closed_token : (b : Open F T P B) (nodes : List (NodeShape F T B)) (o : Option Refusal) → IfSome o (λ r. expect_nothing (handed source t) ≡ Err r) → IfSome o (λ r. closed source t b nodes ≡ Err r)

@@ -9,29 +9,53 @@ use Rattle.liquid_grammar.specs.Steps as read
 use Rattle.liquid_grammar.specs.Tokens.{Token, range, chain, symbol, TokenRule}
 use Rattle.liquid_grammar.proofs.GrammarExact.{exact-white}
 use Rattle.liquid_parser.specs.declared.tokens.TagTokenIter.{TagTokenIter}
-use Rattle.liquid_parser.specs.Handed.{Tokens, handed_token, expect_nothing, none_left, place_in}
+use Rattle.liquid_parser.specs.Handed.{Tokens, handed_token, expect_nothing, none_left, place_in, slice_between}
 use Rattle.liquid_parser.specs.Plugins.{AreTokens}
 
 pub same_rest : (s a b v w : List ℕ) → White s a v → White s b w → a ≡ b
 unfolding read.white
 same_rest s a b v w m n = ap (λ (x : List ℕ × List ℕ). x.1) (same_Some _ _ (sym (exact-white.complete s a v m) ∙ exact-white.complete s b w n))
 
-pub place_of : Token → List ℕ
+unfoldable pub place_of : Token → List ℕ
 place_of (range r) = r.place
 place_of (chain c) = c.place
 place_of (symbol s) = s.place
 
-handed_place : (source : List ℕ) (t : Token) → (handed_token source t).place ≡ place_in source (place_of t)
+unfoldable pub behind_of : Token → List ℕ
+behind_of (range r) = r.behind
+behind_of (chain c) = c.behind
+behind_of (symbol s) = s.behind
+
+pub handed_place : (source : List ℕ) (t : Token) → (handed_token source t).place ≡ place_in source (place_of t)
 unfolding place_of
 handed_place source (range r) = refl
 handed_place source (chain c) = refl
 handed_place source (symbol s) = refl
 
-token_begins : {s rest : List ℕ} {t : Token} → TokenRule s rest t → place_of t ≡ s
+pub handed_behind : (source : List ℕ) (t : Token) → (handed_token source t).behind ≡ place_in source (behind_of t)
+unfolding behind_of
+handed_behind source (range r) = refl
+handed_behind source (chain c) = refl
+handed_behind source (symbol s) = refl
+
+pub handed_text : (source : List ℕ) (t : Token) → (handed_token source t).text ≡ slice_between (place_of t) (behind_of t)
+unfolding place_of behind_of
+handed_text source (range r) = refl
+handed_text source (chain c) = refl
+handed_text source (symbol s) = refl
+
+-- a token stands where its rule says
+pub rule_place : {s rest : List ℕ} {t : Token} → TokenRule s rest t → place_of t ≡ s
 unfolding place_of
-token_begins (here m) = ap place_of m.is ∙ m.match.begins
-token_begins (instead none (here m)) = ap place_of m.is ∙ m.match.begins
-token_begins (instead none (instead none' m)) = ap place_of m.is ∙ m.match.begins
+rule_place (here m) = ap place_of m.is ∙ m.match.begins
+rule_place (instead none (here m)) = ap place_of m.is ∙ m.match.begins
+rule_place (instead none (instead none' m)) = ap place_of m.is ∙ m.match.begins
+
+pub rule_behind : {s rest : List ℕ} {t : Token} → TokenRule s rest t → behind_of t ≡ rest
+unfolding behind_of
+rule_behind (here m) = ap behind_of m.is ∙ m.match.ends
+rule_behind (instead none (here m)) = ap behind_of m.is ∙ m.match.ends
+rule_behind (instead none (instead none' m)) = ap behind_of m.is ∙ m.match.ends
 
 -- where no token begins behind the white space, there are none
 pub no_tokens : {s behind rest white : List ℕ} {ts : List Token} → White s rest white → ¬ (Begins TokenRule rest) → Repeated (White ▷ TokenRule) s behind ts → ts ≡ []
@@ -46,7 +70,7 @@ pub some_token : {s behind rest left white : List ℕ} {shape : Token} (ts : Lis
 some_token [] source w t (ends n) = absurd (n (record { rest = _; shape = _; match = record { from = (_, _); match = record { middle = _; before = w; after = t }; is = refl } }))
 some_token {s = s} {rest = rest} (x ∷ ts) source w t (more {middle = middle} m ms) =
     let first : TokenRule m.match.middle middle m.from.1 = m.match.after in
-    let at_rest : place_of x ≡ rest = ap place_of m.is ∙ (token_begins first ∙ same_rest s m.match.middle rest _ _ m.match.before w) in
+    let at_rest : place_of x ≡ rest = ap place_of m.is ∙ (rule_place first ∙ same_rest s m.match.middle rest _ _ m.match.before w) in
     ap (λ p. Err (located (codes "Unexpected token") p)) (handed_place source x ∙ ap (place_in source) at_rest)
 
 -- the same of a cursor

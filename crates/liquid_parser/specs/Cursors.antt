@@ -1,5 +1,5 @@
 -- What the cursor over a tag's tokens hands out, and what attempts to read a token answer.
-use Rattle.std.specs.Prelude.{◌≡◌, ℕ, List, [], ◌∷◌, length, Option, Some, None, Result, Ok, Err, IfSome, bytes_eq, if◌then◌else◌, ⊤, option_and_then, option_map}
+use Rattle.std.specs.Prelude.{◌≡◌, ℕ, List, [], ◌∷◌, ◌++◌, length, Option, Some, None, Result, Ok, Err, IfSome, bytes_eq, if◌then◌else◌, ⊤, option_and_then, option_map}
 use Rattle.std.specs.Result.{result_ok}
 use Rattle.liquid_error.specs.declared.error.Error.{Error}
 use Rattle.liquid_error.specs.Refusal.{Refusal}
@@ -25,6 +25,7 @@ pub record IsToken (t : TagToken) (handed : Token) : Type 0 where
   pub matched : token.Token
   pub match : TokenRule t.text.place.now t.text.rest.now matched
   pub parts : HasParts t.text.parts t.text.place.now t.text.rest.now matched
+  pub cut : t.text.place.now ≡ t.text.text.now ++ t.text.rest.now
   pub fine : token_fault matched ≡ None
   pub is : handed ≡ handed_token t.source.now matched
 

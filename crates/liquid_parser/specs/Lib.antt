@@ -1,10 +1,14 @@
 pub mod Handed
 pub mod Lang
+pub mod NoPlugins
 pub mod Reading
 pub mod Plugins
 pub mod Views
 pub mod Built
 pub mod Cursors
 pub mod WholeTag
+pub mod Elements
+pub mod ElementReading
+pub mod BlockReading
 pub mod Escaped
 pub mod Variables

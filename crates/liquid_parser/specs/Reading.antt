@@ -103,7 +103,7 @@ escape end_name start_name nests level so_far (e ∷ es) =
 -- stands in, and its parts up to its last divider
 pub record Open (F T P B : Type 0) : Type 0 where
   pub kind : Block F P B
-  pub place : List ℕ
+  pub place : Place
   pub plan : P
   pub before : List (NodeShape F T B)
   pub parts : List (List (NodeShape F T B))
@@ -126,16 +126,21 @@ block_with made of = block_node made (parts_from (map nodes_from of))
 abbrev pub unclosed_by : List ℕ → List ℕ → Refusal
 unclosed_by source end_name = refused_at source (codes "Unclosed block. {% " ++ (end_name ++ codes " %} tag expected.")) []
 
+-- the innermost block ends: it is a node of the list that it stands in
+abbrev pub finished : {F T P B : Type 0} → Open F T P B → List (Open F T P B) → Body → List (List (NodeShape F T B)) → Result (State F T P B) Refusal
+finished b blocks body of =
+    ok_then (placed_at b.place (b.kind.means.finish b.plan body))
+    (λ made. Ok (among blocks (b.before ++ block_with made of ∷ [])))
+
+-- an element of an escaped body: at its end this is the text up to there
+abbrev pub escape_read : {F T P B : Type 0} → Open F T P B → List (Open F T P B) → List ℕ → List ℕ → Option ℕ → Result (State F T P B) Refusal
+escape_read b blocks so_far content None = finished b blocks (escaped so_far) []
+escape_read b blocks so_far content (Some level) = Ok (inside b blocks level (so_far ++ content))
+
 -- a block is read to its end
 module _ {F T P B : Type 0} (source : List ℕ) where
   abbrev pub unclosed : Open F T P B → Refusal
   unclosed b = unclosed_by source b.kind.end_name
-
-  -- the innermost block ends: it is a node of the list that it stands in
-  abbrev pub finished : Open F T P B → List (Open F T P B) → Body → List (List (NodeShape F T B)) → Result (State F T P B) Refusal
-  finished b blocks body of =
-      ok_then (placed_at (place_in source b.place) (b.kind.means.finish b.plan body))
-      (λ made. Ok (among blocks (b.before ++ block_with made of ∷ [])))
 
   -- a tag of the innermost block's end name ends it; a token behind the name is refused
   abbrev pub as_end : List (Open F T P B) → List (NodeShape F T B) → token.Tag → Option (Result (State F T P B) Refusal)
@@ -153,11 +158,6 @@ module _ {F T P B : Type 0} (source : List ℕ) where
       then Some (ok_then (placed_at (place_in source (name_place t)) (b.kind.means.divide b.plan t.0 (handed source t)))
       (λ plan. Ok (among (record b { plan = plan; parts = b.parts ++ nodes ∷ [] } ∷ blocks) [])))
       else None
-
-  -- an element of an escaped body: at its end this is the text up to there
-  abbrev pub escape_read : Open F T P B → List (Open F T P B) → List ℕ → List ℕ → Option ℕ → Result (State F T P B) Refusal
-  escape_read b blocks so_far content None = finished b blocks (escaped so_far) []
-  escape_read b blocks so_far content (Some level) = Ok (inside b blocks level (so_far ++ content))
 
   -- where the text ends no block may be open
   abbrev pub ended : State F T P B → Result (List (NodeShape F T B)) Refusal
@@ -184,7 +184,7 @@ module _ {F T P B : Type 0} (l : Lang F T P B) (source : List ℕ) (outside : �
       option_map (λ kind.
       if nat_lt (outside + length blocks) block_limit
       then (ok_then (placed_at (place_in source (name_place t)) (kind.means.begin l.filters (handed source t)))
-      (λ plan. Ok (entered kind.means.escapes (record { kind = kind; place = name_place t; plan = plan; before = nodes; parts = [] }) blocks)))
+      (λ plan. Ok (entered kind.means.escapes (record { kind = kind; place = place_in source (name_place t); plan = plan; before = nodes; parts = [] }) blocks)))
       else Err (refused_at source (codes "Nested too deep") (name_place t)))
       (l.blocks.get t.0)
 
@@ -211,24 +211,12 @@ module _ {F T P B : Type 0} (l : Lang F T P B) (source : List ℕ) (outside : �
 
   abbrev pub step : State F T P B → Element → List ℕ → Result (State F T P B) Refusal
   step (among blocks nodes) e behind = element_read blocks nodes e behind
-  step (inside b blocks level so_far) e behind = escape_read source b blocks so_far (text_of e) (level_behind b.kind.end_name b.kind.start_name b.kind.means.nests level e)
+  step (inside b blocks level so_far) e behind = escape_read b blocks so_far (text_of e) (level_behind b.kind.end_name b.kind.start_name b.kind.means.nests level e)
 
   -- the elements are handed out from left to right, and the first refusal is the answer
   abbrev pub read : State F T P B → List Element → Result (List (NodeShape F T B)) Refusal
   read s [] = ended source s
   read s (e ∷ es) = ok_then (step s e (joined es)) (λ next. read next es)
-
-  -- the same up to where no block is open: the nodes, and the elements that are left
-  abbrev pub read_closed : State F T P B → List Element → Result (List (NodeShape F T B) × List Element) Refusal
-  read_closed (among [] nodes) es = Ok (nodes, es)
-  read_closed (among (b ∷ blocks) nodes) [] = Err (unclosed source b)
-  read_closed (among (b ∷ blocks) nodes) (e ∷ es) = ok_then (step (among (b ∷ blocks) nodes) e (joined es)) (λ next. read_closed next es)
-  read_closed (inside b blocks level so_far) [] = Err (unclosed source b)
-  read_closed (inside b blocks level so_far) (e ∷ es) = ok_then (step (inside b blocks level so_far) e (joined es)) (λ next. read_closed next es)
-
-  -- the node that an element gives, with the elements that it takes: a block takes its body and its end
-  abbrev pub node_read : Element → List Element → Result (List (NodeShape F T B) × List Element) Refusal
-  node_read e es = ok_then (step beginning e (joined es)) (λ next. read_closed next es)
 
 -- what the elements of the source are read as
 abbrev pub answer : {F T P B : Type 0} → Lang F T P B → List ℕ → List Element → Result (List (NodeShape F T B)) Refusal

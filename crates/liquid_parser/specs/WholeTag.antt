@@ -1,5 +1,5 @@
 -- What a tag alone is, and what the call that makes one answers.
-use Rattle.std.specs.Prelude.{◌≡◌, ℕ, List, Result, Ok, Err, IfSome}
+use Rattle.std.specs.Prelude.{◌≡◌, ℕ, List, None, Result, Ok, Err, IfSome}
 use Rattle.liquid_error.specs.declared.error.Error.{Error}
 use Rattle.liquid_error.specs.Refusal.{Refusal}
 use Rattle.liquid_error.specs.Told.{told}
@@ -8,18 +8,19 @@ use Rattle.liquid_grammar.specs.Tokens as token
 use Rattle.liquid_parser.specs.declared.tag_cursor.Tag.{Tag}
 use Rattle.liquid_parser.specs.Handed.{handed}
 use Rattle.liquid_parser.specs.Plugins.{AreTokens}
-use Rattle.liquid_parser.specs.Reading.{checked}
+use Rattle.liquid_parser.specs.Reading.{checked, name_place}
 
--- a tag of the source, with this text
-pub record IsTag (tag : Tag) (source text : List ℕ) (t : token.Tag) : Type 0 where
+-- a tag of the source; its literals and brackets have no fault
+pub record IsTag (tag : Tag) (source : List ℕ) (t : token.Tag) : Type 0 where
   pub name_is : tag.name.now ≡ t.0
-  pub text_is : tag.text.now ≡ text
+  pub from_is : tag.from.now ≡ name_place t
   pub source_is : tag.tokens.source.now ≡ source
   pub tokens_are : AreTokens tag.tokens (handed source t)
+  pub fine : tag_fault t ≡ None
 
 -- the tag that the source is, unless one of its literals or brackets is at fault; want of memory says nothing
 abbrev pub GivesTag : Result Tag Error → List ℕ → token.Tag → Type 0
-GivesTag (Ok tag) source t = (checked source (tag_fault t) ≡ Ok tt) × IsTag tag source source t
+GivesTag (Ok tag) source t = (checked source (tag_fault t) ≡ Ok tt) × IsTag tag source t × (tag.text.now ≡ source)
 GivesTag (Err e) source t = IfSome (told e) (λ r. checked source (tag_fault t) ≡ Err r)
 
 -- nothing but this refusal; want of memory says nothing

@@ -5,15 +5,17 @@ ghost use Rattle.liquid_grammar.specs.Tokens as token;
 ghost use Rattle.liquid_tree.specs.NodesOf.{shapes_of};
 ghost use Rattle.liquid_parser.specs.Plugins.{language_of, block_of};
 ghost use Rattle.liquid_parser.specs.Reading.{tag_read, unknown_tag};
-ghost use Rattle.liquid_parser.specs.Views.{IsHanded, open_view, blocks_view, next_view, outer_read, block_begun};
+ghost use Rattle.liquid_parser.specs.WholeTag.{IsTag};
+ghost use Rattle.liquid_parser.specs.Views.{open_view, blocks_view, next_view, outer_read, block_begun};
 
 use crate::block::ParseBlock;
 use crate::language::Language;
 use crate::names::{is_among, listed};
 use crate::place::refused_at;
-use crate::stack::{HandedTag, Next, OpenBlock, ParserState};
+use crate::stack::{Next, OpenBlock, ParserState};
 use crate::steps::{closed, divided, opened, tag_node};
 use crate::tag::ParseTag;
+use crate::tag_cursor::Tag;
 use liquid_error::Error;
 use liquid_plugins::ParseFilter;
 use liquid_tree::Node;
@@ -23,33 +25,37 @@ use std::alloc::Global;
 pub const BLOCK_LIMIT: usize = 100;
 
 /// A tag is the innermost block's end, a divider of it, a tag of the language or a block of it: the first of these.
+///
+/// So many blocks are open around all that is read.
 pub(crate) fn tag_read<'a, F: ParseFilter + Drop, T: ParseTag<F> + Drop, B: ParseBlock<F> + Drop>(
     alloc: Global,
+    outside: usize,
     state: ParserState<'a, B, B::Plan, Node<F::Filter, T::Node, B::Node>>,
-    tag: HandedTag<'a>,
+    tag: Tag<'a>,
     language: &'a Language<F, T, B>,
 ) -> Result<Next<'a, B, B::Plan, Node<F::Filter, T::Node, B::Node>>, Error>
-    ensures { (source : List ℕ) (t : token.Tag) → IsHanded tag.entry source t
-        → Gives (next_view F.Filter.shape T.Node.shape B.Node.shape B.Plan.shape (block_of B.start_name B.end_name B.meaning)) result (tag_read (language_of F.makes T.gives (block_of B.start_name B.end_name B.meaning) language.now) source 0 (blocks_view F.Filter.shape T.Node.shape B.Node.shape B.Plan.shape (block_of B.start_name B.end_name B.meaning) state.entry.open.items) (shapes_of F.Filter.shape T.Node.shape B.Node.shape state.entry.nodes.items) t) }
+    ensures { (source : List ℕ) (t : token.Tag) → IsTag tag.entry source t
+        → Gives (next_view F.Filter.shape T.Node.shape B.Node.shape B.Plan.shape (block_of B.start_name B.end_name B.meaning)) result (tag_read (language_of F.makes T.gives (block_of B.start_name B.end_name B.meaning) language.now) source outside (blocks_view F.Filter.shape T.Node.shape B.Node.shape B.Plan.shape (block_of B.start_name B.end_name B.meaning) state.entry.open.items) (shapes_of F.Filter.shape T.Node.shape B.Node.shape state.entry.nodes.items) t) }
 {
     let ParserState { mut open, nodes } = state;
     match open.pop() {
-        None => outer(alloc, open, nodes, tag, language),
-        Some(block) => inner(alloc, block, open, nodes, tag, language),
+        None => outer(alloc, outside, open, nodes, tag, language),
+        Some(block) => inner(alloc, outside, block, open, nodes, tag, language),
     }
 }
 
 /// The same in this innermost block.
 fn inner<'a, F: ParseFilter + Drop, T: ParseTag<F> + Drop, B: ParseBlock<F> + Drop>(
     alloc: Global,
+    outside: usize,
     block: OpenBlock<'a, B, B::Plan, Node<F::Filter, T::Node, B::Node>>,
     around: Vec<OpenBlock<'a, B, B::Plan, Node<F::Filter, T::Node, B::Node>>>,
     nodes: Vec<Node<F::Filter, T::Node, B::Node>>,
-    tag: HandedTag<'a>,
+    tag: Tag<'a>,
     language: &'a Language<F, T, B>,
 ) -> Result<Next<'a, B, B::Plan, Node<F::Filter, T::Node, B::Node>>, Error>
-    ensures { (source : List ℕ) (t : token.Tag) → IsHanded tag.entry source t
-        → Gives (next_view F.Filter.shape T.Node.shape B.Node.shape B.Plan.shape (block_of B.start_name B.end_name B.meaning)) result (tag_read (language_of F.makes T.gives (block_of B.start_name B.end_name B.meaning) language.now) source 0 (open_view F.Filter.shape T.Node.shape B.Node.shape B.Plan.shape (block_of B.start_name B.end_name B.meaning) block.entry ∷ blocks_view F.Filter.shape T.Node.shape B.Node.shape B.Plan.shape (block_of B.start_name B.end_name B.meaning) around.entry.items) (shapes_of F.Filter.shape T.Node.shape B.Node.shape nodes.items) t) }
+    ensures { (source : List ℕ) (t : token.Tag) → IsTag tag.entry source t
+        → Gives (next_view F.Filter.shape T.Node.shape B.Node.shape B.Plan.shape (block_of B.start_name B.end_name B.meaning)) result (tag_read (language_of F.makes T.gives (block_of B.start_name B.end_name B.meaning) language.now) source outside (open_view F.Filter.shape T.Node.shape B.Node.shape B.Plan.shape (block_of B.start_name B.end_name B.meaning) block.entry ∷ blocks_view F.Filter.shape T.Node.shape B.Node.shape B.Plan.shape (block_of B.start_name B.end_name B.meaning) around.entry.items) (shapes_of F.Filter.shape T.Node.shape B.Node.shape nodes.items) t) }
 {
     let mut open = around;
     let mut block = block;
@@ -71,20 +77,21 @@ fn inner<'a, F: ParseFilter + Drop, T: ParseTag<F> + Drop, B: ParseBlock<F> + Dr
         }
     } else {
         open.push(block)?;
-        outer(alloc, open, nodes, tag, language)
+        outer(alloc, outside, open, nodes, tag, language)
     }
 }
 
 /// A tag of the language, else a block of it, else a refusal.
 fn outer<'a, F: ParseFilter + Drop, T: ParseTag<F> + Drop, B: ParseBlock<F> + Drop>(
     alloc: Global,
+    outside: usize,
     open: Vec<OpenBlock<'a, B, B::Plan, Node<F::Filter, T::Node, B::Node>>>,
     nodes: Vec<Node<F::Filter, T::Node, B::Node>>,
-    tag: HandedTag<'a>,
+    tag: Tag<'a>,
     language: &'a Language<F, T, B>,
 ) -> Result<Next<'a, B, B::Plan, Node<F::Filter, T::Node, B::Node>>, Error>
-    ensures { (source : List ℕ) (t : token.Tag) → IsHanded tag.entry source t
-        → Gives (next_view F.Filter.shape T.Node.shape B.Node.shape B.Plan.shape (block_of B.start_name B.end_name B.meaning)) result (outer_read (language_of F.makes T.gives (block_of B.start_name B.end_name B.meaning) language.now) source t (blocks_view F.Filter.shape T.Node.shape B.Node.shape B.Plan.shape (block_of B.start_name B.end_name B.meaning) open.entry.items) (shapes_of F.Filter.shape T.Node.shape B.Node.shape nodes.items)) }
+    ensures { (source : List ℕ) (t : token.Tag) → IsTag tag.entry source t
+        → Gives (next_view F.Filter.shape T.Node.shape B.Node.shape B.Plan.shape (block_of B.start_name B.end_name B.meaning)) result (outer_read (language_of F.makes T.gives (block_of B.start_name B.end_name B.meaning) language.now) source outside t (blocks_view F.Filter.shape T.Node.shape B.Node.shape B.Plan.shape (block_of B.start_name B.end_name B.meaning) open.entry.items) (shapes_of F.Filter.shape T.Node.shape B.Node.shape nodes.items)) }
 {
     match language.tags.get(tag.name) {
         Some(plug_in) => match tag_node::<F, T, B>(alloc, plug_in, tag, &language.filters) {
@@ -96,7 +103,7 @@ fn outer<'a, F: ParseFilter + Drop, T: ParseTag<F> + Drop, B: ParseBlock<F> + Dr
             Err(error) => Err(error),
         },
         None => match language.blocks.get(tag.name) {
-            Some(kind) => begun(alloc, kind, open, nodes, tag, language),
+            Some(kind) => begun(alloc, outside, kind, open, nodes, tag, language),
             None => Err(unknown_tag(alloc, tag, language)),
         },
     }
@@ -105,16 +112,17 @@ fn outer<'a, F: ParseFilter + Drop, T: ParseTag<F> + Drop, B: ParseBlock<F> + Dr
 /// A block begins, unless too many are open.
 fn begun<'a, F: ParseFilter + Drop, T: ParseTag<F> + Drop, B: ParseBlock<F> + Drop>(
     alloc: Global,
+    outside: usize,
     kind: &'a B,
     open: Vec<OpenBlock<'a, B, B::Plan, Node<F::Filter, T::Node, B::Node>>>,
     nodes: Vec<Node<F::Filter, T::Node, B::Node>>,
-    tag: HandedTag<'a>,
+    tag: Tag<'a>,
     language: &'a Language<F, T, B>,
 ) -> Result<Next<'a, B, B::Plan, Node<F::Filter, T::Node, B::Node>>, Error>
-    ensures { (source : List ℕ) (t : token.Tag) → IsHanded tag.entry source t
-        → Gives (next_view F.Filter.shape T.Node.shape B.Node.shape B.Plan.shape (block_of B.start_name B.end_name B.meaning)) result (block_begun (language_of F.makes T.gives (block_of B.start_name B.end_name B.meaning) language.now) source t ((block_of B.start_name B.end_name B.meaning) kind.now) (blocks_view F.Filter.shape T.Node.shape B.Node.shape B.Plan.shape (block_of B.start_name B.end_name B.meaning) open.entry.items) (shapes_of F.Filter.shape T.Node.shape B.Node.shape nodes.items)) }
+    ensures { (source : List ℕ) (t : token.Tag) → IsTag tag.entry source t
+        → Gives (next_view F.Filter.shape T.Node.shape B.Node.shape B.Plan.shape (block_of B.start_name B.end_name B.meaning)) result (block_begun (language_of F.makes T.gives (block_of B.start_name B.end_name B.meaning) language.now) source outside t ((block_of B.start_name B.end_name B.meaning) kind.now) (blocks_view F.Filter.shape T.Node.shape B.Node.shape B.Plan.shape (block_of B.start_name B.end_name B.meaning) open.entry.items) (shapes_of F.Filter.shape T.Node.shape B.Node.shape nodes.items)) }
 {
-    if open.len() >= BLOCK_LIMIT {
+    if open.len() >= BLOCK_LIMIT.saturating_sub(outside) {
         return Err(refused_at(alloc, tag.tokens.source, "Nested too deep", tag.from));
     }
     match opened::<F, T, B>(alloc, kind, nodes, tag, &language.filters) {
@@ -136,10 +144,10 @@ fn begun<'a, F: ParseFilter + Drop, T: ParseTag<F> + Drop, B: ParseBlock<F> + Dr
 /// The refusal of a tag that the language has neither as a tag nor as a block.
 fn unknown_tag<F: ParseFilter + Drop, T: ParseTag<F> + Drop, B: ParseBlock<F> + Drop>(
     alloc: Global,
-    tag: HandedTag<'_>,
+    tag: Tag<'_>,
     language: &Language<F, T, B>,
 ) -> Error
-    ensures { (source : List ℕ) (t : token.Tag) → IsHanded tag.entry source t
+    ensures { (source : List ℕ) (t : token.Tag) → IsTag tag.entry source t
         → IfSome (told result) (λ r. r ≡ unknown_tag (language_of F.makes T.gives (block_of B.start_name B.end_name B.meaning) language.now) source 0 t) }
 {
     let tags = match listed(alloc, &language.tags) {

@@ -4,12 +4,11 @@ ghost use Rattle.liquid_error.specs.Told.{told};
 ghost use Rattle.liquid_grammar.specs.Cover as cover;
 ghost use Rattle.liquid_grammar.specs.Cover.{Cover, IsElement};
 ghost use Rattle.liquid_grammar.specs.Elements.{Means};
-ghost use Rattle.liquid_parser.specs.Escaped.{EscapesTo, LeadsTo};
-ghost use Rattle.liquid_parser.specs.Lang.{Lang};
+ghost use Rattle.liquid_parser.specs.Escaped.{EscapesTo};
 ghost use Rattle.liquid_parser.specs.Plugins.{block_of};
 ghost use Rattle.liquid_parser.specs.Reading as spec;
-ghost use Rattle.liquid_parser.specs.Reading.{inside, read, unclosed_by};
-ghost use Rattle.liquid_parser.specs.Views.{open_view, blocks_view, state_view};
+ghost use Rattle.liquid_parser.specs.Reading.{inside, unclosed_by};
+ghost use Rattle.liquid_parser.specs.Views.{open_view, blocks_view, state_view, past_escaped, LeadsTo};
 
 use crate::block::ParseBlock;
 use crate::place::refused_at;
@@ -23,26 +22,26 @@ use liquid_tree::Node;
 use std::alloc::{AllocError, Global};
 
 /// The escaped body of a block that has just begun is read to its end: how far the text is read then, and what follows.
-pub(crate) fn escaped_read<'a, F: ParseFilter, T: ParseTag<F>, B: ParseBlock<F>>(
+pub(crate) fn escaped_read<'a, 't, F: ParseFilter, T: ParseTag<F>, B: ParseBlock<F>>(
     alloc: Global,
     source: &str,
-    body: &'a str,
+    body: &'t str,
     block: OpenBlock<'a, B, B::Plan, Node<F::Filter, T::Node, B::Node>>,
     around: Vec<OpenBlock<'a, B, B::Plan, Node<F::Filter, T::Node, B::Node>>>,
 ) -> Result<
     (
         ParserState<'a, B, B::Plan, Node<F::Filter, T::Node, B::Node>>,
-        &'a str,
+        &'t str,
     ),
     Error,
 >
-    ensures value { (l : Lang F.Filter.Shape T.Node.Shape B.Plan.Shape B.Node.Shape) (es : List cover.Element) → Cover body.now es
-        → LeadsTo (state_view F.Filter.shape T.Node.shape B.Node.shape B.Plan.shape (block_of B.start_name B.end_name B.meaning)) l source.now result (read l source.now 0 (inside (open_view F.Filter.shape T.Node.shape B.Node.shape B.Plan.shape (block_of B.start_name B.end_name B.meaning) block.entry) (blocks_view F.Filter.shape T.Node.shape B.Node.shape B.Plan.shape (block_of B.start_name B.end_name B.meaning) around.entry.items) 0 []) es) }
+    ensures value { (es : List cover.Element) → Cover body.now es
+        → LeadsTo (state_view F.Filter.shape T.Node.shape B.Node.shape B.Plan.shape (block_of B.start_name B.end_name B.meaning)) result (past_escaped source.now (inside (open_view F.Filter.shape T.Node.shape B.Node.shape B.Plan.shape (block_of B.start_name B.end_name B.meaning) block.entry) (blocks_view F.Filter.shape T.Node.shape B.Node.shape B.Plan.shape (block_of B.start_name B.end_name B.meaning) around.entry.items) 0 []) es) }
     ensures within { IfOk result (λ p. (front : List ℕ) × (body.now ≡ front ++ p.1.now)) }
 {
     let kind = block.kind;
     match escape(body, kind.end_tag(), kind.start_tag(), kind.nests()) {
-        Some((text, after)) => match sliced::<F, T, B>(alloc, source, block, around, text) {
+        Some((text, after)) => match sliced::<F, T, B>(alloc, block, around, text) {
             Ok(state) => Ok((state, after)),
             Err(error) => Err(error),
         },

@@ -1,9 +1,10 @@
 //! Languages.
 ghost use Rattle.std.specs.Prelude.{◌≡◌};
 ghost use Rattle.std.specs.FinMap.{empty};
+ghost use Rattle.liquid_plugins.specs.Registry.{IsCopy};
 
 use liquid_plugins::PluginRegistry;
-use std::alloc::Global;
+use std::alloc::{AllocError, Global};
 
 /// What a template may use: filters, tags and blocks, each by its name.
 #[derive(Drop)]
@@ -25,5 +26,17 @@ impl<F: Drop, T: Drop, B: Drop> Language<F, T, B> {
             tags: PluginRegistry::new(alloc),
             blocks: PluginRegistry::new(alloc),
         }
+    }
+}
+
+impl<F: Clone, T: Clone, B: Clone> Clone for Language<F, T, B> {
+    ghost is_clone = { λ l copy. IsCopy F.is_clone l.filters copy.filters × IsCopy T.is_clone l.tags copy.tags × IsCopy B.is_clone l.blocks copy.blocks };
+
+    fn clone(&self) -> Result<Language<F, T, B>, AllocError> {
+        Ok(Language {
+            filters: self.filters.clone()?,
+            tags: self.tags.clone()?,
+            blocks: self.blocks.clone()?,
+        })
     }
 }

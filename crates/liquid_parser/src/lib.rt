@@ -1,14 +1,16 @@
 //! From template text to nodes: the reading of a text.
 #![tactic(auto)]
 
+mod advance;
 mod arguments;
 mod asked;
 mod block;
+mod block_cursor;
 mod body;
 mod build;
 mod cursor;
-#[cfg(test)]
-mod cursor_tests;
+mod element_cursor;
+mod elements;
 mod escape;
 mod expect;
 mod expect_chain;
@@ -16,12 +18,15 @@ mod filters;
 mod language;
 mod names;
 mod next_token;
+mod no_plugin;
+mod parse_element;
 mod parser;
 mod place;
 mod read_tag;
 mod stack;
 mod steps;
 mod tag;
+mod tag_block;
 mod tag_cursor;
 mod tag_token;
 mod token;
@@ -31,9 +36,12 @@ mod variable;
 
 pub use asked::BLOCK_LIMIT;
 pub use block::{BlockReflection, ParseBlock};
+pub use block_cursor::TagBlock;
 pub use body::BlockBody;
+pub use element_cursor::{BlockElement, Exp, InvalidLiquidToken, Raw};
 pub use language::Language;
 pub use liquid_tree::Node;
+pub use no_plugin::NoPlugin;
 pub use parser::{one_reading, parse};
 pub use tag::{ParseTag, TagReflection};
 pub use tag_cursor::Tag;

@@ -26,6 +26,7 @@ impl<'a> Tag<'a> {
             Some(tag) => match check(alloc, text, tag.fault) {
                 Ok(()) => Ok(Tag {
                     name: tag.name,
+                    from: tag.place,
                     text: tag.text,
                     tokens: TagTokenIter {
                         source: text,

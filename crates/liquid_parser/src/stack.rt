@@ -1,20 +1,11 @@
 //! What the parser keeps of the blocks that are open.
 
-use crate::tokens::TagTokenIter;
-
-/// A tag with its tokens.
-#[derive(Clone, Copy)]
-pub(crate) struct HandedTag<'a> {
-    pub(crate) name: &'a str,
-    /// The text from the name on.
-    pub(crate) from: &'a str,
-    pub(crate) tokens: TagTokenIter<'a>,
-}
-
 /// A block that is open.
 #[derive(Drop)]
 pub(crate) struct OpenBlock<'a, K, P, N> {
     pub(crate) kind: &'a K,
+    /// The source of its start tag.
+    pub(crate) source: &'a str,
     /// The text from the name of its start tag on.
     pub(crate) from: &'a str,
     pub(crate) plan: P,

@@ -6,13 +6,15 @@ ghost use Rattle.liquid_parser.specs.Lang.{Filters, escaped};
 ghost use Rattle.liquid_tree.specs.NodesOf.{node_of, shapes_of};
 ghost use Rattle.liquid_parser.specs.Plugins.{registry_of, block_of};
 ghost use Rattle.liquid_parser.specs.Reading.{finished};
-ghost use Rattle.liquid_parser.specs.Views.{IsHanded, open_view, blocks_view, state_view, tag_given, begun, parted, closed};
+ghost use Rattle.liquid_parser.specs.WholeTag.{IsTag};
+ghost use Rattle.liquid_parser.specs.Views.{open_view, blocks_view, state_view, tag_given, begun, parted, closed};
 
 use crate::block::ParseBlock;
 use crate::body::BlockBody;
 use crate::place::place_in;
-use crate::stack::{HandedTag, OpenBlock, ParserState};
+use crate::stack::{OpenBlock, ParserState};
 use crate::tag::ParseTag;
+use crate::tag_cursor::Tag;
 use liquid_error::Error;
 use liquid_plugins::{ParseFilter, PluginRegistry};
 use liquid_tree::Node;
@@ -22,10 +24,10 @@ use std::alloc::Global;
 pub(crate) fn tag_node<F: ParseFilter, T: ParseTag<F>, B: ParseBlock<F>>(
     alloc: Global,
     plug_in: &T,
-    tag: HandedTag<'_>,
+    tag: Tag<'_>,
     filters: &PluginRegistry<F>,
 ) -> Result<Node<F::Filter, T::Node, B::Node>, Error>
-    ensures { (source : List ℕ) (t : token.Tag) → IsHanded tag.entry source t
+    ensures { (source : List ℕ) (t : token.Tag) → IsTag tag.entry source t
         → Gives (node_of F.Filter.shape T.Node.shape B.Node.shape) result (tag_given (registry_of F.makes filters.now) source t (T.gives plug_in.now)) }
 {
     match plug_in.parse(alloc, tag.tokens, filters) {
@@ -39,15 +41,16 @@ pub(crate) fn opened<'a, F: ParseFilter, T: ParseTag<F>, B: ParseBlock<F>>(
     alloc: Global,
     kind: &'a B,
     nodes: Vec<Node<F::Filter, T::Node, B::Node>>,
-    tag: HandedTag<'a>,
+    tag: Tag<'a>,
     filters: &PluginRegistry<F>,
 ) -> Result<OpenBlock<'a, B, B::Plan, Node<F::Filter, T::Node, B::Node>>, Error>
-    ensures { (source : List ℕ) (t : token.Tag) → IsHanded tag.entry source t
+    ensures { (source : List ℕ) (t : token.Tag) → IsTag tag.entry source t
         → Gives (open_view F.Filter.shape T.Node.shape B.Node.shape B.Plan.shape (block_of B.start_name B.end_name B.meaning)) result (begun source t (registry_of F.makes filters.now) ((block_of B.start_name B.end_name B.meaning) kind.now) (shapes_of F.Filter.shape T.Node.shape B.Node.shape nodes.items)) }
 {
     match kind.begin(alloc, tag.tokens, filters) {
         Ok(plan) => Ok(OpenBlock {
             kind,
+            source: tag.tokens.source,
             from: tag.from,
             plan,
             before: nodes,
@@ -62,9 +65,9 @@ pub(crate) fn divided<'a, F: ParseFilter, T: ParseTag<F>, B: ParseBlock<F>>(
     alloc: Global,
     block: &mut OpenBlock<'a, B, B::Plan, Node<F::Filter, T::Node, B::Node>>,
     nodes: Vec<Node<F::Filter, T::Node, B::Node>>,
-    tag: HandedTag<'_>,
+    tag: Tag<'_>,
 ) -> Result<(), Error>
-    ensures { (source : List ℕ) (t : token.Tag) → IsHanded tag.entry source t
+    ensures { (source : List ℕ) (t : token.Tag) → IsTag tag.entry source t
         → Gives (λ _. open_view F.Filter.shape T.Node.shape B.Node.shape B.Plan.shape (block_of B.start_name B.end_name B.meaning) block.new) result (parted source t (open_view F.Filter.shape T.Node.shape B.Node.shape B.Plan.shape (block_of B.start_name B.end_name B.meaning) block.old) (shapes_of F.Filter.shape T.Node.shape B.Node.shape nodes.items)) }
 {
     match block
@@ -84,9 +87,9 @@ pub(crate) fn closed<'a, F: ParseFilter, T: ParseTag<F>, B: ParseBlock<F>>(
     alloc: Global,
     block: OpenBlock<'a, B, B::Plan, Node<F::Filter, T::Node, B::Node>>,
     nodes: Vec<Node<F::Filter, T::Node, B::Node>>,
-    tag: HandedTag<'_>,
+    tag: Tag<'_>,
 ) -> Result<Vec<Node<F::Filter, T::Node, B::Node>>, Error>
-    ensures { (source : List ℕ) (t : token.Tag) → IsHanded tag.entry source t
+    ensures { (source : List ℕ) (t : token.Tag) → IsTag tag.entry source t
         → Gives (λ v. shapes_of F.Filter.shape T.Node.shape B.Node.shape v.items) result (closed source t (open_view F.Filter.shape T.Node.shape B.Node.shape B.Plan.shape (block_of B.start_name B.end_name B.meaning) block.entry) (shapes_of F.Filter.shape T.Node.shape B.Node.shape nodes.items)) }
 {
     match tag.tokens.expect_nothing(alloc) {
@@ -95,6 +98,7 @@ pub(crate) fn closed<'a, F: ParseFilter, T: ParseTag<F>, B: ParseBlock<F>>(
     }
     let OpenBlock {
         kind,
+        source,
         from,
         plan,
         mut before,
@@ -106,22 +110,22 @@ pub(crate) fn closed<'a, F: ParseFilter, T: ParseTag<F>, B: ParseBlock<F>>(
             before.push(Node::Block(made, parts))?;
             Ok(before)
         }
-        Err(error) => Err(error.or_place(place_in(tag.tokens.source, from))),
+        Err(error) => Err(error.or_place(place_in(source, from))),
     }
 }
 
 /// A block with an escaped body ends, which has this text.
 pub(crate) fn sliced<'a, F: ParseFilter, T: ParseTag<F>, B: ParseBlock<F>>(
     alloc: Global,
-    source: &str,
     block: OpenBlock<'a, B, B::Plan, Node<F::Filter, T::Node, B::Node>>,
     around: Vec<OpenBlock<'a, B, B::Plan, Node<F::Filter, T::Node, B::Node>>>,
     text: &str,
 ) -> Result<ParserState<'a, B, B::Plan, Node<F::Filter, T::Node, B::Node>>, Error>
-    ensures { Gives (state_view F.Filter.shape T.Node.shape B.Node.shape B.Plan.shape (block_of B.start_name B.end_name B.meaning)) result (finished source.now (open_view F.Filter.shape T.Node.shape B.Node.shape B.Plan.shape (block_of B.start_name B.end_name B.meaning) block.entry) (blocks_view F.Filter.shape T.Node.shape B.Node.shape B.Plan.shape (block_of B.start_name B.end_name B.meaning) around.entry.items) (escaped text.now) []) }
+    ensures { Gives (state_view F.Filter.shape T.Node.shape B.Node.shape B.Plan.shape (block_of B.start_name B.end_name B.meaning)) result (finished (open_view F.Filter.shape T.Node.shape B.Node.shape B.Plan.shape (block_of B.start_name B.end_name B.meaning) block.entry) (blocks_view F.Filter.shape T.Node.shape B.Node.shape B.Plan.shape (block_of B.start_name B.end_name B.meaning) around.entry.items) (escaped text.now) []) }
 {
     let OpenBlock {
         kind,
+        source,
         from,
         plan,
         mut before,

@@ -5,6 +5,8 @@ use crate::tokens::TagTokenIter;
 #[derive(Clone, Copy)]
 pub struct Tag<'a> {
     pub(crate) name: &'a str,
+    /// The text from the name on.
+    pub(crate) from: &'a str,
     pub(crate) text: &'a str,
     pub(crate) tokens: TagTokenIter<'a>,
 }

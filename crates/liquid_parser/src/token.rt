@@ -1,9 +1,8 @@
 //! The text of a token, and refusals of it.
 ghost use Rattle.std.specs.Prelude.{◌≡◌, IfSome};
 ghost use Rattle.liquid_error.specs.Told.{told};
-ghost use Rattle.liquid_grammar.specs.Tokens.{Token as MatchedToken, TokenRule};
 ghost use Rattle.liquid_parser.specs.Cursors.{IsToken};
-ghost use Rattle.liquid_parser.specs.Handed.{Token, slice_between, token_error, unexpected};
+ghost use Rattle.liquid_parser.specs.Handed.{Token, token_error, unexpected};
 
 use crate::place::refused_at;
 use crate::tag_token::TagToken;
@@ -15,7 +14,7 @@ impl<'a> TagToken<'a> {
     pub fn as_str(&self) -> &'a str
         ensures { (t : Token) → IsToken self.now t → result.now ≡ t.text }
     {
-        text_between(self.text.place, self.text.rest)
+        self.text.text
     }
 
     /// The refusal `Unexpected token`, at the token.
@@ -30,15 +29,5 @@ impl<'a> TagToken<'a> {
         ensures { (t : Token) → IsToken self.entry t → IfSome (told result) (λ r. r ≡ token_error message.now t) }
     {
         refused_at(alloc, self.source, message, self.text.place)
-    }
-}
-
-/// The text of the token that begins at a place, up to what follows it.
-fn text_between<'a>(place: &'a str, rest: &str) -> &'a str
-    ensures { (t : MatchedToken) → TokenRule place.now rest.now t → result.now ≡ slice_between place.now rest.now }
-{
-    match place.get(..place.len().saturating_sub(rest.len())) {
-        Some(text) => text,
-        None => "",
     }
 }

@@ -1,5 +1,6 @@
-ghost use Rattle.std.specs.Prelude.{◌≡◌, ◌++◌, [], ◌∷◌, List, length, Some, IfOk, OnOk, OnErr};
-ghost use Rattle.std.specs.Iterator.{at_most};
+ghost use Rattle.std.specs.Prelude.{◌≡◌, ◌++◌, [], ◌∷◌, List, length, Some, IfOk, IfSome, OnOk, OnErr};
+ghost use Rattle.std.specs.Iterator.{UpTo, at_most};
+ghost use Rattle.std.specs.Iterator.SizeHint.{IsExactHint, IsWithinCount};
 ghost use Rattle.std.specs.Slice.Iter.{iter_steps};
 ghost use Rattle.std.specs.List.{flat_map};
 ghost use Rattle.std.specs.Fmt.{WritesOnOk};
@@ -80,8 +81,14 @@ impl<'p, 's> Iterator for PathIter<'p, 's> {
         self.indexes.next()
     }
 
-    fn size_hint(&self) -> (usize, Option<usize>) {
-        self.indexes.size_hint()
+    /// How many indexes are left, as both bounds.
+    fn size_hint(&self) -> (usize, Option<usize>)
+        ensures lower { IsWithinCount result.0 (at_most (length (path_iter_rest self.now))) }
+        ensures upper { IfSome result.1 (UpTo (at_most (length (path_iter_rest self.now)))) }
+        ensures exact { IsExactHint result (length (path_iter_rest self.now)) }
+    {
+        let left = self.indexes.len();
+        (left, Some(left))
     }
 }
 

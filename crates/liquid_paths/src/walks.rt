@@ -1,4 +1,4 @@
-ghost use Rattle.std.specs.Prelude.{◌≡◌, ◌≤◌, length, take, drop, Some, IfOk, IfSome, option_map, string_bytes};
+ghost use Rattle.std.specs.Prelude.{◌≡◌, take, drop, Some, IfOk, IfSome, option_map, string_bytes};
 ghost use Rattle.liquid_value.specs.Cow.{cow_view};
 ghost use Rattle.liquid_value.specs.View.{view, items_view, members_view};
 ghost use Rattle.liquid_error.specs.Told.{told, Gives, Becomes};
@@ -84,14 +84,13 @@ pub fn find<'v>(
 }
 
 /// The same of a path whose first `front` indexes have led to `value`: the walk begins behind them,
-/// and a refusal shows them in `variable`. `front` is at most the path's length.
+/// and a refusal shows them in `variable`. Where the path has no index behind them, it is `value`.
 pub fn find_behind<'v>(
     alloc: Global,
     front: usize,
     value: &'v Value,
     path: &[ScalarCow<'_>],
 ) -> Result<ValueCow<'v>, Error>
-    requires { front ≤ length path.now }
     ensures gives { Gives cow_view result (find_behind (indexes_of (take front path.now)) (view value.now) (indexes_of (drop front path.now))) }
     ensures in_place { IfOk result InPlace }
 {

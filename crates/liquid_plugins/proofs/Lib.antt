@@ -2,4 +2,5 @@ pub mod Agreement
 pub mod ErasedLemmas
 pub mod PathSteps
 pub mod Registries
+pub mod StandingValues
 pub mod Uneven

@@ -12,6 +12,7 @@ ghost use Rattle.liquid_plugins.specs.ExpressionOf.{expression_of, expressions_o
 ghost use Rattle.liquid_plugins.specs.Parts.{named_path, try_named_path};
 
 use crate::expression::{Expression, Variable, VariableOf};
+use crate::standing::standing;
 use liquid_error::Error;
 use liquid_paths::Path;
 use liquid_runtime::Runtime;
@@ -24,6 +25,7 @@ use std::borrow::CowStr;
 impl Expression {
     /// What the expression comes to, or the first refusal from the left: a literal's value, and
     /// what the runtime has at a variable's path. A value that stands in either is borrowed.
+    #[tactic(auto, using(crate::proofs::StandingValues::stands))]
     pub fn evaluate<'c, R: Runtime>(
         &'c self,
         alloc: Global,
@@ -32,7 +34,10 @@ impl Expression {
         ensures gives { Gives cow_view result (evaluate (R.view runtime.now) (expression_of self.now)) }
         ensures in_place { IfOk result InPlace }
     {
-        evaluate(alloc, self, runtime)
+        match standing(alloc, self, runtime) {
+            Some(value) => Ok(ValueCow::Borrowed(value)),
+            None => evaluate(alloc, self, runtime),
+        }
     }
 
     /// What the expression comes to, if it comes to a value. An `Err` is want of memory.
@@ -44,7 +49,10 @@ impl Expression {
         ensures gives { IfOk result (λ value. option_map cow_view value ≡ try_evaluate (R.view runtime.now) (expression_of self.now)) }
         ensures in_place { IfOk result (λ value. IfSome value InPlace) }
     {
-        try_evaluate(alloc, self, runtime)
+        match standing(alloc, self, runtime) {
+            Some(value) => Ok(Some(ValueCow::Borrowed(value))),
+            None => try_evaluate(alloc, self, runtime),
+        }
     }
 }
 

@@ -1,7 +1,8 @@
 //! Registries: plug-ins by their names.
-ghost use Rattle.std.specs.Prelude.{◌≡◌, is_some, length, string_bytes, IfOk, OnOk, OnErr};
+ghost use Rattle.std.specs.Prelude.{◌≡◌, is_some, length, string_bytes, IfOk, IfSome, OnOk, OnErr};
 ghost use Rattle.std.specs.FinMap.{empty, get, insert, keys, values};
-ghost use Rattle.std.specs.Iterator.{at_most};
+ghost use Rattle.std.specs.Iterator.{UpTo, at_most};
+ghost use Rattle.std.specs.Iterator.SizeHint.{IsExactHint, IsWithinCount};
 ghost use Rattle.std.specs.Map.Iter.{TakesFirst, deref};
 ghost use Rattle.std.specs.Option.{option_copied};
 ghost use Rattle.liquid_plugins.specs.Registry.{IsCopy};
@@ -125,8 +126,14 @@ impl<'r, P> Iterator for PluginNames<'r, P> {
         }
     }
 
-    fn size_hint(&self) -> (usize, Option<usize>) {
-        self.names.size_hint()
+    /// How many names are left, as both bounds.
+    fn size_hint(&self) -> (usize, Option<usize>)
+        ensures lower { IsWithinCount result.0 (at_most (length self.now)) }
+        ensures upper { IfSome result.1 (UpTo (at_most (length self.now))) }
+        ensures exact { IsExactHint result (length self.now) }
+    {
+        let left = self.names.len();
+        (left, Some(left))
     }
 }
 
@@ -161,8 +168,14 @@ impl<'r, P> Iterator for Plugins<'r, P> {
         self.plugins.next()
     }
 
-    fn size_hint(&self) -> (usize, Option<usize>) {
-        self.plugins.size_hint()
+    /// How many plug-ins are left, as both bounds.
+    fn size_hint(&self) -> (usize, Option<usize>)
+        ensures lower { IsWithinCount result.0 (at_most (length self.now)) }
+        ensures upper { IfSome result.1 (UpTo (at_most (length self.now))) }
+        ensures exact { IsExactHint result (length self.now) }
+    {
+        let left = self.plugins.len();
+        (left, Some(left))
     }
 }
 

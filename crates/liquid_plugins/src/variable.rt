@@ -37,3 +37,15 @@ impl Extend<Expression> for VariableOf<Expression> {
         self.indexes.extend(iter)
     }
 }
+
+/// Adds literals behind the indexes. Where memory is refused a beginning of them is added.
+impl Extend<Scalar> for VariableOf<Expression> {
+    ghost extend_gives = { λ v scalars w. variable_of w ≡ variable (name_of v) (indexes_of (index_list v ++ map (λ s. literal_of (scal string_bytes s)) scalars)) };
+
+    fn extend<U: IntoIterator<Item = Scalar>>(&mut self, iter: U) -> Result<(), AllocError> {
+        for scalar in iter {
+            self.indexes.push(Expression::with_literal(scalar))?;
+        }
+        Ok(())
+    }
+}

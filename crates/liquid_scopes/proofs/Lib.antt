@@ -1,2 +1,7 @@
 pub mod LayerLaws
 pub mod LayerNames
+pub mod TwoLooks
+pub mod IndexLaws
+pub mod Places
+pub mod FlatLaws
+pub mod Alike

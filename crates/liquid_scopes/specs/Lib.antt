@@ -1,2 +1,4 @@
 pub mod Layers
 pub mod LinkLayers
+pub mod Standing
+pub mod Histories

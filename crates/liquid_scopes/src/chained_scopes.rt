@@ -4,6 +4,7 @@ ghost use Rattle.liquid_scopes.specs.Layers.{shown_over, restoring, LastGlobal};
 ghost use Rattle.liquid_scopes.specs.LinkLayers.{layer_of};
 
 use crate::link::{Link, closing, opening};
+use crate::links::{name_over, roots_over, seals_over};
 use liquid_error::Error;
 use liquid_runtime::{Frame, Registers, Runtime, Scopes};
 use liquid_value::Value;
@@ -50,11 +51,7 @@ impl<R: Runtime> Runtime for ChainedScopes<R> {
     ghost lent = { λ s. R.lent s.base };
 
     fn name(&self) -> Option<&str> {
-        let mut name = self.base.name();
-        for link in &self.links {
-            name = link.name_over(name);
-        }
-        name
+        name_over(self.links.as_slice(), self.base.name())
     }
 
     fn try_get_name(&self, name: &str) -> Option<&Value> {
@@ -66,20 +63,12 @@ impl<R: Runtime> Runtime for ChainedScopes<R> {
     }
 
     fn seals(&self, name: &str) -> bool {
-        let below = self.base.seals(name);
-        let mut sealed = below;
-        for link in &self.links {
-            sealed = link.seals(name, sealed);
-        }
-        sealed
+        seals_over(self.links.as_slice(), name, self.base.seals(name))
     }
 
     fn roots(&self, alloc: Global) -> Result<BTreeSet<String>, AllocError> {
-        let mut names = self.base.roots(alloc)?;
-        for link in &self.links {
-            names = link.roots_over(alloc, names)?;
-        }
-        Ok(names)
+        let below = self.base.roots(alloc)?;
+        roots_over(alloc, self.links.as_slice(), below)
     }
 
     fn get_index(&self, name: &str) -> Option<&Value> {

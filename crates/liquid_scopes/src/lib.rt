@@ -2,6 +2,16 @@
 #![tactic(auto)]
 
 mod chained_scopes;
+mod flat_scopes;
+mod index;
+mod laws;
 mod link;
+mod links;
+mod looks;
+mod shown;
+mod table;
 
 pub use chained_scopes::ChainedScopes;
+pub use flat_scopes::FlatScopes;
+pub use laws::chained_and_flat_scopes_answer_alike;
+pub use looks::Looks;

@@ -7,6 +7,7 @@ ghost use Rattle.liquid_runtime.specs.Frames.{beginning, restored_by, ending};
 ghost use Rattle.liquid_runtime.specs.Calls.{frame_of, registers_of, with_registers};
 ghost use Rattle.liquid_scopes.specs.Layers.{layer_found, layer_seals, layer_name, layer_view, layer_restores, is_global, assigned, LayerNames};
 ghost use Rattle.liquid_scopes.specs.LinkLayers.{layer_of};
+ghost use Rattle.liquid_scopes.specs.Standing.{own, is_sandboxed};
 
 use liquid_error::Error;
 use liquid_runtime::names::{add_names, only_names, own_name, set_name, value_of};
@@ -93,6 +94,29 @@ impl<V> Link<V> {
                 Some(name) => Some(name),
                 None => below,
             },
+        }
+    }
+
+    // The value that the frame itself gives a name.
+    pub(crate) fn own_value(&self, name: &str) -> Option<&Value>
+        ensures { option_map (λ r. tree_of r.now) result ≡ own (layer_of self.now) name.now }
+    {
+        match self {
+            Link::None => None,
+            Link::Stack(data, _) | Link::Global(data) | Link::Sandboxed(data, _, _) => {
+                value_of(data, name)
+            }
+        }
+    }
+
+    pub(crate) fn is_sandboxed(&self) -> bool
+        ensures { result ≡ is_sandboxed (layer_of self.now) }
+    {
+        match self {
+            Link::None => false,
+            Link::Stack(_, _) => false,
+            Link::Global(_) => false,
+            Link::Sandboxed(_, _, _) => true,
         }
     }
 

@@ -2,6 +2,7 @@ pub mod Actions
 pub mod Bound
 pub mod FaultText
 pub mod Grows
+pub mod Isolation
 pub mod Nodes
 pub mod Outcome
 pub mod Partials
@@ -12,6 +13,7 @@ pub mod Put
 pub mod Rendering
 pub mod Run
 pub mod Runs
+pub mod Sandboxed
 pub mod Sought
 pub mod Sunk
 pub mod TemplateOf

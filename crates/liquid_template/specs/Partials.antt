@@ -1,5 +1,5 @@
 -- What the partial of a name comes to.
-use Rattle.std.specs.Prelude.{ℕ, zero, suc, List, codes, Option, None, Some, Result, Ok, Err}
+use Rattle.std.specs.Prelude.{ℕ, zero, suc, List, codes, Option, None, Some, option_and_then, Result, Ok, Err}
 use Rattle.std.specs.FinMap.{get, keys}
 use Rattle.liquid_error.specs.Refusal.{Refusal, plain, with_context}
 use Rattle.liquid_runtime.specs.Maps.{NameMap}
@@ -22,9 +22,22 @@ abbrev pub unknown_partial : List ℕ → List (List ℕ) → Refusal
 unknown_partial name names =
     with_context (codes "available partials") (listed names) (with_context (codes "requested partial") name (plain (codes "Unknown partial-template")))
 
--- what a store of these texts answers for a name: the reading of its text
-abbrev pub partial_of : {A : Type 0} → NameMap (List ℕ) → (List ℕ → Result A Refusal) → List ℕ → Result A Refusal
-partial_of sources reading name = elim (get sources name) [ None ↦ Err (unknown_partial name (keys sources)) | Some text ↦ reading text ]
+-- the tree that a text is read as, and none for a fault
+abbrev pub read_tree : {A : Type 0} → Result A Refusal → Option A
+read_tree (Ok tree) = Some tree
+read_tree (Err refusal) = None
+
+-- what a store finds: under each name what its text is read as, a tree or a fault
+abbrev pub Found : (F T B : Type 0) → Type 0
+Found F T B = NameMap (Result (Nodes F T B) Refusal)
+
+-- what a name comes to: what is found under it, or the refusal of a name that is not there
+abbrev pub partial_in : {A : Type 0} → NameMap (Result A Refusal) → List ℕ → Result A Refusal
+partial_in finds name = elim (get finds name) [ None ↦ Err (unknown_partial name (keys finds)) | Some reading ↦ reading ]
+
+-- the tree among them, and none for a fault and for a name that is not there
+abbrev pub tree_in : {A : Type 0} → NameMap (Result A Refusal) → List ℕ → Option A
+tree_in finds name = option_and_then read_tree (get finds name)
 
 module _ {Reg F T B : Type 0} where
   -- what a reading comes to: its nodes, or its refusal

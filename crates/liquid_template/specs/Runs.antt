@@ -1,5 +1,5 @@
 -- What each function of the renderer writes, where so many partials may still be open.
-use Rattle.std.specs.Prelude.{ℕ, List, [], Option, Result}
+use Rattle.std.specs.Prelude.{ℕ, List, [], Option, option_map, Result}
 use Rattle.liquid_error.specs.Refusal.{Refusal}
 use Rattle.liquid_value.specs.Tree.{Tree}
 use Rattle.liquid_runtime.specs.View.{View}
@@ -10,19 +10,19 @@ use Rattle.liquid_tree.specs.Tree.{NodeShape, Nodes, Parts}
 use Rattle.liquid_template.specs.Run.{Action}
 use Rattle.liquid_template.specs.Actions.{under, part_at}
 use Rattle.liquid_template.specs.Nodes.{Setting, performed, played, run_node, run_parts}
-use Rattle.liquid_template.specs.Partials.{partials_at}
+use Rattle.liquid_template.specs.Partials.{Found, partial_in, partials_at}
 
--- a setting, from what the filters, tags and blocks mean
+-- a setting, from what the filters, tags and blocks mean, and from what the store finds, if there is one
 abbrev pub setting : {Reg F T P B Q : Type 0} → Reg → (F → Tree → Erased → Result Tree Refusal) → (F → List ℕ)
     → (T → View Reg → Told P (Unit {0}) Reg) → (P → ℕ) → (T → P → View Reg → Told TurnShape P Reg)
     → (B → View Reg → Told Q (Unit {0}) Reg) → (Q → ℕ) → (B → Q → View Reg → Told TurnShape Q Reg)
-    → Option (List ℕ → Result (Nodes F T B) Refusal) → Setting Reg F T P B Q
+    → Option (Found F T B) → Setting Reg F T P B Q
 setting fresh answers label tag_starts tag_count tag_tells block_starts block_count block_tells finds = record {
   fresh = fresh;
   filters = record { answers = answers; label = label };
   tags = record { starts = tag_starts; count = tag_count; tells = tag_tells };
   blocks = record { starts = block_starts; count = block_count; tells = block_tells };
-  finds = finds;
+  finds = option_map partial_in finds;
 }
 
 module _ {Reg F T P B Q : Type 0} (s : Setting Reg F T P B Q) (depth : ℕ) where

@@ -1,36 +1,27 @@
 //! The renderer's cycle.
-ghost use Rattle.std.specs.Prelude.{◌≡◌, ◌≤◌, Ok, IfOk, IfSome, string_bytes, option_map};
-ghost use Rattle.liquid_error.specs.Told.{told, Gives};
-ghost use Rattle.liquid_value.specs.View.{view as tree_of};
-ghost use Rattle.liquid_value.specs.Render.{render};
+ghost use Rattle.std.specs.Prelude.{◌≡◌, string_bytes, option_map};
 ghost use Rattle.liquid_runtime.specs.Calls.{frame_of};
-ghost use Rattle.liquid_plugins.specs.Chain.{chain_value};
-ghost use Rattle.liquid_plugins.specs.ExpressionOf.{chain_of};
 ghost use Rattle.liquid_plugins.specs.TurnOf.{turn_of};
 ghost use Rattle.liquid_tree.specs.NodesOf.{node_of, nodes_of};
-ghost use Rattle.liquid_tree.specs.Size.{size_nodes};
-ghost use Rattle.liquid_template.specs.Actions.{writes_value};
-ghost use Rattle.liquid_template.specs.Partials.{too_deep, no_store, partials_at};
+ghost use Rattle.liquid_template.specs.Partials.{partials_at};
 ghost use Rattle.liquid_template.specs.Rendering.{nodes_run};
-ghost use Rattle.liquid_template.specs.TemplateOf.{template_nodes};
 ghost use Rattle.liquid_template.specs.Sunk.{sunk};
 ghost use Rattle.liquid_template.specs.Outcome.{Renders};
 ghost use Rattle.liquid_template.specs.Runs.{setting, node_run, tag_run, block_run, turn_run, part_run, body_run, partial_run};
 ghost use Rattle.liquid_template.specs.PartsOf.{parts_of};
-ghost use Rattle.liquid_template.specs.Bound.{most};
-ghost use Rattle.liquid_template.specs.Sought.{store_answer};
+ghost use Rattle.liquid_template.specs.Bound.{partials_size};
 
+use crate::chain::render_chain;
+use crate::partial::{find, too_deep_error};
 use crate::piece::write_piece;
 use crate::sink::Sink;
 use crate::store::PartialStore;
 use crate::template::Template;
 use crate::trace::with_own_trace;
 use liquid_error::Error;
-use liquid_plugins::{Filter, FilterChain, Meant, Renderable, Turn};
-use liquid_runtime::{Frame, Runtime, Scopes};
+use liquid_plugins::{Filter, Renderable, Turn};
+use liquid_runtime::{Frame, Scopes};
 use liquid_tree::Node;
-use liquid_value::Value;
-use liquid_value::render::ValueRender;
 use std::alloc::Global;
 use std::rc::Rc;
 
@@ -53,7 +44,7 @@ where
     ensures renders { Renders (nodes_run (setting S.Register.fresh X.answers X.shown T.starts T.count T.tells B.starts B.count B.tells (option_map S.Store.finds (S.store scopes.old))) depth (nodes_of X.shape T.shape B.shape nodes.now) (S.view scopes.old)) (S.view scopes.old) (sunk (K.taken sink.old) (K.failures sink.old) (K.behind sink.old) (K.lent sink.old)) (sunk (K.taken sink.new) (K.failures sink.new) (K.behind sink.new) (K.lent sink.new)) (S.view scopes.new) result }
     ensures kept { S.restores scopes.new ≡ S.restores scopes.old }
     ensures finds { option_map S.Store.finds (S.store scopes.new) ≡ option_map S.Store.finds (S.store scopes.old) }
-    ensures bound { most S.Store.largest (S.store scopes.new) ≡ most S.Store.largest (S.store scopes.old) }
+    ensures bound { partials_size (option_map S.Store.finds (S.store scopes.new)) ≡ partials_size (option_map S.Store.finds (S.store scopes.old)) }
     ensures same { S.lent scopes.new ≡ S.lent scopes.old }
 {
     for node in nodes {
@@ -86,7 +77,7 @@ where
     ensures renders { Renders (node_run (setting S.Register.fresh X.answers X.shown T.starts T.count T.tells B.starts B.count B.tells (option_map S.Store.finds (S.store scopes.old))) depth (node_of X.shape T.shape B.shape node.now) (S.view scopes.old)) (S.view scopes.old) (sunk (K.taken sink.old) (K.failures sink.old) (K.behind sink.old) (K.lent sink.old)) (sunk (K.taken sink.new) (K.failures sink.new) (K.behind sink.new) (K.lent sink.new)) (S.view scopes.new) result }
     ensures kept { S.restores scopes.new ≡ S.restores scopes.old }
     ensures finds { option_map S.Store.finds (S.store scopes.new) ≡ option_map S.Store.finds (S.store scopes.old) }
-    ensures bound { most S.Store.largest (S.store scopes.new) ≡ most S.Store.largest (S.store scopes.old) }
+    ensures bound { partials_size (option_map S.Store.finds (S.store scopes.new)) ≡ partials_size (option_map S.Store.finds (S.store scopes.old)) }
     ensures same { S.lent scopes.new ≡ S.lent scopes.old }
 {
     match node {
@@ -115,7 +106,7 @@ where
     ensures renders { Renders (tag_run (setting S.Register.fresh X.answers X.shown T.starts T.count T.tells B.starts B.count B.tells (option_map S.Store.finds (S.store scopes.old))) depth (T.shape tag.now) (S.view scopes.old)) (S.view scopes.old) (sunk (K.taken sink.old) (K.failures sink.old) (K.behind sink.old) (K.lent sink.old)) (sunk (K.taken sink.new) (K.failures sink.new) (K.behind sink.new) (K.lent sink.new)) (S.view scopes.new) result }
     ensures kept { S.restores scopes.new ≡ S.restores scopes.old }
     ensures finds { option_map S.Store.finds (S.store scopes.new) ≡ option_map S.Store.finds (S.store scopes.old) }
-    ensures bound { most S.Store.largest (S.store scopes.new) ≡ most S.Store.largest (S.store scopes.old) }
+    ensures bound { partials_size (option_map S.Store.finds (S.store scopes.new)) ≡ partials_size (option_map S.Store.finds (S.store scopes.old)) }
     ensures same { S.lent scopes.new ≡ S.lent scopes.old }
 {
     let none = Vec::new(alloc);
@@ -158,7 +149,7 @@ where
     ensures renders { Renders (block_run (setting S.Register.fresh X.answers X.shown T.starts T.count T.tells B.starts B.count B.tells (option_map S.Store.finds (S.store scopes.old))) depth (B.shape block.now) (parts_of X.shape T.shape B.shape parts.now) (S.view scopes.old)) (S.view scopes.old) (sunk (K.taken sink.old) (K.failures sink.old) (K.behind sink.old) (K.lent sink.old)) (sunk (K.taken sink.new) (K.failures sink.new) (K.behind sink.new) (K.lent sink.new)) (S.view scopes.new) result }
     ensures kept { S.restores scopes.new ≡ S.restores scopes.old }
     ensures finds { option_map S.Store.finds (S.store scopes.new) ≡ option_map S.Store.finds (S.store scopes.old) }
-    ensures bound { most S.Store.largest (S.store scopes.new) ≡ most S.Store.largest (S.store scopes.old) }
+    ensures bound { partials_size (option_map S.Store.finds (S.store scopes.new)) ≡ partials_size (option_map S.Store.finds (S.store scopes.old)) }
     ensures same { S.lent scopes.new ≡ S.lent scopes.old }
 {
     let mut progress = match block.start(alloc, scopes) {
@@ -200,7 +191,7 @@ where
     ensures renders { Renders (turn_run (setting S.Register.fresh X.answers X.shown T.starts T.count T.tells B.starts B.count B.tells (option_map S.Store.finds (S.store scopes.old))) depth (parts_of X.shape T.shape B.shape parts.now) (turn_of turn) (S.view scopes.old)) (S.view scopes.old) (sunk (K.taken sink.old) (K.failures sink.old) (K.behind sink.old) (K.lent sink.old)) (sunk (K.taken sink.new) (K.failures sink.new) (K.behind sink.new) (K.lent sink.new)) (S.view scopes.new) result }
     ensures kept { S.restores scopes.new ≡ S.restores scopes.old }
     ensures finds { option_map S.Store.finds (S.store scopes.new) ≡ option_map S.Store.finds (S.store scopes.old) }
-    ensures bound { most S.Store.largest (S.store scopes.new) ≡ most S.Store.largest (S.store scopes.old) }
+    ensures bound { partials_size (option_map S.Store.finds (S.store scopes.new)) ≡ partials_size (option_map S.Store.finds (S.store scopes.old)) }
     ensures same { S.lent scopes.new ≡ S.lent scopes.old }
 {
     match turn {
@@ -236,7 +227,7 @@ where
     ensures renders { Renders (body_run (setting S.Register.fresh X.answers X.shown T.starts T.count T.tells B.starts B.count B.tells (option_map S.Store.finds (S.store scopes.old))) depth (parts_of X.shape T.shape B.shape parts.now) place (frame_of frame) (option_map (λ s. string_bytes s) trace) (S.view scopes.old)) (S.view scopes.old) (sunk (K.taken sink.old) (K.failures sink.old) (K.behind sink.old) (K.lent sink.old)) (sunk (K.taken sink.new) (K.failures sink.new) (K.behind sink.new) (K.lent sink.new)) (S.view scopes.new) result }
     ensures kept { S.restores scopes.new ≡ S.restores scopes.old }
     ensures finds { option_map S.Store.finds (S.store scopes.new) ≡ option_map S.Store.finds (S.store scopes.old) }
-    ensures bound { most S.Store.largest (S.store scopes.new) ≡ most S.Store.largest (S.store scopes.old) }
+    ensures bound { partials_size (option_map S.Store.finds (S.store scopes.new)) ≡ partials_size (option_map S.Store.finds (S.store scopes.old)) }
     ensures same { S.lent scopes.new ≡ S.lent scopes.old }
 {
     match scopes.push(frame) {
@@ -267,7 +258,7 @@ where
     ensures renders { Renders (part_run (setting S.Register.fresh X.answers X.shown T.starts T.count T.tells B.starts B.count B.tells (option_map S.Store.finds (S.store scopes.old))) depth (parts_of X.shape T.shape B.shape parts.now) place (S.view scopes.old)) (S.view scopes.old) (sunk (K.taken sink.old) (K.failures sink.old) (K.behind sink.old) (K.lent sink.old)) (sunk (K.taken sink.new) (K.failures sink.new) (K.behind sink.new) (K.lent sink.new)) (S.view scopes.new) result }
     ensures kept { S.restores scopes.new ≡ S.restores scopes.old }
     ensures finds { option_map S.Store.finds (S.store scopes.new) ≡ option_map S.Store.finds (S.store scopes.old) }
-    ensures bound { most S.Store.largest (S.store scopes.new) ≡ most S.Store.largest (S.store scopes.old) }
+    ensures bound { partials_size (option_map S.Store.finds (S.store scopes.new)) ≡ partials_size (option_map S.Store.finds (S.store scopes.old)) }
     ensures same { S.lent scopes.new ≡ S.lent scopes.old }
 {
     match parts.get(place as usize) {
@@ -296,7 +287,7 @@ where
     ensures renders { Renders (partial_run (setting S.Register.fresh X.answers X.shown T.starts T.count T.tells B.starts B.count B.tells (option_map S.Store.finds (S.store scopes.old))) depth name.now (frame_of frame) (option_map (λ s. string_bytes s) trace) (S.view scopes.old)) (S.view scopes.old) (sunk (K.taken sink.old) (K.failures sink.old) (K.behind sink.old) (K.lent sink.old)) (sunk (K.taken sink.new) (K.failures sink.new) (K.behind sink.new) (K.lent sink.new)) (S.view scopes.new) result }
     ensures kept { S.restores scopes.new ≡ S.restores scopes.old }
     ensures finds { option_map S.Store.finds (S.store scopes.new) ≡ option_map S.Store.finds (S.store scopes.old) }
-    ensures bound { most S.Store.largest (S.store scopes.new) ≡ most S.Store.largest (S.store scopes.old) }
+    ensures bound { partials_size (option_map S.Store.finds (S.store scopes.new)) ≡ partials_size (option_map S.Store.finds (S.store scopes.old)) }
     ensures same { S.lent scopes.new ≡ S.lent scopes.old }
 {
     match scopes.push(frame) {
@@ -326,7 +317,7 @@ where
     ensures renders { Renders (partials_at (setting S.Register.fresh X.answers X.shown T.starts T.count T.tells B.starts B.count B.tells (option_map S.Store.finds (S.store scopes.old))) depth name.now (S.view scopes.old)) (S.view scopes.old) (sunk (K.taken sink.old) (K.failures sink.old) (K.behind sink.old) (K.lent sink.old)) (sunk (K.taken sink.new) (K.failures sink.new) (K.behind sink.new) (K.lent sink.new)) (S.view scopes.new) result }
     ensures kept { S.restores scopes.new ≡ S.restores scopes.old }
     ensures finds { option_map S.Store.finds (S.store scopes.new) ≡ option_map S.Store.finds (S.store scopes.old) }
-    ensures bound { most S.Store.largest (S.store scopes.new) ≡ most S.Store.largest (S.store scopes.old) }
+    ensures bound { partials_size (option_map S.Store.finds (S.store scopes.new)) ≡ partials_size (option_map S.Store.finds (S.store scopes.old)) }
     ensures same { S.lent scopes.new ≡ S.lent scopes.old }
 {
     if depth == 0 {
@@ -337,76 +328,4 @@ where
         Ok(template) => render_list(alloc, template.nodes(), depth - 1, sink, scopes),
         Err(error) => Err(error),
     }
-}
-/// The refusal where no partial may be open any more.
-fn too_deep_error(alloc: Global) -> Error
-    ensures { IfSome (told result) (λ r. r ≡ too_deep) }
-{
-    Error::with_msg(alloc, "Partials nest too deep")
-}
-
-/// The refusal of a name where there is no store.
-fn no_store_error(alloc: Global, name: &str) -> Error
-    ensures { IfSome (told result) (λ r. r ≡ no_store name.now) }
-{
-    Error::with_msg(alloc, "Partial does not exist").context(alloc, "name", name)
-}
-
-/// Finds a partial in the store, if there is one.
-fn find<X, T, B, S>(
-    alloc: Global,
-    name: &str,
-    scopes: &mut S,
-) -> Result<Rc<Template<X, T, B>>, Error>
-where
-    X: Filter,
-    T: Meant + Drop,
-    B: Meant + Drop,
-    S: Scopes,
-    S::Store: PartialStore<X, T, B>,
-    ensures gives { Gives (λ template. template_nodes X.shape T.shape B.shape template.value) result (store_answer (option_map S.Store.finds (S.store scopes.old)) name.now) }
-    ensures small { IfOk result (λ template. size_nodes (template_nodes X.shape T.shape B.shape template.value) ≤ most S.Store.largest (S.store scopes.old)) }
-    ensures view { S.view scopes.new ≡ S.view scopes.old }
-    ensures kept { S.restores scopes.new ≡ S.restores scopes.old }
-    ensures stays { (option_map S.Store.finds (S.store scopes.new) ≡ option_map S.Store.finds (S.store scopes.old)) × (most S.Store.largest (S.store scopes.new) ≡ most S.Store.largest (S.store scopes.old)) }
-    ensures same { S.lent scopes.new ≡ S.lent scopes.old }
-{
-    match scopes.partials() {
-        Some(store) => store.get(alloc, name),
-        None => Err(no_store_error(alloc, name)),
-    }
-}
-
-/// The text that a value renders as.
-fn rendered_text(alloc: Global, value: &Value) -> Result<String, Error>
-    ensures { Gives (λ s. string_bytes s) result (Ok (render (tree_of value.now))) }
-{
-    match ValueRender::new(value).to_string(alloc) {
-        Ok(text) => Ok(text),
-        Err(_) => Err(Error::Memory),
-    }
-}
-
-/// Renders a chain: its value's text, as one piece.
-fn render_chain<X, R, K>(
-    alloc: Global,
-    chain: &FilterChain<X>,
-    sink: &mut K,
-    runtime: &R,
-) -> Result<(), Error>
-where
-    X: Filter,
-    R: Runtime,
-    K: Sink,
-    ensures { Renders (writes_value (chain_value (record { answers = X.answers; label = X.shown }) (chain_of X.shape chain.now) (R.view runtime.now)) (R.view runtime.now)) (R.view runtime.now) (sunk (K.taken sink.old) (K.failures sink.old) (K.behind sink.old) (K.lent sink.old)) (sunk (K.taken sink.new) (K.failures sink.new) (K.behind sink.new) (K.lent sink.new)) (R.view runtime.now) result }
-{
-    let value = match chain.evaluate(alloc, runtime) {
-        Ok(value) => value,
-        Err(error) => return Err(error),
-    };
-    let text = match rendered_text(alloc, value.as_view()) {
-        Ok(text) => text,
-        Err(error) => return Err(error),
-    };
-    write_piece(alloc, sink, text.as_str())
 }

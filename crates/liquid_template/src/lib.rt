@@ -1,10 +1,14 @@
 //! Sinks, and the rendering of parsed templates.
 #![tactic(auto)]
 
+mod chain;
 mod cycle;
 mod history;
+mod laws;
+mod partial;
 mod piece;
 mod render;
+mod sandbox;
 mod sink;
 mod store;
 mod template;
@@ -13,8 +17,9 @@ mod trace;
 mod writer_sink;
 
 pub use crate::history::History;
+pub use crate::laws::{outsides_agree, sandboxed_runs_are_isolated};
 pub use crate::sink::{Sink, SinkFault};
-pub use crate::store::PartialStore;
+pub use crate::store::{PartialStore, unknown_partial};
 pub use crate::template::Template;
 pub use crate::text_sink::TextSink;
 pub use crate::writer_sink::WriterSink;

@@ -17,7 +17,7 @@ use crate::text_sink::TextSink;
 use liquid_error::Error;
 use liquid_plugins::{Filter, Renderable};
 use liquid_runtime::{Runtime, Scopes};
-use liquid_scopes::ChainedScopes;
+use liquid_scopes::FlatScopes;
 use std::alloc::Global;
 
 impl<X: Filter, T, B> Template<X, T, B> {
@@ -69,7 +69,7 @@ impl<X: Filter, T, B> Template<X, T, B> {
         ensures finds { option_map R.Store.finds (R.store runtime.new) ≡ option_map R.Store.finds (R.store runtime.old) }
         ensures same { R.lent runtime.new ≡ R.lent runtime.old }
     {
-        let mut scopes: ChainedScopes<&mut R> = ChainedScopes::new(alloc, runtime);
+        let mut scopes: FlatScopes<&mut R> = FlatScopes::new(alloc, runtime);
         let answer = self.render_in(alloc, sink, &mut scopes);
         let _base = scopes.into_base();
         answer

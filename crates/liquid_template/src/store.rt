@@ -1,49 +1,81 @@
 //! Stores of partials.
-ghost use Rattle.std.specs.Prelude.{◌≡◌, ◌≤◌, ℕ, List, [], Result, Err, IfOk, IfSome};
-ghost use Rattle.liquid_error.specs.Refusal.{Refusal};
+ghost use Rattle.std.specs.Prelude.{◌≡◌, is_some, map, option_map, IfOk, IfSome};
+ghost use Rattle.std.specs.FinMap.{empty, get, keys};
 ghost use Rattle.liquid_error.specs.Told.{told, Gives};
-ghost use Rattle.liquid_tree.specs.Tree.{Nodes};
-ghost use Rattle.liquid_tree.specs.Size.{size_nodes};
-ghost use Rattle.liquid_template.specs.Partials.{unknown_partial};
+ghost use Rattle.liquid_template.specs.Partials.{Found, partial_in, tree_in, unknown_partial};
 ghost use Rattle.liquid_template.specs.TemplateOf.{template_nodes};
 
 use crate::template::Template;
 use liquid_error::Error;
 use liquid_plugins::{Filter, Meant};
-use std::alloc::Global;
+use std::alloc::{AllocError, Global};
 use std::rc::Rc;
 
-/// A store of partials.
+/// A store of partials: a finite map from names to what their texts are read as.
+///
+/// No request changes what it finds, whatever was requested before.
 pub trait PartialStore<X: Filter, T: Meant, B: Meant> {
-    ghost finds: { Self → List ℕ → Result (Nodes X.Shape T.Shape B.Shape) Refusal };
+    ghost finds: { Self → Found X.Shape T.Shape B.Shape };
 
-    // no partial has more nodes of plug-ins
-    ghost largest: { Self → ℕ };
+    /// Whether there is a partial of this name, of a faulty text too.
+    fn contains(&self, name: &str) -> bool
+        ensures { result ≡ is_some (get (finds self.now) name.now) };
 
+    /// The names, in byte order. An `Err` is want of memory.
+    fn names(&self, alloc: Global) -> Result<Vec<&str>, AllocError>
+        ensures { IfOk result (λ names. map (λ name. name.now) names.items ≡ keys (finds self.now)) };
+
+    /// The partial of a name, or `None` where there is none of this name and where its text is
+    /// faulty. An `Err` is want of memory.
+    fn try_get(
+        &mut self,
+        alloc: Global,
+        name: &str,
+    ) -> Result<Option<Rc<Template<X, T, B>>>, AllocError>
+        ensures gives { IfOk result (λ found. option_map (λ template. template_nodes X.shape T.shape B.shape template.value) found ≡ tree_in (finds self.old) name.now) }
+        ensures kept { finds self.new ≡ finds self.old };
+
+    /// The partial of a name, or the fault of its text. A name that is not there is refused as
+    /// "Unknown partial-template", with the contexts `requested partial` and `available partials`.
     fn get(&mut self, alloc: Global, name: &str) -> Result<Rc<Template<X, T, B>>, Error>
-        ensures gives { Gives (λ template. template_nodes X.shape T.shape B.shape template.value) result (finds self.old name.now) }
-        ensures bound { IfOk result (λ template. size_nodes (template_nodes X.shape T.shape B.shape template.value) ≤ largest self.old) }
-        ensures kept { finds self.new ≡ finds self.old }
-        ensures same { largest self.new ≡ largest self.old };
+        ensures gives { Gives (λ template. template_nodes X.shape T.shape B.shape template.value) result (partial_in (finds self.old) name.now) }
+        ensures kept { finds self.new ≡ finds self.old };
 }
 
-/// The store without partials: it refuses each name as "Unknown partial-template", and no name is
-/// available.
+/// The store without partials.
 impl<X: Filter, T: Meant, B: Meant> PartialStore<X, T, B> for () {
-    ghost finds = { λ _ name. Err (unknown_partial name []) };
+    ghost finds = { λ _. empty };
 
-    ghost largest = { λ _. 0 };
+    fn contains(&self, _name: &str) -> bool {
+        false
+    }
+
+    fn names(&self, alloc: Global) -> Result<Vec<&str>, AllocError> {
+        Ok(Vec::new(alloc))
+    }
+
+    fn try_get(
+        &mut self,
+        _alloc: Global,
+        _name: &str,
+    ) -> Result<Option<Rc<Template<X, T, B>>>, AllocError> {
+        Ok(None)
+    }
 
     fn get(&mut self, alloc: Global, name: &str) -> Result<Rc<Template<X, T, B>>, Error> {
-        Err(unknown_partial(alloc, name))
+        Err(unknown_partial(alloc, name, &[]))
     }
 }
 
-/// The refusal of a name where no name is available.
-fn unknown_partial(alloc: Global, name: &str) -> Error
-    ensures { IfSome (told result) (λ refusal. refusal ≡ unknown_partial name.now []) }
+/// The refusal of a name that is not among those that are available.
+#[tactic(auto, using(crate::proofs::NoPartials::joined_names))]
+pub fn unknown_partial(alloc: Global, name: &str, available: &[&str]) -> Error
+    ensures { IfSome (told result) (λ refusal. refusal ≡ unknown_partial name.now (map (λ other. other.now) available.now)) }
 {
-    Error::with_msg(alloc, "Unknown partial-template")
-        .context(alloc, "requested partial", name)
-        .context(alloc, "available partials", "")
+    match available.join(alloc, ", ") {
+        Ok(listed) => Error::with_msg(alloc, "Unknown partial-template")
+            .context(alloc, "requested partial", name)
+            .context(alloc, "available partials", listed.as_str()),
+        Err(_) => Error::Memory,
+    }
 }

@@ -1,7 +1,12 @@
-use Rattle.std.proofs.Common.{rules}
+use Rattle.std.proofs.Common.{rules, ap, option_map}
+use Rattle.liquid_error.specs.declared.error.Error.{the_lemmas}
+use Rattle.liquid.proofs.MemoryLemmas.{nothing_rendered}
 use Rattle.liquid.proofs.RunLemmas.{Renders-over}
 use Rattle.liquid.proofs.run.render_in_language.Goals as goal
 
-pub returns-clause-renders : goal.returns-clause-renders
-returns-clause-renders g c =
-    Renders-over _ _ _ _ _ _ _ c.args.text.now _ _ _ c.render_source.ensures.rendered c.requires (search rules) c.build-runtime.ensures.view (search rules) (search rules)
+pub returns-in-Ok-clause-renders : goal.returns-in-Ok-clause-renders
+returns-in-Ok-clause-renders g c =
+    Renders-over _ _ _ _ _ _ c.args.text.now _ _ _ _ c.render_source.ensures.rendered (search rules) (ap (option_map _) c.runtime_of-runtime.ensures.store) c.runtime_of-runtime.ensures.view c.in-Ok.ensures
+
+pub returns-in-Err-clause-renders : goal.returns-in-Err-clause-renders
+returns-in-Err-clause-renders g c = nothing_rendered c.args.text.now _ _ _ _ (search (rules, the_lemmas))

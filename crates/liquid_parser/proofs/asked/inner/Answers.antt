@@ -14,7 +14,7 @@ returns-in-Ok-divided g c source t h =
     let is : list_any (bytes_eq t.0) (g.B.ParseBlock.meaning c.args.block.kind.now).dividers ≡ true =
     subst (λ n. list_any (bytes_eq n) (g.B.ParseBlock.meaning c.args.block.kind.now).dividers ≡ true) h.name_is (ap (list_any (bytes_eq c.args.tag.name.now)) (sym c.dividers.ensures) ∙ (sym c.is_among.ensures ∙ c.if-is_among.true)) in
     then_ok _ (parted source t (open_view g.F.Filter.Meant.shape g.T.Node.Meant.shape g.B.Node.Meant.shape g.B.Plan.Meant.shape (block_of g.B.BlockReflection.start_name g.B.BlockReflection.end_name g.B.ParseBlock.meaning) c.args.block) (shapes_of g.F.Filter.Meant.shape g.T.Node.Meant.shape g.B.Node.Meant.shape c.args.nodes.items)) (λ b. Ok (among (b ∷ blocks_view g.F.Filter.Meant.shape g.T.Node.Meant.shape g.B.Node.Meant.shape g.B.Plan.Meant.shape (block_of g.B.BlockReflection.start_name g.B.BlockReflection.end_name g.B.ParseBlock.meaning) c.args.around.items) [])) _
-    (divider_read (language_of g.F.ParseFilter.makes g.T.ParseTag.gives (block_of g.B.BlockReflection.start_name g.B.BlockReflection.end_name g.B.ParseBlock.meaning) c.args.language.now) source t (open_view g.F.Filter.Meant.shape g.T.Node.Meant.shape g.B.Node.Meant.shape g.B.Plan.Meant.shape (block_of g.B.BlockReflection.start_name g.B.BlockReflection.end_name g.B.ParseBlock.meaning) c.args.block) (blocks_view g.F.Filter.Meant.shape g.T.Node.Meant.shape g.B.Node.Meant.shape g.B.Plan.Meant.shape (block_of g.B.BlockReflection.start_name g.B.BlockReflection.end_name g.B.ParseBlock.meaning) c.args.around.items) (shapes_of g.F.Filter.Meant.shape g.T.Node.Meant.shape g.B.Node.Meant.shape c.args.nodes.items) differs is) (c.in-Ok-divided.ensures source t h)
+    (divider_read (language_of g.F.ParseFilter.makes g.T.ParseTag.gives (block_of g.B.BlockReflection.start_name g.B.BlockReflection.end_name g.B.ParseBlock.meaning) c.args.language.now) source c.args.outside t (open_view g.F.Filter.Meant.shape g.T.Node.Meant.shape g.B.Node.Meant.shape g.B.Plan.Meant.shape (block_of g.B.BlockReflection.start_name g.B.BlockReflection.end_name g.B.ParseBlock.meaning) c.args.block) (blocks_view g.F.Filter.Meant.shape g.T.Node.Meant.shape g.B.Node.Meant.shape g.B.Plan.Meant.shape (block_of g.B.BlockReflection.start_name g.B.BlockReflection.end_name g.B.ParseBlock.meaning) c.args.around.items) (shapes_of g.F.Filter.Meant.shape g.T.Node.Meant.shape g.B.Node.Meant.shape c.args.nodes.items) differs is) (c.in-Ok-divided.ensures source t h)
     ∙ (ap (λ bs. Ok (among bs [])) (sym (push_block (open_view g.F.Filter.Meant.shape g.T.Node.Meant.shape g.B.Node.Meant.shape g.B.Plan.Meant.shape (block_of g.B.BlockReflection.start_name g.B.BlockReflection.end_name g.B.ParseBlock.meaning)) c.args.around.items c.divided.new.block c.in_ok-push-in-Ok-divided.ensures.items))
     ∙ ap (λ ns. Ok (among (blocks_view g.F.Filter.Meant.shape g.T.Node.Meant.shape g.B.Node.Meant.shape g.B.Plan.Meant.shape (block_of g.B.BlockReflection.start_name g.B.BlockReflection.end_name g.B.ParseBlock.meaning) c.push.new.self.items) (shapes_of g.F.Filter.Meant.shape g.T.Node.Meant.shape g.B.Node.Meant.shape ns))) (sym c.new.ensures.items))
 
@@ -24,7 +24,7 @@ returns-then-is_among g c source t h =
     let is : list_any (bytes_eq t.0) (g.B.ParseBlock.meaning c.args.block.kind.now).dividers ≡ true =
     subst (λ n. list_any (bytes_eq n) (g.B.ParseBlock.meaning c.args.block.kind.now).dividers ≡ true) h.name_is (ap (list_any (bytes_eq c.args.tag.name.now)) (sym c.dividers.ensures) ∙ (sym c.is_among.ensures ∙ c.if-is_among.true)) in
     then_err _ _ (parted source t (open_view g.F.Filter.Meant.shape g.T.Node.Meant.shape g.B.Node.Meant.shape g.B.Plan.Meant.shape (block_of g.B.BlockReflection.start_name g.B.BlockReflection.end_name g.B.ParseBlock.meaning) c.args.block) (shapes_of g.F.Filter.Meant.shape g.T.Node.Meant.shape g.B.Node.Meant.shape c.args.nodes.items)) (λ b. Ok (among (b ∷ blocks_view g.F.Filter.Meant.shape g.T.Node.Meant.shape g.B.Node.Meant.shape g.B.Plan.Meant.shape (block_of g.B.BlockReflection.start_name g.B.BlockReflection.end_name g.B.ParseBlock.meaning) c.args.around.items) []))
-    (divider_read (language_of g.F.ParseFilter.makes g.T.ParseTag.gives (block_of g.B.BlockReflection.start_name g.B.BlockReflection.end_name g.B.ParseBlock.meaning) c.args.language.now) source t (open_view g.F.Filter.Meant.shape g.T.Node.Meant.shape g.B.Node.Meant.shape g.B.Plan.Meant.shape (block_of g.B.BlockReflection.start_name g.B.BlockReflection.end_name g.B.ParseBlock.meaning) c.args.block) (blocks_view g.F.Filter.Meant.shape g.T.Node.Meant.shape g.B.Node.Meant.shape g.B.Plan.Meant.shape (block_of g.B.BlockReflection.start_name g.B.BlockReflection.end_name g.B.ParseBlock.meaning) c.args.around.items) (shapes_of g.F.Filter.Meant.shape g.T.Node.Meant.shape g.B.Node.Meant.shape c.args.nodes.items) differs is) (c.in-Err-divided.ensures source t h)
+    (divider_read (language_of g.F.ParseFilter.makes g.T.ParseTag.gives (block_of g.B.BlockReflection.start_name g.B.BlockReflection.end_name g.B.ParseBlock.meaning) c.args.language.now) source c.args.outside t (open_view g.F.Filter.Meant.shape g.T.Node.Meant.shape g.B.Node.Meant.shape g.B.Plan.Meant.shape (block_of g.B.BlockReflection.start_name g.B.BlockReflection.end_name g.B.ParseBlock.meaning) c.args.block) (blocks_view g.F.Filter.Meant.shape g.T.Node.Meant.shape g.B.Node.Meant.shape g.B.Plan.Meant.shape (block_of g.B.BlockReflection.start_name g.B.BlockReflection.end_name g.B.ParseBlock.meaning) c.args.around.items) (shapes_of g.F.Filter.Meant.shape g.T.Node.Meant.shape g.B.Node.Meant.shape c.args.nodes.items) differs is) (c.in-Err-divided.ensures source t h)
 
 pub returns : goal.returns
 returns g c source t h =
@@ -32,6 +32,6 @@ returns g c source t h =
     let none : list_any (bytes_eq t.0) (g.B.ParseBlock.meaning c.args.block.kind.now).dividers ≡ false =
     subst (λ n. list_any (bytes_eq n) (g.B.ParseBlock.meaning c.args.block.kind.now).dividers ≡ false) h.name_is (ap (list_any (bytes_eq c.args.tag.name.now)) (sym c.dividers.ensures) ∙ (sym c.is_among.ensures ∙ c.if-is_among.false)) in
     with_outer _ _ _ c.outer.result
-    (other_read (language_of g.F.ParseFilter.makes g.T.ParseTag.gives (block_of g.B.BlockReflection.start_name g.B.BlockReflection.end_name g.B.ParseBlock.meaning) c.args.language.now) source t (open_view g.F.Filter.Meant.shape g.T.Node.Meant.shape g.B.Node.Meant.shape g.B.Plan.Meant.shape (block_of g.B.BlockReflection.start_name g.B.BlockReflection.end_name g.B.ParseBlock.meaning) c.args.block) (blocks_view g.F.Filter.Meant.shape g.T.Node.Meant.shape g.B.Node.Meant.shape g.B.Plan.Meant.shape (block_of g.B.BlockReflection.start_name g.B.BlockReflection.end_name g.B.ParseBlock.meaning) c.args.around.items) (shapes_of g.F.Filter.Meant.shape g.T.Node.Meant.shape g.B.Node.Meant.shape c.args.nodes.items) differs none
-    ∙ ap (λ bs. outer_read (language_of g.F.ParseFilter.makes g.T.ParseTag.gives (block_of g.B.BlockReflection.start_name g.B.BlockReflection.end_name g.B.ParseBlock.meaning) c.args.language.now) source t bs (shapes_of g.F.Filter.Meant.shape g.T.Node.Meant.shape g.B.Node.Meant.shape c.args.nodes.items)) (sym (push_block (open_view g.F.Filter.Meant.shape g.T.Node.Meant.shape g.B.Node.Meant.shape g.B.Plan.Meant.shape (block_of g.B.BlockReflection.start_name g.B.BlockReflection.end_name g.B.ParseBlock.meaning)) c.args.around.items c.args.block c.in_ok-push.ensures.items)))
+    (other_read (language_of g.F.ParseFilter.makes g.T.ParseTag.gives (block_of g.B.BlockReflection.start_name g.B.BlockReflection.end_name g.B.ParseBlock.meaning) c.args.language.now) source c.args.outside t (open_view g.F.Filter.Meant.shape g.T.Node.Meant.shape g.B.Node.Meant.shape g.B.Plan.Meant.shape (block_of g.B.BlockReflection.start_name g.B.BlockReflection.end_name g.B.ParseBlock.meaning) c.args.block) (blocks_view g.F.Filter.Meant.shape g.T.Node.Meant.shape g.B.Node.Meant.shape g.B.Plan.Meant.shape (block_of g.B.BlockReflection.start_name g.B.BlockReflection.end_name g.B.ParseBlock.meaning) c.args.around.items) (shapes_of g.F.Filter.Meant.shape g.T.Node.Meant.shape g.B.Node.Meant.shape c.args.nodes.items) differs none
+    ∙ ap (λ bs. outer_read (language_of g.F.ParseFilter.makes g.T.ParseTag.gives (block_of g.B.BlockReflection.start_name g.B.BlockReflection.end_name g.B.ParseBlock.meaning) c.args.language.now) source c.args.outside t bs (shapes_of g.F.Filter.Meant.shape g.T.Node.Meant.shape g.B.Node.Meant.shape c.args.nodes.items)) (sym (push_block (open_view g.F.Filter.Meant.shape g.T.Node.Meant.shape g.B.Node.Meant.shape g.B.Plan.Meant.shape (block_of g.B.BlockReflection.start_name g.B.BlockReflection.end_name g.B.ParseBlock.meaning)) c.args.around.items c.args.block c.in_ok-push.ensures.items)))
     (c.outer.ensures source t h)

@@ -1,40 +1,41 @@
-use Rattle.std.proofs.Common.{[], ap, ◌∙◌, subst, rules}
+use Rattle.std.proofs.Common.{[], ap, ◌∙◌, subst, rules, arith, length}
+use Rattle.std.proofs.lemmas.List.{length-append}
 use Rattle.liquid_tree.specs.NodesOf.{shapes_of}
 use Rattle.liquid_parser.specs.Plugins.{language_of, block_of}
 use Rattle.liquid_parser.specs.Reading.{among}
-use Rattle.liquid_parser.specs.Views.{open_view, blocks_view, state_view}
-use Rattle.liquid_parser.proofs.ReadingSteps.{Goes, Goes-begin, Goes-step, Goes-escaped, Reads-escaped, refused, ends}
+use Rattle.liquid_parser.specs.Views.{blocks_view, state_view}
+use Rattle.liquid_parser.proofs.ReadingSteps.{Goes, Goes-begin, Goes-on, refused, unchecked, ends}
 use Rattle.liquid_parser.proofs.parser.nodes_of.Goals as goal
 
 pub elements-init : goal.elements-init
 elements-init g c = (search rules, Goes-begin (language_of g.F.ParseFilter.makes g.T.ParseTag.gives (block_of g.B.BlockReflection.start_name g.B.BlockReflection.end_name g.B.ParseBlock.meaning) c.args.language.now) c.args.text.now _ (ap (λ os. among (blocks_view g.F.Filter.Meant.shape g.T.Node.Meant.shape g.B.Node.Meant.shape g.B.Plan.Meant.shape (block_of g.B.BlockReflection.start_name g.B.BlockReflection.end_name g.B.ParseBlock.meaning) os) (shapes_of g.F.Filter.Meant.shape g.T.Node.Meant.shape g.B.Node.Meant.shape c.new-2.result.items)) c.new.ensures.items ∙ ap (λ ns. among (blocks_view g.F.Filter.Meant.shape g.T.Node.Meant.shape g.B.Node.Meant.shape g.B.Plan.Meant.shape (block_of g.B.BlockReflection.start_name g.B.BlockReflection.end_name g.B.ParseBlock.meaning) []) (shapes_of g.F.Filter.Meant.shape g.T.Node.Meant.shape g.B.Node.Meant.shape ns)) c.new-2.ensures.items))
 
-pub elements-preserved-in-Among : goal.elements-preserved-in-Among
-elements-preserved-in-Among g c =
-    let goes = c.elements.invariant.1 in
-    let found = c.in-Some.ensures.found in
-    (search rules, Goes-step _ _ _ _ found.0 _ _ goes found.1 (rw c.in-Among.is at c.in-Ok.ensures found.0 found.1 found.2))
-
 pub elements-preserved : goal.elements-preserved
 elements-preserved g c =
     let goes = c.elements.invariant.1 in
     let found = c.in-Some.ensures.found in
-    let inside_goes = Goes-step _ _ _ _ found.0 _ _ goes found.1 (rw c.in-Escaped.is at c.in-Ok.ensures found.0 found.1 found.2) in
-    let front = c.in-Ok-escaped_read.ensures.within in
-    (search rules, Goes-escaped _ _ c.in-Some.behind.now c.in-Ok-escaped_read.after.now (open_view g.F.Filter.Meant.shape g.T.Node.Meant.shape g.B.Node.Meant.shape g.B.Plan.Meant.shape (block_of g.B.BlockReflection.start_name g.B.BlockReflection.end_name g.B.ParseBlock.meaning) c.in-Escaped.block) (blocks_view g.F.Filter.Meant.shape g.T.Node.Meant.shape g.B.Node.Meant.shape g.B.Plan.Meant.shape (block_of g.B.BlockReflection.start_name g.B.BlockReflection.end_name g.B.ParseBlock.meaning) c.in-Escaped.around.items) (state_view g.F.Filter.Meant.shape g.T.Node.Meant.shape g.B.Node.Meant.shape g.B.Plan.Meant.shape (block_of g.B.BlockReflection.start_name g.B.BlockReflection.end_name g.B.ParseBlock.meaning) c.in-Ok-escaped_read.next) inside_goes front.0 front.1 (c.in-Ok-escaped_read.ensures.value (language_of g.F.ParseFilter.makes g.T.ParseTag.gives (block_of g.B.BlockReflection.start_name g.B.BlockReflection.end_name g.B.ParseBlock.meaning) c.args.language.now)))
+    let over = c.in-Ok.ensures c.in-Some.behind.now found.0 found.1 found.2 in (
+      search rules,
+      Goes-on (language_of g.F.ParseFilter.makes g.T.ParseTag.gives (block_of g.B.BlockReflection.start_name g.B.BlockReflection.end_name g.B.ParseBlock.meaning) c.args.language.now) c.args.text.now (state_view g.F.Filter.Meant.shape g.T.Node.Meant.shape g.B.Node.Meant.shape g.B.Plan.Meant.shape (block_of g.B.BlockReflection.start_name g.B.BlockReflection.end_name g.B.ParseBlock.meaning)) _ _ found.0 (blocks_view g.F.Filter.Meant.shape g.T.Node.Meant.shape g.B.Node.Meant.shape g.B.Plan.Meant.shape (block_of g.B.BlockReflection.start_name g.B.BlockReflection.end_name g.B.ParseBlock.meaning) c.elements.state.open.items) (shapes_of g.F.Filter.Meant.shape g.T.Node.Meant.shape g.B.Node.Meant.shape c.elements.state.nodes.items) (c.in-Ok-advance.next, c.in-Ok-advance.after) goes found.1 (λ es cover. c.in-Ok-advance.ensures.value c.args.text.now c.in-Some.behind.now found.0 es over.1 cover),
+    )
 
-pub returns-in-Err-escaped_read : goal.returns-in-Err-escaped_read
-returns-in-Err-escaped_read g c =
-    let goes = c.elements.invariant.1 in
-    let found = c.in-Some.ensures.found in
-    let inside_goes = Goes-step _ _ _ _ found.0 _ _ goes found.1 (rw c.in-Escaped.is at c.in-Ok.ensures found.0 found.1 found.2) in
-    Reads-escaped _ _ c.in-Some.behind.now (open_view g.F.Filter.Meant.shape g.T.Node.Meant.shape g.B.Node.Meant.shape g.B.Plan.Meant.shape (block_of g.B.BlockReflection.start_name g.B.BlockReflection.end_name g.B.ParseBlock.meaning) c.in-Escaped.block) (blocks_view g.F.Filter.Meant.shape g.T.Node.Meant.shape g.B.Node.Meant.shape g.B.Plan.Meant.shape (block_of g.B.BlockReflection.start_name g.B.BlockReflection.end_name g.B.ParseBlock.meaning) c.in-Escaped.around.items) _ inside_goes (c.in-Err-escaped_read.ensures.value (language_of g.F.ParseFilter.makes g.T.ParseTag.gives (block_of g.B.BlockReflection.start_name g.B.BlockReflection.end_name g.B.ParseBlock.meaning) c.args.language.now))
+pub elements-smaller : goal.elements-smaller
+elements-smaller g c =
+    let front = c.in-Ok-advance.ensures.within in
+    omega (arith, c.in-Some.ensures.shorter, ap length front.1, length-append front.0 c.in-Ok-advance.after.now)
 
 pub returns-in-Err : goal.returns-in-Err
 returns-in-Err g c =
     let goes = c.elements.invariant.1 in
     let found = c.in-Some.ensures.found in
-    refused _ _ _ _ found.0 _ _ goes found.1 (c.in-Err.ensures found.0 found.1 found.2)
+    unchecked (language_of g.F.ParseFilter.makes g.T.ParseTag.gives (block_of g.B.BlockReflection.start_name g.B.BlockReflection.end_name g.B.ParseBlock.meaning) c.args.language.now) c.args.text.now _ _ found.0 (blocks_view g.F.Filter.Meant.shape g.T.Node.Meant.shape g.B.Node.Meant.shape g.B.Plan.Meant.shape (block_of g.B.BlockReflection.start_name g.B.BlockReflection.end_name g.B.ParseBlock.meaning) c.elements.state.open.items) (shapes_of g.F.Filter.Meant.shape g.T.Node.Meant.shape g.B.Node.Meant.shape c.elements.state.nodes.items) _ goes found.1 (c.in-Err.ensures c.in-Some.behind.now found.0 found.1 found.2)
+
+pub returns-in-Err-advance : goal.returns-in-Err-advance
+returns-in-Err-advance g c =
+    let goes = c.elements.invariant.1 in
+    let found = c.in-Some.ensures.found in
+    let over = c.in-Ok.ensures c.in-Some.behind.now found.0 found.1 found.2 in
+    refused (language_of g.F.ParseFilter.makes g.T.ParseTag.gives (block_of g.B.BlockReflection.start_name g.B.BlockReflection.end_name g.B.ParseBlock.meaning) c.args.language.now) c.args.text.now _ _ found.0 (blocks_view g.F.Filter.Meant.shape g.T.Node.Meant.shape g.B.Node.Meant.shape g.B.Plan.Meant.shape (block_of g.B.BlockReflection.start_name g.B.BlockReflection.end_name g.B.ParseBlock.meaning) c.elements.state.open.items) (shapes_of g.F.Filter.Meant.shape g.T.Node.Meant.shape g.B.Node.Meant.shape c.elements.state.nodes.items) _ goes found.1 (λ es cover. c.in-Err-advance.ensures.value c.args.text.now c.in-Some.behind.now found.0 es over.1 cover)
 
 pub returns : goal.returns
 returns g c =

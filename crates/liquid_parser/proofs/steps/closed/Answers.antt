@@ -1,6 +1,5 @@
 use Rattle.std.proofs.Common.{◌≡◌, arith, ap, ◌∙◌, map, length}
 use Rattle.std.proofs.lemmas.List.{map_push}
-use Rattle.liquid_parser.specs.Handed.{place_in}
 use Rattle.liquid_tree.specs.NodesOf.{node_of, shapes_of}
 use Rattle.liquid_parser.specs.Plugins.{block_of}
 use Rattle.liquid_parser.specs.Reading.{block_with}
@@ -24,5 +23,4 @@ returns-in_ok-push-in-Ok-finish g c source t h =
 pub returns-in-Err-finish : goal.returns-in-Err-finish
 returns-in-Err-finish g c source t h =
     let held : c.len.result ≡ length c.push.new.self.items = grind (arith, c.push.new.self.ok.0, c.len.ensures) in
-    let here = c.place_in.ensures ∙ ap (λ s. place_in s c.args.block.from.now) h.source_is in
-    closed_err source t (open_view g.F.Filter.Meant.shape g.T.Node.Meant.shape g.B.Node.Meant.shape g.B.Plan.Meant.shape (block_of g.B.BlockReflection.start_name g.B.BlockReflection.end_name g.B.ParseBlock.meaning) c.args.block) (shapes_of g.F.Filter.Meant.shape g.T.Node.Meant.shape g.B.Node.Meant.shape c.args.nodes.items) c.len.result _ _ _ (c.in-Ok.ensures _ h.tokens_are) (held ∙ count_parts _ c.args.block.parts.items c.args.nodes c.in_ok-push.ensures.items) c.in-Err-finish.ensures c.or_place.ensures here
+    closed_err source t (open_view g.F.Filter.Meant.shape g.T.Node.Meant.shape g.B.Node.Meant.shape g.B.Plan.Meant.shape (block_of g.B.BlockReflection.start_name g.B.BlockReflection.end_name g.B.ParseBlock.meaning) c.args.block) (shapes_of g.F.Filter.Meant.shape g.T.Node.Meant.shape g.B.Node.Meant.shape c.args.nodes.items) c.len.result _ _ _ (c.in-Ok.ensures _ h.tokens_are) (held ∙ count_parts _ c.args.block.parts.items c.args.nodes c.in_ok-push.ensures.items) c.in-Err-finish.ensures c.or_place.ensures c.place_in.ensures

@@ -4,7 +4,9 @@ use Rattle.liquid_parser.proofs.StepLemmas.{opened_ok, placed_err}
 use Rattle.liquid_parser.proofs.steps.opened.Goals as goal
 
 pub returns-in-Ok : goal.returns-in-Ok
-returns-in-Ok g c source t h = opened_ok source t _ _ _ _ _ _ (c.in-Ok.ensures _ h.tokens_are) h.from_is (ap (map _) c.new.ensures.items)
+returns-in-Ok g c source t h =
+    let here = ap (λ s. place_in s c.args.tag.from.now) h.source_is ∙ ap (place_in source) h.from_is in
+    opened_ok source t _ _ _ _ _ _ (c.in-Ok.ensures _ h.tokens_are) here (ap (map _) c.new.ensures.items)
 
 pub returns-in-Err : goal.returns-in-Err
 returns-in-Err g c source t h =

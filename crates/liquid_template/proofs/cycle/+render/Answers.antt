@@ -8,7 +8,7 @@ use Rattle.liquid_template.proofs.Steps.{start_refused}
 use Rattle.liquid_template.proofs.Framing.{renders_framed, renders_memory}
 use Rattle.liquid_template.specs.Runs.{setting}
 use Rattle.liquid_template.specs.PartsOf.{parts_of}
-use Rattle.liquid_template.specs.Bound.{most}
+use Rattle.liquid_template.specs.Bound.{partials_size}
 use Rattle.liquid_template.proofs.Shapes.{nodes_drop, nodes_end, size_member, size_part, node_text, node_chain, node_tag, node_block}
 use Rattle.liquid_template.proofs.Renderings.{stands, stands_not, left_more, left_none, none_yet, not_end, turn_refused_at, turn_ends_at, turn_more_at, turn_fails_at, turns_done_at, start_goes_at, node_puts, node_chains, node_tags, node_blocks, list_fails_at, list_stops_at, list_goes_at, list_done_at, turn_puts, turn_bodies, turn_includes, turn_nothing, part_renders, no_part_renders, without_parts, found_deep, found_fails, found_goes}
 use Rattle.liquid_template.proofs.cycle.+render.Goals as goal
@@ -76,15 +76,15 @@ render_tag-returns-in-Err-clause-renders g t c =
 
 pub render_tag-loop-init : goal.render_tag-loop-init
 render_tag-loop-init g t c =
-    record { kept = c.start.ensures.kept; finds = ap (option_map g.S.Store.PartialStore.finds) c.start.ensures.stays; bound = ap (most g.S.Store.PartialStore.largest) c.start.ensures.stays; same = c.start.ensures.same; none = c.new-none.ensures.items; renders = λ after left answer h. start_goes_at _ _ _ _ _ _ _ _ _ _ _ _ _ (none_yet c.turns-end.result _ c.turns-end.ensures) c.in-Ok.ensures.answer c.in-Ok.ensures.after c.start.ensures.frames h }
+    record { kept = c.start.ensures.kept; finds = ap (option_map g.S.Store.PartialStore.finds) c.start.ensures.stays; bound = ap (λ store. partials_size (option_map g.S.Store.PartialStore.finds store)) c.start.ensures.stays; same = c.start.ensures.same; none = c.new-none.ensures.items; renders = λ after left answer h. start_goes_at _ _ _ _ _ _ _ _ _ _ _ _ _ (none_yet c.turns-end.result _ c.turns-end.ensures) c.in-Ok.ensures.answer c.in-Ok.ensures.after c.start.ensures.frames h }
 
 pub render_tag-returns-in-Err-turn : goal.render_tag-returns-in-Err-turn
 render_tag-returns-in-Err-turn g t c =
-    record { renders = c.loop.invariant.renders _ _ _ (turn_refused_at _ _ _ _ _ _ _ _ _ _ _ _ (left_more c.loop.counter c.turns-end.result c.loop-test.true) c.in-Err-turn.ensures.answer c.in-Err-turn.ensures.after c.turn.ensures.frames); kept = c.turn.ensures.kept ∙ c.loop.invariant.kept; finds = ap (option_map g.S.Store.PartialStore.finds) c.turn.ensures.stays ∙ c.loop.invariant.finds; bound = ap (most g.S.Store.PartialStore.largest) c.turn.ensures.stays ∙ c.loop.invariant.bound; same = c.turn.ensures.same ∙ c.loop.invariant.same }
+    record { renders = c.loop.invariant.renders _ _ _ (turn_refused_at _ _ _ _ _ _ _ _ _ _ _ _ (left_more c.loop.counter c.turns-end.result c.loop-test.true) c.in-Err-turn.ensures.answer c.in-Err-turn.ensures.after c.turn.ensures.frames); kept = c.turn.ensures.kept ∙ c.loop.invariant.kept; finds = ap (option_map g.S.Store.PartialStore.finds) c.turn.ensures.stays ∙ c.loop.invariant.finds; bound = ap (λ store. partials_size (option_map g.S.Store.PartialStore.finds store)) c.turn.ensures.stays ∙ c.loop.invariant.bound; same = c.turn.ensures.same ∙ c.loop.invariant.same }
 
 pub render_tag-returns-in-End : goal.render_tag-returns-in-End
 render_tag-returns-in-End g t c =
-    record { renders = c.loop.invariant.renders _ _ _ (turn_ends_at _ _ _ _ _ _ _ _ _ _ _ _ (left_more c.loop.counter c.turns-end.result c.loop-test.true) (c.in-Ok-turn.ensures.answer ∙ ap (λ x. Ok (turn_of x)) c.in-End.is) c.in-Ok-turn.ensures.after c.turn.ensures.frames); kept = c.turn.ensures.kept ∙ c.loop.invariant.kept; finds = ap (option_map g.S.Store.PartialStore.finds) c.turn.ensures.stays ∙ c.loop.invariant.finds; bound = ap (most g.S.Store.PartialStore.largest) c.turn.ensures.stays ∙ c.loop.invariant.bound; same = c.turn.ensures.same ∙ c.loop.invariant.same }
+    record { renders = c.loop.invariant.renders _ _ _ (turn_ends_at _ _ _ _ _ _ _ _ _ _ _ _ (left_more c.loop.counter c.turns-end.result c.loop-test.true) (c.in-Ok-turn.ensures.answer ∙ ap (λ x. Ok (turn_of x)) c.in-End.is) c.in-Ok-turn.ensures.after c.turn.ensures.frames); kept = c.turn.ensures.kept ∙ c.loop.invariant.kept; finds = ap (option_map g.S.Store.PartialStore.finds) c.turn.ensures.stays ∙ c.loop.invariant.finds; bound = ap (λ store. partials_size (option_map g.S.Store.PartialStore.finds store)) c.turn.ensures.stays ∙ c.loop.invariant.bound; same = c.turn.ensures.same ∙ c.loop.invariant.same }
 
 pub render_tag-returns-in-Err-perform : goal.render_tag-returns-in-Err-perform
 render_tag-returns-in-Err-perform g t c =
@@ -92,7 +92,7 @@ render_tag-returns-in-Err-perform g t c =
     let fs = ap (option_map g.S.Store.PartialStore.finds) c.in-Ok-turn.ensures.stays ∙ c.loop.invariant.finds in
     let x0 = rw fs at c.in-Err-perform.ensures.renders in
     let x = without_parts s (partials_at s c.args.depth) g.X.Meant.shape g.T.Meant.shape g.B.Meant.shape c.deref.result.now _ _ _ _ _ _ (c.deref.ensures.value ∙ c.loop.invariant.none) x0 in
-    record { renders = c.loop.invariant.renders _ _ _ (turn_fails_at _ _ _ _ _ _ _ _ _ _ _ _ _ _ _ _ (left_more c.loop.counter c.turns-end.result c.loop-test.true) (not_end c.in-Ok-turn.turn c.in_default.not-End) c.in-Ok-turn.ensures.answer c.in-Ok-turn.ensures.after c.in-Ok-turn.ensures.progress c.turn.ensures.frames x); kept = c.perform.ensures.kept ∙ c.turn.ensures.kept ∙ c.loop.invariant.kept; finds = c.perform.ensures.finds ∙ fs; bound = c.perform.ensures.bound ∙ ap (most g.S.Store.PartialStore.largest) c.turn.ensures.stays ∙ c.loop.invariant.bound; same = c.perform.ensures.same ∙ c.turn.ensures.same ∙ c.loop.invariant.same }
+    record { renders = c.loop.invariant.renders _ _ _ (turn_fails_at _ _ _ _ _ _ _ _ _ _ _ _ _ _ _ _ (left_more c.loop.counter c.turns-end.result c.loop-test.true) (not_end c.in-Ok-turn.turn c.in_default.not-End) c.in-Ok-turn.ensures.answer c.in-Ok-turn.ensures.after c.in-Ok-turn.ensures.progress c.turn.ensures.frames x); kept = c.perform.ensures.kept ∙ c.turn.ensures.kept ∙ c.loop.invariant.kept; finds = c.perform.ensures.finds ∙ fs; bound = c.perform.ensures.bound ∙ ap (λ store. partials_size (option_map g.S.Store.PartialStore.finds store)) c.turn.ensures.stays ∙ c.loop.invariant.bound; same = c.perform.ensures.same ∙ c.turn.ensures.same ∙ c.loop.invariant.same }
 
 pub render_tag-loop-preserved : goal.render_tag-loop-preserved
 render_tag-loop-preserved g t c =
@@ -100,7 +100,7 @@ render_tag-loop-preserved g t c =
     let fs = ap (option_map g.S.Store.PartialStore.finds) c.in-Ok-turn.ensures.stays ∙ c.loop.invariant.finds in
     let x0 = rw fs at c.in-Ok-perform.ensures.renders in
     let x = without_parts s (partials_at s c.args.depth) g.X.Meant.shape g.T.Meant.shape g.B.Meant.shape c.deref.result.now _ _ _ _ _ _ (c.deref.ensures.value ∙ c.loop.invariant.none) x0 in
-    record { kept = c.perform.ensures.kept ∙ c.turn.ensures.kept ∙ c.loop.invariant.kept; finds = c.perform.ensures.finds ∙ fs; bound = c.perform.ensures.bound ∙ ap (most g.S.Store.PartialStore.largest) c.turn.ensures.stays ∙ c.loop.invariant.bound; same = c.perform.ensures.same ∙ c.turn.ensures.same ∙ c.loop.invariant.same; none = c.loop.invariant.none; renders = λ after left answer h. c.loop.invariant.renders after left answer (turn_more_at _ _ _ _ _ _ _ _ _ _ _ _ _ _ _ _ _ _ _ (left_more c.loop.counter c.turns-end.result c.loop-test.true) (not_end c.in-Ok-turn.turn c.in_default.not-End) c.in-Ok-turn.ensures.answer c.in-Ok-turn.ensures.after c.in-Ok-turn.ensures.progress c.turn.ensures.frames x h) }
+    record { kept = c.perform.ensures.kept ∙ c.turn.ensures.kept ∙ c.loop.invariant.kept; finds = c.perform.ensures.finds ∙ fs; bound = c.perform.ensures.bound ∙ ap (λ store. partials_size (option_map g.S.Store.PartialStore.finds store)) c.turn.ensures.stays ∙ c.loop.invariant.bound; same = c.perform.ensures.same ∙ c.turn.ensures.same ∙ c.loop.invariant.same; none = c.loop.invariant.none; renders = λ after left answer h. c.loop.invariant.renders after left answer (turn_more_at _ _ _ _ _ _ _ _ _ _ _ _ _ _ _ _ _ _ _ (left_more c.loop.counter c.turns-end.result c.loop-test.true) (not_end c.in-Ok-turn.turn c.in_default.not-End) c.in-Ok-turn.ensures.answer c.in-Ok-turn.ensures.after c.in-Ok-turn.ensures.progress c.turn.ensures.frames x h) }
 
 pub render_tag-returns : goal.render_tag-returns
 render_tag-returns g t c =
@@ -112,15 +112,15 @@ render_block-returns-in-Err-clause-renders g t c =
 
 pub render_block-loop-init : goal.render_block-loop-init
 render_block-loop-init g t c =
-    record { kept = c.start.ensures.kept; finds = ap (option_map g.S.Store.PartialStore.finds) c.start.ensures.stays; bound = ap (most g.S.Store.PartialStore.largest) c.start.ensures.stays; same = c.start.ensures.same; renders = λ after left answer h. start_goes_at _ _ _ _ _ _ _ _ _ _ _ _ _ (none_yet c.turns-end.result _ c.turns-end.ensures) c.in-Ok.ensures.answer c.in-Ok.ensures.after c.start.ensures.frames h }
+    record { kept = c.start.ensures.kept; finds = ap (option_map g.S.Store.PartialStore.finds) c.start.ensures.stays; bound = ap (λ store. partials_size (option_map g.S.Store.PartialStore.finds store)) c.start.ensures.stays; same = c.start.ensures.same; renders = λ after left answer h. start_goes_at _ _ _ _ _ _ _ _ _ _ _ _ _ (none_yet c.turns-end.result _ c.turns-end.ensures) c.in-Ok.ensures.answer c.in-Ok.ensures.after c.start.ensures.frames h }
 
 pub render_block-returns-in-Err-turn : goal.render_block-returns-in-Err-turn
 render_block-returns-in-Err-turn g t c =
-    record { renders = c.loop.invariant.renders _ _ _ (turn_refused_at _ _ _ _ _ _ _ _ _ _ _ _ (left_more c.loop.counter c.turns-end.result c.loop-test.true) c.in-Err-turn.ensures.answer c.in-Err-turn.ensures.after c.turn.ensures.frames); kept = c.turn.ensures.kept ∙ c.loop.invariant.kept; finds = ap (option_map g.S.Store.PartialStore.finds) c.turn.ensures.stays ∙ c.loop.invariant.finds; bound = ap (most g.S.Store.PartialStore.largest) c.turn.ensures.stays ∙ c.loop.invariant.bound; same = c.turn.ensures.same ∙ c.loop.invariant.same }
+    record { renders = c.loop.invariant.renders _ _ _ (turn_refused_at _ _ _ _ _ _ _ _ _ _ _ _ (left_more c.loop.counter c.turns-end.result c.loop-test.true) c.in-Err-turn.ensures.answer c.in-Err-turn.ensures.after c.turn.ensures.frames); kept = c.turn.ensures.kept ∙ c.loop.invariant.kept; finds = ap (option_map g.S.Store.PartialStore.finds) c.turn.ensures.stays ∙ c.loop.invariant.finds; bound = ap (λ store. partials_size (option_map g.S.Store.PartialStore.finds store)) c.turn.ensures.stays ∙ c.loop.invariant.bound; same = c.turn.ensures.same ∙ c.loop.invariant.same }
 
 pub render_block-returns-in-End : goal.render_block-returns-in-End
 render_block-returns-in-End g t c =
-    record { renders = c.loop.invariant.renders _ _ _ (turn_ends_at _ _ _ _ _ _ _ _ _ _ _ _ (left_more c.loop.counter c.turns-end.result c.loop-test.true) (c.in-Ok-turn.ensures.answer ∙ ap (λ x. Ok (turn_of x)) c.in-End.is) c.in-Ok-turn.ensures.after c.turn.ensures.frames); kept = c.turn.ensures.kept ∙ c.loop.invariant.kept; finds = ap (option_map g.S.Store.PartialStore.finds) c.turn.ensures.stays ∙ c.loop.invariant.finds; bound = ap (most g.S.Store.PartialStore.largest) c.turn.ensures.stays ∙ c.loop.invariant.bound; same = c.turn.ensures.same ∙ c.loop.invariant.same }
+    record { renders = c.loop.invariant.renders _ _ _ (turn_ends_at _ _ _ _ _ _ _ _ _ _ _ _ (left_more c.loop.counter c.turns-end.result c.loop-test.true) (c.in-Ok-turn.ensures.answer ∙ ap (λ x. Ok (turn_of x)) c.in-End.is) c.in-Ok-turn.ensures.after c.turn.ensures.frames); kept = c.turn.ensures.kept ∙ c.loop.invariant.kept; finds = ap (option_map g.S.Store.PartialStore.finds) c.turn.ensures.stays ∙ c.loop.invariant.finds; bound = ap (λ store. partials_size (option_map g.S.Store.PartialStore.finds store)) c.turn.ensures.stays ∙ c.loop.invariant.bound; same = c.turn.ensures.same ∙ c.loop.invariant.same }
 
 pub render_block-returns-in-Err-perform : goal.render_block-returns-in-Err-perform
 render_block-returns-in-Err-perform g t c =
@@ -128,7 +128,7 @@ render_block-returns-in-Err-perform g t c =
     let fs = ap (option_map g.S.Store.PartialStore.finds) c.in-Ok-turn.ensures.stays ∙ c.loop.invariant.finds in
     let x0 = rw fs at c.in-Err-perform.ensures.renders in
     let x = x0 in
-    record { renders = c.loop.invariant.renders _ _ _ (turn_fails_at _ _ _ _ _ _ _ _ _ _ _ _ _ _ _ _ (left_more c.loop.counter c.turns-end.result c.loop-test.true) (not_end c.in-Ok-turn.turn c.in_default.not-End) c.in-Ok-turn.ensures.answer c.in-Ok-turn.ensures.after c.in-Ok-turn.ensures.progress c.turn.ensures.frames x); kept = c.perform.ensures.kept ∙ c.turn.ensures.kept ∙ c.loop.invariant.kept; finds = c.perform.ensures.finds ∙ fs; bound = c.perform.ensures.bound ∙ ap (most g.S.Store.PartialStore.largest) c.turn.ensures.stays ∙ c.loop.invariant.bound; same = c.perform.ensures.same ∙ c.turn.ensures.same ∙ c.loop.invariant.same }
+    record { renders = c.loop.invariant.renders _ _ _ (turn_fails_at _ _ _ _ _ _ _ _ _ _ _ _ _ _ _ _ (left_more c.loop.counter c.turns-end.result c.loop-test.true) (not_end c.in-Ok-turn.turn c.in_default.not-End) c.in-Ok-turn.ensures.answer c.in-Ok-turn.ensures.after c.in-Ok-turn.ensures.progress c.turn.ensures.frames x); kept = c.perform.ensures.kept ∙ c.turn.ensures.kept ∙ c.loop.invariant.kept; finds = c.perform.ensures.finds ∙ fs; bound = c.perform.ensures.bound ∙ ap (λ store. partials_size (option_map g.S.Store.PartialStore.finds store)) c.turn.ensures.stays ∙ c.loop.invariant.bound; same = c.perform.ensures.same ∙ c.turn.ensures.same ∙ c.loop.invariant.same }
 
 pub render_block-loop-preserved : goal.render_block-loop-preserved
 render_block-loop-preserved g t c =
@@ -136,7 +136,7 @@ render_block-loop-preserved g t c =
     let fs = ap (option_map g.S.Store.PartialStore.finds) c.in-Ok-turn.ensures.stays ∙ c.loop.invariant.finds in
     let x0 = rw fs at c.in-Ok-perform.ensures.renders in
     let x = x0 in
-    record { kept = c.perform.ensures.kept ∙ c.turn.ensures.kept ∙ c.loop.invariant.kept; finds = c.perform.ensures.finds ∙ fs; bound = c.perform.ensures.bound ∙ ap (most g.S.Store.PartialStore.largest) c.turn.ensures.stays ∙ c.loop.invariant.bound; same = c.perform.ensures.same ∙ c.turn.ensures.same ∙ c.loop.invariant.same; renders = λ after left answer h. c.loop.invariant.renders after left answer (turn_more_at _ _ _ _ _ _ _ _ _ _ _ _ _ _ _ _ _ _ _ (left_more c.loop.counter c.turns-end.result c.loop-test.true) (not_end c.in-Ok-turn.turn c.in_default.not-End) c.in-Ok-turn.ensures.answer c.in-Ok-turn.ensures.after c.in-Ok-turn.ensures.progress c.turn.ensures.frames x h) }
+    record { kept = c.perform.ensures.kept ∙ c.turn.ensures.kept ∙ c.loop.invariant.kept; finds = c.perform.ensures.finds ∙ fs; bound = c.perform.ensures.bound ∙ ap (λ store. partials_size (option_map g.S.Store.PartialStore.finds store)) c.turn.ensures.stays ∙ c.loop.invariant.bound; same = c.perform.ensures.same ∙ c.turn.ensures.same ∙ c.loop.invariant.same; renders = λ after left answer h. c.loop.invariant.renders after left answer (turn_more_at _ _ _ _ _ _ _ _ _ _ _ _ _ _ _ _ _ _ _ (left_more c.loop.counter c.turns-end.result c.loop-test.true) (not_end c.in-Ok-turn.turn c.in_default.not-End) c.in-Ok-turn.ensures.answer c.in-Ok-turn.ensures.after c.in-Ok-turn.ensures.progress c.turn.ensures.frames x h) }
 
 pub render_block-returns : goal.render_block-returns
 render_block-returns g t c =

@@ -10,41 +10,41 @@ use Rattle.liquid_template.specs.Sunk.{Sunk, sunk}
 use Rattle.liquid_template.specs.Outcome.{Renders}
 use Rattle.liquid_template.specs.Runs.{setting, tag_run, block_run}
 use Rattle.liquid_template.specs.PartsOf.{parts_of}
-use Rattle.liquid_template.specs.Bound.{most, work}
+use Rattle.liquid_template.specs.Bound.{partials_size, work}
 use Rattle.liquid_template.proofs.cycle.+render.Given as goal
 
 abbrev pub decreases-render_list : goal.decreases-render_list
-decreases-render_list g l = 8 * work l.depth (most g.S.Store.PartialStore.largest (g.S.Runtime.store l.scopes.now)) (size_nodes (nodes_of g.X.Meant.shape g.T.Meant.shape g.B.Meant.shape l.nodes.now)) + 3
+decreases-render_list g l = 8 * work l.depth (partials_size (option_map g.S.Store.PartialStore.finds (g.S.Runtime.store l.scopes.now))) (size_nodes (nodes_of g.X.Meant.shape g.T.Meant.shape g.B.Meant.shape l.nodes.now)) + 3
 
 abbrev pub decreases-render_node : goal.decreases-render_node
-decreases-render_node g l = 8 * work l.depth (most g.S.Store.PartialStore.largest (g.S.Runtime.store l.scopes.now)) (size_node (node_of g.X.Meant.shape g.T.Meant.shape g.B.Meant.shape l.node.now)) + 2
+decreases-render_node g l = 8 * work l.depth (partials_size (option_map g.S.Store.PartialStore.finds (g.S.Runtime.store l.scopes.now))) (size_node (node_of g.X.Meant.shape g.T.Meant.shape g.B.Meant.shape l.node.now)) + 2
 
 abbrev pub decreases-render_tag : goal.decreases-render_tag
-decreases-render_tag g l = 8 * work l.depth (most g.S.Store.PartialStore.largest (g.S.Runtime.store l.scopes.now)) 0 + 7
+decreases-render_tag g l = 8 * work l.depth (partials_size (option_map g.S.Store.PartialStore.finds (g.S.Runtime.store l.scopes.now))) 0 + 7
 
 abbrev pub decreases-render_block : goal.decreases-render_block
-decreases-render_block g l = 8 * work l.depth (most g.S.Store.PartialStore.largest (g.S.Runtime.store l.scopes.now)) (size_parts (parts_of g.X.Meant.shape g.T.Meant.shape g.B.Meant.shape l.parts.now)) + 7
+decreases-render_block g l = 8 * work l.depth (partials_size (option_map g.S.Store.PartialStore.finds (g.S.Runtime.store l.scopes.now))) (size_parts (parts_of g.X.Meant.shape g.T.Meant.shape g.B.Meant.shape l.parts.now)) + 7
 
 abbrev pub decreases-perform : goal.decreases-perform
-decreases-perform g l = 8 * work l.depth (most g.S.Store.PartialStore.largest (g.S.Runtime.store l.scopes.now)) (size_parts (parts_of g.X.Meant.shape g.T.Meant.shape g.B.Meant.shape l.parts.now)) + 6
+decreases-perform g l = 8 * work l.depth (partials_size (option_map g.S.Store.PartialStore.finds (g.S.Runtime.store l.scopes.now))) (size_parts (parts_of g.X.Meant.shape g.T.Meant.shape g.B.Meant.shape l.parts.now)) + 6
 
 abbrev pub decreases-render_body : goal.decreases-render_body
-decreases-render_body g l = 8 * work l.depth (most g.S.Store.PartialStore.largest (g.S.Runtime.store l.scopes.now)) (size_parts (parts_of g.X.Meant.shape g.T.Meant.shape g.B.Meant.shape l.parts.now)) + 5
+decreases-render_body g l = 8 * work l.depth (partials_size (option_map g.S.Store.PartialStore.finds (g.S.Runtime.store l.scopes.now))) (size_parts (parts_of g.X.Meant.shape g.T.Meant.shape g.B.Meant.shape l.parts.now)) + 5
 
 abbrev pub decreases-render_part : goal.decreases-render_part
-decreases-render_part g l = 8 * work l.depth (most g.S.Store.PartialStore.largest (g.S.Runtime.store l.scopes.now)) (size_parts (parts_of g.X.Meant.shape g.T.Meant.shape g.B.Meant.shape l.parts.now)) + 4
+decreases-render_part g l = 8 * work l.depth (partials_size (option_map g.S.Store.PartialStore.finds (g.S.Runtime.store l.scopes.now))) (size_parts (parts_of g.X.Meant.shape g.T.Meant.shape g.B.Meant.shape l.parts.now)) + 4
 
 abbrev pub decreases-render_partial : goal.decreases-render_partial
-decreases-render_partial g l = 8 * work l.depth (most g.S.Store.PartialStore.largest (g.S.Runtime.store l.scopes.now)) 0 + 5
+decreases-render_partial g l = 8 * work l.depth (partials_size (option_map g.S.Store.PartialStore.finds (g.S.Runtime.store l.scopes.now))) 0 + 5
 
 abbrev pub decreases-render_found : goal.decreases-render_found
-decreases-render_found g l = 8 * work l.depth (most g.S.Store.PartialStore.largest (g.S.Runtime.store l.scopes.now)) 0 + 4
+decreases-render_found g l = 8 * work l.depth (partials_size (option_map g.S.Store.PartialStore.finds (g.S.Runtime.store l.scopes.now))) 0 + 4
 
 abbrev pub invariant-render_list-loop-node : goal.invariant-render_list-loop-node
 invariant-render_list-loop-node g l = record {
   kept : g.S.Runtime.restores l.scopes ≡ g.S.Runtime.restores l.fn.scopes;
   finds : option_map g.S.Store.PartialStore.finds (g.S.Runtime.store l.scopes) ≡ option_map g.S.Store.PartialStore.finds (g.S.Runtime.store l.fn.scopes);
-  bound : most g.S.Store.PartialStore.largest (g.S.Runtime.store l.scopes) ≡ most g.S.Store.PartialStore.largest (g.S.Runtime.store l.fn.scopes);
+  bound : partials_size (option_map g.S.Store.PartialStore.finds (g.S.Runtime.store l.scopes)) ≡ partials_size (option_map g.S.Store.PartialStore.finds (g.S.Runtime.store l.fn.scopes));
   same : g.S.Runtime.lent l.scopes ≡ g.S.Runtime.lent l.fn.scopes;
   renders : (after : Sunk) (left : View g.row.S-Register.Denot) (answer : Result (Unit {0}) Error)
       → Renders (nodes_run (setting g.S.Register.Fresh.fresh g.X.Filter.answers g.X.Filter.shown g.T.Renderable.starts g.T.Renderable.count g.T.Renderable.tells g.B.Renderable.starts g.B.Renderable.count g.B.Renderable.tells (option_map g.S.Store.PartialStore.finds (g.S.Runtime.store l.fn.scopes))) l.depth (nodes_of g.X.Meant.shape g.T.Meant.shape g.B.Meant.shape (drop l.node-index l.nodes)) (g.S.Runtime.view l.scopes)) (g.S.Runtime.view l.scopes) (sunk (g.K.Sink.taken l.sink) (g.K.Sink.failures l.sink) (g.K.Sink.behind l.sink) (g.K.Sink.lent l.sink)) after left answer
@@ -55,7 +55,7 @@ abbrev pub invariant-render_tag-loop : goal.invariant-render_tag-loop
 invariant-render_tag-loop g l = record {
   kept : g.S.Runtime.restores l.scopes ≡ g.S.Runtime.restores l.fn.scopes;
   finds : option_map g.S.Store.PartialStore.finds (g.S.Runtime.store l.scopes) ≡ option_map g.S.Store.PartialStore.finds (g.S.Runtime.store l.fn.scopes);
-  bound : most g.S.Store.PartialStore.largest (g.S.Runtime.store l.scopes) ≡ most g.S.Store.PartialStore.largest (g.S.Runtime.store l.fn.scopes);
+  bound : partials_size (option_map g.S.Store.PartialStore.finds (g.S.Runtime.store l.scopes)) ≡ partials_size (option_map g.S.Store.PartialStore.finds (g.S.Runtime.store l.fn.scopes));
   same : g.S.Runtime.lent l.scopes ≡ g.S.Runtime.lent l.fn.scopes;
   none : l.none.items ≡ [];
   renders : (after : Sunk) (left : View g.row.S-Register.Denot) (answer : Result (Unit {0}) Error)
@@ -67,7 +67,7 @@ abbrev pub invariant-render_block-loop : goal.invariant-render_block-loop
 invariant-render_block-loop g l = record {
   kept : g.S.Runtime.restores l.scopes ≡ g.S.Runtime.restores l.fn.scopes;
   finds : option_map g.S.Store.PartialStore.finds (g.S.Runtime.store l.scopes) ≡ option_map g.S.Store.PartialStore.finds (g.S.Runtime.store l.fn.scopes);
-  bound : most g.S.Store.PartialStore.largest (g.S.Runtime.store l.scopes) ≡ most g.S.Store.PartialStore.largest (g.S.Runtime.store l.fn.scopes);
+  bound : partials_size (option_map g.S.Store.PartialStore.finds (g.S.Runtime.store l.scopes)) ≡ partials_size (option_map g.S.Store.PartialStore.finds (g.S.Runtime.store l.fn.scopes));
   same : g.S.Runtime.lent l.scopes ≡ g.S.Runtime.lent l.fn.scopes;
   renders : (after : Sunk) (left : View g.row.S-Register.Denot) (answer : Result (Unit {0}) Error)
       → Renders (turns (setting g.S.Register.Fresh.fresh g.X.Filter.answers g.X.Filter.shown g.T.Renderable.starts g.T.Renderable.count g.T.Renderable.tells g.B.Renderable.starts g.B.Renderable.count g.B.Renderable.tells (option_map g.S.Store.PartialStore.finds (g.S.Runtime.store l.fn.scopes))) (partials_at (setting g.S.Register.Fresh.fresh g.X.Filter.answers g.X.Filter.shown g.T.Renderable.starts g.T.Renderable.count g.T.Renderable.tells g.B.Renderable.starts g.B.Renderable.count g.B.Renderable.tells (option_map g.S.Store.PartialStore.finds (g.S.Runtime.store l.fn.scopes))) l.depth) (record { starts = g.B.Renderable.starts; count = g.B.Renderable.count; tells = g.B.Renderable.tells }) (g.B.Meant.shape l.block) (run_parts (setting g.S.Register.Fresh.fresh g.X.Filter.answers g.X.Filter.shown g.T.Renderable.starts g.T.Renderable.count g.T.Renderable.tells g.B.Renderable.starts g.B.Renderable.count g.B.Renderable.tells (option_map g.S.Store.PartialStore.finds (g.S.Runtime.store l.fn.scopes))) (partials_at (setting g.S.Register.Fresh.fresh g.X.Filter.answers g.X.Filter.shown g.T.Renderable.starts g.T.Renderable.count g.T.Renderable.tells g.B.Renderable.starts g.B.Renderable.count g.B.Renderable.tells (option_map g.S.Store.PartialStore.finds (g.S.Runtime.store l.fn.scopes))) l.depth) (parts_of g.X.Meant.shape g.T.Meant.shape g.B.Meant.shape l.parts)) (l.end - l.counter) (g.B.Progress.Meant.shape l.progress) (g.S.Runtime.view l.scopes)) (g.S.Runtime.view l.scopes) (sunk (g.K.Sink.taken l.sink) (g.K.Sink.failures l.sink) (g.K.Sink.behind l.sink) (g.K.Sink.lent l.sink)) after left answer

@@ -1,0 +1,32 @@
+//! A source of one's own: it hands on another's answers, and counts how often it is asked for a text.
+ghost use Rattle.std.specs.Prelude.{◌≡◌};
+
+use liquid_core::partials::PartialSource;
+use std::alloc::{AllocError, Global};
+use std::borrow::CowStr;
+use std::cell::Cell;
+use std::rc::Rc;
+
+/// The texts of another source. The count is shared with whoever made it.
+#[derive(Drop)]
+pub(crate) struct CountingSource<S> {
+    pub(crate) source: S,
+    pub(crate) asked: Rc<Cell<u64>>,
+}
+
+impl<S: PartialSource> PartialSource for CountingSource<S> {
+    ghost texts = { λ counting. S.texts counting.source };
+
+    fn contains(&self, name: &str) -> bool {
+        self.source.contains(name)
+    }
+
+    fn names(&self, alloc: Global) -> Result<Vec<&str>, AllocError> {
+        self.source.names(alloc)
+    }
+
+    fn try_get(&self, alloc: Global, name: &str) -> Result<Option<CowStr<'_>>, AllocError> {
+        self.asked.set(self.asked.get().saturating_add(1));
+        self.source.try_get(alloc, name)
+    }
+}

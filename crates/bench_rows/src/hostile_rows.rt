@@ -1,0 +1,155 @@
+//! Texts of bad will: plug-ins that don't end, openers that are no liquid, and more open than may be.
+use crate::rows::{Given, Row, runtime_of};
+use crate::text_rows::holds;
+use bench::languages::{hostile_language, language};
+use liquid_core::{TextSink, render_source};
+use std::alloc::Global;
+use std::test::Fail;
+
+const HOSTILE: [Row; 14] = [
+    Row {
+        template: "{% spin %}.",
+        globals: &[],
+        written: "sss.",
+        error: "",
+    },
+    Row {
+        template: "{% mute %}.",
+        globals: &[],
+        written: ".",
+        error: "",
+    },
+    Row {
+        template: "{% far %}a{% endfar %}.",
+        globals: &[],
+        written: ".",
+        error: "",
+    },
+    Row {
+        template: "{% b %}x{% endbox %}",
+        globals: &[],
+        written: "[x]",
+        error: "",
+    },
+    Row {
+        template: "{{% box %}a{% endbox %}",
+        globals: &[],
+        written: "",
+        error: "liquid: Invalid liquid (line 1, column 1)\n",
+    },
+    Row {
+        template: "{% raw %}{{ a",
+        globals: &[],
+        written: "",
+        error: "liquid: Unclosed block. {% endraw %} tag expected. (line 1, column 14)\n",
+    },
+    Row {
+        template: "{% box %}{% sbox %}",
+        globals: &[],
+        written: "",
+        error: "liquid: Unclosed block. {% endsbox %} tag expected. (line 1, column 20)\n",
+    },
+    Row {
+        template: "{% endbox %}",
+        globals: &[],
+        written: "",
+        error: "liquid: Unknown tag. (line 1, column 4)\n  with:\n    requested=endbox\n    available tags=brk, inc, mute, set, spin\n    available blocks=b, box, far, glob, raw, sbox, swap, with\n",
+    },
+    Row {
+        template: "a \n {{- ! }}",
+        globals: &[],
+        written: "",
+        error: "liquid: Invalid liquid (line 2, column 2)\n",
+    },
+    Row {
+        template: "a\n  {{ 4.5 }}",
+        globals: &[],
+        written: "",
+        error: "liquid: Decimal not supported (line 2, column 6)\n",
+    },
+    Row {
+        template: "é{{ 4.5 }}",
+        globals: &[],
+        written: "",
+        error: "liquid: Decimal not supported (line 1, column 5)\n",
+    },
+    Row {
+        template: "{{ +9223372036854775807 }}",
+        globals: &[],
+        written: "9223372036854775807",
+        error: "",
+    },
+    Row {
+        template: "{{ -9223372036854775809 }}",
+        globals: &[],
+        written: "",
+        error: "liquid: Integer out of range (line 1, column 4)\n",
+    },
+    Row {
+        template: "{{ a[-9223372036854775808] }}",
+        globals: &[("a", Given::Numbers(1))],
+        written: "",
+        error: "liquid: Unknown index\n  with:\n    variable=a\n    requested index=-9223372036854775808\n    available indexes=0..0, first, last\n",
+    },
+];
+
+#[test]
+fn hostile_templates_are_rendered(rt: HostRuntime) -> Result<(), Fail> {
+    let alloc = rt.alloc();
+    let language = hostile_language(alloc)?;
+    for row in &HOSTILE {
+        assert!(rt; holds(alloc, row, &language)?, "{}", row.template);
+    }
+    Ok(())
+}
+
+/// A text over and over.
+fn repeated(alloc: Global, text: &str, count: usize) -> Result<String, Fail> {
+    let mut all = String::new(alloc);
+    for _ in 0..count {
+        all.push_str(text)?;
+    }
+    Ok(all)
+}
+
+/// So many boxes, one inside the other.
+fn boxes(alloc: Global, count: usize) -> Result<String, Fail> {
+    let mut all = repeated(alloc, "{% box %}", count)?;
+    all.push_str(repeated(alloc, "{% endbox %}", count)?.as_str())?;
+    Ok(all)
+}
+
+/// What a text without globals is written as, or the text of its refusal.
+fn written(alloc: Global, text: &str) -> Result<String, Fail> {
+    let language = language(alloc)?;
+    let mut runtime = runtime_of(alloc, &[])?;
+    let mut sink = TextSink::new(alloc);
+    match render_source(alloc, text, &language, &mut runtime, &mut sink) {
+        Ok(()) => Ok(sink.into_string()?),
+        Err(error) => Ok(error.to_string(alloc)?),
+    }
+}
+
+#[test]
+fn a_hundred_may_be_open(rt: HostRuntime) -> Result<(), Fail> {
+    let alloc = rt.alloc();
+    let mut hundred = repeated(alloc, "[", 100)?;
+    hundred.push_str(repeated(alloc, "]", 100)?.as_str())?;
+    let text = boxes(alloc, 100)?;
+    assert_eq!(rt; written(alloc, text.as_str())?.as_str(), hundred.as_str());
+    let text = boxes(alloc, 101)?;
+    assert_eq!(rt;
+        written(alloc, text.as_str())?.as_str(),
+        "liquid: Nested too deep (line 1, column 904)\n"
+    );
+    let mut text = String::from_str(alloc, "{{ ")?;
+    text.push_str(repeated(alloc, "a[", 101)?.as_str())?;
+    text.push_str("0")?;
+    text.push_str(repeated(alloc, "]", 101)?.as_str())?;
+    text.push_str(" }}")?;
+    assert_eq!(rt;
+        written(alloc, text.as_str())?.as_str(),
+        "liquid: Nested too deep (line 1, column 205)\n"
+    );
+    Ok(())
+}

@@ -1,0 +1,325 @@
+//! Templates with partials, and requests to stores, over both stores.
+use crate::counting_source::CountingSource;
+use bench::blocks::BlockNode;
+use bench::filters::AnyFilter;
+use bench::languages::language;
+use bench::tags::TagNode;
+use bench::{Blocks, Filters, Tags};
+use liquid_core::partials::{
+    EagerCompiler, EagerStore, InMemorySource, OnDemandCompiler, OnDemandStore, PartialCompiler,
+    PartialSource,
+};
+use liquid_core::runtime::{BuiltRuntime, RuntimeBuilder, Template};
+use liquid_core::{Error, Language, PartialStore, TextSink, render_source};
+use std::alloc::{AllocError, Global};
+use std::cell::Cell;
+use std::rc::Rc;
+use std::test::Fail;
+
+type TheLanguage = Language<Filters, Tags, Blocks>;
+
+type Sources = &'static [(&'static str, &'static str)];
+
+fn source(alloc: Global, texts: Sources) -> Result<InMemorySource, AllocError> {
+    let mut source = InMemorySource::new(alloc);
+    for (name, text) in texts {
+        source.add(
+            String::from_str(alloc, name)?,
+            String::from_str(alloc, text)?,
+        )?;
+    }
+    Ok(source)
+}
+
+fn eager(
+    alloc: Global,
+    language: &Rc<TheLanguage>,
+    texts: Sources,
+) -> Result<EagerStore<AnyFilter, TagNode, BlockNode>, AllocError> {
+    EagerCompiler::new(source(alloc, texts)?).compile(alloc, language.clone()?)
+}
+
+fn on_demand(
+    alloc: Global,
+    language: &Rc<TheLanguage>,
+    texts: Sources,
+) -> Result<OnDemandStore<InMemorySource, Filters, Tags, Blocks>, AllocError> {
+    OnDemandCompiler::new(source(alloc, texts)?).compile(alloc, language.clone()?)
+}
+
+/// What is written, with the error's text behind it.
+fn rendered<S>(alloc: Global, language: &TheLanguage, row: &Row, store: S) -> Result<String, Fail>
+where
+    S: PartialStore<AnyFilter, TagNode, BlockNode> + Drop,
+{
+    let mut runtime: BuiltRuntime<(), S> = RuntimeBuilder::new(alloc)
+        .set_partials(store)
+        .set_depth(row.depth)
+        .build();
+    let mut sink = TextSink::new(alloc);
+    let answer = render_source(alloc, row.template, language, &mut runtime, &mut sink);
+    let mut all = sink.into_string()?;
+    if let Err(error) = answer {
+        all.push_str(error.to_string(alloc)?.as_str())?;
+    }
+    Ok(all)
+}
+
+/// A template over partials, of which so many may be open inside one another, and what comes of it.
+struct Row {
+    partials: Sources,
+    template: &'static str,
+    depth: u32,
+    expected: &'static str,
+}
+
+const ENDLESS: Sources = &[("p", "x{% inc p %}")];
+
+const ROWS: [Row; 14] = [
+    Row {
+        partials: ENDLESS,
+        template: "{% inc p %}",
+        depth: 3,
+        expected: "xxxliquid: Partials nest too deep\n",
+    },
+    Row {
+        partials: ENDLESS,
+        template: "{% inc q %}",
+        depth: 32,
+        expected: "liquid: Unknown partial-template\n  with:\n    requested partial=q\n    available partials=p\n",
+    },
+    Row {
+        partials: ENDLESS,
+        template: "{% inc q %}",
+        depth: 0,
+        expected: "liquid: Partials nest too deep\n",
+    },
+    Row {
+        partials: &[("bad", "{% nope %}")],
+        template: "a{% inc bad %}",
+        depth: 32,
+        expected: "aliquid: Unknown tag. (line 1, column 4)\n  with:\n    requested=nope\n    available tags=brk, inc, set\n    available blocks=box, glob, raw, sbox, swap, with\n",
+    },
+    Row {
+        partials: &[("q", "Q"), ("p", "P")],
+        template: "{% inc q %}{% inc p %}{% inc r %}",
+        depth: 1,
+        expected: "QPliquid: Unknown partial-template\n  with:\n    requested partial=r\n    available partials=p, q\n",
+    },
+    Row {
+        partials: &[],
+        template: "{% inc p %}",
+        depth: 1,
+        expected: "liquid: Unknown partial-template\n  with:\n    requested partial=p\n    available partials=\n",
+    },
+    Row {
+        partials: &[("p", "")],
+        template: "a{% inc p %}b",
+        depth: 1,
+        expected: "ab",
+    },
+    Row {
+        partials: &[("p", "old"), ("p", "new")],
+        template: "{% inc p %}",
+        depth: 1,
+        expected: "new",
+    },
+    Row {
+        partials: &[("p", "{{ x }}{% set x 2 %}")],
+        template: "{% set x 1 %}{% inc p %}{{ x }}",
+        depth: 1,
+        expected: "12",
+    },
+    Row {
+        partials: &[("p", "a{% brk %}b")],
+        template: "{% box %}{% inc p %}c{% endbox %}d",
+        depth: 1,
+        expected: "[a]",
+    },
+    Row {
+        partials: &[("p", "{{ x }}")],
+        template: "{% set x 1 %}a{% sbox %}{% inc p %}{% endsbox %}b",
+        depth: 1,
+        expected: "aliquid: Unknown variable\n  with:\n    requested variable=x\n",
+    },
+    Row {
+        partials: &[("a", "1{% inc b %}"), ("b", "2{% inc c %}"), ("c", "3")],
+        template: "{% inc a %}{% inc c %}",
+        depth: 3,
+        expected: "1233",
+    },
+    Row {
+        partials: &[("a", "1{% inc b %}"), ("b", "2{% inc c %}"), ("c", "3")],
+        template: "{% inc a %}{% inc c %}",
+        depth: 2,
+        expected: "12liquid: Partials nest too deep\n",
+    },
+    Row {
+        partials: &[("p", "{% box %}x")],
+        template: "{% box %}a{% inc p %}{% endbox %}",
+        depth: 1,
+        expected: "[aliquid: Unclosed block. {% endbox %} tag expected. (line 1, column 11)\n",
+    },
+];
+
+#[test]
+fn partials_are_rendered_from_both_stores(rt: HostRuntime) -> Result<(), Fail> {
+    let alloc = rt.alloc();
+    let language = Rc::new(alloc, language(alloc)?)?;
+    for row in &ROWS {
+        let kept = eager(alloc, &language, row.partials)?;
+        let read = on_demand(alloc, &language, row.partials)?;
+        let first = rendered(alloc, &language, row, kept)?;
+        let second = rendered(alloc, &language, row, read)?;
+        assert_eq!(rt; first.as_str(), row.expected);
+        assert_eq!(rt; second.as_str(), row.expected);
+    }
+    Ok(())
+}
+
+/// What a partial is by itself: its text over a runtime without globals.
+fn shown(
+    alloc: Global,
+    found: Result<Rc<Template<AnyFilter, TagNode, BlockNode>>, Error>,
+) -> Result<String, AllocError> {
+    let mut runtime: BuiltRuntime<(), ()> = RuntimeBuilder::new(alloc).build();
+    match found {
+        Err(error) => error.to_string(alloc),
+        Ok(template) => match template.render(alloc, &mut runtime) {
+            Ok(text) => Ok(text),
+            Err(error) => error.to_string(alloc),
+        },
+    }
+}
+
+const SOURCES: Sources = &[("p", "P"), ("q", "Q"), ("bad", "{% nope %}")];
+
+const UNKNOWN_TAG: &str =
+    "liquid: Unknown tag. (line 1, column 4)\n  with:\n    requested=nope\n    available tags=brk, inc, set\n    available blocks=box, glob, raw, sbox, swap, with\n";
+
+/// Names that are requested one after the other, with what `get` answers.
+const REQUESTS: [(&str, &str); 9] = [
+    ("p", "P"),
+    ("q", "Q"),
+    ("p", "P"),
+    ("bad", UNKNOWN_TAG),
+    ("bad", UNKNOWN_TAG),
+    (
+        "none",
+        "liquid: Unknown partial-template\n  with:\n    requested partial=none\n    available partials=bad, p, q\n",
+    ),
+    ("q", "Q"),
+    (
+        "",
+        "liquid: Unknown partial-template\n  with:\n    requested partial=\n    available partials=bad, p, q\n",
+    ),
+    ("p", "P"),
+];
+
+/// What `get` answers for a name, and whether `try_get` answers the same tree, or none for a refusal.
+fn answered<S>(alloc: Global, store: &mut S, name: &str) -> Result<(String, bool), AllocError>
+where
+    S: PartialStore<AnyFilter, TagNode, BlockNode>,
+{
+    let found = store.get(alloc, name);
+    let is_tree = found.is_ok();
+    let text = shown(alloc, found)?;
+    let agrees = match store.try_get(alloc, name)? {
+        None => !is_tree,
+        Some(template) => is_tree && shown(alloc, Ok(template))?.as_str() == text.as_str(),
+    };
+    Ok((text, agrees))
+}
+
+#[test]
+fn requests_have_the_same_answers_from_both_stores(rt: HostRuntime) -> Result<(), Fail> {
+    let alloc = rt.alloc();
+    let language = Rc::new(alloc, language(alloc)?)?;
+    let mut kept = eager(alloc, &language, SOURCES)?;
+    let mut read = on_demand(alloc, &language, SOURCES)?;
+    for (name, expected) in &REQUESTS {
+        let first = answered(alloc, &mut kept, name)?;
+        let second = answered(alloc, &mut read, name)?;
+        assert_eq!(rt; first.0.as_str(), *expected);
+        assert_eq!(rt; second.0.as_str(), *expected);
+        assert!(rt; first.1 && second.1, "{name}");
+    }
+    assert_eq!(rt; kept.names(alloc)?.join(alloc, " ")?.as_str(), "bad p q");
+    assert_eq!(rt; read.names(alloc)?.join(alloc, " ")?.as_str(), "bad p q");
+    assert!(rt; kept.contains("bad") && read.contains("bad"));
+    assert!(rt; !kept.contains("none") && !read.contains("none"));
+    Ok(())
+}
+
+#[test]
+fn a_source_is_a_map_of_texts(rt: HostRuntime) -> Result<(), Fail> {
+    let alloc = rt.alloc();
+    let mut compiler: EagerCompiler<InMemorySource> = EagerCompiler::empty(alloc);
+    assert_eq!(rt; compiler.source().names(alloc)?.len(), 0);
+    let texts = compiler.source_mut();
+    let name = String::from_str(alloc, "p")?;
+    assert!(rt; !texts.add(name, String::from_str(alloc, "old")?)?);
+    let name = String::from_str(alloc, "p")?;
+    assert!(rt; texts.add(name, String::from_str(alloc, "new")?)?);
+    let copy = compiler.source().clone()?;
+    assert!(rt; copy.contains("p"));
+    assert!(rt; !copy.contains("q"));
+    assert_eq!(rt; copy.get(alloc, "p")?.as_str(), "new");
+    assert!(rt; copy.try_get(alloc, "q")?.is_none());
+    match copy.get(alloc, "q") {
+        Ok(_) => Err(Fail::from("q has a text")),
+        Err(error) => {
+            assert_eq!(rt;
+                error.to_string(alloc)?.as_str(),
+                "liquid: Unknown partial-template\n  with:\n    requested partial=q\n    available partials=p\n"
+            );
+            Ok(())
+        }
+    }
+}
+
+#[test]
+fn a_partial_is_asked_for_where_there_is_no_store(rt: HostRuntime) -> Result<(), Fail> {
+    let alloc = rt.alloc();
+    let language = language(alloc)?;
+    let mut runtime: BuiltRuntime<(), ()> = RuntimeBuilder::new(alloc).build();
+    let mut sink = TextSink::new(alloc);
+    match render_source(alloc, "a{% inc p %}", &language, &mut runtime, &mut sink) {
+        Ok(()) => Err(Fail::from("a partial was found")),
+        Err(error) => {
+            assert_eq!(rt; sink.as_bytes(), "a".as_bytes());
+            assert_eq!(rt;
+                error.to_string(alloc)?.as_str(),
+                "liquid: Partial does not exist\n  with:\n    name=p\n"
+            );
+            Ok(())
+        }
+    }
+}
+
+#[test]
+fn each_store_reads_its_source_when_it_says(rt: HostRuntime) -> Result<(), Fail> {
+    let alloc = rt.alloc();
+    let language = Rc::new(alloc, language(alloc)?)?;
+    let asked = Rc::new(alloc, Cell::new(0))?;
+    let counting = CountingSource {
+        source: source(alloc, SOURCES)?,
+        asked: asked.clone()?,
+    };
+    let mut store = OnDemandCompiler::new(counting).compile(alloc, language.clone()?)?;
+    assert_eq!(rt; asked.get(), 0);
+    let _first = store.try_get(alloc, "p")?;
+    let _second = store.try_get(alloc, "p")?;
+    let _absent = store.try_get(alloc, "none")?;
+    assert_eq!(rt; asked.get(), 2);
+    let counting = CountingSource {
+        source: source(alloc, SOURCES)?,
+        asked: asked.clone()?,
+    };
+    let mut store = EagerCompiler::new(counting).compile(alloc, language.clone()?)?;
+    assert_eq!(rt; asked.get(), 5);
+    let _first = store.try_get(alloc, "p")?;
+    let _absent = store.try_get(alloc, "none")?;
+    assert_eq!(rt; asked.get(), 5);
+    Ok(())
+}

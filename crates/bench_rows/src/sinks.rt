@@ -1,0 +1,102 @@
+//! Sinks: texts of any length through a writer, and the faults of sinks.
+use crate::rows::{Given, runtime_of};
+use bench::languages::language;
+use liquid_core::{Sink, SinkFault, TextSink, WriterSink, render_source};
+use std::alloc::Global;
+use std::io::{self, BufWriter, Write};
+use std::test::Fail;
+
+/// Takes at most a thousand bytes a write.
+#[derive(Drop)]
+struct Narrow {
+    bytes: Vec<u8>,
+}
+
+impl Write for Narrow {
+    fn write(&mut self, buf: &[u8]) -> io::Result<usize> {
+        let taken = buf.len().min(1000);
+        self.bytes.extend_from_slice(&buf[..taken])?;
+        Ok(taken)
+    }
+
+    fn flush(&mut self) -> io::Result<()> {
+        Ok(())
+    }
+}
+
+/// Renders to a writer the text, a name and the text again.
+fn render_twice<W: Write>(alloc: Global, text: &str, writer: &mut W) -> Result<(), Fail> {
+    let mut source = text.to_string(alloc)?;
+    source.push_str("{{ name }}")?;
+    source.push_str(text)?;
+    let mut sink = WriterSink::new(writer);
+    let language = language(alloc)?;
+    let mut runtime = runtime_of(alloc, &[("name", Given::Text("World"))])?;
+    render_source(alloc, source.as_str(), &language, &mut runtime, &mut sink)?;
+    let _ = sink.into_inner();
+    Ok(())
+}
+
+#[test]
+fn a_writer_takes_texts_of_any_length(rt: HostRuntime) -> Result<(), Fail> {
+    let alloc = rt.alloc();
+    for length in [
+        0, 1, 999, 1000, 1001, 4095, 4096, 4097, 8191, 8192, 8193, 100_000,
+    ] {
+        let text = "0123456789abc\n".repeat(alloc, length / 14 + 1)?;
+        let text = text.as_str().get(..length).unwrap_or("");
+        let mut wanted = text.to_string(alloc)?;
+        wanted.push_str("World")?;
+        wanted.push_str(text)?;
+
+        let mut bytes = b"> ".to_vec(alloc)?;
+        render_twice(alloc, text, &mut bytes)?;
+        let quoted = format!(in alloc; "> {wanted}")?;
+        assert_eq!(rt; bytes.as_slice(), quoted.as_bytes(), "length {length}");
+
+        let mut buffered = BufWriter::new(alloc, Vec::new(alloc))?;
+        render_twice(alloc, text, &mut buffered)?;
+        buffered.flush()?;
+        assert_eq!(rt;
+            buffered.get_ref().as_slice(),
+            wanted.as_bytes(),
+            "length {length}"
+        );
+
+        let mut narrow = Narrow {
+            bytes: Vec::new(alloc),
+        };
+        render_twice(alloc, text, &mut narrow)?;
+        assert_eq!(rt;
+            narrow.bytes.as_slice(),
+            wanted.as_bytes(),
+            "length {length}"
+        );
+    }
+    Ok(())
+}
+
+#[test]
+fn a_writer_that_takes_nothing_fails(rt: HostRuntime) -> Result<(), Fail> {
+    let alloc = rt.alloc();
+    let mut room = [0; 2];
+    let mut writer = &mut room[..];
+    let mut sink = WriterSink::new(&mut writer);
+    assert_eq!(rt; sink.put(b"ab!"), Ok(2));
+    assert_eq!(rt; sink.put(b"!"), Err(SinkFault::Failed));
+    assert_eq!(rt; SinkFault::Failed.to_string(alloc)?.as_str(), "sink failed");
+    assert_eq!(rt;
+        SinkFault::Memory.to_string(alloc)?.as_str(),
+        "out of memory"
+    );
+    Ok(())
+}
+
+#[test]
+fn bytes_that_are_no_text_are_refused(rt: HostRuntime) {
+    let alloc = rt.alloc();
+    let mut sink = TextSink::new(alloc);
+    assert_eq!(rt; sink.put(b"\xff"), Ok(1));
+    assert_eq!(rt; sink.as_bytes(), b"\xff".as_slice());
+    assert!(rt; sink.into_string().is_err());
+}

@@ -1,0 +1,22 @@
+-- An object's names by its members.
+use Rattle.std.proofs.Common.{◌≡◌, List, [], ◌∷◌, Some, Result, Ok, String, Global, BTreeMap, map, string_bytes, refl, sym, ap, subst}
+use Rattle.std.specs.FinMap.{from_entries}
+use Rattle.liquid_error.specs.Refusal.{Refusal}
+use Rattle.liquid_value.specs.Tree.{Members}
+use Rattle.liquid_value.specs.View.{view, members_view}
+use Rattle.liquid_value.specs.declared.value.Value.{Value}
+use Rattle.liquid_runtime.specs.Maps.{names_of}
+use Rattle.liquid.specs.Gathered.{WithGlobals}
+use Rattle.liquid.specs.Globals.{entries_of, global_names}
+
+entries_viewed : (es : List (String Global × Value)) → entries_of (members_view es) ≡ map (λ e. (string_bytes e.0, view e.1)) es
+entries_viewed [] = refl
+entries_viewed (e ∷ es) = ap (λ more. (string_bytes e.0, view e.1) ∷ more) (entries_viewed es)
+
+pub global_names-object : (object : BTreeMap (String Global) Value) → global_names (members_view object.entries) ≡ names_of object
+unfolding names_of
+global_names-object object = ap from_entries (entries_viewed object.entries)
+
+-- an object that was given
+pub object_brought : (given : Result Members Refusal) (object : BTreeMap (String Global) Value) → given ≡ Ok (members_view object.entries) → WithGlobals (Some given) ⊥ (λ names. names_of object ≡ names)
+object_brought given object is = subst (λ g. WithGlobals (Some g) ⊥ (λ names. names_of object ≡ names)) (sym is) (sym (global_names-object object))

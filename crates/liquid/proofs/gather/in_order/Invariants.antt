@@ -1,0 +1,8 @@
+use Rattle.std.proofs.Common.{◌≡◌, map, string_bytes}
+use Rattle.std.specs.FinMap.{empty}
+use Rattle.liquid_plugins.specs.Registry.{by_name}
+use Rattle.liquid.specs.Gathered.{names_into}
+use Rattle.liquid.proofs.gather.in_order.Given as goal
+
+abbrev pub invariant-loop-name : goal.invariant-loop-name
+invariant-loop-name l = names_into (by_name l.set) (map string_bytes l.name-iterator.rest.items) ≡ names_into empty (map string_bytes l.fn.names.items)

@@ -1,0 +1,6 @@
+use Rattle.liquid.proofs.FolderLemmas.{partials_brought}
+use Rattle.liquid.proofs.gather.partials_of.Goals as goal
+
+pub returns-in_ok-partials_in-in-Some-clause-partials : goal.returns-in_ok-partials_in-in-Some-clause-partials
+returns-in_ok-partials_in-in-Some-clause-partials g c =
+    partials_brought (g.F.Folder.known c.args.files.now) (g.F.Folder.listed c.args.files.now) c.args.folder c.in-Some.folder c.in_ok-partials_in-in-Some.field-0 c.in-Some.is c.in_ok-partials_in-in-Some.ensures.partials

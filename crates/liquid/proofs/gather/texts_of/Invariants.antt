@@ -1,0 +1,12 @@
+use Rattle.std.proofs.Common.{◌≡◌, map, string_bytes}
+use Rattle.std.specs.FinMap.{keys}
+use Rattle.std.specs.Map.{keys_of}
+use Rattle.liquid_plugins.specs.Registry.{by_name}
+use Rattle.liquid.proofs.FolderLemmas.{ReadSoFar}
+use Rattle.liquid.proofs.gather.texts_of.Given as goal
+
+abbrev pub invariant-loop-name : goal.invariant-loop-name
+invariant-loop-name g l = record {
+  same : g.F.Folder.known l.files ≡ g.F.Folder.known l.fn.files;
+  read : ReadSoFar (g.F.Folder.known l.fn.files) l.fn.folder (keys (by_name l.fn.names)) (map (λ s. string_bytes s) (keys_of l.name-iterator)) l.source;
+}

@@ -1,0 +1,196 @@
+//! Reading what a command names.
+ghost use Rattle.std.specs.Prelude.{◌≡◌, ◌≢◌, Some, IfOk, IfErr, map, option_map, string_bytes};
+ghost use Rattle.std.specs.FinMap.{empty, keys};
+ghost use Rattle.serde_json.specs.View.{view as json_view};
+ghost use Rattle.liquid_runtime.specs.Maps.{names_of};
+ghost use Rattle.liquid_plugins.specs.Registry.{by_name};
+ghost use Rattle.liquid_json.specs.Given.{object_given};
+ghost use Rattle.liquid.specs.Command.{option_words};
+ghost use Rattle.liquid.specs.Gathered.{
+  names_into,
+  path_in,
+  WithFiles,
+  WithFolder,
+  WithGlobals,
+  WithNames,
+  WithPartials,
+  WithText,
+};
+ghost use Rattle.liquid.specs.Globals.{object_read};
+ghost use Rattle.liquid.specs.Status.{fault_status};
+ghost use Rattle.liquid.specs.Steps.{Brings, BringsText, Stops, StopsUnread};
+
+use crate::fault::Fault;
+use crate::folder::{Folder, Unread};
+use liquid_core::model::into_object;
+use liquid_core::partials::InMemorySource;
+use liquid_core::{Error, Object};
+use serde_json::{Category, Value as Json};
+use std::alloc::{AllocError, Global};
+use std::collections::BTreeMap;
+
+/// The text of the file at a path.
+pub fn text_of<'w, F: Folder>(
+    alloc: Global,
+    files: &mut F,
+    path: &'w str,
+) -> Result<String, Fault<'w>>
+    ensures text { WithText (F.known files.old path.now) (Stops result) (λ text. Brings string_bytes text result) }
+    ensures command { IfErr result (λ fault. fault_status fault ≢ 2) }
+    ensures same { F.known files.new ≡ F.known files.old }
+    ensures listed { F.listed files.new ≡ F.listed files.old }
+{
+    match read_text(alloc, files, path) {
+        Ok(text) => Ok(text),
+        Err(Unread::Fault) => Err(Fault::Unreadable(path)),
+        Err(Unread::Memory) => Err(Fault::Refused(Error::Memory)),
+    }
+}
+
+/// The text of a file in a folder.
+pub fn text_in<'w, F: Folder>(
+    alloc: Global,
+    files: &mut F,
+    folder: &str,
+    name: &str,
+) -> Result<String, Fault<'w>>
+    ensures text { WithText (F.known files.old (path_in folder.now name.now)) (Stops result) (λ text. Brings string_bytes text result) }
+    ensures command { IfErr result (λ fault. fault_status fault ≢ 2) }
+    ensures same { F.known files.new ≡ F.known files.old }
+    ensures listed { F.listed files.new ≡ F.listed files.old }
+{
+    let Ok(path) = path_in(alloc, folder, name) else {
+        return Err(Fault::Refused(Error::Memory));
+    };
+    match read_text(alloc, files, path.as_str()) {
+        Ok(text) => Ok(text),
+        Err(Unread::Fault) => Err(Fault::UnreadableInFolder(path)),
+        Err(Unread::Memory) => Err(Fault::Refused(Error::Memory)),
+    }
+}
+
+fn path_in(alloc: Global, folder: &str, name: &str) -> Result<String, AllocError>
+    ensures { IfOk result (λ path. string_bytes path ≡ path_in folder.now name.now) }
+{
+    format!(in alloc; "{folder}/{name}")
+}
+
+fn read_text<F: Folder>(alloc: Global, files: &mut F, path: &str) -> Result<String, Unread>
+    ensures text { WithText (F.known files.old path.now) (StopsUnread result) (λ text. BringsText text result) }
+    ensures same { F.known files.new ≡ F.known files.old }
+    ensures listed { F.listed files.new ≡ F.listed files.old }
+{
+    let bytes = files.read(alloc, path)?;
+    match String::from_utf8(bytes) {
+        Ok(text) => Ok(text),
+        Err(_) => Err(Unread::Fault),
+    }
+}
+
+/// The names of the files in a folder, in byte order.
+fn names_in<'w, F: Folder>(
+    alloc: Global,
+    files: &mut F,
+    folder: &'w str,
+) -> Result<BTreeMap<String, ()>, Fault<'w>>
+    ensures names { WithNames (F.listed files.old folder.now) (Stops result) (λ names. Brings by_name (names_into empty names) result) }
+    ensures command { IfErr result (λ fault. fault_status fault ≢ 2) }
+    ensures same { F.known files.new ≡ F.known files.old }
+    ensures listed { F.listed files.new ≡ F.listed files.old }
+{
+    match files.list(alloc, folder) {
+        Ok(names) => match in_order(alloc, names) {
+            Ok(names) => Ok(names),
+            Err(_) => Err(Fault::Refused(Error::Memory)),
+        },
+        Err(Unread::Fault) => Err(Fault::Unreadable(folder)),
+        Err(Unread::Memory) => Err(Fault::Refused(Error::Memory)),
+    }
+}
+
+fn in_order(alloc: Global, names: Vec<String>) -> Result<BTreeMap<String, ()>, AllocError>
+    ensures { IfOk result (λ set. by_name set ≡ names_into empty (map string_bytes names.items)) }
+{
+    let mut set = BTreeMap::new(alloc);
+    for name in names {
+        set.insert(name, ())?;
+    }
+    Ok(set)
+}
+
+/// The partials of the command's folder, if it names one.
+pub fn partials_of<'w, F: Folder>(
+    alloc: Global,
+    files: &mut F,
+    folder: Option<&'w str>,
+) -> Result<Option<InMemorySource>, Fault<'w>>
+    ensures partials { WithPartials (F.known files.old) (F.listed files.old) (option_words (option_map (λ f. f.now) folder.entry)) (Stops result) (λ partials. Brings (λ source. source) partials result) }
+    ensures command { IfErr result (λ fault. fault_status fault ≢ 2) }
+{
+    match folder {
+        Some(folder) => Ok(Some(partials_in(alloc, files, folder)?)),
+        None => Ok(None),
+    }
+}
+
+/// The partials of a folder: the text of each of its files, under the file's name.
+fn partials_in<'w, F: Folder>(
+    alloc: Global,
+    files: &mut F,
+    folder: &'w str,
+) -> Result<InMemorySource, Fault<'w>>
+    ensures partials { WithFolder (F.known files.old) folder.now (F.listed files.old folder.now) (Stops result) (λ texts. Brings (λ source. source) texts result) }
+    ensures command { IfErr result (λ fault. fault_status fault ≢ 2) }
+{
+    let names = names_in(alloc, files, folder)?;
+    texts_of(alloc, files, folder, names)
+}
+
+/// The texts of the files of these names in a folder, each under its name.
+fn texts_of<'w, F: Folder>(
+    alloc: Global,
+    files: &mut F,
+    folder: &str,
+    names: BTreeMap<String, ()>,
+) -> Result<InMemorySource, Fault<'w>>
+    ensures texts { WithFiles (F.known files.old) folder.now (keys (by_name names)) empty (Stops result) (λ texts. Brings (λ source. source) texts result) }
+    ensures command { IfErr result (λ fault. fault_status fault ≢ 2) }
+{
+    let mut source = InMemorySource::new(alloc);
+    for (name, ()) in names {
+        let text = text_in(alloc, files, folder, name.as_str())?;
+        if source.add(name, text).is_err() {
+            return Err(Fault::Refused(Error::Memory));
+        }
+    }
+    Ok(source)
+}
+
+/// The globals that a text of JSON, which stood at this path, gives.
+pub fn globals_of<'w>(alloc: Global, text: &str, path: &'w str) -> Result<Object, Fault<'w>>
+    ensures globals { WithGlobals (object_read text.now) (Stops result) (λ names. Brings names_of names result) }
+    ensures command { IfErr result (λ fault. fault_status fault ≢ 2) }
+{
+    match Json::from_str(alloc, text) {
+        Ok(json) => object_of(alloc, json),
+        Err(error) => match error.classify() {
+            Category::Memory => Err(Fault::Refused(Error::Memory)),
+            _ => Err(Fault::BadJson(path)),
+        },
+    }
+}
+
+/// The object that JSON is.
+fn object_of<'w>(alloc: Global, json: Json) -> Result<Object, Fault<'w>>
+    ensures globals { WithGlobals (Some (object_given (json_view json))) (Stops result) (λ names. Brings names_of names result) }
+    ensures command { IfErr result (λ fault. fault_status fault ≢ 2) }
+{
+    match into_object(alloc, json) {
+        Ok(object) => Ok(object),
+        Err(error) => if error.is_memory() {
+            Err(Fault::Refused(error))
+        } else {
+            Err(Fault::NoGlobals(error))
+        },
+    }
+}

@@ -1,0 +1,4 @@
+pub mod Collected
+pub mod Names
+pub mod Given
+pub mod Shown

@@ -1,0 +1,31 @@
+//! Maps that are built from entries whose names ascend, with no search for a name's place.
+ghost use Rattle.std.specs.Prelude.{◌≡◌, IfOk};
+ghost use Rattle.std.specs.List.Sorted.{IsStrictlySortedBy};
+ghost use Rattle.std.specs.Map.{keys_of};
+ghost use Rattle.std.specs.String.{string_cmp};
+ghost use Rattle.serde_json.specs.View.{members_view as json_members};
+ghost use Rattle.liquid_value.specs.View.{members_view};
+
+use liquid_value::{Object, Value};
+use serde_json::{Map, Value as Json};
+use std::alloc::{AllocError, Global};
+
+pub(crate) fn object_in_order(
+    alloc: Global,
+    entries: Vec<(String, Value)>,
+) -> Result<Object, AllocError>
+    requires { IsStrictlySortedBy string_cmp (keys_of entries.items) }
+    ensures { IfOk result (λ object. members_view object.entries ≡ members_view entries.items) }
+{
+    entries.into_iter().collect(alloc)
+}
+
+pub(crate) fn map_in_order(
+    alloc: Global,
+    entries: Vec<(String, Json)>,
+) -> Result<Map<String, Json>, AllocError>
+    requires { IsStrictlySortedBy string_cmp (keys_of entries.items) }
+    ensures { IfOk result (λ map. json_members map.entries ≡ json_members entries.items) }
+{
+    entries.into_iter().collect(alloc)
+}

@@ -1,0 +1,13 @@
+//! JSON as values of templates, and values as JSON.
+#![tactic(auto)]
+
+mod build;
+mod convert;
+mod scalar;
+#[cfg(test)]
+mod tests;
+mod write;
+
+pub use convert::{into_object, into_value, to_object, to_value};
+pub use scalar::to_scalar;
+pub use write::from_value;

@@ -1,0 +1,39 @@
+//! JSON as scalars.
+ghost use Rattle.std.specs.Prelude.{ℤ, string_bytes};
+ghost use Rattle.serde_json.specs.View.{view as json_view, number_view};
+ghost use Rattle.liquid_error.specs.Told.{Gives};
+ghost use Rattle.liquid_scalar.specs.Scalar.{scal};
+ghost use Rattle.liquid_json.specs.Given.{number_given, scalar_given};
+
+use liquid_error::{Error, Result};
+use liquid_scalar::Scalar;
+use serde_json::{Number, Value as Json};
+use std::alloc::Global;
+
+/// The scalar of a truth value, a text or a whole number, whose text is copied.
+///
+/// Refuses a whole number past 2^63 - 1 with "Cannot fit number", any other number with "Fractional
+/// number", and null, an array and an object with "Scalar must be a string.".
+pub fn to_scalar(alloc: Global, json: &Json) -> Result<Scalar>
+    ensures { Gives (scal string_bytes) result (scalar_given (json_view json.now)) }
+{
+    match json {
+        Json::Bool(truth) => Ok(Scalar::Bool(*truth)),
+        Json::Number(number) => Ok(Scalar::Integer(integer(alloc, number)?)),
+        Json::String(text) => Ok(Scalar::Str(text.clone()?)),
+        Json::Null | Json::Array(_) | Json::Object(_) => {
+            Err(Error::with_msg(alloc, "Scalar must be a string."))
+        }
+    }
+}
+
+/// The whole number that a number is. Refuses one past 2^63 - 1, and every other number.
+pub(crate) fn integer(alloc: Global, number: &Number) -> Result<i64>
+    ensures { Gives (λ (n : ℤ). n) result (number_given (number_view number.now)) }
+{
+    match number.as_i64() {
+        Some(whole) => Ok(whole),
+        None if number.is_u64() => Err(Error::with_msg(alloc, "Cannot fit number")),
+        None => Err(Error::with_msg(alloc, "Fractional number")),
+    }
+}

@@ -1,0 +1,14 @@
+use Rattle.std.proofs.Common.{Ok, sym, ap, ◌∙◌}
+use Rattle.liquid_error.specs.Refusal.{ok_then}
+use Rattle.liquid_tree.specs.Tree.{chain_node}
+use Rattle.liquid_parser.proofs.StepLemmas.{chain_shape, then_refused}
+use Rattle.liquid_parser.proofs.element_cursor.Exp.parse.Goals as goal
+
+pub returns-in-Ok : goal.returns-in-Ok
+returns-in-Ok g c source chain is =
+    ap (λ r. ok_then r (λ made. Ok (chain_node made))) (rw is.source_is at c.in-Ok.ensures chain.behind chain is.match is.fine)
+    ∙ ap (λ n. Ok n) (sym (chain_shape g.F.Filter.Meant.shape g.T.Node.Meant.shape g.B.Node.Meant.shape c.in-Ok.chain))
+
+pub returns-in-Err : goal.returns-in-Err
+returns-in-Err g c source chain is =
+    then_refused _ _ (λ made. Ok (chain_node made)) (rw is.source_is at c.in-Err.ensures chain.behind chain is.match is.fine)

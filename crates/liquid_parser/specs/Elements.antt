@@ -1,0 +1,30 @@
+-- What the cursors over a source's elements stand for.
+use Rattle.std.specs.Prelude.{◌≡◌, ℕ, List, ◌∷◌, None}
+use Rattle.liquid_grammar.specs.Cover as cover
+use Rattle.liquid_grammar.specs.Cover.{raw, tag_element, expression, invalid}
+use Rattle.liquid_grammar.specs.Faults.{chain_fault}
+use Rattle.liquid_grammar.specs.Tokens.{Chain, ChainRule}
+use Rattle.liquid_parser.specs.declared.element_cursor.Exp.{Exp as ExpCursor}
+use Rattle.liquid_parser.specs.declared.element_cursor.InvalidLiquidToken.{InvalidLiquidToken}
+use Rattle.liquid_parser.specs.declared.element_cursor.BlockElement.{BlockElement}
+use Rattle.liquid_parser.specs.declared.element_cursor.BlockElement.TheVariants.{Raw, Tag, Expression, Invalid}
+use Rattle.liquid_parser.specs.WholeTag.{IsTag}
+
+-- an expression of the source; its literals and brackets have no fault
+pub record IsExpression (x : ExpCursor) (source : List ℕ) (chain : Chain) : Type 0 where
+  pub source_is : x.source.now ≡ source
+  pub match : ChainRule x.chain.now chain.behind chain
+  pub fine : chain_fault chain ≡ None
+
+-- what is neither a tag nor an expression, by its brace
+pub record IsInvalid (x : InvalidLiquidToken) (source behind : List ℕ) : Type 0 where
+  pub source_is : x.source.now ≡ source
+  pub brace_is : x.brace.now ≡ 123 ∷ behind
+
+-- the cursor stands for this element of the source, which has this text behind it
+abbrev pub StandsFor : BlockElement → (source behind : List ℕ) → cover.Element → Type 0
+StandsFor (Raw x) source behind (raw text) = x.text.now ≡ text
+StandsFor (Tag x) source behind (tag_element tag text) = IsTag x source tag × (x.text.now ≡ text)
+StandsFor (Expression x) source behind (expression chain text) = IsExpression x source chain × (x.text.now ≡ text)
+StandsFor (Invalid x) source behind (invalid text) = IsInvalid x source behind × (x.text.now ≡ text)
+StandsFor _ source behind _ = ⊥

@@ -1,0 +1,4 @@
+pub mod AgreeLemmas
+pub mod EachLemmas
+pub mod EagerLemmas
+pub mod StoreLemmas

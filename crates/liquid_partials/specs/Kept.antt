@@ -1,0 +1,40 @@
+-- What the two stores find, as functions of what they hold.
+use Rattle.std.specs.Prelude.{ℕ, List, [], unwrap_or, String, Option, None, Some, Result, Ok, Err}
+use Rattle.std.specs.BTreeMap.{BTreeMap}
+use Rattle.std.specs.FinMap.{get}
+use Rattle.std.specs.declared.alloc.Global.{Global}
+use Rattle.liquid_error.specs.declared.error.Error.{Error}
+use Rattle.liquid_error.specs.Refusal.{Refusal, plain, ok_then}
+use Rattle.liquid_error.specs.Told.{told}
+use Rattle.liquid_grammar.proofs.CoverLemmas.{cover_of}
+use Rattle.liquid_runtime.specs.Maps.{NameMap}
+use Rattle.liquid_plugins.specs.Registry.{by_name}
+use Rattle.liquid_tree.specs.Tree.{NodeShape, Nodes}
+use Rattle.liquid_parser.specs.Lang.{Lang}
+use Rattle.liquid_parser.specs.Reading.{answer}
+use Rattle.liquid_template.specs.Partials.{Found}
+use Rattle.liquid_partials.specs.Each.{each}
+use Rattle.liquid_partials.specs.Sources.{Texts}
+use Rattle.liquid_partials.specs.Compiled.{as_tree}
+
+module _ {F T P B : Type 0} (l : Lang F T P B) where
+  -- the one answer that a text is read as
+  unfoldable pub reading : List ℕ → Result (List (NodeShape F T B)) Refusal
+  reading text = answer l text (cover_of text).elements
+
+  -- all texts of a source, each read
+  abbrev pub readings : Texts → Found F T B
+  readings texts = each (λ text. as_tree (reading text)) texts
+
+module _ {A F T B : Type 0} (of : A → Nodes F T B) where
+  -- what is kept of a text: its tree or its fault; want of memory is never kept
+  abbrev pub kept_as : Result A Error → Result (Nodes F T B) Refusal
+  kept_as (Ok template) = Ok (of template)
+  kept_as (Err error) = Err (unwrap_or (told error) (plain []))
+
+  abbrev pub all_kept : BTreeMap (String Global) (Result A Error) → Found F T B
+  all_kept kept = each kept_as (by_name kept)
+
+-- what is read of a name: nothing where it is not there, its tree, or its fault
+abbrev pub tried : {A : Type 0} → NameMap (Result A Refusal) → List ℕ → Result (Option A) Refusal
+tried finds name = elim (get finds name) [ None ↦ Ok None | Some answer ↦ ok_then answer (λ tree. Ok (Some tree)) ]

@@ -1,0 +1,5 @@
+pub mod Compiled
+pub mod Each
+pub mod Kept
+pub mod Requests
+pub mod Sources

@@ -1,0 +1,29 @@
+//! Compilers of partials.
+ghost use Rattle.std.specs.Prelude.{IfOk};
+ghost use Rattle.liquid_parser.specs.Plugins.{block_of, language_of};
+ghost use Rattle.liquid_partials.specs.Compiled.{Compiled};
+ghost use Rattle.liquid_partials.specs.Sources.{Texts};
+
+use liquid_parser::{Language, ParseBlock, ParseTag};
+use liquid_plugins::ParseFilter;
+use liquid_template::PartialStore;
+use std::alloc::{AllocError, Global};
+use std::rc::Rc;
+
+/// What makes a store of a source's texts, read in a language.
+pub trait PartialCompiler<F: ParseFilter, T: ParseTag<F>, B: ParseBlock<F>> {
+    /// The store that it makes.
+    type Store: PartialStore<F::Filter, T::Node, B::Node>;
+
+    // the texts of its source
+    ghost texts: { Self → Texts };
+
+    /// The store of the compiler's source in this language. A text with a fault is no refusal here:
+    /// the store answers the fault where the text's name is asked for. An `Err` is want of memory.
+    fn compile(
+        self,
+        alloc: Global,
+        language: Rc<Language<F, T, B>>,
+    ) -> Result<Self::Store, AllocError>
+        ensures { IfOk result (λ store. Compiled (language_of F.makes T.gives (block_of B.start_name B.end_name B.meaning) language.value) (texts self) (Self.Store.finds store)) };
+}

@@ -1,0 +1,27 @@
+//! Laws of stores: each is the clause of a function that does nothing.
+ghost use Rattle.liquid_parser.specs.Plugins.{block_of, language_of};
+ghost use Rattle.liquid_partials.specs.Compiled.{OneStore};
+ghost use Rattle.liquid_partials.specs.Requests.{StoresAgree};
+
+use liquid_parser::{Language, ParseBlock, ParseTag};
+use liquid_plugins::ParseFilter;
+use liquid_template::PartialStore;
+
+/// What a store finds is told by its source and its language.
+pub fn one_store<F: ParseFilter + Drop, T: ParseTag<F> + Drop, B: ParseBlock<F> + Drop>(
+    language: &Language<F, T, B>,
+)
+    ensures { OneStore (language_of F.makes T.gives (block_of B.start_name B.end_name B.meaning) language.now) }
+{}
+
+/// Any list of requests has the same answers from two stores that were compiled of one source in one
+/// language, want of memory aside.
+pub fn stores_agree<F, T, B, S, R>(language: &Language<F, T, B>, store: &S, other: &R)
+where
+    F: ParseFilter + Drop,
+    T: ParseTag<F> + Drop,
+    B: ParseBlock<F> + Drop,
+    S: PartialStore<F::Filter, T::Node, B::Node>,
+    R: PartialStore<F::Filter, T::Node, B::Node>,
+    ensures { StoresAgree (language_of F.makes T.gives (block_of B.start_name B.end_name B.meaning) language.now) S.finds R.finds }
+{}

@@ -1,0 +1,152 @@
+//! Partials that are read at each request.
+ghost use Rattle.std.specs.Prelude.{◌≡◌, ◌+◌, option_map, IfOk};
+ghost use Rattle.std.specs.Borrow.{sem, Lends};
+ghost use Rattle.std.specs.FinMap.{contains_key};
+ghost use Rattle.liquid_error.specs.Told.{Gives};
+ghost use Rattle.liquid_parser.specs.Plugins.{block_of, language_of};
+ghost use Rattle.liquid_partials.specs.Compiled.{Compiled, once};
+ghost use Rattle.liquid_partials.specs.contracts.on_demand.OnDemandCompiler.{the_row};
+ghost use Rattle.liquid_partials.specs.Kept.{readings};
+ghost use Rattle.liquid_template.specs.Partials.{partial_in, tree_in};
+ghost use Rattle.liquid_template.specs.TemplateOf.{template_nodes};
+
+use crate::compiler::PartialCompiler;
+use crate::source::PartialSource;
+use crate::texts::Texts;
+use liquid_error::Error;
+use liquid_parser::{Language, ParseBlock, ParseTag};
+use liquid_plugins::ParseFilter;
+use liquid_template::{PartialStore, Template};
+use std::alloc::{AllocError, Global};
+use std::default::MadeWith;
+use std::rc::Rc;
+
+/// Makes stores that read a text whenever its name is requested.
+#[derive(Drop)]
+pub struct OnDemandCompiler<S> {
+    source: S,
+}
+
+impl<S: PartialSource> OnDemandCompiler<S> {
+    /// A compiler of this source.
+    pub fn new(source: S) -> OnDemandCompiler<S>
+        ensures { result.source ≡ source }
+    {
+        OnDemandCompiler { source }
+    }
+
+    /// The source.
+    pub fn source(&self) -> &S
+        ensures { result.now ≡ self.now.source }
+    {
+        &self.source
+    }
+
+    /// The source, to be changed in place.
+    pub fn source_mut(&mut self) -> &mut S
+        ensures* writes_back { sem 𝓛 (Lends (the_row S.row) S.row self.entry result (λ source. record { source = source })) }
+        ensures value { result.now ≡ self.old.source }
+    {
+        &mut self.source
+    }
+}
+
+impl<S: PartialSource + MadeWith<Global>> OnDemandCompiler<S> {
+    /// A compiler of an empty source.
+    pub fn empty(alloc: Global) -> OnDemandCompiler<S>
+        ensures { S.is_made_with result.source }
+    {
+        OnDemandCompiler {
+            source: S::made_with(alloc),
+        }
+    }
+}
+
+impl<S, F, T, B> PartialCompiler<F, T, B> for OnDemandCompiler<S>
+where
+    S: PartialSource + Drop,
+    F: ParseFilter + Drop,
+    T: ParseTag<F> + Drop,
+    B: ParseBlock<F> + Drop,
+{
+    type Store = OnDemandStore<S, F, T, B>;
+
+    ghost texts = { λ compiler. S.texts compiler.source };
+
+    /// Reads no text yet, and takes no memory.
+    fn compile(
+        self,
+        _alloc: Global,
+        language: Rc<Language<F, T, B>>,
+    ) -> Result<OnDemandStore<S, F, T, B>, AllocError>
+        ensures compiled { IfOk result (λ store. Compiled (language_of F.makes T.gives (block_of B.start_name B.end_name B.meaning) language.value) (S.texts self.source)
+            (readings (language_of F.makes T.gives (block_of B.start_name B.end_name B.meaning) store.texts.language.value) (S.texts store.texts.source))) }
+        ensures count { IfOk result (λ store. store.texts.readings.count ≡ 0) }
+    {
+        Ok(OnDemandStore {
+            texts: Texts::new(self.source, language),
+        })
+    }
+}
+
+/// A store that reads a text whenever its name is requested.
+#[derive(Drop)]
+pub struct OnDemandStore<S, F, T, B> {
+    texts: Texts<S, F, T, B>,
+}
+
+impl<S, F, T, B> PartialStore<F::Filter, T::Node, B::Node> for OnDemandStore<S, F, T, B>
+where
+    S: PartialSource + Drop,
+    F: ParseFilter + Drop,
+    T: ParseTag<F> + Drop,
+    B: ParseBlock<F> + Drop,
+{
+    ghost finds = { λ store. readings (language_of F.makes T.gives (block_of B.start_name B.end_name B.meaning) store.texts.language.value) (S.texts store.texts.source) };
+
+    fn contains(&self, name: &str) -> bool {
+        self.texts.contains(name)
+    }
+
+    fn names(&self, alloc: Global) -> Result<Vec<&str>, AllocError> {
+        self.texts.names(alloc)
+    }
+
+    fn try_get(
+        &mut self,
+        alloc: Global,
+        name: &str,
+    ) -> Result<Option<Rc<Template<F::Filter, T::Node, B::Node>>>, AllocError>
+        ensures gives { IfOk result (λ found. option_map (λ template. template_nodes F.Filter.shape T.Node.shape B.Node.shape template.value) found ≡ tree_in (readings (language_of F.makes T.gives (block_of B.start_name B.end_name B.meaning) self.old.texts.language.value) (S.texts self.old.texts.source)) name.now) }
+        ensures kept { readings (language_of F.makes T.gives (block_of B.start_name B.end_name B.meaning) self.new.texts.language.value) (S.texts self.new.texts.source) ≡ readings (language_of F.makes T.gives (block_of B.start_name B.end_name B.meaning) self.old.texts.language.value) (S.texts self.old.texts.source) }
+        ensures count { self.new.texts.readings.count ≡ self.old.texts.readings.count + once (contains_key (S.texts self.old.texts.source) name.now) }
+    {
+        match self.texts.read(alloc, name) {
+            Ok(Some(template)) => Ok(Some(Rc::new(alloc, template)?)),
+            Ok(None) => Ok(None),
+            Err(error) => {
+                if error.is_memory() {
+                    Err(AllocError)
+                } else {
+                    Ok(None)
+                }
+            }
+        }
+    }
+
+    fn get(
+        &mut self,
+        alloc: Global,
+        name: &str,
+    ) -> Result<Rc<Template<F::Filter, T::Node, B::Node>>, Error>
+        ensures gives { Gives (λ template. template_nodes F.Filter.shape T.Node.shape B.Node.shape template.value) result (partial_in (readings (language_of F.makes T.gives (block_of B.start_name B.end_name B.meaning) self.old.texts.language.value) (S.texts self.old.texts.source)) name.now) }
+        ensures kept { readings (language_of F.makes T.gives (block_of B.start_name B.end_name B.meaning) self.new.texts.language.value) (S.texts self.new.texts.source) ≡ readings (language_of F.makes T.gives (block_of B.start_name B.end_name B.meaning) self.old.texts.language.value) (S.texts self.old.texts.source) }
+        ensures count { self.new.texts.readings.count ≡ self.old.texts.readings.count + once (contains_key (S.texts self.old.texts.source) name.now) }
+    {
+        match self.texts.read(alloc, name) {
+            Ok(Some(template)) => Ok(Rc::new(alloc, template)?),
+            Ok(None) => Err(self.texts.unknown(alloc, name)),
+            Err(error) => Err(error),
+        }
+    }
+}

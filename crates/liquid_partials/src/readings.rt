@@ -1,0 +1,35 @@
+//! How many texts were read, for clauses alone.
+ghost use Rattle.std.specs.Prelude.{◌≡◌, ℕ, ◌+◌};
+ghost use Rattle.std.specs.Borrow.{ftrue};
+
+use std::marker::{Model, PhantomData};
+
+/// The count of readings, which has no top. It takes no memory, and its methods do nothing at run
+/// time.
+#[derive(Drop)]
+pub struct Readings {
+    marker: PhantomData<u8>,
+    pub ghost count: { ℕ },
+}
+
+impl Model for Readings {
+    ghost also_owns = { λ _. ftrue };
+}
+
+impl Readings {
+    /// Nothing was read yet.
+    #[inline(always)]
+    pub fn none() -> Readings
+        ensures { result.count ≡ 0 }
+    {
+        Readings {
+            marker: PhantomData,
+        }
+    }
+
+    /// One more text is read.
+    #[inline(always)]
+    pub fn one_more(&mut self)
+        ensures { self.new ≡ record self.old { count = self.old.count + 1 } }
+    {}
+}

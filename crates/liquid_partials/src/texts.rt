@@ -1,0 +1,123 @@
+//! The texts of a source, read in a language.
+ghost use Rattle.std.specs.Prelude.{◌≡◌, ◌+◌, is_some, map, option_map, Ok, IfOk, IfSome};
+ghost use Rattle.std.specs.FinMap.{contains_key, get, keys};
+ghost use Rattle.liquid_error.specs.Told.{told, Gives};
+ghost use Rattle.liquid_parser.specs.Plugins.{block_of, language_of};
+ghost use Rattle.liquid_partials.specs.Compiled.{as_tree, once};
+ghost use Rattle.liquid_partials.specs.Kept.{reading, readings, tried};
+ghost use Rattle.liquid_template.specs.Partials.{unknown_partial};
+ghost use Rattle.liquid_template.specs.TemplateOf.{template_nodes};
+
+use crate::readings::Readings;
+use crate::source::PartialSource;
+use liquid_error::Error;
+use liquid_parser::{Language, ParseBlock, ParseTag, parse};
+use liquid_plugins::ParseFilter;
+use liquid_template::{Template, unknown_partial};
+use std::alloc::{AllocError, Global};
+use std::rc::Rc;
+
+/// A source and the language that its texts are read in.
+///
+/// Both are private to it. `read` alone reads a text: it runs the parser and counts that. The other
+/// calls answer names, or whether a name is there.
+#[derive(Drop)]
+pub struct Texts<S, F, T, B> {
+    source: S,
+    language: Rc<Language<F, T, B>>,
+    readings: Readings,
+}
+
+impl<S, F, T, B> Texts<S, F, T, B>
+where
+    S: PartialSource + Drop,
+    F: ParseFilter + Drop,
+    T: ParseTag<F> + Drop,
+    B: ParseBlock<F> + Drop,
+{
+    /// The texts of a source, of which none was read yet.
+    pub fn new(source: S, language: Rc<Language<F, T, B>>) -> Texts<S, F, T, B>
+        ensures source { result.source ≡ source }
+        ensures language { result.language ≡ language }
+        ensures count { result.readings.count ≡ 0 }
+    {
+        Texts {
+            source,
+            language,
+            readings: Readings::none(),
+        }
+    }
+
+    /// Whether the source has a text of this name.
+    pub fn contains(&self, name: &str) -> bool
+        ensures { result ≡ is_some (get (S.texts self.now.source) name.now) }
+    {
+        self.source.contains(name)
+    }
+
+    /// The names of the texts, in byte order.
+    pub fn names(&self, alloc: Global) -> Result<Vec<&str>, AllocError>
+        ensures { IfOk result (λ names. map (λ name. name.now) names.items ≡ keys (S.texts self.now.source)) }
+    {
+        self.source.names(alloc)
+    }
+
+    /// The refusal of a name that the source doesn't have.
+    pub fn unknown(&self, alloc: Global, name: &str) -> Error
+        ensures { IfSome (told result) (λ refusal. refusal ≡ unknown_partial name.now (keys (S.texts self.now.source))) }
+    {
+        match self.names(alloc) {
+            Ok(names) => unknown_partial(alloc, name, names.as_slice()),
+            Err(_) => Error::Memory,
+        }
+    }
+
+    /// The template that a name's text is read as, or its fault, and `None` where the source doesn't
+    /// have the name.
+    pub fn read(
+        &mut self,
+        alloc: Global,
+        name: &str,
+    ) -> Result<Option<Template<F::Filter, T::Node, B::Node>>, Error>
+        ensures gives { Gives (option_map (λ template. template_nodes F.Filter.shape T.Node.shape B.Node.shape template)) result
+            (tried (readings (language_of F.makes T.gives (block_of B.start_name B.end_name B.meaning) self.old.language.value) (S.texts self.old.source)) name.now) }
+        ensures source { self.new.source ≡ self.old.source }
+        ensures language { self.new.language ≡ self.old.language }
+        ensures count { self.new.readings.count ≡ self.old.readings.count + once (contains_key (S.texts self.old.source) name.now) }
+    {
+        if !self.source.contains(name) {
+            return Ok(None);
+        }
+        self.readings.one_more();
+        match self.source.try_get(alloc, name) {
+            Ok(Some(text)) => match parsed(alloc, text.as_str(), &self.language) {
+                Ok(template) => Ok(Some(template)),
+                Err(error) => Err(error),
+            },
+            Ok(None) => Ok(None),
+            Err(_) => Err(Error::Memory),
+        }
+    }
+
+    /// How many texts were read.
+    pub fn into_readings(self) -> Readings
+        ensures { result ≡ self.readings }
+    {
+        self.readings
+    }
+}
+
+/// The template of a text, or the text's fault.
+fn parsed<F: ParseFilter + Drop, T: ParseTag<F> + Drop, B: ParseBlock<F> + Drop>(
+    alloc: Global,
+    text: &str,
+    language: &Language<F, T, B>,
+) -> Result<Template<F::Filter, T::Node, B::Node>, Error>
+    ensures { Gives (template_nodes F.Filter.shape T.Node.shape B.Node.shape) result
+        (as_tree (reading (language_of F.makes T.gives (block_of B.start_name B.end_name B.meaning) language.now) text.now)) }
+{
+    match parse(alloc, text, language) {
+        Ok(nodes) => Ok(Template::new(nodes)),
+        Err(error) => Err(error),
+    }
+}

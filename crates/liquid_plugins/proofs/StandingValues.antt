@@ -1,0 +1,47 @@
+-- What an expression comes to where each value on the way stands.
+use Rattle.std.proofs.Common.{◌≡◌, ◌∷◌, Option, Some, None, Result, Ok, Err, refl, ap, ◌∙◌, option_map}
+use Rattle.std.specs.Prelude.{option_and_then}
+use Rattle.std.specs.Result.{result_ok}
+use Rattle.liquid_error.specs.Refusal.{Refusal}
+use Rattle.liquid_scalar.specs.Scalar.{Scal, render_scalar}
+use Rattle.liquid_value.specs.Tree.{Tree, scalar}
+use Rattle.liquid_value.specs.Parts.{as_scalar}
+use Rattle.liquid_paths.specs.Step.{step}
+use Rattle.liquid_paths.specs.Walk.{Path, walk}
+use Rattle.liquid_runtime.specs.View.{View}
+use Rattle.liquid_runtime.specs.NamesSeen.{lookup}
+use Rattle.liquid_runtime.specs.Lookup.{try_path}
+use Rattle.liquid_plugins.specs.Expression.{ExpressionShape, variable, Indexes, index}
+use Rattle.liquid_plugins.specs.Evaluation.{evaluate, try_evaluate, try_path_of}
+use Rattle.liquid_plugins.proofs.Agreement.{evaluate_agrees}
+
+-- what a path that is known, if it is, leads to from a value
+abbrev pub from_here : Tree → Option Path → Option Tree
+from_here t o = option_and_then (λ path. walk t path) o
+
+came_to : (r : Result Tree Refusal) (t : Tree) → result_ok r ≡ Some t → r ≡ Ok t
+came_to (Ok u) t e = cc
+came_to (Err refusal) t e = cc
+
+stepped : (t next : Tree) (s : Scal) (o : Option Path) → step t s ≡ Some next → from_here t (option_map (λ path. s ∷ path) o) ≡ from_here next o
+stepped t next s None h = refl
+stepped t next s (Some path) h = ap (option_and_then (λ u. walk u path)) h
+
+module _ {Reg : Type 0} where
+  -- the call that may refuse comes to what is known to stand
+  pub stands : (v : View Reg) (e : ExpressionShape) (t : Tree) → try_evaluate v e ≡ Some t → evaluate v e ≡ Ok t
+  stands v e t h = came_to (evaluate v e) t (evaluate_agrees v e ∙ h)
+
+  named : (v : View Reg) (name : Scal) (t : Tree) (o : Option Path) → lookup v (render_scalar name) ≡ Some t → option_and_then (try_path v) (option_map (λ path. name ∷ path) o) ≡ from_here t o
+  named v name t None h = refl
+  named v name t (Some path) h = ap (option_and_then (λ u. walk u path)) h
+
+  -- a variable leads on from the value of its name
+  pub begins_at : (v : View Reg) (name : Scal) (is : Indexes) (t : Tree) → lookup v (render_scalar name) ≡ Some t → try_evaluate v (variable name is) ≡ from_here t (try_path_of v is)
+  begins_at v name is t h = named v name t (try_path_of v is) h
+
+  -- an index that is known to be a scalar leads one step on
+  pub goes_on : (v : View Reg) (t next i : Tree) (s : Scal) (e : ExpressionShape) (es : Indexes) → try_evaluate v e ≡ Some i → i ≡ scalar s → step t s ≡ Some next → from_here t (try_path_of v (index e es)) ≡ from_here next (try_path_of v es)
+  goes_on v t next i s e es h j k =
+      ap (λ o. from_here t (option_and_then (λ u. option_and_then (λ x. option_map (λ path. x ∷ path) (try_path_of v es)) (as_scalar u)) o)) (h ∙ ap Some j)
+      ∙ stepped t next s (try_path_of v es) k

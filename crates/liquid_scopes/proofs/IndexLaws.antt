@@ -1,0 +1,195 @@
+-- What the calls of an index do to the places of names.
+use Rattle.std.proofs.Common.{◌≡◌, ℕ, List, [], ◌∷◌, Option, None, Some, Bool, true, false, cond, refl, sym, ap, ◌∙◌, arith, String, Global}
+use Rattle.std.specs.Prelude.{IsTrue, ◌↔◌, length, is_some, ◌&&◌, ◌||◌, not, string_bytes, bytes_eq}
+use Rattle.std.specs.BTreeMap.{get_by_text, is_at}
+use Rattle.std.specs.List.{list_any}
+use Rattle.std.specs.BTreeSet.{BTreeSet, contains}
+use Rattle.std.specs.Map.{lookup as lookup_entry}
+use Rattle.std.specs.BTreeSet.{insert_key}
+use Rattle.std.specs.Ordering.{match_ordering, nat_cmp, is_eq}
+use Rattle.std.specs.Cmp.Lexicographic.{slice_cmp}
+use Rattle.std.specs.Ordering.{eq_by_cmp}
+use Rattle.std.specs.declared.cmp.Ordering.{Ordering}
+use Rattle.std.specs.declared.cmp.Ordering.TheVariants.{Less, Equal, Greater}
+use Rattle.std.specs.Cmp.{eq_by_cmp_equiv}
+use Rattle.std.specs.Cmp.Lexicographic.{nat_list_cmp_total}
+use Rattle.std.proofs.lemmas.Map.Text.{is_eq-slice_cmp}
+use Rattle.std.specs.Prelude.{Result, Ok, Err, OnOk, OnErr}
+use Rattle.liquid_value.specs.declared.value.Value.{Value}
+use Rattle.liquid_runtime.proofs.MapLaws.{names_apart}
+use Rattle.liquid_runtime.proofs.Objects.{has_name}
+use Rattle.liquid_scopes.specs.Standing.{Places, stands, is_among, no_frames, is_held, AllHeld}
+
+pub or_same : (b : Bool) → (b || b) ≡ b
+or_same true = refl
+or_same false = refl
+
+pub or_false : (b : Bool) → (b || false) ≡ b
+or_false true = refl
+or_false false = refl
+
+pub and_true : (b : Bool) → (b && true) ≡ b
+and_true true = refl
+and_true false = refl
+
+pub among_changed : (b : Bool) (new : BTreeSet ℕ) (old : Option (BTreeSet ℕ)) (j : ℕ) → is_among (cond b (Some new) old) j ≡ cond b (contains nat_cmp new j) (is_among old j)
+among_changed true new old j = refl
+among_changed false new old j = refl
+
+pub nothing_stands : (m : Places) (q : List ℕ) (j : ℕ) → m.entries ≡ [] → stands m q j ≡ false
+nothing_stands m q j e = ap (λ es. is_among (lookup_entry (λ k. is_eq (slice_cmp nat_cmp q (string_bytes k))) es) j) e
+
+is_equal : (o : Ordering) → is_eq o ≡ true → o ≡ Equal
+is_equal Less e = absurd (cc)
+is_equal Equal e = refl
+is_equal Greater e = absurd (cc)
+
+pub same_text : (a b : List ℕ) → bytes_eq a b ≡ true → a ≡ b
+same_text a b e = names_apart a b (is_equal (slice_cmp nat_cmp a b) (is_eq-slice_cmp a b ∙ e))
+
+-- the frames of one name after a change
+pub changed : (m n : Places) (bs q : List ℕ) (w : BTreeSet ℕ) (j : ℕ) → get_by_text n q ≡ cond (bytes_eq bs q) (Some w) (get_by_text m q) → stands n q j ≡ cond (bytes_eq bs q) (contains nat_cmp w j) (stands m q j)
+changed m n bs q w j e = ap (λ o. is_among o j) e ∙ among_changed (bytes_eq bs q) w (get_by_text m q) j
+
+add_split : (b : Bool) (w v : BTreeSet ℕ) (old : Option (BTreeSet ℕ)) (j : ℕ) (e : Bool) → (b ≡ true → old ≡ Some v) → contains nat_cmp w j ≡ (contains nat_cmp v j || e) → cond b (contains nat_cmp w j) (is_among old j) ≡ (is_among old j || (b && e))
+add_split true w v old j e h is = is ∙ ap (λ o. is_among o j || e) (sym (h refl))
+add_split false w v old j e h is = sym (or_false (is_among old j))
+
+new_split : (b : Bool) (w : BTreeSet ℕ) (old : Option (BTreeSet ℕ)) (j : ℕ) (e : Bool) → (b ≡ true → old ≡ None) → contains nat_cmp w j ≡ e → cond b (contains nat_cmp w j) (is_among old j) ≡ (is_among old j || (b && e))
+new_split true w old j e h is = is ∙ ap (λ o. is_among o j || e) (sym (h refl))
+new_split false w old j e h is = sym (or_false (is_among old j))
+
+same_split : (b : Bool) (w v : BTreeSet ℕ) (old : Option (BTreeSet ℕ)) (j : ℕ) → (b ≡ true → old ≡ Some v) → contains nat_cmp w j ≡ contains nat_cmp v j → cond b (contains nat_cmp w j) (is_among old j) ≡ is_among old j
+same_split true w v old j h is = is ∙ ap (λ o. is_among o j) (sym (h refl))
+same_split false w v old j h is = refl
+
+drop_split : (b : Bool) (w v : BTreeSet ℕ) (old : Option (BTreeSet ℕ)) (j : ℕ) (e : Bool) → (b ≡ true → old ≡ Some v) → contains nat_cmp w j ≡ (contains nat_cmp v j && not e) → cond b (contains nat_cmp w j) (is_among old j) ≡ (is_among old j && not (b && e))
+drop_split true w v old j e h is = is ∙ ap (λ o. is_among o j && not e) (sym (h refl))
+drop_split false w v old j e h is = sym (and_true (is_among old j))
+
+at_same : (m : Places) (bs q : List ℕ) (o : Option (BTreeSet ℕ)) → o ≡ get_by_text m bs → bytes_eq bs q ≡ true → get_by_text m q ≡ o
+at_same m bs q o is e = ap (get_by_text m) (sym (same_text bs q e)) ∙ sym is
+
+pub added_frame : (m n : Places) (bs q : List ℕ) (v w : BTreeSet ℕ) (j : ℕ) (e : Bool) → Some v ≡ get_by_text m bs → get_by_text n q ≡ cond (bytes_eq bs q) (Some w) (get_by_text m q) → contains nat_cmp w j ≡ (contains nat_cmp v j || e) → stands n q j ≡ (stands m q j || (bytes_eq bs q && e))
+added_frame m n bs q v w j e is up h = changed m n bs q w j up ∙ add_split (bytes_eq bs q) w v (get_by_text m q) j e (at_same m bs q (Some v) is) h
+
+pub same_frames : (m n : Places) (bs q : List ℕ) (v w : BTreeSet ℕ) (j : ℕ) → Some v ≡ get_by_text m bs → get_by_text n q ≡ cond (bytes_eq bs q) (Some w) (get_by_text m q) → contains nat_cmp w j ≡ contains nat_cmp v j → stands n q j ≡ stands m q j
+same_frames m n bs q v w j is up h = changed m n bs q w j up ∙ same_split (bytes_eq bs q) w v (get_by_text m q) j (at_same m bs q (Some v) is) h
+
+pub dropped_frame : (m n : Places) (bs q : List ℕ) (v w : BTreeSet ℕ) (j : ℕ) (e : Bool) → Some v ≡ get_by_text m bs → get_by_text n q ≡ cond (bytes_eq bs q) (Some w) (get_by_text m q) → contains nat_cmp w j ≡ (contains nat_cmp v j && not e) → stands n q j ≡ (stands m q j && not (bytes_eq bs q && e))
+dropped_frame m n bs q v w j e is up h = changed m n bs q w j up ∙ drop_split (bytes_eq bs q) w v (get_by_text m q) j e (at_same m bs q (Some v) is) h
+
+pub new_name : (m n : Places) (bs q : List ℕ) (w : BTreeSet ℕ) (j : ℕ) (e : Bool) → None ≡ get_by_text m bs → get_by_text n q ≡ cond (bytes_eq bs q) (Some w) (get_by_text m q) → contains nat_cmp w j ≡ e → stands n q j ≡ (stands m q j || (bytes_eq bs q && e))
+new_name m n bs q w j e is up h = changed m n bs q w j up ∙ new_split (bytes_eq bs q) w (get_by_text m q) j e (at_same m bs q None is) h
+
+pub none_left : (ks : List ℕ) → no_frames ks ≡ true → ks ≡ []
+none_left [] e = refl
+none_left (k ∷ ks) e = absurd (cc)
+
+pub held_put : (b : Bool) (w : BTreeSet ℕ) (old : Option (BTreeSet ℕ)) → no_frames w.keys ≡ false → is_held old ≡ true → is_held (cond b (Some w) old) ≡ true
+held_put true w old e h = ap not e
+held_put false w old e h = h
+
+pub held_out : (b : Bool) (w : BTreeSet ℕ) (old : Option (BTreeSet ℕ)) → is_held old ≡ true → is_held (cond b None (cond b (Some w) old)) ≡ true
+held_out true w old h = refl
+held_out false w old h = h
+
+not_held : (b : Bool) → not b ≡ true → b ≡ false
+not_held true h = absurd (cc)
+not_held false h = refl
+
+-- the frames of a name that the index has
+pub frames_held : (m : Places) (bs : List ℕ) (v : BTreeSet ℕ) → AllHeld m → Some v ≡ get_by_text m bs → no_frames v.keys ≡ false
+frames_held m bs v h e = not_held (no_frames v.keys) (ap is_held e ∙ h bs)
+
+pub keys_held : (old new : List ℕ) → no_frames old ≡ false → new ≡ old → no_frames new ≡ false
+keys_held old new h e = ap no_frames e ∙ h
+
+inserted_by : (o : Ordering) (k x : ℕ) (ys xs : List ℕ) → no_frames (match_ordering o (k ∷ x ∷ xs) (x ∷ xs) (x ∷ ys)) ≡ false
+inserted_by Less k x ys xs = refl
+inserted_by Equal k x ys xs = refl
+inserted_by Greater k x ys xs = refl
+
+pub inserted_held : (ks new : List ℕ) (k : ℕ) → new ≡ insert_key nat_cmp ks k → no_frames new ≡ false
+inserted_held [] new k e = ap no_frames e
+inserted_held (x ∷ xs) new k e = ap no_frames e ∙ inserted_by (nat_cmp k x) k x (insert_key nat_cmp xs k) xs
+
+pub empty_test : (ks : List ℕ) (r : Bool) → (IsTrue r ↔ (length ks ≡ 0)) → r ≡ no_frames ks
+empty_test [] r h = h.1 refl
+empty_test (k ∷ ks) true h = absurd (omega (arith, h.0 refl))
+empty_test (k ∷ ks) false h = refl
+
+pub same_entries_held : (m n : Places) (q : List ℕ) → n.entries ≡ m.entries → is_held (get_by_text m q) ≡ true → is_held (get_by_text n q) ≡ true
+same_entries_held m n q e h = ap (λ es. is_held (lookup_entry (λ k. is_eq (slice_cmp nat_cmp q (string_bytes k))) es)) e ∙ h
+
+pub on_either : {A E P Q Z : Type 0} (o : Result A E) → (P → Z) → (Q → Z) → OnOk o P → OnErr o Q → Z
+on_either (Ok x) f g p q = f p
+on_either (Err e) f g p q = g q
+
+left_out : (b : Bool) (w : BTreeSet ℕ) (old : Option (BTreeSet ℕ)) (j : ℕ) → w.keys ≡ [] → is_among (cond b None (cond b (Some w) old)) j ≡ is_among (cond b (Some w) old) j
+left_out true w old j e = sym (ap (list_any (is_at (nat_cmp j))) e)
+left_out false w old j e = refl
+
+-- a name whose last frame went leaves the index
+pub emptied_name : (m n o : Places) (bs q : List ℕ) (w : BTreeSet ℕ) (j : ℕ) → w.keys ≡ [] → get_by_text n q ≡ cond (bytes_eq bs q) (Some w) (get_by_text m q) → get_by_text o q ≡ cond (bytes_eq bs q) None (get_by_text n q) → stands o q j ≡ stands n q j
+emptied_name m n o bs q w j e up gone =
+    ap (λ k. is_among k j) (gone ∙ ap (cond (bytes_eq bs q) None) up) ∙ left_out (bytes_eq bs q) w (get_by_text m q) j e ∙ ap (λ k. is_among k j) (sym up)
+
+pub on_ok : {A E P Q : Type 0} (o : Result A E) → (P → Q) → OnOk o P → OnOk o Q
+on_ok (Ok x) f h = f h
+on_ok (Err e) f h = h
+
+pub on_err : {A E P Q : Type 0} (o : Result A E) → (P → Q) → OnErr o P → OnErr o Q
+on_err (Ok x) f h = h
+on_err (Err e) f h = f h
+
+cond-or : (b : Bool) (v : Value) (o : Option Value) → is_some (cond b (Some v) o) ≡ (b || is_some o)
+cond-or true v o = refl
+cond-or false v o = refl
+
+-- one entry more
+pub has_more : (k : String Global) (v : Value) (es : List (String Global × Value)) (q : List ℕ) → has_name q ((k, v) ∷ es) ≡ (bytes_eq (string_bytes k) q || has_name q es)
+has_more k v es q =
+    let same : eq_by_cmp (slice_cmp nat_cmp) q (string_bytes k) ≡ bytes_eq (string_bytes k) q =
+    sym (sym (is_eq-slice_cmp (string_bytes k) q) ∙ (eq_by_cmp_equiv nat_list_cmp_total).symm (string_bytes k) q) in
+    cond-or (eq_by_cmp (slice_cmp nat_cmp) q (string_bytes k)) v _ ∙ ap (λ b. b || has_name q es) same
+
+pub note_moves : (S b r e : Bool) → ((S || (b && e)) || (r && e)) ≡ (S || ((b || r) && e))
+note_moves true b r e = refl
+note_moves false true r true = refl
+note_moves false true true false = refl
+note_moves false true false false = refl
+note_moves false false r e = refl
+
+pub stays_there : (S Y O : Bool) → (S || O) ≡ S → ((S || Y) || O) ≡ (S || Y)
+stays_there true Y O h = refl
+stays_there false true O h = refl
+stays_there false false O h = h
+
+pub partly_noted : (S O X Y : Bool) → (S || Y) ≡ (O || X) → (S || O) ≡ S → (S || X) ≡ (O || X)
+partly_noted true true X Y h m = refl
+partly_noted true false true Y h m = refl
+partly_noted true false false Y h m = h
+partly_noted false true X Y h m = absurd (cc)
+partly_noted false false X Y h m = refl
+
+pub forget_moves : (S b r e : Bool) → ((S && not (b && e)) && not (r && e)) ≡ (S && not ((b || r) && e))
+forget_moves false b r e = refl
+forget_moves true true r true = refl
+forget_moves true true true false = refl
+forget_moves true true false false = refl
+forget_moves true false r e = refl
+
+-- what was noted in part is forgotten again
+pub undone : (S O X : Bool) → (S || X) ≡ (O || X) → (O && X) ≡ false → (S && not X) ≡ O
+undone true true true h z = absurd (cc)
+undone true true false h z = refl
+undone true false true h z = refl
+undone true false false h z = h
+undone false true true h z = absurd (cc)
+undone false true false h z = h
+undone false false X h z = refl
+
+pub nothing_found : {A : Type 0} (o : Option A) → is_some o ≡ false → None ≡ o
+nothing_found None e = refl
+nothing_found (Some x) e = absurd (cc)

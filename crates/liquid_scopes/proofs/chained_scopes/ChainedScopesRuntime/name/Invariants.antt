@@ -1,7 +1,0 @@
-use Rattle.std.proofs.Common.{◌≡◌, take, map, option_map}
-use Rattle.liquid_scopes.specs.Layers.{shown_over}
-use Rattle.liquid_scopes.specs.LinkLayers.{layer_of}
-use Rattle.liquid_scopes.proofs.chained_scopes.ChainedScopesRuntime.name.Given as goal
-
-abbrev pub invariant-loop-link : goal.invariant-loop-link
-invariant-loop-link g l = option_map (λ r. r.now) l.name ≡ (shown_over (g.R.Runtime.view l.self.base) (map layer_of (take l.link-index l.link-items))).name

@@ -1,0 +1,11 @@
+use Rattle.std.proofs.Common.{◌≡◌, ℕ, List}
+use Rattle.std.specs.Prelude.{is_some, nat_eq, ◌&&◌, not}
+use Rattle.std.specs.FinMap.{get}
+use Rattle.liquid_runtime.specs.Maps.{names_of}
+use Rattle.liquid_scopes.specs.Standing.{stands}
+use Rattle.liquid_runtime.proofs.Objects.{has_name}
+use Rattle.liquid_scopes.proofs.index.Index.forget_all.Given as goal
+
+abbrev pub invariant-loop-name : goal.invariant-loop-name
+invariant-loop-name l = (q : List ℕ) (j : ℕ)
+    → (stands l.self.places q j && not (has_name q l.name-iterator && nat_eq j l.frame)) ≡ (stands l.initial.self.places q j && not (is_some (get (names_of l.names) q) && nat_eq j l.frame))

@@ -1,0 +1,8 @@
+use Rattle.std.proofs.Common.{◌≡◌, take, map, option_map}
+use Rattle.liquid_runtime.specs.View.{View}
+use Rattle.liquid_scopes.specs.Layers.{shown_over}
+use Rattle.liquid_scopes.specs.LinkLayers.{layer_of}
+use Rattle.liquid_scopes.proofs.links.name_over.Given as goal
+
+abbrev pub invariant-loop-link : goal.invariant-loop-link
+invariant-loop-link g l = (v : View _) → option_map (λ r. r.now) l.below ≡ v.name → option_map (λ r. r.now) l.name ≡ (shown_over v (map layer_of (take l.link-index l.links))).name

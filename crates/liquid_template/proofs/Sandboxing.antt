@@ -1,0 +1,36 @@
+-- A sandboxed frame that is pushed, rendered under and popped.
+use Rattle.std.proofs.Common.{◌≡◌, ℕ, List, ◌∷◌, Option, None, Result, Err, subst}
+use Rattle.liquid_error.specs.declared.error.Error.{Error}
+use Rattle.liquid_error.specs.Told.{told}
+use Rattle.liquid_runtime.specs.Maps.{Names}
+use Rattle.liquid_runtime.specs.View.{View}
+use Rattle.liquid_runtime.specs.Frames.{sandboxed_frame, Restore, beginning, restored_by}
+use Rattle.liquid_runtime.specs.OpenFrames.{EndsFirst}
+use Rattle.liquid_plugins.specs.Discreet.{Discreet}
+use Rattle.liquid_tree.specs.Tree.{Nodes}
+use Rattle.liquid_template.specs.Nodes.{Setting}
+use Rattle.liquid_template.specs.Rendering.{template_run, sandboxed_run}
+use Rattle.liquid_template.specs.Sandboxed.{RendersSandboxed}
+use Rattle.liquid_template.specs.Sunk.{Sunk}
+use Rattle.liquid_template.specs.Outcome.{Renders}
+use Rattle.liquid_template.proofs.Framing.{renders_framed, renders_memory, becomes_itself}
+use Rattle.liquid_template.proofs.Isolation.{isolated}
+
+module _ {Reg F T P B Q : Type 0} (s : Setting Reg F T P B Q) (tl : Discreet s.tags) (bl : Discreet s.blocks) (names : Names) (name : Option (List ℕ)) (ns : Nodes F T B) where
+  -- what renders the run over the outside renders that over the outside emptied
+  sandboxed : (v x : View Reg) (b a : Sunk) (answer : Result (Unit {0}) Error) → Renders (sandboxed_run s names name ns v) v b a x answer → RendersSandboxed s.fresh (sandboxed_run s names name ns) v b a x answer
+  sandboxed v x b a answer r = record {
+    renders = r;
+    isolated = λ there. subst (λ q. Renders q v b a x answer) (isolated s tl bl names name ns v there) r;
+  }
+
+  pub sandboxed_memory : (v : View Reg) (b : Sunk) (e : Error) → told e ≡ None → RendersSandboxed s.fresh (sandboxed_run s names name ns) v b b v (Err e)
+  sandboxed_memory v b e h = sandboxed v v b b (Err e) (renders_memory (sandboxed_run s names name ns v) v b e h)
+
+  -- the name may be told as a text of its own
+  pub sandboxed_renders : (own : Option (List ℕ)) (v v1 w x : View Reg) (rs rs1 rs2 rs3 : List (Restore Reg)) (b a : Sunk) (answer : Result (Unit {0}) Error)
+      → own ≡ name → v1 ≡ beginning s.fresh (sandboxed_frame names own) v → rs1 ≡ restored_by (sandboxed_frame names own) v ∷ rs → rs2 ≡ rs1 → EndsFirst rs2 w rs3 x → Renders (template_run s ns v1) v1 b a w answer
+      → RendersSandboxed s.fresh (sandboxed_run s names name ns) v b a x answer
+  sandboxed_renders own v v1 w x rs rs1 rs2 rs3 b a answer e h i j k r =
+      sandboxed v x b a answer (subst (λ n. Renders (sandboxed_run s names n ns v) v b a x answer) e
+      (renders_framed s.fresh (sandboxed_frame names own) None (template_run s ns) v v1 w x rs rs1 rs2 rs3 b a answer answer h i j k (becomes_itself answer) r))

@@ -1,0 +1,61 @@
+//! Writing what a chain comes to.
+ghost use Rattle.std.specs.Prelude.{Ok};
+ghost use Rattle.std.specs.Cow.{cow_str_bytes};
+ghost use Rattle.liquid_error.specs.Told.{Gives};
+ghost use Rattle.liquid_value.specs.View.{view as tree_of};
+ghost use Rattle.liquid_value.specs.Render.{render};
+ghost use Rattle.liquid_plugins.specs.Chain.{chain_value};
+ghost use Rattle.liquid_plugins.specs.ExpressionOf.{chain_of};
+ghost use Rattle.liquid_template.specs.Actions.{writes_value};
+ghost use Rattle.liquid_template.specs.Sunk.{sunk};
+ghost use Rattle.liquid_template.specs.Outcome.{Renders};
+
+use crate::piece::write_piece;
+use crate::sink::Sink;
+use liquid_error::Error;
+use liquid_plugins::{Filter, FilterChain};
+use liquid_runtime::Runtime;
+use liquid_value::Value;
+use liquid_value::render::ValueRender;
+use std::alloc::Global;
+use std::borrow::CowStr;
+
+/// The text that a value renders as. A text is borrowed where it stands.
+fn rendered_text(alloc: Global, value: &Value) -> Result<CowStr<'_>, Error>
+    ensures { Gives cow_str_bytes result (Ok (render (tree_of value.now))) }
+{
+    match value {
+        Value::Scalar(scalar) => match scalar.to_kstr(alloc) {
+            Ok(text) => Ok(text),
+            Err(_) => Err(Error::Memory),
+        },
+        other => match ValueRender::new(other).to_string(alloc) {
+            Ok(text) => Ok(CowStr::Owned(text)),
+            Err(_) => Err(Error::Memory),
+        },
+    }
+}
+
+/// Renders a chain: its value's text, as one piece.
+pub(crate) fn render_chain<X, R, K>(
+    alloc: Global,
+    chain: &FilterChain<X>,
+    sink: &mut K,
+    runtime: &R,
+) -> Result<(), Error>
+where
+    X: Filter,
+    R: Runtime,
+    K: Sink,
+    ensures { Renders (writes_value (chain_value (record { answers = X.answers; label = X.shown }) (chain_of X.shape chain.now) (R.view runtime.now)) (R.view runtime.now)) (R.view runtime.now) (sunk (K.taken sink.old) (K.failures sink.old) (K.behind sink.old) (K.lent sink.old)) (sunk (K.taken sink.new) (K.failures sink.new) (K.behind sink.new) (K.lent sink.new)) (R.view runtime.now) result }
+{
+    let value = match chain.evaluate(alloc, runtime) {
+        Ok(value) => value,
+        Err(error) => return Err(error),
+    };
+    let text = match rendered_text(alloc, value.as_view()) {
+        Ok(text) => text,
+        Err(error) => return Err(error),
+    };
+    write_piece(alloc, sink, text.as_str())
+}

@@ -1,0 +1,21 @@
+//! Laws of sandboxed runs, each as the contract of a function. `V` is the type of the register, `F`,
+//! `T` and `B` are what filters, tags and blocks are seen as, `P` and `Q` the progress of tags and of
+//! blocks.
+ghost use Rattle.liquid_template.specs.Isolation.{Isolated, OutsidesAgree};
+ghost use Rattle.liquid_template.specs.Nodes.{Setting};
+
+use liquid_runtime::Fresh;
+
+/// Under a sandboxed frame a list of discreet nodes has the run that it has over an outside without
+/// names: the same steps and the same end, with the outside's own names, interrupt and register as
+/// they were, and its globals overlaid by those that the run leaves.
+#[tactic(auto, using(crate::proofs::Isolation::isolated))]
+pub fn sandboxed_runs_are_isolated<V: Fresh, F, T, P, B, Q>()
+    ensures { (s : Setting V F T P B Q) → Isolated s }
+{}
+
+/// So two outsides that agree on partials, depth, index variables and name get the same text, the
+/// same refusal and the same writes.
+pub fn outsides_agree<V: Fresh, F, T, P, B, Q>()
+    ensures { (s : Setting V F T P B Q) → OutsidesAgree s }
+{}

@@ -1,0 +1,11 @@
+//! The tests of the parser's cursors, as tables of rows.
+#![tactic(auto)]
+
+#[cfg(test)]
+mod blocks;
+#[cfg(test)]
+mod elements;
+#[cfg(test)]
+mod tokens;
+#[cfg(test)]
+mod told;

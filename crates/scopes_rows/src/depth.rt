@@ -1,0 +1,93 @@
+//! A thousand frames, and how many looks a name takes under them.
+ghost use Rattle.std.specs.Prelude.{◌≡◌};
+
+use crate::framed::{numbers, sandboxed, stack};
+use liquid_error::Error;
+use liquid_runtime::{BuiltRuntime, Runtime, RuntimeBuilder, Scopes};
+use liquid_scalar::ScalarCow;
+use liquid_scopes::{FlatScopes, Looks};
+use liquid_views::ValueView;
+use std::alloc::Global;
+use std::test::Fail;
+
+/// Scopes that count their looks.
+trait Seeks: Scopes {
+    /// Writes down what a name leads to, and how many looks that took: ` NAME=VALUE/LOOKS`.
+    fn note_looks(&self, alloc: Global, name: &'static str, log: &mut String) -> Result<(), Error>;
+}
+
+impl<R: Runtime> Seeks for FlatScopes<R> {
+    fn note_looks(&self, alloc: Global, name: &'static str, log: &mut String) -> Result<(), Error> {
+        let mut looks = Looks::new();
+        let shown = match self.seek(alloc, &[ScalarCow::from(name)], &mut looks)? {
+            Some(value) => value.render().to_string(alloc)?,
+            None => String::from_str(alloc, "none")?,
+        };
+        let line = format!(in alloc; " {name}={shown}/{}", looks.count())?;
+        log.push_str(line.as_str())?;
+        Ok(())
+    }
+}
+
+/// Writes down looks under so many frames more, each of which gives `deep` its own number.
+#[tactic(auto, using(crate::proofs::Pushed::pushed))]
+fn nested<S: Seeks>(
+    alloc: Global,
+    scopes: &mut S,
+    frames: u32,
+    log: &mut String,
+) -> Result<(), Error>
+    ensures { S.restores scopes.new ≡ S.restores scopes.old }
+{
+    if frames == 0 {
+        return innermost(alloc, scopes, log);
+    }
+    scopes.push(stack(alloc, &[("deep", i64::from(frames))])?)?;
+    let answer = nested(alloc, scopes, frames - 1, log);
+    scopes.pop();
+    answer
+}
+
+/// Writes down looks, and then those under a sandboxed frame.
+#[tactic(auto, using(crate::proofs::Pushed::pushed))]
+fn innermost<S: Seeks>(alloc: Global, scopes: &mut S, log: &mut String) -> Result<(), Error>
+    ensures { S.restores scopes.new ≡ S.restores scopes.old }
+{
+    note_all(alloc, scopes, log)?;
+    scopes.push(sandboxed(alloc, &[("own", 6)])?)?;
+    let answer = note_all(alloc, scopes, log);
+    scopes.pop();
+    answer
+}
+
+fn note_all<S: Seeks>(alloc: Global, scopes: &S, log: &mut String) -> Result<(), Error> {
+    scopes.note_looks(alloc, "deep", log)?;
+    scopes.note_looks(alloc, "base", log)?;
+    scopes.note_looks(alloc, "own", log)
+}
+
+fn noted<S: Seeks>(alloc: Global, base: S::Base, frames: u32) -> Result<String, Error>
+where
+    S::Base: Drop,
+{
+    let mut log = String::new(alloc);
+    let mut scopes = S::new(alloc, base);
+    let answer = nested(alloc, &mut scopes, frames, &mut log);
+    let _base = scopes.into_base();
+    answer?;
+    Ok(log)
+}
+
+#[test]
+fn a_name_takes_one_look_under_a_thousand_frames(rt: HostRuntime) -> Result<(), Fail> {
+    let alloc = rt.alloc();
+    let shown = " deep=1/1 base=5/1 own=none/1 deep=none/0 base=none/0 own=6/1";
+    for frames in [1, 1000] {
+        let base: BuiltRuntime<(), ()> = RuntimeBuilder::new(alloc)
+            .set_globals(numbers(alloc, &[("base", 5)])?)
+            .build();
+        let log = noted::<FlatScopes<BuiltRuntime<(), ()>>>(alloc, base, frames)?;
+        assert_eq!(rt; log.as_str(), shown, "under {frames} frames");
+    }
+    Ok(())
+}

@@ -1,0 +1,87 @@
+//! What the tests do under a frame, and what they write down.
+ghost use Rattle.std.specs.Prelude.{◌≡◌};
+
+use crate::made;
+use liquid_error::Error;
+use liquid_runtime::{Frame, Scopes};
+use liquid_scalar::ScalarCow;
+use liquid_value::{Object, Value};
+use liquid_views::ValueView;
+use std::alloc::{AllocError, Global};
+
+/// Calls on scopes that leave the frames as they were.
+pub(crate) trait Body {
+    fn run<S: Scopes>(&self, alloc: Global, scopes: &mut S, log: &mut String) -> Result<(), Error>
+        ensures { S.restores scopes.new ≡ S.restores scopes.old };
+}
+
+/// Runs a body under a frame.
+#[tactic(auto, using(crate::proofs::Pushed::pushed))]
+pub(crate) fn framed<S: Scopes, B: Body>(
+    alloc: Global,
+    scopes: &mut S,
+    frame: Frame,
+    body: &B,
+    log: &mut String,
+) -> Result<(), Error>
+    ensures { S.restores scopes.new ≡ S.restores scopes.old }
+{
+    made::push(scopes, frame)?;
+    let answer = body.run(alloc, scopes, log);
+    made::pop(scopes);
+    answer
+}
+
+/// Runs a body over scopes of one form, and answers what it wrote down.
+pub(crate) fn over<S: Scopes, B: Body>(
+    alloc: Global,
+    base: S::Base,
+    body: &B,
+) -> Result<String, Error>
+where
+    S::Base: Drop,
+{
+    let mut log = String::new(alloc);
+    let mut scopes = S::new(alloc, base);
+    let answer = body.run(alloc, &mut scopes, &mut log);
+    let _base = scopes.into_base();
+    answer?;
+    Ok(log)
+}
+
+/// An object of numbers.
+pub(crate) fn numbers(alloc: Global, pairs: &[(&'static str, i64)]) -> Result<Object, AllocError> {
+    let mut object = Object::new(alloc);
+    for (name, number) in pairs {
+        object.insert(String::from_str(alloc, name)?, Value::scalar(*number))?;
+    }
+    Ok(object)
+}
+
+/// A stack frame of numbers.
+pub(crate) fn stack(alloc: Global, pairs: &[(&'static str, i64)]) -> Result<Frame, AllocError> {
+    Ok(Frame::Stack(numbers(alloc, pairs)?, None))
+}
+
+/// A sandboxed frame of numbers.
+pub(crate) fn sandboxed(alloc: Global, pairs: &[(&'static str, i64)]) -> Result<Frame, AllocError> {
+    Ok(Frame::Sandboxed(numbers(alloc, pairs)?, None))
+}
+
+/// Writes down what a name leads to: ` NAME=VALUE`.
+pub(crate) fn note<S: Scopes>(
+    alloc: Global,
+    scopes: &S,
+    name: &'static str,
+    log: &mut String,
+) -> Result<(), Error> {
+    let shown = match made::try_get(alloc, scopes, &[ScalarCow::from(name)])? {
+        Some(value) => value.render().to_string(alloc)?,
+        None => String::from_str(alloc, "none")?,
+    };
+    log.push_str(" ")?;
+    log.push_str(name)?;
+    log.push_str("=")?;
+    log.push_str(shown.as_str())?;
+    Ok(())
+}

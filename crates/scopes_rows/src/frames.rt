@@ -1,0 +1,76 @@
+//! Frames that hide one another, over both forms of scopes.
+use crate::framed::{Body, framed, note, over, sandboxed, stack};
+use liquid_error::Error;
+use liquid_runtime::{BuiltRuntime, Frame, RuntimeBuilder, Scopes};
+use liquid_scopes::{ChainedScopes, FlatScopes};
+use liquid_value::Value;
+use std::alloc::Global;
+use std::test::Fail;
+
+type Base = BuiltRuntime<(), ()>;
+
+/// A stack frame with `a`, under it first a sandboxed and then a global frame.
+struct Frames;
+
+impl Body for Frames {
+    fn run<S: Scopes>(&self, alloc: Global, scopes: &mut S, log: &mut String) -> Result<(), Error> {
+        framed(alloc, scopes, stack(alloc, &[("a", 1)])?, &BelowStack, log)
+    }
+}
+
+struct BelowStack;
+
+impl Body for BelowStack {
+    fn run<S: Scopes>(&self, alloc: Global, scopes: &mut S, log: &mut String) -> Result<(), Error> {
+        framed(
+            alloc,
+            scopes,
+            sandboxed(alloc, &[("b", 2)])?,
+            &BelowSandbox,
+            log,
+        )?;
+        note(alloc, scopes, "a", log)?;
+        framed(alloc, scopes, Frame::Global, &BelowGlobal, log)?;
+        note(alloc, scopes, "a", log)
+    }
+}
+
+struct BelowSandbox;
+
+impl Body for BelowSandbox {
+    fn run<S: Scopes>(&self, alloc: Global, scopes: &mut S, log: &mut String) -> Result<(), Error> {
+        framed(alloc, scopes, stack(alloc, &[("b", 3)])?, &Innermost, log)?;
+        note(alloc, scopes, "b", log)
+    }
+}
+
+struct Innermost;
+
+impl Body for Innermost {
+    fn run<S: Scopes>(&self, alloc: Global, scopes: &mut S, log: &mut String) -> Result<(), Error> {
+        note(alloc, scopes, "a", log)?;
+        note(alloc, scopes, "b", log)
+    }
+}
+
+struct BelowGlobal;
+
+impl Body for BelowGlobal {
+    fn run<S: Scopes>(&self, alloc: Global, scopes: &mut S, log: &mut String) -> Result<(), Error> {
+        scopes.set_global(String::from_str(alloc, "a")?, Value::scalar(4i64))?;
+        note(alloc, scopes, "a", log)
+    }
+}
+
+#[test]
+fn a_name_that_was_hidden_is_seen_again(rt: HostRuntime) -> Result<(), Fail> {
+    let alloc = rt.alloc();
+    let shown = " a=none b=3 b=2 a=1 a=4 a=1";
+    let base: Base = RuntimeBuilder::new(alloc).build();
+    let chained = over::<ChainedScopes<Base>, Frames>(alloc, base, &Frames)?;
+    assert_eq!(rt; chained.as_str(), shown);
+    let base: Base = RuntimeBuilder::new(alloc).build();
+    let flat = over::<FlatScopes<Base>, Frames>(alloc, base, &Frames)?;
+    assert_eq!(rt; flat.as_str(), shown);
+    Ok(())
+}
