@@ -6,7 +6,7 @@ use liquid_core::{TextSink, render_source};
 use std::alloc::Global;
 use std::test::Fail;
 
-const HOSTILE: [Row; 14] = [
+pub(crate) const HOSTILE: [Row; 14] = [
     Row {
         template: "{% spin %}.",
         globals: &[],

@@ -2,6 +2,8 @@
 #![tactic(auto)]
 
 #[cfg(test)]
+mod both_scopes;
+#[cfg(test)]
 mod chains;
 #[cfg(test)]
 mod counting_source;

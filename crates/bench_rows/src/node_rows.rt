@@ -46,7 +46,7 @@ where
 
 const UNKNOWN_G: &str = "liquid: Unknown variable\n  with:\n    requested variable=g\n";
 
-const ROWS: [(&[Step], &str); 11] = [
+pub(crate) const ROWS: [(&[Step], &str); 11] = [
     (&[Begin, End(Kind::Box)], "[]"),
     (
         &[Begin, Text("x"), Brk, Text("y"), End(Kind::Sbox), Text("z")],
@@ -114,7 +114,7 @@ fn tags_and_blocks_are_rendered(rt: HostRuntime) -> Result<(), Fail> {
 type Store = OnePartial<Same, LeakyTagNode, BlockNode>;
 
 /// The store of the partial `p` of these steps.
-fn store(alloc: Global, steps: &[Step]) -> Result<Store, Fail> {
+pub(crate) fn store(alloc: Global, steps: &[Step]) -> Result<Store, Fail> {
     Ok(OnePartial {
         name: text(alloc, "p")?,
         template: Rc::new(alloc, Template::new(nodes(alloc, steps)?))?,
@@ -128,7 +128,7 @@ const ENDLESS: &[Step] = &[Text("x"), Inc("p")];
 const SETS: &[Step] = &[Shown("x"), Set("x", 2)];
 
 /// A partial, a template, how deep partials may nest, and what comes of it.
-const PARTIAL_ROWS: [(&[Step], &[Step], u32, &str); 5] = [
+pub(crate) const PARTIAL_ROWS: [(&[Step], &[Step], u32, &str); 5] = [
     (
         ENDLESS,
         &[Inc("p")],

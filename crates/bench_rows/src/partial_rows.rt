@@ -31,7 +31,7 @@ fn source(alloc: Global, texts: Sources) -> Result<InMemorySource, AllocError> {
     Ok(source)
 }
 
-fn eager(
+pub(crate) fn eager(
     alloc: Global,
     language: &Rc<TheLanguage>,
     texts: Sources,
@@ -39,7 +39,7 @@ fn eager(
     EagerCompiler::new(source(alloc, texts)?).compile(alloc, language.clone()?)
 }
 
-fn on_demand(
+pub(crate) fn on_demand(
     alloc: Global,
     language: &Rc<TheLanguage>,
     texts: Sources,
@@ -66,16 +66,16 @@ where
 }
 
 /// A template over partials, of which so many may be open inside one another, and what comes of it.
-struct Row {
-    partials: Sources,
-    template: &'static str,
-    depth: u32,
-    expected: &'static str,
+pub(crate) struct Row {
+    pub(crate) partials: Sources,
+    pub(crate) template: &'static str,
+    pub(crate) depth: u32,
+    pub(crate) expected: &'static str,
 }
 
 const ENDLESS: Sources = &[("p", "x{% inc p %}")];
 
-const ROWS: [Row; 14] = [
+pub(crate) const ROWS: [Row; 14] = [
     Row {
         partials: ENDLESS,
         template: "{% inc p %}",

@@ -99,7 +99,7 @@ pub(crate) struct Row {
 
 const UNKNOWN_X: &str = "liquid: Unknown variable\n  with:\n    requested variable=x\n";
 
-const ROWS: [Row; 19] = [
+pub(crate) const ROWS: [Row; 19] = [
     Row {
         template: "Hello {{ name }}!",
         globals: &[("name", Given::Text("World"))],

@@ -9,7 +9,7 @@ use liquid_core::{TextSink, render_source};
 use std::alloc::Global;
 use std::test::Fail;
 
-const EXPRESSIONS: [Row; 14] = [
+pub(crate) const EXPRESSIONS: [Row; 14] = [
     Row {
         template: "a {{-5}} b",
         globals: &[],
@@ -96,7 +96,7 @@ const EXPRESSIONS: [Row; 14] = [
     },
 ];
 
-const BLOCKS: [Row; 14] = [
+pub(crate) const BLOCKS: [Row; 14] = [
     Row {
         template: "{% raw %}{{ a }}{{% endraw %}",
         globals: &[],
@@ -183,7 +183,7 @@ const BLOCKS: [Row; 14] = [
     },
 ];
 
-const FRAMES: [Row; 7] = [
+pub(crate) const FRAMES: [Row; 7] = [
     Row {
         template: "{% with x 1 %}{% set x 2 %}{{ x }}{% endwith %}{{ x }}",
         globals: &[],

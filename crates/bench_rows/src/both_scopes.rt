@@ -1,0 +1,168 @@
+//! The rows of templates over both forms of scopes, by `render_in`.
+use crate::hostile_rows::HOSTILE;
+use crate::node_rows::{self, PARTIAL_ROWS};
+use crate::nodes::{Same, nodes};
+use crate::partial_rows::{self, eager, on_demand};
+use crate::rows::{ROWS, Row, runtime_of};
+use crate::text_rows::{BLOCKS, EXPRESSIONS, FRAMES};
+use bench::languages::{hostile_language, language};
+use liquid_core::parser::{Filter, Language, Node, ParseBlock, ParseFilter, ParseTag, parse};
+use liquid_core::runtime::{
+    BuiltRuntime, ChainedScopes, FlatScopes, Renderable, RuntimeBuilder, Scopes, Template,
+};
+use liquid_core::{PartialStore, TextSink};
+use std::alloc::{AllocError, Global};
+use std::rc::Rc;
+use std::test::Fail;
+
+type Chained<P> = ChainedScopes<BuiltRuntime<(), P>>;
+
+type Flat<P> = FlatScopes<BuiltRuntime<(), P>>;
+
+/// What is written over scopes of one form, with the error's text behind it. No frame is left open.
+fn written_in<S, X, T, B>(
+    alloc: Global,
+    nodes: Vec<Node<X, T, B>>,
+    base: S::Base,
+) -> Result<String, Fail>
+where
+    S: Scopes,
+    S::Base: Drop,
+    X: Filter,
+    T: Renderable<S::Register>,
+    B: Renderable<S::Register>,
+    S::Store: PartialStore<X, T, B>,
+{
+    let mut scopes = S::new(alloc, base);
+    let mut sink = TextSink::new(alloc);
+    let answer = Template::new(nodes).render_in(alloc, &mut sink, &mut scopes);
+    let frames = scopes.frames();
+    let _base = scopes.into_base();
+    if frames > 0 {
+        return Err(Fail::from("a frame is left open"));
+    }
+    let mut all = sink.into_string()?;
+    if let Err(error) = answer {
+        all.push_str(error.to_string(alloc)?.as_str())?;
+    }
+    Ok(all)
+}
+
+/// The same of a text.
+fn rendered_in<S, F, T, B>(
+    alloc: Global,
+    template: &str,
+    language: &Language<F, T, B>,
+    base: S::Base,
+) -> Result<String, Fail>
+where
+    S: Scopes,
+    S::Base: Drop,
+    F: ParseFilter + Drop,
+    T: ParseTag<F> + Drop,
+    B: ParseBlock<F> + Drop,
+    T::Node: Renderable<S::Register>,
+    B::Node: Renderable<S::Register>,
+    S::Store: PartialStore<F::Filter, T::Node, B::Node>,
+{
+    match parse(alloc, template, language) {
+        Ok(nodes) => written_in::<S, F::Filter, T::Node, B::Node>(alloc, nodes, base),
+        Err(error) => Ok(error.to_string(alloc)?),
+    }
+}
+
+/// What a row writes, with its error's text behind it.
+fn expected(alloc: Global, row: &Row) -> Result<String, AllocError> {
+    let mut all = String::from_str(alloc, row.written)?;
+    all.push_str(row.error)?;
+    Ok(all)
+}
+
+const TABLES: [&[Row]; 4] = [&ROWS, &EXPRESSIONS, &BLOCKS, &FRAMES];
+
+#[test]
+fn templates_are_the_same_over_both_forms(rt: HostRuntime) -> Result<(), Fail> {
+    let alloc = rt.alloc();
+    let language = language(alloc)?;
+    for rows in &TABLES {
+        for row in *rows {
+            let (first, second) = (
+                runtime_of(alloc, row.globals)?,
+                runtime_of(alloc, row.globals)?,
+            );
+            let chained = rendered_in::<Chained<()>, _, _, _>(
+                alloc,
+                row.template,
+                &language,
+                first,
+            )?;
+            let flat = rendered_in::<Flat<()>, _, _, _>(alloc, row.template, &language, second)?;
+            let expected = expected(alloc, row)?;
+            assert_eq!(rt; chained.as_str(), expected.as_str(), "{}", row.template);
+            assert_eq!(rt; flat.as_str(), expected.as_str(), "{}", row.template);
+        }
+    }
+    Ok(())
+}
+
+#[test]
+fn hostile_templates_are_the_same_over_both_forms(rt: HostRuntime) -> Result<(), Fail> {
+    let alloc = rt.alloc();
+    let language = hostile_language(alloc)?;
+    for row in &HOSTILE {
+        let (first, second) = (
+            runtime_of(alloc, row.globals)?,
+            runtime_of(alloc, row.globals)?,
+        );
+        let chained = rendered_in::<Chained<()>, _, _, _>(alloc, row.template, &language, first)?;
+        let flat = rendered_in::<Flat<()>, _, _, _>(alloc, row.template, &language, second)?;
+        let expected = expected(alloc, row)?;
+        assert_eq!(rt; chained.as_str(), expected.as_str(), "{}", row.template);
+        assert_eq!(rt; flat.as_str(), expected.as_str(), "{}", row.template);
+    }
+    Ok(())
+}
+
+/// A runtime over a store, in which so many partials may be open inside one another.
+fn over<P: Drop>(alloc: Global, store: P, depth: u32) -> BuiltRuntime<(), P> {
+    RuntimeBuilder::new(alloc)
+        .set_partials(store)
+        .set_depth(depth)
+        .build()
+}
+
+#[test]
+fn partials_are_the_same_over_both_forms(rt: HostRuntime) -> Result<(), Fail> {
+    let alloc = rt.alloc();
+    let language = Rc::new(alloc, language(alloc)?)?;
+    for row in &partial_rows::ROWS {
+        let kept = over(alloc, eager(alloc, &language, row.partials)?, row.depth);
+        let read = over(alloc, on_demand(alloc, &language, row.partials)?, row.depth);
+        let chained = rendered_in::<Chained<_>, _, _, _>(alloc, row.template, &language, kept)?;
+        let flat = rendered_in::<Flat<_>, _, _, _>(alloc, row.template, &language, read)?;
+        assert_eq!(rt; chained.as_str(), row.expected);
+        assert_eq!(rt; flat.as_str(), row.expected);
+    }
+    Ok(())
+}
+
+#[test]
+fn nodes_are_the_same_over_both_forms(rt: HostRuntime) -> Result<(), Fail> {
+    let alloc = rt.alloc();
+    for (steps, expected) in &node_rows::ROWS {
+        let (first, second) = (runtime_of(alloc, &[])?, runtime_of(alloc, &[])?);
+        let chained = written_in::<Chained<()>, Same, _, _>(alloc, nodes(alloc, steps)?, first)?;
+        let flat = written_in::<Flat<()>, Same, _, _>(alloc, nodes(alloc, steps)?, second)?;
+        assert_eq!(rt; chained.as_str(), *expected);
+        assert_eq!(rt; flat.as_str(), *expected);
+    }
+    for (partial, steps, depth, expected) in &PARTIAL_ROWS {
+        let first = over(alloc, node_rows::store(alloc, partial)?, *depth);
+        let second = over(alloc, node_rows::store(alloc, partial)?, *depth);
+        let chained = written_in::<Chained<_>, Same, _, _>(alloc, nodes(alloc, steps)?, first)?;
+        let flat = written_in::<Flat<_>, Same, _, _>(alloc, nodes(alloc, steps)?, second)?;
+        assert_eq!(rt; chained.as_str(), *expected);
+        assert_eq!(rt; flat.as_str(), *expected);
+    }
+    Ok(())
+}
