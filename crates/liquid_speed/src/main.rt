@@ -1,0 +1,83 @@
+//! The command `liquid_speed`, which times single calls of the library by the machine's clock.
+//!
+//! `parse` and `render` time a site with a list of posts, apart from each other; `flat` and `chained`
+//! time the look-up of a name under frames, in both forms of scopes. Each word is one measure, and its
+//! table goes to standard output.
+#![tactic(auto)]
+
+mod names;
+mod problem;
+mod site;
+
+use liquid_core::runtime::{BuiltRuntime, ChainedScopes, FlatScopes};
+use problem::Problem;
+use std::env;
+use std::io::Write;
+use std::process::ExitCode;
+
+/// How many posts a site has.
+const POSTS: [u32; 4] = [1250, 2500, 5000, 10_000];
+
+/// How many frames are open.
+const FRAMES: [u32; 4] = [1, 10, 100, 1000];
+
+/// Prints a line of a table: what was measured, and in how many nanoseconds.
+fn told(
+    rt: &HostRuntime,
+    measure: &str,
+    size: u32,
+    unit: &str,
+    nanos: u128,
+) -> Result<(), Problem> {
+    rt.print(format_args!("{measure:<34} {size:>9} {unit:<6} {nanos:>12} ns\n"))?;
+    Ok(())
+}
+
+/// Prints the table of one measure.
+fn measure(rt: &HostRuntime, word: &str) -> Result<(), Problem> {
+    match word {
+        "parse" => for posts in POSTS {
+            let time = site::parse_time(rt, posts)?;
+            told(rt, "a site is parsed", posts, "posts", time)?;
+        },
+        "render" => for posts in POSTS {
+            let time = site::render_time(rt, posts)?;
+            told(rt, "a parsed site is rendered", posts, "posts", time)?;
+        },
+        "flat" => for frames in FRAMES {
+            let time = names::time::<FlatScopes<BuiltRuntime<(), ()>>>(
+                rt,
+                names::base(rt.alloc())?,
+                frames,
+            )?;
+            told(rt, "a name in flat scopes", frames, "frames", time)?;
+        },
+        "chained" => for frames in FRAMES {
+            let time = names::time::<ChainedScopes<BuiltRuntime<(), ()>>>(
+                rt,
+                names::base(rt.alloc())?,
+                frames,
+            )?;
+            told(rt, "a name in chained scopes", frames, "frames", time)?;
+        },
+        _ => return Err(Problem::Usage),
+    }
+    Ok(())
+}
+
+fn serve(rt: &HostRuntime) -> Result<(), Problem> {
+    for word in env::args(rt)?.skip(1) {
+        measure(rt, word.as_str())?;
+    }
+    Ok(())
+}
+
+fn main(rt: HostRuntime) -> ExitCode {
+    match serve(&rt) {
+        Ok(()) => ExitCode::SUCCESS,
+        Err(problem) => {
+            let _ = rt.eprint(format_args!("{problem}"));
+            ExitCode::FAILURE
+        }
+    }
+}

@@ -1,0 +1,20 @@
+use liquid_core::Error;
+use std::alloc::AllocError;
+use std::io;
+
+/// Why a time was not taken.
+#[derive(Debug, Drop, thiserror::Error)]
+pub enum Problem {
+    /// A word names no measure.
+    #[error("usage: liquid_speed [parse] [render] [flat] [chained]\n")]
+    Usage,
+    /// A template was refused.
+    #[error("{0}")]
+    Refused(#[from] Error),
+    /// The clock or an output failed.
+    #[error("liquid_speed: {0}\n")]
+    Failed(#[from] io::Error),
+    /// Memory ran out.
+    #[error("liquid_speed: out of memory\n")]
+    Memory(#[from] AllocError),
+}

@@ -1,0 +1,109 @@
+//! A site: a page that renders a partial for each post of a list.
+use crate::problem::Problem;
+use bench::blocks::BlockNode;
+use bench::filters::AnyFilter;
+use bench::languages::language;
+use bench::tags::TagNode;
+use bench::{Blocks, Filters, Tags};
+use liquid_core::parser::{Language, parse};
+use liquid_core::partials::{EagerCompiler, EagerStore, InMemorySource, PartialCompiler};
+use liquid_core::runtime::{BuiltRuntime, RuntimeBuilder, Template};
+use liquid_core::{Object, TextSink, Value};
+use std::alloc::{AllocError, Global};
+use std::rc::Rc;
+use std::time::Instant;
+
+/// How often each time is taken; the least counts.
+const ROUNDS: u32 = 5;
+
+const CARD: &str = "<h2>{{ post.title }}</h2>\n<p>{{ post.words | append: \" words\" }}</p>\n";
+
+type TheLanguage = Language<Filters, Tags, Blocks>;
+
+type Store = EagerStore<AnyFilter, TagNode, BlockNode>;
+
+type Page = Template<AnyFilter, TagNode, BlockNode>;
+
+/// The text of a page with so many posts.
+fn page_text(alloc: Global, posts: u32) -> Result<String, AllocError> {
+    let mut text = String::from_str(alloc, "<h1>{{ title }}</h1>\n")?;
+    for number in 0..posts {
+        let line = format!(in alloc;
+            "{{% with post posts[{number}] %}}{{% inc card %}}{{% endwith %}}\n"
+        )?;
+        text.push_str(line.as_str())?;
+    }
+    Ok(text)
+}
+
+fn post(alloc: Global, number: u32) -> Result<Value, AllocError> {
+    let mut post = Object::new(alloc);
+    let title = format!(in alloc; "Post {number}")?;
+    post.insert(String::from_str(alloc, "title")?, Value::scalar(title))?;
+    let words = Value::scalar(i64::from(number));
+    post.insert(String::from_str(alloc, "words")?, words)?;
+    Ok(Value::Object(post))
+}
+
+/// The title of a site, and its list of so many posts.
+fn globals(alloc: Global, posts: u32) -> Result<Object, AllocError> {
+    let mut list = Vec::new(alloc);
+    for number in 0..posts {
+        list.push(post(alloc, number)?)?;
+    }
+    let mut globals = Object::new(alloc);
+    let title = Value::scalar(String::from_str(alloc, "Field notes")?);
+    globals.insert(String::from_str(alloc, "title")?, title)?;
+    globals.insert(String::from_str(alloc, "posts")?, Value::Array(list))?;
+    Ok(globals)
+}
+
+fn shared_language(alloc: Global) -> Result<Rc<TheLanguage>, AllocError> {
+    Ok(Rc::new(alloc, language(alloc)?)?)
+}
+
+fn store(alloc: Global, language: &Rc<TheLanguage>) -> Result<Store, AllocError> {
+    let mut source = InMemorySource::new(alloc);
+    source.add(
+        String::from_str(alloc, "card")?,
+        String::from_str(alloc, CARD)?,
+    )?;
+    EagerCompiler::new(source).compile(alloc, language.clone()?)
+}
+
+/// How many nanoseconds the page of so many posts takes to be parsed.
+pub fn parse_time(rt: &HostRuntime, posts: u32) -> Result<u128, Problem> {
+    let alloc = rt.alloc();
+    let language = language(alloc)?;
+    let text = page_text(alloc, posts)?;
+    let mut best = u128::MAX;
+    for _ in 0..ROUNDS {
+        let start = Instant::now(rt)?;
+        let nodes = parse(alloc, text.as_str(), &language)?;
+        let time = start.elapsed(rt)?.as_nanos();
+        drop(nodes);
+        best = best.min(time);
+    }
+    Ok(best)
+}
+
+/// How many nanoseconds the parsed page of so many posts takes to be rendered.
+pub fn render_time(rt: &HostRuntime, posts: u32) -> Result<u128, Problem> {
+    let alloc = rt.alloc();
+    let language = shared_language(alloc)?;
+    let text = page_text(alloc, posts)?;
+    let page: Page = Template::new(parse(alloc, text.as_str(), &language)?);
+    let mut runtime: BuiltRuntime<(), Store> = RuntimeBuilder::new(alloc)
+        .set_globals(globals(alloc, posts)?)
+        .set_partials(store(alloc, &language)?)
+        .build();
+    let mut best = u128::MAX;
+    for _ in 0..ROUNDS {
+        let start = Instant::now(rt)?;
+        let mut sink = TextSink::new(alloc);
+        page.render_to(alloc, &mut sink, &mut runtime)?;
+        let time = start.elapsed(rt)?.as_nanos();
+        best = best.min(time);
+    }
+    Ok(best)
+}
