@@ -54,14 +54,13 @@ partials_follow known listed (folder ∷ words) stop stops next goes on_stop on_
 
 pub gathers_follow : (words : List (List ℕ)) (known : Files) (listed : Folders) (stop stops : Type 0) (next goes : List ℕ → Names → Option Texts → Type 0)
     → (stop → stops) → ((text : List ℕ) (names : Names) (partials : Option Texts) → next text names partials → goes text names partials) → Gathers words known listed stop next → Gathers words known listed stops goes
-gathers_follow (verb ∷ template ∷ globals ∷ rest) known listed stop stops next goes on_stop on_next gathers =
+gathers_follow (template ∷ globals ∷ rest) known listed stop stops next goes on_stop on_next gathers =
     text_follows (known template) stop stops _ _ on_stop
     (λ text. text_follows (known globals) stop stops _ _ on_stop
     (λ json. globals_follow (object_read json) stop stops _ _ on_stop
     (λ names. partials_follow known listed rest stop stops (λ partials. next text names partials) (λ partials. goes text names partials) on_stop (λ partials. on_next text names partials)))) gathers
 gathers_follow [] known listed stop stops next goes on_stop on_next gathers = tt
-gathers_follow (verb ∷ []) known listed stop stops next goes on_stop on_next gathers = tt
-gathers_follow (verb ∷ template ∷ []) known listed stop stops next goes on_stop on_next gathers = tt
+gathers_follow (template ∷ []) known listed stop stops next goes on_stop on_next gathers = tt
 
 pub text_anyhow : (file : Option (Option (List ℕ))) (stop : Type 0) (next : List ℕ → Type 0) → stop → ((text : List ℕ) → next text) → WithText file stop next
 text_anyhow None stop next stops goes = tt

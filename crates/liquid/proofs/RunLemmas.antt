@@ -12,11 +12,11 @@ use Rattle.bench.specs.declared.filters.AnyShape.{AnyShape}
 use Rattle.bench.specs.declared.tags.TagShape.{TagShape}
 use Rattle.bench.specs.declared.blocks.BlockShape.{BlockShape}
 use Rattle.bench.specs.ProgramLanguage.{ProgramAnswer, program_language}
-use Rattle.liquid_source.specs.Rendered.{Rendered}
+use Rattle.liquid_source.specs.Rendered.{RenderedBy}
 use Rattle.liquid_partials.specs.Compiled.{Compiled}
 use Rattle.liquid_partials.specs.Sources.{Texts}
 use Rattle.liquid_partials.proofs.StoreLemmas.{one_store}
-use Rattle.liquid.specs.Program.{ProgramFound, setting_over, IsFoundIn, Renders, Runs, Prints, built_over}
+use Rattle.liquid.specs.Program.{ProgramFound, IsFoundIn, Renders, Runs, Prints, built_over, program_action, runtime_names}
 use Rattle.liquid.specs.Status.{settled}
 
 -- a source has at most one store
@@ -27,16 +27,16 @@ one_found (Some texts) (Some found) None is also = absurd also
 one_found (Some texts) (Some found) (Some other) is also = ap Some (sym (one_store program_language texts found other is also))
 
 -- a language that means the program's, what the runtime's store finds, and the view of a built runtime
-pub Renders-over : (l : Lang AnyShape TagShape BlockShape BlockShape) (stored : Option ProgramFound) (v left : View (Unit {0})) (names : Names) (partials : Option Texts) (text : List ℕ) (before after : Sunk) (result : Result (Unit {0}) Error) (found : Option ProgramFound)
-    → ((answer : ProgramAnswer) → Reads l text answer → Rendered (setting_over stored) answer v before after left result)
-    → l ≡ program_language → stored ≡ found → v ≡ built_over names → IsFoundIn partials found
-    → Renders text names partials before after result
-Renders-over l stored v left names partials text before after result found given same_l same_stored same_v is_found =
+pub Renders-over : (sandboxed : Bool) (l : Lang AnyShape TagShape BlockShape BlockShape) (stored : Option ProgramFound) (v left : View (Unit {0})) (names : Names) (partials : Option Texts) (text : List ℕ) (before after : Sunk) (result : Result (Unit {0}) Error) (found : Option ProgramFound)
+    → ((answer : ProgramAnswer) → Reads l text answer → RenderedBy (program_action sandboxed stored names) answer v before after left result)
+    → l ≡ program_language → stored ≡ found → v ≡ built_over (runtime_names sandboxed names) → IsFoundIn partials found
+    → Renders sandboxed text names partials before after result
+Renders-over sandboxed l stored v left names partials text before after result found given same_l same_stored same_v is_found =
     record {
       left = left;
       rendered = λ answer reads other is_other.
-          subst (λ w. Rendered (setting_over other) answer w before after left result) same_v
-          (subst (λ t. Rendered (setting_over t) answer v before after left result) (same_stored ∙ one_found partials found other is_found is_other) (given answer (subst (λ m. Reads m text answer) (sym same_l) reads)));
+          subst (λ w. RenderedBy (program_action sandboxed other names) answer w before after left result) same_v
+          (subst (λ t. RenderedBy (program_action sandboxed t names) answer v before after left result) (same_stored ∙ one_found partials found other is_found is_other) (given answer (subst (λ m. Reads m text answer) (sym same_l) reads)));
     }
 
 appends_kept : (before between after : Option (List ℕ)) (more : List ℕ) → Appends before between more → Keeps between after → Appends before after more

@@ -57,7 +57,7 @@ WithPartials known listed (folder ∷ words) stop next = WithFolder known folder
 
 -- the template, then its globals, then its partials
 abbrev pub Gathers : List (List ℕ) → (List ℕ → Option (Option (List ℕ))) → (List ℕ → Option (Option (List (List ℕ)))) → Type 0 → (List ℕ → Names → Option Texts → Type 0) → Type 0
-Gathers (verb ∷ template ∷ globals ∷ rest) known listed stop next =
+Gathers (template ∷ globals ∷ rest) known listed stop next =
     WithText (known template) stop (λ text.
     WithText (known globals) stop (λ json.
     WithGlobals (object_read json) stop (λ names.

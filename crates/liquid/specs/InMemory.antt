@@ -1,18 +1,15 @@
 -- What a run of the program over files in memory shows on its output.
-use Rattle.std.specs.Prelude.{◌≡◌, ℕ, true, false, ◌⊎◌, List, [], ◌++◌, Option, None, Some, Ok, Err, map, string_bytes, option_map}
+use Rattle.std.specs.Prelude.{◌≡◌, ℕ, Bool, true, false, ◌⊎◌, List, [], ◌++◌, Option, None, Some, Ok, Err, map, string_bytes, option_map}
 use Rattle.std.specs.BTreeMap.{get_by_text}
 use Rattle.liquid_runtime.specs.Maps.{Names}
-use Rattle.liquid_runtime.specs.View.{View}
-use Rattle.liquid_tree.specs.Tree.{nodes_from}
 use Rattle.liquid_parser.specs.Reading.{Reads}
 use Rattle.liquid_template.specs.Run.{Run, written}
-use Rattle.liquid_template.specs.Rendering.{template_run}
 use Rattle.liquid_partials.specs.Sources.{Texts}
 use Rattle.bench.specs.ProgramLanguage.{ProgramAnswer, ProgramNode, program_language}
 use Rattle.liquid.specs.declared.in_memory.InMemoryFolder.{InMemoryFolder}
-use Rattle.liquid.specs.Command.{is_command}
+use Rattle.liquid.specs.Command.{is_command, is_sandboxed, paths_of}
 use Rattle.liquid.specs.Gathered.{Gathers}
-use Rattle.liquid.specs.Program.{ProgramFound, setting_over, IsFoundIn, built_over}
+use Rattle.liquid.specs.Program.{ProgramFound, IsFoundIn, built_over, program_action, runtime_names}
 
 -- the bytes of the file at a path
 abbrev pub bytes_at : InMemoryFolder → List ℕ → Option (List ℕ)
@@ -30,31 +27,30 @@ IsWhole r output = (output ≡ written r) × (r.refusal ≡ None)
 abbrev pub IsBeginning : Run (Unit {0}) → List ℕ → Type 0
 IsBeginning r output = (left : List ℕ) × (written r ≡ output ++ left)
 
--- what the program's templates of these nodes come to, where a store finds this
-abbrev pub program_run : Option ProgramFound → View (Unit {0}) → List ProgramNode → Run (Unit {0})
-program_run found v nodes = template_run (setting_over found) (nodes_from nodes) v
+-- what the program's templates of these nodes come to, in a sandbox or not, over these globals, where a store finds this
+abbrev pub program_run : Bool → Names → Option ProgramFound → List ProgramNode → Run (Unit {0})
+program_run sandboxed globals found nodes = program_action sandboxed found globals nodes (built_over (runtime_names sandboxed globals))
 
 -- status 0 shows the whole run of what the text is read as, status 1 a beginning of it; a text that is refused shows nothing
-abbrev pub ShowsAnswer : ProgramAnswer → Option ProgramFound → View (Unit {0}) → List ℕ → ℕ → Type 0
-ShowsAnswer (Ok nodes) found v output status =
-    ((status ≡ 0) × IsWhole (program_run found v nodes) output) ⊎ ((status ≡ 1) × IsBeginning (program_run found v nodes) output)
-ShowsAnswer (Err refusal) found v output status = (output ≡ []) × (status ≡ 1)
+abbrev pub ShowsAnswer : (List ProgramNode → Run (Unit {0})) → ProgramAnswer → List ℕ → ℕ → Type 0
+ShowsAnswer run_of (Ok nodes) output status = ((status ≡ 0) × IsWhole (run_of nodes) output) ⊎ ((status ≡ 1) × IsBeginning (run_of nodes) output)
+ShowsAnswer run_of (Err refusal) output status = (output ≡ []) × (status ≡ 1)
 
 -- nothing is shown: a file can't be read as what it is to be, or memory ran out
 abbrev pub ShowsNothing : List ℕ → ℕ → Type 0
 ShowsNothing output status = (output ≡ []) × ((status ≡ 3) ⊎ (status ≡ 1))
 
--- the template's text over a built runtime of the globals, with a store of the partials
-abbrev pub ShowsText : List ℕ → Names → Option Texts → List ℕ → ℕ → Type 0
-ShowsText text globals partials output status =
-    (answer : ProgramAnswer) → Reads program_language text answer → (found : Option ProgramFound) → IsFoundIn partials found → ShowsAnswer answer found (built_over globals) output status
+-- the template's text over the globals, with a store of the partials
+abbrev pub ShowsText : Bool → List ℕ → Names → Option Texts → List ℕ → ℕ → Type 0
+ShowsText sandboxed text globals partials output status =
+    (answer : ProgramAnswer) → Reads program_language text answer → (found : Option ProgramFound) → IsFoundIn partials found → ShowsAnswer (program_run sandboxed globals found) answer output status
 
--- what a command shows, by the files that it names
-abbrev pub ShowsCommand : List (List ℕ) → (List ℕ → Option (List ℕ)) → (List ℕ → Option (List (List ℕ))) → List ℕ → ℕ → Type 0
-ShowsCommand words files folders output status =
-    Gathers words (λ path. Some (files path)) (λ path. Some (folders path)) (ShowsNothing output status) (λ text globals partials. ShowsText text globals partials output status)
+-- what a command shows, by the files at its paths
+abbrev pub ShowsCommand : Bool → List (List ℕ) → (List ℕ → Option (List ℕ)) → (List ℕ → Option (List (List ℕ))) → List ℕ → ℕ → Type 0
+ShowsCommand sandboxed paths files folders output status =
+    Gathers paths (λ path. Some (files path)) (λ path. Some (folders path)) (ShowsNothing output status) (λ text globals partials. ShowsText sandboxed text globals partials output status)
 
 -- what the words show, by the files; words that are no command show nothing
 abbrev pub Shows : List (List ℕ) → (List ℕ → Option (List ℕ)) → (List ℕ → Option (List (List ℕ))) → List ℕ → ℕ → Type 0
 Shows words files folders output status =
-    (is_command words ≡ true → ShowsCommand words files folders output status) × (is_command words ≡ false → (output ≡ []) × (status ≡ 2))
+    (is_command words ≡ true → ShowsCommand (is_sandboxed words) (paths_of words) files folders output status) × (is_command words ≡ false → (output ≡ []) × (status ≡ 2))

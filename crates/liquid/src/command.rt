@@ -1,10 +1,29 @@
-ghost use Rattle.std.specs.Prelude.{◌≡◌, ◌∷◌, IfSome, is_some, map, option_map, string_bytes};
-ghost use Rattle.liquid.specs.Command.{command_words, first_word, is_command, is_path, is_verb};
+ghost use Rattle.std.specs.Prelude.{◌≡◌, IfSome, is_some, map, option_map, string_bytes};
+ghost use Rattle.liquid.specs.Command.{
+  are_paths,
+  begin_with_option,
+  behind_option,
+  first_word,
+  is_command,
+  is_option,
+  is_path,
+  is_sandboxed,
+  is_verb,
+  path_words,
+  paths_of,
+};
 
-/// `render TEMPLATE GLOBALS.json [DIR]`: the paths of a template, of its globals and of the folder of
-/// its partials, if there is one.
+/// `render [--sandboxed] TEMPLATE GLOBALS.json [DIR]`: whether to render in a sandbox, and the paths of
+/// a template, of its globals and of the folder of its partials, if there is one.
 #[derive(Clone, Copy)]
 pub struct Command<'w> {
+    pub sandboxed: bool,
+    pub paths: Paths<'w>,
+}
+
+/// The paths that a command names.
+#[derive(Clone, Copy)]
+pub struct Paths<'w> {
     pub template: &'w str,
     pub globals: &'w str,
     pub folder: Option<&'w str>,
@@ -16,16 +35,16 @@ fn is_verb(word: &str) -> bool
     word == "render"
 }
 
+fn is_option(word: &str) -> bool
+    ensures { result ≡ is_option word.now }
+{
+    word == "--sandboxed"
+}
+
 fn is_path(word: &str) -> bool
     ensures { result ≡ is_path word.now }
 {
     !word.starts_with("--")
-}
-
-fn is_command(verb: &str, template: &str, globals: &str, rest: &[String]) -> bool
-    ensures { result ≡ is_command (verb.now ∷ template.now ∷ globals.now ∷ map string_bytes rest.now) }
-{
-    is_verb(verb) && is_path(template) && rest.len() < 2
 }
 
 fn first_of(words: &[String]) -> Option<&str>
@@ -37,18 +56,17 @@ fn first_of(words: &[String]) -> Option<&str>
     }
 }
 
-impl<'w> Command<'w> {
-    /// The command that the words behind the program's name give; none where they are no command.
-    pub fn from_words(words: &'w [String]) -> Option<Command<'w>>
-        ensures test { is_some result ≡ is_command (map string_bytes words.now) }
-        ensures words { IfSome result (λ c. map string_bytes words.now
-            ≡ command_words c.template.now c.globals.now (option_map (λ f. f.now) c.folder)) }
+impl<'w> Paths<'w> {
+    /// The paths that the words are; none where they are not.
+    fn from_words(words: &'w [String]) -> Option<Paths<'w>>
+        ensures test { is_some result ≡ are_paths (map string_bytes words.now) }
+        ensures words { IfSome result (λ p. map string_bytes words.now
+            ≡ path_words p.template.now p.globals.now (option_map (λ f. f.now) p.folder)) }
     {
-        let (verb, rest) = words.split_first()?;
-        let (template, rest) = rest.split_first()?;
+        let (template, rest) = words.split_first()?;
         let (globals, rest) = rest.split_first()?;
-        if is_command(verb.as_str(), template.as_str(), globals.as_str(), rest) {
-            Some(Command {
+        if is_path(template.as_str()) && rest.len() < 2 {
+            Some(Paths {
                 template: template.as_str(),
                 globals: globals.as_str(),
                 folder: first_of(rest),
@@ -56,5 +74,38 @@ impl<'w> Command<'w> {
         } else {
             None
         }
+    }
+}
+
+/// Whether the words begin with the option, and the words behind it.
+fn split_option(words: &[String]) -> (bool, &[String])
+    ensures option { result.0 ≡ begin_with_option (map string_bytes words.now) }
+    ensures behind { map string_bytes result.1.now ≡ behind_option (map string_bytes words.now) }
+{
+    match words.split_first() {
+        Some((word, rest)) => if is_option(word.as_str()) {
+            (true, rest)
+        } else {
+            (false, words)
+        },
+        None => (false, words),
+    }
+}
+
+impl<'w> Command<'w> {
+    /// The command that the words behind the program's name give; none where they are no command.
+    pub fn from_words(words: &'w [String]) -> Option<Command<'w>>
+        ensures test { is_some result ≡ is_command (map string_bytes words.now) }
+        ensures sandboxed { IfSome result (λ c. c.sandboxed ≡ is_sandboxed (map string_bytes words.now)) }
+        ensures paths { IfSome result (λ c. paths_of (map string_bytes words.now)
+            ≡ path_words c.paths.template.now c.paths.globals.now (option_map (λ f. f.now) c.paths.folder)) }
+    {
+        let (verb, rest) = words.split_first()?;
+        if !is_verb(verb.as_str()) {
+            return None;
+        }
+        let (sandboxed, rest) = split_option(rest);
+        let paths = Paths::from_words(rest)?;
+        Some(Command { sandboxed, paths })
     }
 }

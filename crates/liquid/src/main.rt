@@ -7,6 +7,7 @@ pub mod folder;
 pub mod gather;
 pub mod in_memory;
 pub mod machine;
+pub mod rendering;
 pub mod run;
 #[cfg(test)]
 mod tests;

@@ -1,39 +1,23 @@
-ghost use Rattle.std.specs.Prelude.{◌≡◌, ◌≢◌, ◌↔◌, false, is_ok, map, option_map, string_bytes, IfOk};
-ghost use Rattle.liquid_runtime.specs.Frames.{built_view};
-ghost use Rattle.liquid_runtime.specs.Maps.{names_of};
+ghost use Rattle.std.specs.Prelude.{◌≡◌, ◌≢◌, ◌↔◌, false, is_ok, map, option_map, string_bytes};
 ghost use Rattle.liquid_template.specs.Grows.{Grows};
 ghost use Rattle.liquid_template.specs.Sunk.{sunk};
-ghost use Rattle.bench.specs.ProgramLanguage.{meaning_of, program_language};
-ghost use Rattle.liquid.specs.Command.{command_words, is_command};
-ghost use Rattle.liquid.specs.Program.{Prints, Renders, Executes, IsFoundIn, Runs};
+ghost use Rattle.liquid.specs.Command.{is_command, path_words};
+ghost use Rattle.liquid.specs.Program.{Prints, Executes, Runs};
 ghost use Rattle.liquid.specs.Status.{exit_status, settled};
 
 use crate::command::Command;
 use crate::fault::Fault;
 use crate::folder::Folder;
 use crate::gather::{globals_of, partials_of, text_of};
-use bench::blocks::BlockNode;
-use bench::filters::AnyFilter;
-use bench::languages::language;
-use bench::tags::TagNode;
-use bench::{Blocks, Filters, Tags};
-use liquid_core::parser::Language;
-use liquid_core::partials::{InMemorySource, OnDemandCompiler, OnDemandStore, PartialCompiler};
-use liquid_core::runtime::{BuiltRuntime, Runtime, RuntimeBuilder};
-use liquid_core::{Error, Object, PartialStore, Sink, WriterSink, render_source};
-use std::alloc::{AllocError, Global};
+use crate::rendering::render_over;
+use liquid_core::{Error, Sink, WriterSink};
+use std::alloc::Global;
 use std::io::{self, Write};
-use std::rc::Rc;
 
-/// The program's language.
-type ProgramLanguage = Language<Filters, Tags, Blocks>;
-
-/// The program's store of partials.
-type Store = OnDemandStore<InMemorySource, Filters, Tags, Blocks>;
-
-/// Runs the command that the words behind the program's name give: `render TEMPLATE GLOBALS.json [DIR]`
-/// writes the template at that path to `out`, over the globals that the JSON object gives. Each file
-/// directly in the folder DIR is a partial under its file name.
+/// Runs the command that the words behind the program's name give: `render [--sandboxed] TEMPLATE
+/// GLOBALS.json [DIR]` writes the template at that path to `out`, over the globals that the JSON object
+/// gives. Each file directly in the folder DIR is a partial under its file name. With `--sandboxed` the
+/// object is the data of a sandbox without a name, over a runtime that has no globals.
 ///
 /// It answers the exit status: 0 where the template was rendered; 1 where parsing or rendering was
 /// refused, with the error's text on `err`; 2 where the words are no command, with the usage on
@@ -143,96 +127,19 @@ fn execute<'w, F: Folder, K: Sink>(
     sink: &mut K,
 ) -> Result<(), Fault<'w>>
     ensures command { exit_status result ≢ 2 }
-    ensures executes { Executes (command_words command.entry.template.now command.entry.globals.now (option_map (λ f. f.now) command.entry.folder)) (F.known files.old) (F.listed files.old)
+    ensures executes { Executes command.entry.sandboxed (path_words command.entry.paths.template.now command.entry.paths.globals.now (option_map (λ f. f.now) command.entry.paths.folder)) (F.known files.old) (F.listed files.old)
         (sunk (K.taken sink.old) (K.failures sink.old) (K.behind sink.old) (K.lent sink.old)) (sunk (K.taken sink.new) (K.failures sink.new) (K.behind sink.new) (K.lent sink.new)) (exit_status result) }
     ensures behind { Grows (K.taken sink.old) (K.behind sink.old) (K.taken sink.new) (K.behind sink.new) }
     ensures lent { K.lent sink.new ≡ K.lent sink.old }
 {
-    let template = text_of(alloc, files, command.template)?;
-    let json = text_of(alloc, files, command.globals)?;
-    let globals = globals_of(alloc, json.as_str(), command.globals)?;
+    let Command { sandboxed, paths } = command;
+    let template = text_of(alloc, files, paths.template)?;
+    let json = text_of(alloc, files, paths.globals)?;
+    let globals = globals_of(alloc, json.as_str(), paths.globals)?;
     drop(json);
-    let partials = partials_of(alloc, files, command.folder)?;
-    match render_over(alloc, template.as_str(), globals, partials, sink) {
+    let partials = partials_of(alloc, files, paths.folder)?;
+    match render_over(alloc, sandboxed, template.as_str(), globals, partials, sink) {
         Ok(()) => Ok(()),
         Err(error) => Err(Fault::Refused(error)),
-    }
-}
-
-/// Writes what the text comes to over these globals and these partials.
-#[tactic(auto, using(crate::proofs::UntouchedSinks::untouched))]
-fn render_over<K: Sink>(
-    alloc: Global,
-    text: &str,
-    globals: Object,
-    partials: Option<InMemorySource>,
-    sink: &mut K,
-) -> Result<(), Error>
-    ensures renders { Renders text.now (names_of globals) partials
-        (sunk (K.taken sink.old) (K.failures sink.old) (K.behind sink.old) (K.lent sink.old)) (sunk (K.taken sink.new) (K.failures sink.new) (K.behind sink.new) (K.lent sink.new)) result }
-    ensures behind { Grows (K.taken sink.old) (K.behind sink.old) (K.taken sink.new) (K.behind sink.new) }
-    ensures lent { K.lent sink.new ≡ K.lent sink.old }
-{
-    match shared_language(alloc) {
-        Ok(language) => render_in_language(alloc, text, &language, globals, partials, sink),
-        Err(_) => Err(Error::Memory),
-    }
-}
-
-fn shared_language(alloc: Global) -> Result<Rc<ProgramLanguage>, AllocError>
-    ensures { IfOk result (λ language. meaning_of language.value ≡ program_language) }
-{
-    Ok(Rc::new(alloc, language(alloc)?)?)
-}
-
-/// Writes what the text comes to in the program's language.
-#[tactic(auto, using(crate::proofs::UntouchedSinks::untouched))]
-fn render_in_language<K: Sink>(
-    alloc: Global,
-    text: &str,
-    language: &Rc<ProgramLanguage>,
-    globals: Object,
-    partials: Option<InMemorySource>,
-    sink: &mut K,
-) -> Result<(), Error>
-    requires { meaning_of language.now.value ≡ program_language }
-    ensures renders { Renders text.now (names_of globals) partials
-        (sunk (K.taken sink.old) (K.failures sink.old) (K.behind sink.old) (K.lent sink.old)) (sunk (K.taken sink.new) (K.failures sink.new) (K.behind sink.new) (K.lent sink.new)) result }
-    ensures behind { Grows (K.taken sink.old) (K.behind sink.old) (K.taken sink.new) (K.behind sink.new) }
-    ensures lent { K.lent sink.new ≡ K.lent sink.old }
-{
-    match store_of(alloc, language, partials) {
-        Ok(store) => {
-            let mut runtime = runtime_of(alloc, globals, store);
-            render_source(alloc, text, language, &mut runtime, sink)
-        }
-        Err(_) => Err(Error::Memory),
-    }
-}
-
-/// A store of the partials, if there are any, in this language.
-fn store_of(
-    alloc: Global,
-    language: &Rc<ProgramLanguage>,
-    partials: Option<InMemorySource>,
-) -> Result<Option<Store>, AllocError>
-    requires { meaning_of language.now.value ≡ program_language }
-    ensures { IfOk result (λ store. IsFoundIn partials (option_map ⟦<Store as PartialStore<AnyFilter, TagNode, BlockNode>>⟧.finds store)) }
-{
-    match partials {
-        Some(source) => Ok(Some(OnDemandCompiler::new(source).compile(alloc, language.clone()?)?)),
-        None => Ok(None),
-    }
-}
-
-/// The runtime over these globals and this store, if there is one.
-fn runtime_of(alloc: Global, globals: Object, store: Option<Store>) -> BuiltRuntime<(), Store>
-    ensures view { ⟦<BuiltRuntime<(), Store> as Runtime>⟧.view result ≡ built_view tt 32 (names_of globals) }
-    ensures store { ⟦<BuiltRuntime<(), Store> as Runtime>⟧.store result ≡ store }
-{
-    let builder = RuntimeBuilder::new(alloc).set_globals(globals);
-    match store {
-        Some(store) => builder.set_partials(store).build(),
-        None => builder.build(),
     }
 }

@@ -1,6 +1,7 @@
 pub mod Handed
 pub mod Lang
 pub mod NoPlugins
+pub mod NoPluginLaws
 pub mod Reading
 pub mod Plugins
 pub mod Views

@@ -1,5 +1,9 @@
-//! Plug-ins of which there are none.
-ghost use Rattle.liquid_parser.specs.NoPlugins.{nothing};
+//! The plug-in that does nothing.
+ghost use Rattle.std.specs.Prelude.{codes, Ok};
+ghost use Rattle.liquid_plugins.specs.Turns.{end_turn};
+ghost use Rattle.liquid_parser.specs.NoPluginLaws.{nothing_hides};
+ghost use Rattle.liquid_parser.specs.NoPlugins.{no_block, nothing_told};
+ghost use Rattle.liquid_value.specs.Tree.{nil};
 
 use crate::block::{BlockReflection, ParseBlock};
 use crate::body::BlockBody;
@@ -14,49 +18,51 @@ use liquid_runtime::{Fresh, Runtime};
 use liquid_value::{Value, ValueCow};
 use std::alloc::Global;
 
-/// The type of the filters, the tags or the blocks of a language that has none. No value of it is
-/// made.
-#[derive(Drop)]
-pub enum NoPlugin {}
+/// The type of the filters, the tags or the blocks of a language that has none.
+///
+/// It is a plug-in itself, which does nothing: a filter that takes any arguments and gives nil, and a
+/// tag and a block that take any tokens and write nothing.
+#[derive(Debug, Clone, Copy, PartialEq, Eq)]
+pub struct NoPlugin;
 
 impl Meant for NoPlugin {
-    type Shape = NoPlugin;
+    type Shape = ();
 
-    ghost shape = { λ x. x };
+    ghost shape = { λ _. tt };
 }
 
 impl FilterReflection for NoPlugin {
     fn name(&self) -> &str {
-        match *self {}
+        "nothing"
     }
 
     fn description(&self) -> &str {
-        match *self {}
+        "Gives nil."
     }
 
     fn positional_parameters(&self) -> &'static [ParameterReflection] {
-        match *self {}
+        &[]
     }
 
     fn keyword_parameters(&self) -> &'static [ParameterReflection] {
-        match *self {}
+        &[]
     }
 }
 
 impl ParseFilter for NoPlugin {
     type Filter = NoPlugin;
 
-    ghost makes = { λ x _. nothing x };
+    ghost makes = { λ _ _. Ok tt };
 
     fn parse(&self, _alloc: Global, _arguments: FilterArguments<'_>) -> Result<NoPlugin, Error> {
-        match *self {}
+        Ok(NoPlugin)
     }
 }
 
 impl Filter for NoPlugin {
-    ghost answers = { λ x _ _. nothing x };
+    ghost answers = { λ _ _ _. Ok nil };
 
-    ghost shown = { λ x. nothing x };
+    ghost shown = { λ _. codes "nothing" };
 
     fn evaluate<'s, R: Runtime>(
         &'s self,
@@ -64,28 +70,28 @@ impl Filter for NoPlugin {
         _input: &ValueCow<'_>,
         _runtime: &'s R,
     ) -> Result<Value, Error> {
-        match *self {}
+        Ok(Value::Nil)
     }
 
     fn label(&self) -> &str {
-        match *self {}
+        "nothing"
     }
 }
 
 impl TagReflection for NoPlugin {
     fn tag(&self) -> &str {
-        match *self {}
+        "nothing"
     }
 
     fn description(&self) -> &str {
-        match *self {}
+        "Writes nothing."
     }
 }
 
 impl<F: ParseFilter> ParseTag<F> for NoPlugin {
     type Node = NoPlugin;
 
-    ghost gives = { λ x _ _. nothing x };
+    ghost gives = { λ _ _ _. Ok tt };
 
     fn parse(
         &self,
@@ -93,25 +99,25 @@ impl<F: ParseFilter> ParseTag<F> for NoPlugin {
         _tokens: TagTokenIter<'_>,
         _filters: &PluginRegistry<F>,
     ) -> Result<NoPlugin, Error> {
-        match *self {}
+        Ok(NoPlugin)
     }
 }
 
 impl BlockReflection for NoPlugin {
-    ghost start_name = { λ x. nothing x };
+    ghost start_name = { λ _. codes "nothing" };
 
-    ghost end_name = { λ x. nothing x };
+    ghost end_name = { λ _. codes "endnothing" };
 
     fn start_tag(&self) -> &str {
-        match *self {}
+        "nothing"
     }
 
     fn end_tag(&self) -> &str {
-        match *self {}
+        "endnothing"
     }
 
     fn description(&self) -> &str {
-        match *self {}
+        "Writes nothing, not even its body."
     }
 }
 
@@ -120,18 +126,18 @@ impl<F: ParseFilter> ParseBlock<F> for NoPlugin {
 
     type Node = NoPlugin;
 
-    ghost meaning = { λ x. nothing x };
+    ghost meaning = { λ _. no_block };
 
     fn dividers(&self) -> &[&str] {
-        match *self {}
+        &[]
     }
 
     fn escapes(&self) -> bool {
-        match *self {}
+        false
     }
 
     fn nests(&self) -> bool {
-        match *self {}
+        false
     }
 
     fn begin(
@@ -140,7 +146,7 @@ impl<F: ParseFilter> ParseBlock<F> for NoPlugin {
         _tokens: TagTokenIter<'_>,
         _filters: &PluginRegistry<F>,
     ) -> Result<NoPlugin, Error> {
-        match *self {}
+        Ok(NoPlugin)
     }
 
     fn divide(
@@ -150,7 +156,7 @@ impl<F: ParseFilter> ParseBlock<F> for NoPlugin {
         _name: &str,
         _tokens: TagTokenIter<'_>,
     ) -> Result<(), Error> {
-        match *self {}
+        Ok(())
     }
 
     fn finish(
@@ -159,29 +165,30 @@ impl<F: ParseFilter> ParseBlock<F> for NoPlugin {
         _plan: NoPlugin,
         _body: BlockBody<'_>,
     ) -> Result<NoPlugin, Error> {
-        match *self {}
+        Ok(NoPlugin)
     }
 }
 
+/// A node takes no turn.
 impl<V: Fresh> Renderable<V> for NoPlugin {
     type Progress = NoPlugin;
 
-    ghost starts = { λ x _. nothing x };
+    ghost starts = { λ _. nothing_told tt tt };
 
-    ghost count = { λ x. nothing x };
+    ghost count = { λ _. 0 };
 
-    ghost tells = { λ x _ _. nothing x };
+    ghost tells = { λ _ progress. nothing_told end_turn progress };
 
     fn start<R: Runtime<Register = V>>(
         &self,
         _alloc: Global,
         _runtime: &mut R,
     ) -> Result<NoPlugin, Error> {
-        match *self {}
+        Ok(NoPlugin)
     }
 
-    fn turns(progress: &NoPlugin) -> u64 {
-        match *progress {}
+    fn turns(_progress: &NoPlugin) -> u64 {
+        0
     }
 
     fn turn<R: Runtime<Register = V>>(
@@ -190,12 +197,12 @@ impl<V: Fresh> Renderable<V> for NoPlugin {
         _progress: &mut NoPlugin,
         _runtime: &mut R,
     ) -> Result<Turn, Error> {
-        match *self {}
+        Ok(Turn::End)
     }
 }
 
 impl<V: Fresh> Discreet<V> for NoPlugin {
-    ghost start_hides = { λ x. nothing x };
+    ghost start_hides = { λ _. nothing_hides tt tt };
 
-    ghost turn_hides = { λ x _. nothing x };
+    ghost turn_hides = { λ _ progress. nothing_hides end_turn progress };
 }

@@ -8,6 +8,7 @@ use Rattle.liquid_tree.specs.Tree.{NodeShape, nodes_from}
 use Rattle.liquid_template.specs.Nodes.{Setting}
 use Rattle.liquid_template.specs.Outcome.{Renders}
 use Rattle.liquid_template.specs.Rendering.{template_run}
+use Rattle.liquid_template.specs.Run.{Action}
 use Rattle.liquid_template.specs.Sunk.{Sunk}
 
 -- the call is refused in this way; want of memory says nothing of the reason
@@ -15,8 +16,12 @@ abbrev pub Refuses : Refusal → Result (Unit {0}) Error → Type 0
 Refuses refusal (Ok _) = ⊥
 Refuses refusal (Err error) = IfSome (told error) (λ reason. reason ≡ refusal)
 
--- a text that is read as a tree is rendered as the tree's run; one that is refused is refused alike, with nothing written
--- and nothing changed
+-- a text that is read as nodes comes to what they come to; one that is refused is refused alike, with nothing written and
+-- nothing changed
+abbrev pub RenderedBy : {Reg F T B : Type 0} → (List (NodeShape F T B) → Action Reg) → Result (List (NodeShape F T B)) Refusal → View Reg → Sunk → Sunk → View Reg → Result (Unit {0}) Error → Type 0
+RenderedBy action (Ok nodes) v before after left result = Renders (action nodes v) v before after left result
+RenderedBy action (Err refusal) v before after left result = (after ≡ before) × ((left ≡ v) × Refuses refusal result)
+
+-- nodes come to their template's run
 abbrev pub Rendered : {Reg F T P B Q : Type 0} → Setting Reg F T P B Q → Result (List (NodeShape F T B)) Refusal → View Reg → Sunk → Sunk → View Reg → Result (Unit {0}) Error → Type 0
-Rendered s (Ok nodes) v before after left result = Renders (template_run s (nodes_from nodes) v) v before after left result
-Rendered s (Err refusal) v before after left result = (after ≡ before) × ((left ≡ v) × Refuses refusal result)
+Rendered s = RenderedBy (λ nodes. template_run s (nodes_from nodes))

@@ -1,7 +1,7 @@
 use Rattle.std.proofs.Common.{rules}
 use Rattle.liquid_error.specs.declared.error.Error.{the_lemmas}
 use Rattle.liquid.proofs.MemoryLemmas.{nothing_rendered}
-use Rattle.liquid.proofs.run.render_over.Goals as goal
+use Rattle.liquid.proofs.rendering.render_over.Goals as goal
 
 pub returns-in-Err-clause-renders : goal.returns-in-Err-clause-renders
-returns-in-Err-clause-renders g c = nothing_rendered c.args.text.now _ _ _ _ (search (rules, the_lemmas))
+returns-in-Err-clause-renders g c = nothing_rendered c.args.sandboxed c.args.text.now _ _ _ _ (search (rules, the_lemmas))

@@ -1,0 +1,84 @@
+//! The words of the command line.
+use super::{USAGE, ran};
+use std::test::Fail;
+
+/// The words, the status, and what both streams say.
+type Command = (&'static [&'static str], u8, &'static str, &'static str);
+
+const COMMANDS: [Command; 24] = [
+    (&["render", "t", "g.json"], 0, "x", ""),
+    (&["render", "u", "g.json"], 0, "another file", ""),
+    (&[], 2, "", USAGE),
+    (&["render"], 2, "", USAGE),
+    (&["render", "t"], 2, "", USAGE),
+    (&["render", "t", "g.json", "d", "e"], 2, "", USAGE),
+    (
+        &["render", "t", "g.json", "d"],
+        3,
+        "",
+        "liquid: cannot read d\n",
+    ),
+    (&["print", "t", "g.json"], 2, "", USAGE),
+    (&["render", "--t", "g.json"], 2, "", USAGE),
+    (&["render", "--", "g.json"], 2, "", USAGE),
+    (
+        &["render", "-t", "g.json"],
+        3,
+        "",
+        "liquid: cannot read -t\n",
+    ),
+    (
+        &["render", "there/is none", "none.json"],
+        3,
+        "",
+        "liquid: cannot read there/is none\n",
+    ),
+    (&["render", "", "g.json"], 3, "", "liquid: cannot read \n"),
+    (
+        &["render", "t", "none.json"],
+        3,
+        "",
+        "liquid: cannot read none.json\n",
+    ),
+    (
+        &["render", "t", "--g.json"],
+        3,
+        "",
+        "liquid: cannot read --g.json\n",
+    ),
+    (&["render", "--sandboxed", "t", "g.json"], 0, "x", ""),
+    (&["--sandboxed", "render", "t", "g.json"], 2, "", USAGE),
+    (&["render", "--sandboxed"], 2, "", USAGE),
+    (&["render", "--sandboxed", "t"], 2, "", USAGE),
+    (
+        &["render", "--sandboxed", "--sandboxed", "t", "g.json"],
+        2,
+        "",
+        USAGE,
+    ),
+    (&["render", "--sandboxed", "--t", "g.json"], 2, "", USAGE),
+    (
+        &["render", "--sandboxed", "t", "g.json", "d", "e"],
+        2,
+        "",
+        USAGE,
+    ),
+    (&["render", "--sandboxed ", "t", "g.json"], 2, "", USAGE),
+    (
+        &["render", "t", "--sandboxed", "g.json"],
+        3,
+        "",
+        "liquid: cannot read --sandboxed\n",
+    ),
+];
+
+#[test]
+fn words_are_a_command(rt: HostRuntime) -> Result<(), Fail> {
+    for (words, status, out, err) in &COMMANDS {
+        let ran = ran(rt.alloc(), b"x", b"{}", words)?;
+        assert_eq!(rt; ran.status, *status, "status of {words:?}");
+        assert_eq!(rt; ran.out.as_slice(), out.as_bytes());
+        assert_eq!(rt; ran.err.as_slice(), err.as_bytes());
+    }
+    Ok(())
+}
