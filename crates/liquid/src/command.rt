@@ -1,4 +1,4 @@
-ghost use Rattle.std.specs.Prelude.{◌≡◌, IfSome, is_some, map, option_map, string_bytes};
+ghost use Rattle.std.specs.Prelude.{◌≡◌, ◌∷◌, IfSome, is_some, map, option_map, string_bytes};
 ghost use Rattle.liquid.specs.Command.{
   are_paths,
   begin_with_option,
@@ -47,6 +47,12 @@ fn is_path(word: &str) -> bool
     !word.starts_with("--")
 }
 
+fn are_paths(template: &str, globals: &str, rest: &[String]) -> bool
+    ensures { result ≡ are_paths (template.now ∷ globals.now ∷ map string_bytes rest.now) }
+{
+    is_path(template) && rest.len() < 2
+}
+
 fn first_of(words: &[String]) -> Option<&str>
     ensures { option_map (λ word. word.now) result ≡ first_word (map string_bytes words.now) }
 {
@@ -65,7 +71,7 @@ impl<'w> Paths<'w> {
     {
         let (template, rest) = words.split_first()?;
         let (globals, rest) = rest.split_first()?;
-        if is_path(template.as_str()) && rest.len() < 2 {
+        if are_paths(template.as_str(), globals.as_str(), rest) {
             Some(Paths {
                 template: template.as_str(),
                 globals: globals.as_str(),

@@ -1,5 +1,6 @@
 //! Rendering a text as the program does.
 ghost use Rattle.std.specs.Prelude.{◌≡◌, IfOk, None, option_map};
+ghost use Rattle.std.specs.FinMap.{empty};
 ghost use Rattle.liquid_runtime.specs.Frames.{built_view};
 ghost use Rattle.liquid_runtime.specs.Maps.{names_of};
 ghost use Rattle.liquid_parser.specs.Reading.{Reads};
@@ -77,7 +78,7 @@ fn render_in_language<K: Sink>(
 {
     match store_of(alloc, language, partials) {
         Ok(store) => if sandboxed {
-            let mut runtime = runtime_of(alloc, Object::new(alloc), store);
+            let mut runtime = runtime_of(alloc, no_names(alloc), store);
             render_sandboxed_source(alloc, text, language, &mut runtime, globals, sink)
         } else {
             let mut runtime = runtime_of(alloc, globals, store);
@@ -125,6 +126,13 @@ fn store_of(
         Some(source) => Ok(Some(OnDemandCompiler::new(source).compile(alloc, language.clone()?)?)),
         None => Ok(None),
     }
+}
+
+/// An object without names.
+fn no_names(alloc: Global) -> Object
+    ensures { names_of result ≡ empty }
+{
+    Object::new(alloc)
 }
 
 /// The runtime over these globals and this store, if there is one.
