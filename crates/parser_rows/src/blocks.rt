@@ -41,51 +41,53 @@ fn parsed(
     rendered(alloc, nodes)
 }
 
+/// A body, and what comes of it.
+const BODIES: [(&str, &str); 14] = [
+    ("{% end %}a", ""),
+    ("a{{ 5 }}{% box %}b{% endbox %}c{% end %}d", "a5[b]c"),
+    ("{% swap %}a{% mid %}b{% endswap %}{% end %}", "ba"),
+    ("{% raw %}{{ 4.5 }}{% endraw %} {%- end %}", "{{ 4.5 }}"),
+    (
+        "{% box %}{% raw %}{% endbox %}{% endraw %}{% endbox %}{% end %}",
+        "[{% endbox %}]",
+    ),
+    ("{% set x 1 %}{{ x | append: 2 }}{% end %}", "12"),
+    (
+        "{% box %}{% end %}{% endbox %}{% end %}",
+        "liquid: Unknown tag. (line 1, column 13)",
+    ),
+    (
+        "{% mid %}{% end %}",
+        "liquid: Unknown tag. (line 1, column 4)",
+    ),
+    (
+        "a{{ ! }}{% end %}",
+        "liquid: Invalid liquid (line 1, column 2)",
+    ),
+    (
+        "{{ a | nope }}{% end %}",
+        "liquid: Unknown filter (line 1, column 8)",
+    ),
+    (
+        "{% box 1 %}a{% endbox %}{% end %}",
+        "liquid: Unexpected token (line 1, column 8)",
+    ),
+    (
+        "{% box %}a",
+        "liquid: Unclosed block. {% endbox %} tag expected. (line 1, column 11)",
+    ),
+    (
+        "{% box %}a{% endbox %}\n",
+        "liquid: Unclosed block. {% end %} tag expected. (line 2, column 1)",
+    ),
+    ("{% end 1 %}", "liquid: Unexpected token (line 1, column 8)"),
+];
+
 #[test]
 fn bodies_are_parsed_up_to_their_ends(rt: HostRuntime) -> Result<(), Fail> {
     let alloc = rt.alloc();
     let language = language(alloc)?.clone()?;
-    let rows = [
-        ("{% end %}a", ""),
-        ("a{{ 5 }}{% box %}b{% endbox %}c{% end %}d", "a5[b]c"),
-        ("{% swap %}a{% mid %}b{% endswap %}{% end %}", "ba"),
-        ("{% raw %}{{ 4.5 }}{% endraw %} {%- end %}", "{{ 4.5 }}"),
-        (
-            "{% box %}{% raw %}{% endbox %}{% endraw %}{% endbox %}{% end %}",
-            "[{% endbox %}]",
-        ),
-        ("{% set x 1 %}{{ x | append: 2 }}{% end %}", "12"),
-        (
-            "{% box %}{% end %}{% endbox %}{% end %}",
-            "liquid: Unknown tag. (line 1, column 13)",
-        ),
-        (
-            "{% mid %}{% end %}",
-            "liquid: Unknown tag. (line 1, column 4)",
-        ),
-        (
-            "a{{ ! }}{% end %}",
-            "liquid: Invalid liquid (line 1, column 2)",
-        ),
-        (
-            "{{ a | nope }}{% end %}",
-            "liquid: Unknown filter (line 1, column 8)",
-        ),
-        (
-            "{% box 1 %}a{% endbox %}{% end %}",
-            "liquid: Unexpected token (line 1, column 8)",
-        ),
-        (
-            "{% box %}a",
-            "liquid: Unclosed block. {% endbox %} tag expected. (line 1, column 11)",
-        ),
-        (
-            "{% box %}a{% endbox %}\n",
-            "liquid: Unclosed block. {% end %} tag expected. (line 2, column 1)",
-        ),
-        ("{% end 1 %}", "liquid: Unexpected token (line 1, column 8)"),
-    ];
-    for (body, comes_to) in rows {
+    for (body, comes_to) in BODIES {
         assert_eq!(rt; parsed(alloc, body, &language)?.as_str(), comes_to);
     }
     Ok(())

@@ -105,61 +105,64 @@ fn escaped(
     Ok((text, block.is_closed()))
 }
 
+/// A body, how many elements are passed before, whether starts nest, the escaped text or the refusal, and
+/// whether the block is closed then.
+const ESCAPED: [(&str, usize, bool, &str, bool); 13] = [
+    ("{% endraw %}a", 0, false, "", true),
+    ("{{ a }}{{% endraw %}", 0, false, "{{ a }}{", true),
+    (" x {%- endraw -%} y", 0, false, " x", true),
+    (
+        "{{ 4.5 }}{% raw 1.5 %}{% endraw %}",
+        0,
+        false,
+        "{{ 4.5 }}{% raw 1.5 %}",
+        true,
+    ),
+    (
+        "{% endraw 1 %}{% endraw %}",
+        0,
+        false,
+        "{% endraw 1 %}",
+        true,
+    ),
+    (
+        "{% raw %}a{% endraw %}b{% endraw %}",
+        0,
+        false,
+        "{% raw %}a",
+        true,
+    ),
+    (
+        "{% raw %}a{% endraw %}b{% endraw %}",
+        0,
+        true,
+        "{% raw %}a{% endraw %}b",
+        true,
+    ),
+    ("a{{ b }} c {% endraw %}", 1, false, "{{ b }} c ", true),
+    ("a{{ b }} c {% endraw %}", 2, true, " c ", true),
+    ("a{{ 4.5 }}c{% endraw %}", 2, false, "c", true),
+    ("{% endraw %}", 1, false, "closed before", true),
+    (
+        "{% raw %}a\n{% endraw %}b",
+        0,
+        true,
+        "liquid: Unclosed block. {% endraw %} tag expected. (line 2, column 14)",
+        false,
+    ),
+    (
+        "",
+        0,
+        false,
+        "liquid: Unclosed block. {% endraw %} tag expected. (line 1, column 1)",
+        false,
+    ),
+];
+
 #[test]
 fn escaped_bodies_are_slices(rt: HostRuntime) -> Result<(), Fail> {
     let alloc = rt.alloc();
-    let rows = [
-        ("{% endraw %}a", 0, false, "", true),
-        ("{{ a }}{{% endraw %}", 0, false, "{{ a }}{", true),
-        (" x {%- endraw -%} y", 0, false, " x", true),
-        (
-            "{{ 4.5 }}{% raw 1.5 %}{% endraw %}",
-            0,
-            false,
-            "{{ 4.5 }}{% raw 1.5 %}",
-            true,
-        ),
-        (
-            "{% endraw 1 %}{% endraw %}",
-            0,
-            false,
-            "{% endraw 1 %}",
-            true,
-        ),
-        (
-            "{% raw %}a{% endraw %}b{% endraw %}",
-            0,
-            false,
-            "{% raw %}a",
-            true,
-        ),
-        (
-            "{% raw %}a{% endraw %}b{% endraw %}",
-            0,
-            true,
-            "{% raw %}a{% endraw %}b",
-            true,
-        ),
-        ("a{{ b }} c {% endraw %}", 1, false, "{{ b }} c ", true),
-        ("a{{ b }} c {% endraw %}", 2, true, " c ", true),
-        ("a{{ 4.5 }}c{% endraw %}", 2, false, "c", true),
-        ("{% endraw %}", 1, false, "closed before", true),
-        (
-            "{% raw %}a\n{% endraw %}b",
-            0,
-            true,
-            "liquid: Unclosed block. {% endraw %} tag expected. (line 2, column 14)",
-            false,
-        ),
-        (
-            "",
-            0,
-            false,
-            "liquid: Unclosed block. {% endraw %} tag expected. (line 1, column 1)",
-            false,
-        ),
-    ];
-    for (body, passed, nests, text, is_closed) in rows {
+    for (body, passed, nests, text, is_closed) in ESCAPED {
         let (escaped, closes) = escaped(alloc, body, passed, nests)?;
         assert_eq!(rt; escaped.as_str(), text);
         assert_eq!(rt; closes, is_closed, "{body}");
