@@ -8,6 +8,9 @@ pub enum Problem {
     /// A word names no measure.
     #[error("usage: liquid_speed [parse] [render] [flat] [chained]\n")]
     Usage,
+    /// A name that the base has was not found.
+    #[error("liquid_speed: a name was not found\n")]
+    Lost,
     /// A template was refused.
     #[error("{0}")]
     Refused(#[from] Error),
