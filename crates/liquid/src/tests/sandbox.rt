@@ -1,13 +1,11 @@
 //! The globals as the data of a sandbox, and as the runtime's own.
-use super::{RENDER, ran};
+use super::{RENDER, UNKNOWN, ran};
 use std::test::Fail;
 
 const SANDBOXED: &[&str] = &["render", "--sandboxed", "t", "g.json"];
 
 const UNKNOWN_INDEX: &str =
     "liquid: Unknown index\n  with:\n    variable=x\n    requested index=y\n    available indexes=z\n";
-
-const UNKNOWN_VARIABLE: &str = "liquid: Unknown variable\n  with:\n    requested variable=x\n";
 
 /// The words, the template, its globals, the status, and what both streams say.
 type Row = (
@@ -26,7 +24,7 @@ const ROWS: [Row; 8] = [
         b"{\"x\": {\"z\": 1}}",
         1,
         "",
-        UNKNOWN_VARIABLE,
+        UNKNOWN,
     ),
     (
         RENDER,
@@ -46,7 +44,7 @@ const ROWS: [Row; 8] = [
     ),
     (RENDER, b"{% set x 2 %}{{ x }}", b"{\"x\": 1}", 0, "2", ""),
     (SANDBOXED, b"{{ x.z }}", b"{\"x\": {\"z\": 1}}", 0, "1", ""),
-    (SANDBOXED, b"a{{ x }}", b"{}", 1, "a", UNKNOWN_VARIABLE),
+    (SANDBOXED, b"a{{ x }}", b"{}", 1, "a", UNKNOWN),
     (
         SANDBOXED,
         b"{{ ! }}",
