@@ -85,25 +85,28 @@ fn inner<'a, F: ParseFilter + Drop, T: ParseTag<F> + Drop, B: ParseBlock<F> + Dr
 fn outer<'a, F: ParseFilter + Drop, T: ParseTag<F> + Drop, B: ParseBlock<F> + Drop>(
     alloc: Global,
     outside: usize,
-    open: Vec<OpenBlock<'a, B, B::Plan, Node<F::Filter, T::Node, B::Node>>>,
+    around: Vec<OpenBlock<'a, B, B::Plan, Node<F::Filter, T::Node, B::Node>>>,
     nodes: Vec<Node<F::Filter, T::Node, B::Node>>,
     tag: Tag<'a>,
     language: &'a Language<F, T, B>,
 ) -> Result<Next<'a, B, B::Plan, Node<F::Filter, T::Node, B::Node>>, Error>
     ensures { (source : List ℕ) (t : token.Tag) → IsTag tag.entry source t
-        → Gives (next_view F.Filter.shape T.Node.shape B.Node.shape B.Plan.shape (block_of B.start_name B.end_name B.meaning)) result (outer_read (language_of F.makes T.gives (block_of B.start_name B.end_name B.meaning) language.now) source outside t (blocks_view F.Filter.shape T.Node.shape B.Node.shape B.Plan.shape (block_of B.start_name B.end_name B.meaning) open.entry.items) (shapes_of F.Filter.shape T.Node.shape B.Node.shape nodes.items)) }
+        → Gives (next_view F.Filter.shape T.Node.shape B.Node.shape B.Plan.shape (block_of B.start_name B.end_name B.meaning)) result (outer_read (language_of F.makes T.gives (block_of B.start_name B.end_name B.meaning) language.now) source outside t (blocks_view F.Filter.shape T.Node.shape B.Node.shape B.Plan.shape (block_of B.start_name B.end_name B.meaning) around.entry.items) (shapes_of F.Filter.shape T.Node.shape B.Node.shape nodes.items)) }
 {
     match language.tags.get(tag.name) {
         Some(plug_in) => match tag_node::<F, T, B>(alloc, plug_in, tag, &language.filters) {
             Ok(node) => {
                 let mut nodes = nodes;
                 nodes.push(node)?;
-                Ok(Next::Among(ParserState { open, nodes }))
+                Ok(Next::Among(ParserState {
+                    open: around,
+                    nodes,
+                }))
             }
             Err(error) => Err(error),
         },
         None => match language.blocks.get(tag.name) {
-            Some(kind) => begun(alloc, outside, kind, open, nodes, tag, language),
+            Some(kind) => begun(alloc, outside, kind, around, nodes, tag, language),
             None => Err(unknown_tag(alloc, tag, language)),
         },
     }
@@ -114,23 +117,23 @@ fn begun<'a, F: ParseFilter + Drop, T: ParseTag<F> + Drop, B: ParseBlock<F> + Dr
     alloc: Global,
     outside: usize,
     kind: &'a B,
-    open: Vec<OpenBlock<'a, B, B::Plan, Node<F::Filter, T::Node, B::Node>>>,
+    around: Vec<OpenBlock<'a, B, B::Plan, Node<F::Filter, T::Node, B::Node>>>,
     nodes: Vec<Node<F::Filter, T::Node, B::Node>>,
     tag: Tag<'a>,
     language: &'a Language<F, T, B>,
 ) -> Result<Next<'a, B, B::Plan, Node<F::Filter, T::Node, B::Node>>, Error>
     ensures { (source : List ℕ) (t : token.Tag) → IsTag tag.entry source t
-        → Gives (next_view F.Filter.shape T.Node.shape B.Node.shape B.Plan.shape (block_of B.start_name B.end_name B.meaning)) result (block_begun (language_of F.makes T.gives (block_of B.start_name B.end_name B.meaning) language.now) source outside t ((block_of B.start_name B.end_name B.meaning) kind.now) (blocks_view F.Filter.shape T.Node.shape B.Node.shape B.Plan.shape (block_of B.start_name B.end_name B.meaning) open.entry.items) (shapes_of F.Filter.shape T.Node.shape B.Node.shape nodes.items)) }
+        → Gives (next_view F.Filter.shape T.Node.shape B.Node.shape B.Plan.shape (block_of B.start_name B.end_name B.meaning)) result (block_begun (language_of F.makes T.gives (block_of B.start_name B.end_name B.meaning) language.now) source outside t ((block_of B.start_name B.end_name B.meaning) kind.now) (blocks_view F.Filter.shape T.Node.shape B.Node.shape B.Plan.shape (block_of B.start_name B.end_name B.meaning) around.entry.items) (shapes_of F.Filter.shape T.Node.shape B.Node.shape nodes.items)) }
 {
-    if open.len() >= BLOCK_LIMIT.saturating_sub(outside) {
+    if around.len() >= BLOCK_LIMIT.saturating_sub(outside) {
         return Err(refused_at(alloc, tag.tokens.source, "Nested too deep", tag.from));
     }
     match opened::<F, T, B>(alloc, kind, nodes, tag, &language.filters) {
         Ok(block) => {
             if kind.escapes() {
-                return Ok(Next::Escaped(block, open));
+                return Ok(Next::Escaped(block, around));
             }
-            let mut open = open;
+            let mut open = around;
             open.push(block)?;
             Ok(Next::Among(ParserState {
                 open,

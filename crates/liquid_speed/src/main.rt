@@ -1,8 +1,9 @@
 //! The command `liquid_speed`, which times single calls of the library by the machine's clock.
 //!
-//! `parse` and `render` time a site with a list of posts, apart from each other; `flat` and `chained`
-//! time the look-up of a name under frames, in both forms of scopes. Each word is one measure, and its
-//! table goes to standard output.
+//! `parse` and `render` time a site with a list of posts, apart from each other; `over-flat` and
+//! `over-chained` its rendering over both forms of scopes, which pushes two frames a post; `flat` and
+//! `chained` the look-up of a name under frames. Each word is one measure, and its table goes to
+//! standard output.
 #![tactic(auto)]
 
 mod names;
@@ -11,6 +12,7 @@ mod site;
 
 use liquid_core::runtime::{BuiltRuntime, ChainedScopes, FlatScopes};
 use problem::Problem;
+use site::Base;
 use std::env;
 use std::io::Write;
 use std::process::ExitCode;
@@ -43,6 +45,14 @@ fn measure(rt: &HostRuntime, word: &str) -> Result<(), Problem> {
         "render" => for posts in POSTS {
             let time = site::render_time(rt, posts)?;
             told(rt, "a parsed site is rendered", posts, "posts", time)?;
+        },
+        "over-flat" => for posts in POSTS {
+            let time = site::time_over::<FlatScopes<Base>>(rt, posts)?;
+            told(rt, "a site over flat scopes", posts, "posts", time)?;
+        },
+        "over-chained" => for posts in POSTS {
+            let time = site::time_over::<ChainedScopes<Base>>(rt, posts)?;
+            told(rt, "a site over chained scopes", posts, "posts", time)?;
         },
         "flat" => for frames in FRAMES {
             let time = names::time::<FlatScopes<BuiltRuntime<(), ()>>>(

@@ -6,7 +6,7 @@ use std::io;
 #[derive(Debug, Drop, thiserror::Error)]
 pub enum Problem {
     /// A word names no measure.
-    #[error("usage: liquid_speed [parse] [render] [flat] [chained]\n")]
+    #[error("usage: liquid_speed [parse] [render] [over-flat] [over-chained] [flat] [chained]\n")]
     Usage,
     /// A name that the base has was not found.
     #[error("liquid_speed: a name was not found\n")]

@@ -7,7 +7,7 @@ use bench::tags::TagNode;
 use bench::{Blocks, Filters, Tags};
 use liquid_core::parser::{Language, parse};
 use liquid_core::partials::{EagerCompiler, EagerStore, InMemorySource, PartialCompiler};
-use liquid_core::runtime::{BuiltRuntime, RuntimeBuilder, Template};
+use liquid_core::runtime::{BuiltRuntime, RuntimeBuilder, Scopes, Template};
 use liquid_core::{Object, TextSink, Value};
 use std::alloc::{AllocError, Global};
 use std::rc::Rc;
@@ -21,6 +21,9 @@ const CARD: &str = "<h2>{{ post.title }}</h2>\n<p>{{ post.words | append: \" wor
 type TheLanguage = Language<Filters, Tags, Blocks>;
 
 type Store = EagerStore<AnyFilter, TagNode, BlockNode>;
+
+/// A runtime with the partials of a site.
+pub type Base = BuiltRuntime<(), Store>;
 
 type Page = Template<AnyFilter, TagNode, BlockNode>;
 
@@ -71,6 +74,20 @@ fn store(alloc: Global, language: &Rc<TheLanguage>) -> Result<Store, AllocError>
     EagerCompiler::new(source).compile(alloc, language.clone()?)
 }
 
+/// The page of so many posts.
+fn page(alloc: Global, posts: u32, language: &TheLanguage) -> Result<Page, Problem> {
+    let text = page_text(alloc, posts)?;
+    Ok(Template::new(parse(alloc, text.as_str(), language)?))
+}
+
+/// A runtime with the globals and the partials of a site of so many posts.
+fn base(alloc: Global, posts: u32, language: &Rc<TheLanguage>) -> Result<Base, AllocError> {
+    Ok(RuntimeBuilder::new(alloc)
+        .set_globals(globals(alloc, posts)?)
+        .set_partials(store(alloc, language)?)
+        .build())
+}
+
 /// How many nanoseconds the page of so many posts takes to be parsed.
 pub fn parse_time(rt: &HostRuntime, posts: u32) -> Result<u128, Problem> {
     let alloc = rt.alloc();
@@ -91,12 +108,8 @@ pub fn parse_time(rt: &HostRuntime, posts: u32) -> Result<u128, Problem> {
 pub fn render_time(rt: &HostRuntime, posts: u32) -> Result<u128, Problem> {
     let alloc = rt.alloc();
     let language = shared_language(alloc)?;
-    let text = page_text(alloc, posts)?;
-    let page: Page = Template::new(parse(alloc, text.as_str(), &language)?);
-    let mut runtime: BuiltRuntime<(), Store> = RuntimeBuilder::new(alloc)
-        .set_globals(globals(alloc, posts)?)
-        .set_partials(store(alloc, &language)?)
-        .build();
+    let page = page(alloc, posts, &language)?;
+    let mut runtime = base(alloc, posts, &language)?;
     let mut best = u128::MAX;
     for _ in 0..ROUNDS {
         let start = Instant::now(rt)?;
@@ -106,4 +119,37 @@ pub fn render_time(rt: &HostRuntime, posts: u32) -> Result<u128, Problem> {
         best = best.min(time);
     }
     Ok(best)
+}
+
+/// The same by `render_in`, over scopes of one form.
+pub fn time_over<S>(rt: &HostRuntime, posts: u32) -> Result<u128, Problem>
+where
+    S: Scopes<Base = Base, Register = (), Store = Store>,
+{
+    let alloc = rt.alloc();
+    let language = shared_language(alloc)?;
+    let page = page(alloc, posts, &language)?;
+    let mut best = u128::MAX;
+    for _ in 0..ROUNDS {
+        let base = base(alloc, posts, &language)?;
+        best = best.min(once_over::<S>(rt, &page, base)?);
+    }
+    Ok(best)
+}
+
+/// How many nanoseconds the page takes to be rendered over this base.
+fn once_over<S>(rt: &HostRuntime, page: &Page, base: S::Base) -> Result<u128, Problem>
+where
+    S: Scopes<Register = (), Store = Store>,
+    S::Base: Drop,
+{
+    let alloc = rt.alloc();
+    let start = Instant::now(rt)?;
+    let mut sink = TextSink::new(alloc);
+    let mut scopes = S::new(alloc, base);
+    let answer = page.render_in(alloc, &mut sink, &mut scopes);
+    let _base = scopes.into_base();
+    let time = start.elapsed(rt)?.as_nanos();
+    answer?;
+    Ok(time)
 }
