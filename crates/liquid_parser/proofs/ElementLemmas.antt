@@ -1,6 +1,6 @@
 -- The elements of the program, as they are handed out and read.
 use Rattle.std.proofs.Common.{◌≡◌, ℕ, List, [], ◌∷◌, ◌++◌, Option, Some, None, Result, Ok, Err, Bor, refl, sym, ap, ◌∙◌, subst}
-use Rattle.std.specs.Prelude.{IfSome, codes}
+use Rattle.std.specs.Prelude.{IfSome, codes, option_map}
 use Rattle.std.proofs.lemmas.Bool.{eqb-true}
 use Rattle.liquid_error.specs.Refusal.{Refusal, ok_then}
 use Rattle.liquid_grammar.specs.declared.element.TagText.{TagText}
@@ -10,6 +10,8 @@ use Rattle.liquid_grammar.specs.Cover.{Element, raw, tag_element, expression, in
 use Rattle.liquid_grammar.specs.Elements.{Means}
 use Rattle.liquid_grammar.specs.Faults.{Fault, tag_fault, chain_fault}
 use Rattle.liquid_grammar.specs.Grammar.{White}
+use Rattle.liquid_grammar.specs.KindMeanings.{token_kind_of}
+use Rattle.liquid_grammar.specs.Kinds.{identifier_of}
 use Rattle.liquid_grammar.specs.Meanings.{faults_of}
 use Rattle.liquid_grammar.specs.Rules.{Repeated, ◌▷◌}
 use Rattle.liquid_grammar.specs.Tokens as token
@@ -93,16 +95,25 @@ module _ (source : Bor (List ℕ)) (s behind : List ℕ) where
   tag_not_over t o (invalid text) m h = absurd m
 
   pub expression_over : ((r rest : List ℕ) (c : token.Chain) → ExpressionRule r rest c → ChainRule c.place c.behind c)
-      → (t : ChainText) (e : Element) → IsElement s behind e → Means (found.Expression t) e → checked source.now (faults_of t.fault) ≡ Ok tt
-      → HandsOver (Ok (cursor.Expression (record { source = source; text = t.text; chain = t.chain }))) source.now behind e
-  expression_over within t (expression c text) is m ok =
+      → (t : ChainText) (name : Option (Bor (List ℕ))) (e : Element) → IsElement s behind e → Means (found.Expression t) e → checked source.now (faults_of t.fault) ≡ Ok tt
+      → option_map (λ n. n.now) name ≡ identifier_of (token_kind_of t.kind)
+      → HandsOver (Ok (cursor.Expression (record { source = source; text = t.text; chain = t.chain; name = name }))) source.now behind e
+  expression_over within t name (expression c text) is m ok named =
       let fine : chain_fault c ≡ None = sym m.fault_is ∙ checked_none source.now _ ok in (
         ap (checked source.now) fine,
-        (record { source_is = refl; match = subst (λ p. ChainRule p c.behind c) (sym m.chain_is) (within s behind c is.kind.match); fine = fine }, m.text_is),
+        (
+          record {
+            source_is = refl;
+            match = subst (λ p. ChainRule p c.behind c) (sym m.chain_is) (within s behind c is.kind.match);
+            name_is = named ∙ ap identifier_of m.kind_is;
+            fine = fine;
+          },
+          m.text_is,
+        ),
       )
-  expression_over within t (raw text) is m ok = absurd m
-  expression_over within t (tag_element tag text) is m ok = absurd m
-  expression_over within t (invalid text) is m ok = absurd m
+  expression_over within t name (raw text) is m ok named = absurd m
+  expression_over within t name (tag_element tag text) is m ok named = absurd m
+  expression_over within t name (invalid text) is m ok named = absurd m
 
   pub expression_not_over : (t : ChainText) (o : Option Refusal) (e : Element) → Means (found.Expression t) e → IfSome o (λ r. checked source.now (faults_of t.fault) ≡ Err r) → IfSome o (λ r. element_checked source.now e ≡ Err r)
   expression_not_over t o (expression c text) m h = subst (λ f. IfSome o (λ r. checked source.now f ≡ Err r)) m.fault_is h

@@ -19,3 +19,4 @@ pub mod ClosingLemmas
 pub mod BlockLemmas
 pub mod AllLemmas
 pub mod ParsedLemmas
+pub mod NameLemmas

@@ -1,8 +1,9 @@
 -- What the cursors over a source's elements stand for.
-use Rattle.std.specs.Prelude.{◌≡◌, ℕ, List, ◌∷◌, None}
+use Rattle.std.specs.Prelude.{◌≡◌, ℕ, List, ◌∷◌, None, option_map}
 use Rattle.liquid_grammar.specs.Cover as cover
 use Rattle.liquid_grammar.specs.Cover.{raw, tag_element, expression, invalid}
 use Rattle.liquid_grammar.specs.Faults.{chain_fault}
+use Rattle.liquid_grammar.specs.Kinds.{chain_kind, identifier_of}
 use Rattle.liquid_grammar.specs.Tokens.{Chain, ChainRule}
 use Rattle.liquid_parser.specs.declared.element_cursor.Exp.{Exp as ExpCursor}
 use Rattle.liquid_parser.specs.declared.element_cursor.InvalidLiquidToken.{InvalidLiquidToken}
@@ -10,10 +11,11 @@ use Rattle.liquid_parser.specs.declared.element_cursor.BlockElement.{BlockElemen
 use Rattle.liquid_parser.specs.declared.element_cursor.BlockElement.TheVariants.{Raw, Tag, Expression, Invalid}
 use Rattle.liquid_parser.specs.WholeTag.{IsTag}
 
--- an expression of the source; its literals and brackets have no fault
+-- an expression of the source, with its name where it is one; its literals and brackets have no fault
 pub record IsExpression (x : ExpCursor) (source : List ℕ) (chain : Chain) : Type 0 where
   pub source_is : x.source.now ≡ source
   pub match : ChainRule x.chain.now chain.behind chain
+  pub name_is : option_map (λ name. name.now) x.name ≡ identifier_of (chain_kind chain.what.0 chain.what.1)
   pub fine : chain_fault chain ≡ None
 
 -- what is neither a tag nor an expression, by its brace

@@ -14,6 +14,8 @@ pub struct Exp<'a> {
     pub(crate) text: &'a str,
     /// The text from the chain on.
     pub(crate) chain: &'a str,
+    /// The name that the chain is, where it has neither indexes nor filters.
+    pub(crate) name: Option<&'a str>,
 }
 
 /// Where an opener begins, but neither a tag nor an expression does: its white space and one `{`. It borrows the source.

@@ -17,7 +17,7 @@ ghost use Rattle.liquid_parser.specs.WholeTag.{Refuses};
 use crate::block::ParseBlock;
 use crate::block_cursor::TagBlock;
 use crate::element_cursor::{BlockElement, Exp, InvalidLiquidToken, Raw};
-use crate::filters::parse_chain;
+use crate::filters::{name_chain, parse_chain};
 use crate::language::Language;
 use crate::place::{check, refused_at};
 use crate::tag::ParseTag;
@@ -64,6 +64,10 @@ impl<'a> Exp<'a> {
         ensures { (source : List ℕ) (chain : Chain) → IsExpression self.entry source chain
             → Gives (node_of F.Filter.shape T.Node.shape B.Node.shape) result (expression_read (registry_of F.makes language.now.filters) source chain) }
     {
+        // Most expressions are names, whose text need not be walked again.
+        if let Some(name) = self.name {
+            return Ok(Node::Chain(name_chain(alloc, name)?));
+        }
         match parse_chain(alloc, self.source, self.chain, &language.filters) {
             Ok(chain) => Ok(Node::Chain(chain)),
             Err(error) => Err(error),
@@ -145,6 +149,7 @@ pub(crate) fn handed_over<'a>(
                 source,
                 text: expression.text,
                 chain: expression.chain,
+                name: expression.kind.identifier(),
             })),
             Err(error) => Err(error),
         },

@@ -11,7 +11,7 @@ pub returns-in-Err : goal.returns-in-Err
 returns-in-Err c behind e is m = tag_not_over c.args.source c.args.place.now behind c.in-Tag.tag _ e (rw c.in-Tag.is at m) c.in-Err.ensures
 
 pub returns-in-Ok-check : goal.returns-in-Ok-check
-returns-in-Ok-check c behind e is m = expression_over c.args.source c.args.place.now behind c.parts_are_matches.ensures.expressions c.in-Expression.expression e is (rw c.in-Expression.is at m) c.in-Ok-check.ensures
+returns-in-Ok-check c behind e is m = expression_over c.args.source c.args.place.now behind c.parts_are_matches.ensures.expressions c.in-Expression.expression _ e is (rw c.in-Expression.is at m) c.in-Ok-check.ensures c.identifier.ensures
 
 pub returns-in-Err-check : goal.returns-in-Err-check
 returns-in-Err-check c behind e is m = expression_not_over c.args.source c.args.place.now behind c.in-Expression.expression _ e (rw c.in-Expression.is at m) c.in-Err-check.ensures

@@ -1,6 +1,8 @@
 use Rattle.std.proofs.Common.{Ok, sym, ap, ◌∙◌}
 use Rattle.liquid_error.specs.Refusal.{ok_then}
 use Rattle.liquid_tree.specs.Tree.{chain_node}
+use Rattle.liquid_parser.specs.Plugins.{registry_of}
+use Rattle.liquid_parser.proofs.NameLemmas.{name_read}
 use Rattle.liquid_parser.proofs.StepLemmas.{chain_shape, then_refused}
 use Rattle.liquid_parser.proofs.element_cursor.Exp.parse.Goals as goal
 
@@ -12,3 +14,9 @@ returns-in-Ok g c source chain is =
 pub returns-in-Err : goal.returns-in-Err
 returns-in-Err g c source chain is =
     then_refused _ _ (λ made. Ok (chain_node made)) (rw is.source_is at c.in-Err.ensures chain.behind chain is.match is.fine)
+
+pub returns-in-Some : goal.returns-in-Some
+returns-in-Some g c source chain is =
+    ap (λ r. ok_then r (λ made. Ok (chain_node made))) (name_read (registry_of g.F.ParseFilter.makes c.args.language.now.filters) source _ chain (rw c.in-Some.is at is.name_is))
+    ∙ (ap (λ made. Ok (chain_node made)) (sym c.in_ok-name_chain.ensures)
+    ∙ ap (λ n. Ok n) (sym (chain_shape g.F.Filter.Meant.shape g.T.Node.Meant.shape g.B.Node.Meant.shape c.in_ok-name_chain.field-0)))
