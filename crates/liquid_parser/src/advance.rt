@@ -26,6 +26,7 @@ use std::alloc::Global;
 /// An element is read, and the escaped body that it begins: how far the text is read then, and what follows.
 ///
 /// So many blocks are open around all that is read. What stands behind the element is text of the source.
+#[inline(always)]
 pub(crate) fn advance<
     'a,
     't,
@@ -63,6 +64,7 @@ pub(crate) fn advance<
 }
 
 /// An element is read.
+#[inline(always)]
 fn element_read<'a, F: ParseFilter + Drop, T: ParseTag<F> + Drop, B: ParseBlock<F> + Drop>(
     alloc: Global,
     outside: usize,
@@ -86,6 +88,7 @@ fn element_read<'a, F: ParseFilter + Drop, T: ParseTag<F> + Drop, B: ParseBlock<
 }
 
 /// An expression is read.
+#[inline(always)]
 fn expression_read<'a, F: ParseFilter + Drop, T: ParseTag<F> + Drop, B: ParseBlock<F> + Drop>(
     alloc: Global,
     state: ParserState<'a, B, B::Plan, Node<F::Filter, T::Node, B::Node>>,

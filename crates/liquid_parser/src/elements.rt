@@ -121,6 +121,7 @@ impl<'a> BlockElement<'a> {
 }
 
 /// An element that stands here is handed out, and before that its literals and brackets are checked.
+#[inline(always)]
 pub(crate) fn handed_over<'a>(
     alloc: Global,
     source: &'a str,

@@ -12,7 +12,7 @@ mod site;
 
 use liquid_core::runtime::{BuiltRuntime, ChainedScopes, FlatScopes};
 use problem::Problem;
-use site::Base;
+use site::Form;
 use std::env;
 use std::io::Write;
 use std::process::ExitCode;
@@ -47,11 +47,11 @@ fn measure(rt: &HostRuntime, word: &str) -> Result<(), Problem> {
             told(rt, "a parsed site is rendered", posts, "posts", time)?;
         },
         "over-flat" => for posts in POSTS {
-            let time = site::time_over::<FlatScopes<Base>>(rt, posts)?;
+            let time = site::time_over(rt, posts, Form::Flat)?;
             told(rt, "a site over flat scopes", posts, "posts", time)?;
         },
         "over-chained" => for posts in POSTS {
-            let time = site::time_over::<ChainedScopes<Base>>(rt, posts)?;
+            let time = site::time_over(rt, posts, Form::Chained)?;
             told(rt, "a site over chained scopes", posts, "posts", time)?;
         },
         "flat" => for frames in FRAMES {

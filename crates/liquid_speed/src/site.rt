@@ -5,10 +5,12 @@ use bench::filters::AnyFilter;
 use bench::languages::language;
 use bench::tags::TagNode;
 use bench::{Blocks, Filters, Tags};
-use liquid_core::parser::{Language, parse};
+use liquid_core::parser::{Filter, Language, parse};
 use liquid_core::partials::{EagerCompiler, EagerStore, InMemorySource, PartialCompiler};
-use liquid_core::runtime::{BuiltRuntime, RuntimeBuilder, Scopes, Template};
-use liquid_core::{Object, TextSink, Value};
+use liquid_core::runtime::{
+    BuiltRuntime, ChainedScopes, FlatScopes, Renderable, RuntimeBuilder, Scopes, Template,
+};
+use liquid_core::{Object, PartialStore, TextSink, Value};
 use std::alloc::{AllocError, Global};
 use std::rc::Rc;
 use std::time::Instant;
@@ -23,7 +25,7 @@ type TheLanguage = Language<Filters, Tags, Blocks>;
 type Store = EagerStore<AnyFilter, TagNode, BlockNode>;
 
 /// A runtime with the partials of a site.
-pub type Base = BuiltRuntime<(), Store>;
+type Base = BuiltRuntime<(), Store>;
 
 type Page = Template<AnyFilter, TagNode, BlockNode>;
 
@@ -121,27 +123,43 @@ pub fn render_time(rt: &HostRuntime, posts: u32) -> Result<u128, Problem> {
     Ok(best)
 }
 
-/// The same by `render_in`, over scopes of one form.
-pub fn time_over<S>(rt: &HostRuntime, posts: u32) -> Result<u128, Problem>
-where
-    S: Scopes<Base = Base, Register = (), Store = Store>,
-{
+/// A form of scopes.
+#[derive(Clone, Copy)]
+pub enum Form {
+    Flat,
+    Chained,
+}
+
+/// The same by `render_in`, over scopes of this form.
+pub fn time_over(rt: &HostRuntime, posts: u32, form: Form) -> Result<u128, Problem> {
     let alloc = rt.alloc();
     let language = shared_language(alloc)?;
     let page = page(alloc, posts, &language)?;
     let mut best = u128::MAX;
     for _ in 0..ROUNDS {
         let base = base(alloc, posts, &language)?;
-        best = best.min(once_over::<S>(rt, &page, base)?);
+        let time = match form {
+            Form::Flat => once_over::<FlatScopes<Base>, _, _, _>(rt, &page, base)?,
+            Form::Chained => once_over::<ChainedScopes<Base>, _, _, _>(rt, &page, base)?,
+        };
+        best = best.min(time);
     }
     Ok(best)
 }
 
-/// How many nanoseconds the page takes to be rendered over this base.
-fn once_over<S>(rt: &HostRuntime, page: &Page, base: S::Base) -> Result<u128, Problem>
+/// How many nanoseconds a page takes to be rendered over this base.
+fn once_over<S, X, T, B>(
+    rt: &HostRuntime,
+    page: &Template<X, T, B>,
+    base: S::Base,
+) -> Result<u128, Problem>
 where
-    S: Scopes<Register = (), Store = Store>,
+    S: Scopes,
     S::Base: Drop,
+    X: Filter,
+    T: Renderable<S::Register>,
+    B: Renderable<S::Register>,
+    S::Store: PartialStore<X, T, B>,
 {
     let alloc = rt.alloc();
     let start = Instant::now(rt)?;
