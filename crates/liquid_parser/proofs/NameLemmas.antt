@@ -1,5 +1,5 @@
 -- Chains that are a name alone.
-use Rattle.std.proofs.Common.{◌≡◌, ℕ, List, [], ◌∷◌, Some, Ok, refl, ap}
+use Rattle.std.proofs.Common.{◌≡◌, ℕ, List, [], ◌∷◌, Some, Ok}
 use Rattle.liquid_error.specs.Refusal.{ok_then}
 use Rattle.liquid_grammar.specs.Kinds.{chain_kind, identifier_of}
 use Rattle.liquid_grammar.specs.Tokens as token

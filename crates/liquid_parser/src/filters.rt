@@ -24,10 +24,7 @@ use liquid_plugins::{Expression, Filter, FilterChain, ParseFilter, PluginRegistr
 use std::alloc::{AllocError, Global};
 
 /// The chain of a name alone.
-pub(crate) fn name_chain<X: Filter>(
-    alloc: Global,
-    name: &str,
-) -> Result<FilterChain<X>, AllocError>
+pub(crate) fn name_chain<X: Filter>(alloc: Global, name: &str) -> Result<FilterChain<X>, AllocError>
     ensures { IfOk result (λ chain. chain_of X.shape chain ≡ record { entry = variable (text name.now) no_indexes; filters = [] }) }
 {
     let name = Variable::with_literal(alloc, String::from_str(alloc, name)?);

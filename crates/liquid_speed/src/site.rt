@@ -84,10 +84,12 @@ fn page(alloc: Global, posts: u32, language: &TheLanguage) -> Result<Page, Probl
 
 /// A runtime with the globals and the partials of a site of so many posts.
 fn base(alloc: Global, posts: u32, language: &Rc<TheLanguage>) -> Result<Base, AllocError> {
-    Ok(RuntimeBuilder::new(alloc)
-        .set_globals(globals(alloc, posts)?)
-        .set_partials(store(alloc, language)?)
-        .build())
+    Ok(
+        RuntimeBuilder::new(alloc)
+            .set_globals(globals(alloc, posts)?)
+            .set_partials(store(alloc, language)?)
+            .build(),
+    )
 }
 
 /// How many nanoseconds the page of so many posts takes to be parsed.
