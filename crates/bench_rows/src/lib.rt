@@ -4,11 +4,7 @@
 #[cfg(test)]
 mod both_scopes;
 #[cfg(test)]
-mod chains;
-#[cfg(test)]
 mod counting_source;
-#[cfg(test)]
-mod frames;
 #[cfg(test)]
 mod hostile_rows;
 #[cfg(test)]

@@ -52,6 +52,7 @@ pub enum Element<'a> {
 }
 
 /// The element at the beginning of the text, and what it leaves. An empty text has none.
+#[inline(always)]
 pub fn next_element<'a>(text: &'a str) -> Option<(Element<'a>, &'a str)>
     ensures found { MatchOption result (text.now ≡ [])
         (λ p. (e : spec.Element) × IsElement text.now p.1.now e × Means p.0 e) }
@@ -70,6 +71,7 @@ pub fn next_element<'a>(text: &'a str) -> Option<(Element<'a>, &'a str)>
     }
 }
 
+#[inline(always)]
 fn marked<'a>(s: &'a str) -> (Element<'a>, &'a str)
     requires { Opens s.now }
     ensures { (e : spec.Element) × IsElement s.now result.1.now e × Means result.0 e }

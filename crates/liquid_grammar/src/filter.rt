@@ -24,6 +24,7 @@ pub(crate) fn chain<'a>(s: &'a str) -> Option<(Option<Fault<'a>>, &'a str)>
 }
 
 /// The same with the kind of the chain.
+#[inline(always)]
 pub(crate) fn chain_and_kind<'a>(s: &'a str) -> Option<(TokenKind<'a>, Option<Fault<'a>>, &'a str)>
     ensures kind { FindsKind (option_map (λ p. p.0) result) (read.chain_of s.now) }
     ensures value { Scans chain_fault (option_map (λ p. (p.1, p.2)) result) (read.chain_of s.now) }

@@ -60,6 +60,7 @@ fn tag_start(s: &str) -> Option<(&str, &str, &str)>
 
 /// The expression that the text begins with: the text from its chain on, the chain's kind, its first fault, and what
 /// follows it.
+#[inline(always)]
 #[tactic(auto, unfolding(crate::specs::TokenSteps::full_expression, crate::specs::TokenSteps::chain_of))]
 pub(crate) fn expression<'a>(
     s: &'a str,
@@ -125,6 +126,7 @@ pub(crate) fn range<'a>(s: &'a str) -> Option<(Option<Fault<'a>>, &'a str)>
 }
 
 /// The texts from the two values of a range on, its first fault, and what follows it.
+#[inline(always)]
 pub(crate) fn range_parts<'a>(s: &'a str) -> Option<(&'a str, &'a str, Option<Fault<'a>>, &'a str)>
     ensures value { Scans range_fault (option_map (λ p. (p.2, p.3)) result) (read.ranged s.now) }
     ensures ends { IfSome result (λ p. HasEnds s.now p.3.now p.0.now p.1.now) }

@@ -24,6 +24,7 @@ pub(crate) fn value<'a>(s: &'a str) -> Option<(Option<Fault<'a>>, &'a str)>
 }
 
 /// The same with the kind of the value.
+#[inline(always)]
 pub(crate) fn value_and_kind<'a>(s: &'a str) -> Option<(TokenKind<'a>, Option<Fault<'a>>, &'a str)>
     ensures kind { FindsValueKind (option_map (λ p. (p.0, p.2)) result) (read.value s.now) }
     ensures value { Scans value_fault (option_map (λ p. (p.1, p.2)) result) (read.value s.now) }

@@ -38,6 +38,7 @@ impl<'a> Raw<'a> {
     }
 
     /// The node that writes the text.
+    #[inline(always)]
     pub fn into_renderable<X, N, K>(self, alloc: Global) -> Result<Node<X, N, K>, AllocError>
         ensures { IfOk result (λ node. (t : String TheGlobal) × (node ≡ Text t) × (string_bytes t ≡ self.entry.text.now)) }
     {
@@ -56,6 +57,7 @@ impl<'a> Exp<'a> {
     /// The node of the expression's chain, with its filters made from left to right.
     ///
     /// Refuses a filter that the language doesn't have, and what a filter refuses: the first from the left.
+    #[inline(always)]
     pub fn parse<F: ParseFilter + Drop, T: ParseTag<F> + Drop, B: ParseBlock<F> + Drop>(
         self,
         alloc: Global,

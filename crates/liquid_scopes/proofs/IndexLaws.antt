@@ -3,9 +3,7 @@ use Rattle.std.proofs.Common.{◌≡◌, ℕ, List, [], ◌∷◌, Option, None,
 use Rattle.std.specs.Prelude.{IsTrue, ◌↔◌, length, is_some, ◌&&◌, ◌||◌, not, string_bytes, bytes_eq}
 use Rattle.std.specs.BTreeMap.{get_by_text, is_at}
 use Rattle.std.specs.List.{list_any}
-use Rattle.std.specs.BTreeSet.{BTreeSet, contains}
 use Rattle.std.specs.Map.{lookup as lookup_entry}
-use Rattle.std.specs.BTreeSet.{insert_key}
 use Rattle.std.specs.Ordering.{match_ordering, nat_cmp, is_eq}
 use Rattle.std.specs.Cmp.Lexicographic.{slice_cmp}
 use Rattle.std.specs.Ordering.{eq_by_cmp}
@@ -18,7 +16,9 @@ use Rattle.std.specs.Prelude.{Result, Ok, Err, OnOk, OnErr}
 use Rattle.liquid_value.specs.declared.value.Value.{Value}
 use Rattle.liquid_runtime.proofs.MapLaws.{names_apart}
 use Rattle.liquid_runtime.proofs.Objects.{has_name}
-use Rattle.liquid_scopes.specs.Standing.{Places, stands, is_among, no_frames, is_held, AllHeld}
+use Rattle.liquid_scopes.specs.declared.frames.Frames.{Frames}
+use Rattle.liquid_scopes.specs.NamePlaces.{is_place}
+use Rattle.liquid_scopes.specs.Standing.{Places, stands, is_among}
 
 pub or_same : (b : Bool) → (b || b) ≡ b
 or_same true = refl
@@ -32,7 +32,7 @@ pub and_true : (b : Bool) → (b && true) ≡ b
 and_true true = refl
 and_true false = refl
 
-pub among_changed : (b : Bool) (new : BTreeSet ℕ) (old : Option (BTreeSet ℕ)) (j : ℕ) → is_among (cond b (Some new) old) j ≡ cond b (contains nat_cmp new j) (is_among old j)
+pub among_changed : (b : Bool) (new : Frames) (old : Option Frames) (j : ℕ) → is_among (cond b (Some new) old) j ≡ cond b (is_place new.last new.earlier j) (is_among old j)
 among_changed true new old j = refl
 among_changed false new old j = refl
 
@@ -48,92 +48,48 @@ pub same_text : (a b : List ℕ) → bytes_eq a b ≡ true → a ≡ b
 same_text a b e = names_apart a b (is_equal (slice_cmp nat_cmp a b) (is_eq-slice_cmp a b ∙ e))
 
 -- the frames of one name after a change
-pub changed : (m n : Places) (bs q : List ℕ) (w : BTreeSet ℕ) (j : ℕ) → get_by_text n q ≡ cond (bytes_eq bs q) (Some w) (get_by_text m q) → stands n q j ≡ cond (bytes_eq bs q) (contains nat_cmp w j) (stands m q j)
+pub changed : (m n : Places) (bs q : List ℕ) (w : Frames) (j : ℕ) → get_by_text n q ≡ cond (bytes_eq bs q) (Some w) (get_by_text m q) → stands n q j ≡ cond (bytes_eq bs q) (is_place w.last w.earlier j) (stands m q j)
 changed m n bs q w j e = ap (λ o. is_among o j) e ∙ among_changed (bytes_eq bs q) w (get_by_text m q) j
 
-add_split : (b : Bool) (w v : BTreeSet ℕ) (old : Option (BTreeSet ℕ)) (j : ℕ) (e : Bool) → (b ≡ true → old ≡ Some v) → contains nat_cmp w j ≡ (contains nat_cmp v j || e) → cond b (contains nat_cmp w j) (is_among old j) ≡ (is_among old j || (b && e))
+add_split : (b : Bool) (w v : Frames) (old : Option Frames) (j : ℕ) (e : Bool) → (b ≡ true → old ≡ Some v) → is_place w.last w.earlier j ≡ (is_place v.last v.earlier j || e) → cond b (is_place w.last w.earlier j) (is_among old j) ≡ (is_among old j || (b && e))
 add_split true w v old j e h is = is ∙ ap (λ o. is_among o j || e) (sym (h refl))
 add_split false w v old j e h is = sym (or_false (is_among old j))
 
-new_split : (b : Bool) (w : BTreeSet ℕ) (old : Option (BTreeSet ℕ)) (j : ℕ) (e : Bool) → (b ≡ true → old ≡ None) → contains nat_cmp w j ≡ e → cond b (contains nat_cmp w j) (is_among old j) ≡ (is_among old j || (b && e))
+new_split : (b : Bool) (w : Frames) (old : Option Frames) (j : ℕ) (e : Bool) → (b ≡ true → old ≡ None) → is_place w.last w.earlier j ≡ e → cond b (is_place w.last w.earlier j) (is_among old j) ≡ (is_among old j || (b && e))
 new_split true w old j e h is = is ∙ ap (λ o. is_among o j || e) (sym (h refl))
 new_split false w old j e h is = sym (or_false (is_among old j))
 
-same_split : (b : Bool) (w v : BTreeSet ℕ) (old : Option (BTreeSet ℕ)) (j : ℕ) → (b ≡ true → old ≡ Some v) → contains nat_cmp w j ≡ contains nat_cmp v j → cond b (contains nat_cmp w j) (is_among old j) ≡ is_among old j
+same_split : (b : Bool) (w v : Frames) (old : Option Frames) (j : ℕ) → (b ≡ true → old ≡ Some v) → is_place w.last w.earlier j ≡ is_place v.last v.earlier j → cond b (is_place w.last w.earlier j) (is_among old j) ≡ is_among old j
 same_split true w v old j h is = is ∙ ap (λ o. is_among o j) (sym (h refl))
 same_split false w v old j h is = refl
 
-drop_split : (b : Bool) (w v : BTreeSet ℕ) (old : Option (BTreeSet ℕ)) (j : ℕ) (e : Bool) → (b ≡ true → old ≡ Some v) → contains nat_cmp w j ≡ (contains nat_cmp v j && not e) → cond b (contains nat_cmp w j) (is_among old j) ≡ (is_among old j && not (b && e))
+drop_split : (b : Bool) (w v : Frames) (old : Option Frames) (j : ℕ) (e : Bool) → (b ≡ true → old ≡ Some v) → is_place w.last w.earlier j ≡ (is_place v.last v.earlier j && not e) → cond b (is_place w.last w.earlier j) (is_among old j) ≡ (is_among old j && not (b && e))
 drop_split true w v old j e h is = is ∙ ap (λ o. is_among o j && not e) (sym (h refl))
 drop_split false w v old j e h is = sym (and_true (is_among old j))
 
-at_same : (m : Places) (bs q : List ℕ) (o : Option (BTreeSet ℕ)) → o ≡ get_by_text m bs → bytes_eq bs q ≡ true → get_by_text m q ≡ o
+at_same : (m : Places) (bs q : List ℕ) (o : Option Frames) → o ≡ get_by_text m bs → bytes_eq bs q ≡ true → get_by_text m q ≡ o
 at_same m bs q o is e = ap (get_by_text m) (sym (same_text bs q e)) ∙ sym is
 
-pub added_frame : (m n : Places) (bs q : List ℕ) (v w : BTreeSet ℕ) (j : ℕ) (e : Bool) → Some v ≡ get_by_text m bs → get_by_text n q ≡ cond (bytes_eq bs q) (Some w) (get_by_text m q) → contains nat_cmp w j ≡ (contains nat_cmp v j || e) → stands n q j ≡ (stands m q j || (bytes_eq bs q && e))
+pub added_frame : (m n : Places) (bs q : List ℕ) (v w : Frames) (j : ℕ) (e : Bool) → Some v ≡ get_by_text m bs → get_by_text n q ≡ cond (bytes_eq bs q) (Some w) (get_by_text m q) → is_place w.last w.earlier j ≡ (is_place v.last v.earlier j || e) → stands n q j ≡ (stands m q j || (bytes_eq bs q && e))
 added_frame m n bs q v w j e is up h = changed m n bs q w j up ∙ add_split (bytes_eq bs q) w v (get_by_text m q) j e (at_same m bs q (Some v) is) h
 
-pub same_frames : (m n : Places) (bs q : List ℕ) (v w : BTreeSet ℕ) (j : ℕ) → Some v ≡ get_by_text m bs → get_by_text n q ≡ cond (bytes_eq bs q) (Some w) (get_by_text m q) → contains nat_cmp w j ≡ contains nat_cmp v j → stands n q j ≡ stands m q j
+pub same_frames : (m n : Places) (bs q : List ℕ) (v w : Frames) (j : ℕ) → Some v ≡ get_by_text m bs → get_by_text n q ≡ cond (bytes_eq bs q) (Some w) (get_by_text m q) → is_place w.last w.earlier j ≡ is_place v.last v.earlier j → stands n q j ≡ stands m q j
 same_frames m n bs q v w j is up h = changed m n bs q w j up ∙ same_split (bytes_eq bs q) w v (get_by_text m q) j (at_same m bs q (Some v) is) h
 
-pub dropped_frame : (m n : Places) (bs q : List ℕ) (v w : BTreeSet ℕ) (j : ℕ) (e : Bool) → Some v ≡ get_by_text m bs → get_by_text n q ≡ cond (bytes_eq bs q) (Some w) (get_by_text m q) → contains nat_cmp w j ≡ (contains nat_cmp v j && not e) → stands n q j ≡ (stands m q j && not (bytes_eq bs q && e))
+pub dropped_frame : (m n : Places) (bs q : List ℕ) (v w : Frames) (j : ℕ) (e : Bool) → Some v ≡ get_by_text m bs → get_by_text n q ≡ cond (bytes_eq bs q) (Some w) (get_by_text m q) → is_place w.last w.earlier j ≡ (is_place v.last v.earlier j && not e) → stands n q j ≡ (stands m q j && not (bytes_eq bs q && e))
 dropped_frame m n bs q v w j e is up h = changed m n bs q w j up ∙ drop_split (bytes_eq bs q) w v (get_by_text m q) j e (at_same m bs q (Some v) is) h
 
-pub new_name : (m n : Places) (bs q : List ℕ) (w : BTreeSet ℕ) (j : ℕ) (e : Bool) → None ≡ get_by_text m bs → get_by_text n q ≡ cond (bytes_eq bs q) (Some w) (get_by_text m q) → contains nat_cmp w j ≡ e → stands n q j ≡ (stands m q j || (bytes_eq bs q && e))
+pub new_name : (m n : Places) (bs q : List ℕ) (w : Frames) (j : ℕ) (e : Bool) → None ≡ get_by_text m bs → get_by_text n q ≡ cond (bytes_eq bs q) (Some w) (get_by_text m q) → is_place w.last w.earlier j ≡ e → stands n q j ≡ (stands m q j || (bytes_eq bs q && e))
 new_name m n bs q w j e is up h = changed m n bs q w j up ∙ new_split (bytes_eq bs q) w (get_by_text m q) j e (at_same m bs q None is) h
 
-pub none_left : (ks : List ℕ) → no_frames ks ≡ true → ks ≡ []
-none_left [] e = refl
-none_left (k ∷ ks) e = absurd (cc)
+left_out : (b : Bool) (w v : Frames) (old : Option Frames) (j : ℕ) (e : Bool) → (b ≡ true → old ≡ Some v) → (is_place v.last v.earlier j && not e) ≡ false → is_among (cond b None (cond b (Some w) old)) j ≡ (is_among old j && not (b && e))
+left_out true w v old j e h alone = sym alone ∙ ap (λ o. is_among o j && not e) (sym (h refl))
+left_out false w v old j e h alone = sym (and_true (is_among old j))
 
-pub held_put : (b : Bool) (w : BTreeSet ℕ) (old : Option (BTreeSet ℕ)) → no_frames w.keys ≡ false → is_held old ≡ true → is_held (cond b (Some w) old) ≡ true
-held_put true w old e h = ap not e
-held_put false w old e h = h
-
-pub held_out : (b : Bool) (w : BTreeSet ℕ) (old : Option (BTreeSet ℕ)) → is_held old ≡ true → is_held (cond b None (cond b (Some w) old)) ≡ true
-held_out true w old h = refl
-held_out false w old h = h
-
-not_held : (b : Bool) → not b ≡ true → b ≡ false
-not_held true h = absurd (cc)
-not_held false h = refl
-
--- the frames of a name that the index has
-pub frames_held : (m : Places) (bs : List ℕ) (v : BTreeSet ℕ) → AllHeld m → Some v ≡ get_by_text m bs → no_frames v.keys ≡ false
-frames_held m bs v h e = not_held (no_frames v.keys) (ap is_held e ∙ h bs)
-
-pub keys_held : (old new : List ℕ) → no_frames old ≡ false → new ≡ old → no_frames new ≡ false
-keys_held old new h e = ap no_frames e ∙ h
-
-inserted_by : (o : Ordering) (k x : ℕ) (ys xs : List ℕ) → no_frames (match_ordering o (k ∷ x ∷ xs) (x ∷ xs) (x ∷ ys)) ≡ false
-inserted_by Less k x ys xs = refl
-inserted_by Equal k x ys xs = refl
-inserted_by Greater k x ys xs = refl
-
-pub inserted_held : (ks new : List ℕ) (k : ℕ) → new ≡ insert_key nat_cmp ks k → no_frames new ≡ false
-inserted_held [] new k e = ap no_frames e
-inserted_held (x ∷ xs) new k e = ap no_frames e ∙ inserted_by (nat_cmp k x) k x (insert_key nat_cmp xs k) xs
-
-pub empty_test : (ks : List ℕ) (r : Bool) → (IsTrue r ↔ (length ks ≡ 0)) → r ≡ no_frames ks
-empty_test [] r h = h.1 refl
-empty_test (k ∷ ks) true h = absurd (omega (arith, h.0 refl))
-empty_test (k ∷ ks) false h = refl
-
-pub same_entries_held : (m n : Places) (q : List ℕ) → n.entries ≡ m.entries → is_held (get_by_text m q) ≡ true → is_held (get_by_text n q) ≡ true
-same_entries_held m n q e h = ap (λ es. is_held (lookup_entry (λ k. is_eq (slice_cmp nat_cmp q (string_bytes k))) es)) e ∙ h
-
-pub on_either : {A E P Q Z : Type 0} (o : Result A E) → (P → Z) → (Q → Z) → OnOk o P → OnErr o Q → Z
-on_either (Ok x) f g p q = f p
-on_either (Err e) f g p q = g q
-
-left_out : (b : Bool) (w : BTreeSet ℕ) (old : Option (BTreeSet ℕ)) (j : ℕ) → w.keys ≡ [] → is_among (cond b None (cond b (Some w) old)) j ≡ is_among (cond b (Some w) old) j
-left_out true w old j e = sym (ap (list_any (is_at (nat_cmp j))) e)
-left_out false w old j e = refl
-
--- a name whose last frame went leaves the index
-pub emptied_name : (m n o : Places) (bs q : List ℕ) (w : BTreeSet ℕ) (j : ℕ) → w.keys ≡ [] → get_by_text n q ≡ cond (bytes_eq bs q) (Some w) (get_by_text m q) → get_by_text o q ≡ cond (bytes_eq bs q) None (get_by_text n q) → stands o q j ≡ stands n q j
-emptied_name m n o bs q w j e up gone =
-    ap (λ k. is_among k j) (gone ∙ ap (cond (bytes_eq bs q) None) up) ∙ left_out (bytes_eq bs q) w (get_by_text m q) j e ∙ ap (λ k. is_among k j) (sym up)
+-- a name whose only frame goes leaves the index
+pub emptied_name : (m n o : Places) (bs q : List ℕ) (v w : Frames) (j : ℕ) (e : Bool) → Some v ≡ get_by_text m bs → get_by_text n q ≡ cond (bytes_eq bs q) (Some w) (get_by_text m q) → get_by_text o q ≡ cond (bytes_eq bs q) None (get_by_text n q) → (is_place v.last v.earlier j && not e) ≡ false → stands o q j ≡ (stands m q j && not (bytes_eq bs q && e))
+emptied_name m n o bs q v w j e is up gone alone =
+    ap (λ k. is_among k j) (gone ∙ ap (cond (bytes_eq bs q) None) up) ∙ left_out (bytes_eq bs q) w v (get_by_text m q) j e (at_same m bs q (Some v) is) alone
 
 pub on_ok : {A E P Q : Type 0} (o : Result A E) → (P → Q) → OnOk o P → OnOk o Q
 on_ok (Ok x) f h = f h

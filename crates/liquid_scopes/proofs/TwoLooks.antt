@@ -8,7 +8,8 @@ use Rattle.liquid_value.specs.Tree.{Tree}
 use Rattle.liquid_runtime.specs.View.{View}
 use Rattle.liquid_runtime.specs.NamesSeen.{lookup}
 use Rattle.liquid_scopes.specs.Layers.{Layer, none_layer, stack_layer, global_layer, sandboxed_layer, layer_found, layer_view, shown_over}
-use Rattle.liquid_scopes.specs.Standing.{TopOf, two_looks, own, own_at, has_at, own_at_top, is_sandboxed, last_seal, found_over}
+use Rattle.liquid_scopes.specs.Standing.{two_looks, own, own_at, has_at, own_at_top, is_sandboxed, last_seal, found_over}
+use Rattle.liquid_scopes.specs.NamePlaces.{TopOf}
 use Rattle.liquid_scopes.proofs.LayerLaws.{lookup_link}
 
 not_there : (o : Option Tree) → is_some o ≡ false → o ≡ None

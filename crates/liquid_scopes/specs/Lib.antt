@@ -1,4 +1,5 @@
 pub mod Layers
 pub mod LinkLayers
+pub mod NamePlaces
 pub mod Standing
 pub mod Histories

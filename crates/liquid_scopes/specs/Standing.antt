@@ -1,43 +1,25 @@
 -- Which frames give a name a value: what an index of names says, and what the layers are.
-use Rattle.std.specs.Prelude.{◌≡◌, ◌<◌, ℕ, zero, suc, List, [], ◌∷◌, Option, Some, None, Bool, true, false, cond, is_some, not, nat_lt, String, option_map}
+use Rattle.std.specs.Prelude.{ℕ, zero, suc, List, [], ◌∷◌, Option, Some, None, Bool, true, false, cond, is_some, nat_lt, String, option_map}
 use Rattle.std.specs.Option.{option_or}
-use Rattle.std.specs.Ordering.{nat_cmp}
 use Rattle.std.specs.BTreeMap.{BTreeMap, get_by_text}
-use Rattle.std.specs.BTreeSet.{BTreeSet, contains}
 use Rattle.std.specs.FinMap.{get}
 use Rattle.std.specs.declared.alloc.Global.{Global}
 use Rattle.liquid_value.specs.Tree.{Tree}
+use Rattle.liquid_scopes.specs.declared.frames.Frames.{Frames}
+use Rattle.liquid_scopes.specs.NamePlaces.{is_place}
 use Rattle.liquid_scopes.specs.Layers.{Layer, none_layer, stack_layer, global_layer, sandboxed_layer, layer_found}
 
--- for each name the places of its frames
+-- for each name its frames
 abbrev pub Places : Type 0
-Places = BTreeMap (String Global) (BTreeSet ℕ)
+Places = BTreeMap (String Global) Frames
 
-abbrev pub is_among : Option (BTreeSet ℕ) → ℕ → Bool
+abbrev pub is_among : Option Frames → ℕ → Bool
 is_among None j = false
-is_among (Some frames) j = contains nat_cmp frames j
+is_among (Some frames) j = is_place frames.last frames.earlier j
 
 -- whether the frame at place j is among the name's
 abbrev pub stands : Places → List ℕ → ℕ → Bool
 stands m q j = is_among (get_by_text m q) j
-
--- no frames
-abbrev pub no_frames : List ℕ → Bool
-no_frames [] = true
-no_frames (frame ∷ frames) = false
-
-abbrev pub is_held : Option (BTreeSet ℕ) → Bool
-is_held None = true
-is_held (Some frames) = not (no_frames frames.keys)
-
--- each name of the index has a frame
-abbrev pub AllHeld : Places → Type 0
-AllHeld m = (q : List ℕ) → is_held (get_by_text m q) ≡ true
-
--- the last number that passes, if one does
-abbrev pub TopOf : (ℕ → Bool) → Option ℕ → Type 0
-TopOf P None = (j : ℕ) → P j ≡ false
-TopOf P (Some i) = (P i ≡ true) × ((j : ℕ) → i < j → P j ≡ false)
 
 -- what the last place, the last sandboxed frame and the base say
 abbrev pub two_looks : Option ℕ → Option ℕ → Option Tree → Option Tree → Option Tree

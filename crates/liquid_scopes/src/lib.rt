@@ -3,6 +3,7 @@
 
 mod chained_scopes;
 mod flat_scopes;
+mod frames;
 mod index;
 mod laws;
 mod link;

@@ -12,7 +12,8 @@ ghost use Rattle.liquid_runtime.specs.Sets.{old_global, put_global, old_index, p
 ghost use Rattle.liquid_runtime.specs.declared.registers.Registers.{Registers};
 ghost use Rattle.liquid_scopes.specs.Layers.{shown_over, restoring};
 ghost use Rattle.liquid_scopes.specs.LinkLayers.{layer_of};
-ghost use Rattle.liquid_scopes.specs.Standing.{own_at, has_at, last_seal, TopOf};
+ghost use Rattle.liquid_scopes.specs.Standing.{own_at, has_at, last_seal};
+ghost use Rattle.liquid_scopes.specs.NamePlaces.{TopOf};
 
 use crate::link::{closing, opening};
 use crate::links::{name_over, roots_over, seals_over};

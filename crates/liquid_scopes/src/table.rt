@@ -8,7 +8,8 @@ ghost use Rattle.liquid_runtime.specs.Frames.{Restore};
 ghost use Rattle.liquid_runtime.specs.Sets.{old_global, put_global};
 ghost use Rattle.liquid_scopes.specs.Layers.{Layer, shown_over, restoring, is_global, LastGlobal, GlobalAt};
 ghost use Rattle.liquid_scopes.specs.LinkLayers.{layer_of};
-ghost use Rattle.liquid_scopes.specs.Standing.{stands, own, own_at, has_at, is_sandboxed, last_seal, places_where, TopOf};
+ghost use Rattle.liquid_scopes.specs.Standing.{stands, own, own_at, has_at, is_sandboxed, last_seal, places_where};
+ghost use Rattle.liquid_scopes.specs.NamePlaces.{TopOf};
 
 use crate::index::Index;
 use crate::link::Link;

@@ -1,8 +1,10 @@
-//! The tests of the parser's cursors, as tables of rows.
+//! The tests of chains made by hand, and of the parser's cursors, as tables of rows.
 #![tactic(auto)]
 
 #[cfg(test)]
 mod blocks;
+#[cfg(test)]
+mod chains;
 #[cfg(test)]
 mod elements;
 #[cfg(test)]

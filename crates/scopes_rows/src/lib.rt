@@ -1,4 +1,4 @@
-//! The tests of scopes, over both forms.
+//! The tests of paths and runtimes, and of scopes over both forms.
 #![tactic(auto)]
 
 #[cfg(test)]
@@ -11,3 +11,5 @@ mod framed;
 mod frames;
 #[cfg(test)]
 mod made;
+#[cfg(test)]
+mod runtimes;

@@ -1,10 +1,13 @@
-//! Paths, names and frames, through the calls that users make.
-use liquid_core::model::{ArrayView, Object, Path, ScalarCow, Value, ValueCow, find, try_find};
-use liquid_core::runtime::{
+//! Paths, names, frames and registers over a runtime.
+use liquid_error::Error;
+use liquid_paths::{Path, find, try_find};
+use liquid_runtime::{
     BuiltRuntime, Fresh, Interrupt, Runtime, RuntimeBuilder, RuntimeCore, SandboxedStackFrame,
     StackFrame,
 };
-use liquid_core::{Error, ValueView};
+use liquid_scalar::ScalarCow;
+use liquid_value::{Object, Value, ValueCow};
+use liquid_views::{ArrayView, ValueView};
 use std::alloc::{AllocError, Global};
 use std::test::Fail;
 

@@ -1,0 +1,13 @@
+-- The places of one name's frames.
+use Rattle.std.specs.Prelude.{◌≡◌, ◌<◌, ◌||◌, ℕ, Option, Some, None, Bool, true, false, nat_eq}
+use Rattle.std.specs.Ordering.{nat_cmp}
+use Rattle.std.specs.BTreeSet.{BTreeSet, contains}
+
+-- whether j is the last place or an earlier one
+abbrev pub is_place : ℕ → BTreeSet ℕ → ℕ → Bool
+is_place last earlier j = nat_eq j last || contains nat_cmp earlier j
+
+-- the last number that passes, if one does
+abbrev pub TopOf : (ℕ → Bool) → Option ℕ → Type 0
+TopOf P None = (j : ℕ) → P j ≡ false
+TopOf P (Some i) = (P i ≡ true) × ((j : ℕ) → i < j → P j ≡ false)
