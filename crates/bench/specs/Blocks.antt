@@ -22,7 +22,7 @@ block_of block.Box = shape.Box
 block_of block.Sbox = shape.Sbox
 block_of block.Swap = shape.Swap
 block_of (block.Raw slice) = shape.Raw (string_bytes slice)
-block_of (block.With name e) = shape.With (string_bytes name) (expression_of e)
+block_of (block.With name e) = shape.With (string_bytes name) (expression_of e.value)
 block_of block.Glob = shape.Glob
 
 -- the turn behind a turn

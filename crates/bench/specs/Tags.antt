@@ -23,14 +23,14 @@ use Rattle.bench.specs.declared.tags.LeakyTagShape.TheVariants as leaky_shape
 
 -- the shape of a tag
 abbrev pub tag_of : TagNode → TagShape
-tag_of (tag.Set name e) = shape.Set (string_bytes name) (expression_of e)
+tag_of (tag.Set name e) = shape.Set (string_bytes name) (expression_of e.value)
 tag_of (tag.Inc name) = shape.Inc (string_bytes name)
 tag_of tag.Brk = shape.Brk
 
 -- the same where there is `leak` too
 abbrev pub leaky_of : LeakyTagNode → LeakyTagShape
 leaky_of (leaky.Plain node) = leaky_shape.Plain (tag_of node)
-leaky_of (leaky.Leak name e) = leaky_shape.Leak (string_bytes name) (expression_of e)
+leaky_of (leaky.Leak name e) = leaky_shape.Leak (string_bytes name) (expression_of e.value)
 
 -- what setting a global to this value tells: its old value
 abbrev pub assigned : {Reg : Type 0} → List ℕ → Result Tree Refusal → View Reg → Told (Option Tree) (Unit {0}) Reg

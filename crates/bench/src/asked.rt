@@ -41,17 +41,18 @@ pub(crate) fn name_alone(alloc: Global, tokens: TagTokenIter<'_>) -> Result<Stri
     }
 }
 
-/// A name and a value, and no token behind them.
+/// A name and a value, and no token behind them. The value stands apart, since every node has
+/// room for the largest one.
 pub(crate) fn name_and_value(
     alloc: Global,
     tokens: TagTokenIter<'_>,
-) -> Result<(String, Expression), Error>
-    ensures { (ts : Tokens) → AreTokens tokens.entry ts → Gives (λ given. (string_bytes given.0, expression_of given.1)) result (name_and_value ts) }
+) -> Result<(String, Box<Expression>), Error>
+    ensures { (ts : Tokens) → AreTokens tokens.entry ts → Gives (λ given. (string_bytes given.0, expression_of given.1.value)) result (name_and_value ts) }
 {
     match next_name(alloc, tokens) {
         Ok((name, behind)) => match next_value(alloc, behind) {
             Ok((value, rest)) => match rest.expect_nothing(alloc) {
-                Ok(()) => Ok((String::from_str(alloc, name)?, value)),
+                Ok(()) => Ok((String::from_str(alloc, name)?, Box::new(alloc, value)?)),
                 Err(error) => Err(error),
             },
             Err(error) => Err(error),

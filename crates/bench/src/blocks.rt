@@ -30,7 +30,7 @@ pub enum BlockNode {
     /// A text as it stands.
     Raw(String),
     /// The body under a stack frame of one name, which has what an expression comes to.
-    With(String, Expression),
+    With(String, Box<Expression>),
     /// The body under a global frame.
     Glob,
 }
@@ -106,7 +106,7 @@ impl<V: Fresh> Renderable<V> for BlockNode {
             (BlockNode::Swap, Stage::Second) => Ok(Turn::Body(0, Frame::None, None)),
             (BlockNode::Raw(text), Stage::First) => Ok(Turn::Text(text.clone()?)),
             (BlockNode::With(name, expression), Stage::First) => {
-                match bound(alloc, name, expression, &*runtime) {
+                match bound(alloc, name, &**expression, &*runtime) {
                     Ok(frame) => Ok(Turn::Body(0, frame, None)),
                     Err(error) => Err(error),
                 }

@@ -21,7 +21,7 @@ use std::alloc::{AllocError, Global};
 #[derive(Drop)]
 pub enum TagNode {
     /// Sets the global of a name to what an expression comes to.
-    Set(String, Expression),
+    Set(String, Box<Expression>),
     /// Renders the partial of a name, without a frame.
     Inc(String),
     /// Lets the interrupt `Break` stand.
@@ -70,7 +70,7 @@ impl<V: Fresh> Renderable<V> for TagNode {
         runtime: &mut R,
     ) -> Result<Turn, Error> {
         match self {
-            TagNode::Set(name, expression) => match assign(alloc, name, expression, runtime) {
+            TagNode::Set(name, expression) => match assign(alloc, name, &**expression, runtime) {
                 Ok(_) => Ok(Turn::End),
                 Err(error) => Err(error),
             },
@@ -95,7 +95,7 @@ pub enum LeakyTagNode {
     /// A tag of the program's language.
     Plain(TagNode),
     /// Sets a global as `set` does, and writes the render of its old value.
-    Leak(String, Expression),
+    Leak(String, Box<Expression>),
 }
 
 /// Stands for the shape of such a tag.
@@ -141,7 +141,7 @@ impl<V: Fresh> Renderable<V> for LeakyTagNode {
         match self {
             LeakyTagNode::Plain(tag) => tag.turn(alloc, progress, runtime),
             LeakyTagNode::Leak(name, expression) => {
-                match assign(alloc, name, expression, runtime) {
+                match assign(alloc, name, &**expression, runtime) {
                     Ok(old) => Ok(Turn::Text(rendered(alloc, old)?)),
                     Err(error) => Err(error),
                 }

@@ -87,6 +87,11 @@ fn variable(alloc: Global, name: &str) -> Result<Expression, AllocError> {
     Ok(Expression::Variable(Variable::with_literal(alloc, text(alloc, name)?)))
 }
 
+/// A number, as a node holds a value.
+fn literal(alloc: Global, number: i64) -> Result<Box<Expression>, AllocError> {
+    Ok(Box::new(alloc, Expression::with_literal(number))?)
+}
+
 /// A node without parts, or none for a step that has to do with parts.
 fn leaf(alloc: Global, step: Step) -> Result<Option<Element>, AllocError> {
     let tag = match step {
@@ -97,9 +102,9 @@ fn leaf(alloc: Global, step: Step) -> Result<Option<Element>, AllocError> {
         }
         Leak(name, number) => {
             let name = text(alloc, name)?;
-            return Ok(Some(Node::Tag(LeakyTagNode::Leak(name, Expression::with_literal(number)))));
+            return Ok(Some(Node::Tag(LeakyTagNode::Leak(name, literal(alloc, number)?))));
         }
-        Set(name, number) => TagNode::Set(text(alloc, name)?, Expression::with_literal(number)),
+        Set(name, number) => TagNode::Set(text(alloc, name)?, literal(alloc, number)?),
         Inc(name) => TagNode::Inc(text(alloc, name)?),
         Brk => TagNode::Brk,
         Begin | Mid | End(_) => return Ok(None),
@@ -113,11 +118,10 @@ fn block(alloc: Global, kind: Kind) -> Result<BlockNode, AllocError> {
         Kind::Sbox => BlockNode::Sbox,
         Kind::Swap => BlockNode::Swap,
         Kind::Raw(slice) => BlockNode::Raw(text(alloc, slice)?),
-        Kind::With(name, number) => {
-            BlockNode::With(text(alloc, name)?, Expression::with_literal(number))
-        }
+        Kind::With(name, number) => BlockNode::With(text(alloc, name)?, literal(alloc, number)?),
         Kind::WithName(name, other) => {
-            BlockNode::With(text(alloc, name)?, variable(alloc, other)?)
+            let value = Box::new(alloc, variable(alloc, other)?)?;
+            BlockNode::With(text(alloc, name)?, value)
         }
         Kind::Glob => BlockNode::Glob,
     })

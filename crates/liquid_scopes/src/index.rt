@@ -38,6 +38,7 @@ impl Index {
     }
 
     // The frame gives the name a value.
+    #[inline(always)]
     pub(crate) fn note(&mut self, alloc: Global, name: &str, frame: usize) -> Result<(), Error>
         ensures noted { OnOk result ((q : List ℕ) (j : ℕ) → stands self.new.places q j ≡ (stands self.old.places q j || (bytes_eq name.now q && nat_eq j frame))) }
         ensures unchanged { OnErr result ((q : List ℕ) (j : ℕ) → stands self.new.places q j ≡ stands self.old.places q j) }
@@ -58,6 +59,7 @@ impl Index {
     }
 
     // The frame gives the name no value. A name that no frame has any more leaves the index.
+    #[inline(always)]
     pub(crate) fn forget(&mut self, name: &str, frame: usize)
         ensures { (q : List ℕ) (j : ℕ) → stands self.new.places q j ≡ (stands self.old.places q j && not (bytes_eq name.now q && nat_eq j frame)) }
     {
@@ -73,6 +75,7 @@ impl Index {
     }
 
     // The frame gives these names a value; where memory is wanting, some of them.
+    #[inline(always)]
     pub(crate) fn note_all(
         &mut self,
         alloc: Global,
@@ -93,6 +96,7 @@ impl Index {
     }
 
     // The frame gives none of these names a value.
+    #[inline(always)]
     pub(crate) fn forget_all(&mut self, names: &Object, frame: usize)
         ensures { (q : List ℕ) (j : ℕ) → stands self.new.places q j ≡ (stands self.old.places q j && not (is_some (get (names_of names.now) q) && nat_eq j frame)) }
     {

@@ -148,6 +148,7 @@ impl<V> Link<V> {
 }
 
 // The link of a frame that begins over the base: a sandboxed one takes the base's registers into the link.
+#[inline(always)]
 #[tactic(auto, using(liquid_runtime::proofs::Objects::changed_objects))]
 pub(crate) fn opening<R: Runtime>(alloc: Global, base: &mut R, frame: Frame) -> Link<R::Register>
     ensures registers { R.view base.new ≡ with_registers (registers_of (R.view base.new)) (R.view base.old) }
@@ -169,6 +170,7 @@ pub(crate) fn opening<R: Runtime>(alloc: Global, base: &mut R, frame: Frame) -> 
 }
 
 // What the ending of a link's frame gives back to the base.
+#[inline(always)]
 pub(crate) fn closing<R: Runtime>(base: &mut R, link: Link<R::Register>)
     ensures registers { R.view base.new ≡ with_registers (registers_of (R.view base.new)) (R.view base.old) }
     ensures ends { (v : View R.Register) → registers_of v ≡ registers_of (R.view base.old) → with_registers (registers_of (R.view base.new)) v ≡ ending (layer_restores (layer_of link) v) (layer_view (layer_of link) v) }

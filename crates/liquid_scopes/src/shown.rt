@@ -176,6 +176,7 @@ impl<R: Runtime> Shown<R> {
         self.base.depth()
     }
 
+    #[inline(always)]
     pub(crate) fn begin(&mut self, alloc: Global, frame: Frame) -> Result<(), Error>
         ensures ok { OnOk result (shown_over (R.view self.new.base) (map layer_of self.new.table.links.items) ≡ beginning R.Register.fresh (frame_of frame) (shown_over (R.view self.old.base) (map layer_of self.old.table.links.items))) }
         ensures opens { OnOk result (restoring (R.view self.new.base) (map layer_of self.new.table.links.items) (scope_base ∷ R.restores self.new.base) ≡ restored_by (frame_of frame) (shown_over (R.view self.old.base) (map layer_of self.old.table.links.items)) ∷ restoring (R.view self.old.base) (map layer_of self.old.table.links.items) (scope_base ∷ R.restores self.old.base)) }
@@ -195,6 +196,7 @@ impl<R: Runtime> Shown<R> {
         }
     }
 
+    #[inline(always)]
     pub(crate) fn end(&mut self)
         requires { 0 < length (opened (restoring (R.view self.old.base) (map layer_of self.old.table.links.items) (scope_base ∷ R.restores self.old.base))) }
         ensures ends { EndsFirst (restoring (R.view self.old.base) (map layer_of self.old.table.links.items) (scope_base ∷ R.restores self.old.base)) (shown_over (R.view self.old.base) (map layer_of self.old.table.links.items)) (restoring (R.view self.new.base) (map layer_of self.new.table.links.items) (scope_base ∷ R.restores self.new.base)) (shown_over (R.view self.new.base) (map layer_of self.new.table.links.items)) }

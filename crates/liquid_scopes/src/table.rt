@@ -84,6 +84,7 @@ impl<V> Table<V> {
     }
 
     // One frame more; it comes back where memory is wanting.
+    #[inline(always)]
     pub(crate) fn add(&mut self, alloc: Global, link: Link<V>) -> Result<(), Link<V>>
         ensures added { OnOk result (self.new.links.items ≡ self.old.links.items ++ link ∷ []) }
         ensures back { IfErr result (λ given. given ≡ link) }
@@ -119,6 +120,7 @@ impl<V> Table<V> {
     }
 
     // The last frame is taken out, and the names that it masked are found again.
+    #[inline(always)]
     pub(crate) fn take(&mut self) -> Option<Link<V>>
         ensures items { self.old.links.items ≡ self.new.links.items ++ option_to_list result }
         ensures none { IfNone result (self.old.links.items ≡ []) }
@@ -167,6 +169,7 @@ impl<V> Table<V> {
 }
 
 // The frame at this place gives its names a value; where memory is wanting, some of them.
+#[inline(always)]
 #[tactic(auto, using(crate::proofs::FlatLaws::no_names_stand))]
 fn note_link<V>(index: &mut Index, alloc: Global, link: &Link<V>, frame: usize) -> Result<(), Error>
     ensures noted { OnOk result ((q : List ℕ) (j : ℕ) → stands index.new.places q j ≡ (stands index.old.places q j || (is_some (own (layer_of link.now) q) && nat_eq j frame))) }
@@ -181,6 +184,7 @@ fn note_link<V>(index: &mut Index, alloc: Global, link: &Link<V>, frame: usize) 
 }
 
 // The frame at this place gives none of its names a value any more.
+#[inline(always)]
 #[tactic(auto, using(crate::proofs::FlatLaws::no_names_stand))]
 fn forget_link<V>(index: &mut Index, link: &Link<V>, frame: usize)
     ensures { (q : List ℕ) (j : ℕ) → stands index.new.places q j ≡ (stands index.old.places q j && not (is_some (own (layer_of link.now) q) && nat_eq j frame)) }

@@ -6,6 +6,9 @@ use Rattle.bench.specs.declared.tags.TagShape.TheVariants.{Set, Inc}
 use Rattle.bench.proofs.AskedLemmas.{refused_then}
 use Rattle.bench.proofs.tag_plugins.plain_tag.Goals as goal
 
+pub returns-in-Ok : goal.returns-in-Ok
+returns-in-Ok c ts at = rw c.in-Set.is (ap (λ q. ok_then q (λ given. Ok (Set given.0 given.1))) (c.in-Ok.ensures ts at))
+
 pub returns-in-Err : goal.returns-in-Err
 returns-in-Err c ts at = rw c.in-Set.is (refused_then (told c.in-Err.error) (name_and_value ts) (λ given. Ok (Set given.0 given.1)) (c.in-Err.ensures ts at))
 
