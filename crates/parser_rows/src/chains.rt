@@ -228,28 +228,47 @@ fn expressions_are_copied_compared_and_taken_apart(rt: HostRuntime) -> Result<()
     Ok(())
 }
 
+/// Whether trying an entry comes to what evaluating it does, or to nothing where that is refused.
+fn is_tried(
+    alloc: Global,
+    entry: &Expression,
+    runtime: &BuiltRuntime<(), ()>,
+) -> Result<bool, AllocError> {
+    let tried = entry.try_evaluate(alloc, runtime)?;
+    Ok(match entry.evaluate(alloc, runtime) {
+        Ok(value) => tried == Some(value),
+        Err(_) => tried.is_none(),
+    })
+}
+
 #[test]
 fn what_is_tried_is_not_refused(rt: HostRuntime) -> Result<(), Fail> {
     let alloc = rt.alloc();
     let runtime = runtime(alloc)?;
     for row in &ROWS {
         let entry = expression(alloc, row.entry, row.indexes)?;
-        let tried = entry.try_evaluate(alloc, &runtime)?;
-        match entry.evaluate(alloc, &runtime) {
-            Ok(value) => assert!(rt; tried == Some(value)),
-            Err(_) => assert!(rt; tried.is_none()),
-        }
+        assert!(rt; is_tried(alloc, &entry, &runtime)?);
     }
-    let mut variable = Variable::with_literal(alloc, text(alloc, "box")?);
+    Ok(())
+}
+
+/// Puts a variable behind the indexes.
+fn add_index(alloc: Global, variable: &mut Variable, name: &'static str) -> Result<(), AllocError> {
     let mut more = Vec::new(alloc);
-    more.push(part_of(alloc, Name("word"))?)?;
-    variable.extend(more)?;
+    more.push(part_of(alloc, Name(name))?)?;
+    variable.extend(more)
+}
+
+#[test]
+fn a_path_is_tried_index_by_index(rt: HostRuntime) -> Result<(), Fail> {
+    let alloc = rt.alloc();
+    let runtime = runtime(alloc)?;
+    let mut variable = Variable::with_literal(alloc, text(alloc, "box")?);
+    add_index(alloc, &mut variable, "word")?;
     let path = variable.evaluate(alloc, &runtime)?.to_string(alloc)?;
     assert_eq!(rt; path.as_str(), "box.part");
     assert!(rt; variable.try_evaluate(alloc, &runtime)?.is_some());
-    let mut more = Vec::new(alloc);
-    more.push(part_of(alloc, Name("one"))?)?;
-    variable.extend(more)?;
+    add_index(alloc, &mut variable, "one")?;
     assert!(rt; variable.evaluate(alloc, &runtime).is_err());
     assert!(rt; variable.try_evaluate(alloc, &runtime)?.is_none());
     Ok(())
