@@ -106,18 +106,53 @@ fn boxes(alloc: Global, count: usize) -> Result<String, AllocError> {
     Ok(body)
 }
 
+/// What comes of a body of so many boxes in each other.
+fn boxed(
+    alloc: Global,
+    count: usize,
+    language: &Language<Filters, Tags, Blocks>,
+) -> Result<String, AllocError> {
+    parsed(alloc, boxes(alloc, count)?.as_str(), language)
+}
+
 #[test]
 fn a_cursor_counts_as_one_open_block(rt: HostRuntime) -> Result<(), Fail> {
     let alloc = rt.alloc();
     let language = language(alloc)?;
-    let fits = parsed(alloc, boxes(alloc, 99)?.as_str(), &language)?;
-    assert_eq!(rt; fits.len(), 198);
-    let deep = parsed(alloc, boxes(alloc, 100)?.as_str(), &language)?;
+    assert_eq!(rt; boxed(alloc, 99, &language)?.len(), 198);
     assert_eq!(rt;
-        deep.as_str(),
+        boxed(alloc, 100, &language)?.as_str(),
         "liquid: Nested too deep (line 1, column 895)"
     );
     Ok(())
+}
+
+/// The nodes of the next elements, of so many at most.
+fn next_nodes(
+    alloc: Global,
+    block: &mut TagBlock<'_, '_>,
+    count: usize,
+    language: &Language<Filters, Tags, Blocks>,
+) -> Result<Vec<BodyNode>, Error> {
+    let mut nodes = Vec::new(alloc);
+    for _ in 0..count {
+        if let Some(element) = block.next(alloc)? {
+            nodes.push(element.parse(alloc, block, language)?)?;
+        }
+    }
+    Ok(nodes)
+}
+
+/// The node of the next element, where it is an expression.
+fn next_expression(
+    alloc: Global,
+    block: &mut TagBlock<'_, '_>,
+    language: &Language<Filters, Tags, Blocks>,
+) -> Result<Option<BodyNode>, Error> {
+    match block.next(alloc)? {
+        Some(BlockElement::Expression(exp)) => Ok(Some(exp.parse(alloc, language)?)),
+        _ => Ok(None),
+    }
 }
 
 #[test]
@@ -129,21 +164,39 @@ fn elements_are_parsed_one_by_one(rt: HostRuntime) -> Result<(), Fail> {
         "start",
         "end",
     );
-    let mut nodes = Vec::new(alloc);
-    for _ in 0..3 {
-        if let Some(element) = block.next(alloc)? {
-            nodes.push(element.parse(alloc, &mut block, &language)?)?;
-        }
-    }
+    let mut nodes = next_nodes(alloc, &mut block, 3, &language)?;
     assert_eq!(rt; nodes.len(), 3);
-    if let Some(BlockElement::Expression(exp)) = block.next(alloc)? {
-        nodes.push(exp.parse(alloc, &language)?)?;
+    if let Some(node) = next_expression(alloc, &mut block, &language)? {
+        nodes.push(node)?;
     }
     assert!(rt; block.parse_next(alloc, &language)?.is_none());
     assert!(rt; block.is_closed());
     assert!(rt; block.parse_next(alloc, &language)?.is_none());
     assert_eq!(rt; rendered(alloc, Ok(nodes))?.as_str(), "a5[b]6");
     Ok(())
+}
+
+/// The first line of the refusal of the next element, a brace that begins nothing.
+fn brace_refused(alloc: Global, block: &mut TagBlock<'_, '_>) -> Result<String, Error> {
+    match block.next(alloc)? {
+        Some(BlockElement::Invalid(token)) => {
+            let refused: Result<BodyNode, Error> = token.parse(alloc, block);
+            match refused {
+                Ok(_) => Ok(String::from_str(alloc, "a node")?),
+                Err(error) => Ok(told(alloc, &error)?),
+            }
+        }
+        _ => Ok(String::from_str(alloc, "another element")?),
+    }
+}
+
+/// The node of the text that a body begins with.
+fn text_node(alloc: Global, body: &str) -> Result<Option<BodyNode>, Error> {
+    let mut block = TagBlock::new(body, "start", "end");
+    match block.next(alloc)? {
+        Some(BlockElement::Raw(raw)) => Ok(Some(raw.into_renderable(alloc)?)),
+        _ => Ok(None),
+    }
 }
 
 #[test]
@@ -153,22 +206,12 @@ fn a_tag_alone_takes_its_body_from_a_cursor(rt: HostRuntime) -> Result<(), Fail>
     let mut block = TagBlock::new("a{% endbox %}{{% end %}", "start", "end");
     let mut nodes = Vec::new(alloc);
     nodes.push(Tag::new(alloc, "{% box %}")?.parse(alloc, &mut block, &language)?)?;
-    match block.next(alloc)? {
-        Some(BlockElement::Invalid(token)) => {
-            let refused: Result<BodyNode, Error> = token.parse(alloc, &mut block);
-            match refused {
-                Ok(node) => nodes.push(node)?,
-                Err(error) => assert_eq!(rt;
-                    told(alloc, &error)?.as_str(),
-                    "liquid: Invalid liquid (line 1, column 14)"
-                ),
-            }
-        }
-        _ => return Err(Fail::from("the brace is handed out as something else")),
-    }
-    let mut other = TagBlock::new("b{% end %}", "start", "end");
-    if let Some(BlockElement::Raw(raw)) = other.next(alloc)? {
-        nodes.push(raw.into_renderable(alloc)?)?;
+    assert_eq!(rt;
+        brace_refused(alloc, &mut block)?.as_str(),
+        "liquid: Invalid liquid (line 1, column 14)"
+    );
+    if let Some(node) = text_node(alloc, "b{% end %}")? {
+        nodes.push(node)?;
     }
     assert_eq!(rt; rendered(alloc, Ok(nodes))?.as_str(), "[a]b");
     Ok(())
