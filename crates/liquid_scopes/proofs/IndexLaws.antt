@@ -1,10 +1,9 @@
 -- What the calls of an index do to the places of names.
-use Rattle.std.proofs.Common.{◌≡◌, ℕ, List, [], ◌∷◌, Option, None, Some, Bool, true, false, cond, refl, sym, ap, ◌∙◌, arith, String, Global}
-use Rattle.std.specs.Prelude.{IsTrue, ◌↔◌, length, is_some, ◌&&◌, ◌||◌, not, string_bytes, bytes_eq}
-use Rattle.std.specs.BTreeMap.{get_by_text, is_at}
-use Rattle.std.specs.List.{list_any}
+use Rattle.std.proofs.Common.{◌≡◌, ℕ, List, [], ◌∷◌, Option, None, Some, Bool, true, false, cond, refl, sym, ap, ◌∙◌, String, Global}
+use Rattle.std.specs.Prelude.{is_some, ◌&&◌, ◌||◌, not, string_bytes, bytes_eq}
+use Rattle.std.specs.BTreeMap.{get_by_text}
 use Rattle.std.specs.Map.{lookup as lookup_entry}
-use Rattle.std.specs.Ordering.{match_ordering, nat_cmp, is_eq}
+use Rattle.std.specs.Ordering.{nat_cmp, is_eq}
 use Rattle.std.specs.Cmp.Lexicographic.{slice_cmp}
 use Rattle.std.specs.Ordering.{eq_by_cmp}
 use Rattle.std.specs.declared.cmp.Ordering.{Ordering}

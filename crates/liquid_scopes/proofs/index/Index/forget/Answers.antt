@@ -1,4 +1,4 @@
-use Rattle.std.proofs.Common.{sym, ap, ◌∙◌, Some, None, rules}
+use Rattle.std.proofs.Common.{Some, None, rules}
 use Rattle.std.specs.Prelude.{nat_eq}
 use Rattle.std.proofs.lemmas.Map.Text.{btree_map_updates_text}
 use Rattle.liquid_scopes.proofs.IndexLaws.{dropped_frame, emptied_name}
