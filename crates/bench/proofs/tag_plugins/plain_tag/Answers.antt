@@ -1,4 +1,4 @@
-use Rattle.std.proofs.Common.{Ok, ap, ◌∙◌}
+use Rattle.std.proofs.Common.{Ok, ap}
 use Rattle.liquid_error.specs.Refusal.{ok_then}
 use Rattle.liquid_error.specs.Told.{told}
 use Rattle.bench.specs.Asked.{name_alone, name_and_value}
