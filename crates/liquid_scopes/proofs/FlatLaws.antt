@@ -4,7 +4,9 @@ use Rattle.std.proofs.lemmas.Bool.Decides.{nat_tests}
 use Rattle.std.specs.Prelude.{is_some, nat_eq, ◌&&◌, ◌||◌, not}
 use Rattle.liquid_value.specs.Tree.{Tree}
 use Rattle.liquid_scopes.specs.Layers.{Layer, global_layer, is_global, assigned, GlobalAt}
-use Rattle.liquid_scopes.specs.Standing.{own, own_at, has_at}
+use Rattle.liquid_scopes.specs.NamePlaces.{is_at}
+use Rattle.liquid_scopes.specs.Standing.{own, own_at, has_at, listed_at}
+use Rattle.liquid_scopes.proofs.Unlisted.{absent}
 use Rattle.liquid_scopes.proofs.LayerLaws.{map_append, map_length}
 use Rattle.std.specs.Prelude.{bytes_eq}
 use Rattle.std.specs.Ordering.{nat_cmp, eq_by_cmp}
@@ -67,6 +69,71 @@ and_no : (b : Bool) → (b && false) ≡ false
 and_no true = refl
 and_no false = refl
 
+-- one place more, which is not listed
+over_new : (A o e : Bool) → (A && e) ≡ false → A ≡ ((A || (o && e)) && not e)
+over_new true o true h = absurd (cc)
+over_new true o false h = refl
+over_new false true true h = refl
+over_new false true false h = refl
+over_new false false e h = refl
+
+-- the unlisted place is listed
+listed_now : (A o e : Bool) → (e ≡ true → A ≡ o) → ((A && not e) || (o && e)) ≡ (A && true)
+listed_now true true true h = refl
+listed_now true false true h = let k = h refl in absurd (cc)
+listed_now true o false h = refl
+listed_now false true true h = let k = h refl in absurd (cc)
+listed_now false true false h = refl
+listed_now false false e h = refl
+
+part_undone : (A o e : Bool) → ((A && not e) && (o && e)) ≡ false
+part_undone true o true = refl
+part_undone true true false = refl
+part_undone true false false = refl
+part_undone false o e = refl
+
+-- a listed place goes
+taken : (A o e w : Bool) → (A && e) ≡ false → (((A || (o && e)) && not w) && not (o && e)) ≡ (A && not w)
+taken true o true w h = absurd (cc)
+taken true true false true h = refl
+taken true true false false h = refl
+taken true false false true h = refl
+taken true false false false h = refl
+taken false true true true h = refl
+taken false true true false h = refl
+taken false true false w h = refl
+taken false false e w h = refl
+
+-- a name more at a listed place, and at the unlisted one
+put_listed : (A b e w : Bool) → (e ≡ true → w ≡ false) → ((A && not w) || (b && e)) ≡ ((A || (b && e)) && not w)
+put_listed true b true true h = let k = h refl in absurd (cc)
+put_listed true true false true h = refl
+put_listed true false false true h = refl
+put_listed true b e false h = refl
+put_listed false true true true h = let k = h refl in absurd (cc)
+put_listed false true true false h = refl
+put_listed false true false w h = refl
+put_listed false false e w h = refl
+
+put_unlisted : (A b e w : Bool) → (e ≡ true → w ≡ true) → (A && not w) ≡ ((A || (b && e)) && not w)
+put_unlisted true b e w h = refl
+put_unlisted false true true true h = refl
+put_unlisted false true true false h = let k = h refl in absurd (cc)
+put_unlisted false true false w h = refl
+put_unlisted false false e w h = refl
+
+still_apart : (A w X : Bool) → (A && X) ≡ false → ((A && not w) && X) ≡ false
+still_apart true true X h = refl
+still_apart true false X h = h
+still_apart false w X h = refl
+
+at_that : (U : Option ℕ) (n j : ℕ) → is_at U n ≡ true → is_at U j ≡ nat_eq j n
+at_that None n j h = absurd (cc)
+at_that (Some u) n j h = let k : u ≡ n = grind (arith, nat_tests) in ap (nat_eq j) k
+
+same_at : (U : Option ℕ) (i j : ℕ) (b : Bool) → is_at U i ≡ b → nat_eq j i ≡ true → is_at U j ≡ b
+same_at U i j b h e = let k : j ≡ i = grind (arith, nat_tests) in ap (is_at U) k ∙ h
+
 absent_split : (P : List ℕ → ℕ → Bool) (k p : List ℕ) (i j : ℕ) (b c : Bool) → bytes_eq k p ≡ b → nat_eq j i ≡ c → P k i ≡ false → (P p j && (b && c)) ≡ false
 absent_split P k p i j true true e n h = let m : j ≡ i = grind (arith, nat_tests) in ap (λ x. P p x && true) m ∙ ap (λ x. P x i && true) (sym (same_text k p e)) ∙ ap (λ b. b && true) h
 absent_split P k p i j true false e n h = and_no (P p j)
@@ -77,20 +144,31 @@ module _ {Reg : Type 0} where
   own_seam [] after g q = refl
   own_seam (l ∷ before) after g q = own_seam before after g q
 
-  own_here : (ls : List (Layer Reg)) (i : ℕ) (q : List ℕ) (p : GlobalAt ls i) → own_at i ls q ≡ get p.names q
+  pub own_here : (ls : List (Layer Reg)) (i : ℕ) (q : List ℕ) (p : GlobalAt ls i) → own_at i ls q ≡ get p.names q
   own_here ls i q p = ap (λ xs. own_at i xs q) p.is ∙ ap (λ n. own_at n (p.before ++ global_layer p.names ∷ p.after) q) p.place ∙ own_seam p.before p.after p.names q
 
-  -- the place that was noted for a name that was not given a value
-  pub fits_kept : (ls ms : List (Layer Reg)) (i : ℕ) (k q : List ℕ) (j : ℕ) (S T U : Bool) (p : GlobalAt ls i) → None ≡ get p.names k → ms ≡ ls → S ≡ has_at ls q j
-      → T ≡ (S || (bytes_eq k q && nat_eq j i)) → U ≡ (T && not (bytes_eq k q && nat_eq j i)) → U ≡ has_at ms q j
-  fits_kept ls ms i k q j S T U p none same fit noted dropped =
-      dropped ∙ ap (λ b. b && not (bytes_eq k q && nat_eq j i)) (noted ∙ ap (λ b. b || (bytes_eq k q && nat_eq j i)) fit)
-      ∙ take_out (has_at ls q j) (bytes_eq k q && nat_eq j i) (absent_split (has_at ls) k q i j (bytes_eq k q) (nat_eq j i) refl refl (ap is_some (own_here ls i k p ∙ sym none)))
-      ∙ sym (ap (λ xs. has_at xs q j) same)
-
   -- no frame stands yet at the place of the next one
-  pub apart : (ls : List (Layer Reg)) (l : Layer Reg) (q : List ℕ) (j n : ℕ) → n ≡ length ls → (has_at ls q j && (is_some (own l q) && nat_eq j n)) ≡ false
-  apart ls l q j n e = drop_own (has_at ls q j) (is_some (own l q)) (nat_eq j n) (same_place (nat_eq j n) j n refl (has_at ls q) (ap (has_at ls q) e ∙ nothing_behind ls q))
+  nothing_there : (ls : List (Layer Reg)) (q : List ℕ) (j n : ℕ) → n ≡ length ls → (has_at ls q j && nat_eq j n) ≡ false
+  nothing_there ls q j n e = same_place (nat_eq j n) j n refl (has_at ls q) (ap (has_at ls q) e ∙ nothing_behind ls q)
+
+  -- the places when the next frame is the unlisted one
+  pub fits_push : (ls : List (Layer Reg)) (l : Layer Reg) (U : Option ℕ) (q : List ℕ) (j n : ℕ) (S : Bool) → n ≡ length ls → U ≡ None → S ≡ listed_at ls U q j → S ≡ listed_at (ls ++ l ∷ []) (Some n) q j
+  fits_push ls l U q j n S e none fit =
+      let A = has_at ls q j in
+      let o = is_some (own l q) in
+      fit ∙ ap (λ u. A && not (is_at u j)) none ∙ sym (and_all A) ∙ over_new A o (nat_eq j n) (nothing_there ls q j n e)
+      ∙ ap (λ b. b && not (nat_eq j n)) (ap (λ i. A || (o && nat_eq j i)) e ∙ sym (has_at-push ls l q j))
+
+  -- the next frame is the unlisted one, and doesn't stand there yet
+  pub fits_next : (ls : List (Layer Reg)) (U : Option ℕ) (q : List ℕ) (j n : ℕ) (S : Bool) → n ≡ length ls → U ≡ None → S ≡ listed_at ls U q j → S ≡ listed_at ls (Some n) q j
+  fits_next ls U q j n S e none fit =
+      fit ∙ ap (λ u. has_at ls q j && not (is_at u j)) none ∙ sym (and_all (has_at ls q j)) ∙ sym (absent (has_at ls q) n j (nat_eq j n) refl (ap (has_at ls q) e ∙ nothing_behind ls q))
+
+  -- the places when the next frame is one without names
+  pub fits_nameless : (ls : List (Layer Reg)) (l : Layer Reg) (U : Option ℕ) (q : List ℕ) (j : ℕ) (S : Bool) → own l q ≡ None → S ≡ listed_at ls U q j → S ≡ listed_at (ls ++ l ∷ []) U q j
+  fits_nameless ls l U q j S none fit =
+      let A = has_at ls q j in
+      fit ∙ ap (λ b. b && not (is_at U j)) (or_nothing A ∙ ap (λ o. A || (is_some o && nat_eq j (length ls))) (sym none) ∙ sym (has_at-push ls l q j))
 
   -- a global frame with one value more
   has_at-put : (before after : List (Layer Reg)) (m : Names) (k q : List ℕ) (t : Tree) (j : ℕ)
@@ -105,26 +183,6 @@ module _ {Reg : Type 0} where
     no_items [] e = refl
     no_items (x ∷ xs) e = absurd (cc)
 
-    -- the places after a push
-    pub fits_push : (xs ys : List X) (x : X) (q : List ℕ) (j n : ℕ) (S T : Bool) → ys ≡ xs ++ x ∷ [] → n ≡ length xs → S ≡ has_at (map f xs) q j → T ≡ (S || (is_some (own (f x) q) && nat_eq j n)) → T ≡ has_at (map f ys) q j
-    fits_push xs ys x q j n S T is e fit noted = noted ∙ ap (λ b. b || (is_some (own (f x) q) && nat_eq j n)) fit
-        ∙ ap (λ k. has_at (map f xs) q j || (is_some (own (f x) q) && nat_eq j k)) (e ∙ sym (map_length f xs))
-        ∙ sym (ap (λ zs. has_at zs q j) (ap (map f) is ∙ map_append f xs (x ∷ [])) ∙ has_at-push (map f xs) (f x) q j)
-
-    -- the places after a pop
-    pub fits_pop : (xs ys : List X) (x : X) (q : List ℕ) (j n : ℕ) (S T : Bool) → xs ≡ ys ++ x ∷ [] → n ≡ length ys → S ≡ has_at (map f xs) q j → T ≡ (S && not (is_some (own (f x) q) && nat_eq j n)) → T ≡ has_at (map f ys) q j
-    fits_pop xs ys x q j n S T is e fit dropped =
-        let k : n ≡ length (map f ys) = e ∙ sym (map_length f ys) in
-        dropped ∙ ap (λ b. b && not (is_some (own (f x) q) && nat_eq j n)) (fit ∙ ap (λ zs. has_at zs q j) (ap (map f) is ∙ map_append f ys (x ∷ [])) ∙ has_at-push (map f ys) (f x) q j)
-        ∙ ap (λ i. (has_at (map f ys) q j || (is_some (own (f x) q) && nat_eq j i)) && not (is_some (own (f x) q) && nat_eq j n)) (sym k)
-        ∙ take_out (has_at (map f ys) q j) (is_some (own (f x) q) && nat_eq j n) (apart (map f ys) (f x) q j n k)
-
-    -- the places after a push that found no memory
-    pub fits_undone : (xs : List X) (x : X) (q : List ℕ) (j n : ℕ) (S T U : Bool) → n ≡ length xs → S ≡ has_at (map f xs) q j → (T || (is_some (own (f x) q) && nat_eq j n)) ≡ (S || (is_some (own (f x) q) && nat_eq j n)) → U ≡ (T && not (is_some (own (f x) q) && nat_eq j n)) → U ≡ has_at (map f xs) q j
-    fits_undone xs x q j n S T U e fit part dropped = dropped
-        ∙ undone T S (is_some (own (f x) q) && nat_eq j n) part (ap (λ b. b && (is_some (own (f x) q) && nat_eq j n)) fit ∙ apart (map f xs) (f x) q j n (e ∙ sym (map_length f xs)))
-        ∙ fit
-
     -- the own value of the layer at a place
     pub own_within : (xs : List X) (i : ℕ) (x : X) (q : List ℕ) → i < length xs → x ≡ get_or xs i x → own (f x) q ≡ own_at i (map f xs) q
     own_within [] i x q h e = absurd (omega arith)
@@ -136,9 +194,70 @@ module _ {Reg : Type 0} where
     own_past (y ∷ xs) zero q h = absurd (omega arith)
     own_past (y ∷ xs) (suc i) q h = own_past xs i q (omega arith)
 
-    -- the places after a value was set in the global frame at place i
-    pub fits_put : (xs : List X) (i : ℕ) (x : X) (k q : List ℕ) (t : Tree) (j : ℕ) (S T : Bool) (p : GlobalAt (map f xs) i) → is_global (f x) ≡ true → assigned (f x) ≡ insert p.names k t
-        → S ≡ has_at (map f xs) q j → T ≡ (S || (bytes_eq k q && nat_eq j i)) → T ≡ has_at (map f (set xs i x)) q j
-    fits_put xs i x k q t j S T p g a fit noted = noted ∙ ap (λ b. b || (bytes_eq k q && nat_eq j i)) (fit ∙ ap (λ ls. has_at ls q j) p.is)
-        ∙ ap (λ n. has_at (p.before ++ global_layer p.names ∷ p.after) q j || (bytes_eq k q && nat_eq j n)) p.place
-        ∙ sym (ap (λ ls. has_at ls q j) (set_put f xs i x k t p g a) ∙ has_at-put p.before p.after p.names k q t j)
+    pushed : (xs ys : List X) (x : X) (q : List ℕ) (j : ℕ) → ys ≡ xs ++ x ∷ [] → has_at (map f ys) q j ≡ (has_at (map f xs) q j || (is_some (own (f x) q) && nat_eq j (length (map f xs))))
+    pushed xs ys x q j is = ap (λ zs. has_at zs q j) (ap (map f) is ∙ map_append f xs (x ∷ [])) ∙ has_at-push (map f xs) (f x) q j
+
+    -- the places when the unlisted frame is listed
+    pub fits_listed : (xs : List X) (x : X) (q : List ℕ) (j i : ℕ) (S T : Bool) → own (f x) q ≡ own_at i (map f xs) q → S ≡ listed_at (map f xs) (Some i) q j → T ≡ (S || (is_some (own (f x) q) && nat_eq j i)) → T ≡ listed_at (map f xs) None q j
+    fits_listed xs x q j i S T own_is fit noted =
+        noted ∙ ap (λ b. b || (is_some (own (f x) q) && nat_eq j i)) fit
+        ∙ listed_now (has_at (map f xs) q j) (is_some (own (f x) q)) (nat_eq j i) (λ e. let k : j ≡ i = grind (arith, nat_tests) in ap (has_at (map f xs) q) k ∙ ap is_some (sym own_is))
+
+    -- no frame stands at the unlisted place
+    pub fits_past : (xs : List X) (q : List ℕ) (j i : ℕ) (S : Bool) → length xs ≤ i → S ≡ listed_at (map f xs) (Some i) q j → S ≡ listed_at (map f xs) None q j
+    fits_past xs q j i S h fit = fit ∙ absent (has_at (map f xs) q) i j (nat_eq j i) refl (ap is_some (sym (own_past xs i q h))) ∙ and_all (has_at (map f xs) q j)
+
+    -- the places after a listing that found no memory
+    pub fits_undone : (xs : List X) (x : X) (q : List ℕ) (j i : ℕ) (S T V : Bool) → S ≡ listed_at (map f xs) (Some i) q j → (T || (is_some (own (f x) q) && nat_eq j i)) ≡ (S || (is_some (own (f x) q) && nat_eq j i)) → V ≡ (T && not (is_some (own (f x) q) && nat_eq j i)) → V ≡ listed_at (map f xs) (Some i) q j
+    fits_undone xs x q j i S T V fit part dropped = dropped
+        ∙ undone T S (is_some (own (f x) q) && nat_eq j i) part (ap (λ b. b && (is_some (own (f x) q) && nat_eq j i)) fit ∙ part_undone (has_at (map f xs) q j) (is_some (own (f x) q)) (nat_eq j i))
+        ∙ fit
+
+    popped : (xs ys : List X) (x : X) (U : Option ℕ) (q : List ℕ) (j n : ℕ) (S : Bool) → xs ≡ ys ++ x ∷ [] → n ≡ length (map f ys) → S ≡ listed_at (map f xs) U q j → S ≡ ((has_at (map f ys) q j || (is_some (own (f x) q) && nat_eq j n)) && not (is_at U j))
+    popped xs ys x U q j n S is e fit = fit ∙ ap (λ b. b && not (is_at U j)) (pushed ys xs x q j is ∙ ap (λ i. has_at (map f ys) q j || (is_some (own (f x) q) && nat_eq j i)) (sym e))
+
+    -- the places after a pop of the unlisted frame
+    pub fits_pop_unlisted : (xs ys : List X) (x : X) (U : Option ℕ) (q : List ℕ) (j n : ℕ) (S : Bool) → xs ≡ ys ++ x ∷ [] → n ≡ length ys → is_at U n ≡ true → S ≡ listed_at (map f xs) U q j → S ≡ listed_at (map f ys) None q j
+    fits_pop_unlisted xs ys x U q j n S is e at fit =
+        let k : n ≡ length (map f ys) = e ∙ sym (map_length f ys) in
+        let A = has_at (map f ys) q j in
+        let o = is_some (own (f x) q) in
+        popped xs ys x U q j n S is k fit ∙ ap (λ b. (A || (o && nat_eq j n)) && not b) (at_that U n j at)
+        ∙ sym (over_new A o (nat_eq j n) (nothing_there (map f ys) q j n k)) ∙ and_all A
+
+    -- the places after a pop of a listed frame
+    pub fits_pop : (xs ys : List X) (x : X) (U : Option ℕ) (q : List ℕ) (j n : ℕ) (S T : Bool) → xs ≡ ys ++ x ∷ [] → n ≡ length ys → S ≡ listed_at (map f xs) U q j → T ≡ (S && not (is_some (own (f x) q) && nat_eq j n)) → T ≡ listed_at (map f ys) U q j
+    fits_pop xs ys x U q j n S T is e fit dropped =
+        let k : n ≡ length (map f ys) = e ∙ sym (map_length f ys) in
+        dropped ∙ ap (λ b. b && not (is_some (own (f x) q) && nat_eq j n)) (popped xs ys x U q j n S is k fit)
+        ∙ taken (has_at (map f ys) q j) (is_some (own (f x) q)) (nat_eq j n) (is_at U j) (nothing_there (map f ys) q j n k)
+
+    -- a value was set in the global frame at place i
+    pub put_at : (xs : List X) (i : ℕ) (x : X) (k q : List ℕ) (t : Tree) (j : ℕ) (p : GlobalAt (map f xs) i) → is_global (f x) ≡ true → assigned (f x) ≡ insert p.names k t
+        → has_at (map f (set xs i x)) q j ≡ (has_at (map f xs) q j || (bytes_eq k q && nat_eq j i))
+    put_at xs i x k q t j p g a =
+        ap (λ ls. has_at ls q j) (set_put f xs i x k t p g a) ∙ has_at-put p.before p.after p.names k q t j
+        ∙ ap (λ n. has_at (p.before ++ global_layer p.names ∷ p.after) q j || (bytes_eq k q && nat_eq j n)) (sym p.place)
+        ∙ ap (λ ls. has_at ls q j || (bytes_eq k q && nat_eq j i)) (sym p.is)
+
+  -- the places after a value was set in the listed frame at place i
+  pub fits_put : (ls ms : List (Layer Reg)) (U : Option ℕ) (i : ℕ) (k q : List ℕ) (j : ℕ) (S T : Bool) → is_at U i ≡ false → has_at ms q j ≡ (has_at ls q j || (bytes_eq k q && nat_eq j i))
+      → S ≡ listed_at ls U q j → T ≡ (S || (bytes_eq k q && nat_eq j i)) → T ≡ listed_at ms U q j
+  fits_put ls ms U i k q j S T apart more fit noted = noted ∙ ap (λ b. b || (bytes_eq k q && nat_eq j i)) fit
+      ∙ put_listed (has_at ls q j) (bytes_eq k q) (nat_eq j i) (is_at U j) (same_at U i j false apart)
+      ∙ ap (λ b. b && not (is_at U j)) (sym more)
+
+  -- the same in the unlisted one
+  pub fits_put_unlisted : (ls ms : List (Layer Reg)) (U : Option ℕ) (i : ℕ) (k q : List ℕ) (j : ℕ) (S : Bool) → is_at U i ≡ true → has_at ms q j ≡ (has_at ls q j || (bytes_eq k q && nat_eq j i))
+      → S ≡ listed_at ls U q j → S ≡ listed_at ms U q j
+  fits_put_unlisted ls ms U i k q j S here more fit = fit ∙ put_unlisted (has_at ls q j) (bytes_eq k q) (nat_eq j i) (is_at U j) (same_at U i j true here)
+      ∙ ap (λ b. b && not (is_at U j)) (sym more)
+
+  -- the place that was noted for a name that was not given a value
+  pub fits_kept : (ls ms : List (Layer Reg)) (U : Option ℕ) (i : ℕ) (k q : List ℕ) (j : ℕ) (S T V : Bool) → has_at ls k i ≡ false → ms ≡ ls → S ≡ listed_at ls U q j
+      → T ≡ (S || (bytes_eq k q && nat_eq j i)) → V ≡ (T && not (bytes_eq k q && nat_eq j i)) → V ≡ listed_at ms U q j
+  fits_kept ls ms U i k q j S T V none same fit noted dropped =
+      let free = absent_split (has_at ls) k q i j (bytes_eq k q) (nat_eq j i) refl refl none in
+      dropped ∙ ap (λ b. b && not (bytes_eq k q && nat_eq j i)) (noted ∙ ap (λ b. b || (bytes_eq k q && nat_eq j i)) fit)
+      ∙ take_out (listed_at ls U q j) (bytes_eq k q && nat_eq j i) (still_apart (has_at ls q j) (is_at U j) (bytes_eq k q && nat_eq j i) free)
+      ∙ sym (ap (λ xs. listed_at xs U q j) same)

@@ -1,5 +1,5 @@
 -- The places of one name's frames.
-use Rattle.std.specs.Prelude.{◌≡◌, ◌<◌, ◌||◌, ℕ, Option, Some, None, Bool, true, false, nat_eq}
+use Rattle.std.specs.Prelude.{◌≡◌, ◌<◌, ◌||◌, ℕ, Option, Some, None, Bool, true, false, nat_eq, nat_lt}
 use Rattle.std.specs.Ordering.{nat_cmp}
 use Rattle.std.specs.BTreeSet.{BTreeSet, contains}
 
@@ -11,3 +11,13 @@ is_place last earlier j = nat_eq j last || contains nat_cmp earlier j
 abbrev pub TopOf : (ℕ → Bool) → Option ℕ → Type 0
 TopOf P None = (j : ℕ) → P j ≡ false
 TopOf P (Some i) = (P i ≡ true) × ((j : ℕ) → i < j → P j ≡ false)
+
+-- whether there is a place, and it is this one
+abbrev pub is_at : Option ℕ → ℕ → Bool
+is_at None j = false
+is_at (Some i) j = nat_eq j i
+
+-- whether there is another place, and it is a later one
+abbrev pub is_under : ℕ → Option ℕ → Bool
+is_under j None = false
+is_under j (Some i) = nat_lt j i

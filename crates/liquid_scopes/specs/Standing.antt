@@ -1,12 +1,12 @@
 -- Which frames give a name a value: what an index of names says, and what the layers are.
-use Rattle.std.specs.Prelude.{ℕ, zero, suc, List, [], ◌∷◌, Option, Some, None, Bool, true, false, cond, is_some, nat_lt, String, option_map}
+use Rattle.std.specs.Prelude.{ℕ, zero, suc, List, [], ◌∷◌, Option, Some, None, Bool, true, false, ◌&&◌, ◌||◌, not, cond, is_some, nat_lt, String, option_map}
 use Rattle.std.specs.Option.{option_or}
 use Rattle.std.specs.BTreeMap.{BTreeMap, get_by_text}
 use Rattle.std.specs.FinMap.{get}
 use Rattle.std.specs.declared.alloc.Global.{Global}
 use Rattle.liquid_value.specs.Tree.{Tree}
 use Rattle.liquid_scopes.specs.declared.frames.Frames.{Frames}
-use Rattle.liquid_scopes.specs.NamePlaces.{is_place}
+use Rattle.liquid_scopes.specs.NamePlaces.{is_place, is_at, is_under}
 use Rattle.liquid_scopes.specs.Layers.{Layer, none_layer, stack_layer, global_layer, sandboxed_layer, layer_found}
 
 -- for each name its frames
@@ -28,6 +28,11 @@ two_looks None (Some s) value below = None
 two_looks (Some i) None value below = value
 two_looks (Some i) (Some s) value below = cond (nat_lt i s) None value
 
+-- the place of the unlisted frame, if neither the name's last listed place nor the last sandboxed frame stands over it
+abbrev pub seen_over : Option ℕ → Option ℕ → Option ℕ → Option ℕ
+seen_over listed seal None = None
+seen_over listed seal (Some i) = cond (is_under i seal || is_under i listed) None (Some i)
+
 module _ {Reg : Type 0} where
   -- a layer's own value of a name
   abbrev pub own : Layer Reg → List ℕ → Option Tree
@@ -43,6 +48,10 @@ module _ {Reg : Type 0} where
 
   abbrev pub has_at : List (Layer Reg) → List ℕ → ℕ → Bool
   has_at ls q j = is_some (own_at j ls q)
+
+  -- the same, but for the unlisted frame
+  abbrev pub listed_at : List (Layer Reg) → Option ℕ → List ℕ → ℕ → Bool
+  listed_at ls unlisted q j = has_at ls q j && not (is_at unlisted j)
 
   abbrev pub own_at_top : Option ℕ → List (Layer Reg) → List ℕ → Option Tree
   own_at_top None ls q = None

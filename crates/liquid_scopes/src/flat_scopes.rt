@@ -9,6 +9,7 @@ ghost use Rattle.liquid_runtime.specs.Lookup.{try_path};
 ghost use Rattle.liquid_runtime.specs.NamesSeen.{lookup};
 ghost use Rattle.liquid_scopes.specs.Layers.{shown_over, restoring};
 ghost use Rattle.liquid_scopes.specs.LinkLayers.{layer_of};
+ghost use Rattle.liquid_scopes.specs.Standing.{two_looks, own_at_top, last_seal};
 
 use crate::looks::Looks;
 use crate::shown::Shown;
@@ -20,8 +21,10 @@ use liquid_value::{Value, ValueCow};
 use std::alloc::{AllocError, Global};
 use std::collections::BTreeSet;
 
-/// Scopes whose frames stand beside an index of all their names. A name is found in at most two
-/// looks, however many frames are open: one at its last place, and one at the base.
+/// Scopes whose frames stand beside an index of their names. A name is found in at most two looks,
+/// however many frames are open: the last frame that can hold names isn't listed in the index as long
+/// as no other such frame is open over it, and is asked itself; the other look is one at the name's
+/// last place by the index, or at the base.
 pub struct FlatScopes<R: Runtime> {
     alloc: Global,
     shown: Shown<R>,
@@ -55,15 +58,33 @@ impl<R: Runtime> FlatScopes<R> {
         }
     }
 
-    // The value of a name: a look at its last place, or at the base where it has none. What stands
-    // below the last sandboxed frame is not seen.
+    // The value of a name: a look at the unlisted frame, where it may be the last one of the name, and
+    // one at the last listed place or at the base.
     fn seek_name(&self, name: &str, looks: &mut Looks) -> Option<&Value>
         requires { looks.old + 2 < 2 ^ 64 }
         ensures value { option_map (λ r. tree_of r.now) result ≡ lookup (⟦<FlatScopes<R> as Runtime>⟧.view self.now) name.now }
         ensures looks { looks.new ≤ looks.old + 2 }
         ensures counts { looks.old ≤ looks.new }
     {
-        match self.shown.top(name) {
+        let listed = self.shown.listed(name);
+        match self.shown.unlisted_over(listed) {
+            Some(place) => match self.shown.look_at(place, name, looks) {
+                Some(value) => Some(value),
+                None => self.seek_listed(listed, name, looks),
+            },
+            None => self.seek_listed(listed, name, looks),
+        }
+    }
+
+    // The value that the name has at this place, or at the base where it has none. What stands below
+    // the last sandboxed frame is not seen.
+    fn seek_listed(&self, listed: Option<usize>, name: &str, looks: &mut Looks) -> Option<&Value>
+        requires { looks.old + 1 < 2 ^ 64 }
+        ensures value { option_map (λ r. tree_of r.now) result ≡ two_looks listed (last_seal (map layer_of self.now.shown.table.links.items)) (own_at_top listed (map layer_of self.now.shown.table.links.items) name.now) (lookup (R.view self.now.shown.base) name.now) }
+        ensures looks { looks.new ≤ looks.old + 1 }
+        ensures counts { looks.old ≤ looks.new }
+    {
+        match listed {
             Some(place) => match self.shown.sealed() {
                 Some(seal) => {
                     if place < seal {

@@ -1,8 +1,9 @@
-ghost use Rattle.std.specs.Prelude.{◌≡◌, true, IfOk, OnOk, OnErr, IfErr, None, string_bytes, option_map};
+ghost use Rattle.std.specs.Prelude.{◌≡◌, ℕ, List, true, false, IfOk, OnOk, OnErr, IfErr, None, string_bytes, option_map};
 ghost use Rattle.std.specs.FinMap.{get, insert};
 ghost use Rattle.liquid_error.specs.Told.{told};
 ghost use Rattle.liquid_value.specs.View.{view as tree_of};
 ghost use Rattle.liquid_runtime.specs.View.{View};
+ghost use Rattle.liquid_runtime.specs.Maps.{names_of};
 ghost use Rattle.liquid_runtime.specs.Frames.{beginning, restored_by, ending};
 ghost use Rattle.liquid_runtime.specs.Calls.{frame_of, registers_of, with_registers};
 ghost use Rattle.liquid_scopes.specs.Layers.{layer_found, layer_seals, layer_name, layer_view, layer_restores, is_global, assigned, LayerNames};
@@ -109,6 +110,17 @@ impl<V> Link<V> {
         }
     }
 
+    // Whether the frame gives a name a value, or may come to.
+    pub(crate) fn can_hold_names(&self) -> bool
+        ensures { result ≡ false → (q : List ℕ) → own (layer_of self.now) q ≡ None }
+    {
+        match self {
+            Link::None => false,
+            Link::Global(_) => true,
+            Link::Stack(data, _) | Link::Sandboxed(data, _, _) => has_names(data),
+        }
+    }
+
     pub(crate) fn is_sandboxed(&self) -> bool
         ensures { result ≡ is_sandboxed (layer_of self.now) }
     {
@@ -145,6 +157,12 @@ impl<V> Link<V> {
             _ => Err(Error::Memory),
         }
     }
+}
+
+fn has_names(names: &Object) -> bool
+    ensures { result ≡ false → (q : List ℕ) → get (names_of names.now) q ≡ None }
+{
+    !names.is_empty()
 }
 
 // The link of a frame that begins over the base: a sandboxed one takes the base's registers into the link.

@@ -12,7 +12,7 @@ ghost use Rattle.liquid_runtime.specs.Sets.{old_global, put_global, old_index, p
 ghost use Rattle.liquid_runtime.specs.declared.registers.Registers.{Registers};
 ghost use Rattle.liquid_scopes.specs.Layers.{shown_over, restoring};
 ghost use Rattle.liquid_scopes.specs.LinkLayers.{layer_of};
-ghost use Rattle.liquid_scopes.specs.Standing.{own_at, has_at, last_seal};
+ghost use Rattle.liquid_scopes.specs.Standing.{own_at, listed_at, seen_over, last_seal};
 ghost use Rattle.liquid_scopes.specs.NamePlaces.{TopOf};
 
 use crate::link::{closing, opening};
@@ -45,11 +45,18 @@ impl<R: Runtime> Shown<R> {
         }
     }
 
-    // The last place of the name.
-    pub(crate) fn top(&self, name: &str) -> Option<usize>
-        ensures { TopOf (has_at (map layer_of self.now.table.links.items) name.now) result }
+    // The last listed place of the name.
+    pub(crate) fn listed(&self, name: &str) -> Option<usize>
+        ensures { TopOf (listed_at (map layer_of self.now.table.links.items) self.now.table.unlisted name.now) result }
     {
-        self.table.top(name)
+        self.table.listed(name)
+    }
+
+    // The place of the unlisted frame, unless it stands under this place or under a sandboxed frame.
+    pub(crate) fn unlisted_over(&self, place: Option<usize>) -> Option<usize>
+        ensures { result ≡ seen_over place (last_seal (map layer_of self.now.table.links.items)) self.now.table.unlisted }
+    {
+        self.table.unlisted_over(place)
     }
 
     // The place of the last sandboxed frame.

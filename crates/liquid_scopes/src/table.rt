@@ -1,5 +1,5 @@
 //! Frames in the order in which they began, with an index of their names.
-ghost use Rattle.std.specs.Prelude.{◌≡◌, ◌<◌, ◌+◌, ◌-◌, ◌^◌, ◌&&◌, ◌||◌, ◌++◌, ℕ, List, [], ◌∷◌, Bool, true, cond, length, map, not, nat_eq, is_some, IfOk, IfErr, IfNone, OnOk, OnErr, Some, None, string_bytes, option_map, option_to_list, vec_len, vec_capacity};
+ghost use Rattle.std.specs.Prelude.{◌≡◌, ◌<◌, ◌+◌, ◌-◌, ◌^◌, ◌&&◌, ◌||◌, ◌++◌, ℕ, List, [], ◌∷◌, Bool, true, cond, length, map, not, nat_eq, is_some, bytes_eq, false, IfOk, IfErr, IfNone, OnOk, OnErr, Some, None, string_bytes, option_map, option_to_list, vec_len, vec_capacity};
 ghost use Rattle.std.specs.List.{slice_get};
 ghost use Rattle.liquid_error.specs.Told.{Gives};
 ghost use Rattle.liquid_value.specs.View.{view as tree_of};
@@ -8,8 +8,8 @@ ghost use Rattle.liquid_runtime.specs.Frames.{Restore};
 ghost use Rattle.liquid_runtime.specs.Sets.{old_global, put_global};
 ghost use Rattle.liquid_scopes.specs.Layers.{Layer, shown_over, restoring, is_global, LastGlobal, GlobalAt};
 ghost use Rattle.liquid_scopes.specs.LinkLayers.{layer_of};
-ghost use Rattle.liquid_scopes.specs.Standing.{stands, own, own_at, has_at, is_sandboxed, last_seal, places_where};
-ghost use Rattle.liquid_scopes.specs.NamePlaces.{TopOf};
+ghost use Rattle.liquid_scopes.specs.Standing.{stands, own, own_at, has_at, listed_at, seen_over, is_sandboxed, last_seal, places_where};
+ghost use Rattle.liquid_scopes.specs.NamePlaces.{TopOf, is_at, is_under};
 
 use crate::index::Index;
 use crate::link::Link;
@@ -19,14 +19,17 @@ use liquid_value::Value;
 use std::alloc::Global;
 
 /// The open frames, the oldest first. The index tells for each name the places of the frames that
-/// give it a value; the places of sandboxed frames, and those of global ones, stand in their order.
+/// give it a value, but that of the unlisted frame: the last frame that can hold names is listed only
+/// when another such frame begins over it, so that a frame with none over it costs no entry. The
+/// places of sandboxed frames, and those of global ones, stand in their order.
 #[derive(Drop)]
 pub(crate) struct Table<V> {
     links: Vec<Link<V>>,
     index: Index,
+    unlisted: Option<usize>,
     seals: Vec<usize>,
     globals: Vec<usize>,
-    ghost fits: { (q : List ℕ) (j : ℕ) → stands index.places q j ≡ has_at (map layer_of links.items) q j },
+    ghost fits: { (q : List ℕ) (j : ℕ) → stands index.places q j ≡ listed_at (map layer_of links.items) unlisted q j },
     ghost seals_are: { seals.items ≡ places_where is_sandboxed 0 (map layer_of links.items) },
     ghost globals_are: { globals.items ≡ places_where is_global 0 (map layer_of links.items) },
 }
@@ -38,6 +41,7 @@ impl<V> Table<V> {
         Table {
             links: Vec::new(alloc),
             index: Index::new(alloc),
+            unlisted: None,
             seals: Vec::new(alloc),
             globals: Vec::new(alloc),
         }
@@ -49,11 +53,27 @@ impl<V> Table<V> {
         self.links.as_slice()
     }
 
-    // The last place of the name.
-    pub(crate) fn top(&self, name: &str) -> Option<usize>
-        ensures { TopOf (has_at (map layer_of self.now.links.items) name.now) result }
+    // The last listed place of the name.
+    pub(crate) fn listed(&self, name: &str) -> Option<usize>
+        ensures { TopOf (listed_at (map layer_of self.now.links.items) self.now.unlisted name.now) result }
     {
         self.index.top(name)
+    }
+
+    // The place of the unlisted frame, unless it stands under this place or under a sandboxed frame.
+    pub(crate) fn unlisted_over(&self, place: Option<usize>) -> Option<usize>
+        ensures { result ≡ seen_over place (last_seal (map layer_of self.now.links.items)) self.now.unlisted }
+    {
+        match self.unlisted {
+            Some(unlisted) => {
+                if is_under(unlisted, self.sealed()) || is_under(unlisted, place) {
+                    None
+                } else {
+                    Some(unlisted)
+                }
+            }
+            None => None,
+        }
     }
 
     // The place of the last sandboxed frame.
@@ -93,18 +113,63 @@ impl<V> Table<V> {
         if !self.make_room() {
             return Err(link);
         }
-        let frame = self.links.len();
-        match note_link(&mut self.index, alloc, &link, frame) {
+        match self.next_unlisted(alloc, &link) {
             Ok(()) => {}
-            Err(_) => {
-                forget_link(&mut self.index, &link, frame);
-                return Err(link);
-            }
+            Err(_) => return Err(link),
         }
-        keep_place(&mut self.seals, link.is_sandboxed(), frame);
-        keep_place(&mut self.globals, link.is_global(), frame);
+        let place = self.links.len();
+        keep_place(&mut self.seals, link.is_sandboxed(), place);
+        keep_place(&mut self.globals, link.is_global(), place);
         self.links.push_reserved(link);
         Ok(())
+    }
+
+    // The next frame is the unlisted one, if it can hold names, and the one before it is listed.
+    fn next_unlisted(&mut self, alloc: Global, next: &Link<V>) -> Result<(), Error>
+        ensures links { self.new.links ≡ self.old.links }
+        ensures seals { self.new.seals ≡ self.old.seals }
+        ensures globals { self.new.globals ≡ self.old.globals }
+        ensures fits { OnOk result ((q : List ℕ) (j : ℕ) → stands self.new.index.places q j ≡ listed_at (map layer_of self.old.links.items ++ layer_of next.now ∷ []) self.new.unlisted q j) }
+    {
+        if !next.can_hold_names() {
+            return Ok(());
+        }
+        match self.list(alloc) {
+            Ok(()) => {}
+            Err(error) => return Err(error),
+        }
+        self.unlisted = Some(self.links.len());
+        Ok(())
+    }
+
+    // The unlisted frame is listed.
+    fn list(&mut self, alloc: Global) -> Result<(), Error>
+        ensures links { self.new.links ≡ self.old.links }
+        ensures seals { self.new.seals ≡ self.old.seals }
+        ensures globals { self.new.globals ≡ self.old.globals }
+        ensures listed { OnOk result (self.new.unlisted ≡ None) }
+    {
+        let place = match self.unlisted {
+            Some(place) => place,
+            None => return Ok(()),
+        };
+        let link = match self.links.as_slice().get(place) {
+            Some(link) => link,
+            None => {
+                self.unlisted = None;
+                return Ok(());
+            }
+        };
+        match note_link(&mut self.index, alloc, link, place) {
+            Ok(()) => {
+                self.unlisted = None;
+                Ok(())
+            }
+            Err(error) => {
+                forget_link(&mut self.index, link, place);
+                Err(error)
+            }
+        }
     }
 
     // Makes room for one frame more, and answers whether there is some.
@@ -127,9 +192,14 @@ impl<V> Table<V> {
     {
         match self.links.pop() {
             Some(link) => {
-                forget_link(&mut self.index, &link, self.links.len());
+                let place = self.links.len();
                 drop_place(&mut self.seals, link.is_sandboxed());
                 drop_place(&mut self.globals, link.is_global());
+                if is_at(self.unlisted, place) {
+                    self.unlisted = None;
+                    return Some(link);
+                }
+                forget_link(&mut self.index, &link, place);
                 Some(link)
             }
             None => None,
@@ -150,6 +220,9 @@ impl<V> Table<V> {
         ensures kept { (v : View V) (rs : List (Restore V)) → restoring v (map layer_of self.new.links.items) rs ≡ restoring v (map layer_of self.old.links.items) rs }
         ensures unchanged { (v : View V) → OnErr result (shown_over v (map layer_of self.new.links.items) ≡ shown_over v (map layer_of self.old.links.items)) }
     {
+        if is_at(self.unlisted, place) {
+            return put(&mut self.links, place, name, value);
+        }
         let kept = match name.clone() {
             Ok(kept) => kept,
             Err(_) => return Err(Error::Memory),
@@ -158,13 +231,36 @@ impl<V> Table<V> {
             Ok(()) => {}
             Err(error) => return Err(error),
         }
-        match self.links[place].assign(name, value) {
+        match put(&mut self.links, place, name, value) {
             Ok(old) => Ok(old),
             Err(error) => {
                 self.index.forget(kept.as_str(), place);
                 Err(error)
             }
         }
+    }
+}
+
+// Gives a name a value in the global frame at this place, wherever the name is listed.
+fn put<V>(
+    links: &mut Vec<Link<V>>,
+    place: usize,
+    name: String,
+    value: Value,
+) -> Result<Option<Value>, Error>
+    requires { GlobalAt (map layer_of links.old.items) place }
+    ensures gives { (v : View V) → Gives (option_map tree_of) result (old_global (shown_over v (map layer_of links.old.items)) (string_bytes name)) }
+    ensures sets { (v : View V) → OnOk result (shown_over v (map layer_of links.new.items) ≡ put_global (shown_over v (map layer_of links.old.items)) (string_bytes name) (tree_of value)) }
+    ensures kept { (v : View V) (rs : List (Restore V)) → restoring v (map layer_of links.new.items) rs ≡ restoring v (map layer_of links.old.items) rs }
+    ensures names { OnOk result ((q : List ℕ) (j : ℕ) → has_at (map layer_of links.new.items) q j ≡ (has_at (map layer_of links.old.items) q j || (bytes_eq (string_bytes name) q && nat_eq j place))) }
+    ensures seals { OnOk result (places_where is_sandboxed 0 (map layer_of links.new.items) ≡ places_where is_sandboxed 0 (map layer_of links.old.items)) }
+    ensures globals { OnOk result (places_where is_global 0 (map layer_of links.new.items) ≡ places_where is_global 0 (map layer_of links.old.items)) }
+    ensures unchanged { OnErr result (map layer_of links.new.items ≡ map layer_of links.old.items) }
+    ensures absent { OnErr result (has_at (map layer_of links.old.items) (string_bytes name) place ≡ false) }
+{
+    match links[place].assign(name, value) {
+        Ok(old) => Ok(old),
+        Err(error) => Err(error),
     }
 }
 
@@ -194,6 +290,24 @@ fn forget_link<V>(index: &mut Index, link: &Link<V>, frame: usize)
         Link::Stack(data, _) | Link::Global(data) | Link::Sandboxed(data, _, _) => {
             index.forget_all(data, frame);
         }
+    }
+}
+
+fn is_at(unlisted: Option<usize>, place: usize) -> bool
+    ensures { result ≡ is_at unlisted place }
+{
+    match unlisted {
+        Some(unlisted) => place == unlisted,
+        None => false,
+    }
+}
+
+fn is_under(place: usize, other: Option<usize>) -> bool
+    ensures { result ≡ is_under place other }
+{
+    match other {
+        Some(other) => place < other,
+        None => false,
     }
 }
 
