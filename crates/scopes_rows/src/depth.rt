@@ -55,6 +55,18 @@ fn innermost<S: Seeks>(alloc: Global, scopes: &mut S, log: &mut String) -> Resul
 {
     note_all(alloc, scopes, log)?;
     scopes.push(sandboxed(alloc, &[("own", 6)])?)?;
+    let answer = in_sandbox(alloc, scopes, log);
+    scopes.pop();
+    answer
+}
+
+/// Writes down looks, and then those under another frame.
+#[tactic(auto, using(crate::proofs::Pushed::pushed))]
+fn in_sandbox<S: Seeks>(alloc: Global, scopes: &mut S, log: &mut String) -> Result<(), Error>
+    ensures { S.restores scopes.new ≡ S.restores scopes.old }
+{
+    note_all(alloc, scopes, log)?;
+    scopes.push(stack(alloc, &[("other", 7)])?)?;
     let answer = note_all(alloc, scopes, log);
     scopes.pop();
     answer
@@ -79,9 +91,10 @@ where
 }
 
 #[test]
-fn a_name_takes_one_look_under_a_thousand_frames(rt: HostRuntime) -> Result<(), Fail> {
+fn a_name_takes_at_most_two_looks_under_a_thousand_frames(rt: HostRuntime) -> Result<(), Fail> {
     let alloc = rt.alloc();
-    let shown = " deep=1/1 base=5/1 own=none/1 deep=none/0 base=none/0 own=6/1";
+    let shown = " deep=1/1 base=5/2 own=none/2 deep=none/1 base=none/1 own=6/1 \
+        deep=none/1 base=none/1 own=6/2";
     for frames in [1, 1000] {
         let base: BuiltRuntime<(), ()> = RuntimeBuilder::new(alloc)
             .set_globals(numbers(alloc, &[("base", 5)])?)
