@@ -110,7 +110,7 @@ impl<V> Table<V> {
         ensures back { IfErr result (λ given. given ≡ link) }
         ensures unchanged { OnErr result (self.new.links.items ≡ self.old.links.items) }
     {
-        if !self.make_room() {
+        if !self.make_room(&link) {
             return Err(link);
         }
         match self.next_unlisted(alloc, &link) {
@@ -173,15 +173,15 @@ impl<V> Table<V> {
     }
 
     // Makes room for one frame more, and answers whether there is some.
-    fn make_room(&mut self) -> bool
+    fn make_room(&mut self, next: &Link<V>) -> bool
         ensures links { self.new.links.items ≡ self.old.links.items }
         ensures room { result ≡ true → vec_len self.new.links < vec_capacity self.new.links }
-        ensures seals { result ≡ true → vec_len self.new.seals < vec_capacity self.new.seals }
-        ensures globals { result ≡ true → vec_len self.new.globals < vec_capacity self.new.globals }
+        ensures seals { result ≡ true → is_sandboxed (layer_of next.now) ≡ true → vec_len self.new.seals < vec_capacity self.new.seals }
+        ensures globals { result ≡ true → is_global (layer_of next.now) ≡ true → vec_len self.new.globals < vec_capacity self.new.globals }
     {
         self.links.reserve(1).is_ok()
-            && self.seals.reserve(1).is_ok()
-            && self.globals.reserve(1).is_ok()
+            && (!next.is_sandboxed() || self.seals.reserve(1).is_ok())
+            && (!next.is_global() || self.globals.reserve(1).is_ok())
     }
 
     // The last frame is taken out, and the names that it masked are found again.
@@ -322,7 +322,7 @@ fn last_of(places: &Vec<usize>) -> Option<usize>
 
 // The place stands among these if its frame is one of them.
 fn keep_place(places: &mut Vec<usize>, is_one: bool, place: usize)
-    requires { vec_len places.old < vec_capacity places.old }
+    requires { is_one ≡ true → vec_len places.old < vec_capacity places.old }
     ensures { places.new.items ≡ places.old.items ++ cond is_one (place ∷ []) [] }
 {
     if is_one {
