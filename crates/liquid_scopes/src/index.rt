@@ -1,4 +1,4 @@
-//! Which frames give a name a value.
+//! Which of the listed frames give a name a value.
 ghost use Rattle.std.specs.Prelude.{◌≡◌, ◌&&◌, ◌||◌, ℕ, List, false, not, nat_eq, is_some, IfErr, OnOk, OnErr, None, bytes_eq};
 ghost use Rattle.std.specs.FinMap.{get};
 ghost use Rattle.liquid_error.specs.Told.{told};
@@ -12,7 +12,7 @@ use liquid_value::Object;
 use std::alloc::Global;
 use std::collections::BTreeMap;
 
-/// For each name the places of the frames that give it a value. A name without frames isn't there.
+/// For each name the places of the listed frames that give it a value. A name without them isn't there.
 #[derive(Drop)]
 pub(crate) struct Index {
     places: BTreeMap<String, Frames>,
