@@ -1,7 +1,6 @@
 use Rattle.std.proofs.Common.{[], ◌∷◌, Ok, sym, ap, ◌∙◌, subst}
 use Rattle.liquid_error.specs.Refusal.{ok_then}
 use Rattle.liquid_tree.specs.NodesOf.{node_of}
-use Rattle.liquid_tree.specs.Tree.{text_node}
 use Rattle.liquid_parser.specs.BlockReading.{Parsed}
 use Rattle.liquid_parser.specs.ElementReading.{read_closed}
 use Rattle.liquid_parser.specs.Plugins.{language_of, block_of}
