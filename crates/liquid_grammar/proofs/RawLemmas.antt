@@ -321,6 +321,10 @@ ends_at s n h closed e = record {
   boundary = IsCharBoundary-before_ascii s n h (opens_ascii s n h e);
 }
 
+-- braces at the beginning end it there
+pub ends_here : (s : List ℕ) → 0 < length s → begins_braces s 0 ≡ true → EndsRaw s 0
+ends_here s h e = ends_at s 0 h (λ k u. absurd (omega (arith, u))) ((other_at s 0 h (braces_ascii s 0 e).1).0 ∙ e)
+
 -- braces with no dash end it
 pub ends_at_braces : (s : List ℕ) (white at : ℕ) → at < length s → Passed s white at → begins_braces s at ≡ true → ¬ (slice_index s (at + 2) ≡ 45) → EndsRaw s at
 ends_at_braces s white at h p e other =

@@ -16,6 +16,10 @@ pub(crate) fn raw_len(s: &str) -> usize
     ensures ends { EndsRaw s.now result }
 {
     let bytes = s.as_bytes();
+    // Most calls follow an element, behind which an opener stands at once.
+    if !bytes.is_empty() && begins_braces(bytes, 0) {
+        return 0;
+    }
     let mut from = 0;
     'braces: while let Some(brace) = next_brace(bytes, from) {
         if begins_braces(bytes, brace) {

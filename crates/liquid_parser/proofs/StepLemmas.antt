@@ -1,5 +1,5 @@
 -- The steps of the parser, over any block.
-use Rattle.std.proofs.Common.{◌≡◌, ℕ, ◌+◌, List, [], ◌∷◌, ◌++◌, length, map, Option, Some, None, option_map, Result, Ok, Err, refl, sym, ap, ◌∙◌, subst, Vec}
+use Rattle.std.proofs.Common.{◌≡◌, inl, inr, ℕ, ◌+◌, List, [], ◌∷◌, ◌++◌, length, map, Option, Some, None, option_map, Result, Ok, Err, refl, sym, ap, ◌∙◌, subst, Vec}
 use Rattle.std.specs.Prelude.{IfSome}
 use Rattle.std.specs.declared.alloc.Global.{Global}
 use Rattle.std.proofs.lemmas.List.{length-map, length-append, map_push}
@@ -7,12 +7,13 @@ use Rattle.liquid_error.specs.declared.place.Place.{Place}
 use Rattle.liquid_error.specs.Refusal.{Refusal, or_placed, ok_then}
 use Rattle.liquid_grammar.specs.Tokens as token
 use Rattle.liquid_tree.specs.declared.node.Node as code
-use Rattle.liquid_tree.specs.declared.node.Node.TheVariants.{Text, Chain, Tag, Block, rolls-Text, rolls-Chain, rolls-Tag, rolls-Block}
+use Rattle.liquid_tree.specs.declared.node.Node.TheVariants.{Text, Brief, Name, Chain, Tag, Block, rolls-Text, rolls-Brief, rolls-Name, rolls-Chain, rolls-Tag, rolls-Block}
 use Rattle.liquid_plugins.specs.declared.expression.FilterChain.{FilterChain}
 use Rattle.liquid_plugins.specs.ExpressionOf.{chain_of}
 use Rattle.std.specs.Prelude.{string_bytes, String}
 use Rattle.liquid_tree.specs.Tree.{NodeShape, text_node, chain_node, tag_node, block_node, nodes_from, parts_from}
-use Rattle.liquid_tree.specs.NodesOf.{node_step, node_of, shapes_of}
+use Rattle.liquid_tree.specs.ArrayString.{ArrayString}
+use Rattle.liquid_tree.specs.NodesOf.{name_chain, IsText, node_step, node_of, shapes_of}
 use Rattle.liquid_parser.specs.Handed.{handed, place_in, expect_nothing}
 use Rattle.liquid_parser.specs.Lang as lang
 use Rattle.liquid_parser.specs.Lang.{Filters, parts}
@@ -74,9 +75,22 @@ map_twice h k m same [] = refl
 map_twice h k m same (x ∷ xs) = ap (λ y. y ∷ map k (map h xs)) (same x) ∙ ap (λ ys. m x ∷ ys) (map_twice h k m same xs)
 
 module _ {X N K F T B : Type 0} (filter : X → F) (tag : N → T) (block : K → B) where
-  pub text_shape : (s : String Global) → node_of filter tag block (Text s) ≡ text_node (string_bytes s)
+  text_shape : (s : String Global) → node_of filter tag block (Text s) ≡ text_node (string_bytes s)
   unfolding node_of
   text_shape s = ap (node_of filter tag block) (sym (rolls-Text s)) ∙ code.fold-roll-Node X N K (NodeShape F T B) (node_step filter tag block) _
+
+  brief_shape : (s : ArrayString) → node_of filter tag block (Brief s) ≡ text_node s.bytes
+  unfolding node_of
+  brief_shape s = ap (node_of filter tag block) (sym (rolls-Brief s)) ∙ code.fold-roll-Node X N K (NodeShape F T B) (node_step filter tag block) _
+
+  -- either form of a text has its shape
+  pub is_text : (n : code.Node X N K) (bytes : List ℕ) → IsText n bytes → node_of filter tag block n ≡ text_node bytes
+  is_text n bytes (inl made) = ap (node_of filter tag block) made.1 ∙ (text_shape made.0 ∙ ap text_node made.2)
+  is_text n bytes (inr made) = ap (node_of filter tag block) made.1 ∙ (brief_shape made.0 ∙ ap text_node made.2)
+
+  pub name_shape : (s : ArrayString) → node_of filter tag block (Name s) ≡ chain_node (name_chain s.bytes)
+  unfolding node_of
+  name_shape s = ap (node_of filter tag block) (sym (rolls-Name s)) ∙ code.fold-roll-Node X N K (NodeShape F T B) (node_step filter tag block) _
 
   pub chain_shape : (c : FilterChain X) → node_of filter tag block (Chain c) ≡ chain_node (chain_of filter c)
   unfolding node_of

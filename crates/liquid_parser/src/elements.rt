@@ -1,13 +1,11 @@
 //! Elements: their texts, and the nodes of those that are no tags.
-ghost use Rattle.std.specs.Prelude.{◌≡◌, ◌∷◌, ℕ, List, IfOk, IfSome, String, codes, string_bytes};
-ghost use Rattle.std.specs.declared.alloc.Global.{Global as TheGlobal};
+ghost use Rattle.std.specs.Prelude.{◌≡◌, ◌∷◌, ℕ, List, IfOk, IfSome, codes};
 ghost use Rattle.liquid_error.specs.Told.{told, Gives};
 ghost use Rattle.liquid_grammar.specs.Cover as cover;
 ghost use Rattle.liquid_grammar.specs.Cover.{IsElement, text_of};
 ghost use Rattle.liquid_grammar.specs.Elements.{Means};
 ghost use Rattle.liquid_grammar.specs.Tokens.{Chain};
-ghost use Rattle.liquid_tree.specs.NodesOf.{node_of};
-ghost use Rattle.liquid_tree.specs.declared.node.Node.TheVariants.{Text};
+ghost use Rattle.liquid_tree.specs.NodesOf.{node_of, IsText};
 ghost use Rattle.liquid_parser.specs.Elements.{IsExpression, IsInvalid, StandsFor};
 ghost use Rattle.liquid_parser.specs.ElementReading.{HandsOver, expression_read};
 ghost use Rattle.liquid_parser.specs.Plugins.{registry_of};
@@ -17,7 +15,7 @@ ghost use Rattle.liquid_parser.specs.WholeTag.{Refuses};
 use crate::block::ParseBlock;
 use crate::block_cursor::TagBlock;
 use crate::element_cursor::{BlockElement, Exp, InvalidLiquidToken, Raw};
-use crate::filters::{name_chain, parse_chain};
+use crate::filters::parse_chain;
 use crate::language::Language;
 use crate::place::{check, refused_at};
 use crate::tag::ParseTag;
@@ -25,8 +23,8 @@ use crate::tag_cursor::Tag;
 use crate::tokens::TagTokenIter;
 use liquid_error::Error;
 use liquid_grammar::{Element, match_white, parts_are_matches};
-use liquid_plugins::ParseFilter;
-use liquid_tree::Node;
+use liquid_plugins::{FilterChain, ParseFilter};
+use liquid_tree::{BRIEF_LIMIT, Brief, Node};
 use std::alloc::{AllocError, Global};
 
 impl<'a> Raw<'a> {
@@ -40,9 +38,14 @@ impl<'a> Raw<'a> {
     /// The node that writes the text.
     #[inline(always)]
     pub fn into_renderable<X, N, K>(self, alloc: Global) -> Result<Node<X, N, K>, AllocError>
-        ensures { IfOk result (λ node. (t : String TheGlobal) × (node ≡ Text t) × (string_bytes t ≡ self.entry.text.now)) }
+        ensures { IfOk result (λ node. IsText node self.entry.text.now) }
     {
-        Ok(Node::Text(String::from_str(alloc, self.text)?))
+        if self.text.len() > BRIEF_LIMIT {
+            return Ok(Node::Text(String::from_str(alloc, self.text)?));
+        }
+        let mut brief = Brief::new();
+        brief.push_str(self.text);
+        Ok(Node::Brief(brief))
     }
 }
 
@@ -68,7 +71,12 @@ impl<'a> Exp<'a> {
     {
         // Most expressions are names, whose text need not be walked again.
         if let Some(name) = self.name {
-            return Ok(Node::Chain(name_chain(alloc, name)?));
+            if name.len() > BRIEF_LIMIT {
+                return Ok(Node::Chain(FilterChain::of_name(alloc, name)?));
+            }
+            let mut brief = Brief::new();
+            brief.push_str(name);
+            return Ok(Node::Name(brief));
         }
         match parse_chain(alloc, self.source, self.chain, &language.filters) {
             Ok(chain) => Ok(Node::Chain(chain)),

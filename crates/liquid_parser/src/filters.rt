@@ -1,13 +1,11 @@
 //! The filters of a chain, looked up and made from left to right.
-ghost use Rattle.std.specs.Prelude.{◌≡◌, ◌≤◌, ℕ, List, [], None, IfOk, IfSome, length, map, ◌++◌};
+ghost use Rattle.std.specs.Prelude.{◌≡◌, ◌≤◌, ℕ, List, None, IfOk, IfSome, length, map, ◌++◌};
 ghost use Rattle.liquid_error.specs.Told.{told, Gives, Becomes};
 ghost use Rattle.liquid_grammar.specs.Faults.{filter_fault, chain_fault, first_fault};
 ghost use Rattle.liquid_grammar.specs.Parts.{IsFilter};
 ghost use Rattle.liquid_grammar.specs.Rules.{Repeated};
 ghost use Rattle.liquid_grammar.specs.Tokens as token;
 ghost use Rattle.liquid_grammar.specs.Tokens.{Behind, FilterRule, ChainRule};
-ghost use Rattle.liquid_scalar.specs.Scalar.{text};
-ghost use Rattle.liquid_plugins.specs.Expression.{variable, no_indexes};
 ghost use Rattle.liquid_plugins.specs.ExpressionOf.{chain_of};
 ghost use Rattle.liquid_parser.specs.Built.{GivesUpTo};
 ghost use Rattle.liquid_parser.specs.Handed as spec;
@@ -20,16 +18,8 @@ use crate::names::listed;
 use crate::place::{place_in, refused_at, slice_between};
 use liquid_error::Error;
 use liquid_grammar::{FilterStart, next_filter};
-use liquid_plugins::{Expression, Filter, FilterChain, ParseFilter, PluginRegistry, Variable};
-use std::alloc::{AllocError, Global};
-
-/// The chain of a name alone.
-pub(crate) fn name_chain<X: Filter>(alloc: Global, name: &str) -> Result<FilterChain<X>, AllocError>
-    ensures { IfOk result (λ chain. chain_of X.shape chain ≡ record { entry = variable (text name.now) no_indexes; filters = [] }) }
-{
-    let name = Variable::with_literal(alloc, String::from_str(alloc, name)?);
-    Ok(FilterChain::new(Expression::Variable(name), Vec::new(alloc)))
-}
+use liquid_plugins::{FilterChain, ParseFilter, PluginRegistry};
+use std::alloc::Global;
 
 /// The chain that the text begins with. Its literals and brackets have been checked.
 ///

@@ -1,9 +1,9 @@
 -- What an expression comes to where each value on the way stands.
-use Rattle.std.proofs.Common.{◌≡◌, ◌∷◌, Option, Some, None, Result, Ok, Err, refl, ap, ◌∙◌, option_map}
+use Rattle.std.proofs.Common.{◌≡◌, ℕ, List, ◌∷◌, Option, Some, None, Result, Ok, Err, refl, ap, ◌∙◌, option_map}
 use Rattle.std.specs.Prelude.{option_and_then}
 use Rattle.std.specs.Result.{result_ok}
 use Rattle.liquid_error.specs.Refusal.{Refusal}
-use Rattle.liquid_scalar.specs.Scalar.{Scal, render_scalar}
+use Rattle.liquid_scalar.specs.Scalar.{Scal, render_scalar, text}
 use Rattle.liquid_value.specs.Tree.{Tree, scalar}
 use Rattle.liquid_value.specs.Parts.{as_scalar}
 use Rattle.liquid_paths.specs.Step.{step}
@@ -11,7 +11,7 @@ use Rattle.liquid_paths.specs.Walk.{Path, walk}
 use Rattle.liquid_runtime.specs.View.{View}
 use Rattle.liquid_runtime.specs.NamesSeen.{lookup}
 use Rattle.liquid_runtime.specs.Lookup.{try_path}
-use Rattle.liquid_plugins.specs.Expression.{ExpressionShape, variable, Indexes, index}
+use Rattle.liquid_plugins.specs.Expression.{ExpressionShape, variable, Indexes, no_indexes, index}
 use Rattle.liquid_plugins.specs.Evaluation.{evaluate, try_evaluate, try_path_of}
 use Rattle.liquid_plugins.proofs.Agreement.{evaluate_agrees}
 
@@ -39,6 +39,10 @@ module _ {Reg : Type 0} where
   -- a variable leads on from the value of its name
   pub begins_at : (v : View Reg) (name : Scal) (is : Indexes) (t : Tree) → lookup v (render_scalar name) ≡ Some t → try_evaluate v (variable name is) ≡ from_here t (try_path_of v is)
   begins_at v name is t h = named v name t (try_path_of v is) h
+
+  -- a name alone comes to the value that it has
+  pub named_stands : (v : View Reg) (name : List ℕ) (t : Tree) → lookup v name ≡ Some t → evaluate v (variable (text name) no_indexes) ≡ Ok t
+  named_stands v name t h = stands v (variable (text name) no_indexes) t (begins_at v (text name) no_indexes t h)
 
   -- an index that is known to be a scalar leads one step on
   pub goes_on : (v : View Reg) (t next i : Tree) (s : Scal) (e : ExpressionShape) (es : Indexes) → try_evaluate v e ≡ Some i → i ≡ scalar s → step t s ≡ Some next → from_here t (try_path_of v (index e es)) ≡ from_here next (try_path_of v es)

@@ -1,23 +1,25 @@
 //! What chains come to over a runtime, and the text that they display.
-ghost use Rattle.std.specs.Prelude.{◌≡◌, ◌++◌, codes, map, Some};
+ghost use Rattle.std.specs.Prelude.{◌≡◌, ◌++◌, [], codes, map, IfOk, Some};
 ghost use Rattle.std.specs.Fmt.{WritesOnOk};
 ghost use Rattle.std.specs.List.{flat_map, join_by};
 ghost use Rattle.liquid_error.specs.Refusal.{with_trace, with_context};
 ghost use Rattle.liquid_error.specs.Told.{Gives, Becomes};
+ghost use Rattle.liquid_scalar.specs.Scalar.{text};
 ghost use Rattle.liquid_value.specs.Cow.{cow_view};
 ghost use Rattle.liquid_value.specs.Render.{source};
 ghost use Rattle.liquid_runtime.specs.Erased.{erase};
 ghost use Rattle.liquid_plugins.specs.Chain.{filtered, chain_value, chain_text};
+ghost use Rattle.liquid_plugins.specs.Expression.{variable, no_indexes};
 ghost use Rattle.liquid_plugins.specs.ExpressionOf.{expression_of, chain_of};
 
-use crate::expression::{Expression, FilterChain};
+use crate::expression::{Expression, FilterChain, Variable};
 use crate::filter::Filter;
 use crate::text::write_expression;
 use liquid_error::Error;
 use liquid_runtime::Runtime;
 use liquid_value::ValueCow;
 use liquid_value::render::ValueSource;
-use std::alloc::Global;
+use std::alloc::{AllocError, Global};
 use std::fmt;
 
 impl<X: Filter> FilterChain<X> {
@@ -26,6 +28,14 @@ impl<X: Filter> FilterChain<X> {
         ensures { chain_of X.shape result ≡ record { entry = expression_of entry; filters = map X.shape filters.items } }
     {
         FilterChain { entry, filters }
+    }
+
+    /// The chain of a name alone.
+    pub fn of_name(alloc: Global, name: &str) -> Result<FilterChain<X>, AllocError>
+        ensures { IfOk result (λ chain. chain_of X.shape chain ≡ record { entry = variable (text name.now) no_indexes; filters = [] }) }
+    {
+        let name = Variable::with_literal(alloc, String::from_str(alloc, name)?);
+        Ok(FilterChain::new(Expression::Variable(name), Vec::new(alloc)))
     }
 
     /// What the chain comes to, or the first refusal from the left.

@@ -1,12 +1,12 @@
 //! Values that stand where an expression leads.
-ghost use Rattle.std.specs.Prelude.{◌≡◌, IfSome, Some, string_bytes};
-ghost use Rattle.liquid_scalar.specs.Scalar.{Scal, render_scalar, scal};
+ghost use Rattle.std.specs.Prelude.{◌≡◌, IfSome, Ok, Some, string_bytes};
+ghost use Rattle.liquid_scalar.specs.Scalar.{Scal, render_scalar, scal, text};
 ghost use Rattle.liquid_value.specs.Tree.{scalar};
 ghost use Rattle.liquid_value.specs.View.{view as tree_of};
 ghost use Rattle.liquid_paths.specs.Step.{step};
 ghost use Rattle.liquid_runtime.specs.NamesSeen.{lookup};
-ghost use Rattle.liquid_plugins.specs.Evaluation.{try_evaluate};
-ghost use Rattle.liquid_plugins.specs.Expression.{variable};
+ghost use Rattle.liquid_plugins.specs.Evaluation.{evaluate, try_evaluate};
+ghost use Rattle.liquid_plugins.specs.Expression.{variable, no_indexes};
 ghost use Rattle.liquid_plugins.specs.ExpressionOf.{expression_of, expressions_of};
 
 use crate::expression::Expression;
@@ -15,6 +15,14 @@ use liquid_runtime::Runtime;
 use liquid_scalar::{Scalar, ScalarOf};
 use liquid_value::{Value, ValueCow};
 use std::alloc::Global;
+
+/// The value that the variable of a name alone comes to, if it stands. `None` tells nothing of what it comes to.
+#[tactic(auto, using(crate::proofs::StandingValues::named_stands))]
+pub fn named_value<'c, R: Runtime>(name: &str, runtime: &'c R) -> Option<&'c Value>
+    ensures { IfSome result (λ value. evaluate (R.view runtime.now) (variable (text name.now) no_indexes) ≡ Ok (tree_of value.now)) }
+{
+    runtime.try_get_name(name)
+}
 
 /// The value that the expression comes to, if it stands, and each index on the way stands too. No
 /// list is made for the path. `None` tells nothing of what the expression comes to.

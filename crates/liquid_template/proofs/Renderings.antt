@@ -11,7 +11,7 @@ use Rattle.liquid_value.specs.Render.{render}
 use Rattle.liquid_runtime.specs.View.{View}
 use Rattle.liquid_runtime.specs.Written.{with_written, SameFrames}
 use Rattle.liquid_runtime.specs.Frames.{FrameShape}
-use Rattle.liquid_plugins.specs.Chain.{ChainShape, chain_value}
+use Rattle.liquid_plugins.specs.Chain.{ChainShape, FilterMeaning, chain_value}
 use Rattle.liquid_plugins.specs.Turns.{TurnShape, text_turn, body_turn, partial_turn, end_turn, NodeMeaning}
 use Rattle.liquid_plugins.specs.TurnOf.{turn_of}
 use Rattle.liquid_plugins.specs.declared.render.Turn.{Turn}
@@ -168,6 +168,15 @@ module _ {Reg : Type 0} where
 
   pub value_out : (r : Result Tree Refusal) (t : Tree) (piece : List ℕ) (v : View Reg) (b a : Sunk) (answer : Answer) → r ≡ Ok t → piece ≡ render t → PieceOut piece b a answer → Renders (writes_value r v) v b a v answer
   value_out r t piece v b a answer e i h = subst (λ x. Renders (writes_value x v) v b a v answer) (sym e) (renders_put (render t) v b a answer (subst (λ x. PieceOut x b a answer) i h))
+
+  -- chains of one shape come to the same
+  pub chain_out : {F : Type 0} (m : FilterMeaning F) (x y : ChainShape F) (v w : View Reg) (b a : Sunk) (answer : Answer) → x ≡ y → Renders (writes_value (chain_value m x v) v) v b a w answer → Renders (writes_value (chain_value m y v) v) v b a w answer
+  chain_out m x y v w b a answer e h = subst (λ c. Renders (writes_value (chain_value m c v) v) v b a w answer) e h
+
+-- what can't be refused, but by want of memory
+pub never_refused : {A : Type 0} (x : A) (t : Option Refusal) → IfSome t (λ refusal. Ok x ≡ Err refusal) → t ≡ None
+never_refused x None h = refl
+never_refused x (Some refusal) h = cc
 
 -- partials
 module _ {Reg F T P B Q : Type 0} (s : Setting Reg F T P B Q) where

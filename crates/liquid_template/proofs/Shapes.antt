@@ -5,12 +5,13 @@ use Rattle.std.specs.declared.vec.Vec.{Vec}
 use Rattle.std.specs.declared.string.String.{String}
 use Rattle.liquid_plugins.specs.declared.expression.FilterChain.{FilterChain}
 use Rattle.liquid_plugins.specs.ExpressionOf.{chain_of}
-use Rattle.liquid_tree.specs.declared.node.Node.{Node, Text, Chain, Tag, Block}
+use Rattle.liquid_tree.specs.ArrayString.{ArrayString}
+use Rattle.liquid_tree.specs.declared.node.Node.{Node, Text, Brief, Name, Chain, Tag, Block}
 use Rattle.liquid_tree.specs.declared.node.Node.TheOpen as layer
-use Rattle.liquid_tree.specs.declared.node.Node.TheVariants.{rolls-Text, rolls-Chain, rolls-Tag, rolls-Block}
+use Rattle.liquid_tree.specs.declared.node.Node.TheVariants.{rolls-Text, rolls-Brief, rolls-Name, rolls-Chain, rolls-Tag, rolls-Block}
 use Rattle.liquid_tree.specs.declared.node.Node.TheFolds.{fold-roll-Node, fold-Node}
 use Rattle.liquid_tree.specs.Tree.{NodeShape, text_node, chain_node, tag_node, block_node, no_nodes, node, part, nodes_from, parts_from}
-use Rattle.liquid_tree.specs.NodesOf.{node_step, node_of, nodes_of}
+use Rattle.liquid_tree.specs.NodesOf.{name_chain, node_step, node_of, nodes_of}
 use Rattle.liquid_tree.specs.Size.{size_node, size_nodes, size_parts}
 use Rattle.liquid_template.specs.PartsOf.{parts_of}
 
@@ -46,6 +47,14 @@ module _ {X N K F T B : Type 0} (f : X → F) (t : N → T) (b : K → B) where
   pub node_text : (s : String Global) → node_of f t b (Text s) ≡ text_node (string_bytes s)
   unfolding node_of
   node_text s = ap (fold-Node X N K (NodeShape F T B) (node_step f t b)) (sym (rolls-Text {X1 = X} {X2 = N} {X3 = K} s)) ∙ fold-roll-Node X N K (NodeShape F T B) (node_step f t b) (layer.Text s)
+
+  pub node_brief : (s : ArrayString) → node_of f t b (Brief s) ≡ text_node s.bytes
+  unfolding node_of
+  node_brief s = ap (fold-Node X N K (NodeShape F T B) (node_step f t b)) (sym (rolls-Brief {X1 = X} {X2 = N} {X3 = K} s)) ∙ fold-roll-Node X N K (NodeShape F T B) (node_step f t b) (layer.Brief s)
+
+  pub node_name : (s : ArrayString) → node_of f t b (Name s) ≡ chain_node (name_chain s.bytes)
+  unfolding node_of
+  node_name s = ap (fold-Node X N K (NodeShape F T B) (node_step f t b)) (sym (rolls-Name {X1 = X} {X2 = N} {X3 = K} s)) ∙ fold-roll-Node X N K (NodeShape F T B) (node_step f t b) (layer.Name s)
 
   pub node_chain : (c : FilterChain X) → node_of f t b (Chain c) ≡ chain_node (chain_of f c)
   unfolding node_of

@@ -6,6 +6,7 @@ ghost use Rattle.liquid_value.specs.View.{view as tree_of};
 ghost use Rattle.liquid_value.specs.Render.{render};
 ghost use Rattle.liquid_plugins.specs.Chain.{chain_value};
 ghost use Rattle.liquid_plugins.specs.ExpressionOf.{chain_of};
+ghost use Rattle.liquid_tree.specs.NodesOf.{name_chain};
 ghost use Rattle.liquid_template.specs.Actions.{writes_value};
 ghost use Rattle.liquid_template.specs.Sunk.{sunk};
 ghost use Rattle.liquid_template.specs.Outcome.{Renders};
@@ -13,11 +14,11 @@ ghost use Rattle.liquid_template.specs.Outcome.{Renders};
 use crate::piece::write_piece;
 use crate::sink::Sink;
 use liquid_error::Error;
-use liquid_plugins::{Filter, FilterChain};
+use liquid_plugins::{Filter, FilterChain, named_value};
 use liquid_runtime::Runtime;
 use liquid_value::Value;
 use liquid_value::render::ValueRender;
-use std::alloc::Global;
+use std::alloc::{AllocError, Global};
 use std::borrow::CowStr;
 
 /// The text that a value renders as. A text is borrowed where it stands.
@@ -58,4 +59,35 @@ where
         Err(error) => return Err(error),
     };
     write_piece(alloc, sink, text.as_str())
+}
+
+/// Renders a name alone, as its chain is rendered. Where the name has no value, the chain is made and tells the refusal.
+pub(crate) fn render_name<X, R, K>(
+    alloc: Global,
+    name: &str,
+    sink: &mut K,
+    runtime: &R,
+) -> Result<(), Error>
+where
+    X: Filter,
+    R: Runtime,
+    K: Sink,
+    ensures { Renders (writes_value (chain_value (record { answers = X.answers; label = X.shown }) (name_chain name.now) (R.view runtime.now)) (R.view runtime.now)) (R.view runtime.now) (sunk (K.taken sink.old) (K.failures sink.old) (K.behind sink.old) (K.lent sink.old)) (sunk (K.taken sink.new) (K.failures sink.new) (K.behind sink.new) (K.lent sink.new)) (R.view runtime.now) result }
+{
+    match named_value(name, runtime) {
+        Some(value) => {
+            let text = match rendered_text(alloc, value) {
+                Ok(text) => text,
+                Err(error) => return Err(error),
+            };
+            write_piece(alloc, sink, text.as_str())
+        }
+        None => {
+            let made: Result<FilterChain<X>, AllocError> = FilterChain::of_name(alloc, name);
+            match made {
+                Ok(chain) => render_chain(alloc, &chain, sink, runtime),
+                Err(_) => Err(Error::Memory),
+            }
+        }
+    }
 }

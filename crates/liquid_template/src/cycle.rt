@@ -11,7 +11,7 @@ ghost use Rattle.liquid_template.specs.Runs.{setting, node_run, tag_run, block_r
 ghost use Rattle.liquid_template.specs.PartsOf.{parts_of};
 ghost use Rattle.liquid_template.specs.Bound.{partials_size};
 
-use crate::chain::render_chain;
+use crate::chain::{render_chain, render_name};
 use crate::partial::{find, too_deep_error};
 use crate::piece::write_piece;
 use crate::sink::Sink;
@@ -82,6 +82,8 @@ where
 {
     match node {
         Node::Text(text) => write_piece(alloc, sink, text.as_str()),
+        Node::Brief(text) => write_piece(alloc, sink, text.as_str()),
+        Node::Name(name) => render_name::<X, S, K>(alloc, name.as_str(), sink, scopes),
         Node::Chain(chain) => render_chain(alloc, chain, sink, scopes),
         Node::Tag(tag) => render_tag(alloc, tag, depth, sink, scopes),
         Node::Block(block, parts) => render_block(alloc, block, parts, depth, sink, scopes),

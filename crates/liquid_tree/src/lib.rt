@@ -3,4 +3,4 @@
 
 mod node;
 
-pub use crate::node::Node;
+pub use crate::node::{BRIEF_LIMIT, Brief, Node};

@@ -6,13 +6,12 @@ use Rattle.liquid_parser.specs.Reading.{among}
 use Rattle.liquid_parser.specs.Views.{blocks_view}
 use Rattle.liquid_parser.proofs.AskedLemmas.{err_now, with_outer}
 use Rattle.liquid_parser.proofs.ElementLemmas.{raw_step, tag_step, expression_step, invalid_step}
-use Rattle.liquid_parser.proofs.StepLemmas.{text_shape, last_node}
+use Rattle.liquid_parser.proofs.StepLemmas.{is_text, last_node}
 use Rattle.liquid_parser.proofs.advance.element_read.Goals as goal
 
 pub returns-in-Raw : goal.returns-in-Raw
 returns-in-Raw g c source behind e m =
-    let made = c.in_ok-into_renderable-in-Raw.ensures in
-    let shape = ap (node_of g.F.Filter.Meant.shape g.T.Node.Meant.shape g.B.Node.Meant.shape) made.1 ∙ (text_shape g.F.Filter.Meant.shape g.T.Node.Meant.shape g.B.Node.Meant.shape made.0 ∙ ap text_node made.2) in
+    let shape = is_text g.F.Filter.Meant.shape g.T.Node.Meant.shape g.B.Node.Meant.shape _ _ c.in_ok-into_renderable-in-Raw.ensures in
     raw_step (language_of g.F.ParseFilter.makes g.T.ParseTag.gives (block_of g.B.BlockReflection.start_name g.B.BlockReflection.end_name g.B.ParseBlock.meaning) c.args.language.now) source c.args.outside (blocks_view g.F.Filter.Meant.shape g.T.Node.Meant.shape g.B.Node.Meant.shape g.B.Plan.Meant.shape (block_of g.B.BlockReflection.start_name g.B.BlockReflection.end_name g.B.ParseBlock.meaning) c.args.state.open.items) (shapes_of g.F.Filter.Meant.shape g.T.Node.Meant.shape g.B.Node.Meant.shape c.args.state.nodes.items) c.in-Raw.raw behind e (rw c.in-Raw.is at m)
     ∙ ap (λ ns. Ok (among (blocks_view g.F.Filter.Meant.shape g.T.Node.Meant.shape g.B.Node.Meant.shape g.B.Plan.Meant.shape (block_of g.B.BlockReflection.start_name g.B.BlockReflection.end_name g.B.ParseBlock.meaning) c.args.state.open.items) ns)) (sym (last_node (node_of g.F.Filter.Meant.shape g.T.Node.Meant.shape g.B.Node.Meant.shape) c.args.state.nodes.items _ (text_node c.in-Raw.raw.text.now) c.in_ok-push-in-Raw.ensures.items shape))
 

@@ -9,7 +9,7 @@ use Rattle.liquid_template.proofs.Framing.{renders_framed, renders_memory}
 use Rattle.liquid_template.specs.Runs.{setting}
 use Rattle.liquid_template.specs.PartsOf.{parts_of}
 use Rattle.liquid_template.specs.Bound.{partials_size}
-use Rattle.liquid_template.proofs.Shapes.{nodes_drop, nodes_end, size_member, size_part, node_text, node_chain, node_tag, node_block}
+use Rattle.liquid_template.proofs.Shapes.{nodes_drop, nodes_end, size_member, size_part, node_text, node_brief, node_name, node_chain, node_tag, node_block}
 use Rattle.liquid_template.proofs.Renderings.{stands, stands_not, left_more, left_none, none_yet, not_end, turn_refused_at, turn_ends_at, turn_more_at, turn_fails_at, turns_done_at, start_goes_at, node_puts, node_chains, node_tags, node_blocks, list_fails_at, list_stops_at, list_goes_at, list_done_at, turn_puts, turn_bodies, turn_includes, turn_nothing, part_renders, no_part_renders, without_parts, found_deep, found_fails, found_goes}
 use Rattle.liquid_template.proofs.cycle.+render.Goals as goal
 
@@ -57,6 +57,14 @@ render_node-render_block-requires g t c =
 pub render_node-returns-in-Text-clause-renders : goal.render_node-returns-in-Text-clause-renders
 render_node-returns-in-Text-clause-renders g t c =
     node_puts _ _ _ _ _ _ _ _ (ap (node_of g.X.Meant.shape g.T.Meant.shape g.B.Meant.shape) c.in-Text.is ∙ node_text g.X.Meant.shape g.T.Meant.shape g.B.Meant.shape _) (rw c.as_str.ensures.value at c.write_piece.ensures)
+
+pub render_node-returns-in-Brief-clause-renders : goal.render_node-returns-in-Brief-clause-renders
+render_node-returns-in-Brief-clause-renders g t c =
+    node_puts _ _ _ _ _ _ _ _ (ap (node_of g.X.Meant.shape g.T.Meant.shape g.B.Meant.shape) c.in-Brief.is ∙ node_brief g.X.Meant.shape g.T.Meant.shape g.B.Meant.shape _) (rw c.as_str-in-Brief.ensures.value at c.write_piece-in-Brief.ensures)
+
+pub render_node-returns-in-Name-clause-renders : goal.render_node-returns-in-Name-clause-renders
+render_node-returns-in-Name-clause-renders g t c =
+    node_chains _ _ _ _ _ _ _ _ _ (ap (node_of g.X.Meant.shape g.T.Meant.shape g.B.Meant.shape) c.in-Name.is ∙ node_name g.X.Meant.shape g.T.Meant.shape g.B.Meant.shape _) (rw c.as_str-in-Name.ensures.value at c.render_name.ensures)
 
 pub render_node-returns-in-Chain-clause-renders : goal.render_node-returns-in-Chain-clause-renders
 render_node-returns-in-Chain-clause-renders g t c =

@@ -1,19 +1,17 @@
 use Rattle.std.proofs.Common.{[], ◌∷◌, Ok, sym, ap, ◌∙◌, subst}
 use Rattle.liquid_error.specs.Refusal.{ok_then}
 use Rattle.liquid_tree.specs.NodesOf.{node_of}
-use Rattle.liquid_tree.specs.Tree.{text_node}
 use Rattle.liquid_parser.specs.BlockReading.{Parsed}
 use Rattle.liquid_parser.specs.ElementReading.{read_closed}
 use Rattle.liquid_parser.specs.Plugins.{language_of, block_of}
 use Rattle.liquid_parser.proofs.ElementLemmas.{raw_step, tag_step, expression_step}
 use Rattle.liquid_parser.proofs.ParsedLemmas.{parsed_alone, added_alone}
-use Rattle.liquid_parser.proofs.StepLemmas.{text_shape}
+use Rattle.liquid_parser.proofs.StepLemmas.{is_text}
 use Rattle.liquid_parser.proofs.element_cursor.BlockElement.parse.Goals as goal
 
 pub returns-in_ok-into_renderable-in-Raw-clause-value : goal.returns-in_ok-into_renderable-in-Raw-clause-value
 returns-in_ok-into_renderable-in-Raw-clause-value g c own behind e es m cover =
-    let made = c.in_ok-into_renderable-in-Raw.ensures in
-    let shape = ap (node_of g.F.Filter.Meant.shape g.T.Node.Meant.shape g.B.Node.Meant.shape) made.1 ∙ (text_shape g.F.Filter.Meant.shape g.T.Node.Meant.shape g.B.Node.Meant.shape made.0 ∙ ap text_node made.2) in
+    let shape = is_text g.F.Filter.Meant.shape g.T.Node.Meant.shape g.B.Node.Meant.shape _ _ c.in_ok-into_renderable-in-Raw.ensures in
     let step = raw_step (language_of g.F.ParseFilter.makes g.T.ParseTag.gives (block_of g.B.BlockReflection.start_name g.B.BlockReflection.end_name g.B.ParseBlock.meaning) c.args.language.now) own 1 [] [] c.in-Raw.raw behind e (rw c.in-Raw.is at m) in
     (es, cover, ap (λ r. ok_then r (λ x. read_closed (language_of g.F.ParseFilter.makes g.T.ParseTag.gives (block_of g.B.BlockReflection.start_name g.B.BlockReflection.end_name g.B.ParseBlock.meaning) c.args.language.now) c.args.block.now.source.now 1 x es)) step ∙ ap (λ x. Ok (x ∷ [], es)) (sym shape))
 
