@@ -116,9 +116,9 @@ pub mod laws {
 /// what they are.
 pub mod parser {
     pub use liquid_parser::{
-        BLOCK_LIMIT, BlockBody, BlockElement, BlockReflection, Exp, InvalidLiquidToken, Language,
-        NoPlugin, Node, ParseBlock, ParseTag, Raw, Tag, TagBlock, TagReflection, TagToken,
-        TagTokenIter, TryMatchToken, parse, parse_variable,
+        BLOCK_LIMIT, BRIEF_LIMIT, BlockBody, BlockElement, BlockReflection, Brief, Exp,
+        InvalidLiquidToken, Language, NoPlugin, Node, ParseBlock, ParseTag, Raw, Tag, TagBlock,
+        TagReflection, TagToken, TagTokenIter, TryMatchToken, parse, parse_variable,
     };
     pub use liquid_plugins::{
         Bytes, ChainMark, Discreet, Filter, FilterArguments, FilterChain, FilterParameters,

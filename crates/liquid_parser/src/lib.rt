@@ -40,7 +40,7 @@ pub use block_cursor::TagBlock;
 pub use body::BlockBody;
 pub use element_cursor::{BlockElement, Exp, InvalidLiquidToken, Raw};
 pub use language::Language;
-pub use liquid_tree::Node;
+pub use liquid_tree::{BRIEF_LIMIT, Brief, Node};
 pub use no_plugin::NoPlugin;
 pub use parser::{one_reading, parse};
 pub use tag::{ParseTag, TagReflection};
