@@ -1,18 +1,16 @@
 //! Each call of scopes, over both forms.
 ghost use Rattle.std.specs.Prelude.{◌≡◌};
 
-use crate::framed::{Body, add_line, framed, over};
+use crate::framed::{Base, Body, add_line, framed, nothing_known, over};
 use crate::made;
 use crate::values::numbers;
 use liquid_error::Error;
-use liquid_runtime::{BuiltRuntime, Frame, Interrupt, Runtime, RuntimeBuilder, Scopes};
+use liquid_runtime::{Frame, Interrupt, Runtime, Scopes};
 use liquid_scalar::ScalarCow;
 use liquid_scopes::{ChainedScopes, FlatScopes};
 use liquid_value::Value;
 use std::alloc::{AllocError, Global};
 use std::test::Fail;
-
-type Base = BuiltRuntime<(), ()>;
 
 /// Writes down what the calls answer, under a stack frame with a name.
 struct Calls;
@@ -125,7 +123,7 @@ where
 
 /// Whether scopes over a borrowed runtime have no partials.
 fn borrowed_has_no_partials(alloc: Global) -> bool {
-    let mut base: Base = RuntimeBuilder::new(alloc).build();
+    let mut base = nothing_known(alloc);
     let mut scopes: FlatScopes<&mut Base> = FlatScopes::new(alloc, &mut base);
     let has_none = scopes.partials().is_none();
     let _base = scopes.into_base();
@@ -135,8 +133,8 @@ fn borrowed_has_no_partials(alloc: Global) -> bool {
 #[test]
 fn each_call_answers_alike(rt: HostRuntime) -> Result<(), Fail> {
     let alloc = rt.alloc();
-    assert!(rt; answers_alike::<ChainedScopes<Base>>(alloc, RuntimeBuilder::new(alloc).build())?);
-    assert!(rt; answers_alike::<FlatScopes<Base>>(alloc, RuntimeBuilder::new(alloc).build())?);
+    assert!(rt; answers_alike::<ChainedScopes<Base>>(alloc, nothing_known(alloc))?);
+    assert!(rt; answers_alike::<FlatScopes<Base>>(alloc, nothing_known(alloc))?);
     assert!(rt; borrowed_has_no_partials(alloc));
     Ok(())
 }

@@ -1,10 +1,10 @@
 //! A thousand frames, and how many looks a name takes under them.
 ghost use Rattle.std.specs.Prelude.{◌≡◌};
 
-use crate::framed::{add_line, sandboxed, shown, stack};
+use crate::framed::{Base, add_line, sandboxed, shown, stack};
 use crate::values::numbers;
 use liquid_error::Error;
-use liquid_runtime::{BuiltRuntime, Runtime, RuntimeBuilder, Scopes};
+use liquid_runtime::{Runtime, RuntimeBuilder, Scopes};
 use liquid_scalar::ScalarCow;
 use liquid_scopes::{FlatScopes, Looks};
 use std::alloc::{AllocError, Global};
@@ -94,8 +94,6 @@ where
     let _base = scopes.into_base();
     answer
 }
-
-type Base = BuiltRuntime<(), ()>;
 
 /// A runtime whose globals give `base` the number 5.
 fn based(alloc: Global) -> Result<Base, AllocError> {

@@ -4,11 +4,18 @@ ghost use Rattle.std.specs.Prelude.{◌≡◌};
 use crate::made;
 use crate::values::numbers;
 use liquid_error::Error;
-use liquid_runtime::{Frame, Scopes};
+use liquid_runtime::{BuiltRuntime, Frame, RuntimeBuilder, Scopes};
 use liquid_scalar::ScalarCow;
 use liquid_value::ValueCow;
 use liquid_views::ValueView;
 use std::alloc::{AllocError, Global};
+
+pub(crate) type Base = BuiltRuntime<(), ()>;
+
+/// A runtime without globals.
+pub(crate) fn nothing_known(alloc: Global) -> Base {
+    RuntimeBuilder::new(alloc).build()
+}
 
 /// Calls on scopes that leave the frames as they were.
 pub(crate) trait Body {

@@ -1,13 +1,11 @@
 //! Frames that hide one another, over both forms of scopes.
-use crate::framed::{Body, framed, note, over, sandboxed, stack};
+use crate::framed::{Base, Body, framed, note, nothing_known, over, sandboxed, stack};
 use liquid_error::Error;
-use liquid_runtime::{BuiltRuntime, Frame, RuntimeBuilder, Scopes};
+use liquid_runtime::{Frame, Scopes};
 use liquid_scopes::{ChainedScopes, FlatScopes};
 use liquid_value::Value;
 use std::alloc::Global;
 use std::test::Fail;
-
-type Base = BuiltRuntime<(), ()>;
 
 /// A stack frame with `a`, under it first a sandboxed and then a global frame.
 struct Frames;
@@ -74,7 +72,7 @@ where
 #[test]
 fn a_name_that_was_hidden_is_seen_again(rt: HostRuntime) -> Result<(), Fail> {
     let alloc = rt.alloc();
-    assert!(rt; shows_alike::<ChainedScopes<Base>>(alloc, RuntimeBuilder::new(alloc).build())?);
-    assert!(rt; shows_alike::<FlatScopes<Base>>(alloc, RuntimeBuilder::new(alloc).build())?);
+    assert!(rt; shows_alike::<ChainedScopes<Base>>(alloc, nothing_known(alloc))?);
+    assert!(rt; shows_alike::<FlatScopes<Base>>(alloc, nothing_known(alloc))?);
     Ok(())
 }

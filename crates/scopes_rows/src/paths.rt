@@ -203,20 +203,20 @@ fn a_list_has_as_many_places_from_its_end(rt: HostRuntime) -> Result<(), Fail> {
     Ok(())
 }
 
+/// The index `name`.
+fn name_index(alloc: Global) -> Result<Vec<ScalarCow<'static>>, AllocError> {
+    let mut indexes = Vec::new(alloc);
+    indexes.push(ScalarCow::from("name"))?;
+    Ok(indexes)
+}
+
 /// The path `user.-3.name`.
 fn user_path(alloc: Global) -> Result<Path<'static>, AllocError> {
     let mut path = Path::with_index(alloc, "user")?;
     path.reserve(2)?;
     path.push(-3i64)?;
-    add_name(alloc, &mut path)?;
+    path.extend(name_index(alloc)?)?;
     Ok(path)
-}
-
-/// Puts the index `name` behind the indexes.
-fn add_name(alloc: Global, path: &mut Path<'static>) -> Result<(), AllocError> {
-    let mut more = Vec::new(alloc);
-    more.push(ScalarCow::from("name"))?;
-    path.extend(more)
 }
 
 /// Whether a path shows as a text.
