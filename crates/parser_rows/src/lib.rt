@@ -8,6 +8,12 @@ mod chains;
 #[cfg(test)]
 mod elements;
 #[cfg(test)]
+mod expressions;
+#[cfg(test)]
+mod filters;
+#[cfg(test)]
+mod made;
+#[cfg(test)]
 mod tokens;
 #[cfg(test)]
 mod told;

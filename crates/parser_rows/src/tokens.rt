@@ -1,47 +1,97 @@
 //! Tags alone and their tokens.
 use crate::told::told;
-use liquid_core::parser::{Tag, TagToken, TryMatchToken};
+use liquid_core::Error;
+use liquid_core::parser::{Tag, TagToken, TagTokenIter, TryMatchToken};
 use std::alloc::{AllocError, Global};
 use std::test::Fail;
 
-// The texts of the tokens of a tag, joined by ` / `, or the refusal of the tag.
+/// The texts of the tokens of a tag, joined by ` / `, or the refusal of the tag.
 fn texts(alloc: Global, text: &str) -> Result<String, AllocError> {
-    let mut tokens = match Tag::new(alloc, text) {
-        Ok(tag) => tag.into_tokens(),
-        Err(error) => return told(alloc, &error),
-    };
+    match Tag::new(alloc, text) {
+        Ok(tag) => joined(alloc, tag.into_tokens(), text.len()),
+        Err(error) => told(alloc, &error),
+    }
+}
+
+/// The texts of so many tokens at most, joined by ` / `.
+fn joined(alloc: Global, tokens: TagTokenIter<'_>, count: usize) -> Result<String, AllocError> {
+    let mut tokens = tokens;
     let mut texts = Vec::new(alloc);
-    for _ in 0..text.len() {
-        match tokens.next() {
-            Some(token) => texts.push(token.as_str())?,
-            None => return texts.join(alloc, " / "),
+    for _ in 0..count {
+        if let Some(token) = tokens.next() {
+            texts.push(token.as_str())?;
         }
     }
     texts.join(alloc, " / ")
 }
 
-// A letter for each attempt that matches the token.
+/// Whether a token is taken for a variable.
+fn is_variable(alloc: Global, token: TagToken<'_>) -> Result<bool, AllocError> {
+    match token.expect_variable(alloc)? {
+        TryMatchToken::Matches(_) => Ok(true),
+        _ => Ok(false),
+    }
+}
+
+/// Whether a token is taken for a literal.
+fn is_literal(alloc: Global, token: TagToken<'_>) -> Result<bool, AllocError> {
+    match token.expect_literal(alloc)? {
+        TryMatchToken::Matches(_) => Ok(true),
+        _ => Ok(false),
+    }
+}
+
+/// Whether a token is taken for a value.
+fn is_value(alloc: Global, token: TagToken<'_>) -> Result<bool, AllocError> {
+    match token.expect_value(alloc)? {
+        TryMatchToken::Matches(_) => Ok(true),
+        _ => Ok(false),
+    }
+}
+
+/// Whether a token is taken for a range.
+fn is_range(alloc: Global, token: TagToken<'_>) -> Result<bool, AllocError> {
+    match token.expect_range(alloc)? {
+        TryMatchToken::Matches(_) => Ok(true),
+        _ => Ok(false),
+    }
+}
+
+/// Whether a token is taken for an identifier.
+fn is_identifier(token: TagToken<'_>) -> bool {
+    match token.expect_identifier() {
+        TryMatchToken::Matches(_) => true,
+        _ => false,
+    }
+}
+
+/// Whether a token is taken for `==`.
+fn is_equality(token: TagToken<'_>) -> bool {
+    match token.expect_str("==") {
+        TryMatchToken::Matches(()) => true,
+        _ => false,
+    }
+}
+
+/// The letter of an attempt, where it matches.
+fn letter(matches: bool, letter: &'static str) -> &'static str {
+    if matches { letter } else { "" }
+}
+
+/// A letter for each attempt that matches the token.
 fn kinds(alloc: Global, token: TagToken<'_>) -> Result<String, AllocError> {
-    let mut kinds = String::new(alloc);
-    if let TryMatchToken::Matches(_) = token.expect_identifier() {
-        kinds.push('i')?;
-    }
-    if let TryMatchToken::Matches(_) = token.expect_variable(alloc)? {
-        kinds.push('v')?;
-    }
-    if let TryMatchToken::Matches(_) = token.expect_literal(alloc)? {
-        kinds.push('l')?;
-    }
-    if let TryMatchToken::Matches(_) = token.expect_value(alloc)? {
-        kinds.push('e')?;
-    }
-    if let TryMatchToken::Matches(_) = token.expect_range(alloc)? {
-        kinds.push('r')?;
-    }
-    if let TryMatchToken::Matches(()) = token.expect_str("==") {
-        kinds.push('s')?;
-    }
-    Ok(kinds)
+    let identifier = letter(is_identifier(token), "i");
+    let variable = letter(is_variable(alloc, token)?, "v");
+    let literal = letter(is_literal(alloc, token)?, "l");
+    let value = letter(is_value(alloc, token)?, "e");
+    let range = letter(is_range(alloc, token)?, "r");
+    let equality = letter(is_equality(token), "s");
+    format!(in alloc; "{identifier}{variable}{literal}{value}{range}{equality}")
+}
+
+/// Whether the tokens of a tag, or its refusal, are a text.
+fn has_tokens(alloc: Global, text: &str, tokens: &str) -> Result<bool, AllocError> {
+    Ok(texts(alloc, text)?.as_str() == tokens)
 }
 
 #[test]
@@ -68,9 +118,48 @@ fn tags_have_tokens(rt: HostRuntime) -> Result<(), Fail> {
         ),
     ];
     for (text, tokens) in rows {
-        assert_eq!(rt; texts(alloc, text)?.as_str(), tokens);
+        assert!(rt; has_tokens(alloc, text, tokens)?, "{text}");
     }
     Ok(())
+}
+
+/// The tokens of a tag.
+fn tokens_of(alloc: Global, text: &str) -> Result<TagTokenIter<'_>, Error> {
+    Ok(Tag::new(alloc, text)?.into_tokens())
+}
+
+/// The first token of a tag.
+fn first_token(alloc: Global, text: &str) -> Result<TagToken<'_>, Error> {
+    tokens_of(alloc, text)?.expect_next(alloc, "Token expected")
+}
+
+/// Whether the first token of a tag has the kinds of some letters.
+fn has_kinds(alloc: Global, text: &str, letters: &str) -> Result<bool, Error> {
+    let token = first_token(alloc, text)?;
+    Ok(kinds(alloc, token)?.as_str() == letters)
+}
+
+/// Whether the first token of a tag is raised as a refusal.
+fn is_raised(alloc: Global, text: &str, refusal: &str) -> Result<bool, Error> {
+    let token = first_token(alloc, text)?;
+    Ok(told(alloc, &token.raise_error(alloc))?.as_str() == refusal)
+}
+
+/// What is expected behind the first token of a tag: a token's text, or the first line of the refusal.
+fn second_token(alloc: Global, text: &str) -> Result<String, Error> {
+    let mut tokens = tokens_of(alloc, text)?;
+    tokens.expect_next(alloc, "Token expected")?;
+    Ok(match tokens.expect_next(alloc, "Token expected") {
+        Ok(token) => String::from_str(alloc, token.as_str())?,
+        Err(error) => told(alloc, &error)?,
+    })
+}
+
+/// Whether a tag has no second token, which is refused at the tag's end.
+fn has_one_token(alloc: Global, text: &str) -> Result<bool, Error> {
+    let column = text.len().saturating_sub(2);
+    let refusal = format!(in alloc; "liquid: Token expected (line 1, column {column})")?;
+    Ok(second_token(alloc, text)? == refusal)
 }
 
 #[test]
@@ -85,22 +174,12 @@ fn tokens_are_what_they_look_like(rt: HostRuntime) -> Result<(), Fail> {
         ("{% t (a..2) %}", "r"),
         ("{% t == %}", "s"),
     ];
-    for (text, matches) in rows {
-        let mut tokens = Tag::new(alloc, text)?.into_tokens();
-        let token = tokens.expect_next(alloc, "Token expected")?;
-        assert_eq!(rt; kinds(alloc, token)?.as_str(), matches, "{text}");
-        let refused = told(alloc, &token.raise_error(alloc))?;
-        assert_eq!(rt;
-            refused.as_str(),
-            "liquid: Unexpected token (line 1, column 6)"
-        );
-        let end = match tokens.expect_next(alloc, "Token expected") {
-            Ok(token) => String::from_str(alloc, token.as_str())?,
-            Err(error) => told(alloc, &error)?,
-        };
-        let column = text.len().saturating_sub(2);
-        let wanted = format!(in alloc; "liquid: Token expected (line 1, column {column})")?;
-        assert_eq!(rt; end, wanted);
+    let refusal = "liquid: Unexpected token (line 1, column 6)";
+    for (text, letters) in rows {
+        let holds = has_kinds(alloc, text, letters)?
+            && is_raised(alloc, text, refusal)?
+            && has_one_token(alloc, text)?;
+        assert!(rt; holds, "{text}");
     }
     Ok(())
 }

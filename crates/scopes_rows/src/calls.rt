@@ -1,17 +1,16 @@
 //! Each call of scopes, over both forms.
 ghost use Rattle.std.specs.Prelude.{◌≡◌};
 
-use crate::framed::{Body, framed, numbers, over};
+use crate::framed::{Base, Body, add_line, framed, nothing_known, over};
 use crate::made;
+use crate::values::numbers;
 use liquid_error::Error;
-use liquid_runtime::{BuiltRuntime, Frame, Interrupt, Runtime, RuntimeBuilder, Scopes};
+use liquid_runtime::{Frame, Interrupt, Runtime, Scopes};
 use liquid_scalar::ScalarCow;
 use liquid_scopes::{ChainedScopes, FlatScopes};
 use liquid_value::Value;
-use std::alloc::Global;
+use std::alloc::{AllocError, Global};
 use std::test::Fail;
-
-type Base = BuiltRuntime<(), ()>;
 
 /// Writes down what the calls answer, under a stack frame with a name.
 struct Calls;
@@ -28,55 +27,72 @@ struct UnderPage;
 
 impl Body for UnderPage {
     fn run<S: Scopes>(&self, alloc: Global, scopes: &mut S, log: &mut String) -> Result<(), Error> {
-        note_frames(alloc, scopes, log)?;
+        note_place(alloc, scopes, log)?;
+        note_known(alloc, scopes, log)?;
         sets(alloc, scopes, log)?;
-        note_names(alloc, scopes, log)?;
+        note_roots(alloc, scopes, log)?;
+        add_line(log, refusal(alloc, scopes))?;
         interrupts(scopes, log)
     }
 }
 
-/// Writes down the template's name, how many frames there are, the depth, and what is known of `a`.
-fn note_frames<S: Scopes>(alloc: Global, scopes: &S, log: &mut String) -> Result<(), Error> {
+/// Writes down the template's name, how many frames there are, and the depth.
+fn note_place<S: Scopes>(alloc: Global, scopes: &S, log: &mut String) -> Result<(), AllocError> {
     let name = scopes.name().unwrap_or("none");
-    let line = format!(in alloc; "{name} {} {}", scopes.frames(), scopes.depth())?;
-    log.push_str(line.as_str())?;
+    let frames = scopes.frames();
+    let depth = scopes.depth();
+    add_line(log, format!(in alloc; "{name} {frames} {depth}"))
+}
+
+/// Writes down what is known of `a`.
+fn note_known<S: Scopes>(alloc: Global, scopes: &S, log: &mut String) -> Result<(), AllocError> {
     let known = scopes.try_get_name("a").is_some();
-    let line = format!(in alloc; " {known} {}", scopes.seals("a"))?;
-    log.push_str(line.as_str())?;
+    let sealed = scopes.seals("a");
+    add_line(log, format!(in alloc; " {known} {sealed}"))
+}
+
+/// Writes down the names.
+fn note_roots<S: Scopes>(alloc: Global, scopes: &S, log: &mut String) -> Result<(), AllocError> {
+    let roots = scopes.roots(alloc)?;
+    for root in roots.iter() {
+        add_line(log, format!(in alloc; " {root}"))?;
+    }
     Ok(())
 }
 
-/// Writes down the names, and the refusal of a path.
-fn note_names<S: Scopes>(alloc: Global, scopes: &S, log: &mut String) -> Result<(), Error> {
-    let roots = scopes.roots(alloc)?;
-    for root in roots.iter() {
-        log.push_str(" ")?;
-        log.push_str(root.as_str())?;
+/// The refusal of a path, or nothing where it leads to a value.
+fn refusal<S: Scopes>(alloc: Global, scopes: &S) -> Result<String, AllocError> {
+    match made::get(alloc, scopes, &[ScalarCow::from("a"), ScalarCow::from("x")]) {
+        Ok(_) => Ok(String::new(alloc)),
+        Err(error) => error.to_string(alloc),
     }
-    let path = [ScalarCow::from("a"), ScalarCow::from("x")];
-    match made::get(alloc, scopes, &path) {
-        Ok(_) => {}
-        Err(error) => log.push_str(error.to_string(alloc)?.as_str())?,
-    }
-    Ok(())
+}
+
+/// Sets a global, and answers whether it had a value before.
+fn had_global<S: Scopes>(alloc: Global, scopes: &mut S) -> Result<bool, Error>
+    ensures { S.restores scopes.new ≡ S.restores scopes.old }
+{
+    let name = String::from_str(alloc, "g")?;
+    Ok(made::set_global(scopes, name, Value::scalar(2i64))?.is_some())
+}
+
+/// Sets an index variable, and answers whether it had a value before.
+fn had_index<S: Scopes>(alloc: Global, scopes: &mut S, number: i64) -> Result<bool, Error>
+    ensures { S.restores scopes.new ≡ S.restores scopes.old }
+{
+    let name = String::from_str(alloc, "i")?;
+    Ok(made::set_index(scopes, name, Value::scalar(number))?.is_some())
 }
 
 /// Sets a global and an index variable, and writes down the old values and the new index variable.
 fn sets<S: Scopes>(alloc: Global, scopes: &mut S, log: &mut String) -> Result<(), Error>
     ensures { S.restores scopes.new ≡ S.restores scopes.old }
 {
-    let old = made::set_global(scopes, String::from_str(alloc, "g")?, Value::scalar(2i64))?;
-    let first = made::set_index(scopes, String::from_str(alloc, "i")?, Value::scalar(3i64))?;
-    let second = made::set_index(scopes, String::from_str(alloc, "i")?, Value::scalar(4i64))?;
-    let now = made::get_index(scopes, "i");
-    let line = format!(in alloc;
-        " {} {} {} {}",
-        old.is_some(),
-        first.is_some(),
-        second.is_some(),
-        now.is_some()
-    )?;
-    log.push_str(line.as_str())?;
+    let old = had_global(alloc, scopes)?;
+    let first = had_index(alloc, scopes, 3)?;
+    let second = had_index(alloc, scopes, 4)?;
+    let now = made::get_index(scopes, "i").is_some();
+    add_line(log, format!(in alloc; " {old} {first} {second} {now}"))?;
     Ok(())
 }
 
@@ -97,22 +113,28 @@ fn interrupts<S: Scopes>(scopes: &mut S, log: &mut String) -> Result<(), Error>
 const ANSWERS: &str = "page 1 32 true false false false true true a g i\
     liquid: Unknown index\n  with:\n    variable=a\n    requested index=x\n    available indexes=\nfirst then";
 
+/// Whether scopes of one form answer as told.
+fn answers_alike<S: Scopes>(alloc: Global, base: S::Base) -> Result<bool, Error>
+where
+    S::Base: Drop,
+{
+    Ok(over::<S, Calls>(alloc, base, &Calls)?.as_str() == ANSWERS)
+}
+
+/// Whether scopes over a borrowed runtime have no partials.
+fn borrowed_has_no_partials(alloc: Global) -> bool {
+    let mut base = nothing_known(alloc);
+    let mut scopes: FlatScopes<&mut Base> = FlatScopes::new(alloc, &mut base);
+    let has_none = scopes.partials().is_none();
+    let _base = scopes.into_base();
+    has_none
+}
+
 #[test]
 fn each_call_answers_alike(rt: HostRuntime) -> Result<(), Fail> {
     let alloc = rt.alloc();
-    let base: Base = RuntimeBuilder::new(alloc).build();
-    assert_eq!(rt;
-        over::<ChainedScopes<Base>, Calls>(alloc, base, &Calls)?.as_str(),
-        ANSWERS
-    );
-    let base: Base = RuntimeBuilder::new(alloc).build();
-    assert_eq!(rt;
-        over::<FlatScopes<Base>, Calls>(alloc, base, &Calls)?.as_str(),
-        ANSWERS
-    );
-    let mut base: Base = RuntimeBuilder::new(alloc).build();
-    let mut scopes: FlatScopes<&mut Base> = FlatScopes::new(alloc, &mut base);
-    assert!(rt; scopes.partials().is_none());
-    let _base = scopes.into_base();
+    assert!(rt; answers_alike::<ChainedScopes<Base>>(alloc, nothing_known(alloc))?);
+    assert!(rt; answers_alike::<FlatScopes<Base>>(alloc, nothing_known(alloc))?);
+    assert!(rt; borrowed_has_no_partials(alloc));
     Ok(())
 }

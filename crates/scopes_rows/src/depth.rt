@@ -1,13 +1,13 @@
 //! A thousand frames, and how many looks a name takes under them.
 ghost use Rattle.std.specs.Prelude.{◌≡◌};
 
-use crate::framed::{numbers, sandboxed, stack};
+use crate::framed::{Base, add_line, sandboxed, shown, stack};
+use crate::values::numbers;
 use liquid_error::Error;
-use liquid_runtime::{BuiltRuntime, Runtime, RuntimeBuilder, Scopes};
+use liquid_runtime::{Runtime, RuntimeBuilder, Scopes};
 use liquid_scalar::ScalarCow;
 use liquid_scopes::{FlatScopes, Looks};
-use liquid_views::ValueView;
-use std::alloc::Global;
+use std::alloc::{AllocError, Global};
 use std::test::Fail;
 
 /// Scopes that count their looks.
@@ -19,12 +19,11 @@ trait Seeks: Scopes {
 impl<R: Runtime> Seeks for FlatScopes<R> {
     fn note_looks(&self, alloc: Global, name: &'static str, log: &mut String) -> Result<(), Error> {
         let mut looks = Looks::new();
-        let shown = match self.seek(alloc, &[ScalarCow::from(name)], &mut looks)? {
-            Some(value) => value.render().to_string(alloc)?,
-            None => String::from_str(alloc, "none")?,
-        };
-        let line = format!(in alloc; " {name}={shown}/{}", looks.count())?;
-        log.push_str(line.as_str())?;
+        let shown = shown(
+            alloc,
+            self.seek(alloc, &[ScalarCow::from(name)], &mut looks)?,
+        )?;
+        add_line(log, format!(in alloc; " {name}={shown}/{}", looks.count()))?;
         Ok(())
     }
 }
@@ -72,21 +71,43 @@ fn in_sandbox<S: Seeks>(alloc: Global, scopes: &mut S, log: &mut String) -> Resu
     answer
 }
 
+/// Writes down looks of three names.
 fn note_all<S: Seeks>(alloc: Global, scopes: &S, log: &mut String) -> Result<(), Error> {
-    scopes.note_looks(alloc, "deep", log)?;
-    scopes.note_looks(alloc, "base", log)?;
-    scopes.note_looks(alloc, "own", log)
+    for name in ["deep", "base", "own"] {
+        scopes.note_looks(alloc, name, log)?;
+    }
+    Ok(())
 }
 
-fn noted<S: Seeks>(alloc: Global, base: S::Base, frames: u32) -> Result<String, Error>
+/// Writes down looks under so many frames over a base.
+fn note_over<S: Seeks>(
+    alloc: Global,
+    base: S::Base,
+    frames: u32,
+    log: &mut String,
+) -> Result<(), Error>
 where
     S::Base: Drop,
 {
-    let mut log = String::new(alloc);
     let mut scopes = S::new(alloc, base);
-    let answer = nested(alloc, &mut scopes, frames, &mut log);
+    let answer = nested(alloc, &mut scopes, frames, log);
     let _base = scopes.into_base();
-    answer?;
+    answer
+}
+
+/// A runtime whose globals give `base` the number 5.
+fn based(alloc: Global) -> Result<Base, AllocError> {
+    Ok(
+        RuntimeBuilder::new(alloc)
+            .set_globals(numbers(alloc, &[("base", 5)])?)
+            .build(),
+    )
+}
+
+/// The looks under so many frames.
+fn noted(alloc: Global, frames: u32) -> Result<String, Error> {
+    let mut log = String::new(alloc);
+    note_over::<FlatScopes<Base>>(alloc, based(alloc)?, frames, &mut log)?;
     Ok(log)
 }
 
@@ -96,11 +117,11 @@ fn a_name_takes_at_most_two_looks_under_a_thousand_frames(rt: HostRuntime) -> Re
     let shown = " deep=1/1 base=5/2 own=none/2 deep=none/1 base=none/1 own=6/1 \
         deep=none/1 base=none/1 own=6/2";
     for frames in [1, 1000] {
-        let base: BuiltRuntime<(), ()> = RuntimeBuilder::new(alloc)
-            .set_globals(numbers(alloc, &[("base", 5)])?)
-            .build();
-        let log = noted::<FlatScopes<BuiltRuntime<(), ()>>>(alloc, base, frames)?;
-        assert_eq!(rt; log.as_str(), shown, "under {frames} frames");
+        assert_eq!(rt;
+            noted(alloc, frames)?.as_str(),
+            shown,
+            "under {frames} frames"
+        );
     }
     Ok(())
 }

@@ -2,12 +2,20 @@
 ghost use Rattle.std.specs.Prelude.{◌≡◌};
 
 use crate::made;
+use crate::values::numbers;
 use liquid_error::Error;
-use liquid_runtime::{Frame, Scopes};
+use liquid_runtime::{BuiltRuntime, Frame, RuntimeBuilder, Scopes};
 use liquid_scalar::ScalarCow;
-use liquid_value::{Object, Value};
+use liquid_value::ValueCow;
 use liquid_views::ValueView;
 use std::alloc::{AllocError, Global};
+
+pub(crate) type Base = BuiltRuntime<(), ()>;
+
+/// A runtime without globals.
+pub(crate) fn nothing_known(alloc: Global) -> Base {
+    RuntimeBuilder::new(alloc).build()
+}
 
 /// Calls on scopes that leave the frames as they were.
 pub(crate) trait Body {
@@ -32,6 +40,22 @@ pub(crate) fn framed<S: Scopes, B: Body>(
     answer
 }
 
+/// Runs a body over scopes of one form, and takes them apart.
+fn run_over<S: Scopes, B: Body>(
+    alloc: Global,
+    base: S::Base,
+    body: &B,
+    log: &mut String,
+) -> Result<(), Error>
+where
+    S::Base: Drop,
+{
+    let mut scopes = S::new(alloc, base);
+    let answer = body.run(alloc, &mut scopes, log);
+    let _base = scopes.into_base();
+    answer
+}
+
 /// Runs a body over scopes of one form, and answers what it wrote down.
 pub(crate) fn over<S: Scopes, B: Body>(
     alloc: Global,
@@ -42,20 +66,25 @@ where
     S::Base: Drop,
 {
     let mut log = String::new(alloc);
-    let mut scopes = S::new(alloc, base);
-    let answer = body.run(alloc, &mut scopes, &mut log);
-    let _base = scopes.into_base();
-    answer?;
+    run_over::<S, B>(alloc, base, body, &mut log)?;
     Ok(log)
 }
 
-/// An object of numbers.
-pub(crate) fn numbers(alloc: Global, pairs: &[(&'static str, i64)]) -> Result<Object, AllocError> {
-    let mut object = Object::new(alloc);
-    for (name, number) in pairs {
-        object.insert(String::from_str(alloc, name)?, Value::scalar(*number))?;
+/// Writes a line down, where it could be made.
+pub(crate) fn add_line(
+    log: &mut String,
+    line: Result<String, AllocError>,
+) -> Result<(), AllocError> {
+    log.push_str(line?.as_str())?;
+    Ok(())
+}
+
+/// The text of a value, or `none`.
+pub(crate) fn shown(alloc: Global, found: Option<ValueCow<'_>>) -> Result<String, AllocError> {
+    match found {
+        Some(value) => value.render().to_string(alloc),
+        None => String::from_str(alloc, "none"),
     }
-    Ok(object)
 }
 
 /// A stack frame of numbers.
@@ -75,13 +104,10 @@ pub(crate) fn note<S: Scopes>(
     name: &'static str,
     log: &mut String,
 ) -> Result<(), Error> {
-    let shown = match made::try_get(alloc, scopes, &[ScalarCow::from(name)])? {
-        Some(value) => value.render().to_string(alloc)?,
-        None => String::from_str(alloc, "none")?,
-    };
-    log.push_str(" ")?;
-    log.push_str(name)?;
-    log.push_str("=")?;
-    log.push_str(shown.as_str())?;
+    let shown = shown(
+        alloc,
+        made::try_get(alloc, scopes, &[ScalarCow::from(name)])?,
+    )?;
+    add_line(log, format!(in alloc; " {name}={shown}"))?;
     Ok(())
 }

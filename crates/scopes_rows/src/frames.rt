@@ -1,13 +1,11 @@
 //! Frames that hide one another, over both forms of scopes.
-use crate::framed::{Body, framed, note, over, sandboxed, stack};
+use crate::framed::{Base, Body, framed, note, nothing_known, over, sandboxed, stack};
 use liquid_error::Error;
-use liquid_runtime::{BuiltRuntime, Frame, RuntimeBuilder, Scopes};
+use liquid_runtime::{Frame, Scopes};
 use liquid_scopes::{ChainedScopes, FlatScopes};
 use liquid_value::Value;
 use std::alloc::Global;
 use std::test::Fail;
-
-type Base = BuiltRuntime<(), ()>;
 
 /// A stack frame with `a`, under it first a sandboxed and then a global frame.
 struct Frames;
@@ -62,15 +60,19 @@ impl Body for BelowGlobal {
     }
 }
 
+/// Whether scopes of one form show and hide names as told.
+fn shows_alike<S: Scopes>(alloc: Global, base: S::Base) -> Result<bool, Error>
+where
+    S::Base: Drop,
+{
+    let shown = " a=none b=3 b=2 a=1 a=4 a=1";
+    Ok(over::<S, Frames>(alloc, base, &Frames)?.as_str() == shown)
+}
+
 #[test]
 fn a_name_that_was_hidden_is_seen_again(rt: HostRuntime) -> Result<(), Fail> {
     let alloc = rt.alloc();
-    let shown = " a=none b=3 b=2 a=1 a=4 a=1";
-    let base: Base = RuntimeBuilder::new(alloc).build();
-    let chained = over::<ChainedScopes<Base>, Frames>(alloc, base, &Frames)?;
-    assert_eq!(rt; chained.as_str(), shown);
-    let base: Base = RuntimeBuilder::new(alloc).build();
-    let flat = over::<FlatScopes<Base>, Frames>(alloc, base, &Frames)?;
-    assert_eq!(rt; flat.as_str(), shown);
+    assert!(rt; shows_alike::<ChainedScopes<Base>>(alloc, nothing_known(alloc))?);
+    assert!(rt; shows_alike::<FlatScopes<Base>>(alloc, nothing_known(alloc))?);
     Ok(())
 }

@@ -12,4 +12,8 @@ mod frames;
 #[cfg(test)]
 mod made;
 #[cfg(test)]
+mod paths;
+#[cfg(test)]
 mod runtimes;
+#[cfg(test)]
+mod values;

@@ -1,13 +1,12 @@
-//! Paths, names, frames and registers over a runtime.
+//! Names, frames and registers over a runtime.
+use crate::values::{answer_text, numbers, text};
 use liquid_error::Error;
-use liquid_paths::{Path, find, try_find};
 use liquid_runtime::{
     BuiltRuntime, Fresh, Interrupt, Runtime, RuntimeBuilder, RuntimeCore, SandboxedStackFrame,
     StackFrame,
 };
 use liquid_scalar::ScalarCow;
-use liquid_value::{Object, Value, ValueCow};
-use liquid_views::{ArrayView, ValueView};
+use liquid_value::{Object, Value};
 use std::alloc::{AllocError, Global};
 use std::test::Fail;
 
@@ -23,211 +22,6 @@ impl Fresh for Marks {
     fn fresh() -> Marks {
         Marks { count: 0 }
     }
-}
-
-/// An index of a path.
-#[derive(Clone, Copy)]
-enum Step {
-    Word(&'static str),
-    Place(i64),
-}
-
-use Step::{Place, Word};
-
-fn path_of(alloc: Global, steps: &[Step]) -> Result<Vec<ScalarCow<'static>>, AllocError> {
-    let mut path = Vec::new(alloc);
-    for step in steps {
-        path.push(match step {
-            Word(word) => ScalarCow::from(*word),
-            Place(place) => ScalarCow::from(*place),
-        })?;
-    }
-    Ok(path)
-}
-
-fn text(alloc: Global, text: &str) -> Result<String, AllocError> {
-    String::from_str(alloc, text)
-}
-
-/// An object of numbers.
-fn numbers(alloc: Global, pairs: &[(&'static str, i64)]) -> Result<Object, AllocError> {
-    let mut object = Object::new(alloc);
-    for (name, number) in pairs {
-        object.insert(text(alloc, name)?, Value::scalar(*number))?;
-    }
-    Ok(object)
-}
-
-/// `list` with ten numbers, `empty` without any, `word`, and `box` with `size` and `part` inside.
-fn values(alloc: Global) -> Result<Object, AllocError> {
-    let mut list = Vec::new(alloc);
-    for square in [0i64, 1, 4, 9, 16, 25, 36, 49, 64, 81] {
-        list.push(Value::scalar(square))?;
-    }
-    let mut object = Object::new(alloc);
-    object.insert(text(alloc, "list")?, Value::Array(list))?;
-    object.insert(text(alloc, "empty")?, Value::Array(Vec::new(alloc)))?;
-    object.insert(text(alloc, "word")?, Value::scalar(text(alloc, "häuser")?))?;
-    let sized = numbers(alloc, &[("size", 7), ("part", 5)])?;
-    object.insert(text(alloc, "box")?, Value::Object(sized))?;
-    object.insert(
-        text(alloc, "plain")?,
-        Value::Object(numbers(alloc, &[("d", 2), ("c", 1)])?),
-    )?;
-    Ok(object)
-}
-
-/// What is written of an answer: the value's text, or that of the refusal.
-fn answer_text(alloc: Global, answer: Result<ValueCow<'_>, Error>) -> Result<String, AllocError> {
-    match answer {
-        Ok(value) => value.render().to_string(alloc),
-        Err(error) => error.to_string(alloc),
-    }
-}
-
-/// A path with what it leads to.
-struct PathRow {
-    path: &'static [Step],
-    answer: &'static str,
-}
-
-const PATHS: [PathRow; 22] = [
-    PathRow {
-        path: &[Word("list"), Place(2)],
-        answer: "4",
-    },
-    PathRow {
-        path: &[Word("list"), Word("2")],
-        answer: "4",
-    },
-    PathRow {
-        path: &[Word("list"), Place(-1)],
-        answer: "81",
-    },
-    PathRow {
-        path: &[Word("list"), Place(-10)],
-        answer: "0",
-    },
-    PathRow {
-        path: &[Word("list"), Word("first")],
-        answer: "0",
-    },
-    PathRow {
-        path: &[Word("list"), Word("last")],
-        answer: "81",
-    },
-    PathRow {
-        path: &[Word("list"), Word("size")],
-        answer: "10",
-    },
-    PathRow {
-        path: &[Word("list"), Word("size"), Word("size")],
-        answer: "2",
-    },
-    PathRow {
-        path: &[Word("word"), Word("size")],
-        answer: "7",
-    },
-    PathRow {
-        path: &[Word("box"), Word("size")],
-        answer: "7",
-    },
-    PathRow {
-        path: &[Word("plain"), Word("size")],
-        answer: "2",
-    },
-    PathRow {
-        path: &[Word("plain"), Word("d")],
-        answer: "2",
-    },
-    PathRow {
-        path: &[Word("size")],
-        answer: "5",
-    },
-    PathRow {
-        path: &[Word("list"), Place(-11)],
-        answer: "liquid: Unknown index\n  with:\n    variable=list\n    requested index=-11\n    available indexes=0..9, first, last\n",
-    },
-    PathRow {
-        path: &[Word("list"), Place(10), Word("x")],
-        answer: "liquid: Unknown index\n  with:\n    variable=list\n    requested index=10\n    available indexes=0..9, first, last\n",
-    },
-    PathRow {
-        path: &[Word("empty"), Word("first")],
-        answer: "liquid: Unknown index\n  with:\n    variable=empty\n    requested index=first\n    available indexes=first, last\n",
-    },
-    PathRow {
-        path: &[Word("plain"), Word("b"), Word("x")],
-        answer: "liquid: Unknown index\n  with:\n    variable=plain\n    requested index=b\n    available indexes=c, d\n",
-    },
-    PathRow {
-        path: &[Word("plain"), Word("c"), Word("x")],
-        answer: "liquid: Unknown index\n  with:\n    variable=plain.c\n    requested index=x\n    available indexes=\n",
-    },
-    PathRow {
-        path: &[Word("list"), Place(3), Word("size"), Word("first")],
-        answer: "liquid: Unknown index\n  with:\n    variable=list.3.size\n    requested index=first\n    available indexes=\n",
-    },
-    PathRow {
-        path: &[Word("x"), Word("y")],
-        answer: "liquid: Unknown index\n  with:\n    requested index=x\n    available indexes=box, empty, list, plain, word\n",
-    },
-    PathRow {
-        path: &[Word("word"), Word("first")],
-        answer: "liquid: Unknown index\n  with:\n    variable=word\n    requested index=first\n    available indexes=\n",
-    },
-    PathRow {
-        path: &[Word("plain"), Word("c"), Word("size")],
-        answer: "1",
-    },
-];
-
-#[test]
-fn paths_lead_to_values(rt: HostRuntime) -> Result<(), Fail> {
-    let alloc = rt.alloc();
-    let value = Value::Object(values(alloc)?);
-    for row in &PATHS {
-        let path = path_of(alloc, row.path)?;
-        let found = find(alloc, &value, path.as_slice());
-        let is_found = found.is_ok();
-        assert_eq!(rt; answer_text(alloc, found)?.as_str(), row.answer);
-        assert_eq!(rt;
-            try_find(alloc, &value, path.as_slice())?.is_some(),
-            is_found
-        );
-    }
-    Ok(())
-}
-
-#[test]
-fn a_list_has_as_many_places_from_its_end(rt: HostRuntime) -> Result<(), Fail> {
-    let alloc = rt.alloc();
-    let mut list = Vec::new(alloc);
-    for number in 0..10i64 {
-        list.push(Value::scalar(number))?;
-    }
-    assert!(rt; !list.contains_key(-11));
-    assert!(rt; list.contains_key(-10));
-    Ok(())
-}
-
-#[test]
-fn a_path_is_a_list_of_indexes(rt: HostRuntime) -> Result<(), Fail> {
-    let alloc = rt.alloc();
-    let mut path = Path::with_index(alloc, "user")?;
-    path.reserve(2)?;
-    path.push(-3i64)?;
-    let mut more = Vec::new(alloc);
-    more.push(ScalarCow::from("name"))?;
-    path.extend(more)?;
-    assert_eq!(rt; path.to_string(alloc)?.as_str(), "user.-3.name");
-    assert_eq!(rt; path.iter().len(), 3);
-    let copy = path.clone()?;
-    assert!(rt; copy == path);
-    path.push("x")?;
-    assert!(rt; copy != path);
-    assert_eq!(rt; path.as_slice().len(), 4);
-    Ok(())
 }
 
 /// The text of a name's value, or that of the refusal.
@@ -248,68 +42,209 @@ fn built(
 
 const UNKNOWN_A: &str = "liquid: Unknown variable\n  with:\n    requested variable=a\n";
 
+/// Whether a name's value, or the refusal of the name, has a text.
+fn is_name<R: Runtime>(
+    alloc: Global,
+    runtime: &R,
+    name: &str,
+    text: &str,
+) -> Result<bool, AllocError> {
+    Ok(name_text(alloc, runtime, name)?.as_str() == text)
+}
+
+/// Whether a path is refused by a text.
+fn is_refused<R: Runtime>(
+    alloc: Global,
+    runtime: &R,
+    path: &[ScalarCow<'_>],
+    refusal: &str,
+) -> Result<bool, AllocError> {
+    Ok(answer_text(alloc, runtime.get(alloc, path))?.as_str() == refusal)
+}
+
+/// Whether trying a name comes to a value.
+fn is_known<R: Runtime>(alloc: Global, runtime: &R, name: &str) -> Result<bool, AllocError> {
+    Ok(runtime.try_get(alloc, &[ScalarCow::from(name)])?.is_some())
+}
+
+/// Whether a name is among those that can be seen.
+fn is_root<R: Runtime>(alloc: Global, runtime: &R, name: &str) -> Result<bool, AllocError> {
+    Ok(runtime.roots(alloc)?.contains(name))
+}
+
+/// Whether `b` is listed, but not `a`.
+fn hides_a<R: Runtime>(alloc: Global, runtime: &R) -> Result<bool, AllocError> {
+    Ok(!is_root(alloc, runtime, "a")? && is_root(alloc, runtime, "b")?)
+}
+
+/// Whether `c` is listed besides `b`, and `b` and `c` are tried to values, but not `a`.
+fn shows_b_and_c<R: Runtime>(alloc: Global, runtime: &R) -> Result<bool, AllocError> {
+    Ok(
+        is_root(alloc, runtime, "c")?
+            && !is_known(alloc, runtime, "a")?
+            && is_known(alloc, runtime, "b")?
+            && is_known(alloc, runtime, "c")?,
+    )
+}
+
+/// Whether `b` and `c` have their numbers, and `a` is refused.
+fn refuses_a<R: Runtime>(alloc: Global, runtime: &R) -> Result<bool, AllocError> {
+    Ok(
+        is_name(alloc, runtime, "a", UNKNOWN_A)?
+            && is_name(alloc, runtime, "b", "2")?
+            && is_name(alloc, runtime, "c", "3")?,
+    )
+}
+
+/// Whether a path behind the sealed `b` is refused as that name is.
+fn refuses_sealed<R: Runtime>(alloc: Global, runtime: &R) -> Result<bool, AllocError> {
+    let refusal = "liquid: Unknown variable\n  with:\n    requested variable=b\n";
+    is_refused(
+        alloc,
+        runtime,
+        &[ScalarCow::from("b"), ScalarCow::from("x")],
+        refusal,
+    )
+}
+
+/// Whether a path behind the shown `c` is refused by its index.
+fn refuses_shown<R: Runtime>(alloc: Global, runtime: &R) -> Result<bool, AllocError> {
+    let refusal =
+        "liquid: Unknown index\n  with:\n    variable=c\n    requested index=x\n    available indexes=\n";
+    is_refused(
+        alloc,
+        runtime,
+        &[ScalarCow::from("c"), ScalarCow::from("x")],
+        refusal,
+    )
+}
+
+/// Whether paths are refused: one behind a sealed name, one behind a shown name, and the empty path.
+fn refuses_paths<R: Runtime>(alloc: Global, runtime: &R) -> Result<bool, AllocError> {
+    let refusal = "liquid: Unknown variable\n  with:\n    requested variable=nil\n";
+    Ok(
+        refuses_sealed(alloc, runtime)?
+            && refuses_shown(alloc, runtime)?
+            && is_refused(alloc, runtime, &[], refusal)?,
+    )
+}
+
+/// Whether a frame with `c` over a sandbox with `b` shows both, and hides `a`.
+fn frame_holds<R: Runtime>(alloc: Global, frame: &R) -> Result<bool, AllocError> {
+    Ok(
+        hides_a(alloc, frame)?
+            && shows_b_and_c(alloc, frame)?
+            && refuses_a(alloc, frame)?
+            && refuses_paths(alloc, frame)?,
+    )
+}
+
+/// Whether a sandbox with `b` over a runtime, and a frame with `c` over that, show and hide names.
+fn frames_hold(alloc: Global, runtime: &mut BuiltRuntime<Marks, ()>) -> Result<bool, AllocError> {
+    let sandbox = SandboxedStackFrame::new(runtime, numbers(alloc, &[("b", 2)])?);
+    let is_hidden = hides_a(alloc, &sandbox)?;
+    let frame = StackFrame::new(sandbox, numbers(alloc, &[("c", 3)])?);
+    Ok(is_hidden && frame_holds(alloc, &frame)?)
+}
+
 #[test]
 fn frames_show_and_hide_names(rt: HostRuntime) -> Result<(), Fail> {
     let alloc = rt.alloc();
     let mut runtime = built(alloc, &[("a", 1)])?;
-    let sandbox = SandboxedStackFrame::new(&mut runtime, numbers(alloc, &[("b", 2)])?);
-    let roots = sandbox.roots(alloc)?;
-    assert!(rt; !roots.contains("a") && roots.contains("b"));
-    let frame = StackFrame::new(sandbox, numbers(alloc, &[("c", 3)])?);
-    let roots = frame.roots(alloc)?;
-    assert!(rt; !roots.contains("a") && roots.contains("b") && roots.contains("c"));
-    for (name, shown) in [("a", false), ("b", true), ("c", true)] {
-        assert_eq!(rt;
-            frame.try_get(alloc, &[ScalarCow::from(name)])?.is_some(),
-            shown
-        );
-    }
-    assert_eq!(rt; name_text(alloc, &frame, "a")?.as_str(), UNKNOWN_A);
-    assert_eq!(rt; name_text(alloc, &frame, "b")?.as_str(), "2");
-    assert_eq!(rt; name_text(alloc, &frame, "c")?.as_str(), "3");
-    let sealed = [ScalarCow::from("b"), ScalarCow::from("x")];
-    assert_eq!(rt;
-        answer_text(alloc, frame.get(alloc, &sealed))?.as_str(),
-        "liquid: Unknown variable\n  with:\n    requested variable=b\n"
-    );
-    let shown = [ScalarCow::from("c"), ScalarCow::from("x")];
-    assert_eq!(rt;
-        answer_text(alloc, frame.get(alloc, &shown))?.as_str(),
-        "liquid: Unknown index\n  with:\n    variable=c\n    requested index=x\n    available indexes=\n"
-    );
-    assert_eq!(rt;
-        answer_text(alloc, frame.get(alloc, &[]))?.as_str(),
-        "liquid: Unknown variable\n  with:\n    requested variable=nil\n"
-    );
-    drop(frame);
-    assert_eq!(rt; name_text(alloc, &runtime, "a")?.as_str(), "1");
+    assert!(rt; frames_hold(alloc, &mut runtime)?);
+    assert!(rt; is_name(alloc, &runtime, "a", "1")?);
     Ok(())
+}
+
+/// Sets a global to a number, and answers its old value.
+fn set_number<R: Runtime>(
+    alloc: Global,
+    runtime: &mut R,
+    name: &str,
+    number: i64,
+) -> Result<Option<Value>, Error> {
+    runtime.set_global(text(alloc, name)?, Value::scalar(number))
+}
+
+/// Sets a global to a number, and answers whether it is new.
+fn is_new<R: Runtime>(
+    alloc: Global,
+    runtime: &mut R,
+    name: &str,
+    number: i64,
+) -> Result<bool, Error> {
+    Ok(set_number(alloc, runtime, name, number)?.is_none())
+}
+
+/// Sets `test` to 43, and answers whether it was 42.
+fn was_42<R: Runtime>(alloc: Global, runtime: &mut R) -> Result<bool, Error> {
+    Ok(set_number(alloc, runtime, "test", 43)? == Some(Value::scalar(42i64)))
+}
+
+/// Whether globals are set below the frame `page`, which hides `test`.
+fn page_hides_global<R: Runtime>(alloc: Global, page: &mut R) -> Result<bool, Error> {
+    Ok(
+        page.name() == Some("page")
+            && is_name(alloc, page, "test", "3")?
+            && was_42(alloc, page)?
+            && is_new(alloc, page, "global", 5)?
+            && is_name(alloc, page, "test", "3")?,
+    )
+}
+
+/// Whether globals are set below a frame `page` with `test`.
+fn sets_below_page(alloc: Global, runtime: &mut BuiltRuntime<Marks, ()>) -> Result<bool, Error> {
+    let frame = StackFrame::new(runtime, numbers(alloc, &[("test", 3)])?);
+    let mut page = frame.with_name(text(alloc, "page")?);
+    page_hides_global(alloc, &mut page)
+}
+
+/// Whether the globals have the numbers that were set below a frame.
+fn has_globals<R: Runtime>(alloc: Global, runtime: &R) -> Result<bool, AllocError> {
+    Ok(is_name(alloc, runtime, "test", "43")? && is_name(alloc, runtime, "global", "5")?)
 }
 
 #[test]
 fn a_global_is_set_below_a_frame(rt: HostRuntime) -> Result<(), Fail> {
     let alloc = rt.alloc();
     let mut runtime = built(alloc, &[])?;
-    assert!(rt;
-        runtime
-            .set_global(text(alloc, "test")?, Value::scalar(42i64))?
-            .is_none()
-    );
-    let mut frame = StackFrame::new(&mut runtime, numbers(alloc, &[("test", 3)])?).with_name(text(
-        alloc, "page",
-    )?);
-    assert_eq!(rt; frame.name(), Some("page"));
-    assert_eq!(rt; name_text(alloc, &frame, "test")?.as_str(), "3");
-    let old = frame.set_global(text(alloc, "test")?, Value::scalar(43i64))?;
-    assert!(rt; old == Some(Value::scalar(42i64)));
-    frame.set_global(text(alloc, "global")?, Value::scalar(5i64))?;
-    assert_eq!(rt; name_text(alloc, &frame, "test")?.as_str(), "3");
-    drop(frame);
-    assert_eq!(rt; name_text(alloc, &runtime, "test")?.as_str(), "43");
-    assert_eq!(rt; name_text(alloc, &runtime, "global")?.as_str(), "5");
-    assert!(rt; runtime.name().is_none());
-    assert_eq!(rt; runtime.depth(), 32);
+    assert!(rt; is_new(alloc, &mut runtime, "test", 42)?);
+    assert!(rt; sets_below_page(alloc, &mut runtime)?);
+    assert!(rt; has_globals(alloc, &runtime)?);
+    assert!(rt; runtime.name().is_none() && runtime.depth() == 32);
     Ok(())
+}
+
+type Sandbox<'r> = SandboxedStackFrame<&'r mut BuiltRuntime<Marks, u8>>;
+
+/// Whether a sandbox has registers of its own, which are marked then.
+fn marks_its_own(sandbox: &mut Sandbox<'_>) -> bool {
+    let is_fresh = !sandbox.registers().interrupt.interrupted()
+        && sandbox.registers().value.count == 0;
+    sandbox.registers_mut().value.count = 2;
+    sandbox.registers_mut().interrupt.set(Interrupt::Continue);
+    is_fresh
+}
+
+/// Whether an index variable is new, is found by `get_index`, and is no name in a sandbox.
+fn sets_index(alloc: Global, sandbox: &mut Sandbox<'_>) -> Result<bool, Error> {
+    let is_new = sandbox
+        .set_index(text(alloc, "i")?, Value::scalar(1i64))?
+        .is_none();
+    Ok(is_new && sandbox.get_index("i").is_some() && sandbox.try_get_name("i").is_none())
+}
+
+/// Whether a sandbox has registers of its own, and sets an index variable below.
+fn sandbox_holds(alloc: Global, runtime: &mut BuiltRuntime<Marks, u8>) -> Result<bool, Error> {
+    let mut sandbox = SandboxedStackFrame::new(runtime, Object::new(alloc));
+    Ok(marks_its_own(&mut sandbox) && sets_index(alloc, &mut sandbox)?)
+}
+
+/// Whether the registers are as they were before the sandbox: unmarked, with one interrupt.
+fn keeps_registers(runtime: &mut BuiltRuntime<Marks, u8>) -> bool {
+    runtime.registers().value.count == 0
+        && runtime.registers_mut().interrupt.reset() == Some(Interrupt::Break)
+        && !runtime.registers().interrupt.interrupted()
 }
 
 #[test]
@@ -319,50 +254,43 @@ fn registers_and_index_variables(rt: HostRuntime) -> Result<(), Fail> {
         .set_depth(3)
         .set_partials(9)
         .build();
-    assert_eq!(rt; runtime.depth(), 3);
     runtime.registers_mut().interrupt.set(Interrupt::Break);
-    let mut sandbox = SandboxedStackFrame::new(&mut runtime, Object::new(alloc));
-    assert!(rt; !sandbox.registers().interrupt.interrupted());
-    assert_eq!(rt; sandbox.registers().value.count, 0);
-    sandbox.registers_mut().value.count = 2;
-    sandbox.registers_mut().interrupt.set(Interrupt::Continue);
-    assert!(rt;
-        sandbox
-            .set_index(text(alloc, "i")?, Value::scalar(1i64))?
-            .is_none()
-    );
-    assert!(rt; sandbox.get_index("i").is_some());
-    assert!(rt; sandbox.try_get_name("i").is_none());
-    drop(sandbox);
-    assert!(rt; runtime.try_get_name("i").is_some());
-    assert_eq!(rt; runtime.registers().value.count, 0);
-    assert!(rt; runtime.registers_mut().interrupt.reset() == Some(Interrupt::Break));
-    assert!(rt; !runtime.registers().interrupt.interrupted());
-    assert!(rt; runtime.partials() == Some(&mut 9));
+    assert!(rt; sandbox_holds(alloc, &mut runtime)?);
+    assert!(rt; runtime.try_get_name("i").is_some() && keeps_registers(&mut runtime));
+    assert!(rt; runtime.depth() == 3 && runtime.partials() == Some(&mut 9));
     Ok(())
 }
 
-/// The text of a refusal to set a name.
-fn refusal_text(alloc: Global, answer: Result<Option<Value>, Error>) -> Result<String, Fail> {
+/// Whether a name was not set, and its refusal has a text.
+fn is_not_set(
+    alloc: Global,
+    answer: Result<Option<Value>, Error>,
+    refusal: &str,
+) -> Result<bool, AllocError> {
     match answer {
-        Ok(_) => Err(Fail::from("the name was set")),
-        Err(error) => Ok(error.to_string(alloc)?),
+        Ok(_) => Ok(false),
+        Err(error) => Ok(error.to_string(alloc)?.as_str() == refusal),
     }
+}
+
+/// Whether a core refuses to set a global.
+fn core_sets_no_global(alloc: Global) -> Result<bool, AllocError> {
+    let mut core: RuntimeCore<(), ()> = RuntimeCore::new();
+    let answer = core.set_global(text(alloc, "a")?, Value::Nil);
+    is_not_set(alloc, answer, "liquid: No global frame\n")
+}
+
+/// Whether a core refuses to set an index variable.
+fn core_sets_no_index(alloc: Global) -> Result<bool, AllocError> {
+    let mut core: RuntimeCore<(), ()> = RuntimeCore::new();
+    let answer = core.set_index(text(alloc, "a")?, Value::Nil);
+    is_not_set(alloc, answer, "liquid: No index frame\n")
 }
 
 #[test]
 fn a_core_sets_no_name(rt: HostRuntime) -> Result<(), Fail> {
     let alloc = rt.alloc();
-    let mut core: RuntimeCore<(), ()> = RuntimeCore::new();
-    let global = core.set_global(text(alloc, "a")?, Value::Nil);
-    assert_eq!(rt;
-        refusal_text(alloc, global)?.as_str(),
-        "liquid: No global frame\n"
-    );
-    let index = core.set_index(text(alloc, "a")?, Value::Nil);
-    assert_eq!(rt;
-        refusal_text(alloc, index)?.as_str(),
-        "liquid: No index frame\n"
-    );
+    assert!(rt; core_sets_no_global(alloc)?);
+    assert!(rt; core_sets_no_index(alloc)?);
     Ok(())
 }

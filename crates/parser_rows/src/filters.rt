@@ -1,0 +1,151 @@
+//! Filters without a template, and registries.
+use crate::made::{Name, Number, Part, Word, arguments, part_of};
+use bench::filters::Filters;
+use liquid_core::ValueView;
+use liquid_core::model::{Value, ValueCow};
+use liquid_plugins::{FilterArguments, FilterReflection, PluginRegistry, call_filter};
+use std::alloc::{AllocError, Global};
+use std::test::Fail;
+
+/// What a filter makes of an input, or the text of its refusal.
+fn called(
+    alloc: Global,
+    filter: Filters,
+    given: FilterArguments<'_>,
+) -> Result<String, AllocError> {
+    let input = ValueCow::Owned(Value::scalar(5i64));
+    match call_filter(alloc, &filter, &input, given) {
+        Ok(value) => value.render().to_string(alloc),
+        Err(error) => error.to_string(alloc),
+    }
+}
+
+/// Arguments of a filter whose input is 5, and what it makes of them.
+struct Call {
+    filter: Filters,
+    given: &'static [Part],
+    answer: &'static str,
+}
+
+const UNEXPECTED: &str = "liquid: Unexpected arguments\n";
+
+const CALLS: [Call; 6] = [
+    Call {
+        filter: Filters::Append,
+        given: &[Word("%")],
+        answer: "5%",
+    },
+    Call {
+        filter: Filters::Append,
+        given: &[],
+        answer: UNEXPECTED,
+    },
+    Call {
+        filter: Filters::Append,
+        given: &[Number(1), Number(2)],
+        answer: UNEXPECTED,
+    },
+    Call {
+        filter: Filters::Append,
+        given: &[Name("y")],
+        answer: "liquid: Unknown variable\n  with:\n    requested variable=y\n",
+    },
+    Call {
+        filter: Filters::Fail,
+        given: &[],
+        answer: "liquid: bad\n",
+    },
+    Call {
+        filter: Filters::Fail,
+        given: &[Number(1)],
+        answer: UNEXPECTED,
+    },
+];
+
+/// Whether a filter makes of its arguments what the row tells.
+fn is_called(alloc: Global, call: &Call) -> Result<bool, AllocError> {
+    let given = arguments(alloc, call.given)?;
+    Ok(called(alloc, call.filter, given)?.as_str() == call.answer)
+}
+
+/// The argument 1, and the argument 2 by a keyword.
+fn keyword_arguments(alloc: Global) -> Result<FilterArguments<'static>, AllocError> {
+    let mut given = arguments(alloc, &[Number(1)])?;
+    given.keyword.push(("by", part_of(alloc, Number(2))?))?;
+    Ok(given)
+}
+
+/// Whether a keyword that a filter doesn't know is refused.
+fn keyword_is_refused(alloc: Global) -> Result<bool, AllocError> {
+    let given = keyword_arguments(alloc)?;
+    Ok(called(alloc, Filters::Append, given)?.as_str() == UNEXPECTED)
+}
+
+/// Whether the filters tell their names and parameters.
+fn filters_are_reflected() -> bool {
+    let first = Filters::Append.positional_parameters().first();
+    Filters::Append.name() == "append"
+        && first.is_some_and(|parameter| parameter.name == "value")
+        && Filters::Fail.keyword_parameters().is_empty()
+}
+
+#[test]
+fn filters_are_called_without_a_template(rt: HostRuntime) -> Result<(), Fail> {
+    let alloc = rt.alloc();
+    for call in &CALLS {
+        assert!(rt; is_called(alloc, call)?, "{}", call.answer);
+    }
+    assert!(rt; keyword_is_refused(alloc)?);
+    assert!(rt; filters_are_reflected());
+    Ok(())
+}
+
+type Registry = PluginRegistry<Filters>;
+
+/// Registers a filter under two names that are new, and answers whether none was there before.
+fn registers_two(registry: &mut Registry) -> Result<bool, AllocError> {
+    let is_first_new = !registry.register("fail", Filters::Append)?;
+    let is_second_new = !registry.register("append", Filters::Append)?;
+    Ok(is_first_new && is_second_new)
+}
+
+/// Whether the other filter takes the place of the first one, but not in a copy made before.
+fn replaces_one(registry: &mut Registry) -> Result<bool, AllocError> {
+    let before = registry.clone()?;
+    let is_replaced = registry.register("fail", Filters::Fail)?;
+    Ok(
+        is_replaced
+            && registry.get("fail") == Some(&Filters::Fail)
+            && before.get("fail") == Some(&Filters::Append)
+            && registry.get("Fail").is_none(),
+    )
+}
+
+/// Whether the names are handed out in their order.
+fn names_are_listed(registry: &Registry) -> bool {
+    let mut names = registry.plugin_names();
+    names.len() == 2
+        && names.next() == Some("append")
+        && names.len() == 1
+        && names.next() == Some("fail")
+        && names.next().is_none()
+        && names.next().is_none()
+}
+
+/// Whether the filters are handed out in the order of their names.
+fn plugins_are_listed(registry: &Registry) -> bool {
+    let mut plugins = registry.plugins();
+    plugins.len() == 2
+        && plugins.next() == Some(&Filters::Append)
+        && plugins.next() == Some(&Filters::Fail)
+        && plugins.next().is_none()
+}
+
+#[test]
+fn a_registry_has_plug_ins_by_name(rt: HostRuntime) -> Result<(), Fail> {
+    let mut registry = PluginRegistry::new(rt.alloc());
+    assert!(rt; registers_two(&mut registry)?);
+    assert!(rt; replaces_one(&mut registry)?);
+    assert!(rt; names_are_listed(&registry) && plugins_are_listed(&registry));
+    Ok(())
+}

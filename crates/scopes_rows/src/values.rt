@@ -1,0 +1,40 @@
+//! Texts, objects of numbers, and the texts of answers.
+use liquid_error::Error;
+use liquid_value::{Object, Value, ValueCow};
+use liquid_views::ValueView;
+use std::alloc::{AllocError, Global};
+
+pub(crate) fn text(alloc: Global, text: &str) -> Result<String, AllocError> {
+    String::from_str(alloc, text)
+}
+
+/// Puts a value into an object.
+pub(crate) fn add(
+    alloc: Global,
+    object: &mut Object,
+    name: &str,
+    value: Value,
+) -> Result<(), AllocError> {
+    object.insert(text(alloc, name)?, value)?;
+    Ok(())
+}
+
+/// An object of numbers.
+pub(crate) fn numbers(alloc: Global, pairs: &[(&'static str, i64)]) -> Result<Object, AllocError> {
+    let mut object = Object::new(alloc);
+    for (name, number) in pairs {
+        add(alloc, &mut object, name, Value::scalar(*number))?;
+    }
+    Ok(object)
+}
+
+/// What is written of an answer: the value's text, or that of the refusal.
+pub(crate) fn answer_text(
+    alloc: Global,
+    answer: Result<ValueCow<'_>, Error>,
+) -> Result<String, AllocError> {
+    match answer {
+        Ok(value) => value.render().to_string(alloc),
+        Err(error) => error.to_string(alloc),
+    }
+}
