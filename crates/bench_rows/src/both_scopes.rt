@@ -1,23 +1,18 @@
-//! The rows of templates over both forms of scopes, by `render_in`.
-use crate::hostile_rows::HOSTILE;
+//! Templates over both forms of scopes, by `render_in`, and nodes made by hand over both.
+use crate::given::runtime_of;
 use crate::node_rows::{self, PARTIAL_ROWS};
 use crate::nodes::{Same, nodes};
-use crate::partial_rows::{self, eager, on_demand};
-use crate::rows::{ROWS, Row, runtime_of};
-use crate::text_rows::{BLOCKS, EXPRESSIONS, FRAMES};
-use bench::languages::{hostile_language, language};
 use liquid_core::parser::{Filter, Language, Node, ParseBlock, ParseFilter, ParseTag, parse};
 use liquid_core::runtime::{
     BuiltRuntime, ChainedScopes, FlatScopes, Renderable, RuntimeBuilder, Scopes, Template,
 };
 use liquid_core::{PartialStore, TextSink};
-use std::alloc::{AllocError, Global};
-use std::rc::Rc;
+use std::alloc::Global;
 use std::test::Fail;
 
-type Chained<P> = ChainedScopes<BuiltRuntime<(), P>>;
+pub(crate) type Chained<P> = ChainedScopes<BuiltRuntime<(), P>>;
 
-type Flat<P> = FlatScopes<BuiltRuntime<(), P>>;
+pub(crate) type Flat<P> = FlatScopes<BuiltRuntime<(), P>>;
 
 /// What is written over scopes of one form, with the error's text behind it. No frame is left open.
 fn written_in<S, X, T, B>(
@@ -49,7 +44,7 @@ where
 }
 
 /// The same of a text.
-fn rendered_in<S, F, T, B>(
+pub(crate) fn rendered_in<S, F, T, B>(
     alloc: Global,
     template: &str,
     language: &Language<F, T, B>,
@@ -71,79 +66,12 @@ where
     }
 }
 
-/// What a row writes, with its error's text behind it.
-fn expected(alloc: Global, row: &Row) -> Result<String, AllocError> {
-    let mut all = String::from_str(alloc, row.written)?;
-    all.push_str(row.error)?;
-    Ok(all)
-}
-
-const TABLES: [&[Row]; 4] = [&ROWS, &EXPRESSIONS, &BLOCKS, &FRAMES];
-
-#[test]
-fn templates_are_the_same_over_both_forms(rt: HostRuntime) -> Result<(), Fail> {
-    let alloc = rt.alloc();
-    let language = language(alloc)?;
-    for rows in &TABLES {
-        for row in *rows {
-            let (first, second) = (
-                runtime_of(alloc, row.globals)?,
-                runtime_of(alloc, row.globals)?,
-            );
-            let chained = rendered_in::<Chained<()>, _, _, _>(
-                alloc,
-                row.template,
-                &language,
-                first,
-            )?;
-            let flat = rendered_in::<Flat<()>, _, _, _>(alloc, row.template, &language, second)?;
-            let expected = expected(alloc, row)?;
-            assert_eq!(rt; chained.as_str(), expected.as_str(), "{}", row.template);
-            assert_eq!(rt; flat.as_str(), expected.as_str(), "{}", row.template);
-        }
-    }
-    Ok(())
-}
-
-#[test]
-fn hostile_templates_are_the_same_over_both_forms(rt: HostRuntime) -> Result<(), Fail> {
-    let alloc = rt.alloc();
-    let language = hostile_language(alloc)?;
-    for row in &HOSTILE {
-        let (first, second) = (
-            runtime_of(alloc, row.globals)?,
-            runtime_of(alloc, row.globals)?,
-        );
-        let chained = rendered_in::<Chained<()>, _, _, _>(alloc, row.template, &language, first)?;
-        let flat = rendered_in::<Flat<()>, _, _, _>(alloc, row.template, &language, second)?;
-        let expected = expected(alloc, row)?;
-        assert_eq!(rt; chained.as_str(), expected.as_str(), "{}", row.template);
-        assert_eq!(rt; flat.as_str(), expected.as_str(), "{}", row.template);
-    }
-    Ok(())
-}
-
 /// A runtime over a store, in which so many partials may be open inside one another.
-fn over<P: Drop>(alloc: Global, store: P, depth: u32) -> BuiltRuntime<(), P> {
+pub(crate) fn over<P: Drop>(alloc: Global, store: P, depth: u32) -> BuiltRuntime<(), P> {
     RuntimeBuilder::new(alloc)
         .set_partials(store)
         .set_depth(depth)
         .build()
-}
-
-#[test]
-fn partials_are_the_same_over_both_forms(rt: HostRuntime) -> Result<(), Fail> {
-    let alloc = rt.alloc();
-    let language = Rc::new(alloc, language(alloc)?)?;
-    for row in &partial_rows::ROWS {
-        let kept = over(alloc, eager(alloc, &language, row.partials)?, row.depth);
-        let read = over(alloc, on_demand(alloc, &language, row.partials)?, row.depth);
-        let chained = rendered_in::<Chained<_>, _, _, _>(alloc, row.template, &language, kept)?;
-        let flat = rendered_in::<Flat<_>, _, _, _>(alloc, row.template, &language, read)?;
-        assert_eq!(rt; chained.as_str(), row.expected);
-        assert_eq!(rt; flat.as_str(), row.expected);
-    }
-    Ok(())
 }
 
 #[test]

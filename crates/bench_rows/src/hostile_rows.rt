@@ -1,104 +1,32 @@
 //! Texts of bad will: plug-ins that don't end, openers that are no liquid, and more open than may be.
-use crate::rows::{Given, Row, runtime_of};
+use crate::given::runtime_of;
 use crate::text_rows::holds;
 use bench::languages::{hostile_language, language};
 use liquid_core::{TextSink, render_source};
 use std::alloc::Global;
 use std::test::Fail;
 
-pub(crate) const HOSTILE: [Row; 14] = [
-    Row {
-        template: "{% spin %}.",
-        globals: &[],
-        written: "sss.",
-        error: "",
-    },
-    Row {
-        template: "{% mute %}.",
-        globals: &[],
-        written: ".",
-        error: "",
-    },
-    Row {
-        template: "{% far %}a{% endfar %}.",
-        globals: &[],
-        written: ".",
-        error: "",
-    },
-    Row {
-        template: "{% b %}x{% endbox %}",
-        globals: &[],
-        written: "[x]",
-        error: "",
-    },
-    Row {
-        template: "{{% box %}a{% endbox %}",
-        globals: &[],
-        written: "",
-        error: "liquid: Invalid liquid (line 1, column 1)\n",
-    },
-    Row {
-        template: "{% raw %}{{ a",
-        globals: &[],
-        written: "",
-        error: "liquid: Unclosed block. {% endraw %} tag expected. (line 1, column 14)\n",
-    },
-    Row {
-        template: "{% box %}{% sbox %}",
-        globals: &[],
-        written: "",
-        error: "liquid: Unclosed block. {% endsbox %} tag expected. (line 1, column 20)\n",
-    },
-    Row {
-        template: "{% endbox %}",
-        globals: &[],
-        written: "",
-        error: "liquid: Unknown tag. (line 1, column 4)\n  with:\n    requested=endbox\n    available tags=brk, inc, mute, set, spin\n    available blocks=b, box, far, glob, raw, sbox, swap, with\n",
-    },
-    Row {
-        template: "a \n {{- ! }}",
-        globals: &[],
-        written: "",
-        error: "liquid: Invalid liquid (line 2, column 2)\n",
-    },
-    Row {
-        template: "a\n  {{ 4.5 }}",
-        globals: &[],
-        written: "",
-        error: "liquid: Decimal not supported (line 2, column 6)\n",
-    },
-    Row {
-        template: "é{{ 4.5 }}",
-        globals: &[],
-        written: "",
-        error: "liquid: Decimal not supported (line 1, column 5)\n",
-    },
-    Row {
-        template: "{{ +9223372036854775807 }}",
-        globals: &[],
-        written: "9223372036854775807",
-        error: "",
-    },
-    Row {
-        template: "{{ -9223372036854775809 }}",
-        globals: &[],
-        written: "",
-        error: "liquid: Integer out of range (line 1, column 4)\n",
-    },
-    Row {
-        template: "{{ a[-9223372036854775808] }}",
-        globals: &[("a", Given::Numbers(1))],
-        written: "",
-        error: "liquid: Unknown index\n  with:\n    variable=a\n    requested index=-9223372036854775808\n    available indexes=0..0, first, last\n",
-    },
-];
+const HOSTILE: &str = r#"{"template": "{% spin %}.", "written": "sss."}
+{"template": "{% mute %}.", "written": "."}
+{"template": "{% far %}a{% endfar %}.", "written": "."}
+{"template": "{% b %}x{% endbox %}", "written": "[x]"}
+{"template": "{{% box %}a{% endbox %}", "written": "", "error": "liquid: Invalid liquid (line 1, column 1)\n"}
+{"template": "{% raw %}{{ a", "written": "", "error": "liquid: Unclosed block. {% endraw %} tag expected. (line 1, column 14)\n"}
+{"template": "{% box %}{% sbox %}", "written": "", "error": "liquid: Unclosed block. {% endsbox %} tag expected. (line 1, column 20)\n"}
+{"template": "{% endbox %}", "written": "", "error": "liquid: Unknown tag. (line 1, column 4)\n  with:\n    requested=endbox\n    available tags=brk, inc, mute, set, spin\n    available blocks=b, box, far, glob, raw, sbox, swap, with\n"}
+{"template": "a \n {{- ! }}", "written": "", "error": "liquid: Invalid liquid (line 2, column 2)\n"}
+{"template": "a\n  {{ 4.5 }}", "written": "", "error": "liquid: Decimal not supported (line 2, column 6)\n"}
+{"template": "é{{ 4.5 }}", "written": "", "error": "liquid: Decimal not supported (line 1, column 5)\n"}
+{"template": "{{ +9223372036854775807 }}", "written": "9223372036854775807"}
+{"template": "{{ -9223372036854775809 }}", "written": "", "error": "liquid: Integer out of range (line 1, column 4)\n"}
+{"template": "{{ a[-9223372036854775808] }}", "globals": {"a": [0]}, "written": "", "error": "liquid: Unknown index\n  with:\n    variable=a\n    requested index=-9223372036854775808\n    available indexes=0..0, first, last\n"}"#;
 
 #[test]
 fn hostile_templates_are_rendered(rt: HostRuntime) -> Result<(), Fail> {
     let alloc = rt.alloc();
     let language = hostile_language(alloc)?;
-    for row in &HOSTILE {
-        assert!(rt; holds(alloc, row, &language)?, "{}", row.template);
+    for line in HOSTILE.lines() {
+        assert!(rt; holds(alloc, line, &language)?, "{line}");
     }
     Ok(())
 }

@@ -6,6 +6,8 @@ mod both_scopes;
 #[cfg(test)]
 mod counting_source;
 #[cfg(test)]
+mod given;
+#[cfg(test)]
 mod hostile_rows;
 #[cfg(test)]
 mod node_rows;

@@ -1,5 +1,8 @@
 //! Templates with partials, and requests to stores, over both stores.
+use crate::both_scopes::{Chained, Flat, over, rendered_in};
 use crate::counting_source::CountingSource;
+use crate::given::error_text;
+use crate::rows::Row;
 use bench::blocks::BlockNode;
 use bench::filters::AnyFilter;
 use bench::languages::language;
@@ -31,148 +34,91 @@ fn source(alloc: Global, texts: Sources) -> Result<InMemorySource, AllocError> {
     Ok(source)
 }
 
-pub(crate) fn eager(
+fn eager(
     alloc: Global,
     language: &Rc<TheLanguage>,
-    texts: Sources,
+    source: InMemorySource,
 ) -> Result<EagerStore<AnyFilter, TagNode, BlockNode>, AllocError> {
-    EagerCompiler::new(source(alloc, texts)?).compile(alloc, language.clone()?)
+    EagerCompiler::new(source).compile(alloc, language.clone()?)
 }
 
-pub(crate) fn on_demand(
+fn on_demand(
     alloc: Global,
     language: &Rc<TheLanguage>,
-    texts: Sources,
+    source: InMemorySource,
 ) -> Result<OnDemandStore<InMemorySource, Filters, Tags, Blocks>, AllocError> {
-    OnDemandCompiler::new(source(alloc, texts)?).compile(alloc, language.clone()?)
+    OnDemandCompiler::new(source).compile(alloc, language.clone()?)
 }
 
-/// What is written, with the error's text behind it.
-fn rendered<S>(alloc: Global, language: &TheLanguage, row: &Row, store: S) -> Result<String, Fail>
+/// Whether a row holds of `render_source` over a store.
+fn is_rendered<S>(alloc: Global, language: &TheLanguage, row: &Row, store: S) -> Result<bool, Fail>
 where
     S: PartialStore<AnyFilter, TagNode, BlockNode> + Drop,
 {
-    let mut runtime: BuiltRuntime<(), S> = RuntimeBuilder::new(alloc)
-        .set_partials(store)
-        .set_depth(row.depth)
-        .build();
+    let mut runtime = over(alloc, store, row.depth()?);
     let mut sink = TextSink::new(alloc);
-    let answer = render_source(alloc, row.template, language, &mut runtime, &mut sink);
-    let mut all = sink.into_string()?;
-    if let Err(error) = answer {
-        all.push_str(error.to_string(alloc)?.as_str())?;
-    }
-    Ok(all)
+    let answer = render_source(alloc, row.template(), language, &mut runtime, &mut sink);
+    let error = error_text(alloc, &answer)?;
+    Ok(sink.as_bytes() == row.written().as_bytes() && error.as_str() == row.error())
 }
 
-/// A template over partials, of which so many may be open inside one another, and what comes of it.
-pub(crate) struct Row {
-    pub(crate) partials: Sources,
-    pub(crate) template: &'static str,
-    pub(crate) depth: u32,
-    pub(crate) expected: &'static str,
+fn from_eager(alloc: Global, row: &Row, language: &Rc<TheLanguage>) -> Result<bool, Fail> {
+    let store = eager(alloc, language, row.source(alloc)?)?;
+    is_rendered(alloc, language, row, store)
 }
 
-const ENDLESS: Sources = &[("p", "x{% inc p %}")];
+fn from_on_demand(alloc: Global, row: &Row, language: &Rc<TheLanguage>) -> Result<bool, Fail> {
+    let store = on_demand(alloc, language, row.source(alloc)?)?;
+    is_rendered(alloc, language, row, store)
+}
 
-pub(crate) const ROWS: [Row; 14] = [
-    Row {
-        partials: ENDLESS,
-        template: "{% inc p %}",
-        depth: 3,
-        expected: "xxxliquid: Partials nest too deep\n",
-    },
-    Row {
-        partials: ENDLESS,
-        template: "{% inc q %}",
-        depth: 32,
-        expected: "liquid: Unknown partial-template\n  with:\n    requested partial=q\n    available partials=p\n",
-    },
-    Row {
-        partials: ENDLESS,
-        template: "{% inc q %}",
-        depth: 0,
-        expected: "liquid: Partials nest too deep\n",
-    },
-    Row {
-        partials: &[("bad", "{% nope %}")],
-        template: "a{% inc bad %}",
-        depth: 32,
-        expected: "aliquid: Unknown tag. (line 1, column 4)\n  with:\n    requested=nope\n    available tags=brk, inc, set\n    available blocks=box, glob, raw, sbox, swap, with\n",
-    },
-    Row {
-        partials: &[("q", "Q"), ("p", "P")],
-        template: "{% inc q %}{% inc p %}{% inc r %}",
-        depth: 1,
-        expected: "QPliquid: Unknown partial-template\n  with:\n    requested partial=r\n    available partials=p, q\n",
-    },
-    Row {
-        partials: &[],
-        template: "{% inc p %}",
-        depth: 1,
-        expected: "liquid: Unknown partial-template\n  with:\n    requested partial=p\n    available partials=\n",
-    },
-    Row {
-        partials: &[("p", "")],
-        template: "a{% inc p %}b",
-        depth: 1,
-        expected: "ab",
-    },
-    Row {
-        partials: &[("p", "old"), ("p", "new")],
-        template: "{% inc p %}",
-        depth: 1,
-        expected: "new",
-    },
-    Row {
-        partials: &[("p", "{{ x }}{% set x 2 %}")],
-        template: "{% set x 1 %}{% inc p %}{{ x }}",
-        depth: 1,
-        expected: "12",
-    },
-    Row {
-        partials: &[("p", "a{% brk %}b")],
-        template: "{% box %}{% inc p %}c{% endbox %}d",
-        depth: 1,
-        expected: "[a]",
-    },
-    Row {
-        partials: &[("p", "{{ x }}")],
-        template: "{% set x 1 %}a{% sbox %}{% inc p %}{% endsbox %}b",
-        depth: 1,
-        expected: "aliquid: Unknown variable\n  with:\n    requested variable=x\n",
-    },
-    Row {
-        partials: &[("a", "1{% inc b %}"), ("b", "2{% inc c %}"), ("c", "3")],
-        template: "{% inc a %}{% inc c %}",
-        depth: 3,
-        expected: "1233",
-    },
-    Row {
-        partials: &[("a", "1{% inc b %}"), ("b", "2{% inc c %}"), ("c", "3")],
-        template: "{% inc a %}{% inc c %}",
-        depth: 2,
-        expected: "12liquid: Partials nest too deep\n",
-    },
-    Row {
-        partials: &[("p", "{% box %}x")],
-        template: "{% box %}a{% inc p %}{% endbox %}",
-        depth: 1,
-        expected: "[aliquid: Unclosed block. {% endbox %} tag expected. (line 1, column 11)\n",
-    },
-];
+fn over_chained(alloc: Global, row: &Row, language: &Rc<TheLanguage>) -> Result<bool, Fail> {
+    let store = eager(alloc, language, row.source(alloc)?)?;
+    let base = over(alloc, store, row.depth()?);
+    let all = rendered_in::<Chained<_>, _, _, _>(alloc, row.template(), language, base)?;
+    Ok(row.is_whole(all.as_str()))
+}
+
+fn over_flat(alloc: Global, row: &Row, language: &Rc<TheLanguage>) -> Result<bool, Fail> {
+    let store = on_demand(alloc, language, row.source(alloc)?)?;
+    let base = over(alloc, store, row.depth()?);
+    let all = rendered_in::<Flat<_>, _, _, _>(alloc, row.template(), language, base)?;
+    Ok(row.is_whole(all.as_str()))
+}
+
+const ROWS: &str =
+    r#"{"partials": [["p", "x{% inc p %}"]], "template": "{% inc p %}", "depth": 3, "written": "xxx", "error": "liquid: Partials nest too deep\n"}
+{"partials": [["p", "x{% inc p %}"]], "template": "{% inc q %}", "depth": 32, "written": "", "error": "liquid: Unknown partial-template\n  with:\n    requested partial=q\n    available partials=p\n"}
+{"partials": [["p", "x{% inc p %}"]], "template": "{% inc q %}", "depth": 0, "written": "", "error": "liquid: Partials nest too deep\n"}
+{"partials": [["bad", "{% nope %}"]], "template": "a{% inc bad %}", "depth": 32, "written": "a", "error": "liquid: Unknown tag. (line 1, column 4)\n  with:\n    requested=nope\n    available tags=brk, inc, set\n    available blocks=box, glob, raw, sbox, swap, with\n"}
+{"partials": [["q", "Q"], ["p", "P"]], "template": "{% inc q %}{% inc p %}{% inc r %}", "depth": 1, "written": "QP", "error": "liquid: Unknown partial-template\n  with:\n    requested partial=r\n    available partials=p, q\n"}
+{"partials": [], "template": "{% inc p %}", "depth": 1, "written": "", "error": "liquid: Unknown partial-template\n  with:\n    requested partial=p\n    available partials=\n"}
+{"partials": [["p", ""]], "template": "a{% inc p %}b", "depth": 1, "written": "ab"}
+{"partials": [["p", "old"], ["p", "new"]], "template": "{% inc p %}", "depth": 1, "written": "new"}
+{"partials": [["p", "{{ x }}{% set x 2 %}"]], "template": "{% set x 1 %}{% inc p %}{{ x }}", "depth": 1, "written": "12"}
+{"partials": [["p", "a{% brk %}b"]], "template": "{% box %}{% inc p %}c{% endbox %}d", "depth": 1, "written": "[a]"}
+{"partials": [["p", "{{ x }}"]], "template": "{% set x 1 %}a{% sbox %}{% inc p %}{% endsbox %}b", "depth": 1, "written": "a", "error": "liquid: Unknown variable\n  with:\n    requested variable=x\n"}
+{"partials": [["a", "1{% inc b %}"], ["b", "2{% inc c %}"], ["c", "3"]], "template": "{% inc a %}{% inc c %}", "depth": 3, "written": "1233"}
+{"partials": [["a", "1{% inc b %}"], ["b", "2{% inc c %}"], ["c", "3"]], "template": "{% inc a %}{% inc c %}", "depth": 2, "written": "12", "error": "liquid: Partials nest too deep\n"}
+{"partials": [["p", "{% box %}x"]], "template": "{% box %}a{% inc p %}{% endbox %}", "depth": 1, "written": "[a", "error": "liquid: Unclosed block. {% endbox %} tag expected. (line 1, column 11)\n"}"#;
+
+/// Whether a row holds of both stores, and of both forms of scopes.
+fn holds(alloc: Global, line: &str, language: &Rc<TheLanguage>) -> Result<bool, Fail> {
+    let row = Row::of(alloc, line)?;
+    Ok(
+        from_eager(alloc, &row, language)?
+            && from_on_demand(alloc, &row, language)?
+            && over_chained(alloc, &row, language)?
+            && over_flat(alloc, &row, language)?,
+    )
+}
 
 #[test]
 fn partials_are_rendered_from_both_stores(rt: HostRuntime) -> Result<(), Fail> {
     let alloc = rt.alloc();
     let language = Rc::new(alloc, language(alloc)?)?;
-    for row in &ROWS {
-        let kept = eager(alloc, &language, row.partials)?;
-        let read = on_demand(alloc, &language, row.partials)?;
-        let first = rendered(alloc, &language, row, kept)?;
-        let second = rendered(alloc, &language, row, read)?;
-        assert_eq!(rt; first.as_str(), row.expected);
-        assert_eq!(rt; second.as_str(), row.expected);
+    for line in ROWS.lines() {
+        assert!(rt; holds(alloc, line, &language)?, "{line}");
     }
     Ok(())
 }
@@ -235,8 +181,8 @@ where
 fn requests_have_the_same_answers_from_both_stores(rt: HostRuntime) -> Result<(), Fail> {
     let alloc = rt.alloc();
     let language = Rc::new(alloc, language(alloc)?)?;
-    let mut kept = eager(alloc, &language, SOURCES)?;
-    let mut read = on_demand(alloc, &language, SOURCES)?;
+    let mut kept = eager(alloc, &language, source(alloc, SOURCES)?)?;
+    let mut read = on_demand(alloc, &language, source(alloc, SOURCES)?)?;
     for (name, expected) in &REQUESTS {
         let first = answered(alloc, &mut kept, name)?;
         let second = answered(alloc, &mut read, name)?;

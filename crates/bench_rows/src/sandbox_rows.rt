@@ -1,5 +1,6 @@
 //! Templates in a sandbox: what they write, and what they leave of the runtime around it.
-use crate::rows::{Given, error_text, object_of};
+use crate::given::{Given, error_text, object_of};
+use crate::rows::Row;
 use bench::blocks::BlockNode;
 use bench::dripping::Dripping;
 use bench::filters::AnyFilter;
@@ -24,134 +25,23 @@ type Around = BuiltRuntime<(), Store>;
 
 type Names = &'static [(&'static str, Given)];
 
-/// A template over data, what it writes, the error's text, empty where there is none, and the numbers
-/// that it leaves assigned.
-struct Row {
-    template: &'static str,
-    data: Names,
-    written: &'static str,
-    error: &'static str,
-    left: &'static [(&'static str, &'static str)],
-}
-
-const UNKNOWN_S: &str = "liquid: Unknown variable\n  with:\n    requested variable=s\n";
-
-const UNKNOWN_X: &str = "liquid: Unknown variable\n  with:\n    requested variable=x\n";
-
-const ROWS: [Row; 16] = [
-    Row {
-        template: "{{ b }}{% set g 5 %}",
-        data: &[("b", Given::Number(2))],
-        written: "2",
-        error: "",
-        left: &[("g", "5")],
-    },
-    Row {
-        template: "a{{ s }}",
-        data: &[],
-        written: "a",
-        error: UNKNOWN_S,
-        left: &[],
-    },
-    Row {
-        template: "{% set s 9 %}{{ s }}",
-        data: &[],
-        written: "",
-        error: UNKNOWN_S,
-        left: &[("s", "9")],
-    },
-    Row {
-        template: "{% set x 2 %}{{ x }}",
-        data: &[("x", Given::Number(1))],
-        written: "1",
-        error: "",
-        left: &[("x", "2")],
-    },
-    Row {
-        template: "{{ x.y }}",
-        data: &[("x", Given::Pairs)],
-        written: "",
-        error: UNKNOWN_X,
-        left: &[],
-    },
-    Row {
-        template: "{{ n }}",
-        data: &[],
-        written: "",
-        error: "liquid: Unknown variable\n  with:\n    requested variable=n\n",
-        left: &[],
-    },
-    Row {
-        template: "{{ t }}",
-        data: &[],
-        written: "",
-        error: "liquid: Unknown variable\n  with:\n    requested variable=t\n",
-        left: &[],
-    },
-    Row {
-        template: "a{% brk %}b",
-        data: &[],
-        written: "a",
-        error: "",
-        left: &[],
-    },
-    Row {
-        template: "a{% box %}b{% brk %}c{% endbox %}d",
-        data: &[],
-        written: "a[b]",
-        error: "",
-        left: &[],
-    },
-    Row {
-        template: "{% glob %}{% set g 1 %}{{ g }}{% endglob %}{{ g }}",
-        data: &[],
-        written: "1",
-        error: "liquid: Unknown variable\n  with:\n    requested variable=g\n",
-        left: &[],
-    },
-    Row {
-        template: "{% with x 1 %}{% sbox %}{{ x }}{% endsbox %}{% endwith %}",
-        data: &[],
-        written: "",
-        error: UNKNOWN_X,
-        left: &[],
-    },
-    Row {
-        template: "{% sbox %}{% set g 1 %}{% endsbox %}{% with g 2 %}{{ g }}{% endwith %}",
-        data: &[],
-        written: "2",
-        error: "",
-        left: &[("g", "1")],
-    },
-    Row {
-        template: "{% inc p %}{% set g 8 %}",
-        data: &[("b", Given::Number(2))],
-        written: "p2",
-        error: "",
-        left: &[("g", "8"), ("x", "7")],
-    },
-    Row {
-        template: "{% inc p %}{% set g 8 %}",
-        data: &[("s", Given::Number(2))],
-        written: "p",
-        error: "liquid: Unknown variable\n  with:\n    requested variable=b\n",
-        left: &[],
-    },
-    Row {
-        template: "{% inc q %}",
-        data: &[],
-        written: "",
-        error: "liquid: Unknown partial-template\n  with:\n    requested partial=q\n    available partials=p\n",
-        left: &[],
-    },
-    Row {
-        template: "{{ 5 | fail }}",
-        data: &[],
-        written: "",
-        error: "liquid: bad\nfrom: Filter error\n  with:\n    filter=fail\n    input=5\n",
-        left: &[],
-    },
-];
+const ROWS: &str =
+    r#"{"template": "{{ b }}{% set g 5 %}", "globals": {"b": 2}, "written": "2", "left": {"g": "5"}}
+{"template": "a{{ s }}", "written": "a", "error": "liquid: Unknown variable\n  with:\n    requested variable=s\n"}
+{"template": "{% set s 9 %}{{ s }}", "written": "", "error": "liquid: Unknown variable\n  with:\n    requested variable=s\n", "left": {"s": "9"}}
+{"template": "{% set x 2 %}{{ x }}", "globals": {"x": 1}, "written": "1", "left": {"x": "2"}}
+{"template": "{{ x.y }}", "globals": {"x": {"b": 2, "a": "x"}}, "written": "", "error": "liquid: Unknown variable\n  with:\n    requested variable=x\n"}
+{"template": "{{ n }}", "written": "", "error": "liquid: Unknown variable\n  with:\n    requested variable=n\n"}
+{"template": "{{ t }}", "written": "", "error": "liquid: Unknown variable\n  with:\n    requested variable=t\n"}
+{"template": "a{% brk %}b", "written": "a"}
+{"template": "a{% box %}b{% brk %}c{% endbox %}d", "written": "a[b]"}
+{"template": "{% glob %}{% set g 1 %}{{ g }}{% endglob %}{{ g }}", "written": "1", "error": "liquid: Unknown variable\n  with:\n    requested variable=g\n"}
+{"template": "{% with x 1 %}{% sbox %}{{ x }}{% endsbox %}{% endwith %}", "written": "", "error": "liquid: Unknown variable\n  with:\n    requested variable=x\n"}
+{"template": "{% sbox %}{% set g 1 %}{% endsbox %}{% with g 2 %}{{ g }}{% endwith %}", "written": "2", "left": {"g": "1"}}
+{"template": "{% inc p %}{% set g 8 %}", "globals": {"b": 2}, "written": "p2", "left": {"g": "8", "x": "7"}}
+{"template": "{% inc p %}{% set g 8 %}", "globals": {"s": 2}, "written": "p", "error": "liquid: Unknown variable\n  with:\n    requested variable=b\n"}
+{"template": "{% inc q %}", "written": "", "error": "liquid: Unknown partial-template\n  with:\n    requested partial=q\n    available partials=p\n"}
+{"template": "{{ 5 | fail }}", "written": "", "error": "liquid: bad\nfrom: Filter error\n  with:\n    filter=fail\n    input=5\n"}"#;
 
 /// What stands in the runtime around the sandbox: globals, and what was assigned.
 struct Parent {
@@ -223,12 +113,10 @@ fn stays<R: Runtime, Q: Runtime>(
     after: &Q,
 ) -> Result<bool, Fail> {
     for name in ["b", "g", "n", "p", "s", "t", "x"] {
-        let mut expected = shown(alloc, before, name)?;
-        for (assigned, value) in row.left {
-            if *assigned == name {
-                expected = text(alloc, value)?;
-            }
-        }
+        let expected = match row.left(name) {
+            Some(left) => text(alloc, left)?,
+            None => shown(alloc, before, name)?,
+        };
         if shown(alloc, after, name)?.as_str() != expected.as_str() {
             return Ok(false);
         }
@@ -237,28 +125,25 @@ fn stays<R: Runtime, Q: Runtime>(
     Ok(after.registers().interrupt.interrupted() == interrupt && after.get_index("n").is_some())
 }
 
-#[test]
-fn a_sandbox_shows_its_data_alone(rt: HostRuntime) -> Result<(), Fail> {
-    let alloc = rt.alloc();
-    for row in &ROWS {
-        let page = page(alloc, row.template)?;
-        for parent in &PARENTS {
-            let before = runtime_of(alloc, parent)?;
-            let mut runtime = runtime_of(alloc, parent)?;
-            let mut sink = TextSink::new(alloc);
-            let data = object_of(alloc, row.data)?;
-            let answer = page.render_sandboxed(alloc, &mut sink, &mut runtime, data, None);
-            assert_eq!(rt; sink.as_bytes(), row.written.as_bytes(), "{}", row.template);
-            assert_eq!(rt;
-                error_text(alloc, &answer)?.as_str(),
-                row.error,
-                "{}",
-                row.template
-            );
-            assert!(rt; stays(alloc, row, &before, &runtime)?, "{}", row.template);
-        }
-    }
-    Ok(())
+/// Whether a call wrote and was refused as a row tells.
+fn is_told(
+    alloc: Global,
+    row: &Row,
+    sink: &TextSink,
+    answer: &Result<(), Error>,
+) -> Result<bool, Fail> {
+    let error = error_text(alloc, answer)?;
+    Ok(sink.as_bytes() == row.written().as_bytes() && error.as_str() == row.error())
+}
+
+/// Whether a row holds of `render_sandboxed`.
+fn is_rendered(alloc: Global, row: &Row, page: &Page, parent: &Parent) -> Result<bool, Fail> {
+    let before = runtime_of(alloc, parent)?;
+    let mut runtime = runtime_of(alloc, parent)?;
+    let mut sink = TextSink::new(alloc);
+    let data = row.globals(alloc)?;
+    let answer = page.render_sandboxed(alloc, &mut sink, &mut runtime, data, None);
+    Ok(is_told(alloc, row, &sink, &answer)? && stays(alloc, row, &before, &runtime)?)
 }
 
 /// Renders in a sandbox over a frame that is open, and answers the base again.
@@ -285,32 +170,51 @@ where
     (answer, scopes.into_base())
 }
 
-#[test]
-fn a_sandbox_over_an_open_frame_is_the_same(rt: HostRuntime) -> Result<(), Fail> {
-    let alloc = rt.alloc();
-    for row in &ROWS {
-        let page = page(alloc, row.template)?;
-        for parent in &PARENTS {
-            let before = runtime_of(alloc, parent)?;
-            let mut sink = TextSink::new(alloc);
-            let (answer, after) = rendered_over_a_frame::<ChainedScopes<Around>>(
-                alloc,
-                &page,
-                object_of(alloc, row.data)?,
-                object_of(alloc, &[("b", Given::Number(20)), ("s", Given::Number(21))])?,
-                &mut sink,
-                runtime_of(alloc, parent)?,
-            );
-            assert_eq!(rt; sink.as_bytes(), row.written.as_bytes(), "{}", row.template);
-            assert_eq!(rt;
-                error_text(alloc, &answer)?.as_str(),
-                row.error,
-                "{}",
-                row.template
-            );
-            assert!(rt; stays(alloc, row, &before, &after)?, "{}", row.template);
-            assert!(rt; after.name().is_none());
+/// The names of a frame around the sandbox.
+fn outer(alloc: Global) -> Result<Object, Fail> {
+    object_of(alloc, &[("b", Given::Number(20)), ("s", Given::Number(21))])
+}
+
+/// Whether a row holds of `render_sandboxed_in` over a frame that is open, whose base has no name after it.
+fn is_rendered_over_a_frame(
+    alloc: Global,
+    row: &Row,
+    page: &Page,
+    parent: &Parent,
+) -> Result<bool, Fail> {
+    let before = runtime_of(alloc, parent)?;
+    let base = runtime_of(alloc, parent)?;
+    let mut sink = TextSink::new(alloc);
+    let (data, outer) = (row.globals(alloc)?, outer(alloc)?);
+    let (answer, after) = rendered_over_a_frame::<ChainedScopes<Around>>(
+        alloc, page, data, outer, &mut sink, base,
+    );
+    Ok(
+        is_told(alloc, row, &sink, &answer)?
+            && stays(alloc, row, &before, &after)?
+            && after.name().is_none(),
+    )
+}
+
+/// Whether the row of a line holds of both calls, whatever stands around the sandbox.
+fn holds(alloc: Global, line: &str) -> Result<bool, Fail> {
+    let row = Row::of(alloc, line)?;
+    let page = page(alloc, row.template())?;
+    for parent in &PARENTS {
+        if !is_rendered(alloc, &row, &page, parent)?
+            || !is_rendered_over_a_frame(alloc, &row, &page, parent)?
+        {
+            return Ok(false);
         }
+    }
+    Ok(true)
+}
+
+#[test]
+fn a_sandbox_shows_its_data_alone(rt: HostRuntime) -> Result<(), Fail> {
+    let alloc = rt.alloc();
+    for line in ROWS.lines() {
+        assert!(rt; holds(alloc, line)?, "{line}");
     }
     Ok(())
 }

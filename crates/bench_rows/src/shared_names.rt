@@ -1,5 +1,5 @@
 //! Names that stand for two things: which of them is asked first.
-use crate::rows::{error_text, runtime_of};
+use crate::given::{error_text, runtime_of};
 use bench::block_plugins::{Blocks, HostileBlocks};
 use bench::filters::Filters;
 use bench::tag_plugins::{HostileTags, Tags};

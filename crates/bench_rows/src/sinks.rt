@@ -1,6 +1,11 @@
 //! Sinks: texts of any length through a writer, and the faults of sinks.
-use crate::rows::{Given, runtime_of};
+use crate::given::{Given, error_text, runtime_of};
+use bench::dripping::Dripping;
 use bench::languages::language;
+use bench::{Blocks, Filters, Tags};
+use liquid_core::model::ScalarCow;
+use liquid_core::parser::Language;
+use liquid_core::runtime::{BuiltRuntime, Runtime};
 use liquid_core::{Sink, SinkFault, TextSink, WriterSink, render_source};
 use std::alloc::Global;
 use std::io::{self, BufWriter, Write};
@@ -99,4 +104,68 @@ fn bytes_that_are_no_text_are_refused(rt: HostRuntime) {
     assert_eq!(rt; sink.put(b"\xff"), Ok(1));
     assert_eq!(rt; sink.as_bytes(), b"\xff".as_slice());
     assert!(rt; sink.into_string().is_err());
+}
+
+/// How many puts of a byte a sink takes of a template, what it took, and the refusal.
+type Drip = (u64, &'static str, &'static str, &'static str);
+
+const FAILED: &str = "liquid: Failed to render\n";
+
+/// Whether the sink takes just that of the template, and the call is refused so.
+fn drips(
+    alloc: Global,
+    drip: &Drip,
+    language: &Language<Filters, Tags, Blocks>,
+    runtime: &mut BuiltRuntime<(), ()>,
+) -> Result<bool, Fail> {
+    let (puts, template, written, refusal) = *drip;
+    let mut sink = Dripping::new(alloc, puts);
+    let answer = render_source(alloc, template, language, runtime, &mut sink);
+    Ok(sink.as_bytes() == written.as_bytes() && error_text(alloc, &answer)?.as_str() == refusal)
+}
+
+const DRIPS: [Drip; 8] = [
+    (0, "Hello", "", FAILED),
+    (1, "Hello", "H", FAILED),
+    (2, "Hello", "He", FAILED),
+    (3, "Hello", "Hel", FAILED),
+    (4, "Hello", "Hell", FAILED),
+    (5, "Hello", "Hello", ""),
+    // an empty value makes no put
+    (0, "{{ x }}{{ y }}", "", ""),
+    (2, "{% box %}ab{% endbox %}", "[a", FAILED),
+];
+
+#[test]
+fn a_sink_that_fails_keeps_the_beginning(rt: HostRuntime) -> Result<(), Fail> {
+    let alloc = rt.alloc();
+    let language = language(alloc)?;
+    for drip in &DRIPS {
+        let mut runtime = runtime_of(alloc, &[("x", Given::Text("")), ("y", Given::Nil)])?;
+        assert!(rt;
+            drips(alloc, drip, &language, &mut runtime)?,
+            "{} puts",
+            drip.0
+        );
+    }
+    Ok(())
+}
+
+/// The text of a name's value.
+fn text_of(alloc: Global, runtime: &BuiltRuntime<(), ()>, name: &str) -> Result<String, Fail> {
+    match runtime.get(alloc, &[ScalarCow::from(name)]) {
+        Ok(value) => Ok(value.as_view().to_kstr(alloc)?.to_string(alloc)?),
+        Err(_) => Err(Fail::from("the name has no value")),
+    }
+}
+
+#[test]
+fn a_sink_that_fails_keeps_what_was_assigned(rt: HostRuntime) -> Result<(), Fail> {
+    let alloc = rt.alloc();
+    let language = language(alloc)?;
+    let mut runtime = runtime_of(alloc, &[])?;
+    let drip = (1, "{% set g 1 %}ab{% set g 2 %}", "a", FAILED);
+    assert!(rt; drips(alloc, &drip, &language, &mut runtime)?);
+    assert_eq!(rt; text_of(alloc, &runtime, "g")?.as_str(), "1");
+    Ok(())
 }

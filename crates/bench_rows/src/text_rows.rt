@@ -1,235 +1,94 @@
-//! Templates with paths, filters, tags and blocks, from their text to what is written.
-use crate::rows::{Given, Row, error_text, runtime_of};
-use bench::dripping::Dripping;
+//! Templates of the program's language with what they come to, by each of the calls that render them.
+use crate::both_scopes::{Chained, Flat, rendered_in};
+use crate::given::error_text;
+use crate::rows::Row;
 use bench::languages::language;
-use liquid_core::model::ScalarCow;
-use liquid_core::parser::{Language, ParseBlock, ParseFilter, ParseTag};
-use liquid_core::runtime::{Renderable, Runtime};
+use liquid_core::parser::{Language, ParseBlock, ParseFilter, ParseTag, parse};
+use liquid_core::runtime::{Renderable, Template};
 use liquid_core::{TextSink, render_source};
 use std::alloc::Global;
 use std::test::Fail;
 
-pub(crate) const EXPRESSIONS: [Row; 14] = [
-    Row {
-        template: "a {{-5}} b",
-        globals: &[],
-        written: "a5 b",
-        error: "",
-    },
-    Row {
-        template: "{{ 4.5 }}",
-        globals: &[],
-        written: "",
-        error: "liquid: Decimal not supported (line 1, column 4)\n",
-    },
-    Row {
-        template: "{{ 9223372036854775808 }}",
-        globals: &[],
-        written: "",
-        error: "liquid: Integer out of range (line 1, column 4)\n",
-    },
-    Row {
-        template: "{{ -9223372036854775808 }}",
-        globals: &[],
-        written: "-9223372036854775808",
-        error: "",
-    },
-    Row {
-        template: "{{ a.size.size }}",
-        globals: &[("a", Given::Numbers(10))],
-        written: "2",
-        error: "",
-    },
-    Row {
-        template: "{{ a[-11] }}",
-        globals: &[("a", Given::Numbers(10))],
-        written: "",
-        error: "liquid: Unknown index\n  with:\n    variable=a\n    requested index=-11\n    available indexes=0..9, first, last\n",
-    },
-    Row {
-        template: "{{ a[-1] }}{{ a.first }}{{ a['last'] }}",
-        globals: &[("a", Given::Numbers(10))],
-        written: "909",
-        error: "",
-    },
-    Row {
-        template: "{{ 5 | fail }}",
-        globals: &[],
-        written: "",
-        error: "liquid: bad\nfrom: Filter error\n  with:\n    filter=fail\n    input=5\n",
-    },
-    Row {
-        template: "{{ a | nope }}",
-        globals: &[],
-        written: "",
-        error: "liquid: Unknown filter (line 1, column 8)\n  with:\n    requested filter=nope\n    available filters=append, fail\n",
-    },
-    Row {
-        template: "{{ \"a\" | append: \"b\" | append: 1 }}",
-        globals: &[],
-        written: "ab1",
-        error: "",
-    },
-    Row {
-        template: "{{ a[b] }}",
-        globals: &[("a", Given::Pairs), ("b", Given::Items)],
-        written: "",
-        error: "liquid: Expected scalar\n  with:\n    found=[1, a, , ]\n",
-    },
-    Row {
-        template: "{{ x[y] }}",
-        globals: &[],
-        written: "",
-        error: "liquid: Unknown variable\n  with:\n    requested variable=y\n",
-    },
-    Row {
-        template: "{{ 5 | append }}",
-        globals: &[],
-        written: "",
-        error: "liquid: Unexpected arguments\nfrom: Filter parsing error\n  with:\n    filter=append\n",
-    },
-    Row {
-        template: "a {{ p.a | append: p['b'] }}{{ p.c }}",
-        globals: &[("p", Given::Pairs)],
-        written: "a x2",
-        error: "liquid: Unknown index\n  with:\n    variable=p\n    requested index=c\n    available indexes=a, b\n",
-    },
-];
+/// Texts and names.
+const NAMES: &str =
+    r#"{"template": "Hello {{ name }}!", "globals": {"name": "World"}, "written": "Hello World!"}
+{"template": "", "written": ""}
+{"template": "    \n    {{ exp }}    \n    ", "globals": {"exp": 5}, "written": "    \n    5    \n    "}
+{"template": "    \n    {{- exp }}    \n    ", "globals": {"exp": 5}, "written": "5    \n    "}
+{"template": "    \n    {{ exp -}}    \n    ", "globals": {"exp": 5}, "written": "    \n    5"}
+{"template": "    \n    {{- exp -}}    \n    ", "globals": {"exp": 5}, "written": "5"}
+{"template": "a{{ x }}b", "written": "a", "error": "liquid: Unknown variable\n  with:\n    requested variable=x\n"}
+{"template": "{{ ! }}", "written": "", "error": "liquid: Invalid liquid (line 1, column 1)\n"}
+{"template": "a \n {{- ! }}", "written": "", "error": "liquid: Invalid liquid (line 2, column 2)\n"}
+{"template": "é€😀{{ ! }}", "written": "", "error": "liquid: Invalid liquid (line 1, column 4)\n"}
+{"template": "é{{ x }}😀\n{{ x }}", "globals": {"x": "ü€"}, "written": "éü€😀\nü€"}
+{"template": "[{{ x }}]", "globals": {"x": null}, "written": "[]"}
+{"template": "{{ x }} {{ y }}", "globals": {"x": -9223372036854775808, "y": 9223372036854775807}, "written": "-9223372036854775808 9223372036854775807"}
+{"template": "{{ post-title }}{{post_title}}", "globals": {"post-title": "a", "post_title": "b"}, "written": "ab"}
+{"template": "{ {{ x }} }} } {", "globals": {"x": "y"}, "written": "{ y }} } {"}
+{"template": "{{ items }} {{ pairs }}", "globals": {"items": [1, "a", null], "pairs": {"b": 2, "a": "x"}}, "written": "1a axb2"}
+{"template": "{{ nil }}", "written": ""}"#;
 
-pub(crate) const BLOCKS: [Row; 14] = [
-    Row {
-        template: "{% raw %}{{ a }}{{% endraw %}",
-        globals: &[],
-        written: "{{ a }}{",
-        error: "",
-    },
-    Row {
-        template: "{% raw %} x {%- endraw %}",
-        globals: &[],
-        written: " x",
-        error: "",
-    },
-    Row {
-        template: "{% box %}a{% endbox 1 %}",
-        globals: &[],
-        written: "",
-        error: "liquid: Unexpected token (line 1, column 21)\n",
-    },
-    Row {
-        template: "{% box %}a",
-        globals: &[],
-        written: "",
-        error: "liquid: Unclosed block. {% endbox %} tag expected. (line 1, column 11)\n",
-    },
-    Row {
-        template: "{% sbox %}x{% brk %}y{% endsbox %}z",
-        globals: &[],
-        written: "xz",
-        error: "",
-    },
-    Row {
-        template: "{% box %}x{% brk %}y{% endbox %}z",
-        globals: &[],
-        written: "[x]",
-        error: "",
-    },
-    Row {
-        template: "{% swap %}a{% mid %}b{% endswap %}",
-        globals: &[],
-        written: "ba",
-        error: "",
-    },
-    Row {
-        template: "{% mid %}",
-        globals: &[],
-        written: "",
-        error: "liquid: Unknown tag. (line 1, column 4)\n  with:\n    requested=mid\n    available tags=brk, inc, set\n    available blocks=box, glob, raw, sbox, swap, with\n",
-    },
-    Row {
-        template: "{% box %}{% endbox %}",
-        globals: &[],
-        written: "[]",
-        error: "",
-    },
-    Row {
-        template: "{% raw %}{% endraw 1 %}{% endraw %}",
-        globals: &[],
-        written: "{% endraw 1 %}",
-        error: "",
-    },
-    Row {
-        template: "{% raw %}{% raw %}a{% endraw %}",
-        globals: &[],
-        written: "{% raw %}a",
-        error: "",
-    },
-    Row {
-        template: "{% raw %}{{ 4.5 }}{% endraw %}",
-        globals: &[],
-        written: "{{ 4.5 }}",
-        error: "",
-    },
-    Row {
-        template: "{% box 1 %}a{% endbox %}",
-        globals: &[],
-        written: "",
-        error: "liquid: Unexpected token (line 1, column 8)\n",
-    },
-    Row {
-        template: "{% box %}{% endbox 4.5 %}",
-        globals: &[],
-        written: "",
-        error: "liquid: Decimal not supported (line 1, column 20)\n",
-    },
-];
+/// Expressions, paths and filters.
+const EXPRESSIONS: &str = r#"{"template": "a {{-5}} b", "written": "a5 b"}
+{"template": "{{ 4.5 }}", "written": "", "error": "liquid: Decimal not supported (line 1, column 4)\n"}
+{"template": "{{ 9223372036854775808 }}", "written": "", "error": "liquid: Integer out of range (line 1, column 4)\n"}
+{"template": "{{ -9223372036854775808 }}", "written": "-9223372036854775808"}
+{"template": "{{ a.size.size }}", "globals": {"a": [0, 1, 2, 3, 4, 5, 6, 7, 8, 9]}, "written": "2"}
+{"template": "{{ a[-11] }}", "globals": {"a": [0, 1, 2, 3, 4, 5, 6, 7, 8, 9]}, "written": "", "error": "liquid: Unknown index\n  with:\n    variable=a\n    requested index=-11\n    available indexes=0..9, first, last\n"}
+{"template": "{{ a[-1] }}{{ a.first }}{{ a['last'] }}", "globals": {"a": [0, 1, 2, 3, 4, 5, 6, 7, 8, 9]}, "written": "909"}
+{"template": "{{ 5 | fail }}", "written": "", "error": "liquid: bad\nfrom: Filter error\n  with:\n    filter=fail\n    input=5\n"}
+{"template": "{{ a | nope }}", "written": "", "error": "liquid: Unknown filter (line 1, column 8)\n  with:\n    requested filter=nope\n    available filters=append, fail\n"}
+{"template": "{{ \"a\" | append: \"b\" | append: 1 }}", "written": "ab1"}
+{"template": "{{ a[b] }}", "globals": {"a": {"b": 2, "a": "x"}, "b": [1, "a", null]}, "written": "", "error": "liquid: Expected scalar\n  with:\n    found=[1, a, , ]\n"}
+{"template": "{{ x[y] }}", "written": "", "error": "liquid: Unknown variable\n  with:\n    requested variable=y\n"}
+{"template": "{{ 5 | append }}", "written": "", "error": "liquid: Unexpected arguments\nfrom: Filter parsing error\n  with:\n    filter=append\n"}
+{"template": "a {{ p.a | append: p['b'] }}{{ p.c }}", "globals": {"p": {"b": 2, "a": "x"}}, "written": "a x2", "error": "liquid: Unknown index\n  with:\n    variable=p\n    requested index=c\n    available indexes=a, b\n"}"#;
 
-pub(crate) const FRAMES: [Row; 7] = [
-    Row {
-        template: "{% with x 1 %}{% set x 2 %}{{ x }}{% endwith %}{{ x }}",
-        globals: &[],
-        written: "12",
-        error: "",
-    },
-    Row {
-        template: "{% set g 1 %}{% glob %}{{ g }}{% set g 5 %}{{ g }}{% endglob %}{{ g }}",
-        globals: &[],
-        written: "151",
-        error: "",
-    },
-    Row {
-        template: "{% glob %}{% set g 5 %}{{ g }}{% endglob %}{{ g }}",
-        globals: &[],
-        written: "5",
-        error: "liquid: Unknown variable\n  with:\n    requested variable=g\n",
-    },
-    Row {
-        template: "{% inc p %}",
-        globals: &[],
-        written: "",
-        error: "liquid: Partial does not exist\n  with:\n    name=p\n",
-    },
-    Row {
-        template: "{% sbox %}{{ x }}{% endsbox %}",
-        globals: &[("x", Given::Number(1))],
-        written: "",
-        error: "liquid: Unknown variable\n  with:\n    requested variable=x\n",
-    },
-    Row {
-        template: "{% sbox %}{% set x 2 %}{% endsbox %}{{ x }}",
-        globals: &[("x", Given::Number(1))],
-        written: "2",
-        error: "",
-    },
-    Row {
-        template: "{% set %}",
-        globals: &[],
-        written: "",
-        error: "liquid: Token expected (line 1, column 7)\n",
-    },
-];
+/// Tags and blocks.
+const BLOCKS: &str = r#"{"template": "{% raw %}{{ a }}{{% endraw %}", "written": "{{ a }}{"}
+{"template": "{% raw %} x {%- endraw %}", "written": " x"}
+{"template": "{% box %}a{% endbox 1 %}", "written": "", "error": "liquid: Unexpected token (line 1, column 21)\n"}
+{"template": "{% box %}a", "written": "", "error": "liquid: Unclosed block. {% endbox %} tag expected. (line 1, column 11)\n"}
+{"template": "{% sbox %}x{% brk %}y{% endsbox %}z", "written": "xz"}
+{"template": "{% box %}x{% brk %}y{% endbox %}z", "written": "[x]"}
+{"template": "{% swap %}a{% mid %}b{% endswap %}", "written": "ba"}
+{"template": "{% mid %}", "written": "", "error": "liquid: Unknown tag. (line 1, column 4)\n  with:\n    requested=mid\n    available tags=brk, inc, set\n    available blocks=box, glob, raw, sbox, swap, with\n"}
+{"template": "{% box %}{% endbox %}", "written": "[]"}
+{"template": "{% raw %}{% endraw 1 %}{% endraw %}", "written": "{% endraw 1 %}"}
+{"template": "{% raw %}{% raw %}a{% endraw %}", "written": "{% raw %}a"}
+{"template": "{% raw %}{{ 4.5 }}{% endraw %}", "written": "{{ 4.5 }}"}
+{"template": "{% box 1 %}a{% endbox %}", "written": "", "error": "liquid: Unexpected token (line 1, column 8)\n"}
+{"template": "{% box %}{% endbox 4.5 %}", "written": "", "error": "liquid: Decimal not supported (line 1, column 20)\n"}"#;
 
-/// Renders a row and answers whether text and error are those of the row.
-pub(crate) fn holds<F, T, B>(
+/// Frames, globals and sandboxes.
+const FRAMES: &str =
+    r#"{"template": "{% with x 1 %}{% set x 2 %}{{ x }}{% endwith %}{{ x }}", "written": "12"}
+{"template": "{% set g 1 %}{% glob %}{{ g }}{% set g 5 %}{{ g }}{% endglob %}{{ g }}", "written": "151"}
+{"template": "{% glob %}{% set g 5 %}{{ g }}{% endglob %}{{ g }}", "written": "5", "error": "liquid: Unknown variable\n  with:\n    requested variable=g\n"}
+{"template": "{% inc p %}", "written": "", "error": "liquid: Partial does not exist\n  with:\n    name=p\n"}
+{"template": "{% sbox %}{{ x }}{% endsbox %}", "globals": {"x": 1}, "written": "", "error": "liquid: Unknown variable\n  with:\n    requested variable=x\n"}
+{"template": "{% sbox %}{% set x 2 %}{% endsbox %}{{ x }}", "globals": {"x": 1}, "written": "2"}
+{"template": "{% set %}", "written": "", "error": "liquid: Token expected (line 1, column 7)\n"}"#;
+
+/// Whether a row holds of `render_source`.
+fn at_once<F, T, B>(alloc: Global, row: &Row, language: &Language<F, T, B>) -> Result<bool, Fail>
+where
+    F: ParseFilter + Drop,
+    T: ParseTag<F> + Drop,
+    B: ParseBlock<F> + Drop,
+    T::Node: Renderable<()>,
+    B::Node: Renderable<()>,
+{
+    let mut runtime = row.runtime(alloc)?;
+    let mut sink = TextSink::new(alloc);
+    let answer = render_source(alloc, row.template(), language, &mut runtime, &mut sink);
+    let error = error_text(alloc, &answer)?;
+    Ok(sink.as_bytes() == row.written().as_bytes() && error.as_str() == row.error())
+}
+
+/// Whether a row holds of `parse` and `render`, which answers no text with a refusal.
+fn in_two_steps<F, T, B>(
     alloc: Global,
     row: &Row,
     language: &Language<F, T, B>,
@@ -241,53 +100,79 @@ where
     T::Node: Renderable<()>,
     B::Node: Renderable<()>,
 {
-    let mut runtime = runtime_of(alloc, row.globals)?;
-    let mut sink = TextSink::new(alloc);
-    let answer = render_source(alloc, row.template, language, &mut runtime, &mut sink);
-    let error = error_text(alloc, &answer)?;
-    Ok(sink.as_bytes() == row.written.as_bytes() && error.as_str() == row.error)
+    let mut runtime = row.runtime(alloc)?;
+    let rendered = match parse(alloc, row.template(), language) {
+        Ok(nodes) => Template::new(nodes).render(alloc, &mut runtime),
+        Err(error) => Err(error),
+    };
+    match rendered {
+        Ok(text) => Ok(text.as_str() == row.written() && row.error().is_empty()),
+        Err(error) => Ok(error.to_string(alloc)?.as_str() == row.error()),
+    }
+}
+
+/// Whether a row holds of `render_in` over chained scopes.
+fn over_chained<F, T, B>(
+    alloc: Global,
+    row: &Row,
+    language: &Language<F, T, B>,
+) -> Result<bool, Fail>
+where
+    F: ParseFilter + Drop,
+    T: ParseTag<F> + Drop,
+    B: ParseBlock<F> + Drop,
+    T::Node: Renderable<()>,
+    B::Node: Renderable<()>,
+{
+    let base = row.runtime(alloc)?;
+    let all = rendered_in::<Chained<()>, F, T, B>(alloc, row.template(), language, base)?;
+    Ok(row.is_whole(all.as_str()))
+}
+
+/// Whether a row holds of `render_in` over flat scopes.
+fn over_flat<F, T, B>(alloc: Global, row: &Row, language: &Language<F, T, B>) -> Result<bool, Fail>
+where
+    F: ParseFilter + Drop,
+    T: ParseTag<F> + Drop,
+    B: ParseBlock<F> + Drop,
+    T::Node: Renderable<()>,
+    B::Node: Renderable<()>,
+{
+    let base = row.runtime(alloc)?;
+    let all = rendered_in::<Flat<()>, F, T, B>(alloc, row.template(), language, base)?;
+    Ok(row.is_whole(all.as_str()))
+}
+
+/// Whether the row of a line holds of each of the calls.
+pub(crate) fn holds<F, T, B>(
+    alloc: Global,
+    line: &str,
+    language: &Language<F, T, B>,
+) -> Result<bool, Fail>
+where
+    F: ParseFilter + Drop,
+    T: ParseTag<F> + Drop,
+    B: ParseBlock<F> + Drop,
+    T::Node: Renderable<()>,
+    B::Node: Renderable<()>,
+{
+    let row = Row::of(alloc, line)?;
+    Ok(
+        at_once(alloc, &row, language)?
+            && in_two_steps(alloc, &row, language)?
+            && over_chained(alloc, &row, language)?
+            && over_flat(alloc, &row, language)?,
+    )
 }
 
 #[test]
-fn templates_of_the_program_are_rendered(rt: HostRuntime) -> Result<(), Fail> {
+fn templates_come_to_what_they_mean(rt: HostRuntime) -> Result<(), Fail> {
     let alloc = rt.alloc();
     let language = language(alloc)?;
-    for row in &EXPRESSIONS {
-        assert!(rt; holds(alloc, row, &language)?, "{}", row.template);
-    }
-    for row in &BLOCKS {
-        assert!(rt; holds(alloc, row, &language)?, "{}", row.template);
-    }
-    for row in &FRAMES {
-        assert!(rt; holds(alloc, row, &language)?, "{}", row.template);
-    }
-    Ok(())
-}
-
-#[test]
-fn a_sink_that_fails_in_a_block_keeps_what_was_assigned(rt: HostRuntime) -> Result<(), Fail> {
-    let alloc = rt.alloc();
-    let language = language(alloc)?;
-    let mut runtime = runtime_of(alloc, &[])?;
-    let mut sink = Dripping::new(alloc, 2);
-    let boxed = "{% box %}ab{% endbox %}";
-    let answer = render_source(alloc, boxed, &language, &mut runtime, &mut sink);
-    assert_eq!(rt; sink.as_bytes(), "[a".as_bytes());
-    assert_eq!(rt;
-        error_text(alloc, &answer)?.as_str(),
-        "liquid: Failed to render\n"
-    );
-    let mut sink = Dripping::new(alloc, 1);
-    let set = "{% set g 1 %}ab{% set g 2 %}";
-    let answer = render_source(alloc, set, &language, &mut runtime, &mut sink);
-    assert_eq!(rt; sink.as_bytes(), "a".as_bytes());
-    assert_eq!(rt;
-        error_text(alloc, &answer)?.as_str(),
-        "liquid: Failed to render\n"
-    );
-    match runtime.get(alloc, &[ScalarCow::from("g")]) {
-        Ok(value) => assert_eq!(rt; value.as_view().to_kstr(alloc)?.as_str(), "1"),
-        Err(_) => return Err(Fail::from("g has no value")),
+    for rows in [NAMES, EXPRESSIONS, BLOCKS, FRAMES] {
+        for line in rows.lines() {
+            assert!(rt; holds(alloc, line, &language)?, "{line}");
+        }
     }
     Ok(())
 }
