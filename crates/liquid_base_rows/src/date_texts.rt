@@ -1,5 +1,6 @@
 //! Texts of dates that no contract tells to be there: errors, long outputs, mail's form over its
 //! years.
+use json_lines::Line;
 use liquid_dates::{Date, DateError, DateFormatError, DateTime};
 use std::alloc::AllocGlobal;
 use std::test::Fail;
@@ -34,32 +35,12 @@ const PART: (&str, &str) = (
 );
 
 // Moments and their mail form, as Python's `email.utils` writes it.
-const MAILED: [(&str, &str); 6] = [
-    (
-        "1900-01-01 00:00:00 +0000",
-        "Mon, 01 Jan 1900 00:00:00 +0000",
-    ),
-    (
-        "1900-12-31 23:59:59 -1200",
-        "Mon, 31 Dec 1900 23:59:59 -1200",
-    ),
-    (
-        "2022-02-28 00:00:00 +0000",
-        "Mon, 28 Feb 2022 00:00:00 +0000",
-    ),
-    (
-        "2022-11-13 14:05:09.999999999 +0530",
-        "Sun, 13 Nov 2022 14:05:09 +0530",
-    ),
-    (
-        "9999-01-01 00:00:00 +1400",
-        "Fri, 01 Jan 9999 00:00:00 +1400",
-    ),
-    (
-        "9999-12-31 23:59:59 -1130",
-        "Fri, 31 Dec 9999 23:59:59 -1130",
-    ),
-];
+const MAILED: &str = r#"["1900-01-01 00:00:00 +0000", "Mon, 01 Jan 1900 00:00:00 +0000"]
+["1900-12-31 23:59:59 -1200", "Mon, 31 Dec 1900 23:59:59 -1200"]
+["2022-02-28 00:00:00 +0000", "Mon, 28 Feb 2022 00:00:00 +0000"]
+["2022-11-13 14:05:09.999999999 +0530", "Sun, 13 Nov 2022 14:05:09 +0530"]
+["9999-01-01 00:00:00 +1400", "Fri, 01 Jan 9999 00:00:00 +1400"]
+["9999-12-31 23:59:59 -1130", "Fri, 31 Dec 9999 23:59:59 -1130"]"#;
 
 fn november() -> Result<DateTime, DateError> {
     DateTime::from_parts(Date::from_ymd(2022, 11, 13)?, 14, 5, 9, 0, 19_800)
@@ -116,8 +97,9 @@ fn mail(rt: &impl AllocGlobal, text: &str) -> Result<Result<String, DateError>, 
 
 #[test]
 fn mail_dates_of_all_years(rt: HostRuntime) -> Result<(), Fail> {
-    for case in MAILED {
-        assert_eq!(rt; mail(&rt, case.0)??.as_str(), case.1);
+    for line in MAILED.lines() {
+        let row = Line::of(rt.alloc(), line)?;
+        assert_eq!(rt; mail(&rt, row.text(0)?)??.as_str(), row.text(1)?);
     }
     let refused = Some(DateError::NoRfc2822Form);
     assert_eq!(rt; mail(&rt, "1899-12-31 23:59:59 +0000")?.err(), refused);

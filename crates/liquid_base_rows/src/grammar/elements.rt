@@ -1,59 +1,50 @@
 //! Texts with the elements that the written rules give them, and places.
+use json_lines::Line;
 use liquid_grammar::{
     ChainText, Element, FaultKind, TagText, TokenKind, line_and_column, next_element,
 };
 use std::process::Abort;
+use std::test::Fail;
 
 // A text and the texts of its elements, in order. A tag's text stands behind `tag:`, an
-// expression's behind `exp:`, an invalid element's behind `bad:`.
-const COVERS: [(&str, &[&str]); 18] = [
-    ("", &[]),
-    ("a{b}c % }}", &["a{b}c % }}"]),
-    (" \t\r\n ", &[" \t\r\n "]),
-    ("  -{-", &["  -{-"]),
-    (
-        "Hello {{ name | upcase }}!",
-        &["Hello ", "exp:{{ name | upcase }}", "!"],
-    ),
-    ("{{ nil }}{{'{{'}}", &["exp:{{ nil }}", "exp:{{'{{'}}"]),
-    (
-        "{%if a<=b%}c{% endif %}",
-        &["tag:{%if a<=b%}", "c", "tag:{% endif %}"],
-    ),
-    // dashes take white space
-    ("a \n {{- b -}} \t c", &["a", "exp: \n {{- b -}} \t ", "c"]),
-    (" {%-b%} ", &["tag: {%-b%}", " "]),
-    (" {{b-}} ", &[" ", "exp:{{b-}} "]),
-    // openers that begin no element of the language
-    ("{{ ! }}", &["bad:{", "{ ! }}"]),
-    ("a \n {{- ! }}", &["a", "bad: \n {", "{- ! }}"]),
-    ("{% ! %}", &["bad:{", "% ! %}"]),
-    ("{{{", &["bad:{", "bad:{", "{"]),
-    ("{{a--}}", &["bad:{", "{a--}}"]),
-    ("{{a b}}", &["bad:{", "{a b}}"]),
-    (
-        "{{ \"a\" | append, \"b\" }}",
-        &["bad:{", "{ \"a\" | append, \"b\" }}"],
-    ),
-    (
-        "é{{ 'é漢' }}漢\u{1F600}{{ é }}",
-        &["é", "exp:{{ 'é漢' }}", "漢\u{1F600}", "bad:{", "{ é }}"],
-    ),
-];
+// expression's behind `exp:`, an invalid element's behind `bad:`: such as text alone, elements, dashes
+// that take white space, and openers that begin no element of the language.
+const COVERS: &str = r#"["", []]
+["a{b}c % }}", ["a{b}c % }}"]]
+[" \t\r\n ", [" \t\r\n "]]
+["  -{-", ["  -{-"]]
+["Hello {{ name | upcase }}!", ["Hello ", "exp:{{ name | upcase }}", "!"]]
+["{{ nil }}{{'{{'}}", ["exp:{{ nil }}", "exp:{{'{{'}}"]]
+["{%if a<=b%}c{% endif %}", ["tag:{%if a<=b%}", "c", "tag:{% endif %}"]]
+["a \n {{- b -}} \t c", ["a", "exp: \n {{- b -}} \t ", "c"]]
+[" {%-b%} ", ["tag: {%-b%}", " "]]
+[" {{b-}} ", [" ", "exp:{{b-}} "]]
+["{{ ! }}", ["bad:{", "{ ! }}"]]
+["a \n {{- ! }}", ["a", "bad: \n {", "{- ! }}"]]
+["{% ! %}", ["bad:{", "% ! %}"]]
+["{{{", ["bad:{", "bad:{", "{"]]
+["{{a--}}", ["bad:{", "{a--}}"]]
+["{{a b}}", ["bad:{", "{a b}}"]]
+["{{ \"a\" | append, \"b\" }}", ["bad:{", "{ \"a\" | append, \"b\" }}"]]
+["é{{ 'é漢' }}漢😀{{ é }}", ["é", "exp:{{ 'é漢' }}", "漢😀", "bad:{", "{ é }}"]]"#;
 
-/// Asserts that the text has elements of these texts, in order, and no others.
-fn covers(rt: &impl Abort, text: &str, elements: &[&str]) {
-    let mut rest = text;
-    for element in elements {
+/// Asserts that the row's text has the row's elements, in order, and no others.
+fn covers(rt: &impl Abort, row: &Line, line: &str) -> Result<(), Fail> {
+    let mut rest = row.text(0)?;
+    for element in row.list(1)? {
         match next_element(rest) {
             Some((found, after)) => {
-                assert!(rt; is_element(found, element), "in {text:?}");
+                assert!(rt;
+                    element.as_str().is_some_and(|text| is_element(found, text)),
+                    "in {line}"
+                );
                 rest = after;
             }
-            None => panic!(rt; "an element is missing in {text:?}"),
+            None => panic!(rt; "an element is missing in {line}"),
         }
     }
-    assert!(rt; rest.is_empty(), "text is left of {text:?}");
+    assert!(rt; rest.is_empty(), "text is left of {line}");
+    Ok(())
 }
 
 fn is_element(found: Element, element: &str) -> bool {
@@ -66,10 +57,11 @@ fn is_element(found: Element, element: &str) -> bool {
 }
 
 #[test]
-fn texts_have_these_elements(rt: HostRuntime) {
-    for (text, elements) in COVERS {
-        covers(&rt, text, elements);
+fn texts_have_these_elements(rt: HostRuntime) -> Result<(), Fail> {
+    for line in COVERS.lines() {
+        covers(&rt, &Line::of(rt.alloc(), line)?, line)?;
     }
+    Ok(())
 }
 
 #[test]
