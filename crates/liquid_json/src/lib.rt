@@ -4,8 +4,6 @@
 mod build;
 mod convert;
 mod scalar;
-#[cfg(test)]
-mod tests;
 mod write;
 
 pub use convert::{into_object, into_value, to_object, to_value};

@@ -1,97 +1,109 @@
-//! Values as the rows of the tables below name them.
+//! Values as the rows of the tables name them.
 mod comparisons;
+mod shown;
 mod texts;
 mod values;
 
+use json_lines::Line;
 use liquid_dates::{Date, DateTime};
+use liquid_json::to_value;
 use liquid_value::{Array, Object, State, Value};
+use serde_json::{Map, Value as Json};
 use std::alloc::{AllocError, Global};
 use std::test::Fail;
 
-/// A value of a test.
-#[derive(Clone, Copy)]
-enum Given {
-    Nil,
-    Number(i64),
-    Truth(bool),
-    Text(&'static str),
-    /// That day of February 2016.
-    Day(u8),
-    /// That hour of 16 February 2016, at that offset.
-    Moment(u8, i32),
-    State(State),
-    /// The array of these numbers.
-    Numbers(&'static [i64]),
-    /// The array of 1, `a` and nil.
-    Items,
-    /// The object of these numbers.
-    Object(&'static [(&'static str, i64)]),
-    /// The object of `a`, which is the state.
-    Holding(State),
-    /// The object of `b`, which is 2, and `a`, which is `x`.
-    Named,
+fn number(given: Option<&Json>) -> Result<i64, Fail> {
+    Ok(
+        given
+            .ok_or("a number is missing")?
+            .as_i64()
+            .ok_or("no whole number")?,
+    )
 }
 
-fn text(alloc: Global, text: &str) -> Result<Value, AllocError> {
-    Ok(Value::scalar(String::from_str(alloc, text)?))
+fn day(number: i64) -> Result<Date, Fail> {
+    Ok(Date::from_ymd(2016, 2, u8::try_from(number)?)?)
 }
 
-fn numbers(alloc: Global, numbers: &[i64]) -> Result<Array, AllocError> {
-    let mut array = Array::new(alloc);
-    for number in numbers {
-        array.push(Value::scalar(*number))?;
-    }
-    Ok(array)
-}
-
-fn items(alloc: Global) -> Result<Array, AllocError> {
-    let mut array = numbers(alloc, &[1])?;
-    array.push(text(alloc, "a")?)?;
-    array.push(Value::Nil)?;
-    Ok(array)
-}
-
-fn single(alloc: Global, key: &str, value: Value) -> Result<Object, AllocError> {
-    let mut object = Object::new(alloc);
-    drop(object.insert(String::from_str(alloc, key)?, value)?);
-    Ok(object)
-}
-
-fn object(alloc: Global, entries: &[(&str, i64)]) -> Result<Object, AllocError> {
-    let mut object = Object::new(alloc);
-    for (key, number) in entries {
-        drop(object.insert(String::from_str(alloc, key)?, Value::scalar(*number))?);
-    }
-    Ok(object)
-}
-
-fn named(alloc: Global) -> Result<Object, AllocError> {
-    let mut object = object(alloc, &[("b", 2)])?;
-    drop(object.insert(String::from_str(alloc, "a")?, text(alloc, "x")?)?);
-    Ok(object)
-}
-
-fn day(number: u8) -> Result<Date, Fail> {
-    Ok(Date::from_ymd(2016, 2, number)?)
-}
-
-fn moment(hour: u8, offset: i32) -> Result<DateTime, Fail> {
+fn moment(given: &Json) -> Result<DateTime, Fail> {
+    let hour = u8::try_from(number(given.get(0))?)?;
+    let offset = i32::try_from(number(given.get(1))?)?;
     Ok(DateTime::from_parts(day(16)?, hour, 0, 0, 0, offset)?)
 }
 
-fn value_of(alloc: Global, given: Given) -> Result<Value, Fail> {
-    Ok(match given {
-        Given::Nil => Value::Nil,
-        Given::Number(number) => Value::scalar(number),
-        Given::Truth(truth) => Value::scalar(truth),
-        Given::Text(bytes) => text(alloc, bytes)?,
-        Given::Day(number) => Value::scalar(day(number)?),
-        Given::Moment(hour, offset) => Value::scalar(moment(hour, offset)?),
-        Given::State(state) => Value::State(state),
-        Given::Numbers(list) => Value::Array(numbers(alloc, list)?),
-        Given::Items => Value::Array(items(alloc)?),
-        Given::Object(entries) => Value::Object(object(alloc, entries)?),
-        Given::Holding(state) => Value::Object(single(alloc, "a", Value::State(state))?),
-        Given::Named => Value::Object(named(alloc)?),
-    })
+fn state(name: &str) -> Result<State, Fail> {
+    match name {
+        "truthy" => Ok(State::Truthy),
+        "default" => Ok(State::DefaultValue),
+        "empty" => Ok(State::Empty),
+        "blank" => Ok(State::Blank),
+        _ => Err(Fail::from("no state has this name")),
+    }
+}
+
+/// The date, date time or state that an object of one member stands for.
+fn beyond_json(given: &Json) -> Result<Option<Value>, Fail> {
+    if let Some(json) = given.get("day") {
+        return Ok(Some(Value::scalar(day(number(Some(json))?)?)));
+    }
+    if let Some(json) = given.get("moment") {
+        return Ok(Some(Value::scalar(moment(json)?)));
+    }
+    match given.get("state") {
+        Some(Json::String(name)) => Ok(Some(Value::State(state(name.as_str())?))),
+        _ => Ok(None),
+    }
+}
+
+fn plain_or_beyond(alloc: Global, given: &Json) -> Result<Value, Fail> {
+    match beyond_json(given)? {
+        Some(value) => Ok(value),
+        None => Ok(to_value(alloc, given)?),
+    }
+}
+
+fn array_of(alloc: Global, items: &Vec<Json>) -> Result<Array, Fail> {
+    let mut array = Array::new(alloc);
+    for item in items {
+        array.push(plain_or_beyond(alloc, item)?)?;
+    }
+    Ok(array)
+}
+
+fn object_of(alloc: Global, members: &Map<String, Json>) -> Result<Object, Fail> {
+    let mut object = Object::new(alloc);
+    for (name, member) in members {
+        let value = plain_or_beyond(alloc, member)?;
+        drop(object.insert(String::from_str(alloc, name.as_str())?, value)?);
+    }
+    Ok(object)
+}
+
+/// The value that a row gives as JSON. What JSON doesn't have is an object of one member there, alone
+/// or in an array or object: a day of February 2016, as `{"day": 16}`; an hour of 16 February 2016
+/// and its offset in seconds, as `{"moment": [10, 3600]}`; and a state, as `{"state": "empty"}`.
+fn value_of(alloc: Global, given: &Json) -> Result<Value, Fail> {
+    if let Some(value) = beyond_json(given)? {
+        return Ok(value);
+    }
+    match given {
+        Json::Array(items) => Ok(Value::Array(array_of(alloc, items)?)),
+        Json::Object(members) => Ok(Value::Object(object_of(alloc, members)?)),
+        _ => Ok(to_value(alloc, given)?),
+    }
+}
+
+/// The value of a text of JSON.
+pub(crate) fn value_in(alloc: Global, text: &str) -> Result<Value, Fail> {
+    value_of(alloc, &Json::from_str(alloc, text)?)
+}
+
+/// The value at a place of a row.
+fn value_at(alloc: Global, row: &Line, place: usize) -> Result<Value, Fail> {
+    value_of(alloc, row.member(place)?)
+}
+
+/// The two values at the beginning of a row.
+fn pair_of(alloc: Global, row: &Line) -> Result<(Value, Value), Fail> {
+    Ok((value_at(alloc, row, 0)?, value_at(alloc, row, 1)?))
 }

@@ -1,80 +1,80 @@
 //! Values with their texts and their states.
-use super::{Given, value_of};
+use super::value_at;
+use json_lines::Line;
 use liquid_value::render::{ValueRender, ValueSource};
 use liquid_value::{State, Value};
+use std::alloc::{AllocError, Global};
 use std::test::Fail;
 
-// A value, the text that it renders as, its source text, and the name of its type.
-const TEXTS: [(Given, &str, &str, &str); 11] = [
-    (Given::Number(1), "1", "1", "whole number"),
-    (Given::Truth(true), "true", "true", "boolean"),
-    (
-        Given::Text("say \"a\""),
-        "say \"a\"",
-        "\"say \"a\"\"",
-        "string",
-    ),
-    (Given::Day(16), "2016-02-16", "2016-02-16", "date"),
-    (
-        Given::Moment(10, 3600),
-        "2016-02-16 10:00:00 +0100",
-        "2016-02-16 10:00:00 +0100",
-        "date time",
-    ),
-    (Given::Items, "1a", "[1, a, , ]", "array"),
-    (Given::Named, "axb2", "{\"a\": x, \"b\": 2, }", "object"),
-    (Given::State(State::Truthy), "", "truthy", "truthy"),
-    (Given::State(State::DefaultValue), "", "default", "default"),
-    (Given::State(State::Empty), "", "empty", "empty"),
-    (Given::Nil, "", "nil", "nil"),
-];
+// The text that a value renders as, its source text, the name of its type, and the value.
+const TEXTS: &str = r#"["1", "1", "whole number", 1]
+["true", "true", "boolean", true]
+["say \"a\"", "\"say \"a\"\"", "string", "say \"a\""]
+["2016-02-16", "2016-02-16", "date", {"day": 16}]
+["2016-02-16 10:00:00 +0100", "2016-02-16 10:00:00 +0100", "date time", {"moment": [10, 3600]}]
+["1a", "[1, a, , ]", "array", [1, "a", null]]
+["axb2", "{\"a\": x, \"b\": 2, }", "object", {"b": 2, "a": "x"}]
+["", "truthy", "truthy", {"state": "truthy"}]
+["", "default", "default", {"state": "default"}]
+["", "empty", "empty", {"state": "empty"}]
+["", "nil", "nil", null]"#;
 
 #[test]
 fn values_have_texts(rt: HostRuntime) -> Result<(), Fail> {
     let alloc = rt.alloc();
-    for (given, render, source, type_name) in &TEXTS {
-        let value = value_of(alloc, *given)?;
-        assert_eq!(rt; value.type_name(), *type_name);
-        assert_eq!(rt; value.to_kstr(alloc)?.as_str(), *render);
+    for line in TEXTS.lines() {
+        let row = Line::of(alloc, line)?;
+        let value = value_at(alloc, &row, 3)?;
+        let render = row.text(0)?;
+        assert_eq!(rt; value.to_kstr(alloc)?.as_str(), render, "{line}");
         let rendered = ValueRender::new(&value).to_string(alloc)?;
-        assert_eq!(rt; rendered.as_str(), *render);
+        assert_eq!(rt; rendered.as_str(), render, "{line}");
         let shown = ValueSource::new(&value).to_string(alloc)?;
-        assert_eq!(rt; shown.as_str(), *source);
+        assert_eq!(rt; shown.as_str(), row.text(1)?, "{line}");
+        assert_eq!(rt; value.type_name(), row.text(2)?, "{line}");
     }
     Ok(())
 }
 
-// Whether the value is truthy, default, empty and blank.
-fn states_of(value: &Value) -> (bool, bool, bool, bool) {
-    (
-        value.query_state(State::Truthy),
-        value.query_state(State::DefaultValue),
-        value.query_state(State::Empty),
-        value.query_state(State::Blank),
-    )
+/// The names of the states that a value is in.
+fn states_of(alloc: Global, value: &Value) -> Result<String, AllocError> {
+    let mut names = String::new(alloc);
+    for (state, name) in [
+        (State::Truthy, "truthy"),
+        (State::DefaultValue, "default"),
+        (State::Empty, "empty"),
+        (State::Blank, "blank"),
+    ] {
+        if value.query_state(state) {
+            if !names.is_empty() {
+                names.push_str(" ")?;
+            }
+            names.push_str(name)?;
+        }
+    }
+    Ok(names)
 }
 
-// A value, and whether it is truthy, default, empty and blank.
-const STATES: [(Given, (bool, bool, bool, bool)); 11] = [
-    (Given::Number(0), (true, false, false, false)),
-    (Given::Truth(true), (true, false, false, false)),
-    (Given::Truth(false), (false, true, false, true)),
-    (Given::Text(""), (true, true, true, true)),
-    (Given::Text(" \n"), (true, false, false, true)),
-    (Given::Day(16), (true, false, false, false)),
-    (Given::Moment(10, 3600), (true, false, false, false)),
-    (Given::Numbers(&[]), (true, true, true, true)),
-    (Given::Object(&[("a", 1)]), (true, false, false, false)),
-    (Given::Nil, (false, true, true, true)),
-    (Given::State(State::Truthy), (false, true, true, true)),
-];
+// The states that a value is in, and the value.
+const STATES: &str = r#"["truthy", 0]
+["truthy", true]
+["default blank", false]
+["truthy default empty blank", ""]
+["truthy blank", " \n"]
+["truthy", {"day": 16}]
+["truthy", {"moment": [10, 3600]}]
+["truthy default empty blank", []]
+["truthy", {"a": 1}]
+["default empty blank", null]
+["default empty blank", {"state": "truthy"}]"#;
 
 #[test]
 fn values_are_in_states(rt: HostRuntime) -> Result<(), Fail> {
     let alloc = rt.alloc();
-    for (index, (given, answers)) in STATES.iter().enumerate() {
-        let value = value_of(alloc, *given)?;
-        assert_eq!(rt; states_of(&value), *answers, "row {index}");
+    for line in STATES.lines() {
+        let row = Line::of(alloc, line)?;
+        let value = value_at(alloc, &row, 1)?;
+        assert_eq!(rt; states_of(alloc, &value)?.as_str(), row.text(0)?, "{line}");
     }
     Ok(())
 }

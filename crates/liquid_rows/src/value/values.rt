@@ -1,35 +1,42 @@
 //! What values hold, what they are made of, and walks over objects.
-use super::{Given, items, named, numbers, object, value_of};
+use super::{value_at, value_in};
+use json_lines::Line;
 use liquid_scalar::Scalar;
 use liquid_value::steps::{
     step_over_entries, step_over_keys, step_over_owned_entries, step_over_values,
 };
-use liquid_value::{Object, State, Value, ValueCow};
+use liquid_value::{Array, Object, State, Value, ValueCow};
 use std::alloc::{AllocError, Global};
 use std::test::Fail;
 
-// A value, and whether it is a scalar, an array, an object and a state.
-const PARTS: [(Given, bool, bool, bool, bool); 5] = [
-    (Given::Number(1), true, false, false, false),
-    (Given::Items, false, true, false, false),
-    (Given::Named, false, false, true, false),
-    (Given::State(State::Empty), false, false, false, true),
-    (Given::Nil, false, false, false, false),
-];
+// What a value is, and the value.
+const PARTS: &str = r#"["scalar", 1]
+["array", [1, "a", null]]
+["object", {"b": 2, "a": "x"}]
+["state", {"state": "empty"}]
+["nil", null]"#;
+
+/// Whether a value gives what it holds where it is this kind of value, and nothing where it isn't.
+fn gives(value: Value, kind: &str) -> Result<bool, AllocError> {
+    Ok(
+        value.clone()?.into_scalar().is_some() == (kind == "scalar")
+            && value.clone()?.into_array().is_some() == (kind == "array")
+            && value.clone()?.into_object().is_some() == (kind == "object")
+            && value.into_state().is_some() == (kind == "state"),
+    )
+}
 
 #[test]
 fn values_give_what_they_hold(rt: HostRuntime) -> Result<(), Fail> {
-    let alloc = rt.alloc();
-    for (given, scalar, array, object, state) in &PARTS {
-        let mut value = value_of(alloc, *given)?;
-        assert_eq!(rt; value.as_array().is_some(), *array);
-        assert_eq!(rt; value.as_object().is_some(), *object);
-        assert_eq!(rt; value.as_array_mut().is_some(), *array);
-        assert_eq!(rt; value.as_object_mut().is_some(), *object);
-        assert_eq!(rt; value_of(alloc, *given)?.into_scalar().is_some(), *scalar);
-        assert_eq!(rt; value_of(alloc, *given)?.into_array().is_some(), *array);
-        assert_eq!(rt; value_of(alloc, *given)?.into_object().is_some(), *object);
-        assert_eq!(rt; value_of(alloc, *given)?.into_state().is_some(), *state);
+    for line in PARTS.lines() {
+        let row = Line::of(rt.alloc(), line)?;
+        let mut value = value_at(rt.alloc(), &row, 1)?;
+        let kind = row.text(0)?;
+        assert_eq!(rt; value.as_array().is_some(), kind == "array", "{line}");
+        assert_eq!(rt; value.as_object().is_some(), kind == "object", "{line}");
+        assert_eq!(rt; value.as_array_mut().is_some(), kind == "array", "{line}");
+        assert_eq!(rt; value.as_object_mut().is_some(), kind == "object", "{line}");
+        assert!(rt; gives(value, kind)?, "{line}");
     }
     Ok(())
 }
@@ -37,12 +44,12 @@ fn values_give_what_they_hold(rt: HostRuntime) -> Result<(), Fail> {
 #[test]
 fn values_change_in_place(rt: HostRuntime) -> Result<(), Fail> {
     let alloc = rt.alloc();
-    let mut array = value_of(alloc, Given::Numbers(&[1]))?;
+    let mut array = value_in(alloc, "[1]")?;
     if let Some(items) = array.as_array_mut() {
         items.push(Value::scalar(2i64))?;
     }
     assert_eq!(rt; array.to_kstr(alloc)?.as_str(), "12");
-    let mut object = value_of(alloc, Given::Object(&[("a", 1)]))?;
+    let mut object = value_in(alloc, "{\"a\": 1}")?;
     if let Some(members) = object.as_object_mut() {
         drop(members.insert(String::from_str(alloc, "b")?, Value::scalar(2i64))?);
     }
@@ -52,57 +59,73 @@ fn values_change_in_place(rt: HostRuntime) -> Result<(), Fail> {
 
 #[test]
 fn clones_are_the_same_value(rt: HostRuntime) -> Result<(), Fail> {
-    let alloc = rt.alloc();
-    for (given, _, array, object, _) in &PARTS {
-        let value = value_of(alloc, *given)?;
-        assert!(rt; value.clone()? == value);
+    for line in PARTS.lines() {
+        let row = Line::of(rt.alloc(), line)?;
+        let value = value_at(rt.alloc(), &row, 1)?;
+        let kind = row.text(0)?;
+        assert!(rt; value.clone()? == value, "{line}");
         let cow = ValueCow::from(&value);
-        assert!(rt; cow.clone()? == cow);
-        assert_eq!(rt; cow.as_array().is_some(), *array);
-        assert_eq!(rt; cow.as_object().is_some(), *object);
-        assert!(rt; *cow.as_view() == value);
-        assert!(rt; cow.into_owned()? == value);
+        assert!(rt; cow.clone()? == cow, "{line}");
+        assert_eq!(rt; cow.as_array().is_some(), kind == "array", "{line}");
+        assert_eq!(rt; cow.as_object().is_some(), kind == "object", "{line}");
+        assert!(rt; *cow.as_view() == value, "{line}");
+        assert!(rt; cow.into_owned()? == value, "{line}");
     }
     Ok(())
 }
 
-fn is(alloc: Global, value: Value, given: Given) -> Result<bool, Fail> {
-    Ok(value == value_of(alloc, given)?)
+const ITEMS: &str = "[1, \"a\", null]";
+
+const NAMED: &str = "{\"b\": 2, \"a\": \"x\"}";
+
+const BLANK: &str = "{\"state\": \"blank\"}";
+
+fn items(alloc: Global) -> Result<Array, Fail> {
+    Ok(value_in(alloc, ITEMS)?.into_array().ok_or("no array")?)
 }
 
-fn is_owned(alloc: Global, cow: ValueCow<'static>, given: Given) -> Result<bool, Fail> {
-    is(alloc, cow.into_owned()?, given)
+fn named(alloc: Global) -> Result<Object, Fail> {
+    Ok(value_in(alloc, NAMED)?.into_object().ok_or("no object")?)
+}
+
+fn is(alloc: Global, value: Value, text: &str) -> Result<bool, Fail> {
+    Ok(value == value_in(alloc, text)?)
+}
+
+fn is_owned(alloc: Global, cow: ValueCow<'static>, text: &str) -> Result<bool, Fail> {
+    is(alloc, cow.into_owned()?, text)
 }
 
 #[test]
 fn conversions_keep_the_value(rt: HostRuntime) -> Result<(), Fail> {
     let alloc = rt.alloc();
-    assert!(rt; is(alloc, Value::default(), Given::Nil)?);
-    assert!(rt; is(alloc, Value::from(items(alloc)?), Given::Items)?);
-    assert!(rt; is(alloc, Value::from(named(alloc)?), Given::Named)?);
-    assert!(rt; is(alloc, Value::from(State::Blank), Given::State(State::Blank))?);
-    assert!(rt; is(alloc, Value::from(Scalar::Integer(1)), Given::Number(1))?);
-    let ones = numbers(alloc, &[1, 1])?.into_iter();
-    assert!(rt; is(alloc, Value::array(alloc, ones)?, Given::Numbers(&[1, 1]))?);
-    assert!(rt; is_owned(alloc, ValueCow::default(), Given::Nil)?);
-    assert!(rt; is_owned(alloc, ValueCow::from(Value::Nil), Given::Nil)?);
-    assert!(rt; is_owned(alloc, ValueCow::from(items(alloc)?), Given::Items)?);
-    assert!(rt; is_owned(alloc, ValueCow::from(named(alloc)?), Given::Named)?);
-    assert!(rt;
-        is_owned(
-            alloc,
-            ValueCow::from(State::Blank),
-            Given::State(State::Blank)
-        )?
-    );
-    assert!(rt; is_owned(alloc, ValueCow::from(Scalar::Integer(1)), Given::Number(1))?);
+    assert!(rt; is(alloc, Value::default(), "null")?);
+    assert!(rt; is(alloc, Value::from(items(alloc)?), ITEMS)?);
+    assert!(rt; is(alloc, Value::from(named(alloc)?), NAMED)?);
+    assert!(rt; is(alloc, Value::from(State::Blank), BLANK)?);
+    assert!(rt; is(alloc, Value::from(Scalar::Integer(1)), "1")?);
+    let ones = items(alloc)?.into_iter();
+    assert!(rt; is(alloc, Value::array(alloc, ones)?, ITEMS)?);
+    assert!(rt; is_owned(alloc, ValueCow::default(), "null")?);
+    assert!(rt; is_owned(alloc, ValueCow::from(Value::Nil), "null")?);
+    assert!(rt; is_owned(alloc, ValueCow::from(items(alloc)?), ITEMS)?);
+    assert!(rt; is_owned(alloc, ValueCow::from(named(alloc)?), NAMED)?);
+    assert!(rt; is_owned(alloc, ValueCow::from(State::Blank), BLANK)?);
+    assert!(rt; is_owned(alloc, ValueCow::from(Scalar::Integer(1)), "1")?);
     Ok(())
+}
+
+fn two_entries(alloc: Global) -> Result<Object, AllocError> {
+    let mut object = Object::new(alloc);
+    drop(object.insert(String::from_str(alloc, "b")?, Value::scalar(2i64))?);
+    drop(object.insert(String::from_str(alloc, "a")?, Value::scalar(1i64))?);
+    Ok(object)
 }
 
 #[test]
 fn objects_are_maps(rt: HostRuntime) -> Result<(), Fail> {
     let alloc = rt.alloc();
-    let mut object: Object = object(alloc, &[("b", 2), ("a", 1)])?;
+    let mut object: Object = two_entries(alloc)?;
     assert_eq!(rt; object.len(), 2);
     assert!(rt; object.contains_key("a"));
     assert!(rt; !object.contains_key("c"));
@@ -114,13 +137,6 @@ fn objects_are_maps(rt: HostRuntime) -> Result<(), Fail> {
     *slot = Value::scalar(4i64);
     assert_eq!(rt; Value::Object(object).to_kstr(alloc)?.as_str(), "b2c4");
     Ok(())
-}
-
-fn two_entries(alloc: Global) -> Result<Object, AllocError> {
-    let mut object = Object::new(alloc);
-    drop(object.insert(String::from_str(alloc, "b")?, Value::scalar(2i64))?);
-    drop(object.insert(String::from_str(alloc, "a")?, Value::scalar(1i64))?);
-    Ok(object)
 }
 
 #[test]

@@ -1,107 +1,28 @@
 //! The two texts of values that hold nil and states, by every type that displays them.
 ghost use Rattle.std.specs.Prelude.{string_bytes, refl};
 
+use super::value_at;
+use json_lines::Line;
 use liquid_value::render::{ValueRender, ValueSource};
-use liquid_value::{Array, Object, State, Value};
+use liquid_value::{Object, State, Value};
 use liquid_views::{ObjectIndex, ObjectRender, ObjectSource, ObjectView, ValueView};
 use std::alloc::{AllocError, Global};
 use std::collections::{BTreeMap, HashMap};
 use std::test::Fail;
 
-/// A value of a test.
-#[derive(Clone, Copy)]
-enum Given {
-    Nil,
-    State(State),
-    Text(&'static str),
-    /// The array of nil.
-    ArrayOfNil,
-    /// The array of 1, nil, the state `Blank`, the array of nil, and `a`.
-    Mixed,
-    /// The object in which `a` is nil.
-    ObjectOfNil,
-    /// The object in which `a` is nil, `b` is the state, and `c` is the array of nil.
-    Holding(State),
-    /// The array of the object in which `a` is nil, and the state.
-    Nested(State),
-}
-
-fn text(alloc: Global, text: &str) -> Result<Value, AllocError> {
-    Ok(Value::scalar(String::from_str(alloc, text)?))
-}
-
-fn array_of_nil(alloc: Global) -> Result<Value, AllocError> {
-    let mut array = Array::new(alloc);
-    array.push(Value::Nil)?;
-    Ok(Value::Array(array))
-}
-
-fn mixed(alloc: Global) -> Result<Value, AllocError> {
-    let mut array = Array::new(alloc);
-    array.push(Value::scalar(1i64))?;
-    array.push(Value::Nil)?;
-    array.push(Value::State(State::Blank))?;
-    array.push(array_of_nil(alloc)?)?;
-    array.push(text(alloc, "a")?)?;
-    Ok(Value::Array(array))
-}
-
-fn object_of_nil(alloc: Global) -> Result<Object, AllocError> {
-    let mut object = Object::new(alloc);
-    drop(object.insert(String::from_str(alloc, "a")?, Value::Nil)?);
-    Ok(object)
-}
-
-fn holding(alloc: Global, state: State) -> Result<Object, AllocError> {
-    let mut object = object_of_nil(alloc)?;
-    drop(object.insert(String::from_str(alloc, "c")?, array_of_nil(alloc)?)?);
-    drop(object.insert(String::from_str(alloc, "b")?, Value::State(state))?);
-    Ok(object)
-}
-
-fn nested(alloc: Global, state: State) -> Result<Value, AllocError> {
-    let mut array = Array::new(alloc);
-    array.push(Value::Object(object_of_nil(alloc)?))?;
-    array.push(Value::State(state))?;
-    Ok(Value::Array(array))
-}
-
-fn value_of(alloc: Global, given: Given) -> Result<Value, AllocError> {
-    match given {
-        Given::Nil => Ok(Value::Nil),
-        Given::State(state) => Ok(Value::State(state)),
-        Given::Text(own) => text(alloc, own),
-        Given::ArrayOfNil => array_of_nil(alloc),
-        Given::Mixed => mixed(alloc),
-        Given::ObjectOfNil => Ok(Value::Object(object_of_nil(alloc)?)),
-        Given::Holding(state) => Ok(Value::Object(holding(alloc, state)?)),
-        Given::Nested(state) => nested(alloc, state),
-    }
-}
-
-// A value, the text that it renders as, and its source text.
-const TEXTS: [(Given, &str, &str); 12] = [
-    (Given::Nil, "", "nil"),
-    (Given::State(State::Truthy), "", "truthy"),
-    (Given::State(State::DefaultValue), "", "default"),
-    (Given::State(State::Empty), "", "empty"),
-    (Given::State(State::Blank), "", "blank"),
-    (Given::Text("nil"), "nil", "\"nil\""),
-    (Given::ArrayOfNil, "", "[, ]"),
-    (Given::Mixed, "1a", "[1, , , , a, ]"),
-    (Given::ObjectOfNil, "a", "{\"a\": , }"),
-    (
-        Given::Holding(State::Truthy),
-        "abc",
-        "{\"a\": , \"b\": , \"c\": , }",
-    ),
-    (
-        Given::Holding(State::Empty),
-        "abc",
-        "{\"a\": , \"b\": , \"c\": , }",
-    ),
-    (Given::Nested(State::Blank), "a", "[a, , ]"),
-];
+// The text that a value renders as, its source text, and the value.
+const TEXTS: &str = r#"["", "nil", null]
+["", "truthy", {"state": "truthy"}]
+["", "default", {"state": "default"}]
+["", "empty", {"state": "empty"}]
+["", "blank", {"state": "blank"}]
+["nil", "\"nil\"", "nil"]
+["", "[, ]", [null]]
+["1a", "[1, , , , a, ]", [1, null, {"state": "blank"}, [null], "a"]]
+["a", "{\"a\": , }", {"a": null}]
+["abc", "{\"a\": , \"b\": , \"c\": , }", {"a": null, "b": {"state": "truthy"}, "c": [null]}]
+["abc", "{\"a\": , \"b\": , \"c\": , }", {"a": null, "b": {"state": "empty"}, "c": [null]}]
+["a", "[a, , ]", [{"a": null}, {"state": "blank"}]]"#;
 
 /// Whether the view displays the two texts.
 fn shows<V: ValueView>(
@@ -218,13 +139,19 @@ fn held_object_shows(
 #[test]
 fn nil_and_states_are_shown(rt: HostRuntime) -> Result<(), Fail> {
     let alloc = rt.alloc();
-    for (given, render, source) in &TEXTS {
-        let value = value_of(alloc, *given)?;
-        assert!(rt; value_is_displayed(alloc, &value, *render, *source)?);
-        assert!(rt; value_shows(alloc, &value, *render, *source)?);
+    for line in TEXTS.lines() {
+        let row = Line::of(alloc, line)?;
+        let value = value_at(alloc, &row, 2)?;
+        let render = row.text(0)?;
+        let source = row.text(1)?;
+        assert!(rt;
+            value_is_displayed(alloc, &value, render, source)?,
+            "{line}"
+        );
+        assert!(rt; value_shows(alloc, &value, render, source)?, "{line}");
         let copy = value.clone()?;
-        assert!(rt; lent_value_shows(alloc, &copy, *render, *source)?);
-        assert!(rt; held_object_shows(alloc, value, *render, *source)?);
+        assert!(rt; lent_value_shows(alloc, &copy, render, source)?, "{line}");
+        assert!(rt; held_object_shows(alloc, value, render, source)?, "{line}");
     }
     Ok(())
 }
