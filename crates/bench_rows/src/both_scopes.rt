@@ -2,6 +2,7 @@
 use crate::given::runtime_of;
 use crate::node_rows::{self, PARTIAL_ROWS};
 use crate::nodes::{Same, nodes};
+use json_lines::Line;
 use liquid_core::parser::{Filter, Language, Node, ParseBlock, ParseFilter, ParseTag, parse};
 use liquid_core::runtime::{
     BuiltRuntime, ChainedScopes, FlatScopes, Renderable, RuntimeBuilder, Scopes, Template,
@@ -77,20 +78,25 @@ pub(crate) fn over<P: Drop>(alloc: Global, store: P, depth: u32) -> BuiltRuntime
 #[test]
 fn nodes_are_the_same_over_both_forms(rt: HostRuntime) -> Result<(), Fail> {
     let alloc = rt.alloc();
-    for (steps, expected) in &node_rows::ROWS {
+    for line in node_rows::ROWS.lines() {
+        let row = Line::of(alloc, line)?;
+        let steps = row.list(0)?;
         let (first, second) = (runtime_of(alloc, &[])?, runtime_of(alloc, &[])?);
         let chained = written_in::<Chained<()>, Same, _, _>(alloc, nodes(alloc, steps)?, first)?;
         let flat = written_in::<Flat<()>, Same, _, _>(alloc, nodes(alloc, steps)?, second)?;
-        assert_eq!(rt; chained.as_str(), *expected);
-        assert_eq!(rt; flat.as_str(), *expected);
+        assert_eq!(rt; chained.as_str(), row.text(1)?, "{line}");
+        assert_eq!(rt; flat.as_str(), row.text(1)?, "{line}");
     }
-    for (partial, steps, depth, expected) in &PARTIAL_ROWS {
-        let first = over(alloc, node_rows::store(alloc, partial)?, *depth);
-        let second = over(alloc, node_rows::store(alloc, partial)?, *depth);
+    for line in PARTIAL_ROWS.lines() {
+        let row = Line::of(alloc, line)?;
+        let steps = row.list(1)?;
+        let depth = u32::try_from(row.number(2)?)?;
+        let first = over(alloc, node_rows::store(alloc, row.list(0)?)?, depth);
+        let second = over(alloc, node_rows::store(alloc, row.list(0)?)?, depth);
         let chained = written_in::<Chained<_>, Same, _, _>(alloc, nodes(alloc, steps)?, first)?;
         let flat = written_in::<Flat<_>, Same, _, _>(alloc, nodes(alloc, steps)?, second)?;
-        assert_eq!(rt; chained.as_str(), *expected);
-        assert_eq!(rt; flat.as_str(), *expected);
+        assert_eq!(rt; chained.as_str(), row.text(3)?, "{line}");
+        assert_eq!(rt; flat.as_str(), row.text(3)?, "{line}");
     }
     Ok(())
 }

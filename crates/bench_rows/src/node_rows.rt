@@ -1,16 +1,17 @@
 //! Templates of nodes made by hand, with what they come to.
-use crate::nodes::Step::{Begin, Brk, End, Inc, Leak, Mid, Set, Shown, Text};
-use crate::nodes::{HostileElement, Kind, Same, Step, nodes, text, written};
+use crate::nodes::{HostileElement, Same, nodes, nodes_in, text, written};
 use bench::blocks::BlockNode;
 use bench::dripping::Dripping;
 use bench::hostile::{HostileBlockNode, HostileTagNode};
 use bench::partial::OnePartial;
 use bench::tags::{LeakyTagNode, TagNode};
+use json_lines::Line;
 use liquid_plugins::Renderable;
 use liquid_runtime::{BuiltRuntime, Runtime, RuntimeBuilder, RuntimeCore, SandboxedStackFrame};
 use liquid_template::{PartialStore, Template, TextSink};
 use liquid_tree::Node;
 use liquid_value::{Object, Value};
+use serde_json::Value as Json;
 use std::alloc::{AllocError, Global};
 use std::rc::Rc;
 use std::test::Fail;
@@ -44,69 +45,26 @@ where
     Ok(all)
 }
 
-const UNKNOWN_G: &str = "liquid: Unknown variable\n  with:\n    requested variable=g\n";
-
-pub(crate) const ROWS: [(&[Step], &str); 11] = [
-    (&[Begin, End(Kind::Box)], "[]"),
-    (
-        &[Begin, Text("x"), Brk, Text("y"), End(Kind::Sbox), Text("z")],
-        "xz",
-    ),
-    (
-        &[Begin, Text("x"), Brk, Text("y"), End(Kind::Box), Text("z")],
-        "[x]",
-    ),
-    (&[Begin, Text("a"), Mid, Text("b"), End(Kind::Swap)], "ba"),
-    (&[Begin, End(Kind::Raw("{{ a }}"))], "{{ a }}"),
-    (
-        &[
-            Begin,
-            Set("x", 2),
-            Shown("x"),
-            End(Kind::With("x", 1)),
-            Shown("x"),
-        ],
-        "12",
-    ),
-    (
-        &[
-            Set("g", 1),
-            Begin,
-            Shown("g"),
-            Set("g", 5),
-            Shown("g"),
-            End(Kind::Glob),
-            Shown("g"),
-        ],
-        "151",
-    ),
-    (
-        &[Begin, Set("g", 5), Shown("g"), End(Kind::Glob), Shown("g")],
-        "5liquid: Unknown variable\n  with:\n    requested variable=g\n",
-    ),
-    (
-        &[
-            Set("test", 42),
-            Begin,
-            Shown("test"),
-            End(Kind::With("test", 3)),
-            Shown("test"),
-        ],
-        "342",
-    ),
-    (
-        &[Begin, Text("x"), End(Kind::WithName("x", "g"))],
-        UNKNOWN_G,
-    ),
-    (&[Leak("g", 1), Leak("g", 2), Shown("g")], "12"),
-];
+/// Steps of a template, and what comes of them.
+pub(crate) const ROWS: &str = r#"[[["begin"], ["end", "box"]], "[]"]
+[[["begin"], ["text", "x"], ["brk"], ["text", "y"], ["end", "sbox"], ["text", "z"]], "xz"]
+[[["begin"], ["text", "x"], ["brk"], ["text", "y"], ["end", "box"], ["text", "z"]], "[x]"]
+[[["begin"], ["text", "a"], ["mid"], ["text", "b"], ["end", "swap"]], "ba"]
+[[["begin"], ["end", "raw", "{{ a }}"]], "{{ a }}"]
+[[["begin"], ["set", "x", 2], ["shown", "x"], ["end", "with", "x", 1], ["shown", "x"]], "12"]
+[[["set", "g", 1], ["begin"], ["shown", "g"], ["set", "g", 5], ["shown", "g"], ["end", "glob"], ["shown", "g"]], "151"]
+[[["begin"], ["set", "g", 5], ["shown", "g"], ["end", "glob"], ["shown", "g"]], "5liquid: Unknown variable\n  with:\n    requested variable=g\n"]
+[[["set", "test", 42], ["begin"], ["shown", "test"], ["end", "with", "test", 3], ["shown", "test"]], "342"]
+[[["begin"], ["text", "x"], ["end", "with", "x", "g"]], "liquid: Unknown variable\n  with:\n    requested variable=g\n"]
+[[["leak", "g", 1], ["leak", "g", 2], ["shown", "g"]], "12"]"#;
 
 #[test]
 fn tags_and_blocks_are_rendered(rt: HostRuntime) -> Result<(), Fail> {
     let alloc = rt.alloc();
-    for (steps, expected) in &ROWS {
-        let all = rendered(alloc, nodes(alloc, steps)?, &mut runtime(alloc))?;
-        assert_eq!(rt; all.as_str(), *expected);
+    for line in ROWS.lines() {
+        let row = Line::of(alloc, line)?;
+        let all = rendered(alloc, nodes(alloc, row.list(0)?)?, &mut runtime(alloc))?;
+        assert_eq!(rt; all.as_str(), row.text(1)?, "{line}");
     }
     Ok(())
 }
@@ -114,48 +72,32 @@ fn tags_and_blocks_are_rendered(rt: HostRuntime) -> Result<(), Fail> {
 type Store = OnePartial<Same, LeakyTagNode, BlockNode>;
 
 /// The store of the partial `p` of these steps.
-pub(crate) fn store(alloc: Global, steps: &[Step]) -> Result<Store, Fail> {
+pub(crate) fn store(alloc: Global, steps: &Vec<Json>) -> Result<Store, Fail> {
     Ok(OnePartial {
         name: text(alloc, "p")?,
         template: Rc::new(alloc, Template::new(nodes(alloc, steps)?))?,
     })
 }
 
-const TOO_DEEP: &str = "liquid: Partials nest too deep\n";
-
-const ENDLESS: &[Step] = &[Text("x"), Inc("p")];
-
-const SETS: &[Step] = &[Shown("x"), Set("x", 2)];
-
 /// A partial, a template, how deep partials may nest, and what comes of it.
-pub(crate) const PARTIAL_ROWS: [(&[Step], &[Step], u32, &str); 5] = [
-    (
-        ENDLESS,
-        &[Inc("p")],
-        3,
-        "xxxliquid: Partials nest too deep\n",
-    ),
-    (ENDLESS, &[Inc("p")], 0, TOO_DEEP),
-    (
-        ENDLESS,
-        &[Inc("q")],
-        3,
-        "liquid: Unknown partial-template\n  with:\n    requested partial=q\n    available partials=p\n",
-    ),
-    (ENDLESS, &[Inc("q")], 0, TOO_DEEP),
-    (SETS, &[Set("x", 1), Inc("p"), Shown("x")], 3, "12"),
-];
+pub(crate) const PARTIAL_ROWS: &str =
+    r#"[[["text", "x"], ["inc", "p"]], [["inc", "p"]], 3, "xxxliquid: Partials nest too deep\n"]
+[[["text", "x"], ["inc", "p"]], [["inc", "p"]], 0, "liquid: Partials nest too deep\n"]
+[[["text", "x"], ["inc", "p"]], [["inc", "q"]], 3, "liquid: Unknown partial-template\n  with:\n    requested partial=q\n    available partials=p\n"]
+[[["text", "x"], ["inc", "p"]], [["inc", "q"]], 0, "liquid: Partials nest too deep\n"]
+[[["shown", "x"], ["set", "x", 2]], [["set", "x", 1], ["inc", "p"], ["shown", "x"]], 3, "12"]"#;
 
 #[test]
 fn partials_are_rendered_without_a_frame(rt: HostRuntime) -> Result<(), Fail> {
     let alloc = rt.alloc();
-    for (partial, steps, depth, expected) in &PARTIAL_ROWS {
+    for line in PARTIAL_ROWS.lines() {
+        let row = Line::of(alloc, line)?;
         let mut runtime: BuiltRuntime<(), Store> = RuntimeBuilder::new(alloc)
-            .set_partials(store(alloc, partial)?)
-            .set_depth(*depth)
+            .set_partials(store(alloc, row.list(0)?)?)
+            .set_depth(u32::try_from(row.number(2)?)?)
             .build();
-        let all = rendered(alloc, nodes(alloc, steps)?, &mut runtime)?;
-        assert_eq!(rt; all.as_str(), *expected);
+        let all = rendered(alloc, nodes(alloc, row.list(1)?)?, &mut runtime)?;
+        assert_eq!(rt; all.as_str(), row.text(3)?, "{line}");
     }
     Ok(())
 }
@@ -163,13 +105,17 @@ fn partials_are_rendered_without_a_frame(rt: HostRuntime) -> Result<(), Fail> {
 #[test]
 fn no_partial_is_found_where_there_are_none(rt: HostRuntime) -> Result<(), Fail> {
     let alloc = rt.alloc();
-    let without = rendered(alloc, nodes(alloc, &[Inc("p")])?, &mut runtime(alloc))?;
+    let without = rendered(
+        alloc,
+        nodes_in(alloc, r#"[["inc", "p"]]"#)?,
+        &mut runtime(alloc),
+    )?;
     assert_eq!(rt;
         without.as_str(),
         "liquid: Partial does not exist\n  with:\n    name=p\n"
     );
     let mut empty: BuiltRuntime<(), ()> = RuntimeBuilder::new(alloc).set_partials(()).build();
-    let unknown = rendered(alloc, nodes(alloc, &[Inc("p")])?, &mut empty)?;
+    let unknown = rendered(alloc, nodes_in(alloc, r#"[["inc", "p"]]"#)?, &mut empty)?;
     assert_eq!(rt;
         unknown.as_str(),
         "liquid: Unknown partial-template\n  with:\n    requested partial=p\n    available partials=\n"
@@ -186,28 +132,31 @@ fn leak_writes_what_a_sandbox_hides(rt: HostRuntime) -> Result<(), Fail> {
             outside.set_global(text(alloc, "s")?, Value::scalar(text(alloc, "S")?))?;
         }
         let mut sandbox = SandboxedStackFrame::new(outside, Object::new(alloc));
-        let leaked = rendered(alloc, nodes(alloc, &[Leak("s", 1)])?, &mut sandbox)?;
+        let leaked = rendered(
+            alloc,
+            nodes_in(alloc, r#"[["leak", "s", 1]]"#)?,
+            &mut sandbox,
+        )?;
         assert_eq!(rt; leaked.as_str(), expected);
     }
     let mut core: RuntimeCore<(), ()> = RuntimeCore::new();
-    let refused = rendered(alloc, nodes(alloc, &[Set("s", 1)])?, &mut core)?;
+    let refused = rendered(alloc, nodes_in(alloc, r#"[["set", "s", 1]]"#)?, &mut core)?;
     assert_eq!(rt; refused.as_str(), "liquid: No global frame\n");
     Ok(())
 }
 
 /// A template, how many puts its sink takes, and what is written.
-const SINK_ROWS: [(&[Step], u64, &str); 2] = [
-    (&[Begin, Text("ab"), End(Kind::Box)], 2, "[a"),
-    (&[Set("g", 1), Text("ab"), Set("g", 2)], 1, "a"),
-];
+const SINK_ROWS: &str = r#"[[["begin"], ["text", "ab"], ["end", "box"]], 2, "[a"]
+[[["set", "g", 1], ["text", "ab"], ["set", "g", 2]], 1, "a"]"#;
 
 #[test]
 fn a_sink_that_fails_leaves_what_was_set_before(rt: HostRuntime) -> Result<(), Fail> {
     let alloc = rt.alloc();
     let mut runtime = runtime(alloc);
-    for (steps, puts, expected) in &SINK_ROWS {
-        let mut sink = Dripping::new(alloc, *puts);
-        let template = Template::new(nodes(alloc, steps)?);
+    for line in SINK_ROWS.lines() {
+        let row = Line::of(alloc, line)?;
+        let mut sink = Dripping::new(alloc, u64::try_from(row.number(1)?)?);
+        let template = Template::new(nodes(alloc, row.list(0)?)?);
         match template.render_to(alloc, &mut sink, &mut runtime) {
             Ok(()) => return Err(Fail::from("the sink did not fail")),
             Err(error) => {
@@ -217,9 +166,9 @@ fn a_sink_that_fails_leaves_what_was_set_before(rt: HostRuntime) -> Result<(), F
                 );
             }
         }
-        assert_eq!(rt; sink.as_bytes(), expected.as_bytes());
+        assert_eq!(rt; sink.as_bytes(), row.text(2)?.as_bytes());
     }
-    let left = rendered(alloc, nodes(alloc, &[Shown("g")])?, &mut runtime)?;
+    let left = rendered(alloc, nodes_in(alloc, r#"[["shown", "g"]]"#)?, &mut runtime)?;
     assert_eq!(rt; left.as_str(), "1");
     Ok(())
 }

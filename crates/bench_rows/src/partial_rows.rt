@@ -8,6 +8,7 @@ use bench::filters::AnyFilter;
 use bench::languages::language;
 use bench::tags::TagNode;
 use bench::{Blocks, Filters, Tags};
+use json_lines::Line;
 use liquid_core::partials::{
     EagerCompiler, EagerStore, InMemorySource, OnDemandCompiler, OnDemandStore, PartialCompiler,
     PartialSource,
@@ -140,27 +141,16 @@ fn shown(
 
 const SOURCES: Sources = &[("p", "P"), ("q", "Q"), ("bad", "{% nope %}")];
 
-const UNKNOWN_TAG: &str =
-    "liquid: Unknown tag. (line 1, column 4)\n  with:\n    requested=nope\n    available tags=brk, inc, set\n    available blocks=box, glob, raw, sbox, swap, with\n";
-
 /// Names that are requested one after the other, with what `get` answers.
-const REQUESTS: [(&str, &str); 9] = [
-    ("p", "P"),
-    ("q", "Q"),
-    ("p", "P"),
-    ("bad", UNKNOWN_TAG),
-    ("bad", UNKNOWN_TAG),
-    (
-        "none",
-        "liquid: Unknown partial-template\n  with:\n    requested partial=none\n    available partials=bad, p, q\n",
-    ),
-    ("q", "Q"),
-    (
-        "",
-        "liquid: Unknown partial-template\n  with:\n    requested partial=\n    available partials=bad, p, q\n",
-    ),
-    ("p", "P"),
-];
+const REQUESTS: &str = r#"["p", "P"]
+["q", "Q"]
+["p", "P"]
+["bad", "liquid: Unknown tag. (line 1, column 4)\n  with:\n    requested=nope\n    available tags=brk, inc, set\n    available blocks=box, glob, raw, sbox, swap, with\n"]
+["bad", "liquid: Unknown tag. (line 1, column 4)\n  with:\n    requested=nope\n    available tags=brk, inc, set\n    available blocks=box, glob, raw, sbox, swap, with\n"]
+["none", "liquid: Unknown partial-template\n  with:\n    requested partial=none\n    available partials=bad, p, q\n"]
+["q", "Q"]
+["", "liquid: Unknown partial-template\n  with:\n    requested partial=\n    available partials=bad, p, q\n"]
+["p", "P"]"#;
 
 /// What `get` answers for a name, and whether `try_get` answers the same tree, or none for a refusal.
 fn answered<S>(alloc: Global, store: &mut S, name: &str) -> Result<(String, bool), AllocError>
@@ -183,12 +173,13 @@ fn requests_have_the_same_answers_from_both_stores(rt: HostRuntime) -> Result<()
     let language = Rc::new(alloc, language(alloc)?)?;
     let mut kept = eager(alloc, &language, source(alloc, SOURCES)?)?;
     let mut read = on_demand(alloc, &language, source(alloc, SOURCES)?)?;
-    for (name, expected) in &REQUESTS {
-        let first = answered(alloc, &mut kept, name)?;
-        let second = answered(alloc, &mut read, name)?;
-        assert_eq!(rt; first.0.as_str(), *expected);
-        assert_eq!(rt; second.0.as_str(), *expected);
-        assert!(rt; first.1 && second.1, "{name}");
+    for line in REQUESTS.lines() {
+        let row = Line::of(alloc, line)?;
+        let first = answered(alloc, &mut kept, row.text(0)?)?;
+        let second = answered(alloc, &mut read, row.text(0)?)?;
+        assert_eq!(rt; first.0.as_str(), row.text(1)?);
+        assert_eq!(rt; second.0.as_str(), row.text(1)?);
+        assert!(rt; first.1 && second.1, "{line}");
     }
     assert_eq!(rt; kept.names(alloc)?.join(alloc, " ")?.as_str(), "bad p q");
     assert_eq!(rt; read.names(alloc)?.join(alloc, " ")?.as_str(), "bad p q");

@@ -1,4 +1,5 @@
 //! A language without plug-ins.
+use json_lines::Line;
 use liquid_core::model::Value;
 use liquid_core::parser::{Language, NoPlugin, parse};
 use liquid_core::runtime::{BuiltRuntime, RuntimeBuilder, Template};
@@ -13,29 +14,23 @@ fn page(alloc: Global, text: &str, globals: Object) -> Result<String, Error> {
     template.render(alloc, &mut runtime)
 }
 
-const ROWS: [(&str, &str); 4] = [
-    ("Hello {{ name }}!", "Hello World!"),
-    (
-        "{{ name | append: 1 }}",
-        "liquid: Unknown filter (line 1, column 11)\n  with:\n    requested filter=append\n    available filters=\n",
-    ),
-    (
-        "{% name %}",
-        "liquid: Unknown tag. (line 1, column 4)\n  with:\n    requested=name\n    available tags=\n    available blocks=\n",
-    ),
-    ("{{ name.size }}", "5"),
-];
+/// Templates, and what each writes or is refused by.
+const ROWS: &str = r#"["Hello {{ name }}!", "Hello World!"]
+["{{ name | append: 1 }}", "liquid: Unknown filter (line 1, column 11)\n  with:\n    requested filter=append\n    available filters=\n"]
+["{% name %}", "liquid: Unknown tag. (line 1, column 4)\n  with:\n    requested=name\n    available tags=\n    available blocks=\n"]
+["{{ name.size }}", "5"]"#;
 
 #[test]
 fn a_language_may_have_no_plug_ins(rt: HostRuntime) -> Result<(), Fail> {
     let alloc = rt.alloc();
-    for (text, expected) in &ROWS {
+    for line in ROWS.lines() {
+        let row = Line::of(alloc, line)?;
         let mut globals = Object::new(alloc);
         let world = Value::scalar(String::from_str(alloc, "World")?);
         globals.insert(String::from_str(alloc, "name")?, world)?;
-        match page(alloc, text, globals) {
-            Ok(written) => assert_eq!(rt; written.as_str(), *expected),
-            Err(error) => assert_eq!(rt; error.to_string(alloc)?.as_str(), *expected),
+        match page(alloc, row.text(0)?, globals) {
+            Ok(written) => assert_eq!(rt; written.as_str(), row.text(1)?),
+            Err(error) => assert_eq!(rt; error.to_string(alloc)?.as_str(), row.text(1)?),
         }
     }
     Ok(())

@@ -1,8 +1,7 @@
 //! Scopes by their own calls: frames that are pushed, looked through and popped.
 ghost use Rattle.std.specs.Prelude.{◌≡◌};
 
-use crate::nodes::Step::Text;
-use crate::nodes::{nodes, text};
+use crate::nodes::{nodes_in, text};
 use liquid_core::model::{Object, ScalarCow, Value};
 use liquid_core::runtime::{
     BuiltRuntime, ChainedScopes, Frame, Interrupt, Runtime, RuntimeBuilder, Scopes, Template,
@@ -158,7 +157,7 @@ fn frames_show_and_hide_names_in_turn(rt: HostRuntime) -> Result<(), Fail> {
 #[test]
 fn an_interrupt_at_entry_ends_a_list_behind_its_first_element(rt: HostRuntime) -> Result<(), Fail> {
     let alloc = rt.alloc();
-    let template = Template::new(nodes(alloc, &[Text("a"), Text("b")])?);
+    let template = Template::new(nodes_in(alloc, r#"[["text", "a"], ["text", "b"]]"#)?);
     let mut base: BuiltRuntime<(), ()> = RuntimeBuilder::new(alloc).build();
     base.registers_mut().interrupt.set(Interrupt::Break);
     let mut sink = TextSink::new(alloc);

@@ -3,6 +3,7 @@ use crate::given::{Given, error_text, runtime_of};
 use bench::dripping::Dripping;
 use bench::languages::language;
 use bench::{Blocks, Filters, Tags};
+use json_lines::Line;
 use liquid_core::model::ScalarCow;
 use liquid_core::parser::Language;
 use liquid_core::runtime::{BuiltRuntime, Runtime};
@@ -106,47 +107,38 @@ fn bytes_that_are_no_text_are_refused(rt: HostRuntime) {
     assert!(rt; sink.into_string().is_err());
 }
 
-/// How many puts of a byte a sink takes of a template, what it took, and the refusal.
-type Drip = (u64, &'static str, &'static str, &'static str);
-
-const FAILED: &str = "liquid: Failed to render\n";
-
 /// Whether the sink takes just that of the template, and the call is refused so.
 fn drips(
     alloc: Global,
-    drip: &Drip,
+    drip: &Line,
     language: &Language<Filters, Tags, Blocks>,
     runtime: &mut BuiltRuntime<(), ()>,
 ) -> Result<bool, Fail> {
-    let (puts, template, written, refusal) = *drip;
-    let mut sink = Dripping::new(alloc, puts);
-    let answer = render_source(alloc, template, language, runtime, &mut sink);
-    Ok(sink.as_bytes() == written.as_bytes() && error_text(alloc, &answer)?.as_str() == refusal)
+    let mut sink = Dripping::new(alloc, u64::try_from(drip.number(0)?)?);
+    let answer = render_source(alloc, drip.text(1)?, language, runtime, &mut sink);
+    let refusal = error_text(alloc, &answer)?;
+    Ok(sink.as_bytes() == drip.text(2)?.as_bytes() && refusal.as_str() == drip.text(3)?)
 }
 
-const DRIPS: [Drip; 8] = [
-    (0, "Hello", "", FAILED),
-    (1, "Hello", "H", FAILED),
-    (2, "Hello", "He", FAILED),
-    (3, "Hello", "Hel", FAILED),
-    (4, "Hello", "Hell", FAILED),
-    (5, "Hello", "Hello", ""),
-    // an empty value makes no put
-    (0, "{{ x }}{{ y }}", "", ""),
-    (2, "{% box %}ab{% endbox %}", "[a", FAILED),
-];
+/// How many puts of a byte a sink takes, the template, what the sink took of it, and the refusal. An
+/// empty value makes no put.
+const DRIPS: &str = r#"[0, "Hello", "", "liquid: Failed to render\n"]
+[1, "Hello", "H", "liquid: Failed to render\n"]
+[2, "Hello", "He", "liquid: Failed to render\n"]
+[3, "Hello", "Hel", "liquid: Failed to render\n"]
+[4, "Hello", "Hell", "liquid: Failed to render\n"]
+[5, "Hello", "Hello", ""]
+[0, "{{ x }}{{ y }}", "", ""]
+[2, "{% box %}ab{% endbox %}", "[a", "liquid: Failed to render\n"]"#;
 
 #[test]
 fn a_sink_that_fails_keeps_the_beginning(rt: HostRuntime) -> Result<(), Fail> {
     let alloc = rt.alloc();
     let language = language(alloc)?;
-    for drip in &DRIPS {
+    for line in DRIPS.lines() {
+        let drip = Line::of(alloc, line)?;
         let mut runtime = runtime_of(alloc, &[("x", Given::Text("")), ("y", Given::Nil)])?;
-        assert!(rt;
-            drips(alloc, drip, &language, &mut runtime)?,
-            "{} puts",
-            drip.0
-        );
+        assert!(rt; drips(alloc, &drip, &language, &mut runtime)?, "{line}");
     }
     Ok(())
 }
@@ -164,7 +156,10 @@ fn a_sink_that_fails_keeps_what_was_assigned(rt: HostRuntime) -> Result<(), Fail
     let alloc = rt.alloc();
     let language = language(alloc)?;
     let mut runtime = runtime_of(alloc, &[])?;
-    let drip = (1, "{% set g 1 %}ab{% set g 2 %}", "a", FAILED);
+    let drip = Line::of(
+        alloc,
+        r#"[1, "{% set g 1 %}ab{% set g 2 %}", "a", "liquid: Failed to render\n"]"#,
+    )?;
     assert!(rt; drips(alloc, &drip, &language, &mut runtime)?);
     assert_eq!(rt; text_of(alloc, &runtime, "g")?.as_str(), "1");
     Ok(())

@@ -1,6 +1,7 @@
 //! Bodies of blocks, with the nodes that their elements are parsed to.
 use crate::told::told;
 use bench::{BlockNode, Blocks, Filters, TagNode, Tags, language};
+use json_lines::Line;
 use liquid_core::Error;
 use liquid_core::model::Object;
 use liquid_core::parser::{
@@ -58,53 +59,31 @@ fn comes_to(
 }
 
 /// A body, and what comes of it.
-const BODIES: [(&str, &str); 14] = [
-    ("{% end %}a", ""),
-    ("a{{ 5 }}{% box %}b{% endbox %}c{% end %}d", "a5[b]c"),
-    ("{% swap %}a{% mid %}b{% endswap %}{% end %}", "ba"),
-    ("{% raw %}{{ 4.5 }}{% endraw %} {%- end %}", "{{ 4.5 }}"),
-    (
-        "{% box %}{% raw %}{% endbox %}{% endraw %}{% endbox %}{% end %}",
-        "[{% endbox %}]",
-    ),
-    ("{% set x 1 %}{{ x | append: 2 }}{% end %}", "12"),
-    (
-        "{% box %}{% end %}{% endbox %}{% end %}",
-        "liquid: Unknown tag. (line 1, column 13)",
-    ),
-    (
-        "{% mid %}{% end %}",
-        "liquid: Unknown tag. (line 1, column 4)",
-    ),
-    (
-        "a{{ ! }}{% end %}",
-        "liquid: Invalid liquid (line 1, column 2)",
-    ),
-    (
-        "{{ a | nope }}{% end %}",
-        "liquid: Unknown filter (line 1, column 8)",
-    ),
-    (
-        "{% box 1 %}a{% endbox %}{% end %}",
-        "liquid: Unexpected token (line 1, column 8)",
-    ),
-    (
-        "{% box %}a",
-        "liquid: Unclosed block. {% endbox %} tag expected. (line 1, column 11)",
-    ),
-    (
-        "{% box %}a{% endbox %}\n",
-        "liquid: Unclosed block. {% end %} tag expected. (line 2, column 1)",
-    ),
-    ("{% end 1 %}", "liquid: Unexpected token (line 1, column 8)"),
-];
+const BODIES: &str = r#"["{% end %}a", ""]
+["a{{ 5 }}{% box %}b{% endbox %}c{% end %}d", "a5[b]c"]
+["{% swap %}a{% mid %}b{% endswap %}{% end %}", "ba"]
+["{% raw %}{{ 4.5 }}{% endraw %} {%- end %}", "{{ 4.5 }}"]
+["{% box %}{% raw %}{% endbox %}{% endraw %}{% endbox %}{% end %}", "[{% endbox %}]"]
+["{% set x 1 %}{{ x | append: 2 }}{% end %}", "12"]
+["{% box %}{% end %}{% endbox %}{% end %}", "liquid: Unknown tag. (line 1, column 13)"]
+["{% mid %}{% end %}", "liquid: Unknown tag. (line 1, column 4)"]
+["a{{ ! }}{% end %}", "liquid: Invalid liquid (line 1, column 2)"]
+["{{ a | nope }}{% end %}", "liquid: Unknown filter (line 1, column 8)"]
+["{% box 1 %}a{% endbox %}{% end %}", "liquid: Unexpected token (line 1, column 8)"]
+["{% box %}a", "liquid: Unclosed block. {% endbox %} tag expected. (line 1, column 11)"]
+["{% box %}a{% endbox %}\n", "liquid: Unclosed block. {% end %} tag expected. (line 2, column 1)"]
+["{% end 1 %}", "liquid: Unexpected token (line 1, column 8)"]"#;
 
 #[test]
 fn bodies_are_parsed_up_to_their_ends(rt: HostRuntime) -> Result<(), Fail> {
     let alloc = rt.alloc();
     let language = language(alloc)?.clone()?;
-    for (body, text) in BODIES {
-        assert!(rt; comes_to(alloc, body, text, &language)?, "{body}");
+    for line in BODIES.lines() {
+        let row = Line::of(alloc, line)?;
+        assert!(rt;
+            comes_to(alloc, row.text(0)?, row.text(1)?, &language)?,
+            "{line}"
+        );
     }
     Ok(())
 }

@@ -1,10 +1,12 @@
 //! Chains of filters, made by hand.
-use crate::made::{Name, Number, Part, Word, arguments, expression, runtime};
+use crate::made::{arguments, expression, part_in, parts_in, runtime};
 use bench::filters::{AnyFilter, Filters};
+use json_lines::Line;
 use liquid_core::model::ValueCow;
 use liquid_core::runtime::BuiltRuntime;
 use liquid_core::{Error, ValueView};
 use liquid_plugins::{Expression, FilterChain, ParseFilter};
+use serde_json::Value as Json;
 use std::alloc::{AllocError, Global};
 use std::test::Fail;
 
@@ -15,123 +17,64 @@ fn answer_text(alloc: Global, answer: Result<ValueCow<'_>, Error>) -> Result<Str
     }
 }
 
-/// A chain, the text that it shows, and what it comes to.
-struct Row {
-    entry: Part,
-    indexes: &'static [Part],
-    filters: &'static [(Filters, &'static [Part])],
-    shown: &'static str,
-    answer: &'static str,
+/// Chains: the first value and its indexes, and the filters, each with its arguments; then the text that
+/// the chain shows, and what it comes to.
+const ROWS: &str =
+    r#"[{"text": "a"}, [], [["append", [{"text": "b"}]], ["append", [1]]], "\"a\" | append | append", "ab1"]
+["x", [], [], "x | ", "liquid: Unknown variable\n  with:\n    requested variable=x\n"]
+[5, [], [["fail", []]], "5 | fail", "liquid: bad\nfrom: Filter error\n  with:\n    filter=fail\n    input=5\n"]
+["box", ["one"], [], "box[one] | ", "liquid: Expected scalar\n  with:\n    found=[1, ]\n"]
+["x", ["y"], [], "x[y] | ", "liquid: Unknown variable\n  with:\n    requested variable=y\n"]
+["x", ["one", "y"], [], "x[one][y] | ", "liquid: Expected scalar\n  with:\n    found=[1, ]\n"]
+["list", [{"text": "size"}, {"text": "size"}], [], "list[\"size\"][\"size\"] | ", "2"]
+["list", [-11], [], "list[-11] | ", "liquid: Unknown index\n  with:\n    variable=list\n    requested index=-11\n    available indexes=0..9, first, last\n"]
+["box", ["word"], [["append", ["word"]]], "box[word] | append", "7part"]
+[5, [], [["append", ["x"]], ["fail", []]], "5 | append | fail", "liquid: Unknown variable\n  with:\n    requested variable=x\nfrom: Filter error\n  with:\n    filter=append\n    input=5\n"]
+["x", [], [["fail", []]], "x | fail", "liquid: Unknown variable\n  with:\n    requested variable=x\n"]"#;
+
+fn filter_named(name: Option<&Json>) -> Result<Filters, Fail> {
+    match name {
+        Some(Json::String(name)) if name.as_str() == "append" => Ok(Filters::Append),
+        Some(Json::String(name)) if name.as_str() == "fail" => Ok(Filters::Fail),
+        _ => Err(Fail::from("no filter has this name")),
+    }
 }
 
-const ROWS: [Row; 11] = [
-    Row {
-        entry: Word("a"),
-        indexes: &[],
-        filters: &[
-            (Filters::Append, &[Word("b")]),
-            (Filters::Append, &[Number(1)]),
-        ],
-        shown: "\"a\" | append | append",
-        answer: "ab1",
-    },
-    Row {
-        entry: Name("x"),
-        indexes: &[],
-        filters: &[],
-        shown: "x | ",
-        answer: "liquid: Unknown variable\n  with:\n    requested variable=x\n",
-    },
-    Row {
-        entry: Number(5),
-        indexes: &[],
-        filters: &[(Filters::Fail, &[])],
-        shown: "5 | fail",
-        answer: "liquid: bad\nfrom: Filter error\n  with:\n    filter=fail\n    input=5\n",
-    },
-    Row {
-        entry: Name("box"),
-        indexes: &[Name("one")],
-        filters: &[],
-        shown: "box[one] | ",
-        answer: "liquid: Expected scalar\n  with:\n    found=[1, ]\n",
-    },
-    Row {
-        entry: Name("x"),
-        indexes: &[Name("y")],
-        filters: &[],
-        shown: "x[y] | ",
-        answer: "liquid: Unknown variable\n  with:\n    requested variable=y\n",
-    },
-    Row {
-        entry: Name("x"),
-        indexes: &[Name("one"), Name("y")],
-        filters: &[],
-        shown: "x[one][y] | ",
-        answer: "liquid: Expected scalar\n  with:\n    found=[1, ]\n",
-    },
-    Row {
-        entry: Name("list"),
-        indexes: &[Word("size"), Word("size")],
-        filters: &[],
-        shown: "list[\"size\"][\"size\"] | ",
-        answer: "2",
-    },
-    Row {
-        entry: Name("list"),
-        indexes: &[Number(-11)],
-        filters: &[],
-        shown: "list[-11] | ",
-        answer: "liquid: Unknown index\n  with:\n    variable=list\n    requested index=-11\n    available indexes=0..9, first, last\n",
-    },
-    Row {
-        entry: Name("box"),
-        indexes: &[Name("word")],
-        filters: &[(Filters::Append, &[Name("word")])],
-        shown: "box[word] | append",
-        answer: "7part",
-    },
-    Row {
-        entry: Number(5),
-        indexes: &[],
-        filters: &[(Filters::Append, &[Name("x")]), (Filters::Fail, &[])],
-        shown: "5 | append | fail",
-        answer: "liquid: Unknown variable\n  with:\n    requested variable=x\nfrom: Filter error\n  with:\n    filter=append\n    input=5\n",
-    },
-    Row {
-        entry: Name("x"),
-        indexes: &[],
-        filters: &[(Filters::Fail, &[])],
-        shown: "x | fail",
-        answer: "liquid: Unknown variable\n  with:\n    requested variable=x\n",
-    },
-];
+fn entry_of(alloc: Global, row: &Line) -> Result<Expression, Fail> {
+    let indexes = parts_in(alloc, row.list(1)?)?;
+    Ok(expression(alloc, part_in(row.member(0)?)?, indexes.as_slice())?)
+}
 
-fn chain_of(alloc: Global, row: &Row) -> Result<FilterChain<AnyFilter>, Fail> {
+fn chain_of(alloc: Global, row: &Line) -> Result<FilterChain<AnyFilter>, Fail> {
     let mut filters = Vec::new(alloc);
-    for (filter, given) in row.filters {
-        filters.push(filter.parse(alloc, arguments(alloc, given)?)?)?;
+    for call in row.list(2)? {
+        let Some(Json::Array(given)) = call.get(1) else {
+            return Err(Fail::from("a filter has no arguments"));
+        };
+        let parts = parts_in(alloc, given)?;
+        let given = arguments(alloc, parts.as_slice())?;
+        filters.push(filter_named(call.get(0))?.parse(alloc, given)?)?;
     }
-    Ok(FilterChain::new(expression(alloc, row.entry, row.indexes)?, filters))
+    Ok(FilterChain::new(entry_of(alloc, row)?, filters))
 }
 
 /// Whether a chain shows as its row tells.
-fn is_shown(alloc: Global, chain: &FilterChain<AnyFilter>, row: &Row) -> Result<bool, AllocError> {
-    Ok(chain.to_string(alloc)?.as_str() == row.shown)
+fn is_shown(alloc: Global, chain: &FilterChain<AnyFilter>, row: &Line) -> Result<bool, Fail> {
+    Ok(chain.to_string(alloc)?.as_str() == row.text(3)?)
 }
 
 /// Whether a chain comes to what its row tells.
 fn is_answered(
     alloc: Global,
     chain: &FilterChain<AnyFilter>,
-    row: &Row,
+    row: &Line,
     runtime: &BuiltRuntime<(), ()>,
-) -> Result<bool, AllocError> {
-    Ok(answer_text(alloc, chain.evaluate(alloc, runtime))?.as_str() == row.answer)
+) -> Result<bool, Fail> {
+    Ok(answer_text(alloc, chain.evaluate(alloc, runtime))?.as_str() == row.text(4)?)
 }
 
 /// Whether the chain of a row shows and answers as the row tells.
-fn holds(alloc: Global, row: &Row, runtime: &BuiltRuntime<(), ()>) -> Result<bool, Fail> {
+fn holds(alloc: Global, row: &Line, runtime: &BuiltRuntime<(), ()>) -> Result<bool, Fail> {
     let chain = chain_of(alloc, row)?;
     Ok(is_shown(alloc, &chain, row)? && is_answered(alloc, &chain, row, runtime)?)
 }
@@ -140,8 +83,8 @@ fn holds(alloc: Global, row: &Row, runtime: &BuiltRuntime<(), ()>) -> Result<boo
 fn chains_come_to_their_values(rt: HostRuntime) -> Result<(), Fail> {
     let alloc = rt.alloc();
     let runtime = runtime(alloc)?;
-    for row in &ROWS {
-        assert!(rt; holds(alloc, row, &runtime)?, "{}", row.shown);
+    for line in ROWS.lines() {
+        assert!(rt; holds(alloc, &Line::of(alloc, line)?, &runtime)?, "{line}");
     }
     Ok(())
 }
@@ -160,21 +103,19 @@ fn is_tried(
 }
 
 /// Whether the entry of a row is tried alike.
-fn entry_is_tried(
-    alloc: Global,
-    row: &Row,
-    runtime: &BuiltRuntime<(), ()>,
-) -> Result<bool, AllocError> {
-    let entry = expression(alloc, row.entry, row.indexes)?;
-    is_tried(alloc, &entry, runtime)
+fn entry_is_tried(alloc: Global, row: &Line, runtime: &BuiltRuntime<(), ()>) -> Result<bool, Fail> {
+    Ok(is_tried(alloc, &entry_of(alloc, row)?, runtime)?)
 }
 
 #[test]
 fn what_is_tried_is_not_refused(rt: HostRuntime) -> Result<(), Fail> {
     let alloc = rt.alloc();
     let runtime = runtime(alloc)?;
-    for row in &ROWS {
-        assert!(rt; entry_is_tried(alloc, row, &runtime)?, "{}", row.shown);
+    for line in ROWS.lines() {
+        assert!(rt;
+            entry_is_tried(alloc, &Line::of(alloc, line)?, &runtime)?,
+            "{line}"
+        );
     }
     Ok(())
 }

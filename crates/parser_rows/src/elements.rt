@@ -1,5 +1,6 @@
 //! Bodies of blocks, with the elements that are handed out, and escaped bodies.
 use crate::told::told;
+use json_lines::Line;
 use liquid_core::parser::{BlockElement, TagBlock};
 use std::alloc::{AllocError, Global};
 use std::test::Fail;
@@ -40,33 +41,22 @@ fn hands_out(alloc: Global, body: &str, handed: &str) -> Result<bool, AllocError
     Ok(handed_out(alloc, body)?.as_str() == handed)
 }
 
+/// A body, and what is handed out of it.
+const HANDED_OUT: &str = r#"["{% end %}a", "closed"]
+["a {{ b }}{% t 1 %}{{% end %}c", "raw `a ` / expression `{{ b }}` / t `{% t 1 %}` / invalid `{` / closed"]
+["a {%- end -%} \n", "raw `a` / closed"]
+["{% start %}{% end %}", "start `{% start %}` / closed"]
+["{% end 1 %}x{% end %}", "liquid: Unexpected token (line 1, column 8) / raw `x` / closed"]
+["é{{ 4.5 }}\n{{- 9223372036854775808 }}{% t 1.5 %}{% end %}", "raw `é` / liquid: Decimal not supported (line 1, column 5) / liquid: Integer out of range (line 2, column 5) / liquid: Decimal not supported (line 2, column 32) / closed"]
+["a  {{- ! }}{% end %}", "raw `a` / invalid `  {` / raw `{- ! }}` / closed"]
+["{{", "invalid `{` / raw `{`"]"#;
+
 #[test]
 fn elements_are_handed_out_in_their_order(rt: HostRuntime) -> Result<(), Fail> {
     let alloc = rt.alloc();
-    let rows = [
-        ("{% end %}a", "closed"),
-        (
-            "a {{ b }}{% t 1 %}{{% end %}c",
-            "raw `a ` / expression `{{ b }}` / t `{% t 1 %}` / invalid `{` / closed",
-        ),
-        ("a {%- end -%} \n", "raw `a` / closed"),
-        ("{% start %}{% end %}", "start `{% start %}` / closed"),
-        (
-            "{% end 1 %}x{% end %}",
-            "liquid: Unexpected token (line 1, column 8) / raw `x` / closed",
-        ),
-        (
-            "é{{ 4.5 }}\n{{- 9223372036854775808 }}{% t 1.5 %}{% end %}",
-            "raw `é` / liquid: Decimal not supported (line 1, column 5) / liquid: Integer out of range (line 2, column 5) / liquid: Decimal not supported (line 2, column 32) / closed",
-        ),
-        (
-            "a  {{- ! }}{% end %}",
-            "raw `a` / invalid `  {` / raw `{- ! }}` / closed",
-        ),
-        ("{{", "invalid `{` / raw `{`"),
-    ];
-    for (body, handed) in rows {
-        assert!(rt; hands_out(alloc, body, handed)?, "{body}");
+    for line in HANDED_OUT.lines() {
+        let row = Line::of(alloc, line)?;
+        assert!(rt; hands_out(alloc, row.text(0)?, row.text(1)?)?, "{line}");
     }
     Ok(())
 }
@@ -103,7 +93,7 @@ fn escaped(alloc: Global, block: &mut TagBlock<'_, '_>, nests: bool) -> Result<S
 }
 
 /// A cursor over the body of a block `raw`, behind so many elements.
-fn passed_by<'a>(alloc: Global, body: &'a str, passed: usize) -> TagBlock<'a, 'static> {
+fn passed_by<'a>(alloc: Global, body: &'a str, passed: i64) -> TagBlock<'a, 'static> {
     let mut block = TagBlock::new(body, "raw", "endraw");
     for _ in 0..passed {
         let _ = block.next(alloc);
@@ -112,72 +102,33 @@ fn passed_by<'a>(alloc: Global, body: &'a str, passed: usize) -> TagBlock<'a, 's
 }
 
 /// Whether a row tells what becomes of its body, and whether the block is closed then.
-fn is_escaped(alloc: Global, row: (&str, usize, bool, &str, bool)) -> Result<bool, AllocError> {
-    let (body, passed, nests, text, is_closed) = row;
-    let mut block = passed_by(alloc, body, passed);
-    let is_text = escaped(alloc, &mut block, nests)?.as_str() == text;
-    Ok(is_text && block.is_closed() == is_closed)
+fn is_escaped(alloc: Global, row: &Line) -> Result<bool, Fail> {
+    let mut block = passed_by(alloc, row.text(0)?, row.number(1)?);
+    let is_text = escaped(alloc, &mut block, row.truth(2)?)?.as_str() == row.text(3)?;
+    Ok(is_text && block.is_closed() == row.truth(4)?)
 }
 
 /// A body, how many elements are passed before, whether starts nest, the escaped text or the refusal, and
 /// whether the block is closed then.
-const ESCAPED: [(&str, usize, bool, &str, bool); 13] = [
-    ("{% endraw %}a", 0, false, "", true),
-    ("{{ a }}{{% endraw %}", 0, false, "{{ a }}{", true),
-    (" x {%- endraw -%} y", 0, false, " x", true),
-    (
-        "{{ 4.5 }}{% raw 1.5 %}{% endraw %}",
-        0,
-        false,
-        "{{ 4.5 }}{% raw 1.5 %}",
-        true,
-    ),
-    (
-        "{% endraw 1 %}{% endraw %}",
-        0,
-        false,
-        "{% endraw 1 %}",
-        true,
-    ),
-    (
-        "{% raw %}a{% endraw %}b{% endraw %}",
-        0,
-        false,
-        "{% raw %}a",
-        true,
-    ),
-    (
-        "{% raw %}a{% endraw %}b{% endraw %}",
-        0,
-        true,
-        "{% raw %}a{% endraw %}b",
-        true,
-    ),
-    ("a{{ b }} c {% endraw %}", 1, false, "{{ b }} c ", true),
-    ("a{{ b }} c {% endraw %}", 2, true, " c ", true),
-    ("a{{ 4.5 }}c{% endraw %}", 2, false, "c", true),
-    ("{% endraw %}", 1, false, "closed before", true),
-    (
-        "{% raw %}a\n{% endraw %}b",
-        0,
-        true,
-        "liquid: Unclosed block. {% endraw %} tag expected. (line 2, column 14)",
-        false,
-    ),
-    (
-        "",
-        0,
-        false,
-        "liquid: Unclosed block. {% endraw %} tag expected. (line 1, column 1)",
-        false,
-    ),
-];
+const ESCAPED: &str = r#"["{% endraw %}a", 0, false, "", true]
+["{{ a }}{{% endraw %}", 0, false, "{{ a }}{", true]
+[" x {%- endraw -%} y", 0, false, " x", true]
+["{{ 4.5 }}{% raw 1.5 %}{% endraw %}", 0, false, "{{ 4.5 }}{% raw 1.5 %}", true]
+["{% endraw 1 %}{% endraw %}", 0, false, "{% endraw 1 %}", true]
+["{% raw %}a{% endraw %}b{% endraw %}", 0, false, "{% raw %}a", true]
+["{% raw %}a{% endraw %}b{% endraw %}", 0, true, "{% raw %}a{% endraw %}b", true]
+["a{{ b }} c {% endraw %}", 1, false, "{{ b }} c ", true]
+["a{{ b }} c {% endraw %}", 2, true, " c ", true]
+["a{{ 4.5 }}c{% endraw %}", 2, false, "c", true]
+["{% endraw %}", 1, false, "closed before", true]
+["{% raw %}a\n{% endraw %}b", 0, true, "liquid: Unclosed block. {% endraw %} tag expected. (line 2, column 14)", false]
+["", 0, false, "liquid: Unclosed block. {% endraw %} tag expected. (line 1, column 1)", false]"#;
 
 #[test]
 fn escaped_bodies_are_slices(rt: HostRuntime) -> Result<(), Fail> {
     let alloc = rt.alloc();
-    for row in ESCAPED {
-        assert!(rt; is_escaped(alloc, row)?, "{}", row.0);
+    for line in ESCAPED.lines() {
+        assert!(rt; is_escaped(alloc, &Line::of(alloc, line)?)?, "{line}");
     }
     Ok(())
 }

@@ -23,7 +23,7 @@ fn called(
 /// Arguments of a filter whose input is 5, and what it makes of them.
 struct Call {
     filter: Filters,
-    given: &'static [Part],
+    given: &'static [Part<'static>],
     answer: &'static str,
 }
 

@@ -1,8 +1,10 @@
 //! Expressions, arguments and a runtime, made by hand.
-use liquid_core::model::{Object, Scalar, Value};
+use liquid_core::model::{Scalar, to_object};
 use liquid_core::runtime::{BuiltRuntime, RuntimeBuilder};
 use liquid_plugins::{Expression, FilterArguments, Variable};
+use serde_json::Value as Json;
 use std::alloc::{AllocError, Global};
+use std::test::Fail;
 
 pub(crate) fn text(alloc: Global, text: &str) -> Result<String, AllocError> {
     String::from_str(alloc, text)
@@ -10,15 +12,15 @@ pub(crate) fn text(alloc: Global, text: &str) -> Result<String, AllocError> {
 
 /// A part of an expression.
 #[derive(Clone, Copy)]
-pub(crate) enum Part {
+pub(crate) enum Part<'a> {
     Number(i64),
-    Word(&'static str),
-    Name(&'static str),
+    Word(&'a str),
+    Name(&'a str),
 }
 
 pub(crate) use Part::{Name, Number, Word};
 
-pub(crate) fn part_of(alloc: Global, part: Part) -> Result<Expression, AllocError> {
+pub(crate) fn part_of(alloc: Global, part: Part<'_>) -> Result<Expression, AllocError> {
     Ok(match part {
         Number(number) => Expression::with_literal(number),
         Word(word) => Expression::with_literal(text(alloc, word)?),
@@ -26,10 +28,30 @@ pub(crate) fn part_of(alloc: Global, part: Part) -> Result<Expression, AllocErro
     })
 }
 
+/// The part that a row gives: a whole number, `{"text": ".."}`, or a name.
+pub(crate) fn part_in(given: &Json) -> Result<Part<'_>, Fail> {
+    if let Some(Json::String(word)) = given.get("text") {
+        return Ok(Word(word.as_str()));
+    }
+    match (given.as_str(), given.as_i64()) {
+        (Some(name), _) => Ok(Name(name)),
+        (None, Some(number)) => Ok(Number(number)),
+        (None, None) => Err(Fail::from("a row gives no part of an expression")),
+    }
+}
+
+pub(crate) fn parts_in(alloc: Global, given: &Vec<Json>) -> Result<Vec<Part<'_>>, Fail> {
+    let mut parts = Vec::new(alloc);
+    for part in given {
+        parts.push(part_in(part)?)?;
+    }
+    Ok(parts)
+}
+
 pub(crate) fn expression(
     alloc: Global,
-    entry: Part,
-    indexes: &[Part],
+    entry: Part<'_>,
+    indexes: &[Part<'_>],
 ) -> Result<Expression, AllocError> {
     match entry {
         Name(name) => {
@@ -45,7 +67,7 @@ pub(crate) fn expression(
 
 pub(crate) fn arguments(
     alloc: Global,
-    parts: &[Part],
+    parts: &[Part<'_>],
 ) -> Result<FilterArguments<'static>, AllocError> {
     let mut positional = Vec::new(alloc);
     for given in parts {
@@ -57,53 +79,12 @@ pub(crate) fn arguments(
     })
 }
 
-/// A list of the numbers from `first` to `end`, without `end`.
-fn list(alloc: Global, first: i64, end: i64) -> Result<Value, AllocError> {
-    let mut list = Vec::new(alloc);
-    for number in first..end {
-        list.push(Value::scalar(number))?;
-    }
-    Ok(Value::Array(list))
-}
-
-/// Puts a value into an object.
-fn add(alloc: Global, object: &mut Object, name: &str, value: Value) -> Result<(), AllocError> {
-    object.insert(text(alloc, name)?, value)?;
-    Ok(())
-}
-
-/// An object with `part`.
-fn inside(alloc: Global) -> Result<Object, AllocError> {
-    let mut inside = Object::new(alloc);
-    add(alloc, &mut inside, "part", Value::scalar(7i64))?;
-    Ok(inside)
-}
-
-/// Puts the lists into the globals.
-fn add_lists(alloc: Global, globals: &mut Object) -> Result<(), AllocError> {
-    add(alloc, globals, "list", list(alloc, 0, 10)?)?;
-    add(alloc, globals, "one", list(alloc, 1, 2)?)
-}
-
-/// Puts the text and the object into the globals.
-fn add_word_and_box(alloc: Global, globals: &mut Object) -> Result<(), AllocError> {
-    add(alloc, globals, "word", Value::scalar(text(alloc, "part")?))?;
-    add(alloc, globals, "box", Value::Object(inside(alloc)?))
-}
-
-/// `list` of ten numbers, `one` of the number 1, `word`, and the object `box` with `part`.
-fn globals(alloc: Global) -> Result<Object, AllocError> {
-    let mut globals = Object::new(alloc);
-    add_lists(alloc, &mut globals)?;
-    add_word_and_box(alloc, &mut globals)?;
-    Ok(globals)
-}
+/// The globals of the rows.
+const GLOBALS: &str =
+    r#"{"list": [0, 1, 2, 3, 4, 5, 6, 7, 8, 9], "one": [1], "word": "part", "box": {"part": 7}}"#;
 
 /// A runtime with the globals.
-pub(crate) fn runtime(alloc: Global) -> Result<BuiltRuntime<(), ()>, AllocError> {
-    Ok(
-        RuntimeBuilder::new(alloc)
-            .set_globals(globals(alloc)?)
-            .build(),
-    )
+pub(crate) fn runtime(alloc: Global) -> Result<BuiltRuntime<(), ()>, Fail> {
+    let globals = to_object(alloc, &Json::from_str(alloc, GLOBALS)?)?;
+    Ok(RuntimeBuilder::new(alloc).set_globals(globals).build())
 }

@@ -1,160 +1,60 @@
 //! Paths into values.
-use crate::values::{add, answer_text, numbers, text};
+use crate::values::answer_text;
+use json_lines::Line;
+use liquid_json::to_value;
 use liquid_paths::{Path, find, try_find};
 use liquid_scalar::ScalarCow;
-use liquid_value::{Object, Value};
+use liquid_value::Value;
 use liquid_views::ArrayView;
+use serde_json::Value as Json;
 use std::alloc::{AllocError, Global};
 use std::test::Fail;
 
+/// The values that paths lead into.
+const VALUES: &str =
+    r#"{"list": [0, 1, 4, 9, 16, 25, 36, 49, 64, 81], "empty": [], "word": "häuser", "box": {"size": 7, "part": 5}, "plain": {"d": 2, "c": 1}}"#;
+
+/// Paths, and what each leads to: a value's text or that of the refusal.
+const PATHS: &str = r#"[["list", 2], "4"]
+[["list", "2"], "4"]
+[["list", -1], "81"]
+[["list", -10], "0"]
+[["list", "first"], "0"]
+[["list", "last"], "81"]
+[["list", "size"], "10"]
+[["list", "size", "size"], "2"]
+[["word", "size"], "7"]
+[["box", "size"], "7"]
+[["plain", "size"], "2"]
+[["plain", "d"], "2"]
+[["size"], "5"]
+[["list", -11], "liquid: Unknown index\n  with:\n    variable=list\n    requested index=-11\n    available indexes=0..9, first, last\n"]
+[["list", 10, "x"], "liquid: Unknown index\n  with:\n    variable=list\n    requested index=10\n    available indexes=0..9, first, last\n"]
+[["empty", "first"], "liquid: Unknown index\n  with:\n    variable=empty\n    requested index=first\n    available indexes=first, last\n"]
+[["plain", "b", "x"], "liquid: Unknown index\n  with:\n    variable=plain\n    requested index=b\n    available indexes=c, d\n"]
+[["plain", "c", "x"], "liquid: Unknown index\n  with:\n    variable=plain.c\n    requested index=x\n    available indexes=\n"]
+[["list", 3, "size", "first"], "liquid: Unknown index\n  with:\n    variable=list.3.size\n    requested index=first\n    available indexes=\n"]
+[["x", "y"], "liquid: Unknown index\n  with:\n    requested index=x\n    available indexes=box, empty, list, plain, word\n"]
+[["word", "first"], "liquid: Unknown index\n  with:\n    variable=word\n    requested index=first\n    available indexes=\n"]
+[["plain", "c", "size"], "1"]"#;
+
 /// An index of a path.
-#[derive(Clone, Copy)]
-enum Step {
-    Word(&'static str),
-    Place(i64),
+fn index_of(member: &Json) -> Result<ScalarCow<'_>, Fail> {
+    match (member.as_str(), member.as_i64()) {
+        (Some(word), _) => Ok(ScalarCow::from(word)),
+        (None, Some(place)) => Ok(ScalarCow::from(place)),
+        (None, None) => Err(Fail::from("an index is no text and no whole number")),
+    }
 }
 
-use Step::{Place, Word};
-
-fn path_of(alloc: Global, steps: &[Step]) -> Result<Vec<ScalarCow<'static>>, AllocError> {
+/// The path of a row.
+fn path_of(alloc: Global, row: &Line) -> Result<Vec<ScalarCow<'_>>, Fail> {
     let mut path = Vec::new(alloc);
-    for step in steps {
-        path.push(match step {
-            Word(word) => ScalarCow::from(*word),
-            Place(place) => ScalarCow::from(*place),
-        })?;
+    for member in row.list(0)? {
+        path.push(index_of(member)?)?;
     }
     Ok(path)
 }
-
-/// A list of the squares below a hundred.
-fn squares(alloc: Global) -> Result<Vec<Value>, AllocError> {
-    let mut list = Vec::new(alloc);
-    for square in [0i64, 1, 4, 9, 16, 25, 36, 49, 64, 81] {
-        list.push(Value::scalar(square))?;
-    }
-    Ok(list)
-}
-
-/// Puts `list`, `empty` and `word` into an object.
-fn add_lists(alloc: Global, object: &mut Object) -> Result<(), AllocError> {
-    add(alloc, object, "list", Value::Array(squares(alloc)?))?;
-    add(alloc, object, "empty", Value::Array(Vec::new(alloc)))?;
-    add(alloc, object, "word", Value::scalar(text(alloc, "häuser")?))
-}
-
-/// Puts `box` and `plain` into an object.
-fn add_objects(alloc: Global, object: &mut Object) -> Result<(), AllocError> {
-    let sized = numbers(alloc, &[("size", 7), ("part", 5)])?;
-    add(alloc, object, "box", Value::Object(sized))?;
-    let plain = numbers(alloc, &[("d", 2), ("c", 1)])?;
-    add(alloc, object, "plain", Value::Object(plain))
-}
-
-/// `list` with ten numbers, `empty` without any, `word`, `box` with `size` and `part` inside, and `plain`.
-fn values(alloc: Global) -> Result<Object, AllocError> {
-    let mut object = Object::new(alloc);
-    add_lists(alloc, &mut object)?;
-    add_objects(alloc, &mut object)?;
-    Ok(object)
-}
-
-/// A path with what it leads to.
-struct PathRow {
-    path: &'static [Step],
-    answer: &'static str,
-}
-
-const PATHS: [PathRow; 22] = [
-    PathRow {
-        path: &[Word("list"), Place(2)],
-        answer: "4",
-    },
-    PathRow {
-        path: &[Word("list"), Word("2")],
-        answer: "4",
-    },
-    PathRow {
-        path: &[Word("list"), Place(-1)],
-        answer: "81",
-    },
-    PathRow {
-        path: &[Word("list"), Place(-10)],
-        answer: "0",
-    },
-    PathRow {
-        path: &[Word("list"), Word("first")],
-        answer: "0",
-    },
-    PathRow {
-        path: &[Word("list"), Word("last")],
-        answer: "81",
-    },
-    PathRow {
-        path: &[Word("list"), Word("size")],
-        answer: "10",
-    },
-    PathRow {
-        path: &[Word("list"), Word("size"), Word("size")],
-        answer: "2",
-    },
-    PathRow {
-        path: &[Word("word"), Word("size")],
-        answer: "7",
-    },
-    PathRow {
-        path: &[Word("box"), Word("size")],
-        answer: "7",
-    },
-    PathRow {
-        path: &[Word("plain"), Word("size")],
-        answer: "2",
-    },
-    PathRow {
-        path: &[Word("plain"), Word("d")],
-        answer: "2",
-    },
-    PathRow {
-        path: &[Word("size")],
-        answer: "5",
-    },
-    PathRow {
-        path: &[Word("list"), Place(-11)],
-        answer: "liquid: Unknown index\n  with:\n    variable=list\n    requested index=-11\n    available indexes=0..9, first, last\n",
-    },
-    PathRow {
-        path: &[Word("list"), Place(10), Word("x")],
-        answer: "liquid: Unknown index\n  with:\n    variable=list\n    requested index=10\n    available indexes=0..9, first, last\n",
-    },
-    PathRow {
-        path: &[Word("empty"), Word("first")],
-        answer: "liquid: Unknown index\n  with:\n    variable=empty\n    requested index=first\n    available indexes=first, last\n",
-    },
-    PathRow {
-        path: &[Word("plain"), Word("b"), Word("x")],
-        answer: "liquid: Unknown index\n  with:\n    variable=plain\n    requested index=b\n    available indexes=c, d\n",
-    },
-    PathRow {
-        path: &[Word("plain"), Word("c"), Word("x")],
-        answer: "liquid: Unknown index\n  with:\n    variable=plain.c\n    requested index=x\n    available indexes=\n",
-    },
-    PathRow {
-        path: &[Word("list"), Place(3), Word("size"), Word("first")],
-        answer: "liquid: Unknown index\n  with:\n    variable=list.3.size\n    requested index=first\n    available indexes=\n",
-    },
-    PathRow {
-        path: &[Word("x"), Word("y")],
-        answer: "liquid: Unknown index\n  with:\n    requested index=x\n    available indexes=box, empty, list, plain, word\n",
-    },
-    PathRow {
-        path: &[Word("word"), Word("first")],
-        answer: "liquid: Unknown index\n  with:\n    variable=word\n    requested index=first\n    available indexes=\n",
-    },
-    PathRow {
-        path: &[Word("plain"), Word("c"), Word("size")],
-        answer: "1",
-    },
-];
 
 /// Whether a path leads to the answer, which is a value's text or that of the refusal.
 fn leads_to(
@@ -177,10 +77,11 @@ fn is_tried_alike(
 }
 
 /// Whether the path of a row leads to what the row tells, tried or not.
-fn row_holds(alloc: Global, value: &Value, row: &PathRow) -> Result<bool, AllocError> {
-    let path = path_of(alloc, row.path)?;
+fn row_holds(alloc: Global, value: &Value, line: &str) -> Result<bool, Fail> {
+    let row = Line::of(alloc, line)?;
+    let path = path_of(alloc, &row)?;
     Ok(
-        leads_to(alloc, value, path.as_slice(), row.answer)?
+        leads_to(alloc, value, path.as_slice(), row.text(1)?)?
             && is_tried_alike(alloc, value, path.as_slice())?,
     )
 }
@@ -188,11 +89,20 @@ fn row_holds(alloc: Global, value: &Value, row: &PathRow) -> Result<bool, AllocE
 #[test]
 fn paths_lead_to_values(rt: HostRuntime) -> Result<(), Fail> {
     let alloc = rt.alloc();
-    let value = Value::Object(values(alloc)?);
-    for row in &PATHS {
-        assert!(rt; row_holds(alloc, &value, row)?, "{}", row.answer);
+    let value = to_value(alloc, &Json::from_str(alloc, VALUES)?)?;
+    for line in PATHS.lines() {
+        assert!(rt; row_holds(alloc, &value, line)?, "{line}");
     }
     Ok(())
+}
+
+/// A list of the squares below a hundred.
+fn squares(alloc: Global) -> Result<Vec<Value>, AllocError> {
+    let mut list = Vec::new(alloc);
+    for square in [0i64, 1, 4, 9, 16, 25, 36, 49, 64, 81] {
+        list.push(Value::scalar(square))?;
+    }
+    Ok(list)
 }
 
 #[test]

@@ -9,12 +9,7 @@ pub(crate) fn text(alloc: Global, text: &str) -> Result<String, AllocError> {
 }
 
 /// Puts a value into an object.
-pub(crate) fn add(
-    alloc: Global,
-    object: &mut Object,
-    name: &str,
-    value: Value,
-) -> Result<(), AllocError> {
+fn add(alloc: Global, object: &mut Object, name: &str, value: Value) -> Result<(), AllocError> {
     object.insert(text(alloc, name)?, value)?;
     Ok(())
 }
