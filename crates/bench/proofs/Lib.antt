@@ -1,3 +1,2 @@
 pub mod Leak
-pub mod AskedLemmas
 pub mod PartialLemmas

@@ -10,8 +10,9 @@ use Rattle.bench.specs.declared.blocks.BlockShape.{BlockShape}
 use Rattle.bench.specs.declared.blocks.BlockShape.TheVariants as shape
 use Rattle.bench.specs.declared.blocks.Stage.{Stage}
 use Rattle.bench.specs.declared.blocks.Stage.TheVariants.{First, Second, Third, Over}
-use Rattle.bench.specs.Turning.{answers_only, begins_with}
-use Rattle.bench.specs.TagLaws.{answers_hide, evaluate_hidden}
+use Rattle.liquid_plugins.specs.Turning.{answers, begins_with}
+use Rattle.liquid_plugins.proofs.Hiding.{evaluate_hidden}
+use Rattle.bench.specs.TagLaws.{unchanged_hides}
 use Rattle.bench.specs.Blocks.{block_answers, block_tells, bound, next_stage}
 
 module _ {Reg : Type 0} where
@@ -28,9 +29,9 @@ module _ {Reg : Type 0} where
   same_answer shape.Glob stage g v = refl
 
   pub block_start_hides : (n : BlockShape) → HidesGlobals {Reg = Reg} (begins_with First)
-  block_start_hides n g v = answers_hide (Ok First) tt g v
+  block_start_hides n g v = unchanged_hides (Ok First) tt g v
 
   pub block_turn_hides : (n : BlockShape) (stage : Stage) → HidesGlobals {Reg = Reg} (block_tells n stage)
   block_turn_hides n stage g v =
-      ap (λ answer. answers_only answer (next_stage stage) (hiding g v)) (same_answer n stage g v)
-      ∙ answers_hide (block_answers n stage (hiding empty v)) (next_stage stage) g v
+      ap (λ answer. answers answer (next_stage stage) (hiding g v)) (same_answer n stage g v)
+      ∙ unchanged_hides (block_answers n stage (hiding empty v)) (next_stage stage) g v

@@ -8,7 +8,7 @@ use Rattle.liquid_runtime.specs.Frames.{FrameShape, no_frame, stack_frame, sandb
 use Rattle.liquid_plugins.specs.Evaluation.{evaluate}
 use Rattle.liquid_plugins.specs.ExpressionOf.{expression_of}
 use Rattle.liquid_plugins.specs.Turns.{TurnShape, text_turn, body_turn, end_turn, Told}
-use Rattle.bench.specs.Turning.{answers_only}
+use Rattle.liquid_plugins.specs.Turning.{answers}
 use Rattle.bench.specs.declared.blocks.BlockNode.{BlockNode}
 use Rattle.bench.specs.declared.blocks.BlockNode.TheVariants as block
 use Rattle.bench.specs.declared.blocks.BlockShape.{BlockShape}
@@ -68,4 +68,4 @@ block_answers shape.Glob stage v = Ok (once (body_turn 0 global_frame None) end_
 
 -- no turn writes anything
 abbrev pub block_tells : {Reg : Type 0} → BlockShape → Stage → View Reg → Told TurnShape Stage Reg
-block_tells n stage v = answers_only (block_answers n stage v) (next_stage stage) v
+block_tells n stage v = answers (block_answers n stage v) (next_stage stage) v

@@ -3,7 +3,7 @@ use Rattle.std.specs.Prelude.{ℕ, codes, None, Ok}
 use Rattle.liquid_runtime.specs.View.{View}
 use Rattle.liquid_runtime.specs.Frames.{no_frame}
 use Rattle.liquid_plugins.specs.Turns.{TurnShape, text_turn, body_turn, end_turn, Told}
-use Rattle.bench.specs.Turning.{answers_only, begins_with}
+use Rattle.liquid_plugins.specs.Turning.{answers, begins_with}
 use Rattle.bench.specs.Tags.{tag_of, tag_tells}
 use Rattle.bench.specs.Blocks.{block_of, block_tells, once}
 use Rattle.bench.specs.declared.blocks.Stage.{Stage}
@@ -39,10 +39,10 @@ hostile_tag_starts n = begins_with (turns_said n)
 -- what a turn tells; `spin` and `mute` never say that they have ended
 abbrev pub hostile_tag_tells : {Reg : Type 0} → HostileTagShape → ℕ → View Reg → Told TurnShape ℕ Reg
 hostile_tag_tells (shape.Plain node) progress v = tag_tells node progress v
-hostile_tag_tells shape.Spin progress v = answers_only (Ok (text_turn (codes "s"))) progress v
-hostile_tag_tells shape.Mute progress v = answers_only (Ok (text_turn (codes "s"))) progress v
+hostile_tag_tells shape.Spin progress v = answers (Ok (text_turn (codes "s"))) progress v
+hostile_tag_tells shape.Mute progress v = answers (Ok (text_turn (codes "s"))) progress v
 
 -- `far` asks once for a part that it does not have
 abbrev pub hostile_block_tells : {Reg : Type 0} → HostileBlockShape → Stage → View Reg → Told TurnShape Stage Reg
 hostile_block_tells (block_shape.Plain node) stage v = block_tells node stage v
-hostile_block_tells block_shape.Far stage v = answers_only (Ok (once (body_turn 9 no_frame None) end_turn stage)) Over v
+hostile_block_tells block_shape.Far stage v = answers (Ok (once (body_turn 9 no_frame None) end_turn stage)) Over v

@@ -2,7 +2,7 @@
 use Rattle.std.specs.Prelude.{ℕ}
 use Rattle.liquid_plugins.specs.Turns.{NodeMeaning}
 use Rattle.liquid_plugins.specs.Discreet.{Discreet}
-use Rattle.bench.specs.Turning.{begins_with}
+use Rattle.liquid_plugins.specs.Turning.{begins_with}
 use Rattle.bench.specs.Tags.{leaky_tells}
 use Rattle.bench.specs.declared.tags.LeakyTagShape.{LeakyTagShape}
 

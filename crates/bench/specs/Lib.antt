@@ -1,7 +1,6 @@
 pub mod Drips
 pub mod Filters
 pub mod ProgramLanguage
-pub mod Turning
 pub mod Tags
 pub mod TagLaws
 pub mod Blocks

@@ -20,7 +20,7 @@ use Rattle.bench.specs.Tags.{tag_tells}
 use Rattle.bench.specs.TagPlugins.{tag_given}
 use Rattle.bench.specs.Blocks.{block_tells}
 use Rattle.bench.specs.BlockPlugins.{start_of, end_of, block_meaning}
-use Rattle.bench.specs.Turning.{begins_with}
+use Rattle.liquid_plugins.specs.Turning.{begins_with}
 use Rattle.bench.specs.Languages.{the_filters, plain_tags, plain_blocks}
 
 -- what a language of these plug-ins means

@@ -1,5 +1,5 @@
 -- Tags whose turns do not depend on hidden globals.
-use Rattle.std.proofs.Common.{◌≡◌, ℕ, List, None, Some, Result, Ok, Err, sym, ap, ◌∙◌}
+use Rattle.std.proofs.Common.{◌≡◌, ℕ, List, None, Some, Result, Ok, Err, refl, sym, ap, ◌∙◌}
 use Rattle.std.specs.FinMap.{empty, insert}
 use Rattle.liquid_error.specs.Refusal.{Refusal}
 use Rattle.liquid_value.specs.Tree.{Tree}
@@ -8,34 +8,29 @@ use Rattle.liquid_runtime.proofs.MapLaws.{empty-over, insert-over}
 use Rattle.liquid_runtime.specs.View.{View}
 use Rattle.liquid_runtime.specs.Written.{written_of}
 use Rattle.liquid_runtime.specs.Frames.{no_frame}
-use Rattle.liquid_plugins.specs.Expression.{ExpressionShape}
 use Rattle.liquid_plugins.specs.Evaluation.{evaluate}
 use Rattle.liquid_plugins.specs.Turns.{partial_turn, end_turn}
 use Rattle.liquid_plugins.specs.Discreet.{hiding, overlaid, HidesGlobals}
-use Rattle.liquid_plugins.proofs.ErasedLemmas.{evaluate_erased}
+use Rattle.liquid_plugins.proofs.Hiding.{evaluate_hidden, answers_hide}
 use Rattle.bench.specs.declared.tags.TagShape.{TagShape}
 use Rattle.bench.specs.declared.tags.TagShape.TheVariants as shape
-use Rattle.bench.specs.Turning.{answers_only, begins_with, turned}
+use Rattle.liquid_plugins.specs.Turning.{answers, begins_with, turned}
 use Rattle.bench.specs.Tags.{assigned, tag_tells}
 
 module _ {Reg : Type 0} where
-  -- an expression does not see what is hidden
-  pub evaluate_hidden : (g : Names) (v : View Reg) (e : ExpressionShape) → evaluate (hiding g v) e ≡ evaluate (hiding empty v) e
-  evaluate_hidden g v e = sym (evaluate_erased (hiding g v) e) ∙ evaluate_erased (hiding empty v) e
-
-  -- nor does an answer that writes nothing
-  pub answers_hide : {A P : Type 0} (answer : Result A Refusal) (p : P) (g : Names) (v : View Reg) → answers_only answer p (hiding g v) ≡ overlaid g (answers_only answer p (hiding empty v))
-  answers_hide answer p g v = ap (λ m. answers_only answer p (hiding m v)) (sym (empty-over g))
+  -- an answer that writes nothing hides globals
+  pub unchanged_hides : {A P : Type 0} (answer : Result A Refusal) (p : P) (g : Names) (v : View Reg) → answers answer p (hiding g v) ≡ overlaid g (answers answer p (hiding empty v))
+  unchanged_hides answer p g v = answers_hide answer p (λ w. w) (λ m w. refl) g v
 
   set_hides : (name : List ℕ) (r : Result Tree Refusal) (p : ℕ) (g : Names) (v : View Reg) → turned (λ _. end_turn) p (assigned name r (hiding g v)) ≡ overlaid g (turned (λ _. end_turn) p (assigned name r (hiding empty v)))
   set_hides name (Ok t) p g v = ap (λ m. record (turned (λ _. end_turn) p (assigned name (Ok t) (hiding g v))) { written = record (written_of (hiding g v)) { globals = Some m } })
       (ap (λ m. insert m name t) (sym (empty-over g)) ∙ sym (insert-over empty g name t))
-  set_hides name (Err refusal) p g v = answers_hide (Err refusal) p g v
+  set_hides name (Err refusal) p g v = unchanged_hides (Err refusal) p g v
 
   pub tag_start_hides : (n : TagShape) → HidesGlobals {A = ℕ} {P = Unit {0}} {Reg = Reg} (begins_with 1)
-  tag_start_hides n g v = answers_hide (Ok 1) tt g v
+  tag_start_hides n g v = unchanged_hides (Ok 1) tt g v
 
   pub tag_turn_hides : (n : TagShape) (p : ℕ) → HidesGlobals {Reg = Reg} (tag_tells n p)
   tag_turn_hides (shape.Set name e) p g v = ap (λ r. turned (λ _. end_turn) p (assigned name r (hiding g v))) (evaluate_hidden g v e) ∙ set_hides name (evaluate (hiding empty v) e) p g v
-  tag_turn_hides (shape.Inc name) p g v = answers_hide (Ok (partial_turn name no_frame None)) p g v
+  tag_turn_hides (shape.Inc name) p g v = unchanged_hides (Ok (partial_turn name no_frame None)) p g v
   tag_turn_hides shape.Brk p g v = ap (λ m. record (tag_tells shape.Brk p (hiding g v)) { written = record (tag_tells shape.Brk p (hiding g v)).written { globals = Some m } }) (sym (empty-over g))

@@ -11,7 +11,7 @@ use Rattle.liquid_runtime.specs.Frames.{no_frame}
 use Rattle.liquid_plugins.specs.Evaluation.{evaluate}
 use Rattle.liquid_plugins.specs.ExpressionOf.{expression_of}
 use Rattle.liquid_plugins.specs.Turns.{TurnShape, text_turn, partial_turn, end_turn, Told}
-use Rattle.bench.specs.Turning.{answers_only, turned}
+use Rattle.liquid_plugins.specs.Turning.{answers, turned}
 use Rattle.bench.specs.declared.tags.TagNode.{TagNode}
 use Rattle.bench.specs.declared.tags.TagNode.TheVariants as tag
 use Rattle.bench.specs.declared.tags.TagShape.{TagShape}
@@ -35,7 +35,7 @@ leaky_of (leaky.Leak name e) = leaky_shape.Leak (string_bytes name) (expression_
 -- what setting a global to this value tells: its old value
 abbrev pub assigned : {Reg : Type 0} → List ℕ → Result Tree Refusal → View Reg → Told (Option Tree) (Unit {0}) Reg
 assigned name (Ok t) v = record { answer = old_global v name; progress = tt; written = written_of (put_global v name t) }
-assigned name (Err refusal) v = answers_only (Err refusal) tt v
+assigned name (Err refusal) v = answers (Err refusal) tt v
 
 -- the render of a value, empty where there is none
 abbrev pub render_old : Option Tree → List ℕ
@@ -45,7 +45,7 @@ render_old (Some t) = render t
 -- what a tag's turn tells
 abbrev pub tag_tells : {Reg : Type 0} → TagShape → ℕ → View Reg → Told TurnShape ℕ Reg
 tag_tells (shape.Set name e) progress v = turned (λ _. end_turn) progress (assigned name (evaluate v e) v)
-tag_tells (shape.Inc name) progress v = answers_only (Ok (partial_turn name no_frame None)) progress v
+tag_tells (shape.Inc name) progress v = answers (Ok (partial_turn name no_frame None)) progress v
 tag_tells shape.Brk progress v = record { answer = Ok end_turn; progress = progress; written = record (written_of v) { interrupt = Some Break } }
 
 abbrev pub leaky_tells : {Reg : Type 0} → LeakyTagShape → ℕ → View Reg → Told TurnShape ℕ Reg

@@ -2,9 +2,9 @@
 ghost use Rattle.std.specs.Prelude.{string_bytes};
 ghost use Rattle.liquid_error.specs.Told.{Gives};
 ghost use Rattle.liquid_plugins.specs.ExpressionOf.{expression_of};
-ghost use Rattle.liquid_parser.specs.Handed.{Tokens, expect_identifier, expect_value};
+ghost use Rattle.liquid_parser.specs.Handed.{Tokens};
 ghost use Rattle.liquid_parser.specs.Plugins.{AreTokens};
-ghost use Rattle.bench.specs.Asked.{Takes, name_alone, name_and_value, next_as, nothing_for};
+ghost use Rattle.bench.specs.Asked.{name_alone, name_and_value, nothing_for};
 
 use liquid_error::Error;
 use liquid_parser::TagTokenIter;
@@ -32,8 +32,9 @@ pub(crate) fn alone<N: Meant + Drop>(
 pub(crate) fn name_alone(alloc: Global, tokens: TagTokenIter<'_>) -> Result<String, Error>
     ensures { (ts : Tokens) → AreTokens tokens.entry ts → Gives (λ name. string_bytes name) result (name_alone ts) }
 {
-    match next_name(alloc, tokens) {
-        Ok((name, rest)) => match rest.expect_nothing(alloc) {
+    let mut tokens = tokens;
+    match tokens.next_identifier(alloc, TOKEN_EXPECTED) {
+        Ok(name) => match tokens.expect_nothing(alloc) {
             Ok(()) => Ok(String::from_str(alloc, name)?),
             Err(error) => Err(error),
         },
@@ -49,46 +50,13 @@ pub(crate) fn name_and_value(
 ) -> Result<(String, Box<Expression>), Error>
     ensures { (ts : Tokens) → AreTokens tokens.entry ts → Gives (λ given. (string_bytes given.0, expression_of given.1.value)) result (name_and_value ts) }
 {
-    match next_name(alloc, tokens) {
-        Ok((name, behind)) => match next_value(alloc, behind) {
-            Ok((value, rest)) => match rest.expect_nothing(alloc) {
+    let mut tokens = tokens;
+    match tokens.next_identifier(alloc, TOKEN_EXPECTED) {
+        Ok(name) => match tokens.next_value(alloc, TOKEN_EXPECTED) {
+            Ok(value) => match tokens.expect_nothing(alloc) {
                 Ok(()) => Ok((String::from_str(alloc, name)?, Box::new(alloc, value)?)),
                 Err(error) => Err(error),
             },
-            Err(error) => Err(error),
-        },
-        Err(error) => Err(error),
-    }
-}
-
-/// The name that the next token is, and the cursor behind it.
-fn next_name<'a>(
-    alloc: Global,
-    tokens: TagTokenIter<'a>,
-) -> Result<(&'a str, TagTokenIter<'a>), Error>
-    ensures { (ts : Tokens) → AreTokens tokens.entry ts → Takes (λ name. name.now) result (next_as expect_identifier ts) }
-{
-    let mut tokens = tokens;
-    match tokens.expect_next(alloc, TOKEN_EXPECTED) {
-        Ok(token) => match token.expect_identifier().into_result(alloc) {
-            Ok(name) => Ok((name, tokens)),
-            Err(error) => Err(error),
-        },
-        Err(error) => Err(error),
-    }
-}
-
-/// The value that the next token is, and the cursor behind it.
-fn next_value<'a>(
-    alloc: Global,
-    tokens: TagTokenIter<'a>,
-) -> Result<(Expression, TagTokenIter<'a>), Error>
-    ensures { (ts : Tokens) → AreTokens tokens.entry ts → Takes expression_of result (next_as expect_value ts) }
-{
-    let mut tokens = tokens;
-    match tokens.expect_next(alloc, TOKEN_EXPECTED) {
-        Ok(token) => match token.expect_value(alloc)?.into_result(alloc) {
-            Ok(value) => Ok((value, tokens)),
             Err(error) => Err(error),
         },
         Err(error) => Err(error),

@@ -9,7 +9,7 @@ ghost use Rattle.liquid_plugins.specs.Evaluation.{evaluate};
 ghost use Rattle.liquid_plugins.specs.ExpressionOf.{expression_of};
 ghost use Rattle.bench.specs.Blocks.{block_of, block_tells, bound, next_stage};
 ghost use Rattle.bench.specs.BlockLaws.{block_start_hides, block_turn_hides};
-ghost use Rattle.bench.specs.Turning.{begins_with};
+ghost use Rattle.liquid_plugins.specs.Turning.{begins_with};
 ghost use Rattle.bench.specs.declared.blocks.Stage.TheVariants.{First};
 
 use liquid_error::Error;

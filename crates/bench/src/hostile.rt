@@ -6,7 +6,7 @@ ghost use Rattle.bench.specs.Hostile.{
   hostile_tag_starts,
   hostile_tag_tells,
 };
-ghost use Rattle.bench.specs.Turning.{begins_with};
+ghost use Rattle.liquid_plugins.specs.Turning.{begins_with};
 ghost use Rattle.bench.specs.declared.blocks.Stage.TheVariants.{First};
 
 use crate::blocks::{BlockNode, BlockShape, Stage};

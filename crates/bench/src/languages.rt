@@ -80,7 +80,7 @@ pub fn hostile_language(
 }
 
 /// The filters of each language.
-fn filters(alloc: Global) -> Result<PluginRegistry<Filters>, AllocError>
+pub fn filters(alloc: Global) -> Result<PluginRegistry<Filters>, AllocError>
     ensures { IfOk result (λ r. r ≡ the_filters) }
 {
     let mut filters = PluginRegistry::new(alloc);

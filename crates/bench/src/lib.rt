@@ -6,6 +6,7 @@ pub mod block_plugins;
 pub mod blocks;
 pub mod dripping;
 pub mod filters;
+pub mod forms;
 pub mod hostile;
 pub mod languages;
 mod laws;

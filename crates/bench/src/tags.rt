@@ -7,7 +7,7 @@ ghost use Rattle.liquid_plugins.specs.Evaluation.{evaluate};
 ghost use Rattle.liquid_plugins.specs.ExpressionOf.{expression_of};
 ghost use Rattle.liquid_plugins.specs.TurnOf.{Leaves};
 ghost use Rattle.bench.specs.Tags.{assigned, leaky_of, leaky_tells, render_old, tag_of, tag_tells};
-ghost use Rattle.bench.specs.Turning.{begins_with};
+ghost use Rattle.liquid_plugins.specs.Turning.{begins_with};
 ghost use Rattle.bench.specs.TagLaws.{tag_start_hides, tag_turn_hides};
 
 use liquid_error::Error;

@@ -19,7 +19,7 @@ const HOSTILE: &str = r#"{"template": "{% spin %}.", "written": "sss."}
 {"template": "é{{ 4.5 }}", "written": "", "error": "liquid: Decimal not supported (line 1, column 5)\n"}
 {"template": "{{ +9223372036854775807 }}", "written": "9223372036854775807"}
 {"template": "{{ -9223372036854775809 }}", "written": "", "error": "liquid: Integer out of range (line 1, column 4)\n"}
-{"template": "{{ a[-9223372036854775808] }}", "globals": {"a": [0]}, "written": "", "error": "liquid: Unknown index\n  with:\n    variable=a\n    requested index=-9223372036854775808\n    available indexes=0..0, first, last\n"}"#;
+{"template": "{{ a[-9223372036854775808] }}", "globals": {"a": [0]}, "written": "", "error": "liquid: Unknown index\n  with:\n    variable=a\n    requested index=-9223372036854775808\n    available indexes=0..0, first, last\n", "lenient": {"written": ""}}"#;
 
 #[test]
 fn hostile_templates_are_rendered(rt: HostRuntime) -> Result<(), Fail> {

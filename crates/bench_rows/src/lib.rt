@@ -10,10 +10,6 @@ mod given;
 #[cfg(test)]
 mod hostile_rows;
 #[cfg(test)]
-mod node_rows;
-#[cfg(test)]
-mod nodes;
-#[cfg(test)]
 mod partial_rows;
 #[cfg(test)]
 mod plain_rows;
@@ -21,8 +17,6 @@ mod plain_rows;
 mod rows;
 #[cfg(test)]
 mod sandbox_rows;
-#[cfg(test)]
-mod scopes;
 #[cfg(test)]
 mod shared_names;
 #[cfg(test)]

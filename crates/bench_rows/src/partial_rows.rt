@@ -1,17 +1,18 @@
-//! Templates with partials, and requests to stores, over both stores.
-use crate::both_scopes::{Chained, Flat, over, rendered_in};
+//! Templates with partials, and requests to stores, over all three stores.
+use crate::both_scopes::rendered_in;
 use crate::counting_source::CountingSource;
 use crate::given::error_text;
 use crate::rows::Row;
 use bench::blocks::BlockNode;
 use bench::filters::AnyFilter;
+use bench::forms::{Chained, Flat};
 use bench::languages::language;
 use bench::tags::TagNode;
 use bench::{Blocks, Filters, Tags};
 use json_lines::Line;
 use liquid_core::partials::{
-    EagerCompiler, EagerStore, InMemorySource, OnDemandCompiler, OnDemandStore, PartialCompiler,
-    PartialSource,
+    EagerCompiler, EagerStore, InMemorySource, LazyCompiler, LazyStore, OnDemandCompiler,
+    OnDemandStore, PartialCompiler, PartialSource,
 };
 use liquid_core::runtime::{BuiltRuntime, RuntimeBuilder, Template};
 use liquid_core::{Error, Language, PartialStore, TextSink, render_source};
@@ -39,8 +40,16 @@ fn eager(
     alloc: Global,
     language: &Rc<TheLanguage>,
     source: InMemorySource,
-) -> Result<EagerStore<AnyFilter, TagNode, BlockNode>, AllocError> {
+) -> Result<EagerStore<InMemorySource, Filters, Tags, Blocks>, AllocError> {
     EagerCompiler::new(source).compile(alloc, language.clone()?)
+}
+
+fn lazy(
+    alloc: Global,
+    language: &Rc<TheLanguage>,
+    source: InMemorySource,
+) -> Result<LazyStore<InMemorySource, Filters, Tags, Blocks>, AllocError> {
+    LazyCompiler::new(source).compile(alloc, language.clone()?)
 }
 
 fn on_demand(
@@ -56,7 +65,7 @@ fn is_rendered<S>(alloc: Global, language: &TheLanguage, row: &Row, store: S) ->
 where
     S: PartialStore<AnyFilter, TagNode, BlockNode> + Drop,
 {
-    let mut runtime = over(alloc, store, row.depth()?);
+    let mut runtime = row.over(alloc, store)?;
     let mut sink = TextSink::new(alloc);
     let answer = render_source(alloc, row.template(), language, &mut runtime, &mut sink);
     let error = error_text(alloc, &answer)?;
@@ -73,16 +82,21 @@ fn from_on_demand(alloc: Global, row: &Row, language: &Rc<TheLanguage>) -> Resul
     is_rendered(alloc, language, row, store)
 }
 
+fn from_lazy(alloc: Global, row: &Row, language: &Rc<TheLanguage>) -> Result<bool, Fail> {
+    let store = lazy(alloc, language, row.source(alloc)?)?;
+    is_rendered(alloc, language, row, store)
+}
+
 fn over_chained(alloc: Global, row: &Row, language: &Rc<TheLanguage>) -> Result<bool, Fail> {
     let store = eager(alloc, language, row.source(alloc)?)?;
-    let base = over(alloc, store, row.depth()?);
+    let base = row.over(alloc, store)?;
     let all = rendered_in::<Chained<_>, _, _, _>(alloc, row.template(), language, base)?;
     Ok(row.is_whole(all.as_str()))
 }
 
 fn over_flat(alloc: Global, row: &Row, language: &Rc<TheLanguage>) -> Result<bool, Fail> {
-    let store = on_demand(alloc, language, row.source(alloc)?)?;
-    let base = over(alloc, store, row.depth()?);
+    let store = lazy(alloc, language, row.source(alloc)?)?;
+    let base = row.over(alloc, store)?;
     let all = rendered_in::<Flat<_>, _, _, _>(alloc, row.template(), language, base)?;
     Ok(row.is_whole(all.as_str()))
 }
@@ -98,24 +112,32 @@ const ROWS: &str =
 {"partials": [["p", "old"], ["p", "new"]], "template": "{% inc p %}", "depth": 1, "written": "new"}
 {"partials": [["p", "{{ x }}{% set x 2 %}"]], "template": "{% set x 1 %}{% inc p %}{{ x }}", "depth": 1, "written": "12"}
 {"partials": [["p", "a{% brk %}b"]], "template": "{% box %}{% inc p %}c{% endbox %}d", "depth": 1, "written": "[a]"}
-{"partials": [["p", "{{ x }}"]], "template": "{% set x 1 %}a{% sbox %}{% inc p %}{% endsbox %}b", "depth": 1, "written": "a", "error": "liquid: Unknown variable\n  with:\n    requested variable=x\n"}
+{"partials": [["p", "{{ x }}"]], "template": "{% set x 1 %}a{% sbox %}{% inc p %}{% endsbox %}b", "depth": 1, "written": "a", "error": "liquid: Unknown variable\n  with:\n    requested variable=x\n", "lenient": {"written": "ab"}}
 {"partials": [["a", "1{% inc b %}"], ["b", "2{% inc c %}"], ["c", "3"]], "template": "{% inc a %}{% inc c %}", "depth": 3, "written": "1233"}
 {"partials": [["a", "1{% inc b %}"], ["b", "2{% inc c %}"], ["c", "3"]], "template": "{% inc a %}{% inc c %}", "depth": 2, "written": "12", "error": "liquid: Partials nest too deep\n"}
 {"partials": [["p", "{% box %}x"]], "template": "{% box %}a{% inc p %}{% endbox %}", "depth": 1, "written": "[a", "error": "liquid: Unclosed block. {% endbox %} tag expected. (line 1, column 11)\n"}"#;
 
-/// Whether a row holds of both stores, and of both forms of scopes.
-fn holds(alloc: Global, line: &str, language: &Rc<TheLanguage>) -> Result<bool, Fail> {
-    let row = Row::of(alloc, line)?;
+/// Whether a row holds of all three stores, and of both forms of scopes.
+fn holds_over_each(alloc: Global, row: &Row, language: &Rc<TheLanguage>) -> Result<bool, Fail> {
     Ok(
-        from_eager(alloc, &row, language)?
-            && from_on_demand(alloc, &row, language)?
-            && over_chained(alloc, &row, language)?
-            && over_flat(alloc, &row, language)?,
+        from_eager(alloc, row, language)?
+            && from_on_demand(alloc, row, language)?
+            && from_lazy(alloc, row, language)?
+            && over_chained(alloc, row, language)?
+            && over_flat(alloc, row, language)?,
     )
 }
 
+/// Whether the row of a line holds so where names are strict and where they are lenient.
+fn holds(alloc: Global, line: &str, language: &Rc<TheLanguage>) -> Result<bool, Fail> {
+    let row = Row::of(alloc, line)?;
+    let is_strict = holds_over_each(alloc, &row, language)?;
+    let row = row.leniently();
+    Ok(is_strict && holds_over_each(alloc, &row, language)?)
+}
+
 #[test]
-fn partials_are_rendered_from_both_stores(rt: HostRuntime) -> Result<(), Fail> {
+fn partials_are_rendered_from_all_stores(rt: HostRuntime) -> Result<(), Fail> {
     let alloc = rt.alloc();
     let language = Rc::new(alloc, language(alloc)?)?;
     for line in ROWS.lines() {
@@ -168,23 +190,49 @@ where
 }
 
 #[test]
-fn requests_have_the_same_answers_from_both_stores(rt: HostRuntime) -> Result<(), Fail> {
+fn requests_have_the_same_answers_from_all_stores(rt: HostRuntime) -> Result<(), Fail> {
     let alloc = rt.alloc();
     let language = Rc::new(alloc, language(alloc)?)?;
-    let mut kept = eager(alloc, &language, source(alloc, SOURCES)?)?;
-    let mut read = on_demand(alloc, &language, source(alloc, SOURCES)?)?;
+    let mut eager = eager(alloc, &language, source(alloc, SOURCES)?)?;
+    let mut lazy = lazy(alloc, &language, source(alloc, SOURCES)?)?;
+    let mut on_demand = on_demand(alloc, &language, source(alloc, SOURCES)?)?;
     for line in REQUESTS.lines() {
         let row = Line::of(alloc, line)?;
-        let first = answered(alloc, &mut kept, row.text(0)?)?;
-        let second = answered(alloc, &mut read, row.text(0)?)?;
+        let first = answered(alloc, &mut eager, row.text(0)?)?;
+        let second = answered(alloc, &mut lazy, row.text(0)?)?;
+        let third = answered(alloc, &mut on_demand, row.text(0)?)?;
         assert_eq!(rt; first.0.as_str(), row.text(1)?);
         assert_eq!(rt; second.0.as_str(), row.text(1)?);
-        assert!(rt; first.1 && second.1, "{line}");
+        assert_eq!(rt; third.0.as_str(), row.text(1)?);
+        assert!(rt; first.1 && second.1 && third.1, "{line}");
     }
-    assert_eq!(rt; kept.names(alloc)?.join(alloc, " ")?.as_str(), "bad p q");
-    assert_eq!(rt; read.names(alloc)?.join(alloc, " ")?.as_str(), "bad p q");
-    assert!(rt; kept.contains("bad") && read.contains("bad"));
-    assert!(rt; !kept.contains("none") && !read.contains("none"));
+    assert!(rt; lists_its_names(alloc, &eager)?);
+    assert!(rt; lists_its_names(alloc, &lazy)?);
+    assert!(rt; lists_its_names(alloc, &on_demand)?);
+    Ok(())
+}
+
+/// Whether the store of the sources has their names and no other.
+fn lists_its_names<S>(alloc: Global, store: &S) -> Result<bool, AllocError>
+where
+    S: PartialStore<AnyFilter, TagNode, BlockNode>,
+{
+    let names = store.names(alloc)?.join(alloc, " ")?;
+    Ok(names.as_str() == "bad p q" && store.contains("bad") && !store.contains("none"))
+}
+
+#[test]
+fn a_lazy_store_keeps_trees_and_faults(rt: HostRuntime) -> Result<(), Fail> {
+    let alloc = rt.alloc();
+    let language = Rc::new(alloc, language(alloc)?)?;
+    let mut store = lazy(alloc, &language, source(alloc, SOURCES)?)?;
+    assert!(rt; !store.is_kept("p") && !store.is_kept("bad"));
+    let _fault = store.get(alloc, "bad");
+    assert!(rt; store.is_kept("bad"));
+    let _absent = store.get(alloc, "none");
+    assert!(rt; !store.is_kept("none"));
+    let _tree = store.try_get(alloc, "p")?;
+    assert!(rt; store.is_kept("p") && !store.is_kept("q"));
     Ok(())
 }
 
@@ -258,5 +306,18 @@ fn each_store_reads_its_source_when_it_says(rt: HostRuntime) -> Result<(), Fail>
     let _first = store.try_get(alloc, "p")?;
     let _absent = store.try_get(alloc, "none")?;
     assert_eq!(rt; asked.get(), 5);
+    let counting = CountingSource {
+        source: source(alloc, SOURCES)?,
+        asked: asked.clone()?,
+    };
+    let mut store = LazyCompiler::new(counting).compile(alloc, language.clone()?)?;
+    assert_eq!(rt; asked.get(), 5);
+    let _first = store.get(alloc, "p")?;
+    let _second = store.get(alloc, "p")?;
+    let _absent = store.try_get(alloc, "none")?;
+    assert_eq!(rt; asked.get(), 6);
+    let _fault = store.get(alloc, "bad");
+    let _again = store.try_get(alloc, "bad")?;
+    assert_eq!(rt; asked.get(), 7);
     Ok(())
 }

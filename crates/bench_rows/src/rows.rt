@@ -9,10 +9,12 @@ use std::test::Fail;
 
 /// A template, the globals that it sees, what it writes, and the text of its error; the partials in
 /// their order, and how many of them may be open inside one another; and what it leaves assigned.
-/// Without `globals` there are none, and without `error` there is no error.
+/// Without `globals` there are none, and without `error` there is no error. What the row comes to where
+/// names are lenient is its member `lenient`, or the same where it has none.
 #[derive(Drop)]
 pub(crate) struct Row {
     json: Json,
+    lenient: bool,
 }
 
 impl Row {
@@ -22,7 +24,29 @@ impl Row {
         if json.get("template").is_none() || json.get("written").is_none() {
             return Err(Fail::from("a row has no template, or nothing that it writes"));
         }
-        Ok(Row { json })
+        Ok(Row {
+            json,
+            lenient: false,
+        })
+    }
+
+    /// The same row over a runtime whose names are lenient.
+    pub(crate) fn leniently(self) -> Row {
+        Row {
+            json: self.json,
+            lenient: true,
+        }
+    }
+
+    /// What the row writes, or the text of its error.
+    fn answer(&self, name: &str) -> &str {
+        match self.json.get("lenient") {
+            Some(answer) if self.lenient => match answer.get(name) {
+                Some(member) => member.as_str().unwrap_or(""),
+                None => "",
+            },
+            _ => self.text(name),
+        }
     }
 
     fn text(&self, name: &str) -> &str {
@@ -37,11 +61,11 @@ impl Row {
     }
 
     pub(crate) fn written(&self) -> &str {
-        self.text("written")
+        self.answer("written")
     }
 
     pub(crate) fn error(&self) -> &str {
-        self.text("error")
+        self.answer("error")
     }
 
     pub(crate) fn globals(&self, alloc: Global) -> Result<Object, Fail> {
@@ -54,7 +78,28 @@ impl Row {
     /// A runtime of the row's globals.
     pub(crate) fn runtime(&self, alloc: Global) -> Result<BuiltRuntime<(), ()>, Fail> {
         let globals = self.globals(alloc)?;
-        Ok(RuntimeBuilder::new(alloc).set_globals(globals).build())
+        Ok(
+            RuntimeBuilder::new(alloc)
+                .set_globals(globals)
+                .set_lenient(self.lenient)
+                .build(),
+        )
+    }
+
+    /// A runtime over a store, in which as many partials may be open as the row says.
+    pub(crate) fn over<P: Drop>(
+        &self,
+        alloc: Global,
+        store: P,
+    ) -> Result<BuiltRuntime<(), P>, Fail> {
+        let depth = self.depth()?;
+        Ok(
+            RuntimeBuilder::new(alloc)
+                .set_partials(store)
+                .set_depth(depth)
+                .set_lenient(self.lenient)
+                .build(),
+        )
     }
 
     /// The text of what a name is left as, or none where the row leaves it as it was.
@@ -68,7 +113,7 @@ impl Row {
         }
     }
 
-    pub(crate) fn depth(&self) -> Result<u32, Fail> {
+    fn depth(&self) -> Result<u32, Fail> {
         match self.json.get("depth") {
             Some(depth) => match depth.as_u64() {
                 Some(depth) => Ok(u32::try_from(depth)?),

@@ -1,7 +1,8 @@
 //! Templates of the program's language with what they come to, by each of the calls that render them.
-use crate::both_scopes::{Chained, Flat, rendered_in};
+use crate::both_scopes::rendered_in;
 use crate::given::error_text;
 use crate::rows::Row;
+use bench::forms::{Chained, Flat};
 use bench::languages::language;
 use liquid_core::parser::{Language, ParseBlock, ParseFilter, ParseTag, parse};
 use liquid_core::runtime::{Renderable, Template};
@@ -17,7 +18,7 @@ const NAMES: &str =
 {"template": "    \n    {{- exp }}    \n    ", "globals": {"exp": 5}, "written": "5    \n    "}
 {"template": "    \n    {{ exp -}}    \n    ", "globals": {"exp": 5}, "written": "    \n    5"}
 {"template": "    \n    {{- exp -}}    \n    ", "globals": {"exp": 5}, "written": "5"}
-{"template": "a{{ x }}b", "written": "a", "error": "liquid: Unknown variable\n  with:\n    requested variable=x\n"}
+{"template": "a{{ x }}b", "written": "a", "error": "liquid: Unknown variable\n  with:\n    requested variable=x\n", "lenient": {"written": "ab"}}
 {"template": "{{ ! }}", "written": "", "error": "liquid: Invalid liquid (line 1, column 1)\n"}
 {"template": "a \n {{- ! }}", "written": "", "error": "liquid: Invalid liquid (line 2, column 2)\n"}
 {"template": "é€😀{{ ! }}", "written": "", "error": "liquid: Invalid liquid (line 1, column 4)\n"}
@@ -35,15 +36,18 @@ const EXPRESSIONS: &str = r#"{"template": "a {{-5}} b", "written": "a5 b"}
 {"template": "{{ 9223372036854775808 }}", "written": "", "error": "liquid: Integer out of range (line 1, column 4)\n"}
 {"template": "{{ -9223372036854775808 }}", "written": "-9223372036854775808"}
 {"template": "{{ a.size.size }}", "globals": {"a": [0, 1, 2, 3, 4, 5, 6, 7, 8, 9]}, "written": "2"}
-{"template": "{{ a[-11] }}", "globals": {"a": [0, 1, 2, 3, 4, 5, 6, 7, 8, 9]}, "written": "", "error": "liquid: Unknown index\n  with:\n    variable=a\n    requested index=-11\n    available indexes=0..9, first, last\n"}
+{"template": "{{ a[-11] }}", "globals": {"a": [0, 1, 2, 3, 4, 5, 6, 7, 8, 9]}, "written": "", "error": "liquid: Unknown index\n  with:\n    variable=a\n    requested index=-11\n    available indexes=0..9, first, last\n", "lenient": {"written": ""}}
 {"template": "{{ a[-1] }}{{ a.first }}{{ a['last'] }}", "globals": {"a": [0, 1, 2, 3, 4, 5, 6, 7, 8, 9]}, "written": "909"}
 {"template": "{{ 5 | fail }}", "written": "", "error": "liquid: bad\nfrom: Filter error\n  with:\n    filter=fail\n    input=5\n"}
 {"template": "{{ a | nope }}", "written": "", "error": "liquid: Unknown filter (line 1, column 8)\n  with:\n    requested filter=nope\n    available filters=append, fail\n"}
 {"template": "{{ \"a\" | append: \"b\" | append: 1 }}", "written": "ab1"}
 {"template": "{{ a[b] }}", "globals": {"a": {"b": 2, "a": "x"}, "b": [1, "a", null]}, "written": "", "error": "liquid: Expected scalar\n  with:\n    found=[1, a, , ]\n"}
-{"template": "{{ x[y] }}", "written": "", "error": "liquid: Unknown variable\n  with:\n    requested variable=y\n"}
+{"template": "{{ x[y] }}", "written": "", "error": "liquid: Unknown variable\n  with:\n    requested variable=y\n", "lenient": {"written": "", "error": "liquid: Expected scalar\n  with:\n    found=nil\n"}}
+{"template": "{{ x | append: \"y\" }}", "written": "", "error": "liquid: Unknown variable\n  with:\n    requested variable=x\n", "lenient": {"written": "y"}}
+{"template": "{{ x.y }}", "globals": {"x": {"z": 1}}, "written": "", "error": "liquid: Unknown index\n  with:\n    variable=x\n    requested index=y\n    available indexes=z\n", "lenient": {"written": ""}}
+{"template": "{{ x[b] }}", "globals": {"x": {"z": 1}}, "written": "", "error": "liquid: Unknown variable\n  with:\n    requested variable=b\n", "lenient": {"written": "", "error": "liquid: Expected scalar\n  with:\n    found=nil\n"}}
 {"template": "{{ 5 | append }}", "written": "", "error": "liquid: Unexpected arguments\nfrom: Filter parsing error\n  with:\n    filter=append\n"}
-{"template": "a {{ p.a | append: p['b'] }}{{ p.c }}", "globals": {"p": {"b": 2, "a": "x"}}, "written": "a x2", "error": "liquid: Unknown index\n  with:\n    variable=p\n    requested index=c\n    available indexes=a, b\n"}"#;
+{"template": "a {{ p.a | append: p['b'] }}{{ p.c }}", "globals": {"p": {"b": 2, "a": "x"}}, "written": "a x2", "error": "liquid: Unknown index\n  with:\n    variable=p\n    requested index=c\n    available indexes=a, b\n", "lenient": {"written": "a x2"}}"#;
 
 /// Tags and blocks.
 const BLOCKS: &str = r#"{"template": "{% raw %}{{ a }}{{% endraw %}", "written": "{{ a }}{"}
@@ -65,9 +69,9 @@ const BLOCKS: &str = r#"{"template": "{% raw %}{{ a }}{{% endraw %}", "written":
 const FRAMES: &str =
     r#"{"template": "{% with x 1 %}{% set x 2 %}{{ x }}{% endwith %}{{ x }}", "written": "12"}
 {"template": "{% set g 1 %}{% glob %}{{ g }}{% set g 5 %}{{ g }}{% endglob %}{{ g }}", "written": "151"}
-{"template": "{% glob %}{% set g 5 %}{{ g }}{% endglob %}{{ g }}", "written": "5", "error": "liquid: Unknown variable\n  with:\n    requested variable=g\n"}
+{"template": "{% glob %}{% set g 5 %}{{ g }}{% endglob %}{{ g }}", "written": "5", "error": "liquid: Unknown variable\n  with:\n    requested variable=g\n", "lenient": {"written": "5"}}
 {"template": "{% inc p %}", "written": "", "error": "liquid: Partial does not exist\n  with:\n    name=p\n"}
-{"template": "{% sbox %}{{ x }}{% endsbox %}", "globals": {"x": 1}, "written": "", "error": "liquid: Unknown variable\n  with:\n    requested variable=x\n"}
+{"template": "{% sbox %}{{ x }}{% endsbox %}", "globals": {"x": 1}, "written": "", "error": "liquid: Unknown variable\n  with:\n    requested variable=x\n", "lenient": {"written": ""}}
 {"template": "{% sbox %}{% set x 2 %}{% endsbox %}{{ x }}", "globals": {"x": 1}, "written": "2"}
 {"template": "{% set %}", "written": "", "error": "liquid: Token expected (line 1, column 7)\n"}"#;
 
@@ -143,7 +147,29 @@ where
     Ok(row.is_whole(all.as_str()))
 }
 
-/// Whether the row of a line holds of each of the calls.
+/// Whether a row holds of each of the calls.
+fn holds_by_each<F, T, B>(
+    alloc: Global,
+    row: &Row,
+    language: &Language<F, T, B>,
+) -> Result<bool, Fail>
+where
+    F: ParseFilter + Drop,
+    T: ParseTag<F> + Drop,
+    B: ParseBlock<F> + Drop,
+    T::Node: Renderable<()>,
+    B::Node: Renderable<()>,
+{
+    Ok(
+        at_once(alloc, row, language)?
+            && in_two_steps(alloc, row, language)?
+            && over_chained(alloc, row, language)?
+            && over_flat(alloc, row, language)?,
+    )
+}
+
+/// Whether the row of a line holds of each of the calls, where names are strict and where they are
+/// lenient.
 pub(crate) fn holds<F, T, B>(
     alloc: Global,
     line: &str,
@@ -157,12 +183,9 @@ where
     B::Node: Renderable<()>,
 {
     let row = Row::of(alloc, line)?;
-    Ok(
-        at_once(alloc, &row, language)?
-            && in_two_steps(alloc, &row, language)?
-            && over_chained(alloc, &row, language)?
-            && over_flat(alloc, &row, language)?,
-    )
+    let is_strict = holds_by_each(alloc, &row, language)?;
+    let row = row.leniently();
+    Ok(is_strict && holds_by_each(alloc, &row, language)?)
 }
 
 #[test]

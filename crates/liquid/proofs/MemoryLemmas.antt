@@ -7,18 +7,19 @@ use Rattle.liquid_error.specs.Told.{told}
 use Rattle.liquid_runtime.specs.Maps.{Names}
 use Rattle.liquid_template.specs.Sunk.{Sunk}
 use Rattle.liquid_template.proofs.Framing.{renders_memory}
-use Rattle.bench.specs.ProgramLanguage.{ProgramAnswer}
-use Rattle.liquid_source.specs.Rendered.{RenderedBy}
+use Rattle.liquid_partials.specs.Rendered.{RenderedBy}
 use Rattle.liquid_partials.specs.Sources.{Texts}
-use Rattle.liquid.specs.Program.{Renders, ProgramFound, built_over, program_action, runtime_names}
+use Rattle.liquid.specs.declared.command.Options.{Options}
+use Rattle.liquid.specs.ProgramLanguage.{ProgramAnswer, ProgramFound}
+use Rattle.liquid.specs.Program.{Renders, first_view, program_action}
 
-nothing_comes : (sandboxed : Bool) (globals : Names) (at : Sunk) (error : Error) → told error ≡ None → (answer : ProgramAnswer) (found : Option ProgramFound)
-    → RenderedBy (program_action sandboxed found globals) answer (built_over (runtime_names sandboxed globals)) at at (built_over (runtime_names sandboxed globals)) (Err error)
-nothing_comes sandboxed globals at error memory (Ok nodes) found =
-    renders_memory (program_action sandboxed found globals nodes (built_over (runtime_names sandboxed globals))) (built_over (runtime_names sandboxed globals)) at error memory
-nothing_comes sandboxed globals at error memory (Err refusal) found =
+nothing_comes : (options : Options) (globals : Names) (at : Sunk) (error : Error) → told error ≡ None → (answer : ProgramAnswer) (found : Option ProgramFound)
+    → RenderedBy (program_action options.sandboxed found globals) answer (first_view options globals) at at (first_view options globals) (Err error)
+nothing_comes options globals at error memory (Ok nodes) found =
+    renders_memory (program_action options.sandboxed found globals nodes (first_view options globals)) (first_view options globals) at error memory
+nothing_comes options globals at error memory (Err refusal) found =
     (refl, (refl, subst (λ (o : Option Refusal). IfSome o (λ reason. reason ≡ refusal)) (sym memory) tt))
 
-pub nothing_rendered : (sandboxed : Bool) (text : List ℕ) (globals : Names) (partials : Option Texts) (at : Sunk) (error : Error) → told error ≡ None → Renders sandboxed text globals partials at at (Err error)
-nothing_rendered sandboxed text globals partials at error memory =
-    record { left = built_over (runtime_names sandboxed globals); rendered = λ answer reads found is_found. nothing_comes sandboxed globals at error memory answer found }
+pub nothing_rendered : (options : Options) (text : List ℕ) (globals : Names) (partials : Option Texts) (at : Sunk) (error : Error) → told error ≡ None → Renders options text globals partials at at (Err error)
+nothing_rendered options text globals partials at error memory =
+    record { left = first_view options globals; rendered = λ answer reads found is_found. nothing_comes options globals at error memory answer found }

@@ -4,19 +4,16 @@ use Rattle.std.specs.Io.KnownBytes.{Appends, Keeps}
 use Rattle.liquid_error.specs.declared.error.Error.{Error}
 use Rattle.liquid_runtime.specs.Maps.{Names}
 use Rattle.liquid_runtime.specs.View.{View}
-use Rattle.liquid_parser.specs.Lang.{Lang}
 use Rattle.liquid_parser.specs.Reading.{Reads}
 use Rattle.liquid_template.specs.Grows.{Grows}
 use Rattle.liquid_template.specs.Sunk.{Sunk, sunk}
-use Rattle.bench.specs.declared.filters.AnyShape.{AnyShape}
-use Rattle.bench.specs.declared.tags.TagShape.{TagShape}
-use Rattle.bench.specs.declared.blocks.BlockShape.{BlockShape}
-use Rattle.bench.specs.ProgramLanguage.{ProgramAnswer, program_language}
-use Rattle.liquid_source.specs.Rendered.{RenderedBy}
+use Rattle.liquid_partials.specs.Rendered.{RenderedBy}
 use Rattle.liquid_partials.specs.Compiled.{Compiled}
 use Rattle.liquid_partials.specs.Sources.{Texts}
 use Rattle.liquid_partials.proofs.StoreLemmas.{one_store}
-use Rattle.liquid.specs.Program.{ProgramFound, IsFoundIn, Renders, Runs, Prints, built_over, program_action, runtime_names}
+use Rattle.liquid.specs.ProgramLanguage.{ProgramAnswer, ProgramFound, ProgramLang, program_language}
+use Rattle.liquid.specs.Program.{IsFoundIn, Renders, Runs, Prints, built_over, program_action, runtime_names}
+use Rattle.liquid.specs.declared.command.Options.{Options}
 use Rattle.liquid.specs.Status.{settled}
 
 -- a source has at most one store
@@ -27,16 +24,18 @@ one_found (Some texts) (Some found) None is also = absurd also
 one_found (Some texts) (Some found) (Some other) is also = ap Some (sym (one_store program_language texts found other is also))
 
 -- a language that means the program's, what the runtime's store finds, and the view of a built runtime
-pub Renders-over : (sandboxed : Bool) (l : Lang AnyShape TagShape BlockShape BlockShape) (stored : Option ProgramFound) (v left : View (Unit {0})) (names : Names) (partials : Option Texts) (text : List ℕ) (before after : Sunk) (result : Result (Unit {0}) Error) (found : Option ProgramFound)
+pub Renders-over : (options : Options) (sandboxed : Bool) (l : ProgramLang) (stored : Option ProgramFound) (v left : View (Unit {0})) (names : Names) (partials : Option Texts) (text : List ℕ) (before after : Sunk) (result : Result (Unit {0}) Error) (found : Option ProgramFound)
+    → options.sandboxed ≡ sandboxed
     → ((answer : ProgramAnswer) → Reads l text answer → RenderedBy (program_action sandboxed stored names) answer v before after left result)
-    → l ≡ program_language → stored ≡ found → v ≡ built_over (runtime_names sandboxed names) → IsFoundIn partials found
-    → Renders sandboxed text names partials before after result
-Renders-over sandboxed l stored v left names partials text before after result found given same_l same_stored same_v is_found =
+    → l ≡ program_language → stored ≡ found → v ≡ built_over options.lenient (runtime_names sandboxed names) → IsFoundIn partials found
+    → Renders options text names partials before after result
+Renders-over options sandboxed l stored v left names partials text before after result found is given same_l same_stored same_v is_found =
     record {
       left = left;
       rendered = λ answer reads other is_other.
-          subst (λ w. RenderedBy (program_action sandboxed other names) answer w before after left result) same_v
-          (subst (λ t. RenderedBy (program_action sandboxed t names) answer v before after left result) (same_stored ∙ one_found partials found other is_found is_other) (given answer (subst (λ m. Reads m text answer) (sym same_l) reads)));
+          subst (λ w. RenderedBy (program_action options.sandboxed other names) answer w before after left result) (same_v ∙ ap (λ b. built_over options.lenient (runtime_names b names)) (sym is))
+          (subst (λ b. RenderedBy (program_action b other names) answer v before after left result) (sym is)
+          (subst (λ t. RenderedBy (program_action sandboxed t names) answer v before after left result) (same_stored ∙ one_found partials found other is_found is_other) (given answer (subst (λ m. Reads m text answer) (sym same_l) reads))));
     }
 
 appends_kept : (before between after : Option (List ℕ)) (more : List ℕ) → Appends before between more → Keeps between after → Appends before after more
@@ -72,7 +71,7 @@ Prints-settled words known listed taken failures behind lent taken_after failure
     }
 
 -- a store that was compiled of the partials
-pub found_in : (partials : Option Texts) (source texts : Texts) (l : Lang AnyShape TagShape BlockShape BlockShape) (found : ProgramFound)
+pub found_in : (partials : Option Texts) (source texts : Texts) (l : ProgramLang) (found : ProgramFound)
     → partials ≡ Some source → texts ≡ source → l ≡ program_language → Compiled l texts found → IsFoundIn partials (Some found)
 found_in partials source texts l found is same_texts same_l compiled =
     subst (λ p. IsFoundIn p (Some found)) (sym is)

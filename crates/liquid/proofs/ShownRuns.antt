@@ -11,13 +11,14 @@ use Rattle.liquid_template.specs.Run.{Run, pieces, written}
 use Rattle.liquid_template.specs.Sunk.{Sunk, sunk}
 use Rattle.liquid_template.specs.Outcome.{BrokenOff, Cut, Stopped, Outcome}
 use Rattle.liquid_template.proofs.Joins.{pieces-append}
-use Rattle.bench.specs.ProgramLanguage.{ProgramAnswer}
-use Rattle.liquid_source.specs.Rendered.{RenderedBy}
+use Rattle.liquid_partials.specs.Rendered.{RenderedBy}
 use Rattle.liquid_partials.specs.Sources.{Texts}
-use Rattle.liquid.specs.Program.{ProgramFound, built_over, program_action, runtime_names, status_of, Fails, Finishes, Executes, Prints}
-use Rattle.liquid.specs.Command.{is_sandboxed, paths_of}
+use Rattle.liquid.specs.ProgramLanguage.{ProgramAnswer, ProgramFound}
+use Rattle.liquid.specs.Program.{first_view, program_action, status_of, Fails, Finishes, Executes, Prints}
+use Rattle.liquid.specs.Command.{options_of, paths_of}
 use Rattle.liquid.specs.Status.{settled}
 use Rattle.liquid.specs.InMemory.{IsBeginning, IsWhole, program_run, ShowsAnswer, ShowsNothing, ShowsText, ShowsCommand, Shows}
+use Rattle.liquid.specs.declared.command.Options.{Options}
 use Rattle.liquid.proofs.GatheredLemmas.{gathers_follow}
 
 refused_status : (flushed : Bool) → settled 1 flushed ≡ 1
@@ -69,28 +70,28 @@ module _ (behind behind_after : Option (List ℕ)) (lent : List ℕ) where
   shown_outcome r output failures flushed left (Ok u) o = shown_whole r output flushed o.0.taken o.1
   shown_outcome r output failures flushed left (Err error) o = inr (refused_status flushed, stopped_begins r output failures left (told error) o)
 
-  shown_answer : (sandboxed : Bool) (globals : Names) (found : Option ProgramFound) (answer : ProgramAnswer) (output : List ℕ) (failures : ℕ) (flushed : Bool) (left : View (Unit {0})) (result : Result (Unit {0}) Error)
-      → RenderedBy (program_action sandboxed found globals) answer (built_over (runtime_names sandboxed globals)) fresh (filled output failures) left result
-      → ShowsAnswer (program_run sandboxed globals found) answer output (settled (status_of result) flushed)
-  shown_answer sandboxed globals found (Ok nodes) output failures flushed left result o = shown_outcome (program_run sandboxed globals found nodes) output failures flushed left result o.outcome
-  shown_answer sandboxed globals found (Err refusal) output failures flushed left (Ok u) o = absurd o.1.1
-  shown_answer sandboxed globals found (Err refusal) output failures flushed left (Err error) o = (ap (λ s. s.taken) o.0, refused_status flushed)
+  shown_answer : (options : Options) (globals : Names) (found : Option ProgramFound) (answer : ProgramAnswer) (output : List ℕ) (failures : ℕ) (flushed : Bool) (left : View (Unit {0})) (result : Result (Unit {0}) Error)
+      → RenderedBy (program_action options.sandboxed found globals) answer (first_view options globals) fresh (filled output failures) left result
+      → ShowsAnswer (program_run options globals found) answer output (settled (status_of result) flushed)
+  shown_answer options globals found (Ok nodes) output failures flushed left result o = shown_outcome (program_run options globals found nodes) output failures flushed left result o.outcome
+  shown_answer options globals found (Err refusal) output failures flushed left (Ok u) o = absurd o.1.1
+  shown_answer options globals found (Err refusal) output failures flushed left (Err error) o = (ap (λ s. s.taken) o.0, refused_status flushed)
 
   shown_nothing : (output : List ℕ) (failures answered : ℕ) (flushed : Bool) → Fails fresh (filled output failures) answered → ShowsNothing output (settled answered flushed)
   shown_nothing output failures answered flushed (same, inl is) = (ap (λ s. s.taken) same, inl (rw is (unread_status flushed)))
   shown_nothing output failures answered flushed (same, inr is) = (ap (λ s. s.taken) same, inr (rw is (refused_status flushed)))
 
-  shown_text : (sandboxed : Bool) (text : List ℕ) (globals : Names) (partials : Option Texts) (output : List ℕ) (failures answered : ℕ) (flushed : Bool)
-      → Finishes sandboxed text globals partials fresh (filled output failures) answered → ShowsText sandboxed text globals partials output (settled answered flushed)
-  shown_text sandboxed text globals partials output failures answered flushed finishes = λ answer reads found is_found.
-      subst (λ s. ShowsAnswer (program_run sandboxed globals found) answer output (settled s flushed)) (sym finishes.status_is)
-      (shown_answer sandboxed globals found answer output failures flushed finishes.renders.left finishes.result (finishes.renders.rendered answer reads found is_found))
+  shown_text : (options : Options) (text : List ℕ) (globals : Names) (partials : Option Texts) (output : List ℕ) (failures answered : ℕ) (flushed : Bool)
+      → Finishes options text globals partials fresh (filled output failures) answered → ShowsText options text globals partials output (settled answered flushed)
+  shown_text options text globals partials output failures answered flushed finishes = λ answer reads found is_found.
+      subst (λ s. ShowsAnswer (program_run options globals found) answer output (settled s flushed)) (sym finishes.status_is)
+      (shown_answer options globals found answer output failures flushed finishes.renders.left finishes.result (finishes.renders.rendered answer reads found is_found))
 
-  shown_command : (sandboxed : Bool) (paths : List (List ℕ)) (files : List ℕ → Option (List ℕ)) (folders : List ℕ → Option (List (List ℕ))) (output : List ℕ) (failures answered : ℕ) (flushed : Bool)
-      → Executes sandboxed paths (λ path. Some (files path)) (λ path. Some (folders path)) fresh (filled output failures) answered → ShowsCommand sandboxed paths files folders output (settled answered flushed)
-  shown_command sandboxed paths files folders output failures answered flushed runs =
+  shown_command : (options : Options) (paths : List (List ℕ)) (files : List ℕ → Option (List ℕ)) (folders : List ℕ → Option (List (List ℕ))) (output : List ℕ) (failures answered : ℕ) (flushed : Bool)
+      → Executes options paths (λ path. Some (files path)) (λ path. Some (folders path)) fresh (filled output failures) answered → ShowsCommand options paths files folders output (settled answered flushed)
+  shown_command options paths files folders output failures answered flushed runs =
       gathers_follow paths (λ path. Some (files path)) (λ path. Some (folders path)) _ _ _ _ (shown_nothing output failures answered flushed)
-      (λ text globals partials. shown_text sandboxed text globals partials output failures answered flushed) runs
+      (λ text globals partials. shown_text options text globals partials output failures answered flushed) runs
 
 -- what is printed to an empty output is what the words show
 pub Shows-printed : (words : List (List ℕ)) (files : List ℕ → Option (List ℕ)) (folders : List ℕ → Option (List (List ℕ))) (output : List ℕ) (status : ℕ)
@@ -98,6 +99,6 @@ pub Shows-printed : (words : List (List ℕ)) (files : List ℕ → Option (List
 Shows-printed words files folders output status p =
     let same : p.taken ≡ output = sym p.appended in
     subst (λ s. Shows words files folders output s) (sym p.status_is) (subst (λ o. Shows words files folders o (settled p.answered p.flushed)) same (
-      λ command. shown_command (Some []) p.behind p.lent (is_sandboxed words) (paths_of words) files folders p.taken p.failures p.answered p.flushed (p.runs.0 command),
+      λ command. shown_command (Some []) p.behind p.lent (options_of words) (paths_of words) files folders p.taken p.failures p.answered p.flushed (p.runs.0 command),
       λ none. (ap (λ s. s.taken) (p.runs.1 none).0, rw (p.runs.1 none).1 (usage_status p.flushed)),
     ))

@@ -1,24 +1,38 @@
--- The command line `render [--sandboxed] TEMPLATE GLOBALS.json [DIR]`.
-use Rattle.std.specs.Prelude.{◌&&◌, ℕ, List, [], ◌∷◌, Bool, false, not, Option, None, Some, codes, nat_eq, if◌then◌else◌}
+-- The command line `render [--sandboxed] [--lenient] TEMPLATE GLOBALS.json [DIR]`.
+use Rattle.std.specs.Prelude.{◌&&◌, ℕ, List, [], ◌∷◌, Bool, true, false, not, Option, None, Some, codes, nat_eq, if◌then◌else◌}
 use Rattle.std.specs.Str.{bytes_eq}
 use Rattle.std.specs.List.{starts_with}
+use Rattle.liquid.specs.declared.command.Options.{Options}
 
 -- `render`
 abbrev pub is_verb : List ℕ → Bool
 is_verb word = bytes_eq word (codes "render")
 
--- `--sandboxed`
-abbrev pub is_option : List ℕ → Bool
-is_option word = bytes_eq word (codes "--sandboxed")
+-- whether the words begin with this option, and what stands behind it
+abbrev pub begin_with : List ℕ → List (List ℕ) → Bool
+begin_with option [] = false
+begin_with option (word ∷ words) = bytes_eq word option
 
--- whether the words begin with the option, and what stands behind it
-abbrev pub begin_with_option : List (List ℕ) → Bool
-begin_with_option [] = false
-begin_with_option (word ∷ words) = is_option word
+abbrev pub behind : List ℕ → List (List ℕ) → List (List ℕ)
+behind option [] = []
+behind option (word ∷ words) = if bytes_eq word option then words else word ∷ words
 
-abbrev pub behind_option : List (List ℕ) → List (List ℕ)
-behind_option [] = []
-behind_option (word ∷ words) = if is_option word then words else word ∷ words
+abbrev pub sandboxed_word : List ℕ
+sandboxed_word = codes "--sandboxed"
+
+abbrev pub lenient_word : List ℕ
+lenient_word = codes "--lenient"
+
+-- the options stand in front, in either order, each at most once
+abbrev pub options_in : List (List ℕ) → Options
+options_in words =
+    if begin_with sandboxed_word words then record { sandboxed = true; lenient = begin_with lenient_word (behind sandboxed_word words) }
+    else record { sandboxed = begin_with sandboxed_word (behind lenient_word words); lenient = begin_with lenient_word words }
+
+-- what stands behind them
+abbrev pub paths_in : List (List ℕ) → List (List ℕ)
+paths_in words =
+    if begin_with sandboxed_word words then behind lenient_word (behind sandboxed_word words) else behind sandboxed_word (behind lenient_word words)
 
 -- a word that begins with `--` is no path of a template
 abbrev pub is_path : List ℕ → Bool
@@ -33,16 +47,16 @@ are_paths other = false
 -- whether the words are a command
 abbrev pub is_command : List (List ℕ) → Bool
 is_command [] = false
-is_command (verb ∷ words) = is_verb verb && are_paths (behind_option words)
+is_command (verb ∷ words) = is_verb verb && are_paths (paths_in words)
 
--- whether a command is to render in a sandbox, and the paths that it names
-abbrev pub is_sandboxed : List (List ℕ) → Bool
-is_sandboxed [] = false
-is_sandboxed (verb ∷ words) = begin_with_option words
+-- the options of a command, and the paths that it names
+abbrev pub options_of : List (List ℕ) → Options
+options_of [] = record { sandboxed = false; lenient = false }
+options_of (verb ∷ words) = options_in words
 
 abbrev pub paths_of : List (List ℕ) → List (List ℕ)
 paths_of [] = []
-paths_of (verb ∷ words) = behind_option words
+paths_of (verb ∷ words) = paths_in words
 
 -- a word that may be left out
 abbrev pub option_words : Option (List ℕ) → List (List ℕ)

@@ -5,11 +5,12 @@ use Rattle.liquid_runtime.specs.Maps.{Names}
 use Rattle.liquid_parser.specs.Reading.{Reads}
 use Rattle.liquid_template.specs.Run.{Run, written}
 use Rattle.liquid_partials.specs.Sources.{Texts}
-use Rattle.bench.specs.ProgramLanguage.{ProgramAnswer, ProgramNode, program_language}
 use Rattle.liquid.specs.declared.in_memory.InMemoryFolder.{InMemoryFolder}
-use Rattle.liquid.specs.Command.{is_command, is_sandboxed, paths_of}
+use Rattle.liquid.specs.Command.{is_command, options_of, paths_of}
+use Rattle.liquid.specs.declared.command.Options.{Options}
 use Rattle.liquid.specs.Gathered.{Gathers}
-use Rattle.liquid.specs.Program.{ProgramFound, IsFoundIn, built_over, program_action, runtime_names}
+use Rattle.liquid.specs.Program.{IsFoundIn, first_view, program_action}
+use Rattle.liquid.specs.ProgramLanguage.{ProgramAnswer, ProgramFound, ProgramNode, program_language}
 
 -- the bytes of the file at a path
 abbrev pub bytes_at : InMemoryFolder → List ℕ → Option (List ℕ)
@@ -27,9 +28,9 @@ IsWhole r output = (output ≡ written r) × (r.refusal ≡ None)
 abbrev pub IsBeginning : Run (Unit {0}) → List ℕ → Type 0
 IsBeginning r output = (left : List ℕ) × (written r ≡ output ++ left)
 
--- what the program's templates of these nodes come to, in a sandbox or not, over these globals, where a store finds this
-abbrev pub program_run : Bool → Names → Option ProgramFound → List ProgramNode → Run (Unit {0})
-program_run sandboxed globals found nodes = program_action sandboxed found globals nodes (built_over (runtime_names sandboxed globals))
+-- what the program's templates of these nodes come to, by these options, over these globals, where a store finds this
+abbrev pub program_run : Options → Names → Option ProgramFound → List ProgramNode → Run (Unit {0})
+program_run options globals found nodes = program_action options.sandboxed found globals nodes (first_view options globals)
 
 -- status 0 shows the whole run of what the text is read as, status 1 a beginning of it; a text that is refused shows nothing
 abbrev pub ShowsAnswer : (List ProgramNode → Run (Unit {0})) → ProgramAnswer → List ℕ → ℕ → Type 0
@@ -41,16 +42,16 @@ abbrev pub ShowsNothing : List ℕ → ℕ → Type 0
 ShowsNothing output status = (output ≡ []) × ((status ≡ 3) ⊎ (status ≡ 1))
 
 -- the template's text over the globals, with a store of the partials
-abbrev pub ShowsText : Bool → List ℕ → Names → Option Texts → List ℕ → ℕ → Type 0
-ShowsText sandboxed text globals partials output status =
-    (answer : ProgramAnswer) → Reads program_language text answer → (found : Option ProgramFound) → IsFoundIn partials found → ShowsAnswer (program_run sandboxed globals found) answer output status
+abbrev pub ShowsText : Options → List ℕ → Names → Option Texts → List ℕ → ℕ → Type 0
+ShowsText options text globals partials output status =
+    (answer : ProgramAnswer) → Reads program_language text answer → (found : Option ProgramFound) → IsFoundIn partials found → ShowsAnswer (program_run options globals found) answer output status
 
 -- what a command shows, by the files at its paths
-abbrev pub ShowsCommand : Bool → List (List ℕ) → (List ℕ → Option (List ℕ)) → (List ℕ → Option (List (List ℕ))) → List ℕ → ℕ → Type 0
-ShowsCommand sandboxed paths files folders output status =
-    Gathers paths (λ path. Some (files path)) (λ path. Some (folders path)) (ShowsNothing output status) (λ text globals partials. ShowsText sandboxed text globals partials output status)
+abbrev pub ShowsCommand : Options → List (List ℕ) → (List ℕ → Option (List ℕ)) → (List ℕ → Option (List (List ℕ))) → List ℕ → ℕ → Type 0
+ShowsCommand options paths files folders output status =
+    Gathers paths (λ path. Some (files path)) (λ path. Some (folders path)) (ShowsNothing output status) (λ text globals partials. ShowsText options text globals partials output status)
 
 -- what the words show, by the files; words that are no command show nothing
 abbrev pub Shows : List (List ℕ) → (List ℕ → Option (List ℕ)) → (List ℕ → Option (List (List ℕ))) → List ℕ → ℕ → Type 0
 Shows words files folders output status =
-    (is_command words ≡ true → ShowsCommand (is_sandboxed words) (paths_of words) files folders output status) × (is_command words ≡ false → (output ≡ []) × (status ≡ 2))
+    (is_command words ≡ true → ShowsCommand (options_of words) (paths_of words) files folders output status) × (is_command words ≡ false → (output ≡ []) × (status ≡ 2))

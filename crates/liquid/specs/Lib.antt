@@ -4,5 +4,6 @@ pub mod Globals
 pub mod Gathered
 pub mod InMemory
 pub mod Program
+pub mod ProgramLanguage
 pub mod Status
 pub mod Steps

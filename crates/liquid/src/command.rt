@@ -1,24 +1,32 @@
 ghost use Rattle.std.specs.Prelude.{◌≡◌, ◌∷◌, IfSome, is_some, map, option_map, string_bytes};
 ghost use Rattle.liquid.specs.Command.{
   are_paths,
-  begin_with_option,
-  behind_option,
+  begin_with,
+  behind,
   first_word,
   is_command,
-  is_option,
   is_path,
-  is_sandboxed,
   is_verb,
+  options_in,
+  options_of,
   path_words,
+  paths_in,
   paths_of,
 };
 
-/// `render [--sandboxed] TEMPLATE GLOBALS.json [DIR]`: whether to render in a sandbox, and the paths of
-/// a template, of its globals and of the folder of its partials, if there is one.
+/// `render [--sandboxed] [--lenient] TEMPLATE GLOBALS.json [DIR]`: its options, and the paths of a
+/// template, of its globals and of the folder of its partials, if there is one.
 #[derive(Clone, Copy)]
 pub struct Command<'w> {
-    pub sandboxed: bool,
+    pub options: Options,
     pub paths: Paths<'w>,
+}
+
+/// Whether to render in a sandbox, and whether a name without a value is nil and no refusal.
+#[derive(Clone, Copy)]
+pub struct Options {
+    pub sandboxed: bool,
+    pub lenient: bool,
 }
 
 /// The paths that a command names.
@@ -33,12 +41,6 @@ fn is_verb(word: &str) -> bool
     ensures { result ≡ is_verb word.now }
 {
     word == "render"
-}
-
-fn is_option(word: &str) -> bool
-    ensures { result ≡ is_option word.now }
-{
-    word == "--sandboxed"
 }
 
 fn is_path(word: &str) -> bool
@@ -83,13 +85,13 @@ impl<'w> Paths<'w> {
     }
 }
 
-/// Whether the words begin with the option, and the words behind it.
-fn split_option(words: &[String]) -> (bool, &[String])
-    ensures option { result.0 ≡ begin_with_option (map string_bytes words.now) }
-    ensures behind { map string_bytes result.1.now ≡ behind_option (map string_bytes words.now) }
+/// Whether the words begin with this option, and the words behind it.
+fn split_option<'w>(words: &'w [String], option: &str) -> (bool, &'w [String])
+    ensures begins { result.0 ≡ begin_with option.now (map string_bytes words.now) }
+    ensures behind { map string_bytes result.1.now ≡ behind option.now (map string_bytes words.now) }
 {
     match words.split_first() {
-        Some((word, rest)) => if is_option(word.as_str()) {
+        Some((word, rest)) => if word.as_str() == option {
             (true, rest)
         } else {
             (false, words)
@@ -98,11 +100,33 @@ fn split_option(words: &[String]) -> (bool, &[String])
     }
 }
 
+/// The options that the words begin with, and the words behind them.
+fn split_options(words: &[String]) -> (Options, &[String])
+    ensures options { result.0 ≡ options_in (map string_bytes words.now) }
+    ensures behind { map string_bytes result.1.now ≡ paths_in (map string_bytes words.now) }
+{
+    let (sandboxed, rest) = split_option(words, "--sandboxed");
+    if sandboxed {
+        let (lenient, rest) = split_option(rest, "--lenient");
+        (
+            Options {
+                sandboxed: true,
+                lenient,
+            },
+            rest,
+        )
+    } else {
+        let (lenient, rest) = split_option(words, "--lenient");
+        let (sandboxed, rest) = split_option(rest, "--sandboxed");
+        (Options { sandboxed, lenient }, rest)
+    }
+}
+
 impl<'w> Command<'w> {
     /// The command that the words behind the program's name give; none where they are no command.
     pub fn from_words(words: &'w [String]) -> Option<Command<'w>>
         ensures test { is_some result ≡ is_command (map string_bytes words.now) }
-        ensures sandboxed { IfSome result (λ c. c.sandboxed ≡ is_sandboxed (map string_bytes words.now)) }
+        ensures options { IfSome result (λ c. c.options ≡ options_of (map string_bytes words.now)) }
         ensures paths { IfSome result (λ c. paths_of (map string_bytes words.now)
             ≡ path_words c.paths.template.now c.paths.globals.now (option_map (λ f. f.now) c.paths.folder)) }
     {
@@ -110,8 +134,8 @@ impl<'w> Command<'w> {
         if !is_verb(verb.as_str()) {
             return None;
         }
-        let (sandboxed, rest) = split_option(rest);
+        let (options, rest) = split_options(rest);
         let paths = Paths::from_words(rest)?;
-        Some(Command { sandboxed, paths })
+        Some(Command { options, paths })
     }
 }

@@ -9,7 +9,7 @@ pub enum Fault<'w> {
     #[error("{0}")]
     Refused(Error),
     /// The words are no command.
-    #[error("usage: liquid render [--sandboxed] TEMPLATE GLOBALS.json [DIR]\n")]
+    #[error("usage: liquid render [--sandboxed] [--lenient] TEMPLATE GLOBALS.json [DIR]\n")]
     Usage,
     /// The file at this path can't be read as text, or no list of the folder at it.
     #[error("liquid: cannot read {0}\n")]

@@ -1,26 +1,25 @@
 //! Rendering a text as the program does.
 ghost use Rattle.std.specs.Prelude.{◌≡◌, IfOk, None, option_map};
-ghost use Rattle.std.specs.FinMap.{empty};
-ghost use Rattle.liquid_runtime.specs.Frames.{built_view};
 ghost use Rattle.liquid_runtime.specs.Maps.{names_of};
 ghost use Rattle.liquid_parser.specs.Reading.{Reads};
-ghost use Rattle.liquid_source.specs.Rendered.{RenderedBy};
+ghost use Rattle.liquid_partials.specs.Rendered.{RenderedBy};
 ghost use Rattle.liquid_template.specs.Grows.{Grows};
 ghost use Rattle.liquid_template.specs.Rendering.{sandboxed_run};
 ghost use Rattle.liquid_template.specs.Sunk.{sunk};
 ghost use Rattle.liquid_tree.specs.Tree.{nodes_from};
-ghost use Rattle.bench.specs.ProgramLanguage.{meaning_of, program_language, ProgramAnswer};
-ghost use Rattle.liquid.specs.Program.{IsFoundIn, Renders, setting_over};
+ghost use Rattle.liquid.specs.Program.{built_over, IsFoundIn, Renders};
+ghost use Rattle.liquid.specs.ProgramLanguage.{meaning_of, program_language, ProgramAnswer, setting_over};
 
-use bench::blocks::BlockNode;
+use crate::command::Options;
+use bench::Filters;
 use bench::filters::AnyFilter;
-use bench::languages::language;
-use bench::tags::TagNode;
-use bench::{Blocks, Filters, Tags};
+use bench::languages::filters;
 use liquid_core::parser::{Language, parse};
-use liquid_core::partials::{InMemorySource, OnDemandCompiler, OnDemandStore, PartialCompiler};
+use liquid_core::partials::{InMemorySource, LazyCompiler, LazyStore, PartialCompiler};
 use liquid_core::runtime::{BuiltRuntime, Runtime, RuntimeBuilder, Template};
 use liquid_core::{Error, Object, PartialStore, Sink, render_source};
+use liquid_runtime::names::no_names;
+use liquid_tags::{BlockNode, Blocks, TagNode, Tags, language};
 use std::alloc::{AllocError, Global};
 use std::rc::Rc;
 
@@ -28,26 +27,26 @@ use std::rc::Rc;
 type ProgramLanguage = Language<Filters, Tags, Blocks>;
 
 /// The program's store of partials.
-type Store = OnDemandStore<InMemorySource, Filters, Tags, Blocks>;
+type Store = LazyStore<InMemorySource, Filters, Tags, Blocks>;
 
-/// Writes what the text comes to over these globals and these partials, in a sandbox or not.
+/// Writes what the text comes to over these globals and these partials, by these options.
 #[tactic(auto, using(crate::proofs::UntouchedSinks::untouched))]
 pub fn render_over<K: Sink>(
     alloc: Global,
-    sandboxed: bool,
+    options: Options,
     text: &str,
     globals: Object,
     partials: Option<InMemorySource>,
     sink: &mut K,
 ) -> Result<(), Error>
-    ensures renders { Renders sandboxed text.now (names_of globals) partials
+    ensures renders { Renders options text.now (names_of globals) partials
         (sunk (K.taken sink.old) (K.failures sink.old) (K.behind sink.old) (K.lent sink.old)) (sunk (K.taken sink.new) (K.failures sink.new) (K.behind sink.new) (K.lent sink.new)) result }
     ensures behind { Grows (K.taken sink.old) (K.behind sink.old) (K.taken sink.new) (K.behind sink.new) }
     ensures lent { K.lent sink.new ≡ K.lent sink.old }
 {
     match shared_language(alloc) {
         Ok(language) => {
-            render_in_language(alloc, sandboxed, text, &language, globals, partials, sink)
+            render_in_language(alloc, options, text, &language, globals, partials, sink)
         }
         Err(_) => Err(Error::Memory),
     }
@@ -56,14 +55,14 @@ pub fn render_over<K: Sink>(
 fn shared_language(alloc: Global) -> Result<Rc<ProgramLanguage>, AllocError>
     ensures { IfOk result (λ language. meaning_of language.value ≡ program_language) }
 {
-    Ok(Rc::new(alloc, language(alloc)?)?)
+    Ok(Rc::new(alloc, language(alloc, filters(alloc)?)?)?)
 }
 
 /// Writes what the text comes to in the program's language.
 #[tactic(auto, using(crate::proofs::UntouchedSinks::untouched))]
 fn render_in_language<K: Sink>(
     alloc: Global,
-    sandboxed: bool,
+    options: Options,
     text: &str,
     language: &Rc<ProgramLanguage>,
     globals: Object,
@@ -71,17 +70,18 @@ fn render_in_language<K: Sink>(
     sink: &mut K,
 ) -> Result<(), Error>
     requires { meaning_of language.now.value ≡ program_language }
-    ensures renders { Renders sandboxed text.now (names_of globals) partials
+    ensures renders { Renders options text.now (names_of globals) partials
         (sunk (K.taken sink.old) (K.failures sink.old) (K.behind sink.old) (K.lent sink.old)) (sunk (K.taken sink.new) (K.failures sink.new) (K.behind sink.new) (K.lent sink.new)) result }
     ensures behind { Grows (K.taken sink.old) (K.behind sink.old) (K.taken sink.new) (K.behind sink.new) }
     ensures lent { K.lent sink.new ≡ K.lent sink.old }
 {
+    let Options { sandboxed, lenient } = options;
     match store_of(alloc, language, partials) {
         Ok(store) => if sandboxed {
-            let mut runtime = runtime_of(alloc, no_names(alloc), store);
+            let mut runtime = runtime_of(alloc, lenient, no_names(alloc), store);
             render_sandboxed_source(alloc, text, language, &mut runtime, globals, sink)
         } else {
-            let mut runtime = runtime_of(alloc, globals, store);
+            let mut runtime = runtime_of(alloc, lenient, globals, store);
             render_source(alloc, text, language, &mut runtime, sink)
         },
         Err(_) => Err(Error::Memory),
@@ -99,7 +99,7 @@ fn render_sandboxed_source<K: Sink>(
     sink: &mut K,
 ) -> Result<(), Error>
     ensures rendered { (answer : ProgramAnswer) → Reads (meaning_of language.now) text.now answer
-        → RenderedBy (λ nodes. sandboxed_run (setting_over (option_map ⟦<Store as PartialStore<AnyFilter, TagNode, BlockNode>>⟧.finds (⟦<BuiltRuntime<(), Store> as Runtime>⟧.store runtime.old))) (names_of «data») None (nodes_from nodes))
+        → RenderedBy (λ nodes. sandboxed_run (setting_over (option_map ⟦<Store as PartialStore<AnyFilter, TagNode<AnyFilter>, BlockNode>>⟧.finds (⟦<BuiltRuntime<(), Store> as Runtime>⟧.store runtime.old))) (names_of «data») None (nodes_from nodes))
         answer (⟦<BuiltRuntime<(), Store> as Runtime>⟧.view runtime.old)
         (sunk (K.taken sink.old) (K.failures sink.old) (K.behind sink.old) (K.lent sink.old))
         (sunk (K.taken sink.new) (K.failures sink.new) (K.behind sink.new) (K.lent sink.new))
@@ -113,6 +113,14 @@ fn render_sandboxed_source<K: Sink>(
     }
 }
 
+/// The same language once more.
+fn shared(language: &Rc<ProgramLanguage>) -> Result<Rc<ProgramLanguage>, AllocError>
+    requires { meaning_of language.now.value ≡ program_language }
+    ensures { IfOk result (λ copy. meaning_of copy.value ≡ program_language) }
+{
+    language.clone()
+}
+
 /// A store of the partials, if there are any, in this language.
 fn store_of(
     alloc: Global,
@@ -120,27 +128,27 @@ fn store_of(
     partials: Option<InMemorySource>,
 ) -> Result<Option<Store>, AllocError>
     requires { meaning_of language.now.value ≡ program_language }
-    ensures { IfOk result (λ store. IsFoundIn partials (option_map ⟦<Store as PartialStore<AnyFilter, TagNode, BlockNode>>⟧.finds store)) }
+    ensures { IfOk result (λ store. IsFoundIn partials (option_map ⟦<Store as PartialStore<AnyFilter, TagNode<AnyFilter>, BlockNode>>⟧.finds store)) }
 {
     match partials {
-        Some(source) => Ok(Some(OnDemandCompiler::new(source).compile(alloc, language.clone()?)?)),
+        Some(source) => Ok(Some(LazyCompiler::new(source).compile(alloc, shared(language)?)?)),
         None => Ok(None),
     }
 }
 
-/// An object without names.
-fn no_names(alloc: Global) -> Object
-    ensures { names_of result ≡ empty }
-{
-    Object::new(alloc)
-}
-
-/// The runtime over these globals and this store, if there is one.
-fn runtime_of(alloc: Global, globals: Object, store: Option<Store>) -> BuiltRuntime<(), Store>
-    ensures view { ⟦<BuiltRuntime<(), Store> as Runtime>⟧.view result ≡ built_view tt 32 (names_of globals) }
+/// The runtime over these globals and this store, if there is one, lenient or not.
+fn runtime_of(
+    alloc: Global,
+    lenient: bool,
+    globals: Object,
+    store: Option<Store>,
+) -> BuiltRuntime<(), Store>
+    ensures view { ⟦<BuiltRuntime<(), Store> as Runtime>⟧.view result ≡ built_over lenient (names_of globals) }
     ensures store { ⟦<BuiltRuntime<(), Store> as Runtime>⟧.store result ≡ store }
 {
-    let builder = RuntimeBuilder::new(alloc).set_globals(globals);
+    let builder = RuntimeBuilder::new(alloc)
+        .set_globals(globals)
+        .set_lenient(lenient);
     match store {
         Some(store) => builder.set_partials(store).build(),
         None => builder.build(),

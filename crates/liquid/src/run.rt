@@ -14,10 +14,12 @@ use liquid_core::{Error, Sink, WriterSink};
 use std::alloc::Global;
 use std::io::{self, Write};
 
-/// Runs the command that the words behind the program's name give: `render [--sandboxed] TEMPLATE
-/// GLOBALS.json [DIR]` writes the template at that path to `out`, over the globals that the JSON object
-/// gives. Each file directly in the folder DIR is a partial under its file name. With `--sandboxed` the
-/// object is the data of a sandbox without a name, over a runtime that has no globals.
+/// Runs the command that the words behind the program's name give: `render [--sandboxed]
+/// [--lenient] TEMPLATE GLOBALS.json [DIR]` writes the template at that path to `out`, over the globals
+/// that the JSON object gives. Each file directly in the folder DIR is a partial under its file name.
+/// With `--sandboxed` the object is the data of a sandbox without a name, over a runtime that has no
+/// globals. With `--lenient` a name or an index without a value is nil, and no refusal. The options
+/// stand in either order.
 ///
 /// It answers the exit status: 0 where the template was rendered; 1 where parsing or rendering was
 /// refused, with the error's text on `err`; 2 where the words are no command, with the usage on
@@ -127,18 +129,18 @@ fn execute<'w, F: Folder, K: Sink>(
     sink: &mut K,
 ) -> Result<(), Fault<'w>>
     ensures command { exit_status result ≢ 2 }
-    ensures executes { Executes command.entry.sandboxed (path_words command.entry.paths.template.now command.entry.paths.globals.now (option_map (λ f. f.now) command.entry.paths.folder)) (F.known files.old) (F.listed files.old)
+    ensures executes { Executes command.entry.options (path_words command.entry.paths.template.now command.entry.paths.globals.now (option_map (λ f. f.now) command.entry.paths.folder)) (F.known files.old) (F.listed files.old)
         (sunk (K.taken sink.old) (K.failures sink.old) (K.behind sink.old) (K.lent sink.old)) (sunk (K.taken sink.new) (K.failures sink.new) (K.behind sink.new) (K.lent sink.new)) (exit_status result) }
     ensures behind { Grows (K.taken sink.old) (K.behind sink.old) (K.taken sink.new) (K.behind sink.new) }
     ensures lent { K.lent sink.new ≡ K.lent sink.old }
 {
-    let Command { sandboxed, paths } = command;
+    let Command { options, paths } = command;
     let template = text_of(alloc, files, paths.template)?;
     let json = text_of(alloc, files, paths.globals)?;
     let globals = globals_of(alloc, json.as_str(), paths.globals)?;
     drop(json);
     let partials = partials_of(alloc, files, paths.folder)?;
-    match render_over(alloc, sandboxed, template.as_str(), globals, partials, sink) {
+    match render_over(alloc, options, template.as_str(), globals, partials, sink) {
         Ok(()) => Ok(()),
         Err(error) => Err(Fault::Refused(error)),
     }

@@ -1,6 +1,7 @@
 //! The program over files and streams in memory.
 mod commands;
 mod globals;
+mod lenient;
 mod partials;
 mod sandbox;
 mod streams;
@@ -51,4 +52,4 @@ fn rows_answer(rt: &impl Abort, alloc: Global, rows: &[Row]) -> Result<(), Alloc
 
 const UNKNOWN: &str = "liquid: Unknown variable\n  with:\n    requested variable=x\n";
 
-const USAGE: &str = "usage: liquid render [--sandboxed] TEMPLATE GLOBALS.json [DIR]\n";
+const USAGE: &str = "usage: liquid render [--sandboxed] [--lenient] TEMPLATE GLOBALS.json [DIR]\n";

@@ -147,9 +147,11 @@ const DATE_TIMES: &str = r#"["2016-02-16 10:00:00 +0100", 1455613200000000000, 3
 ["02/16/2016 10:00:00 +0100", 1455613200000000000, 3600]
 ["Tue Feb 16 10:00:00 2016 +0100", 1455613200000000000, 3600]
 ["2016-02-16 09:00:00", 1455613200000000000, 0]
+["2016-02-16 10:00:00", 1455616800000000000, 0]
 ["16 Feb 2016 09:00:00", 1455613200000000000, 0]
 ["Tue Feb 16 09:00:00 2016", 1455613200000000000, 0]
 ["1455613200", 1455613200000000000, 0]
+["-1455616800", -1455616800000000000, 0]
 ["2016-02-16 02:15:00 -0645", 1455613200000000000, -24300]
 ["2016-02-16 09:00:00.5", 1455613200500000000, 0]
 [" Now ", 1667440597666777888, 21600]
@@ -274,6 +276,12 @@ fn date_times_are_printed(rt: HostRuntime) -> Result<(), Fail> {
 fn parts_and_changes(rt: HostRuntime) -> Result<(), Fail> {
     let moment = november()?;
     assert_eq!(rt; moment.year(), 2022);
+    assert_eq!(rt; (moment.month(), moment.day()), (11, 3));
+    assert_eq!(rt;
+        (moment.hour(), moment.minute(), moment.second()),
+        (7, 56, 37)
+    );
+    assert_eq!(rt; moment.nanosecond(), 666_777_888);
     assert_eq!(rt; moment.ordinal(), 307);
     assert_eq!(rt; moment.iso_week(), 44);
     let new_year = Date::from_ymd(2021, 1, 3)?;

@@ -43,6 +43,21 @@ fn errors_have_texts(rt: HostRuntime) -> Result<(), Fail> {
     Ok(())
 }
 
+#[test]
+fn an_error_is_placed_once(rt: HostRuntime) -> Result<(), Fail> {
+    let alloc = rt.alloc();
+    let first = Place {
+        line: 2,
+        column: 13,
+    };
+    let later = Place { line: 3, column: 1 };
+    let placed = Error::with_msg(alloc, "a").or_place(first).or_place(later);
+    assert_eq!(rt; placed.place(), Some(first));
+    assert_eq!(rt; placed.to_string(alloc)?.as_str(), "liquid: a\n");
+    assert!(rt; Error::Memory.or_place(first).is_memory());
+    Ok(())
+}
+
 /// An error with two causes, one behind the other.
 fn caused(alloc: Global) -> Result<Error, AllocError> {
     let kept = CloneableError::new(alloc, Error::with_msg(alloc, "a"))?;
@@ -147,8 +162,8 @@ fn contexts_are_added(rt: HostRuntime) -> Result<(), Fail> {
     shows(
         &rt,
         alloc,
-        refused(alloc).context_key("b").value(alloc, "b"),
-        with,
+        refused(alloc).context_key("k").value(alloc, "v"),
+        "liquid: a\n  with:\n    k=v\n",
         "",
     )?;
     shows(

@@ -1,5 +1,6 @@
 //! Texts with what the written rules match at their beginning: what is left, and the first fault.
 mod elements;
+mod parts;
 
 use json_lines::Line;
 use liquid_grammar::{

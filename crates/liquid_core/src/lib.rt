@@ -1,8 +1,9 @@
 //! Liquid templates: parsed, and rendered over names that a caller sets.
 //!
 //! All that users need is named here, at the paths of Rust's liquid-core: errors in `error`, values
-//! in `model`, `parse` in `parser`, frames and templates in `runtime`, and the most used names at the
-//! root. What that crate does not make public stands at the root alone.
+//! in `model`, `parse` in `parser`, frames and templates in `runtime`. At the root stand the most used
+//! names of that crate's root, and the names that a host or an author of plug-ins needs and that the
+//! crate does not have: sinks, scopes, turns, and the functions that make values.
 #![tactic(auto)]
 
 /// Errors.
@@ -42,6 +43,15 @@ pub mod model {
 
 /// Laws: functions that do nothing, whose contracts say what holds of all values, texts and frames.
 pub mod laws {
+    /// Of the grammar: covers, elements and matches.
+    pub mod grammar {
+        pub use liquid_grammar::{
+            elements_joined_are_the_text, matches_take_bytes, no_index_at_close_bracket,
+            no_opener_inside_raw, one_cover, one_element, one_match, parts_are_matches,
+            spans_are_slices, value_law,
+        };
+    }
+
     /// Of dates and patterns.
     pub mod dates {
         pub use liquid_dates::{
@@ -83,18 +93,24 @@ pub mod laws {
     /// Of expressions and of what filters see.
     pub mod plugins {
         pub use liquid_plugins::{
-            evaluate_agrees_with_try_evaluate, filters_see_enough, paths_agree_with_tried_paths,
+            evaluate_agrees_with_try_evaluate, evaluate_gives_what_is_tried, filters_see_enough,
+            paths_agree_with_tried_paths, variables_give_tried_paths,
         };
     }
 
     /// Of stores of partials.
     pub mod partials {
-        pub use liquid_partials::{one_store, stores_agree};
+        pub use liquid_partials::{few_readings, one_store, stores_agree};
     }
 
     /// Of readings.
     pub mod parser {
         pub use liquid_parser::one_reading;
+    }
+
+    /// Of the two forms of scopes.
+    pub mod scopes {
+        pub use liquid_scopes::chained_and_flat_scopes_answer_alike;
     }
 
     /// Of runs in a sandbox.
@@ -106,8 +122,8 @@ pub mod laws {
     pub mod runtime {
         pub use liquid_runtime::{
             get_agrees_with_try_get, global_frame_keeps_names, globals_are_seen, left_names_first,
-            roots_are_the_names_seen, set_global_changes_no_other_name,
-            set_index_changes_no_other_name, stack_names_first,
+            lenient_get_agrees_with_try_get, roots_are_the_names_seen,
+            set_global_changes_no_other_name, set_index_changes_no_other_name, stack_names_first,
         };
     }
 }
@@ -130,8 +146,8 @@ pub mod parser {
 /// Partials: sources of texts, and the stores that are compiled of them.
 pub mod partials {
     pub use liquid_partials::{
-        EagerCompiler, EagerStore, InMemorySource, OnDemandCompiler, OnDemandStore,
-        PartialCompiler, PartialSource,
+        EagerCompiler, EagerStore, InMemorySource, LazyCompiler, LazyStore, OnDemandCompiler,
+        OnDemandStore, PartialCompiler, PartialSource,
     };
     pub use liquid_template::unknown_partial;
 }
@@ -147,15 +163,19 @@ pub mod runtime {
     pub use liquid_template::{PartialStore, Template};
 }
 
-pub use liquid_error::{Error, Result};
+pub use liquid_dates::{DateError, DateFormatError};
+pub use liquid_error::{Cause, Error, Place, Result};
+pub use liquid_json::{to_object, to_value};
 pub use liquid_parser::{
-    BlockReflection, Language, Node, ParseBlock, ParseTag, TagReflection, TagTokenIter,
+    BlockReflection, Language, Node, ParseBlock, ParseTag, TagBlock, TagReflection, TagTokenIter,
 };
+pub use liquid_partials::render_source;
 pub use liquid_plugins::{
-    Expression, Filter, FilterParameters, FilterReflection, ParseFilter, Renderable,
+    Discreet, Expression, Filter, FilterParameters, FilterReflection, ParseFilter, Renderable,
+    Turn, call_filter,
 };
-pub use liquid_runtime::{Runtime, RuntimeBuilder};
-pub use liquid_source::render_source;
+pub use liquid_runtime::{Frame, IndexFrame, Runtime, RuntimeBuilder, Scopes};
+pub use liquid_scopes::{ChainedScopes, FlatScopes, Looks};
 pub use liquid_template::{History, PartialStore, Sink, SinkFault, Template, TextSink, WriterSink};
 pub use liquid_value::{Object, Value, ValueCow};
-pub use liquid_views::{ObjectView, ValueView};
+pub use liquid_views::{ObjectView, ValueView, array_of, object_of, scalar_of};

@@ -1,6 +1,6 @@
 -- The first token of a tag, as the cursor hands it out.
 use Rattle.std.proofs.Common.{◌≡◌, ℕ, List, [], ◌∷◌, ◌++◌, map, Some, None, Ok, Err, refl, sym, ap, ◌∙◌, subst}
-use Rattle.std.proofs.lemmas.Option.{same_Some}
+use Rattle.std.specs.Prelude.{ok_or}
 use Rattle.liquid_error.specs.declared.place.Place.{Place}
 use Rattle.liquid_error.specs.Refusal.{located}
 use Rattle.liquid_grammar.specs.declared.parts.TokenText.{TokenText}
@@ -15,8 +15,8 @@ use Rattle.liquid_grammar.specs.Tokens as token
 use Rattle.liquid_grammar.specs.Tokens.{range, chain, symbol, TokenRule}
 use Rattle.liquid_parser.specs.declared.tag_token.TagToken.{TagToken}
 use Rattle.liquid_parser.specs.declared.tokens.TagTokenIter.{TagTokenIter}
-use Rattle.liquid_parser.specs.Cursors.{IsToken, IsHandedOut, first_of, next}
-use Rattle.liquid_parser.specs.Handed.{Token, Tokens, handed, handed_token, place_in, slice_between, expect_next, first_or}
+use Rattle.liquid_parser.specs.Cursors.{IsToken, IsHandedOut}
+use Rattle.liquid_parser.specs.Handed.{Token, Tokens, handed, handed_token, place_in, slice_between, expect_next, first_of, next}
 use Rattle.liquid_parser.specs.Plugins.{AreTokens}
 use Rattle.liquid_parser.proofs.Indexes.{first_none, second_none}
 use Rattle.liquid_parser.proofs.TokenLemmas.{place_of, behind_of, handed_behind, handed_text, rule_place, rule_behind}
@@ -87,20 +87,12 @@ one_handed t ts text cut a f =
       },
     )
 
-or_given : (message : List ℕ) (behind : Place) (left : List Token) (given : Token × Tokens) → first_of left ≡ Some given → first_or message behind left ≡ Ok given
-or_given message behind [] given e = cc
-or_given message behind (t ∷ ts) given e = ap (λ x. Ok x) (same_Some _ _ e)
-
-or_refused : (message : List ℕ) (behind : Place) (left : List Token) → first_of left ≡ None → first_or message behind left ≡ Err (located message behind)
-or_refused message behind [] e = refl
-or_refused message behind (t ∷ ts) e = cc
-
 -- the same of `expect_next`
 pub or_handed : (message : List ℕ) (ts : Tokens) (given : Token × Tokens) → next ts ≡ Some given → expect_next message ts ≡ Ok given
-or_handed message ts given e = or_given message ts.behind ts.left given e
+or_handed message ts given e = ap (λ found. ok_or found (located message ts.behind)) e
 
 pub or_none : (message : List ℕ) (ts : Tokens) → next ts ≡ None → expect_next message ts ≡ Err (located message ts.behind)
-or_none message ts e = or_refused message ts.behind ts.left e
+or_none message ts e = ap (λ found. ok_or found (located message ts.behind)) e
 
 -- the text and the place of a token
 pub token_text : (t : TagToken) (handed : Token) → IsToken t handed → handed.text ≡ slice_between t.text.place.now t.text.rest.now

@@ -4,6 +4,7 @@ pub mod AskedLemmas
 pub mod Shapes
 pub mod Indexes
 pub mod HandedLemmas
+pub mod NextLemmas
 pub mod ExpectLemmas
 pub mod TagLemmas
 pub mod ArgumentsLeft

@@ -2,7 +2,7 @@
 use Rattle.std.specs.Prelude.{◌≡◌, ℕ, List, [], ◌∷◌, ◌++◌, length, Option, Some, None, Result, Ok, Err, IfSome, bytes_eq, if◌then◌else◌, ⊤, option_and_then, option_map}
 use Rattle.std.specs.Result.{result_ok}
 use Rattle.liquid_error.specs.declared.error.Error.{Error}
-use Rattle.liquid_error.specs.Refusal.{Refusal}
+use Rattle.liquid_error.specs.Refusal.{Refusal, ok_then}
 use Rattle.liquid_error.specs.Told.{told}
 use Rattle.liquid_grammar.specs.Faults.{token_fault, value_fault}
 use Rattle.liquid_grammar.specs.Kinds.{Kind, value_kind}
@@ -16,7 +16,7 @@ use Rattle.liquid_parser.specs.declared.tag_token.TagToken.{TagToken}
 use Rattle.liquid_parser.specs.declared.tag_token.TryMatchToken.{TryMatchToken}
 use Rattle.liquid_parser.specs.declared.tag_token.TryMatchToken.TheVariants.{Matches, Fails}
 use Rattle.liquid_parser.specs.declared.tokens.TagTokenIter.{TagTokenIter}
-use Rattle.liquid_parser.specs.Handed.{Token, Tokens, TokenShape, Call, handed_token, chain, range, symbol, expression_meant, token_error}
+use Rattle.liquid_parser.specs.Handed.{Token, Tokens, TokenShape, Call, handed_token, chain, range, symbol, expression_meant, expect_next, or_unexpected}
 use Rattle.liquid_parser.specs.Lang.{Filters}
 use Rattle.liquid_parser.specs.Plugins.{AreTokens}
 
@@ -28,14 +28,6 @@ pub record IsToken (t : TagToken) (handed : Token) : Type 0 where
   pub cut : t.text.place.now ≡ t.text.text.now ++ t.text.rest.now
   pub fine : token_fault matched ≡ None
   pub is : handed ≡ handed_token t.source.now matched
-
-abbrev pub first_of : List Token → Option (Token × Tokens)
-first_of [] = None
-first_of (t ∷ more) = Some (t, record { behind = t.behind; left = more })
-
--- the first token, and those behind it
-abbrev pub next : Tokens → Option (Token × Tokens)
-next ts = first_of ts.left
 
 -- a token was handed out, and the cursor stands behind it
 pub record IsHandedOut (t : TagToken) (cursor : TagTokenIter) (given : Token × Tokens) : Type 0 where
@@ -93,10 +85,15 @@ abbrev pub FailedToken : {A : Type 0} → TryMatchToken A → Token → Type 0
 FailedToken (Matches x) handed = ⊤
 FailedToken (Fails t) handed = IsToken t handed
 
--- what matched, else the token is refused with a message of the caller's own
-abbrev pub or_refused : {A : Type 0} → List ℕ → Token → Option A → Result A Refusal
-or_refused message t (Some x) = Ok x
-or_refused message t None = Err (token_error message t)
+-- the next token, as what is expected of it, and the tokens behind it; where none is left the refusal has this message
+abbrev pub next_as : {A : Type 0} → List ℕ → (Token → Option A) → Tokens → Result (A × Tokens) Refusal
+next_as message expect ts =
+    ok_then (expect_next message ts) (λ given. ok_then (or_unexpected given.0 (expect given.0)) (λ x. Ok (x, given.1)))
+
+-- what was read, and the cursor behind it, are those that are meant; want of memory says nothing of the meaning
+abbrev pub Takes : {A M : Type 0} → (A → M) → Result A Error → TagTokenIter → Result (M × Tokens) Refusal → Type 0
+Takes of (Ok x) cursor meant = (rest : Tokens) × (meant ≡ Ok (of x, rest)) × AreTokens cursor rest
+Takes of (Err e) cursor meant = IfSome (told e) (λ r. meant ≡ Err r)
 
 -- the value that a token is, by its kind: a chain without filters
 pub record IsValue (place : List ℕ) (handed : Token) (kind : Kind) : Type 0 where

@@ -1,5 +1,5 @@
 -- What plug-ins are handed: tokens without the text around them, and arguments of filters.
-use Rattle.std.specs.Prelude.{ℕ, ◌-◌, List, [], ◌∷◌, map, length, take, Option, Some, None, option_and_then, Result, Ok, Err, unwrap_or, codes, pos}
+use Rattle.std.specs.Prelude.{ℕ, ◌-◌, List, [], ◌∷◌, map, length, take, Option, Some, None, option_and_then, Result, Ok, Err, ok_or, unwrap_or, codes, pos}
 use Rattle.liquid_error.specs.declared.place.Place.{Place}
 use Rattle.liquid_error.specs.Refusal.{Refusal, located}
 use Rattle.liquid_grammar.specs.Literals as matched
@@ -110,16 +110,19 @@ unexpected t = token_error (codes "Unexpected token") t
 
 -- what matched, else this token is refused
 abbrev pub or_unexpected : {A : Type 0} → Token → Option A → Result A Refusal
-or_unexpected t (Some x) = Ok x
-or_unexpected t None = Err (unexpected t)
+or_unexpected t found = ok_or found (unexpected t)
 
-abbrev pub first_or : List ℕ → Place → List Token → Result (Token × Tokens) Refusal
-first_or message behind [] = Err (located message behind)
-first_or message behind (t ∷ more) = Ok (t, record { behind = t.behind; left = more })
+abbrev pub first_of : List Token → Option (Token × Tokens)
+first_of [] = None
+first_of (t ∷ more) = Some (t, record { behind = t.behind; left = more })
 
--- the next token and those behind it, else a refusal with this message just behind the last one
+-- the next token and those behind it
+abbrev pub next : Tokens → Option (Token × Tokens)
+next ts = first_of ts.left
+
+-- the same, else a refusal with this message just behind the last token
 abbrev pub expect_next : List ℕ → Tokens → Result (Token × Tokens) Refusal
-expect_next message ts = first_or message ts.behind ts.left
+expect_next message ts = ok_or (next ts) (located message ts.behind)
 
 abbrev pub none_left : List Token → Result (Unit {0}) Refusal
 none_left [] = Ok tt

@@ -17,6 +17,7 @@ mod expect_chain;
 mod filters;
 mod language;
 mod names;
+mod next_as;
 mod next_token;
 mod no_plugin;
 mod parse_element;

@@ -1,9 +1,9 @@
 //! Steps of the cursor over the tokens of a tag.
-ghost use Rattle.std.specs.Prelude.{◌≡◌, ◌<◌, List, IfSome, IfNone, length};
+ghost use Rattle.std.specs.Prelude.{◌≡◌, ◌<◌, IfOk, IfSome, IfNone};
 ghost use Rattle.liquid_error.specs.Refusal.{located};
 ghost use Rattle.liquid_error.specs.Told.{told};
-ghost use Rattle.liquid_parser.specs.Cursors.{HandsOut, HandsOutOr, bytes_left, next as next_of};
-ghost use Rattle.liquid_parser.specs.Handed.{Tokens, expect_next};
+ghost use Rattle.liquid_parser.specs.Cursors.{HandsOut, HandsOutOr, bytes_left};
+ghost use Rattle.liquid_parser.specs.Handed.{Tokens, expect_next, next as next_of};
 ghost use Rattle.liquid_parser.specs.Plugins.{AreTokens};
 
 use crate::place::refused_at;
@@ -41,7 +41,8 @@ impl<'a> TagTokenIter<'a> {
         alloc: Global,
         message: &str,
     ) -> std::result::Result<TagToken<'a>, Error>
-        ensures { (ts : Tokens) → AreTokens self.old ts → HandsOutOr result self.new ts (expect_next message.now ts) }
+        ensures value { (ts : Tokens) → AreTokens self.old ts → HandsOutOr result self.new ts (expect_next message.now ts) }
+        ensures shorter { IfOk result (λ t. bytes_left self.new < bytes_left self.old) }
     {
         match self.next() {
             Some(token) => Ok(token),

@@ -1,7 +1,8 @@
 //! What comes of an attempt to read a token.
+ghost use Rattle.std.specs.Prelude.{ok_or};
 ghost use Rattle.liquid_error.specs.Told.{Gives};
-ghost use Rattle.liquid_parser.specs.Cursors.{FailedToken, matched_of, or_refused};
-ghost use Rattle.liquid_parser.specs.Handed.{Token, or_unexpected};
+ghost use Rattle.liquid_parser.specs.Cursors.{FailedToken, matched_of};
+ghost use Rattle.liquid_parser.specs.Handed.{Token, or_unexpected, token_error};
 
 use crate::tag_token::TryMatchToken;
 use liquid_error::Error;
@@ -24,7 +25,7 @@ impl<'a, A> TryMatchToken<'a, A> {
         alloc: Global,
         message: &str,
     ) -> std::result::Result<A, Error>
-        ensures { (t : Token) → FailedToken self.entry t → Gives (λ x. x) result (or_refused message.now t (matched_of self.entry)) }
+        ensures { (t : Token) → FailedToken self.entry t → Gives (λ x. x) result (ok_or (matched_of self.entry) (token_error message.now t)) }
     {
         match self {
             TryMatchToken::Matches(found) => Ok(found),

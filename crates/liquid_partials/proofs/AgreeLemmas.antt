@@ -1,6 +1,8 @@
 -- Stores that find the same answer the same.
-use Rattle.std.proofs.Common.{◌≡◌, List, [], ◌∷◌, Option, Some, None, Result, Ok, Err, refl, sym, ap, ◌∙◌, subst}
-use Rattle.std.specs.Prelude.{IfOk, IfSome}
+use Rattle.std.proofs.Common.{◌≡◌, List, [], ◌∷◌, Option, Some, None, Result, Ok, Err, refl, sym, ap, ◌∙◌, subst, arith}
+use Rattle.std.specs.Prelude.{IfOk, IfSome, option_map}
+use Rattle.std.specs.Result.{result_ok}
+use Rattle.std.specs.FinMap.{len}
 use Rattle.std.specs.declared.alloc.AllocError.{AllocError}
 use Rattle.liquid_error.specs.declared.error.Error.{Error}
 use Rattle.liquid_error.specs.Refusal.{Refusal}
@@ -8,44 +10,33 @@ use Rattle.liquid_error.specs.Told.{told, Gives}
 use Rattle.liquid_runtime.specs.Maps.{NameMap}
 use Rattle.liquid_parser.specs.Lang.{Lang}
 use Rattle.liquid_template.specs.Partials.{Found, partial_in, tree_in}
-use Rattle.liquid_partials.specs.Requests.{Request, got, tried, Serves, serves, SameRefusal, SameGot, SameTried, Alike, StoresAgree}
+use Rattle.liquid_partials.specs.Requests.{Request, got, tried, is_answered, name_asked, Serves, serves, FewReadings, kept_none, kept_more, SameIfBoth, answer_told, Alike, StoresAgree}
+use Rattle.liquid_partials.proofs.LazyLemmas.{reads_few}
 use Rattle.liquid_partials.proofs.StoreLemmas.{one_store}
 
+both_are : {B : Type 0} (b : B) (o p : Option B) → IfSome o (λ w. b ≡ w) → IfSome p (λ w. b ≡ w) → SameIfBoth o p
+both_are b None p h k = tt
+both_are b (Some x) None h k = tt
+both_are b (Some x) (Some y) h k = sym h ∙ k
+
 module _ {A : Type 0} where
-  abbrev tree_or : A → Result A Refusal → A
-  tree_or x (Ok y) = y
-  tree_or x (Err r) = x
+  told_as : (a : Result A Refusal) (o : Option Refusal) → IfSome o (λ r. a ≡ Err r) → IfSome (option_map (λ r. let w : Result A Refusal = Err r in w) o) (λ w. a ≡ w)
+  told_as a None h = h
+  told_as a (Some r) h = h
 
-  abbrev fault_or : Refusal → Result A Refusal → Refusal
-  fault_or r (Ok x) = r
-  fault_or r (Err q) = q
+  answer_is : (a : Result A Refusal) (one : Result A Error) → Gives (λ tree. tree) one a → IfSome (answer_told one) (λ w. a ≡ w)
+  answer_is a (Ok x) h = h
+  answer_is a (Err e) h = told_as a (told e) h
 
-  abbrev IsOk : Result A Refusal → Type 0
-  IsOk (Ok x) = Unit {0}
-  IsOk (Err r) = ⊥
+  tried_is : (a : Option A) (one : Result (Option A) AllocError) → IfOk one (λ found. found ≡ a) → IfSome (result_ok one) (λ w. a ≡ w)
+  tried_is a (Ok x) h = sym h
+  tried_is a (Err e) h = tt
 
-  not_both : {C : Type 0} (a : Result A Refusal) (x : A) (r : Refusal) → a ≡ Ok x → a ≡ Err r → C
-  not_both a x r h k = absurd (subst IsOk (sym h ∙ k) tt)
+  same_got : (a : Result A Refusal) (one other : Result A Error) → Gives (λ tree. tree) one a → Gives (λ tree. tree) other a → SameIfBoth (answer_told one) (answer_told other)
+  same_got a one other h k = both_are a (answer_told one) (answer_told other) (answer_is a one h) (answer_is a other k)
 
-  none_told : (a : Result A Refusal) (x : A) (o : Option Refusal) → a ≡ Ok x → IfSome o (λ r. a ≡ Err r) → o ≡ None
-  none_told a x None h k = refl
-  none_told a x (Some r) h k = not_both a x r h k
-
-  same_refusal : (a : Result A Refusal) (o p : Option Refusal) → IfSome o (λ r. a ≡ Err r) → IfSome p (λ r. a ≡ Err r) → SameRefusal o p
-  same_refusal a None p h k = tt
-  same_refusal a (Some r) None h k = tt
-  same_refusal a (Some r) (Some q) h k = ap (fault_or r) (sym h ∙ k)
-
-  same_got : (a : Result A Refusal) (one other : Result A Error) → Gives (λ tree. tree) one a → Gives (λ tree. tree) other a → SameGot one other
-  same_got a (Ok x) (Ok y) h k = ap (tree_or x) (sym h ∙ k)
-  same_got a (Ok x) (Err e) h k = none_told a x (told e) h k
-  same_got a (Err e) (Ok x) h k = none_told a x (told e) k h
-  same_got a (Err e) (Err f) h k = same_refusal a (told e) (told f) h k
-
-  same_tried : (a : Option A) (one other : Result (Option A) AllocError) → IfOk one (λ found. found ≡ a) → IfOk other (λ found. found ≡ a) → SameTried one other
-  same_tried a (Ok x) (Ok y) h k = h ∙ sym k
-  same_tried a (Ok x) (Err e) h k = tt
-  same_tried a (Err e) other h k = tt
+  same_tried : (a : Option A) (one other : Result (Option A) AllocError) → IfOk one (λ found. found ≡ a) → IfOk other (λ found. found ≡ a) → SameIfBoth (result_ok one) (result_ok other)
+  same_tried a one other h k = both_are a (result_ok one) (result_ok other) (tried_is a one h) (tried_is a other k)
 
   agree : {S R : Type 0} (finds : S → NameMap (Result A Refusal)) (found : R → NameMap (Result A Refusal)) (m : NameMap (Result A Refusal)) {s : S} {t : R} (requests others : List (Request A))
       → Serves finds s requests → Serves found t others → finds s ≡ m → found t ≡ m → Alike requests others
@@ -68,3 +59,11 @@ module _ {A : Type 0} where
 pub stores_agree : {F T P B S R : Type 0} (l : Lang F T P B) (finds : S → Found F T B) (found : R → Found F T B) → StoresAgree l finds found
 stores_agree l finds found texts store other c d requests others h k =
     agree finds found (finds store) requests others h k refl (one_store l texts (finds store) (found other) c d)
+
+pub few_readings : (A : Type 0) → FewReadings A
+few_readings A finds kept last n count [] (kept_none e c) = let l = ap len e in omega (arith, l, c)
+few_readings A finds kept last n count (request ∷ more) (kept_more {next = next} {m = m} e c k) =
+    let rest = few_readings A finds next last m count more k in
+    let step = reads_few (is_answered request) finds kept (name_asked request) in
+    let l = ap len e in
+    omega (arith, rest, step, l, c)

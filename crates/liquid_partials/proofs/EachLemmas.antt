@@ -115,3 +115,6 @@ pub ruleset sources = (get-named, contains-named, empty-named, unchanged-named, 
 pub insert_kept : {A F T B : Type 0} (of : A → Nodes F T B) (old new : BTreeMap (String Global) (Result A Error)) (k : String Global) (x : Result A Error)
     → Updates string_cmp old new k (Some x) → all_kept of new ≡ insert (all_kept of old) (string_bytes k) (kept_as of x)
 insert_kept of old new k x updates = insert-named (kept_as of) old new k x updates
+
+pub unchanged_kept : {A F T B : Type 0} (of : A → Nodes F T B) (old new : BTreeMap (String Global) (Result A Error)) → IsUnchanged old new → all_kept of new ≡ all_kept of old
+unchanged_kept of old new e = unchanged-named (kept_as of) old new e

@@ -1,4 +1,5 @@
 pub mod AgreeLemmas
 pub mod EachLemmas
-pub mod EagerLemmas
+pub mod LazyLemmas
+pub mod RenderedLemmas
 pub mod StoreLemmas

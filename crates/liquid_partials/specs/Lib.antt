@@ -1,5 +1,7 @@
 pub mod Compiled
 pub mod Each
+pub mod Keeping
 pub mod Kept
+pub mod Rendered
 pub mod Requests
 pub mod Sources

@@ -1,7 +1,8 @@
 //! Laws of stores: each is the clause of a function that does nothing.
 ghost use Rattle.liquid_parser.specs.Plugins.{block_of, language_of};
 ghost use Rattle.liquid_partials.specs.Compiled.{OneStore};
-ghost use Rattle.liquid_partials.specs.Requests.{StoresAgree};
+ghost use Rattle.liquid_partials.specs.Requests.{FewReadings, StoresAgree};
+ghost use Rattle.liquid_tree.specs.Tree.{Nodes};
 
 use liquid_parser::{Language, ParseBlock, ParseTag};
 use liquid_plugins::ParseFilter;
@@ -24,4 +25,12 @@ where
     S: PartialStore<F::Filter, T::Node, B::Node>,
     R: PartialStore<F::Filter, T::Node, B::Node>,
     ensures { StoresAgree (language_of F.makes T.gives (block_of B.start_name B.end_name B.meaning) language.now) S.finds R.finds }
+{}
+
+/// Over any list of requests a store that keeps its answers reads at most as many texts as it keeps
+/// more names, and as requests meet want of memory.
+pub fn few_readings<F: ParseFilter + Drop, T: ParseTag<F> + Drop, B: ParseBlock<F> + Drop>(
+    _language: &Language<F, T, B>,
+)
+    ensures { FewReadings (Nodes F.Filter.Shape T.Node.Shape B.Node.Shape) }
 {}

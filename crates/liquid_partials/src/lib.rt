@@ -1,18 +1,23 @@
-//! Partials: sources of texts, and the stores that are compiled of them.
+//! From texts to written bytes: sources of partials, the stores that are compiled of them, and the
+//! rendering of a text at once.
 #![tactic(auto)]
 
 mod compiler;
 mod eager;
 mod in_memory;
 mod laws;
+mod lazy;
 mod on_demand;
 mod readings;
+mod rendering;
 mod source;
 mod texts;
 
 pub use crate::compiler::PartialCompiler;
 pub use crate::eager::{EagerCompiler, EagerStore};
 pub use crate::in_memory::InMemorySource;
-pub use crate::laws::{one_store, stores_agree};
+pub use crate::laws::{few_readings, one_store, stores_agree};
+pub use crate::lazy::{LazyCompiler, LazyStore};
 pub use crate::on_demand::{OnDemandCompiler, OnDemandStore};
+pub use crate::rendering::render_source;
 pub use crate::source::PartialSource;

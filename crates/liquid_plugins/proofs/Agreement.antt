@@ -1,16 +1,17 @@
 -- The calls that may refuse agree with those that need not.
-use Rattle.std.proofs.Common.{◌≡◌, ◌∷◌, Option, Some, None, Result, Ok, Err, refl, ap, ◌∙◌, option_map}
-use Rattle.std.specs.Prelude.{ok_or, option_and_then}
+use Rattle.std.proofs.Common.{◌≡◌, ◌∷◌, [], Bool, true, false, Option, Some, None, Result, Ok, Err, refl, ap, ◌∙◌, option_map}
+use Rattle.std.specs.Prelude.{ok_or, option_and_then, unwrap_or}
 use Rattle.std.specs.Result.{result_ok}
 use Rattle.liquid_error.specs.Refusal.{Refusal}
 use Rattle.liquid_scalar.specs.Scalar.{Scal}
+use Rattle.liquid_value.specs.Tree.{Tree, nil}
 use Rattle.liquid_value.specs.Parts.{as_scalar}
 use Rattle.liquid_error.specs.Refusal.{ok_then}
 use Rattle.liquid_runtime.specs.View.{View}
 use Rattle.liquid_runtime.specs.Lookup.{try_path, found}
 use Rattle.liquid_paths.specs.Walk.{Path}
 use Rattle.liquid_paths.proofs.Agreement.{ok_then-agrees, ok_or-agrees}
-use Rattle.liquid_runtime.proofs.Agreement.{get_agrees}
+use Rattle.liquid_runtime.proofs.Agreement.{get_agrees, lenient_get_agrees}
 use Rattle.liquid_plugins.specs.Expression.{ExpressionShape, literal, variable, Indexes, no_indexes, index}
 use Rattle.liquid_plugins.specs.Evaluation.{evaluate, path_of, try_evaluate, try_path_of, expected_scalar}
 use Rattle.liquid_plugins.specs.Parts.{named_path, try_named_path}
@@ -19,27 +20,75 @@ ok_then-map : (s : Scal) (r : Result Path Refusal) (o : Option Path) → result_
 ok_then-map s (Ok path) o e = ap (option_map (λ path. s ∷ path)) e
 ok_then-map s (Err refusal) o e = ap (option_map (λ path. s ∷ path)) e
 
+came_to : (r : Result Tree Refusal) (t : Tree) → result_ok r ≡ Some t → r ≡ Ok t
+came_to (Ok u) t e = cc
+came_to (Err refusal) t e = cc
+
+same_value : {A : Type 0} (x y : A) → Some x ≡ Some y → x ≡ y
+same_value x y e = cc
+
+-- what is given where each step is
+ok_then-gives : {A B : Type 0} (r : Result A Refusal) (f : A → Result B Refusal) (o : Option A) (g : A → Option B) (u : B)
+    → ((x : A) → o ≡ Some x → r ≡ Ok x) → ((x : A) (y : B) → g x ≡ Some y → f x ≡ Ok y) → option_and_then g o ≡ Some u → ok_then r f ≡ Ok u
+ok_then-gives r f None g u first more h = cc
+ok_then-gives r f (Some x) g u first more h = ap (λ q. ok_then q f) (first x refl) ∙ more x u h
+
+ok_then-map-gives : (s : Scal) (r : Result Path Refusal) (o : Option Path) (path : Path) → ((rest : Path) → o ≡ Some rest → r ≡ Ok rest)
+    → option_map (λ rest. s ∷ rest) o ≡ Some path → ok_then r (λ rest. Ok (s ∷ rest)) ≡ Ok path
+ok_then-map-gives s r None path first h = cc
+ok_then-map-gives s r (Some rest) path first h = ap (λ q. ok_then q (λ rest. Ok (s ∷ rest))) (first rest refl) ∙ ap (λ w. Ok w) (same_value (s ∷ rest) path h)
+
 module _ {Reg : Type 0} where
   and_then-map : (v : View Reg) (name : Scal) (o : Option Path) → option_and_then (λ path. try_path v (name ∷ path)) o ≡ option_and_then (try_path v) (option_map (λ path. name ∷ path) o)
   and_then-map v name None = refl
   and_then-map v name (Some path) = refl
 
   mutual
-    pub evaluate_agrees : (v : View Reg) (e : ExpressionShape) → result_ok (evaluate v e) ≡ try_evaluate v e
-    evaluate_agrees v (literal t) = refl
-    evaluate_agrees v (variable name is) =
-        ok_then-agrees (path_of v is) (λ path. found v (name ∷ path)) (try_path_of v is) (λ path. try_path v (name ∷ path)) (path_agrees v is) (λ path. get_agrees v (name ∷ path)) ∙ and_then-map v name (try_path_of v is)
+    pub evaluate_agrees : (v : View Reg) (e : ExpressionShape) → v.lenient ≡ false → result_ok (evaluate v e) ≡ try_evaluate v e
+    evaluate_agrees v (literal t) strict = refl
+    evaluate_agrees v (variable name is) strict =
+        ok_then-agrees (path_of v is) (λ path. found v (name ∷ path)) (try_path_of v is) (λ path. try_path v (name ∷ path)) (path_agrees v is strict) (λ path. get_agrees v (name ∷ path) strict) ∙ and_then-map v name (try_path_of v is)
 
-    path_agrees : (v : View Reg) (is : Indexes) → result_ok (path_of v is) ≡ try_path_of v is
-    path_agrees v no_indexes = refl
-    path_agrees v (index e es) =
+    path_agrees : (v : View Reg) (is : Indexes) → v.lenient ≡ false → result_ok (path_of v is) ≡ try_path_of v is
+    path_agrees v no_indexes strict = refl
+    path_agrees v (index e es) strict =
         ok_then-agrees (evaluate v e) (λ t. ok_then (ok_or (as_scalar t) (expected_scalar t)) (λ scalar. ok_then (path_of v es) (λ path. Ok (scalar ∷ path))))
         (try_evaluate v e) (λ t. option_and_then (λ scalar. option_map (λ path. scalar ∷ path) (try_path_of v es)) (as_scalar t))
-        (evaluate_agrees v e)
+        (evaluate_agrees v e strict)
         (λ t. ok_then-agrees (ok_or (as_scalar t) (expected_scalar t)) (λ scalar. ok_then (path_of v es) (λ path. Ok (scalar ∷ path)))
         (as_scalar t) (λ scalar. option_map (λ path. scalar ∷ path) (try_path_of v es))
         (ok_or-agrees (as_scalar t) (expected_scalar t))
-        (λ scalar. ok_then-map scalar (path_of v es) (try_path_of v es) (path_agrees v es)))
+        (λ scalar. ok_then-map scalar (path_of v es) (try_path_of v es) (path_agrees v es strict)))
 
-  pub paths_agree : (v : View Reg) (name : Scal) (is : Indexes) → result_ok (named_path v name is) ≡ try_named_path v name is
-  paths_agree v name is = ok_then-map name (path_of v is) (try_path_of v is) (path_agrees v is)
+  pub paths_agree : (v : View Reg) (name : Scal) (is : Indexes) → v.lenient ≡ false → result_ok (named_path v name is) ≡ try_named_path v name is
+  paths_agree v name is strict = ok_then-map name (path_of v is) (try_path_of v is) (path_agrees v is strict)
+
+  -- a path that has a value comes to it in any view
+  found_where : (v : View Reg) (path : Path) (t : Tree) (lenient : Bool) → v.lenient ≡ lenient → try_path v path ≡ Some t → found v path ≡ Ok t
+  found_where v path t true e h = lenient_get_agrees v path e ∙ ap (λ o. Ok (unwrap_or o nil)) h
+  found_where v path t false e h = came_to (found v path) t (get_agrees v path e ∙ h)
+
+  found_gives : (v : View Reg) (path : Path) (t : Tree) → try_path v path ≡ Some t → found v path ≡ Ok t
+  found_gives v path t h = found_where v path t v.lenient refl h
+
+  mutual
+    pub evaluate_gives : (v : View Reg) (e : ExpressionShape) (t : Tree) → try_evaluate v e ≡ Some t → evaluate v e ≡ Ok t
+    evaluate_gives v (literal u) t h = ap (λ w. Ok w) (same_value u t h)
+    evaluate_gives v (variable name is) t h =
+        ok_then-gives (path_of v is) (λ path. found v (name ∷ path)) (try_path_of v is) (λ path. try_path v (name ∷ path)) t
+        (λ path k. path_gives v is path k) (λ path u k. found_gives v (name ∷ path) u k) (and_then-map v name (try_path_of v is) ∙ h)
+
+    path_gives : (v : View Reg) (is : Indexes) (path : Path) → try_path_of v is ≡ Some path → path_of v is ≡ Ok path
+    path_gives v no_indexes path h = ap (λ w. Ok w) (same_value [] path h)
+    path_gives v (index e es) path h =
+        ok_then-gives (evaluate v e) (λ t. ok_then (ok_or (as_scalar t) (expected_scalar t)) (λ scalar. ok_then (path_of v es) (λ path. Ok (scalar ∷ path))))
+        (try_evaluate v e) (λ t. option_and_then (λ scalar. option_map (λ path. scalar ∷ path) (try_path_of v es)) (as_scalar t)) path
+        (λ t k. evaluate_gives v e t k)
+        (λ t q k. ok_then-gives (ok_or (as_scalar t) (expected_scalar t)) (λ scalar. ok_then (path_of v es) (λ path. Ok (scalar ∷ path)))
+        (as_scalar t) (λ scalar. option_map (λ path. scalar ∷ path) (try_path_of v es)) q
+        (λ scalar i. ap (λ o. ok_or o (expected_scalar t)) i)
+        (λ scalar p i. ok_then-map-gives scalar (path_of v es) (try_path_of v es) p (λ rest j. path_gives v es rest j) i) k)
+        h
+
+  pub paths_give : (v : View Reg) (name : Scal) (is : Indexes) (path : Path) → try_named_path v name is ≡ Some path → named_path v name is ≡ Ok path
+  paths_give v name is path h = ok_then-map-gives name (path_of v is) (try_path_of v is) path (λ rest j. path_gives v is rest j) h

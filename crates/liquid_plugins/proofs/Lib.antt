@@ -1,5 +1,6 @@
 pub mod Agreement
 pub mod ErasedLemmas
+pub mod Hiding
 pub mod PathSteps
 pub mod Registries
 pub mod StandingValues

@@ -1,8 +1,6 @@
 -- What an expression comes to where each value on the way stands.
-use Rattle.std.proofs.Common.{◌≡◌, ℕ, List, ◌∷◌, Option, Some, None, Result, Ok, Err, refl, ap, ◌∙◌, option_map}
+use Rattle.std.proofs.Common.{◌≡◌, ℕ, List, ◌∷◌, Option, Some, None, Ok, refl, ap, ◌∙◌, option_map}
 use Rattle.std.specs.Prelude.{option_and_then}
-use Rattle.std.specs.Result.{result_ok}
-use Rattle.liquid_error.specs.Refusal.{Refusal}
 use Rattle.liquid_scalar.specs.Scalar.{Scal, render_scalar, text}
 use Rattle.liquid_value.specs.Tree.{Tree, scalar}
 use Rattle.liquid_value.specs.Parts.{as_scalar}
@@ -13,15 +11,11 @@ use Rattle.liquid_runtime.specs.NamesSeen.{lookup}
 use Rattle.liquid_runtime.specs.Lookup.{try_path}
 use Rattle.liquid_plugins.specs.Expression.{ExpressionShape, variable, Indexes, no_indexes, index}
 use Rattle.liquid_plugins.specs.Evaluation.{evaluate, try_evaluate, try_path_of}
-use Rattle.liquid_plugins.proofs.Agreement.{evaluate_agrees}
+use Rattle.liquid_plugins.proofs.Agreement.{evaluate_gives}
 
 -- what a path that is known, if it is, leads to from a value
 abbrev pub from_here : Tree → Option Path → Option Tree
 from_here t o = option_and_then (λ path. walk t path) o
-
-came_to : (r : Result Tree Refusal) (t : Tree) → result_ok r ≡ Some t → r ≡ Ok t
-came_to (Ok u) t e = cc
-came_to (Err refusal) t e = cc
 
 stepped : (t next : Tree) (s : Scal) (o : Option Path) → step t s ≡ Some next → from_here t (option_map (λ path. s ∷ path) o) ≡ from_here next o
 stepped t next s None h = refl
@@ -30,7 +24,7 @@ stepped t next s (Some path) h = ap (option_and_then (λ u. walk u path)) h
 module _ {Reg : Type 0} where
   -- the call that may refuse comes to what is known to stand
   pub stands : (v : View Reg) (e : ExpressionShape) (t : Tree) → try_evaluate v e ≡ Some t → evaluate v e ≡ Ok t
-  stands v e t h = came_to (evaluate v e) t (evaluate_agrees v e ∙ h)
+  stands v e t h = evaluate_gives v e t h
 
   named : (v : View Reg) (name : Scal) (t : Tree) (o : Option Path) → lookup v (render_scalar name) ≡ Some t → option_and_then (try_path v) (option_map (λ path. name ∷ path) o) ≡ from_here t o
   named v name t None h = refl

@@ -7,6 +7,7 @@ ghost use Rattle.liquid_value.specs.Parts.{as_scalar};
 ghost use Rattle.liquid_value.specs.View.{view as tree_of};
 ghost use Rattle.liquid_paths.specs.InPlace.{InPlace};
 ghost use Rattle.liquid_paths.specs.PathOf.{index_of, path_of};
+ghost use Rattle.liquid_runtime.specs.InPlaceOrNil.{InPlaceOrNil};
 ghost use Rattle.liquid_plugins.specs.Evaluation.{evaluate, expected_scalar, try_evaluate};
 ghost use Rattle.liquid_plugins.specs.ExpressionOf.{expression_of, expressions_of, name_of, own_indexes_of};
 ghost use Rattle.liquid_plugins.specs.Parts.{named_path, try_named_path};
@@ -24,7 +25,7 @@ use std::borrow::CowStr;
 
 impl Expression {
     /// What the expression comes to, or the first refusal from the left: a literal's value, and
-    /// what the runtime has at a variable's path. A value that stands in either is borrowed.
+    /// what the runtime has at a variable's path, by `get`. A value that stands in either is borrowed.
     #[tactic(auto, using(crate::proofs::StandingValues::stands))]
     pub fn evaluate<'c, R: Runtime>(
         &'c self,
@@ -32,7 +33,7 @@ impl Expression {
         runtime: &'c R,
     ) -> Result<ValueCow<'c>, Error>
         ensures gives { Gives cow_view result (evaluate (R.view runtime.now) (expression_of self.now)) }
-        ensures in_place { IfOk result InPlace }
+        ensures in_place { IfOk result InPlaceOrNil }
     {
         match standing(alloc, self, runtime) {
             Some(value) => Ok(ValueCow::Borrowed(value)),
@@ -88,7 +89,7 @@ fn evaluate<'c, R: Runtime>(
     runtime: &'c R,
 ) -> Result<ValueCow<'c>, Error>
     ensures gives { Gives cow_view result (evaluate (R.view runtime.now) (expression_of expression.now)) }
-    ensures in_place { IfOk result InPlace }
+    ensures in_place { IfOk result InPlaceOrNil }
 {
     match expression {
         Expression::Literal(value) => Ok(ValueCow::Borrowed(value)),

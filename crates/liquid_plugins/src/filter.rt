@@ -44,7 +44,7 @@ pub trait Filter: Meant + Drop {
 }
 
 /// Makes the filters of a name, each of its arguments.
-pub trait ParseFilter: FilterReflection {
+pub trait ParseFilter: FilterReflection + Drop {
     type Filter: Filter;
 
     // the shape of the filter that arguments make, or the refusal

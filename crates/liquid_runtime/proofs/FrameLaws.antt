@@ -10,7 +10,8 @@ use Rattle.liquid_runtime.specs.Maps.{Names, over}
 use Rattle.liquid_runtime.proofs.MapLaws.{get-over, empty-over, over-over}
 use Rattle.liquid_runtime.specs.View.{View}
 use Rattle.liquid_runtime.specs.NamesSeen.{lookup, upper_names, floor_names, names_seen, is_sealed, comes_from_seal}
-use Rattle.liquid_runtime.specs.Frames.{begin_stack, begin_global, begin_sandboxed}
+use Rattle.liquid_runtime.specs.Frames.{begin_stack, begin_sandboxed}
+use Rattle.liquid_runtime.specs.FrameViews.{assigned_view}
 
 none_of_two : (sealed : Bool) (a b : Option Tree) → sealed && is_none (option_or a b) ≡ is_none a && (sealed && is_none b)
 none_of_two true None b = refl
@@ -34,17 +35,13 @@ module _ {Reg : Type 0} where
       ∙ ap (λ o. is_sealed v.floor && is_none o) (get-over names (upper_names v) q)
       ∙ none_of_two (is_sealed v.floor) (get names q) (get (upper_names v) q)
 
-  -- a global frame in which these names were assigned
-  abbrev pub assigned_global : Names → View Reg → View Reg
-  assigned_global assigned v = record (begin_global v) { globals = Some assigned }
-
-  pub lookup_global : (assigned : Names) (v : View Reg) (q : List ℕ) → lookup (assigned_global assigned v) q ≡ option_or (get assigned q) (lookup v q)
+  pub lookup_global : (assigned : Names) (v : View Reg) (q : List ℕ) → lookup (assigned_view assigned v) q ≡ option_or (get assigned q) (lookup v q)
   lookup_global assigned v q =
       ap (λ m. get (over m (floor_names v)) q) (empty-over (over assigned (upper_names v)))
       ∙ ap (λ m. get m q) (over-over assigned (upper_names v) (floor_names v))
       ∙ get-over assigned (names_seen v) q
 
-  pub seal_global : (assigned : Names) (v : View Reg) (q : List ℕ) → comes_from_seal (assigned_global assigned v) q ≡ is_none (get assigned q) && comes_from_seal v q
+  pub seal_global : (assigned : Names) (v : View Reg) (q : List ℕ) → comes_from_seal (assigned_view assigned v) q ≡ is_none (get assigned q) && comes_from_seal v q
   seal_global assigned v q =
       ap (λ m. is_sealed v.floor && is_none (get m q)) (empty-over (over assigned (upper_names v)))
       ∙ ap (λ o. is_sealed v.floor && is_none o) (get-over assigned (upper_names v) q)

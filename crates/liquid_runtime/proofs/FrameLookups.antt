@@ -66,18 +66,18 @@ names_either : (m n k : Names) (below set : BTreeSet (String Global)) → ((q : 
 names_either m n k below set is over of q = over q ∙ ap (λ b. is_some (get m q) || b) (of q) ∙ some-either (get m q) (get n q) ∙ ap is_some (sym (is q))
 
 module _ {Reg : Type 0} where
-  pub lookup_core : (r : Registers Reg) (depth : ℕ) (q : List ℕ) → lookup (core_with r depth) q ≡ None
-  lookup_core r depth q = ap (λ m. get (over m no_names) q) (empty-over (over no_names no_names) ∙ empty-over no_names) ∙ ap (λ m. get m q) (empty-over no_names) ∙ nothing_there q
+  pub lookup_core : (r : Registers Reg) (depth : ℕ) (lenient : Bool) (q : List ℕ) → lookup (core_with r depth lenient) q ≡ None
+  lookup_core r depth lenient q = ap (λ m. get (over m no_names) q) (empty-over (over no_names no_names) ∙ empty-over no_names) ∙ ap (λ m. get m q) (empty-over no_names) ∙ nothing_there q
 
-  pub lookup_indexed : (variables : Names) (r : Registers Reg) (depth : ℕ) (q : List ℕ) → lookup (indexed_view variables (core_with r depth)) q ≡ get variables q
-  lookup_indexed variables r depth q = ap (λ m. get (over m variables) q) (empty-over (over no_names no_names) ∙ empty-over no_names) ∙ ap (λ m. get m q) (empty-over variables)
+  pub lookup_indexed : (variables : Names) (r : Registers Reg) (depth : ℕ) (lenient : Bool) (q : List ℕ) → lookup (indexed_view variables (core_with r depth lenient)) q ≡ get variables q
+  lookup_indexed variables r depth lenient q = ap (λ m. get (over m variables) q) (empty-over (over no_names no_names) ∙ empty-over no_names) ∙ ap (λ m. get m q) (empty-over variables)
 
-  pub roots_core : (r : Registers Reg) (depth : ℕ) (set : BTreeSet (String Global)) → IsEmpty set → NamesOf (names_seen (core_with r depth)) set
-  roots_core r depth set none q = ap (λ ks. list_any (at_name q) ks) none ∙ ap is_some (sym (lookup_core r depth q))
+  pub roots_core : (r : Registers Reg) (depth : ℕ) (lenient : Bool) (set : BTreeSet (String Global)) → IsEmpty set → NamesOf (names_seen (core_with r depth lenient)) set
+  roots_core r depth lenient set none q = ap (λ ks. list_any (at_name q) ks) none ∙ ap is_some (sym (lookup_core r depth lenient q))
 
-  pub roots_indexed : (variables : Names) (r : Registers Reg) (depth : ℕ) (below set : BTreeSet (String Global)) → NamesOver variables below set → NamesOf (names_seen (core_with r depth)) below → NamesOf (names_seen (indexed_view variables (core_with r depth))) set
-  roots_indexed variables r depth below set is of = names_either variables (names_seen (core_with r depth)) (names_seen (indexed_view variables (core_with r depth))) below set
-      (λ q. lookup_indexed variables r depth q ∙ sym (or_none (get variables q)) ∙ ap (option_or (get variables q)) (sym (lookup_core r depth q))) is of
+  pub roots_indexed : (variables : Names) (r : Registers Reg) (depth : ℕ) (lenient : Bool) (below set : BTreeSet (String Global)) → NamesOver variables below set → NamesOf (names_seen (core_with r depth lenient)) below → NamesOf (names_seen (indexed_view variables (core_with r depth lenient))) set
+  roots_indexed variables r depth lenient below set is of = names_either variables (names_seen (core_with r depth lenient)) (names_seen (indexed_view variables (core_with r depth lenient))) below set
+      (λ q. lookup_indexed variables r depth lenient q ∙ sym (or_none (get variables q)) ∙ ap (option_or (get variables q)) (sym (lookup_core r depth lenient q))) is of
 
   pub roots_stack : (names : Names) (name : Option (List ℕ)) (v : View Reg) (below set : BTreeSet (String Global)) → NamesOver names below set → NamesOf (names_seen v) below → NamesOf (names_seen (begin_stack names name v)) set
   roots_stack names name v below set is of = names_either names (names_seen v) (names_seen (begin_stack names name v)) below set (lookup_stack names name v) is of

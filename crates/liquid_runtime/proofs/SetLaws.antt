@@ -6,7 +6,7 @@ use Rattle.std.specs.Ordering.{nat_cmp, is_eq}
 use Rattle.std.specs.declared.cmp.Ordering.{Ordering}
 use Rattle.std.specs.declared.cmp.Ordering.TheVariants.{Less, Equal, Greater}
 use Rattle.std.specs.Cmp.Lexicographic.{slice_cmp, nat_list_cmp_total}
-use Rattle.std.specs.FinMap.{get, insert, empty, get-insert, contains_key-keys}
+use Rattle.std.specs.FinMap.{get, insert, empty, get-insert}
 use Rattle.liquid_value.specs.Tree.{Tree}
 use Rattle.liquid_runtime.specs.Maps.{Names, over}
 use Rattle.liquid_runtime.proofs.MapLaws.{get-over, names_apart}
@@ -15,7 +15,7 @@ use Rattle.liquid_runtime.specs.NamesSeen.{lookup, shown_globals, upper_names, f
 use Rattle.liquid_runtime.specs.Sets.{put_global, put_index}
 use Rattle.liquid_runtime.specs.Laws.{SetGlobalKeepsOthers, SetIndexKeepsOthers, RootsAreSeen, StackNamesFirst, GlobalFrameKeepsNames, GlobalsAreSeen}
 use Rattle.liquid_runtime.specs.Frames.{begin_index, begin_stack, core_view}
-use Rattle.liquid_runtime.proofs.Agreement.{get_agrees}
+use Rattle.liquid_runtime.proofs.Agreement.{get_agrees, lenient_get_agrees}
 use Rattle.liquid_runtime.proofs.FrameLaws.{lookup_stack, lookup_global}
 use Rattle.liquid_runtime.proofs.FrameLookups.{lookup_indexed, nothing_there, no_names, or_none}
 
@@ -69,7 +69,7 @@ module _ {Reg : Type 0} where
   )
 
   pub roots_are_seen : RootsAreSeen Reg
-  roots_are_seen v name = is_some-same (lookup v name) ∙ contains_key-keys (names_seen v) name
+  roots_are_seen v set name is_names = is_some-same (lookup v name) ∙ sym (is_names name)
 
   pub stack_first : StackNamesFirst Reg
   stack_first names v name = lookup_stack names None v name
@@ -81,8 +81,8 @@ module _ {Reg : Type 0} where
   globals_seen fresh depth globals name =
       global_keeps (begin_stack globals None (begin_index (core_view fresh depth))) name
       ∙ lookup_stack globals None (begin_index (core_view fresh depth)) name
-      ∙ ap (option_or (get globals name)) (lookup_indexed no_names (record { interrupt = record { current = None }; value = fresh }) depth name ∙ nothing_there name)
+      ∙ ap (option_or (get globals name)) (lookup_indexed no_names (record { interrupt = record { current = None }; value = fresh }) depth false name ∙ nothing_there name)
       ∙ or_none (get globals name)
 
 -- the laws of names and frames
-pub ruleset laws = (get-over, get_agrees, roots_are_seen, set_global_keeps, set_index_keeps, stack_first, global_keeps)
+pub ruleset laws = (get-over, get_agrees, lenient_get_agrees, roots_are_seen, set_global_keeps, set_index_keeps, stack_first, global_keeps)

@@ -1,5 +1,5 @@
 -- What a runtime builder has been given.
-use Rattle.std.specs.Prelude.{ℕ, Option}
+use Rattle.std.specs.Prelude.{ℕ, Bool, Option}
 use Rattle.liquid_runtime.specs.Maps.{Names, names_of}
 use Rattle.liquid_runtime.specs.declared.builder.RuntimeBuilder.{RuntimeBuilder}
 
@@ -14,3 +14,7 @@ store_of builder = builder.store
 -- how many partial templates may be open inside one another
 abbrev pub depth_of : {V S : Type 0} → RuntimeBuilder V S → ℕ
 depth_of builder = builder.depth
+
+-- whether a path without a value comes to nil
+abbrev pub lenient_of : {V S : Type 0} → RuntimeBuilder V S → Bool
+lenient_of builder = builder.lenient

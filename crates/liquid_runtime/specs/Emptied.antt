@@ -4,7 +4,7 @@ use Rattle.std.specs.FinMap.{empty}
 use Rattle.liquid_runtime.specs.View.{View, unsealed}
 use Rattle.liquid_runtime.specs.Erased.{without_names}
 
--- of the view its depth, index variables and name are left, and that there is a map of globals; `fresh` is the register's default
+-- of the view its depth, index variables, name and leniency are left, and that there is a map of globals; `fresh` is the register's default
 abbrev pub emptied : {Reg : Type 0} → Reg → View Reg → View Reg
 emptied fresh v = record v {
   locals = empty;

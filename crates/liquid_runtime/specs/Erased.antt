@@ -25,4 +25,5 @@ erase v = record {
   interrupt = v.interrupt;
   register = tt;
   depth = v.depth;
+  lenient = v.lenient;
 }

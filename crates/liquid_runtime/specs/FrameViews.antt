@@ -1,14 +1,14 @@
 -- The views that frames show, from what they hold.
-use Rattle.std.specs.Prelude.{ℕ, List, Option, Some}
+use Rattle.std.specs.Prelude.{ℕ, List, Bool, Option, Some}
 use Rattle.liquid_runtime.specs.Maps.{Names}
 use Rattle.liquid_runtime.specs.View.{View}
-use Rattle.liquid_runtime.specs.Frames.{core_view, begin_global, begin_sandboxed}
+use Rattle.liquid_runtime.specs.Frames.{core_view, leniently, begin_global, begin_sandboxed}
 use Rattle.liquid_runtime.specs.Calls.{with_registers}
 use Rattle.liquid_runtime.specs.declared.registers.Registers.{Registers}
 
 -- a core with these registers
-abbrev pub core_with : {Reg : Type 0} → Registers Reg → ℕ → View Reg
-core_with r depth = with_registers r (core_view r.value depth)
+abbrev pub core_with : {Reg : Type 0} → Registers Reg → ℕ → Bool → View Reg
+core_with r depth lenient = leniently lenient (with_registers r (core_view r.value depth))
 
 -- an index frame in which these variables were set
 abbrev pub indexed_view : {Reg : Type 0} → Names → View Reg → View Reg

@@ -14,7 +14,7 @@ pub data FrameShape : Type 0 where
   sandboxed_frame : Names → Option (List ℕ) → FrameShape
   global_frame : FrameShape
 
--- a core: no names, nowhere to set one, nothing sealed
+-- a core: no names, nowhere to set one, nothing sealed, and a path without a value is refused
 abbrev pub core_view : {Reg : Type 0} → Reg → ℕ → View Reg
 core_view register depth = record {
   locals = empty;
@@ -27,7 +27,12 @@ core_view register depth = record {
   interrupt = None;
   register = register;
   depth = depth;
+  lenient = false;
 }
+
+-- the view in which a path without a value comes to nil, or in which it is refused
+abbrev pub leniently : {Reg : Type 0} → Bool → View Reg → View Reg
+leniently lenient v = record v { lenient = lenient }
 
 -- an index frame: no index variable yet
 abbrev pub begin_index : {Reg : Type 0} → View Reg → View Reg

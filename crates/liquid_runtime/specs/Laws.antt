@@ -1,17 +1,17 @@
 -- The laws of names and frames.
-use Rattle.std.specs.Prelude.{◌≡◌, ◌≢◌, ℕ, List, [], ◌∷◌, None, is_some}
-use Rattle.std.specs.List.{list_any}
+use Rattle.std.specs.Prelude.{◌≡◌, ◌≢◌, ℕ, List, [], ◌∷◌, String, true, false, None, Ok, is_some, unwrap_or}
+use Rattle.std.specs.BTreeSet.{BTreeSet, contains_text}
 use Rattle.std.specs.Option.{option_or}
-use Rattle.std.specs.Ordering.{nat_cmp, eq_by_cmp}
-use Rattle.std.specs.Cmp.Lexicographic.{slice_cmp}
+use Rattle.std.specs.declared.alloc.Global.{Global}
 use Rattle.std.specs.FinMap.{get}
 use Rattle.std.specs.Result.{result_ok}
 use Rattle.liquid_scalar.specs.Scalar.{text}
-use Rattle.liquid_value.specs.Tree.{Tree}
+use Rattle.liquid_value.specs.Tree.{Tree, nil}
 use Rattle.liquid_paths.specs.Walk.{Path}
 use Rattle.liquid_runtime.specs.Maps.{Names, over}
 use Rattle.liquid_runtime.specs.View.{View}
-use Rattle.liquid_runtime.specs.NamesSeen.{lookup, roots}
+use Rattle.liquid_runtime.specs.NamesSeen.{lookup, names_seen}
+use Rattle.liquid_runtime.specs.Roots.{NamesOf}
 use Rattle.liquid_runtime.specs.Lookup.{try_path, found}
 use Rattle.liquid_runtime.specs.Sets.{put_global, put_index}
 use Rattle.liquid_runtime.specs.Frames.{begin_stack, begin_global, built_view}
@@ -20,13 +20,17 @@ use Rattle.liquid_runtime.specs.Frames.{begin_stack, begin_global, built_view}
 abbrev pub LeftNamesFirst : Type 0
 LeftNamesFirst = (front back : Names) (name : List ℕ) → get (over front back) name ≡ option_or (get front name) (get back name)
 
--- the call that may refuse gives a value exactly where the other one does, and then the same
+-- in a strict view the call that may refuse gives a value exactly where the other one does, and then the same
 abbrev pub GetAgrees : Type 0 → Type 0
-GetAgrees Reg = (v : View Reg) (path : Path) → result_ok (found v path) ≡ try_path v path
+GetAgrees Reg = (v : View Reg) (path : Path) → v.lenient ≡ false → result_ok (found v path) ≡ try_path v path
 
--- a path of one text has a value exactly if that text is among the names
+-- in a lenient one it always gives a value: that of the other one, or nil where that gives none
+abbrev pub LenientGetAgrees : Type 0 → Type 0
+LenientGetAgrees Reg = (v : View Reg) (path : Path) → v.lenient ≡ true → found v path ≡ Ok (unwrap_or (try_path v path) nil)
+
+-- a path of one text has a value exactly if that text is in the set of the names that are seen
 abbrev pub RootsAreSeen : Type 0 → Type 0
-RootsAreSeen Reg = (v : View Reg) (name : List ℕ) → is_some (try_path v (text name ∷ [])) ≡ list_any (eq_by_cmp (slice_cmp nat_cmp) name) (roots v)
+RootsAreSeen Reg = (v : View Reg) (set : BTreeSet (String Global)) (name : List ℕ) → NamesOf (names_seen v) set → is_some (try_path v (text name ∷ [])) ≡ contains_text set name
 
 -- to set a global changes no lookup of another name and no index variable
 abbrev pub SetGlobalKeepsOthers : Type 0 → Type 0

@@ -1,6 +1,7 @@
 pub mod Maps
 pub mod View
 pub mod NamesSeen
+pub mod InPlaceOrNil
 pub mod Lookup
 pub mod Roots
 pub mod Written

@@ -1,6 +1,6 @@
 -- The names that a view shows, and what each gives.
 use Rattle.std.specs.Prelude.{ℕ, List, Bool, true, false, is_none, ◌&&◌, Option, unwrap_or, cond}
-use Rattle.std.specs.FinMap.{empty, get, keys}
+use Rattle.std.specs.FinMap.{empty, get}
 use Rattle.liquid_value.specs.Tree.{Tree}
 use Rattle.liquid_runtime.specs.Maps.{Names, over}
 use Rattle.liquid_runtime.specs.View.{View, Floor, unsealed, sealed}
@@ -28,10 +28,6 @@ names_seen v = over (upper_names v) (floor_names v)
 -- the value of a name
 abbrev pub lookup : {Reg : Type 0} → View Reg → List ℕ → Option Tree
 lookup v name = get (names_seen v) name
-
--- the names, in their order
-abbrev pub roots : {Reg : Type 0} → View Reg → List (List ℕ)
-roots v = keys (names_seen v)
 
 -- whether the floor is sealed
 abbrev pub is_sealed : Floor → Bool

@@ -30,3 +30,5 @@ pub record View (Reg : Type 0) : Type 0 where
   pub register : Reg
   -- how many partials may be open inside one another
   pub depth : ℕ
+  -- whether a path without a value comes to nil, and is not refused
+  pub lenient : Bool

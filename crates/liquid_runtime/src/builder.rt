@@ -1,6 +1,6 @@
-ghost use Rattle.std.specs.Prelude.{◌≡◌, [], None, Some};
+ghost use Rattle.std.specs.Prelude.{◌≡◌, [], false, None, Some};
 ghost use Rattle.std.specs.FinMap.{empty};
-ghost use Rattle.liquid_runtime.specs.Frames.{built_view};
+ghost use Rattle.liquid_runtime.specs.Frames.{built_view, leniently};
 ghost use Rattle.liquid_runtime.specs.Maps.{names_of};
 
 use crate::global_frame::GlobalFrame;
@@ -25,25 +25,28 @@ pub struct RuntimeBuilder<V, S> {
     globals: Object,
     store: Option<S>,
     depth: u32,
+    lenient: bool,
     register: PhantomData<V>,
 }
 
 impl<V: Fresh, S: Drop> RuntimeBuilder<V, S> {
-    ghost use Rattle.liquid_runtime.specs.Built.{globals_of, store_of, depth_of};
+    ghost use Rattle.liquid_runtime.specs.Built.{globals_of, store_of, depth_of, lenient_of};
 
-    /// A builder without globals and without a store, with a depth of 32. What it builds takes its
-    /// memory from `alloc`.
+    /// A builder without globals and without a store, with a depth of 32, of a runtime that refuses a
+    /// path without a value. What it builds takes its memory from `alloc`.
     #[tactic(auto, using(crate::proofs::FrameLookups::frame_lookups))]
     pub fn new(alloc: Global) -> Self
         ensures globals { globals_of result ≡ empty }
         ensures store { store_of result ≡ None }
         ensures depth { depth_of result ≡ 32 }
+        ensures lenient { lenient_of result ≡ false }
     {
         RuntimeBuilder {
             alloc,
             globals: Object::new(alloc),
             store: None,
             depth: DEFAULT_DEPTH,
+            lenient: false,
             register: PhantomData,
         }
     }
@@ -53,6 +56,7 @@ impl<V: Fresh, S: Drop> RuntimeBuilder<V, S> {
         ensures globals { globals_of result ≡ names_of globals }
         ensures store { store_of result ≡ store_of self }
         ensures depth { depth_of result ≡ depth_of self }
+        ensures lenient { lenient_of result ≡ lenient_of self }
     {
         self.globals = globals;
         self
@@ -63,6 +67,7 @@ impl<V: Fresh, S: Drop> RuntimeBuilder<V, S> {
         ensures globals { globals_of result ≡ globals_of self }
         ensures store { store_of result ≡ Some store }
         ensures depth { depth_of result ≡ depth_of self }
+        ensures lenient { lenient_of result ≡ lenient_of self }
     {
         self.store = Some(store);
         self
@@ -73,18 +78,30 @@ impl<V: Fresh, S: Drop> RuntimeBuilder<V, S> {
         ensures globals { globals_of result ≡ globals_of self }
         ensures store { store_of result ≡ store_of self }
         ensures depth { depth_of result ≡ depth }
+        ensures lenient { lenient_of result ≡ lenient_of self }
     {
         self.depth = depth;
         self
     }
 
+    /// The builder of a runtime in which `get` answers nil for a path without a value, or refuses it.
+    pub fn set_lenient(mut self, lenient: bool) -> Self
+        ensures globals { globals_of result ≡ globals_of self }
+        ensures store { store_of result ≡ store_of self }
+        ensures depth { depth_of result ≡ depth_of self }
+        ensures lenient { lenient_of result ≡ lenient }
+    {
+        self.lenient = lenient;
+        self
+    }
+
     /// The runtime in which a template sees the builder's globals.
     pub fn build(self) -> BuiltRuntime<V, S>
-        ensures view { ⟦<BuiltRuntime<V, S> as Runtime>⟧.view result ≡ built_view V.fresh (depth_of self) (globals_of self) }
+        ensures view { ⟦<BuiltRuntime<V, S> as Runtime>⟧.view result ≡ leniently (lenient_of self) (built_view V.fresh (depth_of self) (globals_of self)) }
         ensures store { ⟦<BuiltRuntime<V, S> as Runtime>⟧.store result ≡ store_of self }
         ensures same { ⟦<BuiltRuntime<V, S> as Runtime>⟧.lent result ≡ [] }
     {
-        let core = RuntimeCore::with(self.store, self.depth);
+        let core = RuntimeCore::with(self.store, self.depth, self.lenient);
         let index = IndexFrame::new(self.alloc, core);
         let stack = StackFrame::new(index, self.globals);
         GlobalFrame::new(self.alloc, stack)

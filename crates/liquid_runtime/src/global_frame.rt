@@ -105,4 +105,8 @@ impl<P: Runtime> Runtime for GlobalFrame<P> {
     fn depth(&self) -> u32 {
         self.parent.depth()
     }
+
+    fn is_lenient(&self) -> bool {
+        self.parent.is_lenient()
+    }
 }

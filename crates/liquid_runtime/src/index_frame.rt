@@ -38,7 +38,7 @@ impl<V: Fresh, S: Drop> Runtime for IndexFrame<V, S> {
 
     type Store = S;
 
-    ghost view = { λ f. indexed_view (names_of f.variables) (core_with f.parent.registers f.parent.depth) };
+    ghost view = { λ f. indexed_view (names_of f.variables) (core_with f.parent.registers f.parent.depth f.parent.lenient) };
 
     ghost store = { λ f. f.parent.store };
 
@@ -97,5 +97,9 @@ impl<V: Fresh, S: Drop> Runtime for IndexFrame<V, S> {
 
     fn depth(&self) -> u32 {
         self.parent.depth()
+    }
+
+    fn is_lenient(&self) -> bool {
+        self.parent.is_lenient()
     }
 }

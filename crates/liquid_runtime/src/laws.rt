@@ -4,6 +4,7 @@ ghost use Rattle.liquid_runtime.specs.Laws.{
   GlobalFrameKeepsNames,
   GlobalsAreSeen,
   LeftNamesFirst,
+  LenientGetAgrees,
   RootsAreSeen,
   SetGlobalKeepsOthers,
   SetIndexKeepsOthers,
@@ -18,13 +19,20 @@ pub fn left_names_first()
     ensures { LeftNamesFirst }
 {}
 
-/// `get` gives a value exactly where `try_get` does, and then the same one.
+/// Where names are strict, `get` gives a value exactly where `try_get` does, and then the same one.
 #[tactic(auto, using(crate::proofs::SetLaws::laws))]
 pub fn get_agrees_with_try_get<V: Fresh>()
     ensures { GetAgrees V }
 {}
 
-/// A path of one text leads to a value exactly if that text is among the roots.
+/// Where names are lenient, `get` gives the value of `try_get`, or nil where that gives none.
+#[tactic(auto, using(crate::proofs::SetLaws::laws))]
+pub fn lenient_get_agrees_with_try_get<V: Fresh>()
+    ensures { LenientGetAgrees V }
+{}
+
+/// A path of one text leads to a value exactly if that text is among the names that `Runtime::roots`
+/// answers.
 #[tactic(auto, using(crate::proofs::SetLaws::laws))]
 pub fn roots_are_the_names_seen<V: Fresh>()
     ensures { RootsAreSeen V }

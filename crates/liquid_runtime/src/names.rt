@@ -1,6 +1,6 @@
 //! What frames do with the names of an object.
 ghost use Rattle.std.specs.Prelude.{◌≡◌, ◌∷◌, [], map, IfOk, IfErr, OnOk, OnErr, IfSome, Some, None, Option, string_bytes, option_map};
-ghost use Rattle.std.specs.FinMap.{get, insert};
+ghost use Rattle.std.specs.FinMap.{empty, get, insert};
 ghost use Rattle.liquid_error.specs.Told.{told};
 ghost use Rattle.liquid_value.specs.View.{view as tree_of};
 ghost use Rattle.liquid_runtime.specs.Maps.{names_of, over};
@@ -19,6 +19,14 @@ pub fn own_name(name: &Option<String>) -> Option<&str>
         Some(name) => Some(name.as_str()),
         None => None,
     }
+}
+
+/// An object without names. It takes no memory.
+#[tactic(auto, using(crate::proofs::Objects::changed_objects))]
+pub fn no_names(alloc: Global) -> Object
+    ensures { names_of result ≡ empty }
+{
+    Object::new(alloc)
 }
 
 /// The value of a name in an object.

@@ -8,6 +8,7 @@ ghost use Rattle.liquid_value.specs.View.{view as tree_of};
 ghost use Rattle.liquid_value.specs.Cow.{cow_view};
 ghost use Rattle.liquid_runtime.specs.Calls.{LendsRegisters, registers_of, with_registers, value_in};
 ghost use Rattle.liquid_runtime.specs.Frames.{Restore};
+ghost use Rattle.liquid_runtime.specs.InPlaceOrNil.{InPlaceOrNil};
 ghost use Rattle.liquid_runtime.specs.Lookup.{try_path, found, unknown_variable as unknown_variable_refusal};
 ghost use Rattle.liquid_runtime.specs.NamesSeen.{lookup, names_seen, comes_from_seal};
 ghost use Rattle.liquid_runtime.specs.Roots.{NamesOf};
@@ -91,11 +92,20 @@ pub trait Runtime {
     /// The value of a path, borrowed as by `try_get`. A name without a value is refused as "Unknown
     /// variable", with the context `requested variable`; the empty path asks for `nil`. Where the
     /// name has a value and the rest leads nowhere, a sandboxed frame's own name is refused in the
-    /// same way, and another as "Unknown index" with the contexts that `find` puts on it.
+    /// same way, and another as "Unknown index" with the contexts that `find` puts on it. A lenient
+    /// runtime answers nil in place of these refusals.
+    #[tactic(auto, using(crate::proofs::Agreement::get_answers))]
     fn get(&self, alloc: Global, path: &[ScalarCow<'_>]) -> Result<ValueCow<'_>, Error>
         ensures gives { Gives cow_view result (found (view self.now) (indexes_of path.now)) }
-        ensures in_place { IfOk result InPlace }
+        ensures in_place { IfOk result InPlaceOrNil }
     {
+        if self.is_lenient() {
+            return match self.try_get(alloc, path) {
+                Ok(Some(value)) => Ok(value),
+                Ok(None) => Ok(ValueCow::Owned(Value::default())),
+                Err(_) => Err(Error::Memory),
+            };
+        }
         match path.split_first() {
             None => Err(unknown_variable(alloc, "nil")),
             Some((first, _)) => match first.to_kstr(alloc) {
@@ -166,6 +176,11 @@ pub trait Runtime {
     /// How many partial templates may be open inside one another.
     fn depth(&self) -> u32
         ensures { result ≡ (view self.now).depth };
+
+    /// Whether `get` answers nil for a path without a value, and doesn't refuse it. It takes no
+    /// memory.
+    fn is_lenient(&self) -> bool
+        ensures { result ≡ (view self.now).lenient };
 }
 
 impl<R: Runtime> Runtime for &mut R {
@@ -227,6 +242,10 @@ impl<R: Runtime> Runtime for &mut R {
 
     fn depth(&self) -> u32 {
         (**self).depth()
+    }
+
+    fn is_lenient(&self) -> bool {
+        (**self).is_lenient()
     }
 }
 

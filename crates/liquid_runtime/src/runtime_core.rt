@@ -1,5 +1,5 @@
 ghost use Rattle.std.specs.Prelude.{◌≡◌, [], None, Some};
-ghost use Rattle.liquid_runtime.specs.Frames.{core_view};
+ghost use Rattle.liquid_runtime.specs.Frames.{core_view, leniently};
 ghost use Rattle.liquid_runtime.specs.FrameViews.{core_with};
 
 use crate::registers::{Fresh, Registers};
@@ -18,27 +18,42 @@ pub struct RuntimeCore<V, S> {
     registers: Registers<V>,
     store: Option<S>,
     depth: u32,
+    lenient: bool,
 }
 
 impl<V: Fresh, S: Drop> RuntimeCore<V, S> {
-    /// A core without a store, under which 32 partials may be open inside one another.
+    /// A core without a store, under which 32 partials may be open inside one another and a path
+    /// without a value is refused.
     pub fn new() -> Self
         ensures view { ⟦<RuntimeCore<V, S> as Runtime>⟧.view result ≡ core_view V.fresh 32 }
         ensures store { ⟦<RuntimeCore<V, S> as Runtime>⟧.store result ≡ None }
     {
-        RuntimeCore::with(None, DEFAULT_DEPTH)
+        RuntimeCore::with(None, DEFAULT_DEPTH, false)
     }
 
-    /// A core over this store, under which so many partials may be open inside one another.
-    pub(crate) fn with(store: Option<S>, depth: u32) -> Self
-        ensures view { ⟦<RuntimeCore<V, S> as Runtime>⟧.view result ≡ core_view V.fresh depth }
+    /// A core over this store, under which so many partials may be open inside one another, lenient
+    /// or not.
+    pub(crate) fn with(store: Option<S>, depth: u32, lenient: bool) -> Self
+        ensures view { ⟦<RuntimeCore<V, S> as Runtime>⟧.view result ≡ leniently lenient (core_view V.fresh depth) }
         ensures store { ⟦<RuntimeCore<V, S> as Runtime>⟧.store result ≡ store }
     {
         RuntimeCore {
             registers: Registers::fresh(),
             store,
             depth,
+            lenient,
         }
+    }
+}
+
+/// A core as `new` makes it.
+impl<V: Fresh, S: Drop> Default for RuntimeCore<V, S> {
+    ghost is_default = { λ core.
+        (⟦<RuntimeCore<V, S> as Runtime>⟧.view core ≡ core_view V.fresh 32)
+        × (⟦<RuntimeCore<V, S> as Runtime>⟧.store core ≡ None) };
+
+    fn default() -> RuntimeCore<V, S> {
+        RuntimeCore::new()
     }
 }
 
@@ -47,7 +62,7 @@ impl<V: Fresh, S: Drop> Runtime for RuntimeCore<V, S> {
 
     type Store = S;
 
-    ghost view = { λ c. core_with c.registers c.depth };
+    ghost view = { λ c. core_with c.registers c.depth c.lenient };
 
     ghost store = { λ c. c.store };
 
@@ -105,5 +120,9 @@ impl<V: Fresh, S: Drop> Runtime for RuntimeCore<V, S> {
 
     fn depth(&self) -> u32 {
         self.depth
+    }
+
+    fn is_lenient(&self) -> bool {
+        self.lenient
     }
 }

@@ -116,4 +116,8 @@ impl<P: Runtime> Runtime for SandboxedStackFrame<P> {
     fn depth(&self) -> u32 {
         self.parent.depth()
     }
+
+    fn is_lenient(&self) -> bool {
+        self.parent.is_lenient()
+    }
 }

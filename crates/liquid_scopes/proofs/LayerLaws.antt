@@ -116,6 +116,16 @@ module _ {Reg : Type 0} where
   depth_is (global_layer g) v = refl
   depth_is (sandboxed_layer d n s) v = refl
 
+  lenient_is : (l : Layer Reg) (v : View Reg) → (layer_view l v).lenient ≡ v.lenient
+  lenient_is none_layer v = refl
+  lenient_is (stack_layer d n) v = refl
+  lenient_is (global_layer g) v = refl
+  lenient_is (sandboxed_layer d n s) v = refl
+
+  pub shown_lenient : (v : View Reg) (ls : List (Layer Reg)) → (shown_over v ls).lenient ≡ v.lenient
+  shown_lenient v [] = refl
+  shown_lenient v (l ∷ ls) = shown_lenient (layer_view l v) ls ∙ lenient_is l v
+
   pub shown_depth : (v : View Reg) (ls : List (Layer Reg)) → (shown_over v ls).depth ≡ v.depth
   shown_depth v [] = refl
   shown_depth v (l ∷ ls) = shown_depth (layer_view l v) ls ∙ depth_is l v

@@ -4,5 +4,6 @@ pub mod TwoLooks
 pub mod IndexLaws
 pub mod Places
 pub mod Unlisted
+pub mod Sealed
 pub mod FlatLaws
 pub mod Alike

@@ -24,13 +24,13 @@ or_of_none : (o below : Option Tree) → is_some o ≡ false → option_or o bel
 or_of_none None below e = refl
 or_of_none (Some t) below e = absurd (cc)
 
-suc_below : (i s : ℕ) → nat_lt (suc i) (suc s) ≡ nat_lt i s
+pub suc_below : (i s : ℕ) → nat_lt (suc i) (suc s) ≡ nat_lt i s
 suc_below i s = grind (arith, nat_tests)
 
-zero_below : (s : ℕ) → nat_lt 0 (suc s) ≡ true
+pub zero_below : (s : ℕ) → nat_lt 0 (suc s) ≡ true
 zero_below s = grind (arith, nat_tests)
 
-none_below : (i : ℕ) → nat_lt i 0 ≡ false
+pub none_below : (i : ℕ) → nat_lt i 0 ≡ false
 none_below i = grind (arith, nat_tests)
 
 first_none : (b : Bool) (S : Option ℕ) (value below : Option Tree) → two_looks None S value (cond b None below) ≡ two_looks None (option_or (option_map (λ i. suc i) S) (cond b (Some 0) None)) value below
@@ -105,10 +105,10 @@ module _ {Reg : Type 0} where
   passes (global_layer g) q below e = or_of_none (get g q) below e
   passes (sandboxed_layer d n s) q below e = not_there (get d q) e
 
-  tail_top : (l : Layer Reg) (ls : List (Layer Reg)) (q : List ℕ) (i : ℕ) → TopOf (has_at (l ∷ ls) q) (Some (suc i)) → TopOf (has_at ls q) (Some i)
+  pub tail_top : (l : Layer Reg) (ls : List (Layer Reg)) (q : List ℕ) (i : ℕ) → TopOf (has_at (l ∷ ls) q) (Some (suc i)) → TopOf (has_at ls q) (Some i)
   tail_top l ls q i h = (h.0, λ j lt. h.1 (suc j) (omega arith))
 
-  none_after : (l : Layer Reg) (ls : List (Layer Reg)) (q : List ℕ) → TopOf (has_at (l ∷ ls) q) (Some 0) → TopOf (has_at ls q) None
+  pub none_after : (l : Layer Reg) (ls : List (Layer Reg)) (q : List ℕ) → TopOf (has_at (l ∷ ls) q) (Some 0) → TopOf (has_at ls q) None
   none_after l ls q h = λ j. h.1 (suc j) (omega arith)
 
   pub looks_are_enough : (ls : List (Layer Reg)) (q : List ℕ) (top : Option ℕ) (below : Option Tree) → TopOf (has_at ls q) top → found_over ls q below ≡ two_looks top (last_seal ls) (own_at_top top ls q) below

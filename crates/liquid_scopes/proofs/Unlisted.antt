@@ -11,7 +11,7 @@ use Rattle.liquid_scopes.specs.NamePlaces.{TopOf, is_at, is_under}
 use Rattle.liquid_scopes.specs.Standing.{two_looks, own_at, has_at, listed_at, seen_over, own_at_top, last_seal}
 use Rattle.liquid_scopes.proofs.TwoLooks.{sought}
 
-and_true : (b : Bool) → (b && true) ≡ b
+pub and_true : (b : Bool) → (b && true) ≡ b
 and_true true = refl
 and_true false = refl
 
@@ -31,14 +31,14 @@ pub absent : (P : ℕ → Bool) (i j : ℕ) (b : Bool) → nat_eq j i ≡ b → 
 absent P i j true e h = let k : j ≡ i = grind (arith, nat_tests) in and_false (P j) ∙ sym (ap P k ∙ h)
 absent P i j false e h = and_true (P j)
 
-top_same : (P Q : ℕ → Bool) (top : Option ℕ) → ((j : ℕ) → P j ≡ Q j) → TopOf P top → TopOf Q top
+pub top_same : (P Q : ℕ → Bool) (top : Option ℕ) → ((j : ℕ) → P j ≡ Q j) → TopOf P top → TopOf Q top
 top_same P Q None e h = λ j. sym (e j) ∙ h j
 top_same P Q (Some i) e h = (sym (e i) ∙ h.0, λ j lt. sym (e j) ∙ h.1 j lt)
 
-top_over : (P : ℕ → Bool) (i k : ℕ) → i < k → TopOf (λ j. P j && not (is_at (Some i) j)) (Some k) → TopOf P (Some k)
+pub top_over : (P : ℕ → Bool) (i k : ℕ) → i < k → TopOf (λ j. P j && not (is_at (Some i) j)) (Some k) → TopOf P (Some k)
 top_over P i k lt h = (sym (other P i k lt) ∙ h.0, λ j l. sym (other P i j (omega arith)) ∙ h.1 j l)
 
-top_here : (P : ℕ → Bool) (i : ℕ) (listed : Option ℕ) → is_under i listed ≡ false → P i ≡ true → TopOf (λ j. P j && not (is_at (Some i) j)) listed → TopOf P (Some i)
+pub top_here : (P : ℕ → Bool) (i : ℕ) (listed : Option ℕ) → is_under i listed ≡ false → P i ≡ true → TopOf (λ j. P j && not (is_at (Some i) j)) listed → TopOf P (Some i)
 top_here P i None e has h = (has, λ j lt. sym (other P i j lt) ∙ h j)
 top_here P i (Some k) e has h = let le : k ≤ i = grind (arith, nat_tests) in (has, λ j lt. sym (other P i j lt) ∙ h.1 j (omega arith))
 
@@ -76,7 +76,7 @@ module _ {Reg : Type 0} where
       → w ≡ two_looks listed S (own_at_top listed ls q) (lookup v q) → w ≡ lookup (shown_over v ls) q
   at_listed v ls q listed S w h s e = e ∙ sym (sought v ls q listed S h s)
 
-  absent_top : (ls : List (Layer Reg)) (q : List ℕ) (listed : Option ℕ) (u : ℕ) → has_at ls q u ≡ false → TopOf (listed_at ls (Some u) q) listed → TopOf (has_at ls q) listed
+  pub absent_top : (ls : List (Layer Reg)) (q : List ℕ) (listed : Option ℕ) (u : ℕ) → has_at ls q u ≡ false → TopOf (listed_at ls (Some u) q) listed → TopOf (has_at ls q) listed
   absent_top ls q listed u none h = top_same (listed_at ls (Some u) q) (has_at ls q) listed (λ j. absent (has_at ls q) u j (nat_eq j u) refl none) h
 
   passed : (v : View Reg) (ls : List (Layer Reg)) (q : List ℕ) (listed S : Option ℕ) (u i : ℕ) (c : Bool) (w : Option Tree) → cond c None (Some u) ≡ Some i

@@ -28,6 +28,13 @@ two_looks None (Some s) value below = None
 two_looks (Some i) None value below = value
 two_looks (Some i) (Some s) value below = cond (nat_lt i s) None value
 
+-- whether a name is the own name of a sandboxed frame, by its last place, the last sandboxed frame and the base
+abbrev pub sealed_by : Option ℕ → Option ℕ → Bool → Bool
+sealed_by None None below = below
+sealed_by None (Some s) below = true
+sealed_by (Some i) None below = false
+sealed_by (Some i) (Some s) below = not (nat_lt s i)
+
 -- the place of the unlisted frame, if neither the name's last listed place nor the last sandboxed frame stands over it
 abbrev pub seen_over : Option ℕ → Option ℕ → Option ℕ → Option ℕ
 seen_over listed seal None = None

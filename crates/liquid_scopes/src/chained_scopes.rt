@@ -1,11 +1,15 @@
-ghost use Rattle.std.specs.Prelude.{◌≡◌, ◌∷◌, map};
+ghost use Rattle.std.specs.Prelude.{◌≡◌, ◌∷◌, map, option_map};
+ghost use Rattle.liquid_value.specs.View.{view as tree_of};
+ghost use Rattle.liquid_runtime.specs.View.{View};
 ghost use Rattle.liquid_runtime.specs.Frames.{scope_base};
-ghost use Rattle.liquid_scopes.specs.Layers.{shown_over, restoring, LastGlobal};
+ghost use Rattle.liquid_runtime.specs.NamesSeen.{comes_from_seal};
+ghost use Rattle.liquid_scopes.specs.Layers.{shown_over, restoring, layer_found, layer_seals, LastGlobal};
 ghost use Rattle.liquid_scopes.specs.LinkLayers.{layer_of};
 
 use crate::link::{Link, closing, opening};
-use crate::links::{name_over, roots_over, seals_over};
+use crate::links::{name_over, roots_over};
 use liquid_error::Error;
+use liquid_runtime::names::value_of;
 use liquid_runtime::{Frame, Registers, Runtime, Scopes};
 use liquid_value::Value;
 use std::alloc::{AllocError, Global};
@@ -110,6 +114,10 @@ impl<R: Runtime> Runtime for ChainedScopes<R> {
     fn depth(&self) -> u32 {
         self.base.depth()
     }
+
+    fn is_lenient(&self) -> bool {
+        self.base.is_lenient()
+    }
 }
 
 impl<R: Runtime> Scopes for ChainedScopes<R> {
@@ -154,4 +162,54 @@ impl<R: Runtime> Scopes for ChainedScopes<R> {
         } = self;
         base
     }
+}
+
+// A walk over the links asks each of them, so that only chained scopes have one.
+impl<V> Link<V> {
+    #[tactic(auto, using(liquid_runtime::proofs::FrameLookups::own_first))]
+    fn found<'a>(&'a self, name: &str, below: Option<&'a Value>) -> Option<&'a Value>
+        ensures { option_map (λ r. tree_of r.now) result ≡ layer_found (layer_of self.now) name.now (option_map (λ r. tree_of r.now) below.entry) }
+    {
+        match self {
+            Link::None => below,
+            Link::Stack(data, _) => match value_of(data, name) {
+                Some(value) => Some(value),
+                None => below,
+            },
+            Link::Global(assigned) => match value_of(assigned, name) {
+                Some(value) => Some(value),
+                None => below,
+            },
+            Link::Sandboxed(data, _, _) => value_of(data, name),
+        }
+    }
+
+    #[tactic(auto, using(liquid_runtime::proofs::FrameLookups::own_first))]
+    fn seals(&self, name: &str, below: bool) -> bool
+        ensures { result ≡ layer_seals (layer_of self.now) name.now below }
+    {
+        match self {
+            Link::None => below,
+            Link::Stack(data, _) => match value_of(data, name) {
+                Some(_) => false,
+                None => below,
+            },
+            Link::Global(assigned) => match value_of(assigned, name) {
+                Some(_) => false,
+                None => below,
+            },
+            Link::Sandboxed(_, _, _) => true,
+        }
+    }
+}
+
+// Whether the name, if it has a value, is the own name of a sandboxed frame.
+fn seals_over<V>(links: &[Link<V>], name: &str, below: bool) -> bool
+    ensures { (v : View V) → below ≡ comes_from_seal v name.now → result ≡ comes_from_seal (shown_over v (map layer_of links.now)) name.now }
+{
+    let mut sealed = below;
+    for link in links {
+        sealed = link.seals(name, sealed);
+    }
+    sealed
 }

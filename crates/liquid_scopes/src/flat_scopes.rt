@@ -1,18 +1,15 @@
 //! Scopes whose names are found in at most two looks.
-ghost use Rattle.std.specs.Prelude.{◌≡◌, ◌≤◌, ◌<◌, ◌+◌, ◌^◌, ◌∷◌, map, IfOk, IfSome, option_map};
+ghost use Rattle.std.specs.Prelude.{◌≡◌, ◌≤◌, ◌<◌, ◌+◌, ◌^◌, ◌∷◌, ℕ, map, IfOk, IfSome, option_map};
 ghost use Rattle.liquid_paths.specs.InPlace.{InPlace};
 ghost use Rattle.liquid_paths.specs.PathOf.{indexes_of};
 ghost use Rattle.liquid_value.specs.Cow.{cow_view};
-ghost use Rattle.liquid_value.specs.View.{view as tree_of};
 ghost use Rattle.liquid_runtime.specs.Frames.{scope_base};
 ghost use Rattle.liquid_runtime.specs.Lookup.{try_path};
-ghost use Rattle.liquid_runtime.specs.NamesSeen.{lookup};
 ghost use Rattle.liquid_scopes.specs.Layers.{shown_over, restoring};
 ghost use Rattle.liquid_scopes.specs.LinkLayers.{layer_of};
-ghost use Rattle.liquid_scopes.specs.Standing.{two_looks, own_at_top, last_seal};
 
-use crate::looks::Looks;
-use crate::shown::Shown;
+use crate::link::{closing, opening};
+use crate::table::{Table, look_up};
 use liquid_error::Error;
 use liquid_paths::try_find;
 use liquid_runtime::{Frame, Registers, Runtime, Scopes};
@@ -20,6 +17,62 @@ use liquid_scalar::ScalarCow;
 use liquid_value::{Value, ValueCow};
 use std::alloc::{AllocError, Global};
 use std::collections::BTreeSet;
+use std::marker::Model;
+
+/// Counts how often a lookup asks a place, or the base, for the value of a name.
+#[derive(Drop)]
+pub struct Looks {
+    count: Count,
+}
+
+impl Model for Looks {
+    ghost Value = { ℕ };
+
+    ghost view = { λ l. l.count.looks };
+}
+
+impl Looks {
+    /// No look yet.
+    pub fn new() -> Looks
+        ensures { result ≡ 0 }
+    {
+        Looks {
+            count: Count { looks: 0 },
+        }
+    }
+
+    /// The looks that were counted.
+    pub fn count(&self) -> u64
+        ensures { result ≡ self.now }
+    {
+        self.count.looks
+    }
+}
+
+impl Default for Looks {
+    ghost is_default = { λ looks. looks ≡ 0 };
+
+    fn default() -> Looks {
+        Looks::new()
+    }
+}
+
+/// What the frames count their looks by. It is made here alone, and here no frame can be asked by
+/// itself: so what asks a frame counts the look where the caller of the lookup reads it.
+#[derive(Drop)]
+pub(crate) struct Count {
+    looks: u64,
+}
+
+impl Count {
+    // One look more.
+    pub(crate) fn tick(&mut self)
+        requires { self.old.looks + 1 < 2 ^ 64 }
+        ensures { self.new.looks ≡ self.old.looks + 1 }
+    {
+        self.looks += 1;
+    }
+}
 
 /// Scopes whose frames stand beside an index of their names. A name is found in at most two looks,
 /// however many frames are open: the last frame that can hold names isn't listed in the index as long
@@ -27,11 +80,13 @@ use std::collections::BTreeSet;
 /// last place by the index, or at the base.
 pub struct FlatScopes<R: Runtime> {
     alloc: Global,
-    shown: Shown<R>,
+    base: R,
+    table: Table<R::Register>,
 }
 
 impl<R: Runtime> FlatScopes<R> {
-    /// The value of a path, as by `try_get`, with the looks that it took counted.
+    /// The value of a path, as by `try_get`, with the looks that it took counted: at most two, and one
+    /// at least where there is a value.
     ///
     /// The caller's count has room for two more.
     pub fn seek(
@@ -45,59 +100,17 @@ impl<R: Runtime> FlatScopes<R> {
         ensures in_place { IfOk result (λ value. IfSome value InPlace) }
         ensures looks { looks.new ≤ looks.old + 2 }
         ensures counts { looks.old ≤ looks.new }
+        ensures finds { IfOk result (λ found. IfSome found (λ value. looks.old + 1 ≤ looks.new)) }
     {
         match path.split_first() {
             None => Ok(None),
             Some((first, rest)) => {
                 let name = first.to_kstr(alloc)?;
-                match self.seek_name(name.as_str(), looks) {
+                match look_up(&self.table, &self.base, name.as_str(), &mut looks.count) {
                     None => Ok(None),
                     Some(value) => try_find(alloc, value, rest),
                 }
             }
-        }
-    }
-
-    // The value of a name: a look at the unlisted frame, where it may be the last one of the name, and
-    // one at the last listed place or at the base.
-    fn seek_name(&self, name: &str, looks: &mut Looks) -> Option<&Value>
-        requires { looks.old + 2 < 2 ^ 64 }
-        ensures value { option_map (λ r. tree_of r.now) result ≡ lookup (⟦<FlatScopes<R> as Runtime>⟧.view self.now) name.now }
-        ensures looks { looks.new ≤ looks.old + 2 }
-        ensures counts { looks.old ≤ looks.new }
-    {
-        let listed = self.shown.listed(name);
-        match self.shown.unlisted_over(listed) {
-            Some(place) => match self.shown.look_at(place, name, looks) {
-                Some(value) => Some(value),
-                None => self.seek_listed(listed, name, looks),
-            },
-            None => self.seek_listed(listed, name, looks),
-        }
-    }
-
-    // The value that the name has at this place, or at the base where it has none. What stands below
-    // the last sandboxed frame is not seen.
-    fn seek_listed(&self, listed: Option<usize>, name: &str, looks: &mut Looks) -> Option<&Value>
-        requires { looks.old + 1 < 2 ^ 64 }
-        ensures value { option_map (λ r. tree_of r.now) result ≡ two_looks listed (last_seal (map layer_of self.now.shown.table.links.items)) (own_at_top listed (map layer_of self.now.shown.table.links.items) name.now) (lookup (R.view self.now.shown.base) name.now) }
-        ensures looks { looks.new ≤ looks.old + 1 }
-        ensures counts { looks.old ≤ looks.new }
-    {
-        match listed {
-            Some(place) => match self.shown.sealed() {
-                Some(seal) => {
-                    if place < seal {
-                        return None;
-                    }
-                    self.shown.look_at(place, name, looks)
-                }
-                None => self.shown.look_at(place, name, looks),
-            },
-            None => match self.shown.sealed() {
-                Some(_) => None,
-                None => self.shown.look_base(name, looks),
-            },
         }
     }
 }
@@ -107,33 +120,36 @@ impl<R: Runtime> Runtime for FlatScopes<R> {
 
     type Store = R::Store;
 
-    ghost view = { λ s. shown_over (R.view s.shown.base) (map layer_of s.shown.table.links.items) };
+    ghost view = { λ s. shown_over (R.view s.base) (map layer_of s.table.links.items) };
 
-    ghost store = { λ s. R.store s.shown.base };
+    ghost store = { λ s. R.store s.base };
 
-    ghost relent = { λ s w. record s { shown = record s.shown { base = R.relent s.shown.base w } } };
+    ghost relent = { λ s w. record s { base = R.relent s.base w } };
 
-    ghost restored = { λ s w. record s { shown = record s.shown { base = R.restored s.shown.base w } } };
+    ghost restored = { λ s w. record s { base = R.restored s.base w } };
 
-    ghost restores = { λ s. restoring (R.view s.shown.base) (map layer_of s.shown.table.links.items) (scope_base ∷ R.restores s.shown.base) };
+    ghost restores = { λ s. restoring (R.view s.base) (map layer_of s.table.links.items) (scope_base ∷ R.restores s.base) };
 
-    ghost lent = { λ s. R.lent s.shown.base };
+    ghost lent = { λ s. R.lent s.base };
 
     fn name(&self) -> Option<&str> {
-        self.shown.name()
+        self.table.name_over(self.base.name())
     }
 
     fn try_get_name(&self, name: &str) -> Option<&Value> {
         let mut looks = Looks::new();
-        self.seek_name(name, &mut looks)
+        look_up(&self.table, &self.base, name, &mut looks.count)
     }
 
     fn seals(&self, name: &str) -> bool {
-        self.shown.seals(name)
+        let mut looks = Looks::new();
+        self.table
+            .seals_over(name, self.base.seals(name), &mut looks.count)
     }
 
     fn roots(&self, alloc: Global) -> Result<BTreeSet<String>, AllocError> {
-        self.shown.roots(alloc)
+        let below = self.base.roots(alloc)?;
+        self.table.roots_over(alloc, below)
     }
 
     fn try_get(
@@ -146,33 +162,47 @@ impl<R: Runtime> Runtime for FlatScopes<R> {
     }
 
     fn get_index(&self, name: &str) -> Option<&Value> {
-        self.shown.get_index(name)
+        self.base.get_index(name)
     }
 
     fn set_global(&mut self, name: String, value: Value) -> Result<Option<Value>, Error> {
-        self.shown.set_global(self.alloc, name, value)
+        match self.table.last_global() {
+            Some(place) => match self.table.assign(self.alloc, place, name, value) {
+                Ok(old) => Ok(old),
+                Err(e) => Err(e),
+            },
+            None => match self.base.set_global(name, value) {
+                Ok(old) => Ok(old),
+                Err(e) => Err(e),
+            },
+        }
     }
 
     fn set_index(&mut self, name: String, value: Value) -> Result<Option<Value>, Error> {
-        self.shown.set_index(name, value)
+        match self.base.set_index(name, value) {
+            Ok(old) => Ok(old),
+            Err(e) => Err(e),
+        }
     }
 
     fn registers(&self) -> &Registers<R::Register> {
-        self.shown.registers()
+        self.base.registers()
     }
 
     fn registers_mut(&mut self) -> &mut Registers<R::Register> {
-        let shown = &mut self.shown;
-        shown.registers_mut()
+        self.base.registers_mut()
     }
 
     fn partials(&mut self) -> Option<&mut R::Store> {
-        let shown = &mut self.shown;
-        shown.partials()
+        self.base.partials()
     }
 
     fn depth(&self) -> u32 {
-        self.shown.depth()
+        self.base.depth()
+    }
+
+    fn is_lenient(&self) -> bool {
+        self.base.is_lenient()
     }
 }
 
@@ -182,27 +212,39 @@ impl<R: Runtime> Scopes for FlatScopes<R> {
     fn new(alloc: Global, base: R) -> FlatScopes<R> {
         FlatScopes {
             alloc,
-            shown: Shown::new(alloc, base),
+            base,
+            table: Table::new(alloc),
         }
     }
 
     fn push(&mut self, frame: Frame) -> Result<(), Error> {
-        self.shown.begin(self.alloc, frame)
+        let link = opening(self.alloc, &mut self.base, frame);
+        match self.table.add(self.alloc, link) {
+            Ok(()) => Ok(()),
+            Err(link) => {
+                closing(&mut self.base, link);
+                Err(Error::Memory)
+            }
+        }
     }
 
     fn pop(&mut self) {
-        self.shown.end();
+        match self.table.take() {
+            Some(link) => closing(&mut self.base, link),
+            None => {}
+        }
     }
 
     fn frames(&self) -> usize {
-        self.shown.frames()
+        self.table.frames()
     }
 
     fn into_base(self) -> R {
         let FlatScopes {
             alloc: _alloc,
-            shown,
+            base,
+            table: _table,
         } = self;
-        shown.into_base()
+        base
     }
 }

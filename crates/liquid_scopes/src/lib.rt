@@ -8,11 +8,9 @@ mod index;
 mod laws;
 mod link;
 mod links;
-mod looks;
-mod shown;
+mod place;
 mod table;
 
 pub use chained_scopes::ChainedScopes;
-pub use flat_scopes::FlatScopes;
+pub use flat_scopes::{FlatScopes, Looks};
 pub use laws::chained_and_flat_scopes_answer_alike;
-pub use looks::Looks;

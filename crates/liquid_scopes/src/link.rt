@@ -1,4 +1,4 @@
-ghost use Rattle.std.specs.Prelude.{◌≡◌, ℕ, List, true, false, IfOk, OnOk, OnErr, IfErr, None, string_bytes, option_map};
+ghost use Rattle.std.specs.Prelude.{◌≡◌, ◌<◌, ◌+◌, ◌^◌, ◌&&◌, ◌||◌, ℕ, List, true, false, not, nat_eq, is_some, IfOk, OnOk, OnErr, IfErr, None, string_bytes, option_map};
 ghost use Rattle.std.specs.FinMap.{get, insert};
 ghost use Rattle.liquid_error.specs.Told.{told};
 ghost use Rattle.liquid_value.specs.View.{view as tree_of};
@@ -6,10 +6,12 @@ ghost use Rattle.liquid_runtime.specs.View.{View};
 ghost use Rattle.liquid_runtime.specs.Maps.{names_of};
 ghost use Rattle.liquid_runtime.specs.Frames.{beginning, restored_by, ending};
 ghost use Rattle.liquid_runtime.specs.Calls.{frame_of, registers_of, with_registers};
-ghost use Rattle.liquid_scopes.specs.Layers.{layer_found, layer_seals, layer_name, layer_view, layer_restores, is_global, assigned, LayerNames};
+ghost use Rattle.liquid_scopes.specs.Layers.{layer_name, layer_view, layer_restores, is_global, assigned, LayerNames};
 ghost use Rattle.liquid_scopes.specs.LinkLayers.{layer_of};
-ghost use Rattle.liquid_scopes.specs.Standing.{own, is_sandboxed};
+ghost use Rattle.liquid_scopes.specs.Standing.{own, is_sandboxed, stands};
 
+use crate::flat_scopes::Count;
+use crate::index::Index;
 use liquid_error::Error;
 use liquid_runtime::names::{add_names, only_names, own_name, set_name, value_of};
 use liquid_runtime::{Frame, Registers, Runtime};
@@ -29,42 +31,6 @@ pub(crate) enum Link<V> {
 }
 
 impl<V> Link<V> {
-    #[tactic(auto, using(liquid_runtime::proofs::FrameLookups::own_first))]
-    pub(crate) fn found<'a>(&'a self, name: &str, below: Option<&'a Value>) -> Option<&'a Value>
-        ensures { option_map (λ r. tree_of r.now) result ≡ layer_found (layer_of self.now) name.now (option_map (λ r. tree_of r.now) below.entry) }
-    {
-        match self {
-            Link::None => below,
-            Link::Stack(data, _) => match value_of(data, name) {
-                Some(value) => Some(value),
-                None => below,
-            },
-            Link::Global(assigned) => match value_of(assigned, name) {
-                Some(value) => Some(value),
-                None => below,
-            },
-            Link::Sandboxed(data, _, _) => value_of(data, name),
-        }
-    }
-
-    #[tactic(auto, using(liquid_runtime::proofs::FrameLookups::own_first))]
-    pub(crate) fn seals(&self, name: &str, below: bool) -> bool
-        ensures { result ≡ layer_seals (layer_of self.now) name.now below }
-    {
-        match self {
-            Link::None => below,
-            Link::Stack(data, _) => match value_of(data, name) {
-                Some(_) => false,
-                None => below,
-            },
-            Link::Global(assigned) => match value_of(assigned, name) {
-                Some(_) => false,
-                None => below,
-            },
-            Link::Sandboxed(_, _, _) => true,
-        }
-    }
-
     // The names that are seen under the link, from those that are seen below it.
     pub(crate) fn roots_over(
         &self,
@@ -98,10 +64,13 @@ impl<V> Link<V> {
         }
     }
 
-    // The value that the frame itself gives a name.
-    pub(crate) fn own_value(&self, name: &str) -> Option<&Value>
-        ensures { option_map (λ r. tree_of r.now) result ≡ own (layer_of self.now) name.now }
+    // The value that the frame itself gives a name: one look.
+    pub(crate) fn look(&self, name: &str, count: &mut Count) -> Option<&Value>
+        requires { count.old.looks + 1 < 2 ^ 64 }
+        ensures value { option_map (λ r. tree_of r.now) result ≡ own (layer_of self.now) name.now }
+        ensures looks { count.new.looks ≡ count.old.looks + 1 }
     {
+        count.tick();
         match self {
             Link::None => None,
             Link::Stack(data, _) | Link::Global(data) | Link::Sandboxed(data, _, _) => {
@@ -118,6 +87,35 @@ impl<V> Link<V> {
             Link::None => false,
             Link::Global(_) => true,
             Link::Stack(data, _) | Link::Sandboxed(data, _, _) => has_names(data),
+        }
+    }
+
+    // The frame at this place gives its names a value; where memory is wanting, some of them.
+    #[inline(always)]
+    #[tactic(auto, using(crate::proofs::FlatLaws::no_names_stand))]
+    pub(crate) fn note(&self, index: &mut Index, alloc: Global, place: usize) -> Result<(), Error>
+        ensures noted { OnOk result ((q : List ℕ) (j : ℕ) → stands index.new.places q j ≡ (stands index.old.places q j || (is_some (own (layer_of self.now) q) && nat_eq j place))) }
+        ensures partly { (q : List ℕ) (j : ℕ) → (stands index.new.places q j || (is_some (own (layer_of self.now) q) && nat_eq j place)) ≡ (stands index.old.places q j || (is_some (own (layer_of self.now) q) && nat_eq j place)) }
+    {
+        match self {
+            Link::None => Ok(()),
+            Link::Stack(data, _) | Link::Global(data) | Link::Sandboxed(data, _, _) => {
+                index.note_all(alloc, data, place)
+            }
+        }
+    }
+
+    // The frame at this place gives none of its names a value any more.
+    #[inline(always)]
+    #[tactic(auto, using(crate::proofs::FlatLaws::no_names_stand))]
+    pub(crate) fn forget(&self, index: &mut Index, place: usize)
+        ensures { (q : List ℕ) (j : ℕ) → stands index.new.places q j ≡ (stands index.old.places q j && not (is_some (own (layer_of self.now) q) && nat_eq j place)) }
+    {
+        match self {
+            Link::None => {}
+            Link::Stack(data, _) | Link::Global(data) | Link::Sandboxed(data, _, _) => {
+                index.forget_all(data, place);
+            }
         }
     }
 

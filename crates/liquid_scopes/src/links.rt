@@ -1,7 +1,7 @@
 //! What links over one another show, the oldest first, from what is shown below them.
 ghost use Rattle.std.specs.Prelude.{◌≡◌, map, IfOk, option_map};
 ghost use Rattle.liquid_runtime.specs.View.{View};
-ghost use Rattle.liquid_runtime.specs.NamesSeen.{comes_from_seal, names_seen};
+ghost use Rattle.liquid_runtime.specs.NamesSeen.{names_seen};
 ghost use Rattle.liquid_runtime.specs.Roots.{NamesOf};
 ghost use Rattle.liquid_scopes.specs.Layers.{shown_over};
 ghost use Rattle.liquid_scopes.specs.LinkLayers.{layer_of};
@@ -19,17 +19,6 @@ pub(crate) fn name_over<'a, V>(links: &'a [Link<V>], below: Option<&'a str>) -> 
         name = link.name_over(name);
     }
     name
-}
-
-// Whether the name, if it has a value, is the own name of a sandboxed frame.
-pub(crate) fn seals_over<V>(links: &[Link<V>], name: &str, below: bool) -> bool
-    ensures { (v : View V) → below ≡ comes_from_seal v name.now → result ≡ comes_from_seal (shown_over v (map layer_of links.now)) name.now }
-{
-    let mut sealed = below;
-    for link in links {
-        sealed = link.seals(name, sealed);
-    }
-    sealed
 }
 
 // The names that have a value.

@@ -1,22 +1,27 @@
 //! Frames in the order in which they began, with an index of their names.
-ghost use Rattle.std.specs.Prelude.{◌≡◌, ◌<◌, ◌+◌, ◌-◌, ◌^◌, ◌&&◌, ◌||◌, ◌++◌, ℕ, List, [], ◌∷◌, Bool, true, cond, length, map, not, nat_eq, is_some, bytes_eq, false, IfOk, IfErr, IfNone, OnOk, OnErr, Some, None, string_bytes, option_map, option_to_list, vec_len, vec_capacity};
-ghost use Rattle.std.specs.List.{slice_get};
+ghost use Rattle.std.specs.Prelude.{◌≡◌, ◌≤◌, ◌<◌, ◌+◌, ◌^◌, ◌&&◌, ◌||◌, ◌++◌, ℕ, List, [], ◌∷◌, true, length, map, nat_eq, bytes_eq, false, IfOk, IfErr, IfSome, IfNone, OnOk, OnErr, Some, None, string_bytes, option_map, option_to_list, vec_len, vec_capacity};
 ghost use Rattle.liquid_error.specs.Told.{Gives};
 ghost use Rattle.liquid_value.specs.View.{view as tree_of};
 ghost use Rattle.liquid_runtime.specs.View.{View};
 ghost use Rattle.liquid_runtime.specs.Frames.{Restore};
+ghost use Rattle.liquid_runtime.specs.NamesSeen.{lookup, names_seen, comes_from_seal};
+ghost use Rattle.liquid_runtime.specs.Roots.{NamesOf};
 ghost use Rattle.liquid_runtime.specs.Sets.{old_global, put_global};
-ghost use Rattle.liquid_scopes.specs.Layers.{Layer, shown_over, restoring, is_global, LastGlobal, GlobalAt};
+ghost use Rattle.liquid_scopes.specs.Layers.{shown_over, restoring, is_global, LastGlobal, GlobalAt};
 ghost use Rattle.liquid_scopes.specs.LinkLayers.{layer_of};
-ghost use Rattle.liquid_scopes.specs.Standing.{stands, own, own_at, has_at, listed_at, seen_over, is_sandboxed, last_seal, places_where};
-ghost use Rattle.liquid_scopes.specs.NamePlaces.{TopOf, is_at, is_under};
+ghost use Rattle.liquid_scopes.specs.Standing.{stands, own_at, has_at, listed_at, seen_over, own_at_top, two_looks, sealed_by, is_sandboxed, last_seal, places_where};
+ghost use Rattle.liquid_scopes.specs.NamePlaces.{TopOf};
 
+use crate::flat_scopes::Count;
 use crate::index::Index;
 use crate::link::Link;
-use crate::looks::Looks;
+use crate::links::{name_over, roots_over};
+use crate::place::{drop_place, is_at, is_under, keep_place, last_of};
 use liquid_error::Error;
+use liquid_runtime::Runtime;
 use liquid_value::Value;
-use std::alloc::Global;
+use std::alloc::{AllocError, Global};
+use std::collections::BTreeSet;
 
 /// The open frames, the oldest first. The index tells for each name the places of the frames that
 /// give it a value, but that of the unlisted frame: the last frame that can hold names is listed only
@@ -47,21 +52,74 @@ impl<V> Table<V> {
         }
     }
 
-    pub(crate) fn links(&self) -> &[Link<V>]
-        ensures { result.now ≡ self.now.links.items }
+    // How many frames there are.
+    pub(crate) fn frames(&self) -> usize
+        ensures { result ≡ length self.now.links.items }
     {
-        self.links.as_slice()
+        self.links.len()
+    }
+
+    // The name of the template over that of the base.
+    pub(crate) fn name_over<'a>(&'a self, below: Option<&'a str>) -> Option<&'a str>
+        ensures { (v : View V) → option_map (λ r. r.now) below.entry ≡ v.name → option_map (λ r. r.now) result ≡ (shown_over v (map layer_of self.now.links.items)).name }
+    {
+        name_over(self.links.as_slice(), below)
+    }
+
+    // The names that have a value, over those of the base.
+    pub(crate) fn roots_over(
+        &self,
+        alloc: Global,
+        below: BTreeSet<String>,
+    ) -> Result<BTreeSet<String>, AllocError>
+        ensures { (v : View V) → NamesOf (names_seen v) below → IfOk result (λ names. NamesOf (names_seen (shown_over v (map layer_of self.now.links.items))) names) }
+    {
+        roots_over(alloc, self.links.as_slice(), below)
+    }
+
+    // Whether the name, if it has a value, is the own name of a sandboxed frame, where `below` says so
+    // of the base. It takes one look at most.
+    pub(crate) fn seals_over(&self, name: &str, below: bool, count: &mut Count) -> bool
+        requires { count.old.looks + 1 < 2 ^ 64 }
+        ensures seals { (v : View V) → below ≡ comes_from_seal v name.now → result ≡ comes_from_seal (shown_over v (map layer_of self.now.links.items)) name.now }
+        ensures looks { count.new.looks ≤ count.old.looks + 1 }
+    {
+        let top = self.top(name, count);
+        match self.sealed() {
+            Some(seal) => !is_under(seal, top),
+            None => match top {
+                Some(_) => false,
+                None => below,
+            },
+        }
+    }
+
+    // The last place of the name, or, where a sandboxed frame stands over all its places, one of these
+    // or none.
+    fn top(&self, name: &str, count: &mut Count) -> Option<usize>
+        requires { count.old.looks + 1 < 2 ^ 64 }
+        ensures seals { (v : View V) → comes_from_seal (shown_over v (map layer_of self.now.links.items)) name.now ≡ sealed_by result (last_seal (map layer_of self.now.links.items)) (comes_from_seal v name.now) }
+        ensures looks { count.new.looks ≤ count.old.looks + 1 }
+    {
+        let listed = self.listed(name);
+        match self.unlisted_over(listed) {
+            Some(place) => match self.look_at(place, name, count) {
+                Some(_) => Some(place),
+                None => listed,
+            },
+            None => listed,
+        }
     }
 
     // The last listed place of the name.
-    pub(crate) fn listed(&self, name: &str) -> Option<usize>
+    fn listed(&self, name: &str) -> Option<usize>
         ensures { TopOf (listed_at (map layer_of self.now.links.items) self.now.unlisted name.now) result }
     {
         self.index.top(name)
     }
 
     // The place of the unlisted frame, unless it stands under this place or under a sandboxed frame.
-    pub(crate) fn unlisted_over(&self, place: Option<usize>) -> Option<usize>
+    fn unlisted_over(&self, place: Option<usize>) -> Option<usize>
         ensures { result ≡ seen_over place (last_seal (map layer_of self.now.links.items)) self.now.unlisted }
     {
         match self.unlisted {
@@ -77,7 +135,7 @@ impl<V> Table<V> {
     }
 
     // The place of the last sandboxed frame.
-    pub(crate) fn sealed(&self) -> Option<usize>
+    fn sealed(&self) -> Option<usize>
         ensures { result ≡ last_seal (map layer_of self.now.links.items) }
     {
         last_of(&self.seals)
@@ -90,15 +148,16 @@ impl<V> Table<V> {
         last_of(&self.globals)
     }
 
-    // The value that the frame at this place itself gives the name: one look.
-    pub(crate) fn look_at(&self, place: usize, name: &str, looks: &mut Looks) -> Option<&Value>
-        requires { looks.old + 1 < 2 ^ 64 }
+    // The value that the frame at this place itself gives the name: one look, where there is a frame.
+    fn look_at(&self, place: usize, name: &str, count: &mut Count) -> Option<&Value>
+        requires { count.old.looks + 1 < 2 ^ 64 }
         ensures value { option_map (λ r. tree_of r.now) result ≡ own_at place (map layer_of self.now.links.items) name.now }
-        ensures looks { looks.new ≡ looks.old + 1 }
+        ensures looks { count.new.looks ≤ count.old.looks + 1 }
+        ensures counts { count.old.looks ≤ count.new.looks }
+        ensures finds { IfSome result (λ value. count.old.looks + 1 ≤ count.new.looks) }
     {
-        looks.tick();
         match self.links.as_slice().get(place) {
-            Some(link) => link.own_value(name),
+            Some(link) => link.look(name, count),
             None => None,
         }
     }
@@ -160,13 +219,13 @@ impl<V> Table<V> {
                 return Ok(());
             }
         };
-        match note_link(&mut self.index, alloc, link, place) {
+        match link.note(&mut self.index, alloc, place) {
             Ok(()) => {
                 self.unlisted = None;
                 Ok(())
             }
             Err(error) => {
-                forget_link(&mut self.index, link, place);
+                link.forget(&mut self.index, place);
                 Err(error)
             }
         }
@@ -199,7 +258,7 @@ impl<V> Table<V> {
                     self.unlisted = None;
                     return Some(link);
                 }
-                forget_link(&mut self.index, &link, place);
+                link.forget(&mut self.index, place);
                 Some(link)
             }
             None => None,
@@ -241,6 +300,65 @@ impl<V> Table<V> {
     }
 }
 
+// The value of a name over this base: a look at the unlisted frame, where it may be the name's last
+// one, and one at its last listed place or at the base.
+pub(crate) fn look_up<'a, R: Runtime>(
+    table: &'a Table<R::Register>,
+    base: &'a R,
+    name: &str,
+    count: &mut Count,
+) -> Option<&'a Value>
+    requires { count.old.looks + 2 < 2 ^ 64 }
+    ensures value { option_map (λ r. tree_of r.now) result ≡ lookup (shown_over (R.view base.now) (map layer_of table.now.links.items)) name.now }
+    ensures looks { count.new.looks ≤ count.old.looks + 2 }
+    ensures counts { count.old.looks ≤ count.new.looks }
+    ensures finds { IfSome result (λ value. count.old.looks + 1 ≤ count.new.looks) }
+{
+    let listed = table.listed(name);
+    match table.unlisted_over(listed) {
+        Some(place) => match table.look_at(place, name, count) {
+            Some(value) => Some(value),
+            None => look_listed(table, base, listed, name, count),
+        },
+        None => look_listed(table, base, listed, name, count),
+    }
+}
+
+// The value that the name has at this place, or at the base where it has none. What stands below the
+// last sandboxed frame is not seen.
+fn look_listed<'a, R: Runtime>(
+    table: &'a Table<R::Register>,
+    base: &'a R,
+    listed: Option<usize>,
+    name: &str,
+    count: &mut Count,
+) -> Option<&'a Value>
+    requires { count.old.looks + 1 < 2 ^ 64 }
+    ensures value { option_map (λ r. tree_of r.now) result ≡ two_looks listed (last_seal (map layer_of table.now.links.items)) (own_at_top listed (map layer_of table.now.links.items) name.now) (lookup (R.view base.now) name.now) }
+    ensures looks { count.new.looks ≤ count.old.looks + 1 }
+    ensures counts { count.old.looks ≤ count.new.looks }
+    ensures finds { IfSome result (λ value. count.old.looks + 1 ≤ count.new.looks) }
+{
+    match listed {
+        Some(place) => match table.sealed() {
+            Some(seal) => {
+                if place < seal {
+                    return None;
+                }
+                table.look_at(place, name, count)
+            }
+            None => table.look_at(place, name, count),
+        },
+        None => match table.sealed() {
+            Some(_) => None,
+            None => {
+                count.tick();
+                base.try_get_name(name)
+            }
+        },
+    }
+}
+
 // Gives a name a value in the global frame at this place, wherever the name is listed.
 fn put<V>(
     links: &mut Vec<Link<V>>,
@@ -261,80 +379,5 @@ fn put<V>(
     match links[place].assign(name, value) {
         Ok(old) => Ok(old),
         Err(error) => Err(error),
-    }
-}
-
-// The frame at this place gives its names a value; where memory is wanting, some of them.
-#[inline(always)]
-#[tactic(auto, using(crate::proofs::FlatLaws::no_names_stand))]
-fn note_link<V>(index: &mut Index, alloc: Global, link: &Link<V>, frame: usize) -> Result<(), Error>
-    ensures noted { OnOk result ((q : List ℕ) (j : ℕ) → stands index.new.places q j ≡ (stands index.old.places q j || (is_some (own (layer_of link.now) q) && nat_eq j frame))) }
-    ensures partly { (q : List ℕ) (j : ℕ) → (stands index.new.places q j || (is_some (own (layer_of link.now) q) && nat_eq j frame)) ≡ (stands index.old.places q j || (is_some (own (layer_of link.now) q) && nat_eq j frame)) }
-{
-    match link {
-        Link::None => Ok(()),
-        Link::Stack(data, _) | Link::Global(data) | Link::Sandboxed(data, _, _) => {
-            index.note_all(alloc, data, frame)
-        }
-    }
-}
-
-// The frame at this place gives none of its names a value any more.
-#[inline(always)]
-#[tactic(auto, using(crate::proofs::FlatLaws::no_names_stand))]
-fn forget_link<V>(index: &mut Index, link: &Link<V>, frame: usize)
-    ensures { (q : List ℕ) (j : ℕ) → stands index.new.places q j ≡ (stands index.old.places q j && not (is_some (own (layer_of link.now) q) && nat_eq j frame)) }
-{
-    match link {
-        Link::None => {}
-        Link::Stack(data, _) | Link::Global(data) | Link::Sandboxed(data, _, _) => {
-            index.forget_all(data, frame);
-        }
-    }
-}
-
-fn is_at(unlisted: Option<usize>, place: usize) -> bool
-    ensures { result ≡ is_at unlisted place }
-{
-    match unlisted {
-        Some(unlisted) => place == unlisted,
-        None => false,
-    }
-}
-
-fn is_under(place: usize, other: Option<usize>) -> bool
-    ensures { result ≡ is_under place other }
-{
-    match other {
-        Some(other) => place < other,
-        None => false,
-    }
-}
-
-fn last_of(places: &Vec<usize>) -> Option<usize>
-    ensures { result ≡ slice_get places.now.items (length places.now.items - 1) }
-{
-    match places.as_slice().last() {
-        Some(place) => Some(*place),
-        None => None,
-    }
-}
-
-// The place stands among these if its frame is one of them.
-fn keep_place(places: &mut Vec<usize>, is_one: bool, place: usize)
-    requires { is_one ≡ true → vec_len places.old < vec_capacity places.old }
-    ensures { places.new.items ≡ places.old.items ++ cond is_one (place ∷ []) [] }
-{
-    if is_one {
-        places.push_reserved(place);
-    }
-}
-
-// The last place leaves if its frame was one of these.
-fn drop_place(places: &mut Vec<usize>, is_one: bool)
-    ensures { (kept : List ℕ) (place : ℕ) → places.old.items ≡ kept ++ cond is_one (place ∷ []) [] → places.new.items ≡ kept }
-{
-    if is_one {
-        places.pop();
     }
 }

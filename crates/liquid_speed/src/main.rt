@@ -1,7 +1,7 @@
 //! The command `liquid_speed`, which times single calls of the library by the machine's clock.
 //!
 //! `parse` and `render` time a site with a list of posts, apart from each other; `over-flat` and
-//! `over-chained` its rendering over both forms of scopes, which pushes two frames a post; `flat` and
+//! `over-chained` its rendering over both forms of scopes, which pushes a frame a post; `flat` and
 //! `chained` the look-up of a name under frames. Each word is one measure, and its table goes to
 //! standard output.
 #![tactic(auto)]

@@ -1,16 +1,15 @@
 //! A site: a page that renders a partial for each post of a list.
 use crate::problem::Problem;
-use bench::blocks::BlockNode;
+use bench::Filters;
 use bench::filters::AnyFilter;
-use bench::languages::language;
-use bench::tags::TagNode;
-use bench::{Blocks, Filters, Tags};
+use bench::languages::filters;
 use liquid_core::parser::{Filter, Language, parse};
 use liquid_core::partials::{EagerCompiler, EagerStore, InMemorySource, PartialCompiler};
 use liquid_core::runtime::{
     BuiltRuntime, ChainedScopes, FlatScopes, Renderable, RuntimeBuilder, Scopes, Template,
 };
 use liquid_core::{Object, PartialStore, TextSink, Value};
+use liquid_tags::{BlockNode, Blocks, TagNode, Tags, language};
 use std::alloc::{AllocError, Global};
 use std::rc::Rc;
 use std::time::Instant;
@@ -22,20 +21,18 @@ const CARD: &str = "<h2>{{ post.title }}</h2>\n<p>{{ post.words | append: \" wor
 
 type TheLanguage = Language<Filters, Tags, Blocks>;
 
-type Store = EagerStore<AnyFilter, TagNode, BlockNode>;
+type Store = EagerStore<InMemorySource, Filters, Tags, Blocks>;
 
 /// A runtime with the partials of a site.
 type Base = BuiltRuntime<(), Store>;
 
-type Page = Template<AnyFilter, TagNode, BlockNode>;
+type Page = Template<AnyFilter, TagNode<AnyFilter>, BlockNode>;
 
 /// The text of a page with so many posts.
 fn page_text(alloc: Global, posts: u32) -> Result<String, AllocError> {
     let mut text = String::from_str(alloc, "<h1>{{ title }}</h1>\n")?;
     for number in 0..posts {
-        let line = format!(in alloc;
-            "{{% with post posts[{number}] %}}{{% inc card %}}{{% endwith %}}\n"
-        )?;
+        let line = format!(in alloc; "{{% include \"card\", post: posts[{number}] %}}\n")?;
         text.push_str(line.as_str())?;
     }
     Ok(text)
@@ -64,7 +61,7 @@ fn globals(alloc: Global, posts: u32) -> Result<Object, AllocError> {
 }
 
 fn shared_language(alloc: Global) -> Result<Rc<TheLanguage>, AllocError> {
-    Ok(Rc::new(alloc, language(alloc)?)?)
+    Ok(Rc::new(alloc, language(alloc, filters(alloc)?)?)?)
 }
 
 fn store(alloc: Global, language: &Rc<TheLanguage>) -> Result<Store, AllocError> {
@@ -95,7 +92,7 @@ fn base(alloc: Global, posts: u32, language: &Rc<TheLanguage>) -> Result<Base, A
 /// How many nanoseconds the page of so many posts takes to be parsed.
 pub fn parse_time(rt: &HostRuntime, posts: u32) -> Result<u128, Problem> {
     let alloc = rt.alloc();
-    let language = language(alloc)?;
+    let language = shared_language(alloc)?;
     let text = page_text(alloc, posts)?;
     let mut best = u128::MAX;
     for _ in 0..ROUNDS {

@@ -305,16 +305,17 @@ emptied_globals None n i j = cc
 emptied_globals (Some g) None i j = cc
 emptied_globals (Some g) (Some h) i j = refl
 
-emptied_same : {Reg : Type 0} (fresh : Reg) (o p : View Reg) → HasGlobals o → HasGlobals p → o.depth ≡ p.depth → o.index ≡ p.index → o.name ≡ p.name → emptied fresh o ≡ emptied fresh p
-emptied_same fresh o p a b d i n =
+emptied_same : {Reg : Type 0} (fresh : Reg) (o p : View Reg) → HasGlobals o → HasGlobals p → o.depth ≡ p.depth → o.lenient ≡ p.lenient → o.index ≡ p.index → o.name ≡ p.name → emptied fresh o ≡ emptied fresh p
+emptied_same fresh o p a b d l i n =
     ap (λ x. record (emptied fresh o) { globals = x }) (emptied_globals o.globals p.globals a b)
     ∙ ap (λ x. record (emptied fresh o) { globals = without_names p.globals; depth = x }) d
-    ∙ ap (λ x. record (emptied fresh o) { globals = without_names p.globals; depth = p.depth; index = x }) i
-    ∙ ap (λ x. record (emptied fresh o) { globals = without_names p.globals; depth = p.depth; index = p.index; name = x }) n
+    ∙ ap (λ x. record (emptied fresh o) { globals = without_names p.globals; depth = p.depth; lenient = x }) l
+    ∙ ap (λ x. record (emptied fresh o) { globals = without_names p.globals; depth = p.depth; lenient = p.lenient; index = x }) i
+    ∙ ap (λ x. record (emptied fresh o) { globals = without_names p.globals; depth = p.depth; lenient = p.lenient; index = p.index; name = x }) n
 
 pub outsides_agree : {Reg F T P B Q : Type 0} (s : Setting Reg F T P B Q) → OutsidesAgree s
-outsides_agree s tl bl names name ns o p a b d i n = record {
+outsides_agree s tl bl names name ns o p a b d l i n = record {
   run = sandboxed_run s names name ns (emptied s.fresh o);
   over_one = isolated s tl bl names name ns o a;
-  over_other = isolated s tl bl names name ns p b ∙ ap (λ e. run_over_outside p (sandboxed_run s names name ns e)) (sym (emptied_same s.fresh o p a b d i n));
+  over_other = isolated s tl bl names name ns p b ∙ ap (λ e. run_over_outside p (sandboxed_run s names name ns e)) (sym (emptied_same s.fresh o p a b d l i n));
 }

@@ -1,16 +1,16 @@
 -- A sandboxed frame that is pushed, rendered under and popped.
-use Rattle.std.proofs.Common.{◌≡◌, ℕ, List, ◌∷◌, Option, None, Result, Err, subst}
+use Rattle.std.proofs.Common.{◌≡◌, ℕ, List, ◌∷◌, Option, None, Result, Err, refl, sym, ap, ◌∙◌, subst}
 use Rattle.liquid_error.specs.declared.error.Error.{Error}
 use Rattle.liquid_error.specs.Told.{told}
 use Rattle.liquid_runtime.specs.Maps.{Names}
 use Rattle.liquid_runtime.specs.View.{View}
-use Rattle.liquid_runtime.specs.Frames.{sandboxed_frame, Restore, beginning, restored_by}
+use Rattle.liquid_runtime.specs.Frames.{sandboxed_frame, Restore, beginning, restored_by, restore_sandboxed, ending}
 use Rattle.liquid_runtime.specs.OpenFrames.{EndsFirst}
 use Rattle.liquid_plugins.specs.Discreet.{Discreet}
 use Rattle.liquid_tree.specs.Tree.{Nodes}
 use Rattle.liquid_template.specs.Nodes.{Setting}
 use Rattle.liquid_template.specs.Rendering.{template_run, sandboxed_run}
-use Rattle.liquid_template.specs.Sandboxed.{RendersSandboxed}
+use Rattle.liquid_template.specs.Sandboxed.{RendersSandboxed, Untouched}
 use Rattle.liquid_template.specs.Sunk.{Sunk}
 use Rattle.liquid_template.specs.Outcome.{Renders}
 use Rattle.liquid_template.proofs.Framing.{renders_framed, renders_memory, becomes_itself}
@@ -34,3 +34,18 @@ module _ {Reg F T P B Q : Type 0} (s : Setting Reg F T P B Q) (tl : Discreet s.t
   sandboxed_renders own v v1 w x rs rs1 rs2 rs3 b a answer e h i j k r =
       sandboxed v x b a answer (subst (λ n. Renders (sandboxed_run s names n ns v) v b a x answer) e
       (renders_framed s.fresh (sandboxed_frame names own) None (template_run s ns) v v1 w x rs rs1 rs2 rs3 b a answer answer h i j k (becomes_itself answer) r))
+
+-- a sandboxed frame gives interrupt and register back when it ends
+module _ {Reg : Type 0} where
+  first_is : (r r' : Restore Reg) (rs rs' : List (Restore Reg)) → r ∷ rs ≡ r' ∷ rs' → r ≡ r'
+  first_is r r' rs rs' e = cc
+
+  pub untouched_still : (v x : View Reg) → x ≡ v → Untouched v x
+  untouched_still v x e = record { interrupt = ap (λ y. y.interrupt) e; register = ap (λ y. y.register) e }
+
+  pub untouched_after : (v w x : View Reg) (rs rs1 rs2 rs3 : List (Restore Reg))
+      → rs1 ≡ restore_sandboxed v.locals v.base v.shown v.floor v.name v.interrupt v.register ∷ rs → rs2 ≡ rs1 → EndsFirst rs2 w rs3 x → Untouched v x
+  untouched_after v w x rs rs1 rs2 rs3 i j k =
+      let r : Restore Reg = restore_sandboxed v.locals v.base v.shown v.floor v.name v.interrupt v.register in
+      let left : x ≡ ending r w = k.is_ended ∙ ap (λ y. ending y w) (first_is k.restores r rs3 rs (sym k.was_first ∙ j ∙ i)) in
+      record { interrupt = ap (λ y. y.interrupt) left; register = ap (λ y. y.register) left }

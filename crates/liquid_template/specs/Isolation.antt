@@ -24,10 +24,10 @@ module _ {Reg F T P B Q : Type 0} (s : Setting Reg F T P B Q) where
       (names : Names) (name : Option (List ℕ)) (ns : Nodes F T B) (outside : View Reg) → HasGlobals outside →
       sandboxed_run s names name ns outside ≡ run_over_outside outside (sandboxed_run s names name ns (emptied s.fresh outside))
 
-  -- so over two outsides that agree on depth, index variables and name the text, the refusal and the writes are the same
+  -- so over two outsides that agree on depth, leniency, index variables and name the text, the refusal and the writes are the same
   abbrev pub OutsidesAgree : Type 0
   OutsidesAgree =
       Discreet s.tags → Discreet s.blocks →
       (names : Names) (name : Option (List ℕ)) (ns : Nodes F T B) (o p : View Reg) → HasGlobals o → HasGlobals p →
-      o.depth ≡ p.depth → o.index ≡ p.index → o.name ≡ p.name →
+      o.depth ≡ p.depth → o.lenient ≡ p.lenient → o.index ≡ p.index → o.name ≡ p.name →
       SameRun o p (sandboxed_run s names name ns o) (sandboxed_run s names name ns p)

@@ -42,3 +42,8 @@ run_over_outside outside r = record {
 pub record RendersSandboxed {Reg : Type 0} (fresh : Reg) (action : Action Reg) (outside : View Reg) (before after : Sunk) (left : View Reg) (answer : Result (Unit {0}) Error) : Type 0 where
   pub renders : Renders (action outside) outside before after left answer
   pub isolated : HasGlobals outside → Renders (run_over_outside outside (action (emptied fresh outside))) outside before after left answer
+
+-- interrupt and register are those that were there before
+pub record Untouched {Reg : Type 0} (before after : View Reg) : Type 0 where
+  pub interrupt : after.interrupt ≡ before.interrupt
+  pub register : after.register ≡ before.register

@@ -38,6 +38,7 @@ fn rendered_text(alloc: Global, value: &Value) -> Result<CowStr<'_>, Error>
 }
 
 /// Renders a chain: its value's text, as one piece.
+#[inline(never)]
 pub(crate) fn render_chain<X, R, K>(
     alloc: Global,
     chain: &FilterChain<X>,
@@ -62,6 +63,7 @@ where
 }
 
 /// Renders a name alone, as its chain is rendered. Where the name has no value, the chain is made and tells the refusal.
+#[inline(never)]
 pub(crate) fn render_name<X, R, K>(
     alloc: Global,
     name: &str,

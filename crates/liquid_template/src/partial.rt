@@ -16,6 +16,7 @@ use std::alloc::Global;
 use std::rc::Rc;
 
 /// The refusal where no partial may be open any more.
+#[inline(never)]
 pub(crate) fn too_deep_error(alloc: Global) -> Error
     ensures { IfSome (told result) (λ r. r ≡ too_deep) }
 {
@@ -30,6 +31,7 @@ fn no_store_error(alloc: Global, name: &str) -> Error
 }
 
 /// Finds a partial in the store, if there is one.
+#[inline(never)]
 pub(crate) fn find<X, T, B, S>(
     alloc: Global,
     name: &str,

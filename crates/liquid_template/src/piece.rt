@@ -9,6 +9,7 @@ use std::alloc::Global;
 
 /// Puts a piece until the sink has all of it; an empty piece makes no put. A failure of the sink is
 /// refused as "Failed to render".
+#[inline(never)]
 pub(crate) fn write_piece<K: Sink>(alloc: Global, sink: &mut K, piece: &str) -> Result<(), Error>
     ensures { PieceOut piece.now
         (sunk (K.taken sink.old) (K.failures sink.old) (K.behind sink.old) (K.lent sink.old))

@@ -3,7 +3,7 @@ ghost use Rattle.std.specs.Prelude.{◌≡◌, IfOk, option_map, string_bytes};
 ghost use Rattle.liquid_runtime.specs.Maps.{names_of};
 ghost use Rattle.liquid_template.specs.Rendering.{sandboxed_run};
 ghost use Rattle.liquid_template.specs.Runs.{setting};
-ghost use Rattle.liquid_template.specs.Sandboxed.{RendersSandboxed};
+ghost use Rattle.liquid_template.specs.Sandboxed.{RendersSandboxed, Untouched};
 ghost use Rattle.liquid_template.specs.Sunk.{sunk};
 ghost use Rattle.liquid_template.specs.TemplateOf.{template_nodes};
 
@@ -23,9 +23,9 @@ impl<X: Filter, T, B> Template<X, T, B> {
     ///
     /// Text, refusal and what is written are those over scopes that have no other names. So are the
     /// index variables that are left; names that the template assigned stand over the globals that
-    /// were there, and interrupt and register stay. `name` is the template's name; where it is not
-    /// told, the name is that of the scopes. Refusals, a sink that fails and want of memory leave what
-    /// they leave of `render_in`.
+    /// were there. Interrupt and register are afterwards what they were before, whatever the answer.
+    /// `name` is the template's name; where it is not told, the name is that of the scopes. Refusals,
+    /// a sink that fails and want of memory leave what they leave of `render_in`.
     pub fn render_sandboxed_in<S, K>(
         &self,
         alloc: Global,
@@ -48,6 +48,7 @@ impl<X: Filter, T, B> Template<X, T, B> {
             (sunk (K.taken sink.old) (K.failures sink.old) (K.behind sink.old) (K.lent sink.old))
             (sunk (K.taken sink.new) (K.failures sink.new) (K.behind sink.new) (K.lent sink.new))
             (S.view scopes.new) result }
+        ensures untouched { Untouched (S.view scopes.old) (S.view scopes.new) }
         ensures kept { S.restores scopes.new ≡ S.restores scopes.old }
         ensures finds { option_map S.Store.finds (S.store scopes.new) ≡ option_map S.Store.finds (S.store scopes.old) }
         ensures same { S.lent scopes.new ≡ S.lent scopes.old }
@@ -89,6 +90,7 @@ impl<X: Filter, T, B> Template<X, T, B> {
             (sunk (K.taken sink.old) (K.failures sink.old) (K.behind sink.old) (K.lent sink.old))
             (sunk (K.taken sink.new) (K.failures sink.new) (K.behind sink.new) (K.lent sink.new))
             (R.view parent.new) result }
+        ensures untouched { Untouched (R.view parent.old) (R.view parent.new) }
         ensures kept { R.restores parent.new ≡ R.restores parent.old }
         ensures finds { option_map R.Store.finds (R.store parent.new) ≡ option_map R.Store.finds (R.store parent.old) }
         ensures same { R.lent parent.new ≡ R.lent parent.old }

@@ -7,6 +7,7 @@ use liquid_error::Error;
 use std::alloc::Global;
 
 /// Puts the trace, if one is given, on an error.
+#[inline(never)]
 pub(crate) fn with_own_trace(
     alloc: Global,
     answer: Result<(), Error>,

@@ -2,6 +2,8 @@
 #![tactic(auto)]
 
 #[cfg(test)]
+mod attempts;
+#[cfg(test)]
 mod blocks;
 #[cfg(test)]
 mod chains;
@@ -14,6 +16,12 @@ mod filters;
 #[cfg(test)]
 mod made;
 #[cfg(test)]
+mod reflections;
+#[cfg(test)]
+mod taken;
+#[cfg(test)]
 mod tokens;
 #[cfg(test)]
 mod told;
+#[cfg(test)]
+mod variables;

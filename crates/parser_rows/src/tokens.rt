@@ -14,7 +14,11 @@ fn texts(alloc: Global, text: &str) -> Result<String, AllocError> {
 }
 
 /// The texts of so many tokens at most, joined by ` / `.
-fn joined(alloc: Global, tokens: TagTokenIter<'_>, count: usize) -> Result<String, AllocError> {
+pub(crate) fn joined(
+    alloc: Global,
+    tokens: TagTokenIter<'_>,
+    count: usize,
+) -> Result<String, AllocError> {
     let mut tokens = tokens;
     let mut texts = Vec::new(alloc);
     for _ in 0..count {
@@ -124,12 +128,12 @@ fn tags_have_tokens(rt: HostRuntime) -> Result<(), Fail> {
 }
 
 /// The tokens of a tag.
-fn tokens_of(alloc: Global, text: &str) -> Result<TagTokenIter<'_>, Error> {
+pub(crate) fn tokens_of(alloc: Global, text: &str) -> Result<TagTokenIter<'_>, Error> {
     Ok(Tag::new(alloc, text)?.into_tokens())
 }
 
 /// The first token of a tag.
-fn first_token(alloc: Global, text: &str) -> Result<TagToken<'_>, Error> {
+pub(crate) fn first_token(alloc: Global, text: &str) -> Result<TagToken<'_>, Error> {
     tokens_of(alloc, text)?.expect_next(alloc, "Token expected")
 }
 

@@ -10,6 +10,8 @@ mod framed;
 #[cfg(test)]
 mod frames;
 #[cfg(test)]
+mod lenient;
+#[cfg(test)]
 mod made;
 #[cfg(test)]
 mod paths;

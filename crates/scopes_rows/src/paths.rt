@@ -2,7 +2,7 @@
 use crate::values::answer_text;
 use json_lines::Line;
 use liquid_json::to_value;
-use liquid_paths::{Path, find, try_find};
+use liquid_paths::{Path, find, find_behind, try_find};
 use liquid_scalar::ScalarCow;
 use liquid_value::Value;
 use liquid_views::ArrayView;
@@ -47,10 +47,10 @@ fn index_of(member: &Json) -> Result<ScalarCow<'_>, Fail> {
     }
 }
 
-/// The path of a row.
-fn path_of(alloc: Global, row: &Line) -> Result<Vec<ScalarCow<'_>>, Fail> {
+/// The path of these indexes.
+pub(crate) fn path_of(alloc: Global, indexes: &Vec<Json>) -> Result<Vec<ScalarCow<'_>>, Fail> {
     let mut path = Vec::new(alloc);
-    for member in row.list(0)? {
+    for member in indexes {
         path.push(index_of(member)?)?;
     }
     Ok(path)
@@ -79,11 +79,61 @@ fn is_tried_alike(
 /// Whether the path of a row leads to what the row tells, tried or not.
 fn row_holds(alloc: Global, value: &Value, line: &str) -> Result<bool, Fail> {
     let row = Line::of(alloc, line)?;
-    let path = path_of(alloc, &row)?;
+    let path = path_of(alloc, row.list(0)?)?;
     Ok(
         leads_to(alloc, value, path.as_slice(), row.text(1)?)?
             && is_tried_alike(alloc, value, path.as_slice())?,
     )
+}
+
+/// Values, a path into each, and the text of its refusal.
+const REFUSED: &str =
+    r#"[{"a": 1}, ["x", "y"], "liquid: Unknown index\n  with:\n    requested index=x\n    available indexes=a\n"]
+[{"a": {"c": 1, "d": 2}}, ["a", "b"], "liquid: Unknown index\n  with:\n    variable=a\n    requested index=b\n    available indexes=c, d\n"]"#;
+
+/// Whether the rest of a path behind its first indexes is answered by a text.
+fn leads_on_to(
+    alloc: Global,
+    front: usize,
+    value: &Value,
+    path: &[ScalarCow<'_>],
+    answer: &str,
+) -> Result<bool, AllocError> {
+    Ok(answer_text(alloc, find_behind(alloc, front, value, path))?.as_str() == answer)
+}
+
+#[test]
+fn a_walk_may_begin_behind_a_path(rt: HostRuntime) -> Result<(), Fail> {
+    let alloc = rt.alloc();
+    let value = to_value(alloc, &Json::from_str(alloc, r#"{"c": 1, "d": 2}"#)?)?;
+    let known = [ScalarCow::from("a"), ScalarCow::from("d")];
+    assert!(rt; leads_on_to(alloc, 1, &value, &known, "2")?);
+    assert!(rt; leads_on_to(alloc, 2, &value, &known, "c1d2")?);
+    let unknown = [ScalarCow::from("a"), ScalarCow::from("b")];
+    let refusal =
+        "liquid: Unknown index\n  with:\n    variable=a\n    requested index=b\n    available indexes=c, d\n";
+    assert!(rt; leads_on_to(alloc, 1, &value, &unknown, refusal)?);
+    Ok(())
+}
+
+/// Whether the path of a row is refused as the row tells, tried or not.
+fn refusal_holds(alloc: Global, line: &str) -> Result<bool, Fail> {
+    let row = Line::of(alloc, line)?;
+    let value = to_value(alloc, row.member(0)?)?;
+    let path = path_of(alloc, row.list(1)?)?;
+    Ok(
+        leads_to(alloc, &value, path.as_slice(), row.text(2)?)?
+            && is_tried_alike(alloc, &value, path.as_slice())?,
+    )
+}
+
+#[test]
+fn paths_are_refused(rt: HostRuntime) -> Result<(), Fail> {
+    let alloc = rt.alloc();
+    for line in REFUSED.lines() {
+        assert!(rt; refusal_holds(alloc, line)?, "{line}");
+    }
+    Ok(())
 }
 
 #[test]

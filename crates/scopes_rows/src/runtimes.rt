@@ -7,6 +7,7 @@ use liquid_runtime::{
 };
 use liquid_scalar::ScalarCow;
 use liquid_value::{Object, Value};
+use liquid_views::ValueView;
 use std::alloc::{AllocError, Global};
 use std::test::Fail;
 
@@ -32,10 +33,12 @@ fn name_text<R: Runtime>(alloc: Global, runtime: &R, name: &str) -> Result<Strin
 fn built(
     alloc: Global,
     globals: &[(&'static str, i64)],
+    lenient: bool,
 ) -> Result<BuiltRuntime<Marks, ()>, AllocError> {
     Ok(
         RuntimeBuilder::new(alloc)
             .set_globals(numbers(alloc, globals)?)
+            .set_lenient(lenient)
             .build(),
     )
 }
@@ -52,14 +55,17 @@ fn is_name<R: Runtime>(
     Ok(name_text(alloc, runtime, name)?.as_str() == text)
 }
 
-/// Whether a path is refused by a text.
+/// Whether a path is refused by a text, or is nil in a lenient runtime.
 fn is_refused<R: Runtime>(
     alloc: Global,
     runtime: &R,
     path: &[ScalarCow<'_>],
     refusal: &str,
 ) -> Result<bool, AllocError> {
-    Ok(answer_text(alloc, runtime.get(alloc, path))?.as_str() == refusal)
+    match runtime.get(alloc, path) {
+        Ok(value) => Ok(runtime.is_lenient() && value.is_nil()),
+        Err(error) => Ok(!runtime.is_lenient() && error.to_string(alloc)?.as_str() == refusal),
+    }
 }
 
 /// Whether trying a name comes to a value.
@@ -90,7 +96,7 @@ fn shows_b_and_c<R: Runtime>(alloc: Global, runtime: &R) -> Result<bool, AllocEr
 /// Whether `b` and `c` have their numbers, and `a` is refused.
 fn refuses_a<R: Runtime>(alloc: Global, runtime: &R) -> Result<bool, AllocError> {
     Ok(
-        is_name(alloc, runtime, "a", UNKNOWN_A)?
+        is_refused(alloc, runtime, &[ScalarCow::from("a")], UNKNOWN_A)?
             && is_name(alloc, runtime, "b", "2")?
             && is_name(alloc, runtime, "c", "3")?,
     )
@@ -150,9 +156,11 @@ fn frames_hold(alloc: Global, runtime: &mut BuiltRuntime<Marks, ()>) -> Result<b
 #[test]
 fn frames_show_and_hide_names(rt: HostRuntime) -> Result<(), Fail> {
     let alloc = rt.alloc();
-    let mut runtime = built(alloc, &[("a", 1)])?;
-    assert!(rt; frames_hold(alloc, &mut runtime)?);
-    assert!(rt; is_name(alloc, &runtime, "a", "1")?);
+    for lenient in [false, true] {
+        let mut runtime = built(alloc, &[("a", 1)], lenient)?;
+        assert!(rt; frames_hold(alloc, &mut runtime)?);
+        assert!(rt; is_name(alloc, &runtime, "a", "1")?);
+    }
     Ok(())
 }
 
@@ -174,6 +182,22 @@ fn is_new<R: Runtime>(
     number: i64,
 ) -> Result<bool, Error> {
     Ok(set_number(alloc, runtime, name, number)?.is_none())
+}
+
+/// Whether a frame with `test` hides the global of that name.
+fn is_hidden(alloc: Global, runtime: &mut BuiltRuntime<Marks, ()>) -> Result<bool, AllocError> {
+    let frame = StackFrame::new(runtime, numbers(alloc, &[("test", 3)])?);
+    is_name(alloc, &frame, "test", "3")
+}
+
+#[test]
+fn a_frame_hides_a_global_while_it_is_open(rt: HostRuntime) -> Result<(), Fail> {
+    let alloc = rt.alloc();
+    let mut runtime = built(alloc, &[], false)?;
+    assert!(rt; is_new(alloc, &mut runtime, "test", 42)?);
+    assert!(rt; is_hidden(alloc, &mut runtime)?);
+    assert!(rt; is_name(alloc, &runtime, "test", "42")?);
+    Ok(())
 }
 
 /// Sets `test` to 43, and answers whether it was 42.
@@ -207,7 +231,7 @@ fn has_globals<R: Runtime>(alloc: Global, runtime: &R) -> Result<bool, AllocErro
 #[test]
 fn a_global_is_set_below_a_frame(rt: HostRuntime) -> Result<(), Fail> {
     let alloc = rt.alloc();
-    let mut runtime = built(alloc, &[])?;
+    let mut runtime = built(alloc, &[], false)?;
     assert!(rt; is_new(alloc, &mut runtime, "test", 42)?);
     assert!(rt; sets_below_page(alloc, &mut runtime)?);
     assert!(rt; has_globals(alloc, &runtime)?);

@@ -5,7 +5,7 @@ use std::test::Fail;
 /// The words, the status, and what both streams say.
 type Command = (&'static [&'static str], u8, &'static str, &'static str);
 
-const COMMANDS: [Command; 24] = [
+const COMMANDS: [Command; 35] = [
     (&["render", "t", "g.json"], 0, "x", ""),
     (&["render", "u", "g.json"], 0, "another file", ""),
     (&[], 2, "", USAGE),
@@ -64,6 +64,61 @@ const COMMANDS: [Command; 24] = [
         USAGE,
     ),
     (&["render", "--sandboxed ", "t", "g.json"], 2, "", USAGE),
+    (&["render", "--lenient", "t", "g.json"], 0, "x", ""),
+    (
+        &["render", "--sandboxed", "--lenient", "t", "g.json"],
+        0,
+        "x",
+        "",
+    ),
+    (
+        &["render", "--lenient", "--sandboxed", "t", "g.json"],
+        0,
+        "x",
+        "",
+    ),
+    (
+        &["render", "--lenient", "--lenient", "t", "g.json"],
+        2,
+        "",
+        USAGE,
+    ),
+    (
+        &[
+            "render",
+            "--lenient",
+            "--sandboxed",
+            "--lenient",
+            "t",
+            "g.json",
+        ],
+        2,
+        "",
+        USAGE,
+    ),
+    (
+        &[
+            "render",
+            "--sandboxed",
+            "--lenient",
+            "--sandboxed",
+            "t",
+            "g.json",
+        ],
+        2,
+        "",
+        USAGE,
+    ),
+    (&["render", "--lenient"], 2, "", USAGE),
+    (&["render", "--lenient", "t"], 2, "", USAGE),
+    (&["render", "--Lenient", "t", "g.json"], 2, "", USAGE),
+    (&["--lenient", "render", "t", "g.json"], 2, "", USAGE),
+    (
+        &["render", "t", "--lenient", "g.json"],
+        3,
+        "",
+        "liquid: cannot read --lenient\n",
+    ),
     (
         &["render", "t", "--sandboxed", "g.json"],
         3,

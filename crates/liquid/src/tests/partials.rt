@@ -27,7 +27,7 @@ const WITH_FOLDER: &[&str] = &["render", "t", "g.json", "d"];
 
 const SITE: Site = Site {
     files: &[
-        ("d/p", b"[{{ x }}{% inc q %}]"),
+        ("d/p", b"[{{ x }}{% include \"q\" %}]"),
         ("d/q", b"q"),
         ("d/bad", b"{% nope %}"),
         ("d/\u{e9}", b"accent"),
@@ -36,20 +36,20 @@ const SITE: Site = Site {
 };
 
 const UNKNOWN_PARTIAL: &str =
-    "liquid: Unknown partial-template\n  with:\n    requested partial=r\n    available partials=bad, p, q, \u{e9}\n";
+    "liquid: Unknown partial-template\n  with:\n    requested partial=r\n    available partials=bad, p, q, \u{e9}\nfrom: include r\n";
 
 const UNKNOWN_TAG: &str =
-    "liquid: Unknown tag. (line 1, column 4)\n  with:\n    requested=nope\n    available tags=brk, inc, set\n    available blocks=box, glob, raw, sbox, swap, with\n";
+    "liquid: Unknown tag. (line 1, column 4)\n  with:\n    requested=nope\n    available tags=assign, break, continue, include, increment, render\n    available blocks=for, if, raw\nfrom: include bad\n";
 
 #[test]
 fn files_of_a_folder_are_partials(rt: HostRuntime) -> Result<(), Fail> {
     let alloc = rt.alloc();
     let rows: [(&[u8], u8, &str, &str); 5] = [
-        (b"a{% inc p %}b", 0, "a[1q]b", ""),
+        (b"a{% include \"p\" %}b", 0, "a[1q]b", ""),
         (b"no partial", 0, "no partial", ""),
-        (b"a{% inc r %}", 1, "a", UNKNOWN_PARTIAL),
-        (b"a{% inc bad %}", 1, "a", UNKNOWN_TAG),
-        (b"{% inc q %}{% inc q %}", 0, "qq", ""),
+        (b"a{% include \"r\" %}", 1, "a", UNKNOWN_PARTIAL),
+        (b"a{% include \"bad\" %}", 1, "a", UNKNOWN_TAG),
+        (b"{% include \"q\" %}{% render \"q\" %}", 0, "qq", ""),
     ];
     for (template, status, out, err) in rows {
         let ran = SITE.run(alloc, WITH_FOLDER, template)?;
@@ -110,7 +110,11 @@ fn all_files_of_a_folder_are_read(rt: HostRuntime) -> Result<(), Fail> {
 #[test]
 fn partials_are_in_the_sandbox(rt: HostRuntime) -> Result<(), Fail> {
     let words = &["render", "--sandboxed", "t", "g.json", "d"];
-    let ran = SITE.run(rt.alloc(), words, b"{% set x 2 %}{{ x }}{% inc p %}")?;
+    let ran = SITE.run(
+        rt.alloc(),
+        words,
+        b"{% assign x = 2 %}{{ x }}{% include \"p\" %}",
+    )?;
     assert_eq!(rt; ran.err.len(), 0);
     assert_eq!(rt; ran.status, 0);
     assert_eq!(rt; ran.out.as_slice(), "1[1q]".as_bytes());

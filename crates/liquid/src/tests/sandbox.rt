@@ -36,13 +36,20 @@ const ROWS: [Row; 8] = [
     ),
     (
         SANDBOXED,
-        b"{% set x 2 %}{{ x }}",
+        b"{% assign x = 2 %}{{ x }}",
         b"{\"x\": 1}",
         0,
         "1",
         "",
     ),
-    (RENDER, b"{% set x 2 %}{{ x }}", b"{\"x\": 1}", 0, "2", ""),
+    (
+        RENDER,
+        b"{% assign x = 2 %}{{ x }}",
+        b"{\"x\": 1}",
+        0,
+        "2",
+        "",
+    ),
     (SANDBOXED, b"{{ x.z }}", b"{\"x\": {\"z\": 1}}", 0, "1", ""),
     (SANDBOXED, b"a{{ x }}", b"{}", 1, "a", UNKNOWN),
     (

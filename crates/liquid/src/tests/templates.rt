@@ -50,11 +50,11 @@ const RENDERED: [Row; 11] = [
         "liquid: Invalid liquid (line 2, column 2)\n",
     ),
     (
-        b"{% inc p %}",
+        b"{% include \"p\" %}",
         b"{}",
         1,
         "",
-        "liquid: Partial does not exist\n  with:\n    name=p\n",
+        "liquid: Partial does not exist\n  with:\n    name=p\nfrom: include p\n",
     ),
 ];
 

@@ -4,4 +4,4 @@ use Rattle.liquid.proofs.MemoryLemmas.{nothing_rendered}
 use Rattle.liquid.proofs.rendering.render_over.Goals as goal
 
 pub returns-in-Err-clause-renders : goal.returns-in-Err-clause-renders
-returns-in-Err-clause-renders g c = nothing_rendered c.args.sandboxed c.args.text.now _ _ _ _ (search (rules, the_lemmas))
+returns-in-Err-clause-renders g c = nothing_rendered c.args.options c.args.text.now _ _ _ _ (search (rules, the_lemmas))

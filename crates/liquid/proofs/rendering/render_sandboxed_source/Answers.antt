@@ -1,4 +1,4 @@
-use Rattle.liquid_source.proofs.Readings.{RenderedBy-read, RenderedBy-refused}
+use Rattle.liquid_partials.proofs.RenderedLemmas.{RenderedBy-read, RenderedBy-refused}
 use Rattle.liquid.proofs.rendering.render_sandboxed_source.Goals as goal
 
 pub returns-in-Err-clause-rendered : goal.returns-in-Err-clause-rendered

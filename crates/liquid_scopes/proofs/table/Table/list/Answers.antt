@@ -33,7 +33,7 @@ invariant_of-self-in-Err g c =
     let xs = s.links.items in
     let link = c.in-Some-get.link.now in
     record {
-      fits = λ q j. fits_undone layer_of xs link q j c.in-Some.place _ _ _ (s.fits q j ∙ ap (λ u. listed_at (map layer_of xs) u q j) c.in-Some.is) (c.note_link.ensures.partly q j) (c.forget_link.ensures q j)
+      fits = λ q j. fits_undone layer_of xs link q j c.in-Some.place _ _ _ (s.fits q j ∙ ap (λ u. listed_at (map layer_of xs) u q j) c.in-Some.is) (c.note.ensures.partly q j) (c.forget.ensures q j)
           ∙ ap (λ u. listed_at (map layer_of xs) u q j) (sym c.in-Some.is);
       seals_are = s.seals_are;
       globals_are = s.globals_are;

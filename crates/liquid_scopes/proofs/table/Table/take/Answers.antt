@@ -21,7 +21,7 @@ invariant_of-self-in-Some g c =
     let xs = c.args.self.now.links.items in
     let ys = c.pop.new.self.items in
     record {
-      fits = λ q j. fits_pop layer_of xs ys c.in-Some.link c.args.self.now.unlisted q j c.len-place.result _ _ c.in-Some.ensures.items (omega (arith, c.len-place.ensures, c.pop.new.self.ok.0)) (c.args.self.now.fits q j) (c.forget_link.ensures q j);
+      fits = λ q j. fits_pop layer_of xs ys c.in-Some.link c.args.self.now.unlisted q j c.len-place.result _ _ c.in-Some.ensures.items (omega (arith, c.len-place.ensures, c.pop.new.self.ok.0)) (c.args.self.now.fits q j) (c.forget.ensures q j);
       seals_are = dropped_place is_sandboxed layer_of xs ys c.in-Some.link _ _ c.in-Some.ensures.items c.args.self.now.seals_are (λ kept place e. c.drop_place.ensures kept place (e ∙ ap (λ b. kept ++ cond b (place ∷ []) []) (sym c.is_sandboxed.ensures)));
       globals_are = dropped_place is_global layer_of xs ys c.in-Some.link _ _ c.in-Some.ensures.items c.args.self.now.globals_are (λ kept place e. c.drop_place-in-Some.ensures kept place (e ∙ ap (λ b. kept ++ cond b (place ∷ []) []) (sym c.is_global.ensures)));
     }

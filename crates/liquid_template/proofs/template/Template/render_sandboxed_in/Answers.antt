@@ -1,5 +1,6 @@
+use Rattle.std.proofs.Common.{refl}
 use Rattle.liquid_template.proofs.Pieces.{told_memory}
-use Rattle.liquid_template.proofs.Sandboxing.{sandboxed_memory, sandboxed_renders}
+use Rattle.liquid_template.proofs.Sandboxing.{sandboxed_memory, sandboxed_renders, untouched_still, untouched_after}
 use Rattle.liquid_template.proofs.template.Template.render_sandboxed_in.Goals as goal
 
 pub returns-in-Err-clause-sandboxed : goal.returns-in-Err-clause-sandboxed
@@ -14,3 +15,12 @@ pub returns-clause-sandboxed : goal.returns-clause-sandboxed
 returns-clause-sandboxed g c =
     sandboxed_renders _ (record { start = g.met.T.Discreet.start_hides; turn = g.met.T.Discreet.turn_hides }) (record { start = g.met.B.Discreet.start_hides; turn = g.met.B.Discreet.turn_hides }) _ _ _ _ _ _ _ _ _ _ _ _ _ _ _
     c.in-Ok.ensures c.in-Ok-push.ensures.ok c.in-Ok-push.ensures.opens c.render_in-answer.ensures.kept c.pop.ensures.ends (rw c.in-Ok-push.ensures.stays at c.render_in-answer.ensures.renders)
+
+pub returns-in-Err-clause-untouched : goal.returns-in-Err-clause-untouched
+returns-in-Err-clause-untouched g c = untouched_still _ _ refl
+
+pub returns-in-Err-push-clause-untouched : goal.returns-in-Err-push-clause-untouched
+returns-in-Err-push-clause-untouched g c = untouched_still _ _ c.in-Err-push.ensures.unchanged
+
+pub returns-clause-untouched : goal.returns-clause-untouched
+returns-clause-untouched g c = untouched_after _ _ _ _ _ _ _ c.in-Ok-push.ensures.opens c.render_in-answer.ensures.kept c.pop.ensures.ends

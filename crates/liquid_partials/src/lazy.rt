@@ -1,0 +1,315 @@
+//! Partials that are read when they are first requested, and kept.
+ghost use Rattle.std.specs.Prelude.{◌≡◌, ◌+◌, true, false, is_ok, option_map, string_bytes, IfOk, IfSome, OnOk, OnErr};
+ghost use Rattle.std.specs.Borrow.{sem, Lends};
+ghost use Rattle.std.specs.FinMap.{contains_key, empty, get, insert};
+ghost use Rattle.liquid_error.specs.Told.{Gives};
+ghost use Rattle.liquid_parser.specs.Plugins.{block_of, language_of};
+ghost use Rattle.liquid_partials.specs.Compiled.{Compiled, once};
+ghost use Rattle.liquid_partials.specs.contracts.lazy.LazyCompiler.{the_row};
+ghost use Rattle.liquid_partials.specs.Keeping.{is_answer, is_read, kept_after};
+ghost use Rattle.liquid_partials.specs.Kept.{all_kept, kept_as, kept_or_read, readings, Known};
+ghost use Rattle.liquid_template.specs.Partials.{partial_in, read_tree, tree_in};
+ghost use Rattle.liquid_template.specs.TemplateOf.{template_nodes};
+
+use crate::compiler::PartialCompiler;
+use crate::source::PartialSource;
+use crate::texts::Texts;
+use liquid_error::Error;
+use liquid_parser::{Language, ParseBlock, ParseTag};
+use liquid_plugins::{Filter, Meant, ParseFilter};
+use liquid_template::{PartialStore, Template};
+use std::alloc::{AllocError, Global};
+use std::collections::BTreeMap;
+use std::default::MadeWith;
+use std::rc::Rc;
+
+/// Makes stores that read a text when its name is first requested, and keep what it is read as.
+#[derive(Drop)]
+pub struct LazyCompiler<S> {
+    source: S,
+}
+
+impl<S: PartialSource> LazyCompiler<S> {
+    /// A compiler of this source.
+    pub fn new(source: S) -> LazyCompiler<S>
+        ensures { result.source ≡ source }
+    {
+        LazyCompiler { source }
+    }
+
+    /// The source.
+    pub fn source(&self) -> &S
+        ensures { result.now ≡ self.now.source }
+    {
+        &self.source
+    }
+
+    /// The source, to be changed in place.
+    pub fn source_mut(&mut self) -> &mut S
+        ensures* writes_back { sem 𝓛 (Lends (the_row S.row) S.row self.entry result (λ source. record { source = source })) }
+        ensures value { result.now ≡ self.old.source }
+    {
+        &mut self.source
+    }
+}
+
+impl<S: PartialSource + MadeWith<Global>> LazyCompiler<S> {
+    /// A compiler of an empty source.
+    pub fn empty(alloc: Global) -> LazyCompiler<S>
+        ensures { S.is_made_with result.source }
+    {
+        LazyCompiler {
+            source: S::made_with(alloc),
+        }
+    }
+}
+
+impl<S, F, T, B> PartialCompiler<F, T, B> for LazyCompiler<S>
+where
+    S: PartialSource + Drop,
+    F: ParseFilter + Drop,
+    T: ParseTag<F> + Drop,
+    B: ParseBlock<F> + Drop,
+{
+    type Store = LazyStore<S, F, T, B>;
+
+    ghost texts = { λ compiler. S.texts compiler.source };
+
+    /// Reads no text yet, keeps nothing yet, and takes no memory.
+    fn compile(
+        self,
+        alloc: Global,
+        language: Rc<Language<F, T, B>>,
+    ) -> Result<LazyStore<S, F, T, B>, AllocError>
+        ensures compiled { IfOk result (λ store. Compiled (language_of F.makes T.gives (block_of B.start_name B.end_name B.meaning) language.value) (S.texts self.source)
+            (kept_or_read (λ template. template_nodes F.Filter.shape T.Node.shape B.Node.shape template.value) (language_of F.makes T.gives (block_of B.start_name B.end_name B.meaning) store.texts.language.value) store.kept (S.texts store.texts.source))) }
+        ensures source { IfOk result (λ store. store.texts.source ≡ self.source) }
+        ensures kept { IfOk result (λ store. (all_kept (λ template. template_nodes F.Filter.shape T.Node.shape B.Node.shape template.value) store.kept) ≡ empty) }
+        ensures count { IfOk result (λ store. store.texts.readings.count ≡ 0) }
+    {
+        let texts = Texts::new(self.source, language);
+        let kept = BTreeMap::new(alloc);
+        Ok(LazyStore { texts, kept })
+    }
+}
+
+/// What is kept of a text: its template, or its fault.
+type Kept<X, T, B> = Result<Rc<Template<X, T, B>>, Error>;
+
+/// A store that reads a text when its name is first requested, and keeps its template or its fault
+/// under the name. It keeps no want of memory and no name that is not there.
+#[derive(Drop)]
+pub struct LazyStore<S, F, T, B>
+where
+    S: PartialSource,
+    F: ParseFilter,
+    T: ParseTag<F>,
+    B: ParseBlock<F>,
+{
+    texts: Texts<S, F, T, B>,
+    kept: BTreeMap<String, Kept<F::Filter, T::Node, B::Node>>,
+    ghost known: { Known kept (S.texts texts.source) },
+}
+
+impl<S, F, T, B> LazyStore<S, F, T, B>
+where
+    S: PartialSource + Drop,
+    F: ParseFilter + Drop,
+    T: ParseTag<F> + Drop,
+    B: ParseBlock<F> + Drop,
+{
+    /// Whether the answer for this name is kept. Takes no memory.
+    #[tactic(auto, using(crate::proofs::EachLemmas::sources))]
+    pub fn is_kept(&self, name: &str) -> bool
+        ensures { result ≡ contains_key (all_kept (λ template. template_nodes F.Filter.shape T.Node.shape B.Node.shape template.value) self.now.kept) name.now }
+    {
+        self.kept.contains_key(name)
+    }
+
+    /// The texts that it reads.
+    pub(crate) fn texts(&self) -> &Texts<S, F, T, B>
+        ensures { result.now ≡ self.now.texts }
+    {
+        &self.texts
+    }
+
+    /// What is kept under a name.
+    #[tactic(auto, using(crate::proofs::EachLemmas::sources))]
+    fn under(&self, name: &str) -> Option<&Kept<F::Filter, T::Node, B::Node>>
+        ensures { option_map (λ kept. kept_as (λ template. template_nodes F.Filter.shape T.Node.shape B.Node.shape template.value) kept.now) result ≡ get (all_kept (λ template. template_nodes F.Filter.shape T.Node.shape B.Node.shape template.value) self.now.kept) name.now }
+    {
+        self.kept.get(name)
+    }
+
+    /// Reads the text of a name of which nothing is kept, and keeps what it is read as; `None` where
+    /// the name is not there. An `Err` is want of memory, and then nothing more is kept.
+    fn read(
+        &mut self,
+        alloc: Global,
+        name: &str,
+    ) -> Result<Option<Kept<F::Filter, T::Node, B::Node>>, AllocError>
+        requires { contains_key (all_kept (λ template. template_nodes F.Filter.shape T.Node.shape B.Node.shape template.value) self.old.kept) name.now ≡ false }
+        ensures gives { IfOk result (λ answer. option_map (kept_as (λ template. template_nodes F.Filter.shape T.Node.shape B.Node.shape template.value)) answer ≡ get (kept_or_read (λ template. template_nodes F.Filter.shape T.Node.shape B.Node.shape template.value) (language_of F.makes T.gives (block_of B.start_name B.end_name B.meaning) self.old.texts.language.value) self.old.kept (S.texts self.old.texts.source)) name.now) }
+        ensures told { IfOk result (λ answer. IfSome answer (λ kept. is_answer kept ≡ true)) }
+        ensures same { (kept_or_read (λ template. template_nodes F.Filter.shape T.Node.shape B.Node.shape template.value) (language_of F.makes T.gives (block_of B.start_name B.end_name B.meaning) self.new.texts.language.value) self.new.kept (S.texts self.new.texts.source)) ≡ (kept_or_read (λ template. template_nodes F.Filter.shape T.Node.shape B.Node.shape template.value) (language_of F.makes T.gives (block_of B.start_name B.end_name B.meaning) self.old.texts.language.value) self.old.kept (S.texts self.old.texts.source)) }
+        ensures keeps { (all_kept (λ template. template_nodes F.Filter.shape T.Node.shape B.Node.shape template.value) self.new.kept) ≡ kept_after (is_ok result) (kept_or_read (λ template. template_nodes F.Filter.shape T.Node.shape B.Node.shape template.value) (language_of F.makes T.gives (block_of B.start_name B.end_name B.meaning) self.old.texts.language.value) self.old.kept (S.texts self.old.texts.source)) name.now (all_kept (λ template. template_nodes F.Filter.shape T.Node.shape B.Node.shape template.value) self.old.kept) }
+        ensures source { self.new.texts.source ≡ self.old.texts.source }
+        ensures count { self.new.texts.readings.count ≡ self.old.texts.readings.count + once (is_read (kept_or_read (λ template. template_nodes F.Filter.shape T.Node.shape B.Node.shape template.value) (language_of F.makes T.gives (block_of B.start_name B.end_name B.meaning) self.old.texts.language.value) self.old.kept (S.texts self.old.texts.source)) (all_kept (λ template. template_nodes F.Filter.shape T.Node.shape B.Node.shape template.value) self.old.kept) name.now) }
+    {
+        match kept_of(alloc, &mut self.texts, name)? {
+            Some(answer) => {
+                let copy = copied(&answer)?;
+                keep(&mut self.kept, String::from_str(alloc, name)?, copy)?;
+                Ok(Some(answer))
+            }
+            None => Ok(None),
+        }
+    }
+}
+
+impl<S, F, T, B> PartialStore<F::Filter, T::Node, B::Node> for LazyStore<S, F, T, B>
+where
+    S: PartialSource + Drop,
+    F: ParseFilter + Drop,
+    T: ParseTag<F> + Drop,
+    B: ParseBlock<F> + Drop,
+{
+    ghost finds = { λ store. kept_or_read (λ template. template_nodes F.Filter.shape T.Node.shape B.Node.shape template.value) (language_of F.makes T.gives (block_of B.start_name B.end_name B.meaning) store.texts.language.value) store.kept (S.texts store.texts.source) };
+
+    fn contains(&self, name: &str) -> bool {
+        self.texts.contains(name)
+    }
+
+    fn names(&self, alloc: Global) -> Result<Vec<&str>, AllocError> {
+        self.texts.names(alloc)
+    }
+
+    /// Reads a text only where the name is there and nothing is kept of it, and then one.
+    fn try_get(
+        &mut self,
+        alloc: Global,
+        name: &str,
+    ) -> Result<Option<Rc<Template<F::Filter, T::Node, B::Node>>>, AllocError>
+        ensures gives { IfOk result (λ found. option_map (λ template. template_nodes F.Filter.shape T.Node.shape B.Node.shape template.value) found ≡ tree_in (kept_or_read (λ template. template_nodes F.Filter.shape T.Node.shape B.Node.shape template.value) (language_of F.makes T.gives (block_of B.start_name B.end_name B.meaning) self.old.texts.language.value) self.old.kept (S.texts self.old.texts.source)) name.now) }
+        ensures kept { (kept_or_read (λ template. template_nodes F.Filter.shape T.Node.shape B.Node.shape template.value) (language_of F.makes T.gives (block_of B.start_name B.end_name B.meaning) self.new.texts.language.value) self.new.kept (S.texts self.new.texts.source)) ≡ (kept_or_read (λ template. template_nodes F.Filter.shape T.Node.shape B.Node.shape template.value) (language_of F.makes T.gives (block_of B.start_name B.end_name B.meaning) self.old.texts.language.value) self.old.kept (S.texts self.old.texts.source)) }
+        ensures keeps { (all_kept (λ template. template_nodes F.Filter.shape T.Node.shape B.Node.shape template.value) self.new.kept) ≡ kept_after (is_ok result) (kept_or_read (λ template. template_nodes F.Filter.shape T.Node.shape B.Node.shape template.value) (language_of F.makes T.gives (block_of B.start_name B.end_name B.meaning) self.old.texts.language.value) self.old.kept (S.texts self.old.texts.source)) name.now (all_kept (λ template. template_nodes F.Filter.shape T.Node.shape B.Node.shape template.value) self.old.kept) }
+        ensures source { self.new.texts.source ≡ self.old.texts.source }
+        ensures count { self.new.texts.readings.count ≡ self.old.texts.readings.count + once (is_read (kept_or_read (λ template. template_nodes F.Filter.shape T.Node.shape B.Node.shape template.value) (language_of F.makes T.gives (block_of B.start_name B.end_name B.meaning) self.old.texts.language.value) self.old.kept (S.texts self.old.texts.source)) (all_kept (λ template. template_nodes F.Filter.shape T.Node.shape B.Node.shape template.value) self.old.kept) name.now) }
+    {
+        match self.under(name) {
+            Some(answer) => kept_tree(answer),
+            None => match self.read(alloc, name)? {
+                Some(Ok(template)) => Ok(Some(template)),
+                Some(Err(_)) => Ok(None),
+                None => Ok(None),
+            },
+        }
+    }
+
+    /// Reads a text only where the name is there and nothing is kept of it, and then one.
+    fn get(
+        &mut self,
+        alloc: Global,
+        name: &str,
+    ) -> Result<Rc<Template<F::Filter, T::Node, B::Node>>, Error>
+        ensures gives { Gives (λ template. template_nodes F.Filter.shape T.Node.shape B.Node.shape template.value) result (partial_in (kept_or_read (λ template. template_nodes F.Filter.shape T.Node.shape B.Node.shape template.value) (language_of F.makes T.gives (block_of B.start_name B.end_name B.meaning) self.old.texts.language.value) self.old.kept (S.texts self.old.texts.source)) name.now) }
+        ensures kept { (kept_or_read (λ template. template_nodes F.Filter.shape T.Node.shape B.Node.shape template.value) (language_of F.makes T.gives (block_of B.start_name B.end_name B.meaning) self.new.texts.language.value) self.new.kept (S.texts self.new.texts.source)) ≡ (kept_or_read (λ template. template_nodes F.Filter.shape T.Node.shape B.Node.shape template.value) (language_of F.makes T.gives (block_of B.start_name B.end_name B.meaning) self.old.texts.language.value) self.old.kept (S.texts self.old.texts.source)) }
+        ensures keeps { (all_kept (λ template. template_nodes F.Filter.shape T.Node.shape B.Node.shape template.value) self.new.kept) ≡ kept_after (is_answer result) (kept_or_read (λ template. template_nodes F.Filter.shape T.Node.shape B.Node.shape template.value) (language_of F.makes T.gives (block_of B.start_name B.end_name B.meaning) self.old.texts.language.value) self.old.kept (S.texts self.old.texts.source)) name.now (all_kept (λ template. template_nodes F.Filter.shape T.Node.shape B.Node.shape template.value) self.old.kept) }
+        ensures source { self.new.texts.source ≡ self.old.texts.source }
+        ensures count { self.new.texts.readings.count ≡ self.old.texts.readings.count + once (is_read (kept_or_read (λ template. template_nodes F.Filter.shape T.Node.shape B.Node.shape template.value) (language_of F.makes T.gives (block_of B.start_name B.end_name B.meaning) self.old.texts.language.value) self.old.kept (S.texts self.old.texts.source)) (all_kept (λ template. template_nodes F.Filter.shape T.Node.shape B.Node.shape template.value) self.old.kept) name.now) }
+    {
+        match self.under(name) {
+            Some(answer) => kept_answer(answer),
+            None => match self.read(alloc, name) {
+                Ok(Some(answer)) => answer,
+                Ok(None) => Err(self.texts.unknown(alloc, name)),
+                Err(_) => Err(Error::Memory),
+            },
+        }
+    }
+}
+
+/// What is to be kept of a name's text, and `None` where the name is not there. An `Err` is want of
+/// memory.
+fn kept_of<S, F, T, B>(
+    alloc: Global,
+    texts: &mut Texts<S, F, T, B>,
+    name: &str,
+) -> Result<Option<Kept<F::Filter, T::Node, B::Node>>, AllocError>
+where
+    S: PartialSource + Drop,
+    F: ParseFilter + Drop,
+    T: ParseTag<F> + Drop,
+    B: ParseBlock<F> + Drop,
+    ensures gives { IfOk result (λ kept. option_map (kept_as (λ template. template_nodes F.Filter.shape T.Node.shape B.Node.shape template.value)) kept
+        ≡ get (readings (language_of F.makes T.gives (block_of B.start_name B.end_name B.meaning) texts.old.language.value) (S.texts texts.old.source)) name.now) }
+    ensures told { IfOk result (λ kept. IfSome kept (λ answer. is_answer answer ≡ true)) }
+    ensures source { texts.new.source ≡ texts.old.source }
+    ensures language { texts.new.language ≡ texts.old.language }
+    ensures count { texts.new.readings.count ≡ texts.old.readings.count + once (contains_key (S.texts texts.old.source) name.now) }
+{
+    match texts.read(alloc, name) {
+        Ok(Some(template)) => Ok(Some(Ok(Rc::new(alloc, template)?))),
+        Ok(None) => Ok(None),
+        Err(error) => {
+            if error.is_memory() {
+                Err(AllocError)
+            } else {
+                Ok(Some(Err(error)))
+            }
+        }
+    }
+}
+
+/// Keeps what a name's text is read as.
+#[tactic(auto, using(crate::proofs::EachLemmas::insert_kept, crate::proofs::EachLemmas::unchanged_kept))]
+fn keep<X: Filter, T: Meant + Drop, B: Meant + Drop>(
+    kept: &mut BTreeMap<String, Kept<X, T, B>>,
+    name: String,
+    answer: Kept<X, T, B>,
+) -> Result<(), AllocError>
+    ensures ok { OnOk result (all_kept (λ template. template_nodes X.shape T.shape B.shape template.value) kept.new
+        ≡ insert (all_kept (λ template. template_nodes X.shape T.shape B.shape template.value) kept.old) (string_bytes name) (kept_as (λ template. template_nodes X.shape T.shape B.shape template.value) answer)) }
+    ensures err { OnErr result (all_kept (λ template. template_nodes X.shape T.shape B.shape template.value) kept.new ≡ all_kept (λ template. template_nodes X.shape T.shape B.shape template.value) kept.old) }
+{
+    match kept.insert(name, answer) {
+        Ok(_) => Ok(()),
+        Err(_) => Err(AllocError),
+    }
+}
+
+/// What is kept, as an answer of its own.
+fn kept_answer<X: Filter, T: Meant + Drop, B: Meant + Drop>(
+    kept: &Kept<X, T, B>,
+) -> Result<Rc<Template<X, T, B>>, Error>
+    ensures { Gives (λ template. template_nodes X.shape T.shape B.shape template.value) result (kept_as (λ template. template_nodes X.shape T.shape B.shape template.value) kept.now) }
+{
+    match kept {
+        Ok(template) => Ok(template.clone()?),
+        Err(error) => Err(error.clone()?),
+    }
+}
+
+/// The template that is kept, or `None` for a fault.
+fn kept_tree<X: Filter, T: Meant + Drop, B: Meant + Drop>(
+    kept: &Kept<X, T, B>,
+) -> Result<Option<Rc<Template<X, T, B>>>, AllocError>
+    ensures { IfOk result (λ found. option_map (λ template. template_nodes X.shape T.shape B.shape template.value) found ≡ read_tree (kept_as (λ template. template_nodes X.shape T.shape B.shape template.value) kept.now)) }
+{
+    match kept {
+        Ok(template) => Ok(Some(template.clone()?)),
+        Err(_) => Ok(None),
+    }
+}
+
+/// A copy of what is to be kept.
+fn copied<X: Filter, T: Meant + Drop, B: Meant + Drop>(
+    kept: &Kept<X, T, B>,
+) -> Result<Kept<X, T, B>, AllocError>
+    ensures { IfOk result (λ copy. kept_as (λ template. template_nodes X.shape T.shape B.shape template.value) copy ≡ kept_as (λ template. template_nodes X.shape T.shape B.shape template.value) kept.now) }
+{
+    match kept {
+        Ok(template) => Ok(Ok(template.clone()?)),
+        Err(error) => Ok(Err(error.clone()?)),
+    }
+}

@@ -1,0 +1,7 @@
+use Rattle.std.proofs.Common.{sym, ◌∙◌, map}
+use Rattle.liquid_scopes.specs.LinkLayers.{layer_of}
+use Rattle.liquid_scopes.proofs.LayerLaws.{shown_depth}
+use Rattle.liquid_scopes.proofs.flat_scopes.FlatScopesRuntime.depth.Goals as goal
+
+pub returns : goal.returns
+returns g c = c.depth.ensures ∙ sym (shown_depth (g.R.Runtime.view c.args.self.now.base) (map layer_of c.args.self.now.table.links.items))

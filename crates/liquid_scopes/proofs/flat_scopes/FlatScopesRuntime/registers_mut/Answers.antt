@@ -1,0 +1,23 @@
+use Rattle.std.proofs.Common.{sym, ◌∙◌, ap, refl, ◌∷◌, map}
+use Rattle.liquid_runtime.specs.Frames.{scope_base}
+use Rattle.liquid_scopes.specs.Layers.{shown_over, restoring}
+use Rattle.liquid_scopes.specs.LinkLayers.{layer_of}
+use Rattle.liquid_scopes.proofs.LayerLaws.{shown_with_registers, restoring_with_registers, shown_registers}
+use Rattle.liquid_scopes.proofs.flat_scopes.FlatScopesRuntime.registers_mut.Goals as goal
+
+pub returns : goal.returns
+returns g c =
+    let s = c.args.self.now in
+    let ls = map layer_of s.table.links.items in (
+      (refl, λ w. refl),
+      record {
+        lends = tt;
+        after = λ w. ap (λ v. shown_over v ls) (c.registers_mut.ensures.after w) ∙ shown_with_registers (g.R.Runtime.view s.base) ls w;
+        stays = c.registers_mut.ensures.stays;
+        kept = λ w. ap (λ v. restoring v ls (scope_base ∷ g.R.Runtime.restores (g.R.Runtime.relent s.base w))) (c.registers_mut.ensures.after w)
+            ∙ restoring_with_registers (g.R.Runtime.view s.base) ls w (scope_base ∷ g.R.Runtime.restores (g.R.Runtime.relent s.base w))
+            ∙ ap (λ rs. restoring (g.R.Runtime.view s.base) ls (scope_base ∷ rs)) (c.registers_mut.ensures.kept w);
+        same = c.registers_mut.ensures.same;
+        value = c.registers_mut.ensures.value ∙ sym (shown_registers (g.R.Runtime.view s.base) ls);
+      },
+    )

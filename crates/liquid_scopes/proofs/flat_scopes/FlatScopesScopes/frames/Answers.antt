@@ -1,0 +1,10 @@
+use Rattle.std.proofs.Common.{arith, ◌∷◌, map}
+use Rattle.liquid_runtime.specs.Frames.{scope_base}
+use Rattle.liquid_scopes.specs.LinkLayers.{layer_of}
+use Rattle.liquid_scopes.proofs.LayerLaws.{map_length, count_open}
+use Rattle.liquid_scopes.proofs.flat_scopes.FlatScopesScopes.frames.Goals as goal
+
+pub returns : goal.returns
+returns g c =
+    let ls = map layer_of c.args.self.now.table.links.items in
+    omega (arith, c.frames.ensures, map_length layer_of c.args.self.now.table.links.items, count_open (g.R.Runtime.view c.args.self.now.base) ls (scope_base ∷ g.R.Runtime.restores c.args.self.now.base))

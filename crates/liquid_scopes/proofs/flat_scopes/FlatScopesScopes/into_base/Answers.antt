@@ -1,0 +1,12 @@
+use Rattle.std.proofs.Common.{sym, ap, ◌∷◌, map}
+use Rattle.liquid_runtime.specs.Frames.{scope_base}
+use Rattle.liquid_scopes.specs.Layers.{shown_over, restoring}
+use Rattle.liquid_scopes.specs.LinkLayers.{layer_of}
+use Rattle.liquid_scopes.proofs.LayerLaws.{none_open}
+use Rattle.liquid_scopes.proofs.flat_scopes.FlatScopesScopes.into_base.Goals as goal
+
+pub returns-clause-view : goal.returns-clause-view
+returns-clause-view g c = ap (shown_over (g.R.Runtime.view c.args.self.base)) (sym (none_open (g.R.Runtime.view c.args.self.base) (map layer_of c.args.self.table.links.items) _ c.requires))
+
+pub returns-clause-kept : goal.returns-clause-kept
+returns-clause-kept g c = ap (λ ls. restoring (g.R.Runtime.view c.args.self.base) ls (scope_base ∷ g.R.Runtime.restores c.args.self.base)) (sym (none_open (g.R.Runtime.view c.args.self.base) (map layer_of c.args.self.table.links.items) _ c.requires))

@@ -1,8 +1,0 @@
-use Rattle.std.proofs.Common.{sym, ◌∙◌, ap, map}
-use Rattle.liquid_runtime.specs.Calls.{value_in}
-use Rattle.liquid_scopes.specs.LinkLayers.{layer_of}
-use Rattle.liquid_scopes.proofs.LayerLaws.{shown_index}
-use Rattle.liquid_scopes.proofs.shown.Shown.get_index.Goals as goal
-
-pub returns : goal.returns
-returns g c = c.get_index.ensures ∙ ap (λ i. value_in i c.args.name.now) (sym (shown_index (g.R.Runtime.view c.args.self.now.base) (map layer_of c.args.self.now.table.links.items)))

@@ -1,0 +1,10 @@
+use Rattle.std.proofs.Common.{subst, map}
+use Rattle.std.specs.Prelude.{IfOk}
+use Rattle.liquid_runtime.specs.NamesSeen.{names_seen}
+use Rattle.liquid_runtime.specs.Roots.{NamesOf}
+use Rattle.liquid_scopes.specs.Layers.{shown_over}
+use Rattle.liquid_scopes.specs.LinkLayers.{layer_of}
+use Rattle.liquid_scopes.proofs.table.Table.roots_over.Goals as goal
+
+pub returns : goal.returns
+returns g c = λ v e. subst (λ xs. IfOk c.roots_over.result (λ names. NamesOf (names_seen (shown_over v (map layer_of xs))) names)) c.as_slice.ensures.value (c.roots_over.ensures v e)

@@ -1,0 +1,27 @@
+//! What tags and blocks ask of their tokens.
+ghost use Rattle.liquid_error.specs.Told.{Gives};
+ghost use Rattle.liquid_parser.specs.Handed.{Tokens};
+ghost use Rattle.liquid_parser.specs.Plugins.{AreTokens};
+ghost use Rattle.liquid_tags.specs.Asked.{alone};
+
+use liquid_error::Error;
+use liquid_parser::TagTokenIter;
+use liquid_plugins::Meant;
+use std::alloc::Global;
+
+/// The message of a token that is missing.
+pub(crate) const TOKEN_EXPECTED: &str = "Token expected";
+
+/// This, where no token is left.
+pub(crate) fn alone<N: Meant + Drop>(
+    alloc: Global,
+    tokens: TagTokenIter<'_>,
+    node: N,
+) -> Result<N, Error>
+    ensures { (ts : Tokens) → AreTokens tokens.entry ts → Gives N.shape result (alone (N.shape node) ts) }
+{
+    match tokens.expect_nothing(alloc) {
+        Ok(()) => Ok(node),
+        Err(error) => Err(error),
+    }
+}

@@ -1,0 +1,136 @@
+//! The nodes of blocks, and how they are rendered.
+ghost use Rattle.std.specs.Prelude.{◌≡◌, IfOk};
+ghost use Rattle.liquid_tags.specs.BlockLaws.{block_start_hides, block_turn_hides};
+ghost use Rattle.liquid_tags.specs.Items.{items_left};
+ghost use Rattle.liquid_tags.specs.Blocks.{block_count, block_of, block_starts, block_tells, over_items, progress_of};
+
+use crate::condition::{Condition, ConditionShape, chosen};
+use crate::items::Items;
+use crate::loops::loop_turn;
+use crate::rounds::{Rounds, RoundsShape};
+use crate::series::{Series, SeriesShape, items_of};
+use liquid_error::Error;
+use liquid_plugins::{Bytes, Discreet, ListOf, Meant, Renderable, Turn};
+use liquid_runtime::{Frame, Fresh, Runtime};
+use std::alloc::{AllocError, Global};
+
+/// What a block is made to.
+#[derive(Drop)]
+pub enum BlockNode {
+    /// The part behind the first condition that holds, and the part behind them all where none does.
+    If(Vec<Condition>),
+    /// The first part for each item, under a name; the second where there is no item.
+    For(String, Box<Series>),
+    /// A text as it stands.
+    Raw(String),
+}
+
+/// Stands for the shape of a block.
+pub enum BlockShape {
+    If(ListOf<ConditionShape>),
+    For(Bytes, SeriesShape),
+    Raw(Bytes),
+}
+
+/// How far a block is.
+#[derive(Drop)]
+pub enum BlockProgress {
+    /// This part comes, or the block's text, and no turn behind it.
+    Once(u64),
+    /// A loop.
+    Loop(Rounds),
+}
+
+/// Stands for the shape of a block's progress.
+pub enum ProgressShape {
+    Once(u64),
+    Loop(RoundsShape),
+}
+
+impl Meant for BlockNode {
+    type Shape = BlockShape;
+
+    ghost shape = { block_of };
+}
+
+impl Meant for BlockProgress {
+    type Shape = ProgressShape;
+
+    ghost shape = { progress_of };
+}
+
+impl<V: Fresh> Renderable<V> for BlockNode {
+    type Progress = BlockProgress;
+
+    ghost starts = { block_starts };
+
+    ghost count = { block_count };
+
+    ghost tells = { block_tells };
+
+    fn start<R: Runtime<Register = V>>(
+        &self,
+        alloc: Global,
+        runtime: &mut R,
+    ) -> Result<BlockProgress, Error> {
+        match self {
+            BlockNode::If(conditions) => match chosen(alloc, conditions.as_slice(), &*runtime) {
+                Ok(part) => Ok(BlockProgress::Once(part)),
+                Err(error) => Err(error),
+            },
+            BlockNode::For(_, series) => match items_of(alloc, &**series, &*runtime) {
+                Ok(items) => Ok(over_items(items)?),
+                Err(error) => Err(error),
+            },
+            BlockNode::Raw(_) => Ok(BlockProgress::Once(0)),
+        }
+    }
+
+    fn turns(progress: &BlockProgress) -> u64 {
+        match progress {
+            BlockProgress::Once(_) => 1,
+            BlockProgress::Loop(rounds) => rounds.turns,
+        }
+    }
+
+    fn turn<R: Runtime<Register = V>>(
+        &self,
+        alloc: Global,
+        progress: &mut BlockProgress,
+        runtime: &mut R,
+    ) -> Result<Turn, Error> {
+        match (self, progress) {
+            (BlockNode::Raw(text), _) => Ok(Turn::Text(text.clone()?)),
+            (BlockNode::For(name, _), BlockProgress::Loop(rounds)) => {
+                loop_turn(alloc, name, rounds, runtime)
+            }
+            (_, BlockProgress::Once(part)) => Ok(Turn::Body(*part, Frame::None, None)),
+            (BlockNode::If(_), BlockProgress::Loop(_)) => Ok(Turn::End),
+        }
+    }
+}
+
+impl<V: Fresh> Discreet<V> for BlockNode {
+    ghost start_hides = { block_start_hides };
+
+    ghost turn_hides = { block_turn_hides };
+}
+
+/// The progress of a loop over these items; without items the `else` part comes.
+fn over_items(items: Items) -> Result<BlockProgress, AllocError>
+    ensures { IfOk result (λ p. progress_of p ≡ over_items (items_left items)) }
+{
+    let size = items.len();
+    if size == 0 {
+        return Ok(BlockProgress::Once(1));
+    }
+    match size.checked_add(1) {
+        Some(turns) => Ok(BlockProgress::Loop(Rounds {
+            left: items,
+            place: 0,
+            size,
+            turns,
+        })),
+        None => Err(AllocError),
+    }
+}

@@ -1,0 +1,36 @@
+//! The language of the library.
+ghost use Rattle.std.specs.Prelude.{◌≡◌, IfOk};
+ghost use Rattle.liquid_parser.specs.Plugins.{registry_of};
+ghost use Rattle.liquid_tags.specs.Languages.{meaning_of, tags_and_blocks, the_blocks, the_tags};
+
+use crate::block_plugins::Blocks;
+use crate::tag_plugins::Tags;
+use liquid_parser::Language;
+use liquid_plugins::{ParseFilter, PluginRegistry};
+use std::alloc::{AllocError, Global};
+
+/// The library's tags and blocks, each under its name, with these filters.
+pub fn language<F: ParseFilter>(
+    alloc: Global,
+    filters: PluginRegistry<F>,
+) -> Result<Language<F, Tags, Blocks>, AllocError>
+    ensures registered { IfOk result (λ l. (l.filters ≡ filters) × (l.tags ≡ the_tags) × (l.blocks ≡ the_blocks)) }
+    ensures means { IfOk result (λ l. meaning_of F.makes l ≡ tags_and_blocks (registry_of F.makes filters)) }
+{
+    let mut tags = PluginRegistry::new(alloc);
+    tags.register("assign", Tags::Assign)?;
+    tags.register("increment", Tags::Increment)?;
+    tags.register("break", Tags::Break)?;
+    tags.register("continue", Tags::Continue)?;
+    tags.register("include", Tags::Include)?;
+    tags.register("render", Tags::Render)?;
+    let mut blocks = PluginRegistry::new(alloc);
+    blocks.register("if", Blocks::If)?;
+    blocks.register("for", Blocks::For)?;
+    blocks.register("raw", Blocks::Raw)?;
+    Ok(Language {
+        filters,
+        tags,
+        blocks,
+    })
+}

@@ -1,0 +1,113 @@
+//! The tags `include` and `render`.
+ghost use Rattle.std.specs.FinMap.{empty};
+ghost use Rattle.std.specs.Prelude.{◌≡◌, ◌++◌, codes, map, IfOk, string_bytes};
+ghost use Rattle.liquid_error.specs.Told.{Gives};
+ghost use Rattle.liquid_value.specs.View.{view as tree_of};
+ghost use Rattle.liquid_runtime.specs.Maps.{Names, names_of};
+ghost use Rattle.liquid_plugins.specs.ExpressionOf.{expression_of};
+ghost use Rattle.liquid_plugins.specs.TurnOf.{turn_of};
+ghost use Rattle.liquid_tags.specs.Partials.{bound, included, inclusion_turn, pair_of, partial_name, word_of};
+
+use crate::names::bind;
+use crate::series::expected;
+use liquid_error::Error;
+use liquid_plugins::{Expression, Turn};
+use liquid_runtime::names::no_names;
+use liquid_runtime::{Frame, Runtime};
+use liquid_value::{Object, Value};
+use std::alloc::{AllocError, Global};
+
+/// What the partial sees: the names around it too, or its pairs alone.
+#[derive(Debug, Clone, Copy, PartialEq, Eq, Drop)]
+pub enum Inclusion {
+    Include,
+    Render,
+}
+
+/// The value that names a partial, and the names that it is given.
+#[derive(Drop)]
+pub struct Call {
+    pub name: Expression,
+    pub pairs: Vec<(String, Expression)>,
+}
+
+/// The partial that the call asks for.
+pub(crate) fn included<R: Runtime>(
+    alloc: Global,
+    inclusion: Inclusion,
+    call: &Call,
+    runtime: &R,
+) -> Result<Turn, Error>
+    ensures { Gives turn_of result (included inclusion (expression_of call.now.name) (map pair_of call.now.pairs.items) (R.view runtime.now)) }
+{
+    match call.name.evaluate(alloc, runtime) {
+        Ok(name) => match partial_name(alloc, name.as_view()) {
+            Ok(name) => match bound(alloc, call.pairs.as_slice(), runtime) {
+                Ok(names) => Ok(inclusion_turn(alloc, inclusion, name, names)?),
+                Err(error) => Err(error),
+            },
+            Err(error) => Err(error),
+        },
+        Err(error) => Err(error),
+    }
+}
+
+/// The name that a value gives to a partial.
+fn partial_name(alloc: Global, value: &Value) -> Result<String, Error>
+    ensures { Gives (λ s. string_bytes s) result (partial_name (tree_of value.now)) }
+{
+    match value {
+        Value::Scalar(scalar) => Ok(scalar.to_kstr(alloc)?.into_owned(alloc)?),
+        other => Err(expected(alloc, "Partial name expected", other)),
+    }
+}
+
+/// The names of the pairs, with what their expressions come to.
+fn bound<R: Runtime>(
+    alloc: Global,
+    pairs: &[(String, Expression)],
+    runtime: &R,
+) -> Result<Object, Error>
+    ensures { Gives names_of result (bound (R.view runtime.now) empty (map pair_of pairs.now)) }
+{
+    let mut names = no_names(alloc);
+    for pair in pairs {
+        match pair.1.evaluate(alloc, runtime) {
+            Ok(value) => bind(alloc, &mut names, pair.0.as_str(), value.into_owned()?)?,
+            Err(error) => return Err(error),
+        }
+    }
+    Ok(names)
+}
+
+/// The turn that asks for the partial.
+fn inclusion_turn(
+    alloc: Global,
+    inclusion: Inclusion,
+    name: String,
+    names: Object,
+) -> Result<Turn, AllocError>
+    ensures { IfOk result (λ turn. turn_of turn ≡ inclusion_turn inclusion (string_bytes name) (names_of names)) }
+{
+    let trace = trace(alloc, inclusion, name.as_str())?;
+    let own = Some(name.clone()?);
+    let frame = match inclusion {
+        Inclusion::Include => Frame::Stack(names, own),
+        Inclusion::Render => Frame::Sandboxed(names, own),
+    };
+    Ok(Turn::Partial(name, frame, Some(trace)))
+}
+
+/// The trace of the tag on a refusal out of the partial.
+fn trace(alloc: Global, inclusion: Inclusion, name: &str) -> Result<String, AllocError>
+    ensures { IfOk result (λ s. string_bytes s ≡ word_of inclusion ++ (codes " " ++ name.now)) }
+{
+    let word = match inclusion {
+        Inclusion::Include => "include",
+        Inclusion::Render => "render",
+    };
+    let mut trace = String::from_str(alloc, word)?;
+    trace.push_str(" ")?;
+    trace.push_str(name)?;
+    Ok(trace)
+}

@@ -1,0 +1,129 @@
+//! The tags, as plug-ins.
+ghost use Rattle.liquid_error.specs.Told.{Gives};
+ghost use Rattle.liquid_parser.specs.Handed.{Tokens};
+ghost use Rattle.liquid_parser.specs.Plugins.{AreTokens, registry_of};
+ghost use Rattle.liquid_tags.specs.Tags.{tag_of};
+ghost use Rattle.liquid_tags.specs.TagPlugins.{assign_given, inclusion_given, increment_given, tag_given};
+
+use crate::asked::{TOKEN_EXPECTED, alone};
+use crate::partials::Inclusion;
+use crate::read_call::read_call;
+use crate::tags::TagNode;
+use liquid_error::Error;
+use liquid_parser::{ParseTag, TagReflection, TagTokenIter};
+use liquid_plugins::{Filter, ParseFilter, PluginRegistry};
+use liquid_runtime::Interrupt;
+use std::alloc::Global;
+
+/// The tags of the library.
+#[derive(Debug, Clone, Copy, PartialEq, Eq, Drop)]
+pub enum Tags {
+    Assign,
+    Increment,
+    Break,
+    Continue,
+    Include,
+    Render,
+}
+
+impl TagReflection for Tags {
+    fn tag(&self) -> &str {
+        match self {
+            Tags::Assign => "assign",
+            Tags::Increment => "increment",
+            Tags::Break => "break",
+            Tags::Continue => "continue",
+            Tags::Include => "include",
+            Tags::Render => "render",
+        }
+    }
+
+    fn description(&self) -> &str {
+        match self {
+            Tags::Assign => "Assigns what a chain comes to, and writes nothing.",
+            Tags::Increment => "Writes the number of a counter, and sets it one higher.",
+            Tags::Break => "Leaves the loop around it.",
+            Tags::Continue => "Goes on with the next item of the loop around it.",
+            Tags::Include => "Renders a partial, which sees the names around it.",
+            Tags::Render => "Renders a partial, which sees the names that it is given alone.",
+        }
+    }
+}
+
+impl<F: ParseFilter> ParseTag<F> for Tags {
+    type Node = TagNode<F::Filter>;
+
+    ghost gives = { tag_given };
+
+    fn parse(
+        &self,
+        alloc: Global,
+        tokens: TagTokenIter<'_>,
+        filters: &PluginRegistry<F>,
+    ) -> Result<TagNode<F::Filter>, Error> {
+        match self {
+            Tags::Assign => parse_assign(alloc, tokens, filters),
+            Tags::Increment => parse_increment(alloc, tokens),
+            Tags::Break => alone(alloc, tokens, TagNode::Interrupts(Interrupt::Break)),
+            Tags::Continue => alone(alloc, tokens, TagNode::Interrupts(Interrupt::Continue)),
+            Tags::Include => parse_inclusion(alloc, Inclusion::Include, tokens),
+            Tags::Render => parse_inclusion(alloc, Inclusion::Render, tokens),
+        }
+    }
+}
+
+/// The node of an `assign`.
+fn parse_assign<F: ParseFilter>(
+    alloc: Global,
+    tokens: TagTokenIter<'_>,
+    filters: &PluginRegistry<F>,
+) -> Result<TagNode<F::Filter>, Error>
+    ensures { (ts : Tokens) → AreTokens tokens.entry ts → Gives (tag_of F.Filter.shape) result (assign_given (registry_of F.makes filters.now) ts) }
+{
+    let mut tokens = tokens;
+    match tokens.next_identifier(alloc, TOKEN_EXPECTED) {
+        Ok(name) => match tokens.next_str(alloc, TOKEN_EXPECTED, "=") {
+            Ok(()) => match tokens.next_filter_chain(alloc, TOKEN_EXPECTED, filters) {
+                Ok(chain) => {
+                    let name = String::from_str(alloc, name)?;
+                    alone(
+                        alloc,
+                        tokens,
+                        TagNode::Assign(name, Box::new(alloc, chain)?),
+                    )
+                }
+                Err(error) => Err(error),
+            },
+            Err(error) => Err(error),
+        },
+        Err(error) => Err(error),
+    }
+}
+
+/// The node of an `increment`.
+fn parse_increment<X: Filter>(alloc: Global, tokens: TagTokenIter<'_>) -> Result<TagNode<X>, Error>
+    ensures { (ts : Tokens) → AreTokens tokens.entry ts → Gives (tag_of X.shape) result (increment_given ts) }
+{
+    let mut tokens = tokens;
+    match tokens.next_identifier(alloc, TOKEN_EXPECTED) {
+        Ok(name) => {
+            let name = String::from_str(alloc, name)?;
+            alone(alloc, tokens, TagNode::Increment(name))
+        }
+        Err(error) => Err(error),
+    }
+}
+
+/// The node of an `include` or a `render`.
+fn parse_inclusion<X: Filter>(
+    alloc: Global,
+    inclusion: Inclusion,
+    tokens: TagTokenIter<'_>,
+) -> Result<TagNode<X>, Error>
+    ensures { (ts : Tokens) → AreTokens tokens.entry ts → Gives (tag_of X.shape) result (inclusion_given inclusion ts) }
+{
+    match read_call(alloc, tokens) {
+        Ok(call) => Ok(TagNode::Includes(inclusion, Box::new(alloc, call)?)),
+        Err(error) => Err(error),
+    }
+}

@@ -1,0 +1,88 @@
+//! The nodes of tags, and how they are rendered.
+ghost use Rattle.liquid_tags.specs.Tags.{tag_of, tag_tells};
+ghost use Rattle.liquid_tags.specs.TagLaws.{tag_start_hides, tag_turn_hides};
+ghost use Rattle.liquid_plugins.specs.Turning.{begins_with};
+
+use crate::assign::assign;
+use crate::increment::increment;
+use crate::partials::{Call, Inclusion, included};
+use liquid_error::Error;
+use liquid_plugins::{
+    Bytes, ChainMark, Discreet, ExpressionMark, Filter, FilterChain, ListOf, Meant, Renderable,
+    Turn,
+};
+use liquid_runtime::{Fresh, Interrupt, Runtime};
+use std::alloc::Global;
+
+/// What a tag is made to, over filters `X`.
+#[derive(Drop)]
+pub enum TagNode<X> {
+    /// Assigns what a chain comes to.
+    Assign(String, Box<FilterChain<X>>),
+    /// Writes an index variable, and sets it one higher.
+    Increment(String),
+    /// Lets this interrupt stand.
+    Interrupts(Interrupt),
+    /// Renders a partial.
+    Includes(Inclusion, Box<Call>),
+}
+
+/// Stands for the shape of a tag, over filters of shape `S`.
+pub enum TagShape<S> {
+    Assign(Bytes, ChainMark<S>),
+    Increment(Bytes),
+    Interrupts(Interrupt),
+    Includes(Inclusion, ExpressionMark, ListOf<(Bytes, ExpressionMark)>),
+}
+
+impl<X: Filter> Meant for TagNode<X> {
+    type Shape = TagShape<X::Shape>;
+
+    ghost shape = { tag_of X.shape };
+}
+
+/// Each tag takes one turn; the progress is the number of turns.
+impl<X: Filter, V: Fresh> Renderable<V> for TagNode<X> {
+    type Progress = u64;
+
+    ghost starts = { λ _. begins_with 1 };
+
+    ghost count = { λ turns. turns };
+
+    ghost tells = { tag_tells (record { answers = X.answers; label = X.shown }) };
+
+    fn start<R: Runtime<Register = V>>(
+        &self,
+        _alloc: Global,
+        _runtime: &mut R,
+    ) -> Result<u64, Error> {
+        Ok(1)
+    }
+
+    fn turns(progress: &u64) -> u64 {
+        *progress
+    }
+
+    fn turn<R: Runtime<Register = V>>(
+        &self,
+        alloc: Global,
+        _progress: &mut u64,
+        runtime: &mut R,
+    ) -> Result<Turn, Error> {
+        match self {
+            TagNode::Assign(name, chain) => assign(alloc, name, &**chain, runtime),
+            TagNode::Increment(name) => increment(alloc, name, runtime),
+            TagNode::Interrupts(interrupt) => {
+                runtime.registers_mut().interrupt.set(*interrupt);
+                Ok(Turn::End)
+            }
+            TagNode::Includes(inclusion, call) => included(alloc, *inclusion, &**call, &*runtime),
+        }
+    }
+}
+
+impl<X: Filter, V: Fresh> Discreet<V> for TagNode<X> {
+    ghost start_hides = { tag_start_hides (record { answers = X.answers; label = X.shown }) };
+
+    ghost turn_hides = { tag_turn_hides (record { answers = X.answers; label = X.shown }) };
+}
