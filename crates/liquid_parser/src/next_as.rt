@@ -1,15 +1,13 @@
 //! The next token of a tag, as what a plug-in expects.
 ghost use Rattle.std.specs.Prelude.{◌≡◌, ◌<◌, IfOk, IfErr};
-ghost use Rattle.liquid_value.specs.View.{view as tree_of};
-ghost use Rattle.liquid_plugins.specs.ExpressionOf.{chain_of, expression_of, variable_of};
+ghost use Rattle.liquid_plugins.specs.ExpressionOf.{chain_of, expression_of};
 ghost use Rattle.liquid_parser.specs.Cursors.{Takes, bytes_left, expect_filter_chain, expect_str, next_as};
-ghost use Rattle.liquid_parser.specs.Handed.{Tokens, expect_identifier, expect_literal, expect_range, expect_value, expect_variable};
+ghost use Rattle.liquid_parser.specs.Handed.{Tokens, expect_identifier, expect_value};
 ghost use Rattle.liquid_parser.specs.Plugins.{AreTokens, registry_of};
 
 use crate::tokens::TagTokenIter;
 use liquid_error::Error;
-use liquid_plugins::{Expression, FilterChain, ParseFilter, PluginRegistry, Variable};
-use liquid_value::Value;
+use liquid_plugins::{Expression, FilterChain, ParseFilter, PluginRegistry};
 use std::alloc::Global;
 
 /// Each call reads the next token as what its name says, and leaves the cursor behind it.

@@ -117,6 +117,7 @@ impl<V: Fresh> Discreet<V> for BlockNode {
 }
 
 /// The progress of a loop over these items; without items the `else` part comes.
+#[inline(never)]
 fn over_items(items: Items) -> Result<BlockProgress, AllocError>
     ensures { IfOk result (λ p. progress_of p ≡ over_items (items_left items)) }
 {

@@ -20,6 +20,7 @@ use liquid_views::object_of;
 use std::alloc::{AllocError, Global};
 
 /// A turn of the loop with this name.
+#[inline(never)]
 pub(crate) fn loop_turn<R: Runtime>(
     alloc: Global,
     name: &String,

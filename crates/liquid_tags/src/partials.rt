@@ -32,6 +32,7 @@ pub struct Call {
 }
 
 /// The partial that the call asks for.
+#[inline(never)]
 pub(crate) fn included<R: Runtime>(
     alloc: Global,
     inclusion: Inclusion,

@@ -43,6 +43,7 @@ impl Meant for Series {
 const LONGEST: u64 = 1_000_000;
 
 /// The items of a series.
+#[inline(never)]
 pub(crate) fn items_of<R: Runtime>(
     alloc: Global,
     series: &Series,
