@@ -1,12 +1,11 @@
-use crate::boxes::{MOST, taken};
 use crate::problem::Problem;
 use crate::rows::Row;
-use crate::seen::{Seen, Told};
 use crate::stores::{Request, all_told, shared_language};
 use bench::blocks::BlockNode;
 use bench::filters::AnyFilter;
 use bench::tags::TagNode;
 use bench::{Blocks, Filters, Tags};
+use growths::{MOST, Seen, Told, taken};
 use liquid_core::PartialStore;
 use liquid_core::partials::{EagerCompiler, LazyCompiler, OnDemandCompiler, PartialCompiler};
 use std::alloc::{AllocError, Global};

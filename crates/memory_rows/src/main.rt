@@ -6,19 +6,17 @@
 //! growth of the call that is. The answer tells whether the refusal came before the call, in it or behind it.
 #![tactic(auto)]
 
-mod boxes;
 mod compiling;
 mod parsing;
 mod problem;
 mod rendering;
 mod requests;
 mod rows;
-mod seen;
 mod stores;
 
 use problem::Problem;
 use rows::Row;
-use seen::Seen;
+use growths::Seen;
 use std::alloc::Global;
 use std::process::ExitCode;
 

@@ -1,11 +1,10 @@
-use crate::boxes::{MOST, taken};
 use crate::problem::Problem;
 use crate::rows::Row;
-use crate::seen::{Seen, Told};
 use crate::stores::{TheLanguage, lazy_store, shared_language, told};
 use bench::blocks::BlockNode;
 use bench::filters::AnyFilter;
 use bench::tags::TagNode;
+use growths::{MOST, Seen, Told, taken};
 use liquid_core::parser::{Node, parse};
 use liquid_core::runtime::Template;
 use liquid_core::{Error, TextSink};

@@ -1,11 +1,10 @@
 ghost use Rattle.std.specs.Prelude.{◌≡◌};
 
-use crate::boxes::{MOST, taken};
 use crate::problem::Problem;
 use crate::rows::Row;
-use crate::seen::{Seen, Told};
 use crate::stores::{Lazy, Page, lazy_store, page, shared_language, told};
 use bench::forms::{Chained, Flat};
+use growths::{MOST, Seen, Told, taken};
 use liquid_core::model::{Object, Value, ValueRender};
 use liquid_core::runtime::{BuiltRuntime, Frame, Runtime, Scopes};
 use liquid_core::{Error, TextSink};

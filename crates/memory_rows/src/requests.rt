@@ -1,13 +1,12 @@
-use crate::boxes::{MOST, taken};
 use crate::problem::Problem;
 use crate::rows::Row;
-use crate::seen::{Seen, Told};
 use crate::stores::{
     Eager, Lazy, OnDemand, Page, Request, all_told, lazy_store, request_told, shared_language,
 };
 use bench::blocks::BlockNode;
 use bench::filters::AnyFilter;
 use bench::tags::TagNode;
+use growths::{MOST, Seen, Told, taken};
 use liquid_core::partials::{EagerCompiler, OnDemandCompiler, PartialCompiler};
 use liquid_core::{Error, PartialStore};
 use std::alloc::Global;

@@ -1,11 +1,11 @@
 use crate::problem::Problem;
 use crate::rows::Row;
-use crate::seen::Told;
 use bench::blocks::BlockNode;
 use bench::filters::AnyFilter;
 use bench::languages::language;
 use bench::tags::TagNode;
 use bench::{Blocks, Filters, Tags};
+use growths::Told;
 use liquid_core::parser::{Language, parse};
 use liquid_core::partials::{
     EagerStore, InMemorySource, LazyCompiler, LazyStore, OnDemandStore, PartialCompiler,
