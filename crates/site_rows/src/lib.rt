@@ -3,7 +3,15 @@
 #![tactic(auto)]
 
 #[cfg(test)]
+mod faulty_sites;
+#[cfg(test)]
+mod lenient_sites;
+#[cfg(test)]
 mod parents;
+#[cfg(test)]
+mod plain_sites;
+#[cfg(test)]
+mod refused_sites;
 #[cfg(test)]
 mod rows;
 #[cfg(test)]

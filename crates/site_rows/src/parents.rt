@@ -85,17 +85,19 @@ impl Parent {
         registers.value.count == self.visits && registers.interrupt.interrupted() == self.interrupt
     }
 
-    /// Whether a runtime is what a site leaves of the parent: the names and index variables that the
-    /// site leaves, and all others as they were.
-    pub(crate) fn is_left<R>(&self, alloc: Global, site: &Site, after: &R) -> Result<bool, Fail>
-    where
-        R: Runtime<Register = Visits>,
-    {
-        let before = self.over(alloc, site, ())?;
+    /// Whether a runtime is what a site leaves of the parent, which was `before`: the names and index
+    /// variables that the site leaves, and all others as they were.
+    pub(crate) fn is_left<R: Runtime<Register = Visits>>(
+        &self,
+        alloc: Global,
+        site: &Site,
+        before: &Over<()>,
+        after: &R,
+    ) -> Result<bool, AllocError> {
         Ok(
             self.has_registers(after)
-                && are_names_left(alloc, site, &before, after)?
-                && are_indexes_left(alloc, site, &before, after)?,
+                && are_names_left(alloc, site, before, after)?
+                && are_indexes_left(alloc, site, before, after)?,
         )
     }
 }
@@ -106,8 +108,8 @@ fn set_spare<R: Runtime>(alloc: Global, runtime: &mut R) -> Result<(), Error> {
 }
 
 /// The names that the sites and the parents use.
-const NAMES: [&str; 16] = [
-    "a", "b", "c", "d", "e", "f", "forloop", "i", "k", "l", "n", "o", "s", "t", "x", "z",
+const NAMES: [&str; 17] = [
+    "a", "b", "c", "d", "e", "f", "forloop", "i", "k", "l", "n", "o", "s", "t", "unknown", "x", "z",
 ];
 
 /// The source text of a value, and `-` where there is none.

@@ -1,7 +1,7 @@
 //! Sites in sandboxes over each parent, over both forms of scopes and stores of every kind.
 use crate::parents::{Over, PARENTS, Parent, Visits};
 use crate::rows::Site;
-use crate::stores::{Eager, Kind, Lazy, OnDemand, TheLanguage};
+use crate::stores::{Eager, Kind, Lazy, OnDemand, TheLanguage, the_language};
 use bench::filters::AnyFilter;
 use liquid_core::model::{Object, Value};
 use liquid_core::parser::parse;
@@ -13,6 +13,15 @@ use std::rc::Rc;
 use std::test::Fail;
 
 type Page = Template<AnyFilter, TagNode<AnyFilter>, BlockNode>;
+
+/// A site, its page, one of the parents, and what that parent is before the site is rendered.
+#[derive(Drop)]
+struct Place<'a> {
+    site: &'a Site,
+    page: &'a Page,
+    parent: &'a Parent,
+    before: Over<()>,
+}
 
 /// Whether a call wrote, and was refused, as a site tells.
 fn is_told(
@@ -31,20 +40,27 @@ fn is_told(
 }
 
 /// Whether a site holds of `render_sandboxed` over a parent with a store.
-fn holds_at_once<P>(
-    alloc: Global,
-    site: &Site,
-    page: &Page,
-    parent: &Parent,
-    store: P,
-) -> Result<bool, Fail>
+fn holds_at_once<P>(alloc: Global, place: &Place<'_>, store: P) -> Result<bool, Fail>
 where
     P: PartialStore<AnyFilter, TagNode<AnyFilter>, BlockNode> + Drop,
 {
-    let mut after = parent.over(alloc, site, store)?;
+    let site = place.site;
+    let mut after = place.parent.over(alloc, site, store)?;
     let mut sink = TextSink::new(alloc);
-    let answer = page.render_sandboxed(alloc, &mut sink, &mut after, site.data(alloc)?, None);
-    Ok(is_told(alloc, site, &sink, &answer)? && parent.is_left(alloc, site, &after)?)
+    let data = site.data(alloc)?;
+    let answer = place
+        .page
+        .render_sandboxed(alloc, &mut sink, &mut after, data, None);
+    Ok(is_told(alloc, site, &sink, &answer)? && is_left(alloc, place, &after)?)
+}
+
+/// Whether a runtime is what a site leaves of a parent.
+fn is_left<P: Drop>(alloc: Global, place: &Place<'_>, after: &Over<P>) -> Result<bool, Fail> {
+    Ok(
+        place
+            .parent
+            .is_left(alloc, place.site, &place.before, after)?,
+    )
 }
 
 /// The names of a frame around the sandbox.
@@ -83,69 +99,78 @@ where
 
 /// Whether a site holds of `render_sandboxed_in` over scopes of one form, over a parent with a store
 /// and a frame that is open.
-fn holds_in<S, P>(
-    alloc: Global,
-    site: &Site,
-    page: &Page,
-    parent: &Parent,
-    store: P,
-) -> Result<bool, Fail>
+fn holds_in<S, P>(alloc: Global, place: &Place<'_>, store: P) -> Result<bool, Fail>
 where
     S: Scopes<Base = Over<P>, Register = Visits, Store = P>,
     P: PartialStore<AnyFilter, TagNode<AnyFilter>, BlockNode> + Drop,
 {
-    let base = parent.over(alloc, site, store)?;
+    let site = place.site;
+    let base = place.parent.over(alloc, site, store)?;
     let mut sink = TextSink::new(alloc);
     let (data, outer) = (site.data(alloc)?, outer(alloc)?);
-    let (answer, after) = rendered_over_a_frame::<S>(alloc, page, data, outer, &mut sink, base);
-    Ok(is_told(alloc, site, &sink, &answer)? && parent.is_left(alloc, site, &after)?)
+    let (answer, after) = rendered_over_a_frame::<S>(
+        alloc, place.page, data, outer, &mut sink, base,
+    );
+    Ok(is_told(alloc, site, &sink, &answer)? && is_left(alloc, place, &after)?)
 }
 
 /// Whether a site holds of both calls and both forms of scopes over a parent, each with a store of
 /// its own.
-fn holds_over_parent<K: Kind>(
+fn holds_over<K: Kind>(
     alloc: Global,
-    site: &Site,
-    page: &Page,
-    parent: &Parent,
+    place: &Place<'_>,
     language: &Rc<TheLanguage>,
 ) -> Result<bool, Fail> {
-    let (first, second) = (
-        K::store(alloc, site, language)?,
-        K::store(alloc, site, language)?,
-    );
-    let third = K::store(alloc, site, language)?;
+    let first = K::store(alloc, place.site, language)?;
+    let second = K::store(alloc, place.site, language)?;
+    let third = K::store(alloc, place.site, language)?;
     Ok(
-        holds_at_once(alloc, site, page, parent, first)?
-            && holds_in::<ChainedScopes<Over<K::Store>>, K::Store>(
-                alloc, site, page, parent, second,
-            )?
-            && holds_in::<FlatScopes<Over<K::Store>>, K::Store>(alloc, site, page, parent, third)?,
+        holds_at_once(alloc, place, first)?
+            && holds_in::<ChainedScopes<Over<K::Store>>, K::Store>(alloc, place, second)?
+            && holds_in::<FlatScopes<Over<K::Store>>, K::Store>(alloc, place, third)?,
     )
 }
 
-/// Whether a site holds over both parents, one after the other, with stores of one kind.
-fn holds_from<K: Kind>(
+/// Whether a site holds over a parent with stores of every kind.
+fn holds_from_each(
     alloc: Global,
-    site: &Site,
-    page: &Page,
+    place: &Place<'_>,
     language: &Rc<TheLanguage>,
 ) -> Result<bool, Fail> {
+    Ok(
+        holds_over::<OnDemand>(alloc, place, language)?
+            && holds_over::<Lazy>(alloc, place, language)?
+            && holds_over::<Eager>(alloc, place, language)?,
+    )
+}
+
+/// Whether the site of a line holds in every pairing of parents, scopes and stores.
+fn holds(alloc: Global, line: &str, language: &Rc<TheLanguage>) -> Result<bool, Fail> {
+    let site = Site::of(alloc, line)?;
+    let page = Template::new(parse(alloc, site.template(), language)?);
     for parent in &PARENTS {
-        if !holds_over_parent::<K>(alloc, site, page, parent, language)? {
+        let place = Place {
+            site: &site,
+            page: &page,
+            parent,
+            before: parent.over(alloc, &site, ())?,
+        };
+        if !holds_from_each(alloc, &place, language)? {
             return Ok(false);
         }
     }
     Ok(true)
 }
 
-/// Whether the site of a line holds in every pairing of parents, scopes and stores.
-pub(crate) fn holds(alloc: Global, line: &str, language: &Rc<TheLanguage>) -> Result<bool, Fail> {
-    let site = Site::of(alloc, line)?;
-    let page = Template::new(parse(alloc, site.template(), language)?);
-    Ok(
-        holds_from::<OnDemand>(alloc, &site, &page, language)?
-            && holds_from::<Lazy>(alloc, &site, &page, language)?
-            && holds_from::<Eager>(alloc, &site, &page, language)?,
-    )
+/// The first site of a table that doesn't hold, or how many sites there are.
+pub(crate) fn all_hold<'t>(alloc: Global, sites: &'t str) -> Result<Result<u32, &'t str>, Fail> {
+    let language = the_language(alloc)?;
+    let mut count = 0u32;
+    for line in sites.lines() {
+        if !holds(alloc, line, &language)? {
+            return Ok(Err(line));
+        }
+        count = count.saturating_add(1);
+    }
+    Ok(Ok(count))
 }
