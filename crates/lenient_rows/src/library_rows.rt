@@ -9,10 +9,14 @@ use std::alloc::{AllocError, Global};
 use std::rc::Rc;
 use std::test::Fail;
 
-const PARTIALS: Partials = [("p", "p{{ b }}{% assign x = 7 %}"), ("r", "{{ y }}r{{ x[y] }}")];
+const PARTIALS: Partials = [
+    ("p", "p{{ b }}{% assign x = 7 %}"),
+    ("r", "{{ y }}r{{ x[y] }}"),
+];
 
 /// Names of the sandbox, and names that stand around it alone.
-const NAMES: &str = r#"{"template": "{{ b }}{% assign g = 5 %}", "data": {"b": 2}, "written": "2", "left": {"g": "5"}}
+const NAMES: &str =
+    r#"{"template": "{{ b }}{% assign g = 5 %}", "data": {"b": 2}, "written": "2", "left": {"g": "5"}}
 {"template": "a{{ s }}", "written": "a"}
 {"template": "{% assign s = 9 %}{{ s }}", "written": "", "left": {"s": "9"}}
 {"template": "{% assign x = 2 %}{{ x }}", "data": {"x": 1}, "written": "1", "left": {"x": "2"}}
@@ -25,7 +29,8 @@ const NAMES: &str = r#"{"template": "{{ b }}{% assign g = 5 %}", "data": {"b": 2
 
 /// Conditions and loops: nil is equal to nil and to a state, has no order, holds nothing and has no
 /// items, and is no whole number.
-const BLOCKS: &str = r#"{"template": "{% if y == nil %}a{% endif %}{% if y == blank %}b{% endif %}{% if y < 1 %}c{% else %}d{% endif %}{% if y %}e{% endif %}", "written": "abd"}
+const BLOCKS: &str =
+    r#"{"template": "{% if y == nil %}a{% endif %}{% if y == blank %}b{% endif %}{% if y < 1 %}c{% else %}d{% endif %}{% if y %}e{% endif %}", "written": "abd"}
 {"template": "{% if x.y != 1 %}a{% endif %}{% if false == x.z %}b{% endif %}{% if x.z %}c{% elsif x.a %}d{% endif %}", "data": {"x": {"a": 1}}, "written": "abd"}
 {"template": "{% for i in y %}a{% else %}b{% endfor %}", "written": "b"}
 {"template": "{% for i in (1..y) %}a{% endfor %}", "written": "", "error": "liquid: Whole number expected\n  with:\n    found=nil\n"}
@@ -37,7 +42,8 @@ const BLOCKS: &str = r#"{"template": "{% if y == nil %}a{% endif %}{% if y == bl
 {"template": "{% for i in x %}{{ i }}{{ i[y] }}{% endfor %}", "data": {"x": [1]}, "written": "1", "error": "liquid: Expected scalar\n  with:\n    found=nil\n"}"#;
 
 /// Partials.
-const PARTIAL_ROWS: &str = r#"{"template": "{% include \"p\" %}", "data": {"b": 2}, "written": "p2", "left": {"x": "7"}}
+const PARTIAL_ROWS: &str =
+    r#"{"template": "{% include \"p\" %}", "data": {"b": 2}, "written": "p2", "left": {"x": "7"}}
 {"template": "{% include \"p\" %}", "written": "p", "left": {"x": "7"}}
 {"template": "{% render \"p\" %}", "data": {"b": 2}, "written": "p", "left": {"x": "7"}}
 {"template": "{% render \"p\", b: y %}{% include \"p\", b: 4 %}", "written": "pp4", "left": {"x": "7"}}

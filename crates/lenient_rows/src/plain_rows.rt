@@ -8,7 +8,8 @@ use std::test::Fail;
 const PARTIALS: Partials = [("p", "p{{ b }}{% set x 7 %}"), ("r", "{{ y }}r{{ x[y] }}")];
 
 /// Names of the sandbox, and names that stand around it alone.
-const NAMES: &str = r#"{"template": "{{ b }}{% set g 5 %}", "data": {"b": 2}, "written": "2", "left": {"g": "5"}}
+const NAMES: &str =
+    r#"{"template": "{{ b }}{% set g 5 %}", "data": {"b": 2}, "written": "2", "left": {"g": "5"}}
 {"template": "a{{ s }}", "written": "a"}
 {"template": "{% set s 9 %}{{ s }}", "written": "", "left": {"s": "9"}}
 {"template": "{% set x 2 %}{{ x }}", "data": {"x": 1}, "written": "1", "left": {"x": "2"}}
@@ -26,7 +27,8 @@ const NAMES: &str = r#"{"template": "{{ b }}{% set g 5 %}", "data": {"b": 2}, "w
 {"template": "{% set g y %}{{ g }}", "written": "", "left": {"g": ""}}"#;
 
 /// An index that is unknown is nil, which is no scalar.
-const INDEXES: &str = r#"{"template": "{{ x[y] }}", "data": {"x": {"z": 1}}, "written": "", "error": "liquid: Expected scalar\n  with:\n    found=nil\n"}
+const INDEXES: &str =
+    r#"{"template": "{{ x[y] }}", "data": {"x": {"z": 1}}, "written": "", "error": "liquid: Expected scalar\n  with:\n    found=nil\n"}
 {"template": "{{ x[y] }}", "written": "", "error": "liquid: Expected scalar\n  with:\n    found=nil\n"}
 {"template": "a{{ x[t] }}", "data": {"x": {"T": 1}}, "written": "a", "error": "liquid: Expected scalar\n  with:\n    found=nil\n"}
 {"template": "{{ x[x.y] }}", "data": {"x": {"z": 1}}, "written": "", "error": "liquid: Expected scalar\n  with:\n    found=nil\n"}
@@ -40,7 +42,8 @@ const INDEXES: &str = r#"{"template": "{{ x[y] }}", "data": {"x": {"z": 1}}, "wr
 {"template": "{{ \"a\" | append: x[y] }}", "written": "", "error": "liquid: Expected scalar\n  with:\n    found=nil\nfrom: Filter error\n  with:\n    filter=append\n    input=\"a\"\n"}"#;
 
 /// Frames inside the sandbox, and partials.
-const FRAMES: &str = r#"{"template": "{% glob %}{% set g 1 %}{{ g }}{% endglob %}{{ g }}", "written": "1"}
+const FRAMES: &str =
+    r#"{"template": "{% glob %}{% set g 1 %}{{ g }}{% endglob %}{{ g }}", "written": "1"}
 {"template": "{% with x 1 %}{% sbox %}{{ x }}{% endsbox %}{% endwith %}", "written": ""}
 {"template": "{% sbox %}{% set g 1 %}{% endsbox %}{% with g 2 %}{{ g }}{% endwith %}", "written": "2", "left": {"g": "1"}}
 {"template": "{% inc p %}{% set g 8 %}", "data": {"b": 2}, "written": "p2", "left": {"g": "8", "x": "7"}}

@@ -17,8 +17,11 @@ pub(crate) type Partials = [(&'static str, &'static str); 2];
 type Store<F, T, B> = OnDemandStore<InMemorySource, F, T, B>;
 
 /// The template of a language.
-type Page<F, T, B> =
-    Template<<F as ParseFilter>::Filter, <T as ParseTag<F>>::Node, <B as ParseBlock<F>>::Node>;
+type Page<F, T, B> = Template<
+    <F as ParseFilter>::Filter,
+    <T as ParseTag<F>>::Node,
+    <B as ParseBlock<F>>::Node,
+>;
 
 fn source(alloc: Global, partials: &Partials) -> Result<InMemorySource, AllocError> {
     let mut source = InMemorySource::new(alloc);
@@ -136,8 +139,9 @@ where
     let base = parent.over(alloc, store)?;
     let mut sink = TextSink::new(alloc);
     let (data, outer) = (row.data(alloc)?, outer(alloc)?);
-    let (answer, after) =
-        rendered_over_a_frame::<S, X, T, B>(alloc, page, data, outer, &mut sink, base);
+    let (answer, after) = rendered_over_a_frame::<S, X, T, B>(
+        alloc, page, data, outer, &mut sink, base,
+    );
     Ok(is_told(alloc, row, &sink, &answer)? && parent.is_left(alloc, row, &after)?)
 }
 
