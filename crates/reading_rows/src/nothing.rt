@@ -62,7 +62,7 @@ const TEXTS: &str = r#"["a{{ 5 | nothing }}b", "ab"]
 ["a{% nothing %}b{% nothing x == (1..2) %}c", "abc"]
 ["a{% none x | nothing %}b{{ 5 }}{% endnothing %}c", "ac"]
 ["a{% none %}{% none %}b{% endnothing %}{% endnothing %}c", "ac"]
-["a{% none %}b{% endnothing 1 %}c", "liquid: Unexpected token (line 1, column 25)\n"]
+["a{% none %}b{% endnothing 1 %}c", "liquid: Unexpected token (line 1, column 27)\n"]
 ["a{% none %}b{% endnone %}c", "liquid: Unknown tag. (line 1, column 16)\n  with:\n    requested=endnone\n    available tags=nothing\n    available blocks=none\n"]
 ["a{% none %}b", "liquid: Unclosed block. {% endnothing %} tag expected. (line 1, column 13)\n"]"#;
 
