@@ -1,6 +1,6 @@
 //! Rows in the language of the test plug-ins. A name or an index without a value is nil in a sandbox
 //! over a lenient parent, whatever frames stand in between, and whatever the parent knows of it.
-use crate::sandboxes::{Partials, holds};
+use crate::sandboxes::{Partials, all_hold};
 use bench::languages::language;
 use std::rc::Rc;
 use std::test::Fail;
@@ -62,13 +62,8 @@ const FRAMES: &str =
 fn plain_sandboxes_are_lenient(rt: HostRuntime) -> Result<(), Fail> {
     let alloc = rt.alloc();
     let language = Rc::new(alloc, language(alloc)?)?;
-    let mut count = 0;
-    for rows in [NAMES, INDEXES, FRAMES] {
-        for line in rows.lines() {
-            assert!(rt; holds(alloc, line, &PARTIALS, &language)?, "{line}");
-            count += 1;
-        }
-    }
-    assert_eq!(rt; count, 42);
+    assert_eq!(rt; all_hold(alloc, NAMES, &PARTIALS, &language)?, Ok(16));
+    assert_eq!(rt; all_hold(alloc, INDEXES, &PARTIALS, &language)?, Ok(12));
+    assert_eq!(rt; all_hold(alloc, FRAMES, &PARTIALS, &language)?, Ok(14));
     Ok(())
 }

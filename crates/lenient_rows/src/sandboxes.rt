@@ -169,7 +169,7 @@ where
 }
 
 /// Whether the row of a line holds of both calls and both forms of scopes, over each parent.
-pub(crate) fn holds<F, T, B>(
+fn holds<F, T, B>(
     alloc: Global,
     line: &str,
     partials: &Partials,
@@ -195,4 +195,28 @@ where
         }
     }
     Ok(true)
+}
+
+/// How many rows there are, where all hold, or the first row that doesn't.
+pub(crate) fn all_hold<'t, F, T, B>(
+    alloc: Global,
+    rows: &'t str,
+    partials: &Partials,
+    language: &Rc<Language<F, T, B>>,
+) -> Result<Result<u32, &'t str>, Fail>
+where
+    F: ParseFilter + Drop,
+    T: ParseTag<F> + Drop,
+    B: ParseBlock<F> + Drop,
+    T::Node: Discreet<()>,
+    B::Node: Discreet<()>,
+{
+    let mut count = 0u32;
+    for line in rows.lines() {
+        if !holds(alloc, line, partials, language)? {
+            return Ok(Err(line));
+        }
+        count = count.saturating_add(1);
+    }
+    Ok(Ok(count))
 }

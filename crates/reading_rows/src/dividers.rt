@@ -1,5 +1,5 @@
 //! Dividers with tokens, and dividers where none may stand.
-use crate::one_reading::holds;
+use crate::one_reading::all_hold;
 use bench::Filters;
 use bench::languages::language;
 use liquid_core::Language;
@@ -46,15 +46,7 @@ fn dividers_are_asked_with_their_tokens(rt: HostRuntime) -> Result<(), Fail> {
     let alloc = rt.alloc();
     let plain = language(alloc)?;
     let library = library(alloc)?;
-    let mut count = 0;
-    for line in PLAIN.lines() {
-        assert!(rt; holds(alloc, line, &plain)?, "{line}");
-        count += 1;
-    }
-    for line in LIBRARY.lines() {
-        assert!(rt; holds(alloc, line, &library)?, "{line}");
-        count += 1;
-    }
-    assert_eq!(rt; count, 20);
+    assert_eq!(rt; all_hold(alloc, PLAIN, &plain)?, Ok(9));
+    assert_eq!(rt; all_hold(alloc, LIBRARY, &library)?, Ok(11));
     Ok(())
 }

@@ -1,6 +1,6 @@
 //! Blocks that escape, with starts in their bodies that nest and that do not.
 use crate::nested::nested_language;
-use crate::one_reading::holds;
+use crate::one_reading::all_hold;
 use bench::languages::language;
 use std::test::Fail;
 
@@ -30,15 +30,7 @@ fn bodies_are_escaped(rt: HostRuntime) -> Result<(), Fail> {
     let alloc = rt.alloc();
     let flat = language(alloc)?;
     let nested = nested_language(alloc)?;
-    let mut count = 0;
-    for line in FLAT.lines() {
-        assert!(rt; holds(alloc, line, &flat)?, "{line}");
-        count += 1;
-    }
-    for line in NESTED.lines() {
-        assert!(rt; holds(alloc, line, &nested)?, "{line}");
-        count += 1;
-    }
-    assert_eq!(rt; count, 17);
+    assert_eq!(rt; all_hold(alloc, FLAT, &flat)?, Ok(7));
+    assert_eq!(rt; all_hold(alloc, NESTED, &nested)?, Ok(10));
     Ok(())
 }

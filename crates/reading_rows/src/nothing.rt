@@ -84,12 +84,12 @@ fn written(
 fn nothing_makes_nothing(rt: HostRuntime) -> Result<(), Fail> {
     let alloc = rt.alloc();
     let language = nothings(alloc)?;
-    let mut count = 0;
+    let mut count = 0u32;
     for line in TEXTS.lines() {
         let row = Line::of(alloc, line)?;
         let all = written(alloc, row.text(0)?, &language)?;
         assert_eq!(rt; all.as_str(), row.text(1)?, "{line}");
-        count += 1;
+        count = count.saturating_add(1);
     }
     assert_eq!(rt; count, 8);
     assert!(rt; gives_nil(alloc)?);

@@ -62,11 +62,7 @@ where
 }
 
 /// Whether the row of a line holds by each reading.
-pub(crate) fn holds<F, T, B>(
-    alloc: Global,
-    line: &str,
-    language: &Language<F, T, B>,
-) -> Result<bool, Fail>
+fn holds<F, T, B>(alloc: Global, line: &str, language: &Language<F, T, B>) -> Result<bool, Fail>
 where
     F: ParseFilter + Drop,
     T: ParseTag<F> + Drop,
@@ -82,17 +78,35 @@ where
     )
 }
 
+/// How many rows there are, where all hold, or the first row that doesn't.
+pub(crate) fn all_hold<'t, F, T, B>(
+    alloc: Global,
+    rows: &'t str,
+    language: &Language<F, T, B>,
+) -> Result<Result<u32, &'t str>, Fail>
+where
+    F: ParseFilter + Drop,
+    T: ParseTag<F> + Drop,
+    B: ParseBlock<F> + Drop,
+    T::Node: Renderable<()>,
+    B::Node: Renderable<()>,
+{
+    let mut count = 0u32;
+    for line in rows.lines() {
+        if !holds(alloc, line, language)? {
+            return Ok(Err(line));
+        }
+        count = count.saturating_add(1);
+    }
+    Ok(Ok(count))
+}
+
 #[test]
 fn texts_have_one_reading(rt: HostRuntime) -> Result<(), Fail> {
     let alloc = rt.alloc();
     let language = language(alloc)?;
-    let mut count = 0;
     for rows in [EXPRESSIONS, BLOCKS, FRAMES] {
-        for line in rows.lines() {
-            assert!(rt; holds(alloc, line, &language)?, "{line}");
-            count += 1;
-        }
+        assert_eq!(rt; all_hold(alloc, rows, &language)?, Ok(40));
     }
-    assert_eq!(rt; count, 120);
     Ok(())
 }

@@ -87,13 +87,13 @@ const FILTERS: &str =
 #[test]
 fn filters_tell_what_they_are(rt: HostRuntime) -> Result<(), Fail> {
     let alloc = rt.alloc();
-    let mut count = 0;
+    let mut count = 0u32;
     for (line, filter) in FILTERS.lines().zip([Filters::Append, Filters::Fail]) {
         assert!(rt;
             filter_is_told(alloc, &filter, &Line::of(alloc, line)?)?,
             "{line}"
         );
-        count += 1;
+        count = count.saturating_add(1);
     }
     assert_eq!(rt; count, 2);
     let positional = listed(alloc, AppendParameters::positional_parameters())?;
@@ -123,10 +123,10 @@ fn tag_is_found(alloc: Global, row: &Line) -> Result<bool, Fail> {
 #[test]
 fn tags_tell_what_they_are(rt: HostRuntime) -> Result<(), Fail> {
     let alloc = rt.alloc();
-    let mut count = 0;
+    let mut count = 0u32;
     for line in TAGS.lines() {
         assert!(rt; tag_is_found(alloc, &Line::of(alloc, line)?)?, "{line}");
-        count += 1;
+        count = count.saturating_add(1);
     }
     assert_eq!(rt; count, 5);
     Ok(())
@@ -163,14 +163,14 @@ fn blocks_tell_what_they_are(rt: HostRuntime) -> Result<(), Fail> {
         Blocks::With,
         Blocks::Glob,
     ];
-    let mut count = 0;
+    let mut count = 0u32;
     for (line, block) in BLOCKS.lines().zip(blocks) {
         assert!(rt; block_holds(alloc, &block, line)?, "{line}");
         assert!(rt;
             block_holds(alloc, &HostileBlocks::Plain(block), line)?,
             "{line}"
         );
-        count += 1;
+        count = count.saturating_add(1);
     }
     assert_eq!(rt; count, 6);
     Ok(())
@@ -180,10 +180,10 @@ fn blocks_tell_what_they_are(rt: HostRuntime) -> Result<(), Fail> {
 fn blocks_of_the_library_tell_what_they_are(rt: HostRuntime) -> Result<(), Fail> {
     let alloc = rt.alloc();
     let blocks = [LibraryBlocks::If, LibraryBlocks::For, LibraryBlocks::Raw];
-    let mut count = 0;
+    let mut count = 0u32;
     for (line, block) in LIBRARY.lines().zip(blocks) {
         assert!(rt; block_holds(alloc, &block, line)?, "{line}");
-        count += 1;
+        count = count.saturating_add(1);
     }
     assert_eq!(rt; count, 3);
     Ok(())

@@ -65,10 +65,10 @@ const TAGS: &str = r#"["{% t %}", "t", "", 1, 0]
 #[test]
 fn a_copy_of_a_cursor_begins_at_the_first_token(rt: HostRuntime) -> Result<(), Fail> {
     let alloc = rt.alloc();
-    let mut count = 0;
+    let mut count = 0u32;
     for line in TAGS.lines() {
         assert!(rt; holds(alloc, &Line::of(alloc, line)?)?, "{line}");
-        count += 1;
+        count = count.saturating_add(1);
     }
     assert_eq!(rt; count, 8);
     Ok(())
