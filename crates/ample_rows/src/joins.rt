@@ -40,11 +40,7 @@ fn is_memory<T>(answer: &Result<T, Error>) -> bool {
 }
 
 /// What a text is rendered as when it is read first, or none where it is refused.
-fn rendered(
-    alloc: Global,
-    language: &TheLanguage,
-    text: &str,
-) -> Result<Option<String>, Fail> {
+fn rendered(alloc: Global, language: &TheLanguage, text: &str) -> Result<Option<String>, Fail> {
     let read = parse(alloc, text, language);
     if is_memory(&read) {
         return Err(Fail::from("reading a join answers want of memory"));

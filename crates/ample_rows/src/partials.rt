@@ -28,7 +28,12 @@ fn source(alloc: Global) -> Result<InMemorySource, AllocError> {
 fn a_source_answers(rt: HostRuntime) -> Result<(), Fail> {
     let alloc = rt.alloc();
     let source = InMemorySource::clone(&source(alloc)?)?;
-    assert_eq!(rt; PartialSource::names(&source, alloc)?.join(alloc, " ")?.as_str(), "p");
+    assert_eq!(rt;
+        PartialSource::names(&source, alloc)?
+            .join(alloc, " ")?
+            .as_str(),
+        "p"
+    );
     assert_eq!(rt; PartialSource::get(&source, alloc, "p")?.as_str(), "P");
     assert!(rt; PartialSource::try_get(&source, alloc, "q")?.is_none());
     let unknown = unknown_partial(alloc, "q", &["p"]);
