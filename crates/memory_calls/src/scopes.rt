@@ -1,6 +1,6 @@
 ghost use Rattle.std.specs.Prelude.{◌≡◌};
 
-use crate::given::{Built, object, runtime, text};
+use crate::given::{object, runtime, text};
 use crate::problem::Problem;
 use bench::forms::{Chained, Flat};
 use growths::{MOST, Seen, Told, taken};
@@ -44,23 +44,23 @@ fn pushed<S: Scopes>(scopes: &mut S, frame: Frame) -> Told
 }
 
 /// Begins a frame behind so many boxes, and then another.
-fn push<S>(alloc: Global, boxes: usize) -> Result<Seen, Problem>
+fn push<S>(alloc: Global, base: S::Base, frames: (Frame, Frame), boxes: usize) -> Seen
 where
-    S: Scopes<Register = (), Store = (), Base = Built>,
+    S: Scopes<Register = (), Store = ()>,
 {
-    let (one, other) = (frame(alloc)?, frame(alloc)?);
-    let mut scopes = S::new(alloc, runtime(alloc)?);
+    let (one, other) = frames;
+    let mut scopes = S::new(alloc, base);
     let before = taken(alloc, boxes);
     let first = pushed(&mut scopes, one);
     let after = taken(alloc, MOST);
     let next = pushed(&mut scopes, other);
     let _base = scopes.into_base();
-    Ok(Seen {
+    Seen {
         before,
         after,
         first,
         next,
-    })
+    }
 }
 
 /// Sets `n` where it has no value yet.
@@ -77,23 +77,23 @@ fn set<S: Scopes>(scopes: &mut S, word: &str, name: String) -> Told
 }
 
 /// Sets a name behind so many boxes, and then once more.
-fn sets<S>(alloc: Global, word: &str, boxes: usize) -> Result<Seen, Problem>
+fn sets<S>(alloc: Global, base: S::Base, word: &str, names: (String, String), boxes: usize) -> Seen
 where
-    S: Scopes<Register = (), Store = (), Base = Built>,
+    S: Scopes<Register = (), Store = ()>,
 {
-    let (one, other) = (text(alloc, "n")?, text(alloc, "n")?);
-    let mut scopes = S::new(alloc, runtime(alloc)?);
+    let (one, other) = names;
+    let mut scopes = S::new(alloc, base);
     let before = taken(alloc, boxes);
     let first = set(&mut scopes, word, one);
     let after = taken(alloc, MOST);
     let next = set(&mut scopes, word, other);
     let _base = scopes.into_base();
-    Ok(Seen {
+    Seen {
         before,
         after,
         first,
         next,
-    })
+    }
 }
 
 /// What the names are that are seen over the globals.
@@ -107,23 +107,23 @@ fn roots_told(roots: Result<BTreeSet<String>, AllocError>) -> Told {
 }
 
 /// Asks for the names behind so many boxes, and then once more.
-fn roots<S>(alloc: Global, boxes: usize) -> Result<Seen, Problem>
+fn roots<S>(alloc: Global, base: S::Base, boxes: usize) -> Seen
 where
-    S: Scopes<Register = (), Store = (), Base = Built>,
+    S: Scopes<Register = (), Store = ()>,
 {
-    let scopes = S::new(alloc, runtime(alloc)?);
+    let scopes = S::new(alloc, base);
     let before = taken(alloc, boxes);
     let answer = scopes.roots(alloc);
     let after = taken(alloc, MOST);
     let first = roots_told(answer);
     let next = roots_told(scopes.roots(alloc));
     let _base = scopes.into_base();
-    Ok(Seen {
+    Seen {
         before,
         after,
         first,
         next,
-    })
+    }
 }
 
 /// What the size of the only member of `a` is.
@@ -155,18 +155,50 @@ fn seek(alloc: Global, boxes: usize) -> Result<Seen, Problem> {
     })
 }
 
-/// Makes a call of scopes behind so many boxes, and then once more.
-pub fn tried(alloc: Global, word: &str, boxes: usize) -> Result<Seen, Problem> {
+/// Two frames, each with a name of its own.
+fn frames(alloc: Global) -> Result<(Frame, Frame), Problem> {
+    let one = frame(alloc)?;
+    Ok((one, frame(alloc)?))
+}
+
+/// One name, twice.
+fn names(alloc: Global) -> Result<(String, String), Problem> {
+    let one = text(alloc, "n")?;
+    Ok((one, text(alloc, "n")?))
+}
+
+/// Makes a call of chained scopes behind so many boxes, and then once more.
+fn over_chained(alloc: Global, word: &str, boxes: usize) -> Result<Seen, Problem> {
+    let base = runtime(alloc)?;
     match word {
-        "chained_push" => push::<Chained<()>>(alloc, boxes),
-        "flat_push" => push::<Flat<()>>(alloc, boxes),
-        "chained_set_global" => sets::<Chained<()>>(alloc, "global", boxes),
-        "chained_set_index" => sets::<Chained<()>>(alloc, "index", boxes),
-        "flat_set_global" => sets::<Flat<()>>(alloc, "global", boxes),
-        "flat_set_index" => sets::<Flat<()>>(alloc, "index", boxes),
-        "chained_roots" => roots::<Chained<()>>(alloc, boxes),
-        "flat_roots" => roots::<Flat<()>>(alloc, boxes),
+        "chained_push" => Ok(push::<Chained<()>>(alloc, base, frames(alloc)?, boxes)),
+        "chained_set_global" => {
+            Ok(sets::<Chained<()>>(alloc, base, "global", names(alloc)?, boxes))
+        }
+        "chained_set_index" => Ok(sets::<Chained<()>>(alloc, base, "index", names(alloc)?, boxes)),
+        "chained_roots" => Ok(roots::<Chained<()>>(alloc, base, boxes)),
+        _ => Err(Problem::Case),
+    }
+}
+
+/// Makes a call of flat scopes behind so many boxes, and then once more.
+fn over_flat(alloc: Global, word: &str, boxes: usize) -> Result<Seen, Problem> {
+    let base = runtime(alloc)?;
+    match word {
+        "flat_push" => Ok(push::<Flat<()>>(alloc, base, frames(alloc)?, boxes)),
+        "flat_set_global" => Ok(sets::<Flat<()>>(alloc, base, "global", names(alloc)?, boxes)),
+        "flat_set_index" => Ok(sets::<Flat<()>>(alloc, base, "index", names(alloc)?, boxes)),
+        "flat_roots" => Ok(roots::<Flat<()>>(alloc, base, boxes)),
         "flat_seek" => seek(alloc, boxes),
         _ => Err(Problem::Case),
+    }
+}
+
+/// Makes a call of scopes behind so many boxes, and then once more.
+pub fn tried(alloc: Global, word: &str, boxes: usize) -> Result<Seen, Problem> {
+    if word.starts_with("chained") {
+        over_chained(alloc, word, boxes)
+    } else {
+        over_flat(alloc, word, boxes)
     }
 }

@@ -144,15 +144,17 @@ where
     })
 }
 
-/// Scopes of one form over the row's globals, with a frame that is ended behind the calls.
-fn framed<S>(alloc: Global, row: &Row, boxes: usize) -> Result<Seen, Problem>
+/// Scopes of one form over a base, with a frame that is ended behind the calls.
+fn framed<S>(
+    alloc: Global,
+    row: &Row,
+    page: &Page,
+    base: S::Base,
+    boxes: usize,
+) -> Result<Seen, Problem>
 where
-    S: Scopes<Register = (), Store = Lazy, Base = BuiltRuntime<(), Lazy>>,
+    S: Scopes<Register = (), Store = Lazy>,
 {
-    let language = shared_language(alloc)?;
-    let page = page(alloc, row, &language)?;
-    let store = lazy_store(alloc, row, &language)?;
-    let base = row.runtime(alloc, row.globals(alloc)?, store);
     let mut scopes = S::new(alloc, base);
     let pushed = match frame(alloc) {
         Ok(frame) => scopes.push(frame),
@@ -160,7 +162,7 @@ where
     };
     let answer = match pushed {
         Ok(()) => {
-            let answer = over(alloc, row, &page, &mut scopes, boxes);
+            let answer = over(alloc, row, page, &mut scopes, boxes);
             scopes.pop();
             answer
         }
@@ -170,10 +172,21 @@ where
     answer
 }
 
+/// The row's page, and its globals with a lazy store.
+fn based(alloc: Global, row: &Row) -> Result<(Page, BuiltRuntime<(), Lazy>), Problem> {
+    let language = shared_language(alloc)?;
+    let page = page(alloc, row, &language)?;
+    let store = lazy_store(alloc, row, &language)?;
+    let base = row.runtime(alloc, row.globals(alloc)?, store);
+    Ok((page, base))
+}
+
 pub fn over_chained(alloc: Global, row: &Row, boxes: usize) -> Result<Seen, Problem> {
-    framed::<Chained<Lazy>>(alloc, row, boxes)
+    let (page, base) = based(alloc, row)?;
+    framed::<Chained<Lazy>>(alloc, row, &page, base, boxes)
 }
 
 pub fn over_flat(alloc: Global, row: &Row, boxes: usize) -> Result<Seen, Problem> {
-    framed::<Flat<Lazy>>(alloc, row, boxes)
+    let (page, base) = based(alloc, row)?;
+    framed::<Flat<Lazy>>(alloc, row, &page, base, boxes)
 }
