@@ -44,12 +44,13 @@ fn pushed<S: Scopes>(scopes: &mut S, frame: Frame) -> Told
 }
 
 /// Begins a frame behind so many boxes, and then another.
-fn push<S>(alloc: Global, boxes: usize) -> Result<Seen, Problem>
+fn push<S>(alloc: Global, base: S::Base, boxes: usize) -> Result<Seen, Problem>
 where
-    S: Scopes<Register = (), Store = (), Base = Built>,
+    S: Scopes<Register = (), Store = ()>,
+    S::Base: Drop,
 {
     let (one, other) = (frame(alloc)?, frame(alloc)?);
-    let mut scopes = S::new(alloc, runtime(alloc)?);
+    let mut scopes = S::new(alloc, base);
     let before = taken(alloc, boxes);
     let first = pushed(&mut scopes, one);
     let after = taken(alloc, MOST);
@@ -77,12 +78,13 @@ fn set<S: Scopes>(scopes: &mut S, word: &str, name: String) -> Told
 }
 
 /// Sets a name behind so many boxes, and then once more.
-fn sets<S>(alloc: Global, word: &str, boxes: usize) -> Result<Seen, Problem>
+fn sets<S>(alloc: Global, base: S::Base, word: &str, boxes: usize) -> Result<Seen, Problem>
 where
-    S: Scopes<Register = (), Store = (), Base = Built>,
+    S: Scopes<Register = (), Store = ()>,
+    S::Base: Drop,
 {
     let (one, other) = (text(alloc, "n")?, text(alloc, "n")?);
-    let mut scopes = S::new(alloc, runtime(alloc)?);
+    let mut scopes = S::new(alloc, base);
     let before = taken(alloc, boxes);
     let first = set(&mut scopes, word, one);
     let after = taken(alloc, MOST);
@@ -107,11 +109,12 @@ fn roots_told(roots: Result<BTreeSet<String>, AllocError>) -> Told {
 }
 
 /// Asks for the names behind so many boxes, and then once more.
-fn roots<S>(alloc: Global, boxes: usize) -> Result<Seen, Problem>
+fn roots<S>(alloc: Global, base: S::Base, boxes: usize) -> Result<Seen, Problem>
 where
-    S: Scopes<Register = (), Store = (), Base = Built>,
+    S: Scopes<Register = (), Store = ()>,
+    S::Base: Drop,
 {
-    let scopes = S::new(alloc, runtime(alloc)?);
+    let scopes = S::new(alloc, base);
     let before = taken(alloc, boxes);
     let answer = scopes.roots(alloc);
     let after = taken(alloc, MOST);
@@ -136,10 +139,10 @@ fn size_told(found: Result<Option<ValueCow<'_>>, AllocError>) -> Told {
 }
 
 /// Looks up a path in flat scopes behind so many boxes, and then once more.
-fn seek(alloc: Global, boxes: usize) -> Result<Seen, Problem> {
+fn seek(alloc: Global, base: Built, boxes: usize) -> Result<Seen, Problem> {
     let path = [ScalarCow::from("a"), ScalarCow::from("size")];
     let mut looks = Looks::new();
-    let scopes: Flat<()> = FlatScopes::new(alloc, runtime(alloc)?);
+    let scopes: Flat<()> = FlatScopes::new(alloc, base);
     let before = taken(alloc, boxes);
     let found = scopes.seek(alloc, &path, &mut looks);
     let after = taken(alloc, MOST);
@@ -157,16 +160,17 @@ fn seek(alloc: Global, boxes: usize) -> Result<Seen, Problem> {
 
 /// Makes a call of scopes behind so many boxes, and then once more.
 pub fn tried(alloc: Global, word: &str, boxes: usize) -> Result<Seen, Problem> {
+    let base = runtime(alloc)?;
     match word {
-        "chained_push" => push::<Chained<()>>(alloc, boxes),
-        "flat_push" => push::<Flat<()>>(alloc, boxes),
-        "chained_set_global" => sets::<Chained<()>>(alloc, "global", boxes),
-        "chained_set_index" => sets::<Chained<()>>(alloc, "index", boxes),
-        "flat_set_global" => sets::<Flat<()>>(alloc, "global", boxes),
-        "flat_set_index" => sets::<Flat<()>>(alloc, "index", boxes),
-        "chained_roots" => roots::<Chained<()>>(alloc, boxes),
-        "flat_roots" => roots::<Flat<()>>(alloc, boxes),
-        "flat_seek" => seek(alloc, boxes),
+        "chained_push" => push::<Chained<()>>(alloc, base, boxes),
+        "flat_push" => push::<Flat<()>>(alloc, base, boxes),
+        "chained_set_global" => sets::<Chained<()>>(alloc, base, "global", boxes),
+        "chained_set_index" => sets::<Chained<()>>(alloc, base, "index", boxes),
+        "flat_set_global" => sets::<Flat<()>>(alloc, base, "global", boxes),
+        "flat_set_index" => sets::<Flat<()>>(alloc, base, "index", boxes),
+        "chained_roots" => roots::<Chained<()>>(alloc, base, boxes),
+        "flat_roots" => roots::<Flat<()>>(alloc, base, boxes),
+        "flat_seek" => seek(alloc, base, boxes),
         _ => Err(Problem::Case),
     }
 }

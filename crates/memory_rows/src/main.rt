@@ -14,9 +14,9 @@ mod requests;
 mod rows;
 mod stores;
 
+use growths::Seen;
 use problem::Problem;
 use rows::Row;
-use growths::Seen;
 use std::alloc::Global;
 use std::process::ExitCode;
 

@@ -144,15 +144,18 @@ where
     })
 }
 
-/// Scopes of one form over the row's globals, with a frame that is ended behind the calls.
-fn framed<S>(alloc: Global, row: &Row, boxes: usize) -> Result<Seen, Problem>
+/// Scopes of one form over a base, with a frame that is ended behind the calls.
+fn framed<S>(
+    alloc: Global,
+    row: &Row,
+    page: &Page,
+    base: S::Base,
+    boxes: usize,
+) -> Result<Seen, Problem>
 where
-    S: Scopes<Register = (), Store = Lazy, Base = BuiltRuntime<(), Lazy>>,
+    S: Scopes<Register = (), Store = Lazy>,
+    S::Base: Drop,
 {
-    let language = shared_language(alloc)?;
-    let page = page(alloc, row, &language)?;
-    let store = lazy_store(alloc, row, &language)?;
-    let base = row.runtime(alloc, row.globals(alloc)?, store);
     let mut scopes = S::new(alloc, base);
     let pushed = match frame(alloc) {
         Ok(frame) => scopes.push(frame),
@@ -160,7 +163,7 @@ where
     };
     let answer = match pushed {
         Ok(()) => {
-            let answer = over(alloc, row, &page, &mut scopes, boxes);
+            let answer = over(alloc, row, page, &mut scopes, boxes);
             scopes.pop();
             answer
         }
@@ -170,10 +173,20 @@ where
     answer
 }
 
+/// The row's template, and a runtime of its globals over a lazy store.
+fn made(alloc: Global, row: &Row) -> Result<(Page, BuiltRuntime<(), Lazy>), Problem> {
+    let language = shared_language(alloc)?;
+    let page = page(alloc, row, &language)?;
+    let store = lazy_store(alloc, row, &language)?;
+    Ok((page, row.runtime(alloc, row.globals(alloc)?, store)))
+}
+
 pub fn over_chained(alloc: Global, row: &Row, boxes: usize) -> Result<Seen, Problem> {
-    framed::<Chained<Lazy>>(alloc, row, boxes)
+    let (page, base) = made(alloc, row)?;
+    framed::<Chained<Lazy>>(alloc, row, &page, base, boxes)
 }
 
 pub fn over_flat(alloc: Global, row: &Row, boxes: usize) -> Result<Seen, Problem> {
-    framed::<Flat<Lazy>>(alloc, row, boxes)
+    let (page, base) = made(alloc, row)?;
+    framed::<Flat<Lazy>>(alloc, row, &page, base, boxes)
 }

@@ -17,9 +17,14 @@ pub(crate) enum Call {
 pub(crate) const CALLS: [Call; 4] = [Call::Plain, Call::Sandboxed, Call::Chained, Call::Flat];
 
 /// Renders over scopes of one form, and answers the base again.
-fn over<S, K>(alloc: Global, page: &Page, sink: &mut K, base: Around) -> (Result<(), Error>, Around)
+fn over<S, K>(
+    alloc: Global,
+    page: &Page,
+    sink: &mut K,
+    base: S::Base,
+) -> (Result<(), Error>, S::Base)
 where
-    S: Scopes<Register = (), Store = Store, Base = Around>,
+    S: Scopes<Register = (), Store = Store>,
     K: Sink,
 {
     let mut scopes = S::new(alloc, base);
