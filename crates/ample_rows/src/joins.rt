@@ -26,7 +26,7 @@ const PIECES: [&str; 12] = [
 ];
 
 /// A runtime in which `a` is 1.
-fn runtime(alloc: Global) -> Result<BuiltRuntime<(), ()>, AllocError> {
+fn around(alloc: Global) -> Result<BuiltRuntime<(), ()>, AllocError> {
     let mut globals = Object::new(alloc);
     globals.insert(String::from_str(alloc, "a")?, Value::scalar(1i64))?;
     Ok(RuntimeBuilder::new(alloc).set_globals(globals).build())
@@ -48,7 +48,8 @@ fn rendered(alloc: Global, language: &TheLanguage, text: &str) -> Result<Option<
     let Ok(nodes) = read else {
         return Ok(None);
     };
-    let answer = Template::new(nodes).render(alloc, &mut runtime(alloc)?);
+    let mut runtime = around(alloc)?;
+    let answer = Template::new(nodes).render(alloc, &mut runtime);
     if is_memory(&answer) {
         return Err(Fail::from("rendering a join answers want of memory"));
     }
@@ -59,7 +60,8 @@ fn rendered(alloc: Global, language: &TheLanguage, text: &str) -> Result<Option<
 fn tried(alloc: Global, language: &TheLanguage, text: &str) -> Result<usize, Fail> {
     let shown = rendered(alloc, language, text)?;
     let mut sink = TextSink::new(alloc);
-    let answer = render_source(alloc, text, language, &mut runtime(alloc)?, &mut sink);
+    let mut runtime = around(alloc)?;
+    let answer = render_source(alloc, text, language, &mut runtime, &mut sink);
     if is_memory(&answer) {
         return Err(Fail::from("a join in one call answers want of memory"));
     }
@@ -114,8 +116,12 @@ fn some_joins_come_to_what_they_mean(rt: HostRuntime) -> Result<(), Fail> {
         ("{{ 4.5 }}", None),
     ];
     for (text, wanted) in rows {
-        let shown = rendered(alloc, &language, text)?;
-        assert_eq!(rt; shown.as_deref(), wanted, "{text}");
+        let is_meant = match (rendered(alloc, &language, text)?, wanted) {
+            (Some(shown), Some(wanted)) => shown.as_str() == wanted,
+            (None, None) => true,
+            _ => false,
+        };
+        assert!(rt; is_meant, "{text}");
     }
     Ok(())
 }

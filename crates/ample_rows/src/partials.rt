@@ -1,5 +1,8 @@
 //! Calls of sources, compilers and stores that no other crate's tests make by name.
+use bench::blocks::BlockNode;
+use bench::filters::AnyFilter;
 use bench::languages::language;
+use bench::tags::TagNode;
 use bench::{Blocks, Filters, Tags};
 use liquid_core::PartialStore;
 use liquid_core::parser::Language;
@@ -54,9 +57,9 @@ fn shared(alloc: Global) -> Result<Shared, AllocError> {
 /// What a store answers to requests for `p` and `q`, and its names.
 fn asked<S>(alloc: Global, store: &mut S) -> Result<String, Fail>
 where
-    S: PartialStore<bench::filters::AnyFilter, bench::tags::TagNode, bench::blocks::BlockNode>,
+    S: PartialStore<AnyFilter, TagNode, BlockNode>,
 {
-    let names = PartialStore::names(store, alloc)?.join(alloc, " ")?;
+    let names = PartialStore::names(&*store, alloc)?.join(alloc, " ")?;
     let mut runtime: BuiltRuntime<(), ()> = RuntimeBuilder::new(alloc).build();
     let shown = match PartialStore::get(store, alloc, "p") {
         Ok(template) => template.render(alloc, &mut runtime)?,

@@ -44,11 +44,12 @@ fn pushed<S: Scopes>(scopes: &mut S, frame: Frame) -> Told
 }
 
 /// Begins a frame behind so many boxes, and then another.
-fn push<S>(alloc: Global, base: S::Base, frames: (Frame, Frame), boxes: usize) -> Seen
+fn push<S>(alloc: Global, base: S::Base, boxes: usize) -> Result<Seen, Problem>
 where
     S: Scopes<Register = (), Store = ()>,
+    S::Base: Drop,
 {
-    let (one, other) = frames;
+    let (one, other) = (frame(alloc)?, frame(alloc)?);
     let mut scopes = S::new(alloc, base);
     let before = taken(alloc, boxes);
     let first = pushed(&mut scopes, one);
@@ -77,11 +78,12 @@ fn set<S: Scopes>(scopes: &mut S, word: &str, name: String) -> Told
 }
 
 /// Sets a name behind so many boxes, and then once more.
-fn sets<S>(alloc: Global, base: S::Base, word: &str, names: (String, String), boxes: usize) -> Seen
+fn sets<S>(alloc: Global, base: S::Base, word: &str, boxes: usize) -> Result<Seen, Problem>
 where
     S: Scopes<Register = (), Store = ()>,
+    S::Base: Drop,
 {
-    let (one, other) = names;
+    let (one, other) = (text(alloc, "n")?, text(alloc, "n")?);
     let mut scopes = S::new(alloc, base);
     let before = taken(alloc, boxes);
     let first = set(&mut scopes, word, one);
@@ -107,9 +109,10 @@ fn roots_told(roots: Result<BTreeSet<String>, AllocError>) -> Told {
 }
 
 /// Asks for the names behind so many boxes, and then once more.
-fn roots<S>(alloc: Global, base: S::Base, boxes: usize) -> Seen
+fn roots<S>(alloc: Global, base: S::Base, boxes: usize) -> Result<Seen, Problem>
 where
     S: Scopes<Register = (), Store = ()>,
+    S::Base: Drop,
 {
     let scopes = S::new(alloc, base);
     let before = taken(alloc, boxes);
@@ -136,10 +139,10 @@ fn size_told(found: Result<Option<ValueCow<'_>>, AllocError>) -> Told {
 }
 
 /// Looks up a path in flat scopes behind so many boxes, and then once more.
-fn seek(alloc: Global, boxes: usize) -> Result<Seen, Problem> {
+fn seek(alloc: Global, base: Built, boxes: usize) -> Result<Seen, Problem> {
     let path = [ScalarCow::from("a"), ScalarCow::from("size")];
     let mut looks = Looks::new();
-    let scopes: Flat<()> = FlatScopes::new(alloc, runtime(alloc)?);
+    let scopes: Flat<()> = FlatScopes::new(alloc, base);
     let before = taken(alloc, boxes);
     let found = scopes.seek(alloc, &path, &mut looks);
     let after = taken(alloc, MOST);
@@ -155,41 +158,19 @@ fn seek(alloc: Global, boxes: usize) -> Result<Seen, Problem> {
     })
 }
 
-/// Two frames, each with a name of its own.
-fn frames(alloc: Global) -> Result<(Frame, Frame), Problem> {
-    let one = frame(alloc)?;
-    Ok((one, frame(alloc)?))
-}
-
-/// One name, twice.
-fn names(alloc: Global) -> Result<(String, String), Problem> {
-    let one = text(alloc, "n")?;
-    Ok((one, text(alloc, "n")?))
-}
-
-/// Makes a call of chained scopes behind so many boxes, and then once more.
-fn over_chained(alloc: Global, word: &str, boxes: usize) -> Result<Seen, Problem> {
+/// Makes a call of scopes behind so many boxes, and then once more.
+pub fn tried(alloc: Global, word: &str, boxes: usize) -> Result<Seen, Problem> {
     let base = runtime(alloc)?;
     match word {
-        "chained_push" => Ok(push::<Chained<()>>(alloc, base, frames(alloc)?, boxes)),
-        "chained_set_global" => {
-            Ok(sets::<Chained<()>>(alloc, base, "global", names(alloc)?, boxes))
-        }
-        "chained_set_index" => Ok(sets::<Chained<()>>(alloc, base, "index", names(alloc)?, boxes)),
-        "chained_roots" => Ok(roots::<Chained<()>>(alloc, base, boxes)),
-        _ => Err(Problem::Case),
-    }
-}
-
-/// Makes a call of flat scopes behind so many boxes, and then once more.
-fn over_flat(alloc: Global, word: &str, boxes: usize) -> Result<Seen, Problem> {
-    let base = runtime(alloc)?;
-    match word {
-        "flat_push" => Ok(push::<Flat<()>>(alloc, base, frames(alloc)?, boxes)),
-        "flat_set_global" => Ok(sets::<Flat<()>>(alloc, base, "global", names(alloc)?, boxes)),
-        "flat_set_index" => Ok(sets::<Flat<()>>(alloc, base, "index", names(alloc)?, boxes)),
-        "flat_roots" => Ok(roots::<Flat<()>>(alloc, base, boxes)),
-        "flat_seek" => seek(alloc, boxes),
+        "chained_push" => push::<Chained<()>>(alloc, base, boxes),
+        "flat_push" => push::<Flat<()>>(alloc, base, boxes),
+        "chained_set_global" => sets::<Chained<()>>(alloc, base, "global", boxes),
+        "chained_set_index" => sets::<Chained<()>>(alloc, base, "index", boxes),
+        "flat_set_global" => sets::<Flat<()>>(alloc, base, "global", boxes),
+        "flat_set_index" => sets::<Flat<()>>(alloc, base, "index", boxes),
+        "chained_roots" => roots::<Chained<()>>(alloc, base, boxes),
+        "flat_roots" => roots::<Flat<()>>(alloc, base, boxes),
+        "flat_seek" => seek(alloc, base, boxes),
         _ => Err(Problem::Case),
     }
 }

@@ -154,6 +154,7 @@ fn framed<S>(
 ) -> Result<Seen, Problem>
 where
     S: Scopes<Register = (), Store = Lazy>,
+    S::Base: Drop,
 {
     let mut scopes = S::new(alloc, base);
     let pushed = match frame(alloc) {
@@ -172,21 +173,20 @@ where
     answer
 }
 
-/// The row's page, and its globals with a lazy store.
-fn based(alloc: Global, row: &Row) -> Result<(Page, BuiltRuntime<(), Lazy>), Problem> {
+/// The row's template, and a runtime of its globals over a lazy store.
+fn made(alloc: Global, row: &Row) -> Result<(Page, BuiltRuntime<(), Lazy>), Problem> {
     let language = shared_language(alloc)?;
     let page = page(alloc, row, &language)?;
     let store = lazy_store(alloc, row, &language)?;
-    let base = row.runtime(alloc, row.globals(alloc)?, store);
-    Ok((page, base))
+    Ok((page, row.runtime(alloc, row.globals(alloc)?, store)))
 }
 
 pub fn over_chained(alloc: Global, row: &Row, boxes: usize) -> Result<Seen, Problem> {
-    let (page, base) = based(alloc, row)?;
+    let (page, base) = made(alloc, row)?;
     framed::<Chained<Lazy>>(alloc, row, &page, base, boxes)
 }
 
 pub fn over_flat(alloc: Global, row: &Row, boxes: usize) -> Result<Seen, Problem> {
-    let (page, base) = based(alloc, row)?;
+    let (page, base) = made(alloc, row)?;
     framed::<Flat<Lazy>>(alloc, row, &page, base, boxes)
 }
