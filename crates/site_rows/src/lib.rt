@@ -1,0 +1,22 @@
+//! The tests of sites in sandboxes: templates of the tag library with their partials, over parents that
+//! differ in all that a sandbox hides. Each table is one text of lines, a site each.
+#![tactic(auto)]
+
+#[cfg(test)]
+mod faulty_sites;
+#[cfg(test)]
+mod lenient_sites;
+#[cfg(test)]
+mod parents;
+#[cfg(test)]
+mod plain_sites;
+#[cfg(test)]
+mod refused_sites;
+#[cfg(test)]
+mod rows;
+#[cfg(test)]
+mod site_rows;
+#[cfg(test)]
+mod sites;
+#[cfg(test)]
+mod stores;
