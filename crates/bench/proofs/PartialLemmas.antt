@@ -8,8 +8,8 @@ use Rattle.std.specs.FinMap.Entries.{put}
 use Rattle.std.specs.Ordering.{nat_cmp, eq_by_cmp}
 use Rattle.std.specs.Str.{bytes_eq}
 use Rattle.std.proofs.lemmas.Map.Text.{is_eq-slice_cmp}
-use Rattle.liquid_error.specs.Refusal.{Refusal}
-use Rattle.liquid_template.specs.Partials.{partial_in, tree_in, read_tree, unknown_partial}
+use Rattle.liquid_error.specs.meaning.Refusal.{Refusal}
+use Rattle.liquid_template.specs.meaning.Partials.{partial_in, tree_in, read_tree, unknown_partial}
 
 none_left : {A : Type 0} (es : List A) → length es ≡ 0 → es ≡ []
 none_left [] e = refl

@@ -1,13 +1,2 @@
-pub mod Drips
-pub mod Filters
-pub mod ProgramLanguage
-pub mod Tags
-pub mod TagLaws
-pub mod Blocks
-pub mod BlockLaws
-pub mod Hostile
-pub mod LeakLaw
-pub mod Asked
-pub mod TagPlugins
-pub mod BlockPlugins
-pub mod Languages
+pub mod meaning
+pub mod laws

@@ -1,10 +1,10 @@
 //! What the test tags and blocks ask of their tokens.
 ghost use Rattle.std.specs.Prelude.{string_bytes};
-ghost use Rattle.liquid_error.specs.Told.{Gives};
-ghost use Rattle.liquid_plugins.specs.ExpressionOf.{expression_of};
-ghost use Rattle.liquid_parser.specs.Handed.{Tokens};
-ghost use Rattle.liquid_parser.specs.Plugins.{AreTokens};
-ghost use Rattle.bench.specs.Asked.{name_alone, name_and_value, nothing_for};
+ghost use Rattle.liquid_error.specs.meaning.Told.{Gives};
+ghost use Rattle.liquid_plugins.specs.meaning.ExpressionOf.{expression_of};
+ghost use Rattle.liquid_parser.specs.meaning.Handed.{Tokens};
+ghost use Rattle.liquid_parser.specs.meaning.Plugins.{AreTokens};
+ghost use Rattle.bench.specs.meaning.Asked.{name_alone, name_and_value, nothing_for};
 
 use liquid_error::Error;
 use liquid_parser::TagTokenIter;

@@ -1,21 +1,19 @@
 //! The test blocks, as plug-ins.
-ghost use Rattle.std.specs.Prelude.{◌≡◌};
-ghost use Rattle.liquid_error.specs.Told.{Gives};
-ghost use Rattle.liquid_parser.specs.Handed.{Tokens};
-ghost use Rattle.liquid_parser.specs.Plugins.{AreTokens, body_of};
-ghost use Rattle.bench.specs.BlockPlugins.{
+ghost use Rattle.std.specs.Prelude.{◌≡◌, refl};
+ghost use Rattle.liquid_error.specs.meaning.Told.{Gives};
+ghost use Rattle.liquid_parser.specs.meaning.Handed.{Tokens};
+ghost use Rattle.liquid_parser.specs.meaning.Plugins.{AreTokens, body_of};
+ghost use Rattle.bench.specs.meaning.BlockPlugins.{
   begun,
-  block_meaning,
   dividers_of,
-  end_of,
   escapes_of,
   finished,
-  hostile_end_of,
-  hostile_meaning,
-  hostile_start_of,
-  start_of,
+  hostile_names_told,
+  names_told,
+  whole_block,
+  whole_hostile_block,
 };
-ghost use Rattle.bench.specs.Blocks.{block_of};
+ghost use Rattle.bench.specs.meaning.Blocks.{block_of};
 
 use crate::asked::{alone, name_and_value};
 use crate::blocks::BlockNode;
@@ -52,9 +50,7 @@ pub enum HostileBlocks {
 }
 
 impl BlockReflection for Blocks {
-    ghost start_name = { start_of };
-
-    ghost end_name = { end_of };
+    ghost block_names = { names_told };
 
     fn start_tag(&self) -> &str {
         match self {
@@ -95,7 +91,9 @@ impl<F: ParseFilter> ParseBlock<F> for Blocks {
 
     type Node = BlockNode;
 
-    ghost meaning = { block_meaning };
+    ghost block = { whole_block };
+
+    ghost named = { λ b. refl };
 
     fn dividers(&self) -> &[&str] {
         match self {
@@ -174,9 +172,7 @@ fn finished(alloc: Global, plan: BlockNode, body: BlockBody<'_>) -> Result<Block
 }
 
 impl BlockReflection for HostileBlocks {
-    ghost start_name = { hostile_start_of };
-
-    ghost end_name = { hostile_end_of };
+    ghost block_names = { hostile_names_told };
 
     fn start_tag(&self) -> &str {
         match self {
@@ -211,7 +207,9 @@ impl<F: ParseFilter> ParseBlock<F> for HostileBlocks {
 
     type Node = HostileBlockNode;
 
-    ghost meaning = { hostile_meaning };
+    ghost block = { whole_hostile_block };
+
+    ghost named = { λ b. refl };
 
     fn dividers(&self) -> &[&str] {
         match self {

@@ -1,16 +1,14 @@
 //! Blocks for tests: what they are made to, and how that is rendered.
 ghost use Rattle.std.specs.FinMap.{empty, insert};
 ghost use Rattle.std.specs.Prelude.{◌≡◌, IfOk, string_bytes};
-ghost use Rattle.liquid_error.specs.Told.{Gives};
-ghost use Rattle.liquid_value.specs.View.{view as tree_of};
-ghost use Rattle.liquid_runtime.specs.Calls.{frame_of};
-ghost use Rattle.liquid_runtime.specs.Maps.{names_of};
-ghost use Rattle.liquid_plugins.specs.Evaluation.{evaluate};
-ghost use Rattle.liquid_plugins.specs.ExpressionOf.{expression_of};
-ghost use Rattle.bench.specs.Blocks.{block_of, block_tells, bound, next_stage};
-ghost use Rattle.bench.specs.BlockLaws.{block_start_hides, block_turn_hides};
-ghost use Rattle.liquid_plugins.specs.Turning.{begins_with};
-ghost use Rattle.bench.specs.declared.blocks.Stage.TheVariants.{First};
+ghost use Rattle.liquid_error.specs.meaning.Told.{Gives};
+ghost use Rattle.liquid_value.specs.meaning.View.{view as tree_of};
+ghost use Rattle.liquid_runtime.specs.meaning.Calls.{frame_of};
+ghost use Rattle.liquid_runtime.specs.meaning.Maps.{names_of};
+ghost use Rattle.liquid_plugins.specs.meaning.Evaluation.{evaluate};
+ghost use Rattle.liquid_plugins.specs.meaning.ExpressionOf.{expression_of};
+ghost use Rattle.bench.specs.meaning.Blocks.{block_nodes, block_of, bound, next_stage};
+ghost use Rattle.bench.specs.laws.BlockLaws.{blocks_hide};
 
 use liquid_error::Error;
 use liquid_plugins::{Bytes, Discreet, Expression, ExpressionMark, Meant, Renderable, Turn};
@@ -69,11 +67,7 @@ impl Meant for Stage {
 impl<V: Fresh> Renderable<V> for BlockNode {
     type Progress = Stage;
 
-    ghost starts = { λ _. begins_with First };
-
-    ghost count = { λ _. 3 };
-
-    ghost tells = { block_tells };
+    ghost means = { block_nodes };
 
     fn start<R: Runtime<Register = V>>(
         &self,
@@ -118,9 +112,7 @@ impl<V: Fresh> Renderable<V> for BlockNode {
 }
 
 impl<V: Fresh> Discreet<V> for BlockNode {
-    ghost start_hides = { block_start_hides };
-
-    ghost turn_hides = { block_turn_hides };
+    ghost hides = { blocks_hide };
 }
 
 /// The turn behind a turn.

@@ -1,6 +1,7 @@
 ghost use Rattle.std.specs.Prelude.{◌≡◌, ◌+◌, ◌<◌, ◌≤◌, [], ◌++◌, length, IfOk};
-ghost use Rattle.liquid_template.specs.Put.{taken_part, failure_count};
-ghost use Rattle.bench.specs.Drips.{puts_left, Drips};
+ghost use Rattle.liquid_template.specs.meaning.Put.{taken_part, failure_count};
+ghost use Rattle.liquid_template.specs.meaning.Sunk.{alone};
+ghost use Rattle.bench.specs.meaning.Drips.{puts_left, Drips};
 
 use liquid_template::{History, Sink, SinkFault};
 use std::alloc::Global;
@@ -16,8 +17,8 @@ pub struct Dripping {
 impl Dripping {
     /// A sink that takes `puts` bytes, one a put, and then fails at each put.
     pub fn new(alloc: Global, puts: u64) -> Dripping
-        ensures taken { ⟦<Dripping as Sink>⟧.taken result ≡ [] }
-        ensures failures { ⟦<Dripping as Sink>⟧.failures result ≡ 0 }
+        ensures taken { (⟦<Dripping as Sink>⟧.sunk result).taken ≡ [] }
+        ensures failures { (⟦<Dripping as Sink>⟧.sunk result).failures ≡ 0 }
         ensures puts { puts_left result ≡ puts }
     {
         Dripping {
@@ -29,16 +30,14 @@ impl Dripping {
 
     /// The bytes taken so far.
     pub fn as_bytes(&self) -> &[u8]
-        ensures { result.now ≡ ⟦<Dripping as Sink>⟧.taken self.now }
+        ensures { result.now ≡ (⟦<Dripping as Sink>⟧.sunk self.now).taken }
     {
         self.bytes.as_slice()
     }
 }
 
 impl Sink for Dripping {
-    ghost taken = { λ sink. sink.bytes.items };
-
-    ghost failures = { λ sink. sink.history.failures };
+    ghost sunk = { λ sink. alone sink.bytes.items sink.history.failures };
 
     fn put(&mut self, piece: &[u8]) -> Result<usize, SinkFault>
         requires { 0 < length piece.now }

@@ -1,18 +1,17 @@
 //! Filters for tests: `append`, and `fail`, which refuses.
-ghost use Rattle.std.specs.Prelude.{◌≡◌, ◌++◌, codes, IfOk, IfSome};
-ghost use Rattle.liquid_error.specs.Told.{told};
-ghost use Rattle.liquid_scalar.specs.Scalar.{text};
-ghost use Rattle.liquid_value.specs.Render.{render};
-ghost use Rattle.liquid_value.specs.Tree.{scalar};
-ghost use Rattle.liquid_value.specs.View.{view as tree_of};
-ghost use Rattle.liquid_plugins.specs.Evaluation.{evaluate};
-ghost use Rattle.liquid_plugins.specs.ExpressionOf.{expression_of};
-ghost use Rattle.bench.specs.Filters.{
-  any_answers,
-  any_label,
+ghost use Rattle.std.specs.Prelude.{◌≡◌, ◌++◌, IfOk, IfSome};
+ghost use Rattle.liquid_error.specs.meaning.Told.{told};
+ghost use Rattle.liquid_scalar.specs.meaning.Scalar.{text};
+ghost use Rattle.liquid_value.specs.meaning.Render.{render};
+ghost use Rattle.liquid_value.specs.meaning.Tree.{scalar};
+ghost use Rattle.liquid_value.specs.meaning.View.{view as tree_of};
+ghost use Rattle.liquid_plugins.specs.meaning.Evaluation.{evaluate};
+ghost use Rattle.liquid_plugins.specs.meaning.ExpressionOf.{expression_of};
+ghost use Rattle.bench.specs.meaning.Filters.{
+  any_filters,
   any_made,
   any_shape,
-  appended,
+  append_filters,
   one_argument,
   unexpected_arguments,
 };
@@ -99,9 +98,7 @@ impl Meant for Append {
 }
 
 impl Filter for Append {
-    ghost answers = { appended };
-
-    ghost shown = { λ _. codes "append" };
+    ghost means = { append_filters };
 
     #[tactic(auto, using(liquid_plugins::proofs::ErasedLemmas::evaluate_erased))]
     fn evaluate<'s, R: Runtime>(
@@ -155,9 +152,7 @@ impl Meant for AnyFilter {
 }
 
 impl Filter for AnyFilter {
-    ghost answers = { any_answers };
-
-    ghost shown = { any_label };
+    ghost means = { any_filters };
 
     fn evaluate<'s, R: Runtime>(
         &'s self,

@@ -1,9 +1,8 @@
 //! Templates rendered over scopes of one form, for tests that compare the two.
-use liquid_plugins::{Filter, Renderable};
+use liquid_plugins::{Filter, Node, Renderable};
 use liquid_runtime::{BuiltRuntime, Scopes};
 use liquid_scopes::{ChainedScopes, FlatScopes};
 use liquid_template::{PartialStore, Template, TextSink};
-use liquid_tree::Node;
 use std::alloc::{AllocError, Global};
 
 /// Scopes of linked frames over a built runtime with this store.

@@ -1,13 +1,10 @@
 //! Tags and blocks of bad will: they ask for turns and parts that there are not.
-ghost use Rattle.bench.specs.Hostile.{
+ghost use Rattle.bench.specs.meaning.Hostile.{
+  hostile_block_nodes,
   hostile_block_of,
-  hostile_block_tells,
+  hostile_tag_nodes,
   hostile_tag_of,
-  hostile_tag_starts,
-  hostile_tag_tells,
 };
-ghost use Rattle.liquid_plugins.specs.Turning.{begins_with};
-ghost use Rattle.bench.specs.declared.blocks.Stage.TheVariants.{First};
 
 use crate::blocks::{BlockNode, BlockShape, Stage};
 use crate::tags::{TagNode, TagShape};
@@ -59,11 +56,7 @@ impl Meant for HostileTagNode {
 impl<V: Fresh> Renderable<V> for HostileTagNode {
     type Progress = u64;
 
-    ghost starts = { hostile_tag_starts };
-
-    ghost count = { λ turns. turns };
-
-    ghost tells = { hostile_tag_tells };
+    ghost means = { hostile_tag_nodes };
 
     fn start<R: Runtime<Register = V>>(
         &self,
@@ -105,11 +98,7 @@ impl Meant for HostileBlockNode {
 impl<V: Fresh> Renderable<V> for HostileBlockNode {
     type Progress = Stage;
 
-    ghost starts = { λ _. begins_with First };
-
-    ghost count = { λ _. 3 };
-
-    ghost tells = { hostile_block_tells };
+    ghost means = { hostile_block_nodes };
 
     fn start<R: Runtime<Register = V>>(
         &self,

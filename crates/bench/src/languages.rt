@@ -1,6 +1,6 @@
 //! Languages of the test plug-ins.
 ghost use Rattle.std.specs.Prelude.{◌≡◌, IfOk};
-ghost use Rattle.bench.specs.Languages.{
+ghost use Rattle.bench.specs.meaning.Languages.{
   hostile_blocks,
   hostile_tags,
   leaky_tags,
@@ -8,7 +8,7 @@ ghost use Rattle.bench.specs.Languages.{
   plain_tags,
   the_filters,
 };
-ghost use Rattle.bench.specs.ProgramLanguage.{meaning_of, program_language};
+ghost use Rattle.bench.specs.meaning.ProgramLanguage.{meaning_of, program_language};
 
 use crate::block_plugins::{Blocks, HostileBlocks};
 use crate::filters::Filters;

@@ -1,5 +1,5 @@
 //! Laws of the test tags, each as the contract of a function.
-ghost use Rattle.bench.specs.LeakLaw.{LeakIsNotDiscreet};
+ghost use Rattle.bench.specs.laws.LeakLaw.{LeakIsNotDiscreet};
 
 use liquid_runtime::Fresh;
 

@@ -1,7 +1,7 @@
 //! A store of one partial.
 ghost use Rattle.std.specs.Prelude.{Ok, string_bytes};
 ghost use Rattle.std.specs.FinMap.{empty, insert};
-ghost use Rattle.liquid_template.specs.TemplateOf.{template_nodes};
+ghost use Rattle.liquid_template.specs.meaning.TemplateOf.{template_nodes};
 
 use liquid_error::Error;
 use liquid_plugins::{Filter, Meant};

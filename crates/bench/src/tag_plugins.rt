@@ -1,9 +1,9 @@
 //! The test tags, as plug-ins.
-ghost use Rattle.liquid_error.specs.Told.{Gives};
-ghost use Rattle.liquid_parser.specs.Handed.{Tokens};
-ghost use Rattle.liquid_parser.specs.Plugins.{AreTokens};
-ghost use Rattle.bench.specs.TagPlugins.{hostile_given, leaky_given, tag_given};
-ghost use Rattle.bench.specs.Tags.{tag_of};
+ghost use Rattle.liquid_error.specs.meaning.Told.{Gives};
+ghost use Rattle.liquid_parser.specs.meaning.Handed.{Tokens};
+ghost use Rattle.liquid_parser.specs.meaning.Plugins.{AreTokens};
+ghost use Rattle.bench.specs.meaning.TagPlugins.{hostile_given, leaky_given, tag_given};
+ghost use Rattle.bench.specs.meaning.Tags.{tag_of};
 
 use crate::asked::{alone, name_alone, name_and_value};
 use crate::hostile::HostileTagNode;

@@ -1,14 +1,13 @@
 //! Tags for tests: what they are made to, and how that is rendered.
 ghost use Rattle.std.specs.Prelude.{◌≡◌, IfOk, option_map, string_bytes};
-ghost use Rattle.liquid_error.specs.Told.{Gives};
-ghost use Rattle.liquid_value.specs.View.{view as tree_of};
-ghost use Rattle.liquid_runtime.specs.Written.{SameFrames};
-ghost use Rattle.liquid_plugins.specs.Evaluation.{evaluate};
-ghost use Rattle.liquid_plugins.specs.ExpressionOf.{expression_of};
-ghost use Rattle.liquid_plugins.specs.TurnOf.{Leaves};
-ghost use Rattle.bench.specs.Tags.{assigned, leaky_of, leaky_tells, render_old, tag_of, tag_tells};
-ghost use Rattle.liquid_plugins.specs.Turning.{begins_with};
-ghost use Rattle.bench.specs.TagLaws.{tag_start_hides, tag_turn_hides};
+ghost use Rattle.liquid_error.specs.meaning.Told.{Gives};
+ghost use Rattle.liquid_value.specs.meaning.View.{view as tree_of};
+ghost use Rattle.liquid_runtime.specs.meaning.Written.{SameFrames};
+ghost use Rattle.liquid_plugins.specs.meaning.Evaluation.{evaluate};
+ghost use Rattle.liquid_plugins.specs.meaning.ExpressionOf.{expression_of};
+ghost use Rattle.liquid_plugins.specs.meaning.TurnOf.{Leaves};
+ghost use Rattle.bench.specs.meaning.Tags.{assigned, leaky_of, leaky_tag_nodes, render_old, tag_nodes, tag_of};
+ghost use Rattle.bench.specs.laws.TagLaws.{tags_hide};
 
 use liquid_error::Error;
 use liquid_plugins::{Bytes, Discreet, Expression, ExpressionMark, Meant, Renderable, Turn};
@@ -45,11 +44,7 @@ impl Meant for TagNode {
 impl<V: Fresh> Renderable<V> for TagNode {
     type Progress = u64;
 
-    ghost starts = { λ _. begins_with 1 };
-
-    ghost count = { λ turns. turns };
-
-    ghost tells = { tag_tells };
+    ghost means = { tag_nodes };
 
     fn start<R: Runtime<Register = V>>(
         &self,
@@ -84,9 +79,7 @@ impl<V: Fresh> Renderable<V> for TagNode {
 }
 
 impl<V: Fresh> Discreet<V> for TagNode {
-    ghost start_hides = { tag_start_hides };
-
-    ghost turn_hides = { tag_turn_hides };
+    ghost hides = { tags_hide };
 }
 
 /// What a tag is made to where there is `leak` too.
@@ -114,11 +107,7 @@ impl Meant for LeakyTagNode {
 impl<V: Fresh> Renderable<V> for LeakyTagNode {
     type Progress = u64;
 
-    ghost starts = { λ _. begins_with 1 };
-
-    ghost count = { λ turns. turns };
-
-    ghost tells = { leaky_tells };
+    ghost means = { leaky_tag_nodes };
 
     fn start<R: Runtime<Register = V>>(
         &self,

@@ -3,16 +3,16 @@ use Rattle.std.proofs.Common.{◌≡◌, ℕ, Bool, List, Option, Result, Ok, Er
 use Rattle.liquid_error.specs.declared.error.Error.{Error, the_lemmas, roll-Error}
 use Rattle.liquid_error.specs.declared.error.Error.TheOpen.{Error-F}
 use Rattle.liquid_value.specs.declared.value.Value.{Value}
-use Rattle.liquid_runtime.specs.Maps.{Names, names_of}
-use Rattle.liquid_template.specs.Sunk.{Sunk}
-use Rattle.liquid_partials.specs.Sources.{Texts}
+use Rattle.liquid_runtime.specs.meaning.Maps.{Names, names_of}
+use Rattle.liquid_template.specs.meaning.Sunk.{Sunk}
+use Rattle.liquid_partials.specs.meaning.Sources.{Texts}
 use Rattle.liquid.specs.declared.fault.Fault.{Fault}
-use Rattle.liquid.specs.Command.{path_words, option_words}
-use Rattle.liquid.specs.Gathered.{WithText, WithGlobals, WithPartials}
-use Rattle.liquid.specs.Globals.{object_read}
-use Rattle.liquid.specs.Program.{Renders, Fails, Finishes, Executes, status_of}
-use Rattle.liquid.specs.Status.{exit_status, fault_status}
-use Rattle.liquid.specs.Steps.{Stops, Brings}
+use Rattle.liquid.specs.meaning.Command.{path_words, option_words}
+use Rattle.liquid.specs.meaning.Gathered.{WithText, WithGlobals, WithPartials}
+use Rattle.liquid.specs.meaning.Globals.{object_read}
+use Rattle.liquid.specs.meaning.Program.{Renders, Fails, Finishes, Executes, status_of}
+use Rattle.liquid.specs.meaning.Status.{exit_status, fault_status}
+use Rattle.liquid.specs.steps.Steps.{Stops, Brings}
 use Rattle.liquid.proofs.GatheredLemmas.{Files, Folders, text_follows, globals_follow, partials_follow, text_anyhow, globals_anyhow, partials_anyhow}
 use Rattle.liquid.specs.declared.command.Options.{Options}
 use Rattle.liquid.proofs.MemoryLemmas.{nothing_rendered}

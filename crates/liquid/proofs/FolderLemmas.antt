@@ -2,13 +2,13 @@
 use Rattle.std.proofs.Common.{Bor, option_map, ◌≡◌, ◌∙◌, ℕ, List, [], ◌∷◌, ◌++◌, Option, Some, Ok, Err, String, Global, BTreeMap, string_bytes, sym, ap, subst, inr, append_assoc}
 use Rattle.std.proofs.lemmas.List.{append-nil}
 use Rattle.std.specs.FinMap.{empty, insert, keys}
-use Rattle.liquid_plugins.specs.Registry.{by_name}
-use Rattle.liquid_partials.specs.Sources.{Texts}
+use Rattle.liquid_plugins.specs.meaning.Registry.{by_name}
+use Rattle.liquid_partials.specs.meaning.Sources.{Texts}
 use Rattle.liquid.specs.declared.fault.Fault.{Fault}
-use Rattle.liquid.specs.Command.{option_words}
-use Rattle.liquid.specs.Gathered.{WithText, WithNames, WithFiles, WithFolder, WithPartials, in_order, names_into, path_in}
-use Rattle.liquid.specs.Status.{fault_status}
-use Rattle.liquid.specs.Steps.{Stops, Brings}
+use Rattle.liquid.specs.meaning.Command.{option_words}
+use Rattle.liquid.specs.meaning.Gathered.{WithText, WithNames, WithFiles, WithFolder, WithPartials, in_order, names_into, path_in}
+use Rattle.liquid.specs.meaning.Status.{fault_status}
+use Rattle.liquid.specs.steps.Steps.{Stops, Brings}
 use Rattle.liquid.proofs.GatheredLemmas.{Files, Folders, text_follows, names_follow, folder_follows, files_anyhow}
 
 -- what was read makes this source

@@ -4,13 +4,13 @@ use Rattle.std.specs.Global.{Vec}
 use Rattle.std.proofs.lemmas.Str.{IsUtf8-string_bytes}
 use Rattle.std.specs.Prelude.{IsUtf8}
 use Rattle.std.specs.FinMap.{empty, insert}
-use Rattle.liquid_error.specs.Refusal.{Refusal}
-use Rattle.liquid_value.specs.Tree.{Members}
-use Rattle.liquid_runtime.specs.Maps.{Names}
-use Rattle.liquid_partials.specs.Sources.{Texts}
-use Rattle.liquid.specs.Files.{Reads}
-use Rattle.liquid.specs.Gathered.{WithText, WithGlobals, WithNames, WithFiles, WithFolder, WithPartials, Gathers, in_order, path_in}
-use Rattle.liquid.specs.Globals.{object_read, global_names}
+use Rattle.liquid_error.specs.meaning.Refusal.{Refusal}
+use Rattle.liquid_value.specs.meaning.Tree.{Members}
+use Rattle.liquid_runtime.specs.meaning.Maps.{Names}
+use Rattle.liquid_partials.specs.meaning.Sources.{Texts}
+use Rattle.liquid.specs.meaning.Files.{Reads}
+use Rattle.liquid.specs.meaning.Gathered.{WithText, WithGlobals, WithNames, WithFiles, WithFolder, WithPartials, Gathers, in_order, path_in}
+use Rattle.liquid.specs.meaning.Globals.{object_read, global_names}
 
 abbrev pub Files : Type 0
 Files = List ℕ → Option (Option (List ℕ))

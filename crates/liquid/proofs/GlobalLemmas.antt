@@ -1,13 +1,13 @@
 -- An object's names by its members.
 use Rattle.std.proofs.Common.{◌≡◌, List, [], ◌∷◌, Some, Result, Ok, String, Global, BTreeMap, map, string_bytes, refl, sym, ap, subst}
 use Rattle.std.specs.FinMap.{from_entries}
-use Rattle.liquid_error.specs.Refusal.{Refusal}
-use Rattle.liquid_value.specs.Tree.{Members}
-use Rattle.liquid_value.specs.View.{view, members_view}
+use Rattle.liquid_error.specs.meaning.Refusal.{Refusal}
+use Rattle.liquid_value.specs.meaning.Tree.{Members}
+use Rattle.liquid_value.specs.meaning.View.{view, members_view}
 use Rattle.liquid_value.specs.declared.value.Value.{Value}
-use Rattle.liquid_runtime.specs.Maps.{names_of}
-use Rattle.liquid.specs.Gathered.{WithGlobals}
-use Rattle.liquid.specs.Globals.{entries_of, global_names}
+use Rattle.liquid_runtime.specs.meaning.Maps.{names_of}
+use Rattle.liquid.specs.meaning.Gathered.{WithGlobals}
+use Rattle.liquid.specs.meaning.Globals.{entries_of, global_names}
 
 entries_viewed : (es : List (String Global × Value)) → entries_of (members_view es) ≡ map (λ e. (string_bytes e.0, view e.1)) es
 entries_viewed [] = refl

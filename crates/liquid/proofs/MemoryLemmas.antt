@@ -2,16 +2,16 @@
 use Rattle.std.proofs.Common.{◌≡◌, ℕ, Bool, List, Option, None, Ok, Err, refl, sym, subst}
 use Rattle.std.specs.Prelude.{IfSome}
 use Rattle.liquid_error.specs.declared.error.Error.{Error}
-use Rattle.liquid_error.specs.Refusal.{Refusal}
-use Rattle.liquid_error.specs.Told.{told}
-use Rattle.liquid_runtime.specs.Maps.{Names}
-use Rattle.liquid_template.specs.Sunk.{Sunk}
+use Rattle.liquid_error.specs.meaning.Refusal.{Refusal}
+use Rattle.liquid_error.specs.meaning.Told.{told}
+use Rattle.liquid_runtime.specs.meaning.Maps.{Names}
+use Rattle.liquid_template.specs.meaning.Sunk.{Sunk}
 use Rattle.liquid_template.proofs.Framing.{renders_memory}
-use Rattle.liquid_partials.specs.Rendered.{RenderedBy}
-use Rattle.liquid_partials.specs.Sources.{Texts}
+use Rattle.liquid_partials.specs.meaning.Rendered.{RenderedBy}
+use Rattle.liquid_partials.specs.meaning.Sources.{Texts}
 use Rattle.liquid.specs.declared.command.Options.{Options}
-use Rattle.liquid.specs.ProgramLanguage.{ProgramAnswer, ProgramFound}
-use Rattle.liquid.specs.Program.{Renders, first_view, program_action}
+use Rattle.liquid.specs.meaning.ProgramLanguage.{ProgramAnswer, ProgramFound}
+use Rattle.liquid.specs.meaning.Program.{Renders, first_view, program_action}
 
 nothing_comes : (options : Options) (globals : Names) (at : Sunk) (error : Error) → told error ≡ None → (answer : ProgramAnswer) (found : Option ProgramFound)
     → RenderedBy (program_action options.sandboxed found globals) answer (first_view options globals) at at (first_view options globals) (Err error)

@@ -2,19 +2,19 @@
 use Rattle.std.proofs.Common.{◌≡◌, ℕ, Bool, List, [], ◌++◌, Option, None, Some, Result, refl, sym, ap, subst, ◌∙◌}
 use Rattle.std.specs.Io.KnownBytes.{Appends, Keeps}
 use Rattle.liquid_error.specs.declared.error.Error.{Error}
-use Rattle.liquid_runtime.specs.Maps.{Names}
-use Rattle.liquid_runtime.specs.View.{View}
-use Rattle.liquid_parser.specs.Reading.{Reads}
-use Rattle.liquid_template.specs.Grows.{Grows}
-use Rattle.liquid_template.specs.Sunk.{Sunk, sunk}
-use Rattle.liquid_partials.specs.Rendered.{RenderedBy}
-use Rattle.liquid_partials.specs.Compiled.{Compiled}
-use Rattle.liquid_partials.specs.Sources.{Texts}
+use Rattle.liquid_runtime.specs.meaning.Maps.{Names}
+use Rattle.liquid_runtime.specs.meaning.View.{View}
+use Rattle.liquid_parser.specs.meaning.Reading.{Reads}
+use Rattle.liquid_template.specs.meaning.Grows.{Grows}
+use Rattle.liquid_template.specs.meaning.Sunk.{Sunk, sunk}
+use Rattle.liquid_partials.specs.meaning.Rendered.{RenderedBy}
+use Rattle.liquid_partials.specs.meaning.Compiled.{Compiled}
+use Rattle.liquid_partials.specs.meaning.Sources.{Texts}
 use Rattle.liquid_partials.proofs.StoreLemmas.{one_store}
-use Rattle.liquid.specs.ProgramLanguage.{ProgramAnswer, ProgramFound, ProgramLang, program_language}
-use Rattle.liquid.specs.Program.{IsFoundIn, Renders, Runs, Prints, built_over, program_action, runtime_names}
+use Rattle.liquid.specs.meaning.ProgramLanguage.{ProgramAnswer, ProgramFound, ProgramLang, program_language}
+use Rattle.liquid.specs.meaning.Program.{IsFoundIn, Renders, Runs, Prints, built_over, program_action, runtime_names}
 use Rattle.liquid.specs.declared.command.Options.{Options}
-use Rattle.liquid.specs.Status.{settled}
+use Rattle.liquid.specs.meaning.Status.{settled}
 
 -- a source has at most one store
 one_found : (partials : Option Texts) (found other : Option ProgramFound) → IsFoundIn partials found → IsFoundIn partials other → found ≡ other
@@ -45,28 +45,29 @@ appends_kept (Some x) (Some y) None more appended kept = absurd kept
 appends_kept (Some x) (Some y) (Some z) more appended kept = kept ∙ appended
 
 -- a run over a sink that has taken nothing, then a flush
-pub Prints-settled : (words : List (List ℕ)) (known : List ℕ → Option (Option (List ℕ))) (listed : List ℕ → Option (Option (List (List ℕ)))) (taken : List ℕ) (failures : ℕ) (behind : Option (List ℕ)) (lent : List ℕ)
-    (taken_after : List ℕ) (failures_after : ℕ) (behind_after : Option (List ℕ)) (lent_after : List ℕ) (before between after : Option (List ℕ)) (answered status : ℕ) (flushed : Bool)
-    → Runs words known listed (sunk taken failures behind lent) (sunk taken_after failures_after behind_after lent_after) answered
-    → taken ≡ [] → failures ≡ 0 → behind ≡ before → lent_after ≡ lent → Grows taken behind taken_after behind_after → between ≡ behind_after → Keeps between after
+pub Prints-settled : (words : List (List ℕ)) (known : List ℕ → Option (Option (List ℕ))) (listed : List ℕ → Option (Option (List (List ℕ)))) (start stop : Sunk)
+    (before between after : Option (List ℕ)) (answered status : ℕ) (flushed : Bool)
+    → Runs words known listed start stop answered
+    → start.taken ≡ [] → start.failures ≡ 0 → start.behind ≡ before → stop.lent ≡ start.lent → Grows start stop → between ≡ stop.behind → Keeps between after
     → status ≡ settled answered flushed → Prints words known listed before after status
-Prints-settled words known listed taken failures behind lent taken_after failures_after behind_after lent_after before between after answered status flushed runs nothing none same_before same_lent grows same_between kept is =
-    let start : sunk taken failures behind lent ≡ sunk [] 0 before lent = rw nothing (rw none (rw same_before refl)) in
-    let stop : sunk taken_after failures_after behind_after lent_after ≡ sunk taken_after failures_after behind_after lent = rw same_lent refl in
+Prints-settled words known listed start stop before between after answered status flushed runs nothing none same_before same_lent grows same_between kept is =
+    let begins : start ≡ sunk [] 0 before start.lent =
+    ap (λ t. sunk t start.failures start.behind start.lent) nothing ∙ ap (λ n. sunk [] n start.behind start.lent) none ∙ ap (λ b. sunk [] 0 b start.lent) same_before in
+    let ends : stop ≡ sunk stop.taken stop.failures stop.behind start.lent = ap (λ l. sunk stop.taken stop.failures stop.behind l) same_lent in
     record {
-      taken = taken_after;
-      failures = failures_after;
-      behind = behind_after;
-      lent = lent;
+      taken = stop.taken;
+      failures = stop.failures;
+      behind = stop.behind;
+      lent = start.lent;
       answered = answered;
       flushed = flushed;
       appended =
           subst (λ t. Appends before after t) (sym (grows.taken_is ∙ ap (λ t. t ++ grows.more) nothing))
           (appends_kept before between after grows.more
-          (subst (λ b. Appends before b grows.more) (sym same_between) (subst (λ b. Appends b behind_after grows.more) same_before grows.behind_is)) kept);
+          (subst (λ b. Appends before b grows.more) (sym same_between) (subst (λ b. Appends b stop.behind grows.more) same_before grows.behind_is)) kept);
       runs =
-          subst (λ s. Runs words known listed s (sunk taken_after failures_after behind_after lent) answered) start
-          (subst (λ s. Runs words known listed (sunk taken failures behind lent) s answered) stop runs);
+          subst (λ s. Runs words known listed s (sunk stop.taken stop.failures stop.behind start.lent) answered) begins
+          (subst (λ s. Runs words known listed start s answered) ends runs);
       status_is = is;
     }
 

@@ -3,21 +3,21 @@ use Rattle.std.proofs.Common.{◌≡◌, ℕ, Bool, true, false, ◌⊎◌, inl,
 use Rattle.std.specs.Prelude.{MatchOption}
 use Rattle.std.proofs.lemmas.List.{append-nil}
 use Rattle.liquid_error.specs.declared.error.Error.{Error}
-use Rattle.liquid_error.specs.Refusal.{Refusal}
-use Rattle.liquid_error.specs.Told.{told}
-use Rattle.liquid_runtime.specs.Maps.{Names}
-use Rattle.liquid_runtime.specs.View.{View}
-use Rattle.liquid_template.specs.Run.{Run, pieces, written}
-use Rattle.liquid_template.specs.Sunk.{Sunk, sunk}
-use Rattle.liquid_template.specs.Outcome.{BrokenOff, Cut, Stopped, Outcome}
+use Rattle.liquid_error.specs.meaning.Refusal.{Refusal}
+use Rattle.liquid_error.specs.meaning.Told.{told}
+use Rattle.liquid_runtime.specs.meaning.Maps.{Names}
+use Rattle.liquid_runtime.specs.meaning.View.{View}
+use Rattle.liquid_template.specs.meaning.Run.{Run, pieces, written}
+use Rattle.liquid_template.specs.meaning.Sunk.{Sunk, sunk}
+use Rattle.liquid_template.specs.meaning.Outcome.{BrokenOff, Cut, Stopped, Outcome}
 use Rattle.liquid_template.proofs.Joins.{pieces-append}
-use Rattle.liquid_partials.specs.Rendered.{RenderedBy}
-use Rattle.liquid_partials.specs.Sources.{Texts}
-use Rattle.liquid.specs.ProgramLanguage.{ProgramAnswer, ProgramFound}
-use Rattle.liquid.specs.Program.{first_view, program_action, status_of, Fails, Finishes, Executes, Prints}
-use Rattle.liquid.specs.Command.{options_of, paths_of}
-use Rattle.liquid.specs.Status.{settled}
-use Rattle.liquid.specs.InMemory.{IsBeginning, IsWhole, program_run, ShowsAnswer, ShowsNothing, ShowsText, ShowsCommand, Shows}
+use Rattle.liquid_partials.specs.meaning.Rendered.{RenderedBy}
+use Rattle.liquid_partials.specs.meaning.Sources.{Texts}
+use Rattle.liquid.specs.meaning.ProgramLanguage.{ProgramAnswer, ProgramFound}
+use Rattle.liquid.specs.meaning.Program.{first_view, program_action, status_of, Fails, Finishes, Executes, Prints}
+use Rattle.liquid.specs.meaning.Command.{options_of, paths_of}
+use Rattle.liquid.specs.meaning.Status.{settled}
+use Rattle.liquid.specs.meaning.InMemory.{IsBeginning, IsWhole, program_run, ShowsAnswer, ShowsNothing, ShowsText, ShowsCommand, Shows}
 use Rattle.liquid.specs.declared.command.Options.{Options}
 use Rattle.liquid.proofs.GatheredLemmas.{gathers_follow}
 

@@ -1,5 +1,5 @@
 ghost use Rattle.std.specs.Prelude.{◌≡◌, ◌∷◌, IfSome, is_some, map, option_map, string_bytes};
-ghost use Rattle.liquid.specs.Command.{
+ghost use Rattle.liquid.specs.meaning.Command.{
   are_paths,
   begin_with,
   behind,

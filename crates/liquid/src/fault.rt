@@ -26,7 +26,7 @@ pub enum Fault<'w> {
 }
 
 impl Fault<'_> {
-    ghost use Rattle.liquid.specs.Status.{fault_status};
+    ghost use Rattle.liquid.specs.meaning.Status.{fault_status};
 
     /// The exit status that tells the fault.
     pub fn status(&self) -> u8

@@ -1,5 +1,5 @@
 ghost use Rattle.std.specs.Prelude.{◌≡◌, ℕ, List, Option, None, map, string_bytes};
-ghost use Rattle.liquid.specs.Files.{Reads};
+ghost use Rattle.liquid.specs.meaning.Files.{Reads};
 
 use std::alloc::Global;
 

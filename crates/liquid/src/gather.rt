@@ -2,11 +2,11 @@
 ghost use Rattle.std.specs.Prelude.{◌≡◌, ◌≢◌, Some, IfOk, IfErr, map, option_map, string_bytes};
 ghost use Rattle.std.specs.FinMap.{empty, keys};
 ghost use Rattle.serde_json.specs.View.{view as json_view};
-ghost use Rattle.liquid_runtime.specs.Maps.{names_of};
-ghost use Rattle.liquid_plugins.specs.Registry.{by_name};
-ghost use Rattle.liquid_json.specs.Given.{object_given};
-ghost use Rattle.liquid.specs.Command.{option_words};
-ghost use Rattle.liquid.specs.Gathered.{
+ghost use Rattle.liquid_runtime.specs.meaning.Maps.{names_of};
+ghost use Rattle.liquid_plugins.specs.meaning.Registry.{by_name};
+ghost use Rattle.liquid_json.specs.meaning.Given.{object_given};
+ghost use Rattle.liquid.specs.meaning.Command.{option_words};
+ghost use Rattle.liquid.specs.meaning.Gathered.{
   names_into,
   path_in,
   WithFiles,
@@ -16,9 +16,9 @@ ghost use Rattle.liquid.specs.Gathered.{
   WithPartials,
   WithText,
 };
-ghost use Rattle.liquid.specs.Globals.{object_read};
-ghost use Rattle.liquid.specs.Status.{fault_status};
-ghost use Rattle.liquid.specs.Steps.{Brings, BringsText, Stops, StopsUnread};
+ghost use Rattle.liquid.specs.meaning.Globals.{object_read};
+ghost use Rattle.liquid.specs.meaning.Status.{fault_status};
+ghost use Rattle.liquid.specs.steps.Steps.{Brings, BringsText, Stops, StopsUnread};
 
 use crate::fault::Fault;
 use crate::folder::{Folder, Unread};
@@ -30,7 +30,7 @@ use std::alloc::{AllocError, Global};
 use std::collections::BTreeMap;
 
 /// The text of the file at a path.
-pub fn text_of<'w, F: Folder>(
+pub(crate) fn text_of<'w, F: Folder>(
     alloc: Global,
     files: &mut F,
     path: &'w str,
@@ -48,7 +48,7 @@ pub fn text_of<'w, F: Folder>(
 }
 
 /// The text of a file in a folder.
-pub fn text_in<'w, F: Folder>(
+pub(crate) fn text_in<'w, F: Folder>(
     alloc: Global,
     files: &mut F,
     folder: &str,
@@ -119,7 +119,7 @@ fn in_order(alloc: Global, names: Vec<String>) -> Result<BTreeMap<String, ()>, A
 }
 
 /// The partials of the command's folder, if it names one.
-pub fn partials_of<'w, F: Folder>(
+pub(crate) fn partials_of<'w, F: Folder>(
     alloc: Global,
     files: &mut F,
     folder: Option<&'w str>,
@@ -167,7 +167,7 @@ fn texts_of<'w, F: Folder>(
 }
 
 /// The globals that a text of JSON, which stood at this path, gives.
-pub fn globals_of<'w>(alloc: Global, text: &str, path: &'w str) -> Result<Object, Fault<'w>>
+pub(crate) fn globals_of<'w>(alloc: Global, text: &str, path: &'w str) -> Result<Object, Fault<'w>>
     ensures globals { WithGlobals (object_read text.now) (Stops result) (λ names. Brings names_of names result) }
     ensures command { IfErr result (λ fault. fault_status fault ≢ 2) }
 {

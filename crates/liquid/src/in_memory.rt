@@ -1,8 +1,8 @@
 //! Files in memory, and the program run over them.
 ghost use Rattle.std.specs.Prelude.{◌≡◌, ◌↔◌, List, ℕ, [], None, Some, OnOk, OnErr, IfOk, false, map, string_bytes, if◌then◌else◌};
 ghost use Rattle.std.specs.Str.{bytes_eq};
-ghost use Rattle.liquid.specs.Command.{is_command};
-ghost use Rattle.liquid.specs.InMemory.{bytes_at, names_at, Shows};
+ghost use Rattle.liquid.specs.meaning.Command.{is_command};
+ghost use Rattle.liquid.specs.meaning.InMemory.{bytes_at, names_at, Shows};
 
 use crate::folder::{Folder, Unread};
 use crate::run::run;

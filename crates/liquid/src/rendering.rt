@@ -1,14 +1,13 @@
 //! Rendering a text as the program does.
 ghost use Rattle.std.specs.Prelude.{◌≡◌, IfOk, None, option_map};
-ghost use Rattle.liquid_runtime.specs.Maps.{names_of};
-ghost use Rattle.liquid_parser.specs.Reading.{Reads};
-ghost use Rattle.liquid_partials.specs.Rendered.{RenderedBy};
-ghost use Rattle.liquid_template.specs.Grows.{Grows};
-ghost use Rattle.liquid_template.specs.Rendering.{sandboxed_run};
-ghost use Rattle.liquid_template.specs.Sunk.{sunk};
-ghost use Rattle.liquid_tree.specs.Tree.{nodes_from};
-ghost use Rattle.liquid.specs.Program.{built_over, IsFoundIn, Renders};
-ghost use Rattle.liquid.specs.ProgramLanguage.{meaning_of, program_language, ProgramAnswer, setting_over};
+ghost use Rattle.liquid_runtime.specs.meaning.Maps.{names_of};
+ghost use Rattle.liquid_parser.specs.meaning.Reading.{Reads};
+ghost use Rattle.liquid_partials.specs.meaning.Rendered.{RenderedBy};
+ghost use Rattle.liquid_template.specs.meaning.Grows.{Grows};
+ghost use Rattle.liquid_template.specs.meaning.Rendering.{sandboxed_run};
+ghost use Rattle.liquid_plugins.specs.meaning.Nodes.{nodes_from};
+ghost use Rattle.liquid.specs.meaning.Program.{built_over, IsFoundIn, Renders};
+ghost use Rattle.liquid.specs.meaning.ProgramLanguage.{meaning_of, program_language, ProgramAnswer, setting_over};
 
 use crate::command::Options;
 use bench::Filters;
@@ -40,9 +39,9 @@ pub fn render_over<K: Sink>(
     sink: &mut K,
 ) -> Result<(), Error>
     ensures renders { Renders options text.now (names_of globals) partials
-        (sunk (K.taken sink.old) (K.failures sink.old) (K.behind sink.old) (K.lent sink.old)) (sunk (K.taken sink.new) (K.failures sink.new) (K.behind sink.new) (K.lent sink.new)) result }
-    ensures behind { Grows (K.taken sink.old) (K.behind sink.old) (K.taken sink.new) (K.behind sink.new) }
-    ensures lent { K.lent sink.new ≡ K.lent sink.old }
+        (K.sunk sink.old) (K.sunk sink.new) result }
+    ensures behind { Grows (K.sunk sink.old) (K.sunk sink.new) }
+    ensures borrows { (K.sunk sink.new).lent ≡ (K.sunk sink.old).lent }
 {
     match shared_language(alloc) {
         Ok(language) => {
@@ -71,9 +70,9 @@ fn render_in_language<K: Sink>(
 ) -> Result<(), Error>
     requires { meaning_of language.now.value ≡ program_language }
     ensures renders { Renders options text.now (names_of globals) partials
-        (sunk (K.taken sink.old) (K.failures sink.old) (K.behind sink.old) (K.lent sink.old)) (sunk (K.taken sink.new) (K.failures sink.new) (K.behind sink.new) (K.lent sink.new)) result }
-    ensures behind { Grows (K.taken sink.old) (K.behind sink.old) (K.taken sink.new) (K.behind sink.new) }
-    ensures lent { K.lent sink.new ≡ K.lent sink.old }
+        (K.sunk sink.old) (K.sunk sink.new) result }
+    ensures behind { Grows (K.sunk sink.old) (K.sunk sink.new) }
+    ensures borrows { (K.sunk sink.new).lent ≡ (K.sunk sink.old).lent }
 {
     let Options { sandboxed, lenient } = options;
     match store_of(alloc, language, partials) {
@@ -101,11 +100,10 @@ fn render_sandboxed_source<K: Sink>(
     ensures rendered { (answer : ProgramAnswer) → Reads (meaning_of language.now) text.now answer
         → RenderedBy (λ nodes. sandboxed_run (setting_over (option_map ⟦<Store as PartialStore<AnyFilter, TagNode<AnyFilter>, BlockNode>>⟧.finds (⟦<BuiltRuntime<(), Store> as Runtime>⟧.store runtime.old))) (names_of «data») None (nodes_from nodes))
         answer (⟦<BuiltRuntime<(), Store> as Runtime>⟧.view runtime.old)
-        (sunk (K.taken sink.old) (K.failures sink.old) (K.behind sink.old) (K.lent sink.old))
-        (sunk (K.taken sink.new) (K.failures sink.new) (K.behind sink.new) (K.lent sink.new))
+        (K.sunk sink.old) (K.sunk sink.new)
         (⟦<BuiltRuntime<(), Store> as Runtime>⟧.view runtime.new) result }
-    ensures behind { Grows (K.taken sink.old) (K.behind sink.old) (K.taken sink.new) (K.behind sink.new) }
-    ensures lent { K.lent sink.new ≡ K.lent sink.old }
+    ensures behind { Grows (K.sunk sink.old) (K.sunk sink.new) }
+    ensures borrows { (K.sunk sink.new).lent ≡ (K.sunk sink.old).lent }
 {
     match parse(alloc, text, language) {
         Ok(nodes) => { Template::new(nodes).render_sandboxed(alloc, sink, runtime, data, None) }

@@ -1,9 +1,8 @@
 ghost use Rattle.std.specs.Prelude.{◌≡◌, ◌≢◌, ◌↔◌, false, is_ok, map, option_map, string_bytes};
-ghost use Rattle.liquid_template.specs.Grows.{Grows};
-ghost use Rattle.liquid_template.specs.Sunk.{sunk};
-ghost use Rattle.liquid.specs.Command.{is_command, path_words};
-ghost use Rattle.liquid.specs.Program.{Prints, Executes, Runs};
-ghost use Rattle.liquid.specs.Status.{exit_status, settled};
+ghost use Rattle.liquid_template.specs.meaning.Grows.{Grows};
+ghost use Rattle.liquid.specs.meaning.Command.{is_command, path_words};
+ghost use Rattle.liquid.specs.meaning.Program.{Prints, Executes, Runs};
+ghost use Rattle.liquid.specs.meaning.Status.{exit_status, settled};
 
 use crate::command::Command;
 use crate::fault::Fault;
@@ -62,10 +61,10 @@ pub fn run_to<F: Folder, K: Sink, E: Write>(
 ) -> u8
     ensures usage { (result ≡ 2) ↔ (is_command (map string_bytes words.now) ≡ false) }
     ensures runs { Runs (map string_bytes words.now) (F.known files.old) (F.listed files.old)
-        (sunk (K.taken sink.old) (K.failures sink.old) (K.behind sink.old) (K.lent sink.old)) (sunk (K.taken sink.new) (K.failures sink.new) (K.behind sink.new) (K.lent sink.new)) result }
+        (K.sunk sink.old) (K.sunk sink.new) result }
     ensures quiet { result ≡ 0 → err.new ≡ err.old }
-    ensures behind { Grows (K.taken sink.old) (K.behind sink.old) (K.taken sink.new) (K.behind sink.new) }
-    ensures lent { K.lent sink.new ≡ K.lent sink.old }
+    ensures behind { Grows (K.sunk sink.old) (K.sunk sink.new) }
+    ensures borrows { (K.sunk sink.new).lent ≡ (K.sunk sink.old).lent }
 {
     tell(attempt(alloc, words, files, sink), err)
 }
@@ -110,9 +109,9 @@ fn attempt<'w, F: Folder, K: Sink>(
 ) -> Result<(), Fault<'w>>
     ensures usage { (exit_status result ≡ 2) ↔ (is_command (map string_bytes words.now) ≡ false) }
     ensures runs { Runs (map string_bytes words.now) (F.known files.old) (F.listed files.old)
-        (sunk (K.taken sink.old) (K.failures sink.old) (K.behind sink.old) (K.lent sink.old)) (sunk (K.taken sink.new) (K.failures sink.new) (K.behind sink.new) (K.lent sink.new)) (exit_status result) }
-    ensures behind { Grows (K.taken sink.old) (K.behind sink.old) (K.taken sink.new) (K.behind sink.new) }
-    ensures lent { K.lent sink.new ≡ K.lent sink.old }
+        (K.sunk sink.old) (K.sunk sink.new) (exit_status result) }
+    ensures behind { Grows (K.sunk sink.old) (K.sunk sink.new) }
+    ensures borrows { (K.sunk sink.new).lent ≡ (K.sunk sink.old).lent }
 {
     match Command::from_words(words) {
         Some(command) => execute(alloc, command, files, sink),
@@ -130,9 +129,9 @@ fn execute<'w, F: Folder, K: Sink>(
 ) -> Result<(), Fault<'w>>
     ensures command { exit_status result ≢ 2 }
     ensures executes { Executes command.entry.options (path_words command.entry.paths.template.now command.entry.paths.globals.now (option_map (λ f. f.now) command.entry.paths.folder)) (F.known files.old) (F.listed files.old)
-        (sunk (K.taken sink.old) (K.failures sink.old) (K.behind sink.old) (K.lent sink.old)) (sunk (K.taken sink.new) (K.failures sink.new) (K.behind sink.new) (K.lent sink.new)) (exit_status result) }
-    ensures behind { Grows (K.taken sink.old) (K.behind sink.old) (K.taken sink.new) (K.behind sink.new) }
-    ensures lent { K.lent sink.new ≡ K.lent sink.old }
+        (K.sunk sink.old) (K.sunk sink.new) (exit_status result) }
+    ensures behind { Grows (K.sunk sink.old) (K.sunk sink.new) }
+    ensures borrows { (K.sunk sink.new).lent ≡ (K.sunk sink.old).lent }
 {
     let Command { options, paths } = command;
     let template = text_of(alloc, files, paths.template)?;

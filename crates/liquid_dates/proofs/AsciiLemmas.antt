@@ -3,7 +3,7 @@ use Rattle.std.proofs.Common.{◌≡◌, ℕ, zero, suc, ◌+◌, ◌<◌, Bool,
 use Rattle.std.proofs.lemmas.Bool.Decides.{nat_tests}
 use Rattle.std.proofs.lemmas.List.{map_more}
 use Rattle.std.specs.Char.{to_ascii_uppercase}
-use Rattle.liquid_dates.specs.Filling.{is_ascii_text}
+use Rattle.liquid_dates.specs.meaning.Filling.{is_ascii_text}
 
 head_ascii : (c : ℕ) (b : Bool) → (nat_lt c 128 && b) ≡ true → c < 128
 head_ascii c b h = grind arith

@@ -2,7 +2,7 @@
 use Rattle.std.proofs.Common.{◌≡◌, ℕ, List, [], ◌∷◌, length, arith, None, refl}
 use Rattle.std.specs.Str.{chars}
 use Rattle.std.proofs.lemmas.Str.{chars-nil}
-use Rattle.liquid_dates.specs.Letters.{letter_directive, number_letter, name_letter, composite_letter, fraction_letter}
+use Rattle.liquid_dates.specs.meaning.Letters.{letter_directive, number_letter, name_letter, composite_letter, fraction_letter}
 
 pub chars_of_empty : (text : List ℕ) → length text ≡ 0 → chars text ≡ []
 chars_of_empty [] e = chars-nil

@@ -6,12 +6,12 @@ use Rattle.std.proofs.lemmas.Bool.{eqb-true}
 use Rattle.std.proofs.lemmas.Bool.Decides.{nat_tests}
 use Rattle.std.proofs.lemmas.Slice.Eq.{bytes_eq-Decides}
 use Rattle.std.proofs.lemmas.List.{take-append-drop}
-use Rattle.liquid_dates.specs.Flags.{is_digit}
-use Rattle.liquid_dates.specs.Names.{month_name, short_month_name, weekday_name, short_weekday_name}
-use Rattle.liquid_dates.specs.Printed.{two_digits, four_digits}
-use Rattle.liquid_dates.specs.Pattern.{begins}
+use Rattle.liquid_dates.specs.meaning.Flags.{is_digit}
+use Rattle.liquid_dates.specs.meaning.Names.{month_name, short_month_name, weekday_name, short_weekday_name}
+use Rattle.liquid_dates.specs.meaning.Printed.{two_digits, four_digits}
+use Rattle.liquid_dates.specs.meaning.Pattern.{begins}
 use Rattle.liquid_dates.proofs.PairForms.{joined, two_below, year_form, month_form, weekday_form, dashed, day_month, slashed, clock}
-use Rattle.liquid_dates.specs.DateReader.{Read, after_byte, two_at, four_at, year_behind, year_at, joined_at, whole_of, find_name, short_name_at, behind_text, month_at, short_month_at, weekday_at, dashed_at, long_at, short_at, slashed_at, clock_at}
+use Rattle.liquid_dates.specs.steps.DateReader.{Read, after_byte, two_at, four_at, year_behind, year_at, joined_at, whole_of, find_name, short_name_at, behind_text, month_at, short_month_at, weekday_at, dashed_at, long_at, short_at, slashed_at, clock_at}
 
 -- a reader reads a form: what it reads is of that form, and what is of that form is read before a rest that begins with no digit
 pub record Reads {A : Type 0} (F : List ℕ → A → Type 0) (r : List ℕ → Read A) : Type 0 where

@@ -3,11 +3,11 @@ use Rattle.std.proofs.Common.{◌≡◌, inl, inr, ℕ, List, refl, sym, ap, ◌
 use Rattle.std.specs.Borrow.{Bor}
 use Rattle.liquid_dates.specs.declared.date_time.DateTime.{DateTime}
 use Rattle.liquid_dates.specs.declared.stamps.Stamp.{Stamp}
-use Rattle.liquid_dates.specs.Instant.{civil_date, civil_time, nanosecond, offset_seconds}
-use Rattle.liquid_dates.specs.Names.{month_name, short_month_name}
-use Rattle.liquid_dates.specs.DateText.{dashed_date_time, fraction_date_time, long_date_time, short_date_time, slashed_date_time, weekday_date_time, date_time_forms, with_given_offset, SameClock, SameDateTime}
+use Rattle.liquid_dates.specs.meaning.Instant.{civil_date, civil_time, nanosecond, offset_seconds}
+use Rattle.liquid_dates.specs.meaning.Names.{month_name, short_month_name}
+use Rattle.liquid_dates.specs.meaning.DateText.{dashed_date_time, fraction_date_time, long_date_time, short_date_time, slashed_date_time, weekday_date_time, date_time_forms, with_given_offset, SameClock, SameDateTime}
 use Rattle.liquid_dates.proofs.PairForms.{hms, joined, offset_form, timed_dashed, timed_fraction, timed_day_month, timed_slashed, timed_weekday}
-use Rattle.liquid_dates.specs.DateReader.{read_of, stamp_clock, stamp_by_year, stamp_by_fraction, stamp_by_day, stamp_by_month, stamp_by_weekday, timed_dashed_at, timed_fraction_at, timed_long_at, timed_short_at, timed_slashed_at, timed_weekday_at, HasStamp, IsStamped, without_weekday}
+use Rattle.liquid_dates.specs.steps.DateReader.{read_of, stamp_clock, stamp_by_year, stamp_by_fraction, stamp_by_day, stamp_by_month, stamp_by_weekday, timed_dashed_at, timed_fraction_at, timed_long_at, timed_short_at, timed_slashed_at, timed_weekday_at, HasStamp, IsStamped, without_weekday}
 use Rattle.liquid_dates.proofs.DateTextLemmas.{some_pair}
 use Rattle.liquid_dates.proofs.TimedLemmas.{timed_dashed_reads, timed_fraction_reads, timed_long_reads, timed_short_reads, timed_slashed_reads, timed_weekday_reads, stamped_found, stamped_whole, joined_once}
 

@@ -1,7 +1,7 @@
 -- The places of a fraction, one at a time.
 use Rattle.std.proofs.Common.{◌≡◌, ℕ, zero, suc, ◌+◌, ◌*◌, ◌/◌, ◌%◌, ◌^◌, [], ◌∷◌, refl, ◌∙◌, arith, eq-eqb, ne_eqb}
 use Rattle.std.proofs.Math.Nat.{pow-suc}
-use Rattle.liquid_dates.specs.Printed.{fraction_digits}
+use Rattle.liquid_dates.specs.meaning.Printed.{fraction_digits}
 
 tenth : (k j : ℕ) → k ≡ suc j → 10 ^ k ≡ 10 * 10 ^ j
 tenth k j e = rw e (omega (arith, pow-suc 10 j))

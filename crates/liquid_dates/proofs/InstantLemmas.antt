@@ -5,7 +5,7 @@ use Rattle.jiff_core.specs.Timestamp.{nanos_of_seconds}
 use Rattle.jiff_core.proofs.DateTimeLemmas.{civil_nanos-parts}
 use Rattle.jiff_core.proofs.SignedLemmas.{signed_arith}
 use Rattle.liquid_dates.specs.declared.date_time.DateTime.{DateTime}
-use Rattle.liquid_dates.specs.Instant.{instant, unix_seconds}
+use Rattle.liquid_dates.specs.meaning.Instant.{instant, unix_seconds}
 
 pub instant_is : (dt : DateTime) → instant dt ≡ civil_nanos dt.local -ℤ nanos_of_seconds dt.offset.seconds
 unfolding instant unix_seconds

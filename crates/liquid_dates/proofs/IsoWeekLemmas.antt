@@ -13,7 +13,7 @@ use Rattle.jiff_core.specs.Weekday.{monday_zero}
 use Rattle.jiff_core.proofs.SignedLemmas.{signed_arith, one_part}
 use Rattle.jiff_core.proofs.CalendarLemmas.{days_from_civil-day_count, day_count-later_year, days_in_year_bounds}
 use Rattle.jiff_core.proofs.IsoWeekLemmas.{weeks_in_year-next, iso_year_start_near, in_year_before, in_year_after, in_year_last}
-use Rattle.liquid_dates.specs.IsoWeek.{iso_year, iso_week}
+use Rattle.liquid_dates.specs.meaning.IsoWeek.{iso_year, iso_week}
 
 -- the day lies in the weeks of the year
 pub record IsInYear (y day : ℤ) : Type 0 where

@@ -1,8 +1,8 @@
 -- The forms of `DateText` as relations to pairs, in the order in which the readers read their parts.
 use Rattle.std.proofs.Common.{ℕ, ℤ, List}
 use Rattle.jiff_core.specs.declared.civil.datetime.DateTime.{DateTime as CivilDateTime}
-use Rattle.liquid_dates.specs.DateText as Text
-use Rattle.liquid_dates.specs.Names.{short_month_name}
+use Rattle.liquid_dates.specs.meaning.DateText as Text
+use Rattle.liquid_dates.specs.meaning.Names.{short_month_name}
 
 -- a relation between a text and a value that it writes
 abbrev pub Form : Type 0 → Type 1

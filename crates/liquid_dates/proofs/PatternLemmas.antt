@@ -5,9 +5,9 @@ use Rattle.std.proofs.lemmas.Bool.{eqb-true, ltb-true}
 use Rattle.std.proofs.lemmas.Bool.Decides.{nat_tests}
 use Rattle.liquid_dates.specs.declared.error.DateFormatError.{DateFormatError}
 use Rattle.liquid_dates.specs.declared.error.DateFormatError.TheVariants.{NoFormatSpecifier, NoFormatSpecifierAfterModifier, InvalidWidth, Memory}
-use Rattle.liquid_dates.specs.Flags.{is_flag, is_digit, digits_number, is_modifier}
-use Rattle.liquid_dates.specs.Pattern.{Item, literal, directive, spelling, begins, IsRun, IsModifier, IsLetter, IsDirective, IsItem, IsRefused, IsFront, IsReading}
-use Rattle.liquid_dates.specs.PatternReader.{front, behind, after_second_colon, behind_second_colon, after_colon, behind_colon, letter_front, letter_behind, ItemRead, letter_at, behind_modifier, modifier_at, behind_width, directive_at, item_at}
+use Rattle.liquid_dates.specs.meaning.Flags.{is_flag, is_digit, digits_number, is_modifier}
+use Rattle.liquid_dates.specs.meaning.Pattern.{Item, literal, directive, spelling, begins, IsRun, IsModifier, IsLetter, IsDirective, IsItem, IsRefused, IsFront, IsReading}
+use Rattle.liquid_dates.specs.steps.PatternReader.{front, behind, after_second_colon, behind_second_colon, after_colon, behind_colon, letter_front, letter_behind, ItemRead, letter_at, behind_modifier, modifier_at, behind_width, directive_at, item_at}
 use Rattle.liquid_dates.proofs.PatternReaderLemmas.{behind_width_fits, behind_width_great}
 
 -- the front and what is behind it are the text

@@ -6,8 +6,8 @@ use Rattle.std.proofs.lemmas.Bool.Decides.{nat_tests}
 use Rattle.liquid_dates.specs.declared.flags.Flags.{Flags}
 use Rattle.liquid_dates.specs.declared.pattern.Width.{Width}
 use Rattle.liquid_dates.specs.declared.pattern.Width.TheVariants.{Unset, Given, TooGreat}
-use Rattle.liquid_dates.specs.Flags.{is_flag, with_flag, flags_of, no_flags, is_digit, digits_number, width_of}
-use Rattle.liquid_dates.specs.PatternReader.{front, behind, flags_from, width_from, with_digit, bounded_width, directive_at, behind_width, modifier_at}
+use Rattle.liquid_dates.specs.meaning.Flags.{is_flag, with_flag, flags_of, no_flags, is_digit, digits_number, width_of}
+use Rattle.liquid_dates.specs.steps.PatternReader.{front, behind, flags_from, width_from, with_digit, bounded_width, directive_at, behind_width, modifier_at}
 
 flags_from_test : (flags : Flags) (c : ℕ) (cs : List ℕ) (b : Bool) → flags_from (with_flag flags c) cs ≡ fold with_flag (with_flag flags c) (front is_flag cs) → cond b (flags_from (with_flag flags c) cs) flags ≡ fold with_flag flags (cond b (c ∷ front is_flag cs) [])
 flags_from_test flags c cs true e = e

@@ -15,13 +15,13 @@ use Rattle.jiff_core.specs.Calendar.{IsYear}
 use Rattle.jiff_core.proofs.SignedLemmas.{signed_arith}
 use Rattle.jiff_core.proofs.CalendarLemmas.{days_in_month_bounds}
 use Rattle.liquid_dates.specs.declared.date_time.DateTime.{DateTime}
-use Rattle.liquid_dates.specs.Names.{month_name, short_month_name}
-use Rattle.liquid_dates.specs.Flags.{is_digit, digits_number}
-use Rattle.liquid_dates.specs.Printed.{two_digits, four_digits, year_text, date_text, clock_text, fraction_digits, fraction_text, sign_of, offset_text, date_time_text}
-use Rattle.liquid_dates.specs.Instant.{civil_date, civil_time, offset_seconds, nanosecond}
-use Rattle.liquid_dates.specs.DateText.{dashed_date, long_date, short_date, dashed_date_time, fraction_date_time, date_time_forms, is_offset_end, ends_in_offset, IsNow, IsDateText, IsDateTimeText}
+use Rattle.liquid_dates.specs.meaning.Names.{month_name, short_month_name}
+use Rattle.liquid_dates.specs.meaning.Flags.{is_digit, digits_number}
+use Rattle.liquid_dates.specs.meaning.Printed.{two_digits, four_digits, year_text, date_text, clock_text, fraction_digits, fraction_text, sign_of, offset_text, date_time_text}
+use Rattle.liquid_dates.specs.meaning.Instant.{civil_date, civil_time, offset_seconds, nanosecond}
+use Rattle.liquid_dates.specs.meaning.DateText.{dashed_date, long_date, short_date, dashed_date_time, fraction_date_time, date_time_forms, is_offset_end, ends_in_offset, IsNow, IsDateText, IsDateTimeText}
 use Rattle.liquid_dates.proofs.PairForms.{year_form, dashed, day_month, clock, offset_form, fraction_form, timed_dashed}
-use Rattle.liquid_dates.specs.DateReader.{timed_dashed_at, offset_end}
+use Rattle.liquid_dates.specs.steps.DateReader.{timed_dashed_at, offset_end}
 use Rattle.liquid_dates.proofs.DateTextLemmas.{some_pair}
 use Rattle.liquid_dates.proofs.TimedLemmas.{stamped_whole, timed_dashed_reads}
 

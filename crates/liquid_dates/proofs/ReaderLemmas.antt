@@ -1,7 +1,7 @@
 -- Names found one by one.
 use Rattle.std.proofs.Common.{◌≡◌, ℕ, suc, ◌+◌, ◌-◌, ◌<◌, ◌≤◌, true, false, List, refl, arith, ◌∙◌, Some, None}
 use Rattle.std.specs.Str.{bytes_eq}
-use Rattle.liquid_dates.specs.DateReader.{find_name}
+use Rattle.liquid_dates.specs.steps.DateReader.{find_name}
 
 find_suc : (name : ℕ → List ℕ) (front : List ℕ) (n k m : ℕ) → n ≡ suc k → find_name name front n m ≡ find_name name front (suc k) m
 find_suc name front n k m e = rw e

@@ -4,13 +4,13 @@ use Rattle.std.specs.Option.{option_and_then}
 use Rattle.std.specs.Prelude.{codes}
 use Rattle.std.specs.List.{list_all}
 use Rattle.std.proofs.lemmas.Bool.Decides.{nat_tests}
-use Rattle.liquid_dates.specs.Flags.{is_digit, digits_number}
-use Rattle.liquid_dates.specs.Names.{month_name, short_month_name}
-use Rattle.liquid_dates.specs.Printed.{two_digits}
-use Rattle.liquid_dates.specs.Pattern.{begins}
-use Rattle.liquid_dates.specs.DateText.{with_given_offset}
+use Rattle.liquid_dates.specs.meaning.Flags.{is_digit, digits_number}
+use Rattle.liquid_dates.specs.meaning.Names.{month_name, short_month_name}
+use Rattle.liquid_dates.specs.meaning.Printed.{two_digits}
+use Rattle.liquid_dates.specs.meaning.Pattern.{begins}
+use Rattle.liquid_dates.specs.meaning.DateText.{with_given_offset}
 use Rattle.liquid_dates.proofs.PairForms.{joined, year_form, month_form, weekday_form, short_day, fraction_form, dashed, day_month, slashed, clock, offset_form, timed_dashed, timed_fraction, timed_day_month, timed_slashed, timed_weekday}
-use Rattle.liquid_dates.specs.DateReader.{Read, after_byte, two_at, year_at, joined_at, whole_of, short_month_at, weekday_at, dashed_at, long_at, short_at, slashed_at, clock_at, hours_at, sign_behind, offset_at, or_one_digit, short_day_at, digits_from, fraction_at, timed_dashed_at, timed_fraction_at, timed_long_at, timed_short_at, timed_slashed_at, timed_weekday_at, offset_end}
+use Rattle.liquid_dates.specs.steps.DateReader.{Read, after_byte, two_at, year_at, joined_at, whole_of, short_month_at, weekday_at, dashed_at, long_at, short_at, slashed_at, clock_at, hours_at, sign_behind, offset_at, or_one_digit, short_day_at, digits_from, fraction_at, timed_dashed_at, timed_fraction_at, timed_long_at, timed_short_at, timed_slashed_at, timed_weekday_at, offset_end}
 use Rattle.liquid_dates.proofs.DateTextLemmas.{Reads, some_pair, bind_some, map_some, after_byte_is, two_sound, two_at_digits, joined_reads, whole_sound, whole_complete, year_reads, weekday_reads, short_month_reads, dashed_reads, long_reads, short_reads, slashed_reads, clock_reads}
 
 -- an offset

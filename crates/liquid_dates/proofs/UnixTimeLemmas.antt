@@ -7,8 +7,8 @@ use Rattle.jiff_core.proofs.SignedLemmas.{signed_arith}
 use Rattle.jiff_core.proofs.DateTimeLemmas.{civil_nanos_range, civil_nanos_injective, time_nanos_injective}
 use Rattle.jiff_core.proofs.DateLemmas.{epoch_day_injective}
 use Rattle.liquid_dates.specs.declared.date_time.DateTime.{DateTime}
-use Rattle.liquid_dates.specs.Instant.{instant, offset_seconds, civil_date, civil_time}
-use Rattle.liquid_dates.specs.DateText.{IsNow, IsWholeNumber, IsUnixTime, IsDateTimeText, SameDateTime, date_time_forms, ends_in_offset, with_given_offset}
+use Rattle.liquid_dates.specs.meaning.Instant.{instant, offset_seconds, civil_date, civil_time}
+use Rattle.liquid_dates.specs.meaning.DateText.{IsNow, IsWholeNumber, IsUnixTime, IsDateTimeText, SameDateTime, date_time_forms, ends_in_offset, with_given_offset}
 use Rattle.liquid_dates.proofs.InstantLemmas.{instant_is}
 use Rattle.liquid_dates.proofs.DateTimeForms.{date_time_once}
 

@@ -3,10 +3,10 @@ use Rattle.std.proofs.Common.{◌≡◌, inl, inr, ℕ, List, [], ◌∷◌, ref
 use Rattle.std.specs.Borrow.{Bor}
 use Rattle.jiff_core.specs.declared.civil.date.Date.{Date as CivilDate}
 use Rattle.liquid_dates.specs.declared.reading.Ymd.{Ymd}
-use Rattle.liquid_dates.specs.Names.{month_name, short_month_name}
-use Rattle.liquid_dates.specs.DateText.{dashed_date, long_date, short_date, date_forms, SameDate}
+use Rattle.liquid_dates.specs.meaning.Names.{month_name, short_month_name}
+use Rattle.liquid_dates.specs.meaning.DateText.{dashed_date, long_date, short_date, date_forms, SameDate}
 use Rattle.liquid_dates.proofs.PairForms.{dashed, day_month}
-use Rattle.liquid_dates.specs.DateReader.{Read, read_of, whole_of, by_day, by_year, long_at, short_at, dashed_at, IsWholeDate}
+use Rattle.liquid_dates.specs.steps.DateReader.{Read, read_of, whole_of, by_day, by_year, long_at, short_at, dashed_at, IsWholeDate}
 use Rattle.liquid_dates.proofs.DateTextLemmas.{whole_sound, whole_complete, long_reads, short_reads, dashed_reads}
 
 pub whole_some : {A : Type 0} (a v : A) (rest : List ℕ) → whole_of (Some (a, rest)) ≡ Some v → (rest ≡ []) × (a ≡ v)

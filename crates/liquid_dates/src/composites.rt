@@ -1,9 +1,9 @@
 ghost use Rattle.std.specs.Prelude.{◌≡◌, ◌<◌, ◌++◌, OnOk, pos};
 ghost use Rattle.std.specs.String.{string_bytes};
-ghost use Rattle.liquid_dates.specs.DirectiveText as Spec;
-ghost use Rattle.liquid_dates.specs.Filling.{cased};
-ghost use Rattle.liquid_dates.specs.Instant.{civil_date};
-ghost use Rattle.liquid_dates.specs.Names as Names;
+ghost use Rattle.liquid_dates.specs.meaning.DirectiveText as Spec;
+ghost use Rattle.liquid_dates.specs.meaning.Filling.{cased};
+ghost use Rattle.liquid_dates.specs.meaning.Instant.{civil_date};
+ghost use Rattle.liquid_dates.specs.meaning.Names as Names;
 
 use crate::DateTime;
 use crate::directive::Composite;
@@ -15,7 +15,7 @@ use crate::writing::{fill, write_cased, write_number};
 use std::alloc::AllocError;
 
 /// Appends a composite as its flags and its width say.
-#[tactic(auto, unfolding(crate::specs::DirectiveText::composite_text, crate::specs::Filling::filled_text))]
+#[tactic(auto, unfolding(crate::specs::meaning::DirectiveText::composite_text, crate::specs::meaning::Filling::filled_text))]
 pub(crate) fn composite_text(
     out: &mut String,
     date_time: DateTime,
@@ -45,7 +45,7 @@ fn counted(composite: Composite) -> usize
     }
 }
 
-#[tactic(auto, unfolding(crate::specs::DirectiveText::composite_of))]
+#[tactic(auto, unfolding(crate::specs::meaning::DirectiveText::composite_of))]
 fn composite_of(
     out: &mut String,
     case: Case,
@@ -86,7 +86,7 @@ fn write_year(out: &mut String, date_time: &DateTime) -> Result<(), AllocError>
 }
 
 // Appends the remainder of the year by 100, filled by zeros to two characters.
-#[tactic(auto, unfolding(crate::specs::DirectiveText::year_of_two))]
+#[tactic(auto, unfolding(crate::specs::meaning::DirectiveText::year_of_two))]
 fn write_short_year(out: &mut String, date_time: &DateTime) -> Result<(), AllocError>
     ensures { OnOk result
         (string_bytes out.new ≡ string_bytes out.old ++ Spec.year_of_two date_time.now) }
@@ -99,7 +99,7 @@ fn write_short_year(out: &mut String, date_time: &DateTime) -> Result<(), AllocE
     )
 }
 
-#[tactic(auto, unfolding(crate::specs::DirectiveText::hour_minute_of))]
+#[tactic(auto, unfolding(crate::specs::meaning::DirectiveText::hour_minute_of))]
 fn write_hour_minute(out: &mut String, date_time: DateTime) -> Result<(), AllocError>
     ensures { OnOk result
         (string_bytes out.new ≡ string_bytes out.old ++ Spec.hour_minute_of date_time) }
@@ -109,7 +109,7 @@ fn write_hour_minute(out: &mut String, date_time: DateTime) -> Result<(), AllocE
     write_two(out, date_time.minute())
 }
 
-#[tactic(auto, unfolding(crate::specs::DirectiveText::clock_of))]
+#[tactic(auto, unfolding(crate::specs::meaning::DirectiveText::clock_of))]
 fn write_clock(out: &mut String, date_time: DateTime) -> Result<(), AllocError>
     ensures { OnOk result
         (string_bytes out.new ≡ string_bytes out.old ++ Spec.clock_of date_time) }
@@ -119,7 +119,7 @@ fn write_clock(out: &mut String, date_time: DateTime) -> Result<(), AllocError>
     write_two(out, date_time.second())
 }
 
-#[tactic(auto, unfolding(crate::specs::DirectiveText::clock_of_12))]
+#[tactic(auto, unfolding(crate::specs::meaning::DirectiveText::clock_of_12))]
 fn write_clock_of_12(out: &mut String, date_time: DateTime) -> Result<(), AllocError>
     ensures { OnOk result
         (string_bytes out.new ≡ string_bytes out.old ++ Spec.clock_of_12 date_time) }
@@ -134,7 +134,7 @@ fn write_clock_of_12(out: &mut String, date_time: DateTime) -> Result<(), AllocE
     out.push_str(upper_half(time))
 }
 
-#[tactic(auto, unfolding(crate::specs::DirectiveText::dashed_date_text))]
+#[tactic(auto, unfolding(crate::specs::meaning::DirectiveText::dashed_date_text))]
 fn write_dashed_date(out: &mut String, date_time: DateTime) -> Result<(), AllocError>
     ensures { OnOk result
         (string_bytes out.new ≡ string_bytes out.old ++ Spec.dashed_date_text date_time) }
@@ -146,7 +146,7 @@ fn write_dashed_date(out: &mut String, date_time: DateTime) -> Result<(), AllocE
     write_two(out, date_time.day())
 }
 
-#[tactic(auto, unfolding(crate::specs::DirectiveText::named_date_text))]
+#[tactic(auto, unfolding(crate::specs::meaning::DirectiveText::named_date_text))]
 fn write_named_date(out: &mut String, date_time: DateTime) -> Result<(), AllocError>
     ensures { OnOk result
         (string_bytes out.new ≡ string_bytes out.old ++ Spec.named_date_text date_time) }
@@ -163,7 +163,7 @@ fn write_named_date(out: &mut String, date_time: DateTime) -> Result<(), AllocEr
     write_year(out, &date_time)
 }
 
-#[tactic(auto, unfolding(crate::specs::DirectiveText::slashed_date_text))]
+#[tactic(auto, unfolding(crate::specs::meaning::DirectiveText::slashed_date_text))]
 fn write_slashed_date(out: &mut String, date_time: DateTime) -> Result<(), AllocError>
     ensures { OnOk result
         (string_bytes out.new ≡ string_bytes out.old ++ Spec.slashed_date_text date_time) }
@@ -175,7 +175,7 @@ fn write_slashed_date(out: &mut String, date_time: DateTime) -> Result<(), Alloc
     write_short_year(out, &date_time)
 }
 
-#[tactic(auto, unfolding(crate::specs::DirectiveText::date_and_time))]
+#[tactic(auto, unfolding(crate::specs::meaning::DirectiveText::date_and_time))]
 fn write_date_and_time(out: &mut String, case: Case, date_time: DateTime) -> Result<(), AllocError>
     ensures { OnOk result
         (string_bytes out.new ≡ string_bytes out.old ++ Spec.date_and_time case date_time) }
@@ -187,7 +187,7 @@ fn write_date_and_time(out: &mut String, case: Case, date_time: DateTime) -> Res
     write_year(out, &date_time)
 }
 
-#[tactic(auto, unfolding(crate::specs::DirectiveText::named_day))]
+#[tactic(auto, unfolding(crate::specs::meaning::DirectiveText::named_day))]
 fn write_named_day(out: &mut String, case: Case, date_time: DateTime) -> Result<(), AllocError>
     ensures { OnOk result
         (string_bytes out.new ≡ string_bytes out.old ++ Spec.named_day case date_time) }

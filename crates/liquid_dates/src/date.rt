@@ -2,7 +2,7 @@ ghost use Rattle.std.specs.Prelude.{◌≡◌, ◌↔◌, IsOk, IfOk, IfErr};
 ghost use Rattle.jiff_core.specs.declared.civil.date.Date.{Date as CivilDate};
 ghost use Rattle.jiff_core.specs.Calendar.{IsCivilDate};
 ghost use Rattle.jiff_core.specs.Date.{ordinal};
-ghost use Rattle.liquid_dates.specs.IsoWeek.{iso_week};
+ghost use Rattle.liquid_dates.specs.meaning.IsoWeek.{iso_week};
 
 use crate::DateError;
 use jiff::civil;

@@ -1,8 +1,8 @@
 ghost use Rattle.std.specs.Prelude.{◌≡◌, codes, IfSome, IfNone, IsSomeAnd};
 ghost use Rattle.jiff_core.specs.declared.civil.date.Date.{Date as CivilDate};
-ghost use Rattle.liquid_dates.specs.DateReader.{IsWholeDate};
-ghost use Rattle.liquid_dates.specs.DateText.{IsDateText, SameDate, date_forms};
-ghost use Rattle.liquid_dates.specs.DateText as Form;
+ghost use Rattle.liquid_dates.specs.steps.DateReader.{IsWholeDate};
+ghost use Rattle.liquid_dates.specs.meaning.DateText.{IsDateText, SameDate, date_forms};
+ghost use Rattle.liquid_dates.specs.meaning.DateText as Form;
 
 use crate::reading::{Ymd, dashed_at, long_at, short_at};
 use crate::{Date, DateTime};

@@ -1,5 +1,5 @@
 ghost use Rattle.std.specs.Prelude.{◌≡◌, codes};
-ghost use Rattle.liquid_dates.specs.Letters as Spec;
+ghost use Rattle.liquid_dates.specs.meaning.Letters as Spec;
 
 use crate::flags::NumberFilling;
 
@@ -85,7 +85,7 @@ pub(crate) enum Directive {
 }
 
 /// What a letter stands for, if for anything.
-#[tactic(auto, unfolding(crate::specs::Letters::letter_directive))]
+#[tactic(auto, unfolding(crate::specs::meaning::Letters::letter_directive))]
 pub(crate) fn letter_directive(letter: char) -> Option<Directive>
     ensures { result ≡ Spec.letter_directive letter }
 {
@@ -110,7 +110,7 @@ fn letter_filling(letter: char) -> NumberFilling
     }
 }
 
-#[tactic(auto, unfolding(crate::specs::Letters::number_letter))]
+#[tactic(auto, unfolding(crate::specs::meaning::Letters::number_letter))]
 fn number_letter(letter: char) -> Option<Number>
     ensures { result ≡ Spec.number_letter letter }
 {
@@ -137,7 +137,7 @@ fn number_letter(letter: char) -> Option<Number>
     }
 }
 
-#[tactic(auto, unfolding(crate::specs::Letters::name_letter))]
+#[tactic(auto, unfolding(crate::specs::meaning::Letters::name_letter))]
 fn name_letter(letter: char) -> Option<Name>
     ensures { result ≡ Spec.name_letter letter }
 {
@@ -155,7 +155,7 @@ fn name_letter(letter: char) -> Option<Name>
     }
 }
 
-#[tactic(auto, unfolding(crate::specs::Letters::composite_letter))]
+#[tactic(auto, unfolding(crate::specs::meaning::Letters::composite_letter))]
 fn composite_letter(letter: char) -> Option<Composite>
     ensures { result ≡ Spec.composite_letter letter }
 {
@@ -171,7 +171,7 @@ fn composite_letter(letter: char) -> Option<Composite>
     }
 }
 
-#[tactic(auto, unfolding(crate::specs::Letters::fraction_letter))]
+#[tactic(auto, unfolding(crate::specs::meaning::Letters::fraction_letter))]
 fn fraction_letter(letter: char) -> Option<Directive>
     ensures { result ≡ Spec.fraction_letter letter }
 {

@@ -1,8 +1,8 @@
 ghost use Rattle.std.specs.Prelude.{◌≡◌, ◌-◌, ◌^◌, ◌<◌, ◌++◌, OnOk, true};
 ghost use Rattle.std.specs.Int.{IsInRange};
 ghost use Rattle.std.specs.String.{string_bytes};
-ghost use Rattle.liquid_dates.specs.DirectiveText as Spec;
-ghost use Rattle.liquid_dates.specs.Filling.{is_ascii_text, cased, number_filling, text_filler};
+ghost use Rattle.liquid_dates.specs.meaning.DirectiveText as Spec;
+ghost use Rattle.liquid_dates.specs.meaning.Filling.{is_ascii_text, cased, number_filling, text_filler};
 
 use crate::DateTime;
 use crate::composites::composite_text;
@@ -16,7 +16,7 @@ use jiff_core::civil::Time;
 use std::alloc::AllocError;
 
 /// Appends what a directive prints of a date time.
-#[tactic(auto, unfolding(crate::specs::DirectiveText::directive_text))]
+#[tactic(auto, unfolding(crate::specs::meaning::DirectiveText::directive_text))]
 pub(crate) fn write_directive(
     out: &mut String,
     date_time: DateTime,
@@ -42,7 +42,7 @@ pub(crate) fn write_directive(
     }
 }
 
-#[tactic(auto, unfolding(crate::specs::DirectiveText::number_text))]
+#[tactic(auto, unfolding(crate::specs::meaning::DirectiveText::number_text))]
 fn number_text(
     out: &mut String,
     date_time: DateTime,
@@ -92,7 +92,7 @@ pub(crate) fn text_filler(filling: Filling) -> char
     }
 }
 
-#[tactic(auto, unfolding(crate::specs::DirectiveText::name_text, crate::specs::Filling::filled_text))]
+#[tactic(auto, unfolding(crate::specs::meaning::DirectiveText::name_text, crate::specs::meaning::Filling::filled_text))]
 fn name_text(
     out: &mut String,
     date_time: DateTime,
@@ -115,7 +115,7 @@ fn name_text(
 }
 
 // A name's text, and the case in which it is written.
-#[tactic(auto, unfolding(crate::specs::DirectiveText::name_of))]
+#[tactic(auto, unfolding(crate::specs::meaning::DirectiveText::name_of))]
 fn name_of(case: Case, name: Name, date_time: DateTime) -> (&'static str, Case)
     ensures value { cased result.1 result.0.now ≡ Spec.name_of case name date_time }
     ensures ascii { is_ascii_text result.0.now ≡ true }
@@ -171,7 +171,7 @@ fn lower_half_as(case: Case, time: Time) -> &'static str
     }
 }
 
-#[tactic(auto, unfolding(crate::specs::DirectiveText::fraction_of))]
+#[tactic(auto, unfolding(crate::specs::meaning::DirectiveText::fraction_of))]
 fn fraction_of(out: &mut String, digits: usize, nanosecond: u32) -> Result<(), AllocError>
     requires { nanosecond < 1_000_000_000 }
     ensures { OnOk result

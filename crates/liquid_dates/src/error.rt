@@ -1,5 +1,5 @@
 ghost use Rattle.std.specs.Prelude.{◌≡◌, Some};
-ghost use Rattle.liquid_dates.specs.ErrorText.{date_error_text, date_format_error_text};
+ghost use Rattle.liquid_dates.specs.meaning.ErrorText.{date_error_text, date_format_error_text};
 
 use std::alloc::AllocError;
 use std::error::Error;

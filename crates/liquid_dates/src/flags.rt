@@ -1,5 +1,5 @@
 ghost use Rattle.std.specs.Prelude.{◌≡◌};
-ghost use Rattle.liquid_dates.specs.Flags.{is_flag, with_flag, no_flags, is_digit};
+ghost use Rattle.liquid_dates.specs.meaning.Flags.{is_flag, with_flag, no_flags, is_digit};
 
 /// What a directive is filled by: the last of its flags `_` and `0`.
 #[derive(Clone, Copy)]

@@ -1,10 +1,10 @@
 ghost use Rattle.std.specs.Prelude.{◌≡◌, ◌<◌, ◌≤◌, length, true};
-ghost use Rattle.liquid_dates.specs.Filling.{is_ascii_text};
+ghost use Rattle.liquid_dates.specs.meaning.Filling.{is_ascii_text};
 ghost use Rattle.std.specs.Int.{IsInRange};
-ghost use Rattle.liquid_dates.specs.Names as Spec;
+ghost use Rattle.liquid_dates.specs.meaning.Names as Spec;
 
 /// The English name of a month, from 1.
-#[tactic(auto, unfolding(crate::specs::Names::month_name))]
+#[tactic(auto, unfolding(crate::specs::meaning::Names::month_name))]
 pub(crate) fn month_name(month: u8) -> &'static str
     requires { IsInRange 1 12 month }
     ensures value { result.now ≡ Spec.month_name month }
@@ -28,7 +28,7 @@ pub(crate) fn month_name(month: u8) -> &'static str
 }
 
 /// Its first three letters.
-#[tactic(auto, unfolding(crate::specs::Names::short_month_name, crate::specs::Names::month_name))]
+#[tactic(auto, unfolding(crate::specs::meaning::Names::short_month_name, crate::specs::meaning::Names::month_name))]
 pub(crate) fn short_month_name(month: u8) -> &'static str
     requires { IsInRange 1 12 month }
     ensures value { result.now ≡ Spec.short_month_name month }
@@ -51,7 +51,7 @@ pub(crate) fn short_month_name(month: u8) -> &'static str
 }
 
 /// The English name of a weekday, from 0 for Monday.
-#[tactic(auto, unfolding(crate::specs::Names::weekday_name))]
+#[tactic(auto, unfolding(crate::specs::meaning::Names::weekday_name))]
 pub(crate) fn weekday_name(weekday: u8) -> &'static str
     requires { weekday < 7 }
     ensures value { result.now ≡ Spec.weekday_name weekday }
@@ -69,7 +69,7 @@ pub(crate) fn weekday_name(weekday: u8) -> &'static str
 }
 
 /// Its first three letters.
-#[tactic(auto, unfolding(crate::specs::Names::short_weekday_name, crate::specs::Names::weekday_name))]
+#[tactic(auto, unfolding(crate::specs::meaning::Names::short_weekday_name, crate::specs::meaning::Names::weekday_name))]
 pub(crate) fn short_weekday_name(weekday: u8) -> &'static str
     requires { weekday < 7 }
     ensures value { result.now ≡ Spec.short_weekday_name weekday }

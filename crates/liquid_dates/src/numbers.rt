@@ -1,15 +1,15 @@
 ghost use Rattle.std.specs.Prelude.{◌≡◌, ◌<◌, ◌≤◌};
 ghost use Rattle.jiff_core.specs.Date.{epoch_day, ordinal};
-ghost use Rattle.liquid_dates.specs.IsoWeek as Iso;
-ghost use Rattle.liquid_dates.specs.Instant.{civil_date, civil_time, unix_seconds};
-ghost use Rattle.liquid_dates.specs.Numbers as Spec;
+ghost use Rattle.liquid_dates.specs.meaning.IsoWeek as Iso;
+ghost use Rattle.liquid_dates.specs.meaning.Instant.{civil_date, civil_time, unix_seconds};
+ghost use Rattle.liquid_dates.specs.meaning.Numbers as Spec;
 
 use crate::DateTime;
 use crate::directive::Number;
 use jiff_core::civil::{Date, ISOWeekDate, Time};
 
 /// The value of a number of a date time.
-#[tactic(auto, unfolding(crate::specs::Numbers::number_value))]
+#[tactic(auto, unfolding(crate::specs::meaning::Numbers::number_value))]
 pub(crate) fn number_value(number: Number, date_time: DateTime) -> i64
     ensures { result ≡ Spec.number_value number date_time }
 {

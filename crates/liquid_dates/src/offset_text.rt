@@ -1,10 +1,10 @@
 ghost use Rattle.std.specs.Prelude.{◌≡◌, ◌/◌, ◌++◌, OnOk, [], ◌∷◌, pos, unsigned_abs};
 ghost use Rattle.std.specs.String.{string_bytes};
 ghost use Rattle.jiff_core.specs.Timestamp.{IsOffsetSeconds};
-ghost use Rattle.liquid_dates.specs.DirectiveText as Spec;
-ghost use Rattle.liquid_dates.specs.Filling.{filled_number};
+ghost use Rattle.liquid_dates.specs.meaning.DirectiveText as Spec;
+ghost use Rattle.liquid_dates.specs.meaning.Filling.{filled_number};
 ghost use Rattle.liquid_dates.specs.declared.flags.NumberFilling.TheVariants.{ZerosBehindSign};
-ghost use Rattle.liquid_dates.specs.Printed.{sign_of};
+ghost use Rattle.liquid_dates.specs.meaning.Printed.{sign_of};
 
 use crate::DateTime;
 use crate::composites::write_two;
@@ -14,7 +14,7 @@ use crate::writing::{digit_count, fill, write_digits, write_number};
 use std::alloc::AllocError;
 
 /// Appends the offset as its flags and its width say.
-#[tactic(auto, unfolding(crate::specs::DirectiveText::offset_of))]
+#[tactic(auto, unfolding(crate::specs::meaning::DirectiveText::offset_of))]
 pub(crate) fn offset_of(
     out: &mut String,
     date_time: DateTime,
@@ -41,7 +41,7 @@ fn hours_width(width: Option<usize>, offset: Offset) -> usize
     2 + width.unwrap_or(0).saturating_sub(length)
 }
 
-#[tactic(auto, unfolding(crate::specs::DirectiveText::signed_hours))]
+#[tactic(auto, unfolding(crate::specs::meaning::DirectiveText::signed_hours))]
 fn signed_hours(
     out: &mut String,
     filling: Filling,
@@ -92,7 +92,7 @@ fn write_offset_sign(out: &mut String, seconds: i32) -> Result<(), AllocError>
     out.push_str("+")
 }
 
-#[tactic(auto, unfolding(crate::specs::DirectiveText::offset_minutes))]
+#[tactic(auto, unfolding(crate::specs::meaning::DirectiveText::offset_minutes))]
 fn offset_minutes(out: &mut String, offset: Offset, seconds: i32) -> Result<(), AllocError>
     requires { IsOffsetSeconds seconds }
     ensures { OnOk result (string_bytes out.new

@@ -1,9 +1,9 @@
 ghost use Rattle.std.specs.Prelude.{◌≡◌, ℕ, List, ◌+◌, ◌*◌, ◌<◌, ◌==◌, if◌then◌else◌, true, [], ◌∷◌, length, IfSome, MatchOption};
 ghost use Rattle.std.specs.Str.{chars, IsUtf8};
-ghost use Rattle.liquid_dates.specs.Flags.{is_flag, is_digit, is_modifier, no_flags, flags_of, width_of};
-ghost use Rattle.liquid_dates.specs.Letters.{directive_of};
-ghost use Rattle.liquid_dates.specs.PatternReader as Reader;
-ghost use Rattle.liquid_dates.specs.PatternReader.{IsReadAs};
+ghost use Rattle.liquid_dates.specs.meaning.Flags.{is_flag, is_digit, is_modifier, no_flags, flags_of, width_of};
+ghost use Rattle.liquid_dates.specs.meaning.Letters.{directive_of};
+ghost use Rattle.liquid_dates.specs.steps.PatternReader as Reader;
+ghost use Rattle.liquid_dates.specs.steps.PatternReader.{IsReadAs};
 
 use crate::DateFormatError;
 use crate::directive::{Directive, Offset, letter_directive};
@@ -108,7 +108,7 @@ fn read_width(text: &str) -> (Width, &str)
 
 // What a letter stands for, and what is behind it. A `:` takes the next character, and a second
 // one takes one more.
-#[tactic(auto, unfolding(crate::specs::Letters::directive_of), using(crate::proofs::CharLemmas::colon_letter))]
+#[tactic(auto, unfolding(crate::specs::meaning::Letters::directive_of), using(crate::proofs::CharLemmas::colon_letter))]
 #[inline(always)]
 fn read_letter(first: char, text: &str) -> (Option<Directive>, &str)
     ensures directive { result.0 ≡ directive_of (Reader.letter_front first (chars text.now)) }

@@ -2,7 +2,7 @@ ghost use Rattle.std.specs.Prelude.{◌+◌, ◌<◌, [], ◌∷◌, Some};
 ghost use Rattle.std.specs.Fmt.{WritesOnOk};
 ghost use Rattle.jiff_core.specs.Calendar.{IsYear};
 ghost use Rattle.jiff_core.specs.Timestamp.{IsOffsetSeconds};
-ghost use Rattle.liquid_dates.specs.Printed as Spec;
+ghost use Rattle.liquid_dates.specs.meaning.Printed as Spec;
 
 use crate::names::{short_month_name, short_weekday_name};
 use crate::{Date, DateTime};
@@ -65,7 +65,7 @@ impl fmt::Display for Rfc2822 {
     }
 }
 
-#[tactic(auto, unfolding(crate::specs::Printed::mail_date_text))]
+#[tactic(auto, unfolding(crate::specs::meaning::Printed::mail_date_text))]
 fn mail_date<W: fmt::Write>(f: &mut fmt::Formatter<W>, date: jiff_core::civil::Date) -> fmt::Result
     ensures { WritesOnOk W.write_str_gives f.old result (Spec.mail_date_text date) f.new }
 {
@@ -77,7 +77,7 @@ fn mail_date<W: fmt::Write>(f: &mut fmt::Formatter<W>, date: jiff_core::civil::D
     year(f, date.year)
 }
 
-#[tactic(auto, unfolding(crate::specs::Printed::mail_day_text))]
+#[tactic(auto, unfolding(crate::specs::meaning::Printed::mail_day_text))]
 fn mail_day<W: fmt::Write>(f: &mut fmt::Formatter<W>, date: jiff_core::civil::Date) -> fmt::Result
     ensures { WritesOnOk W.write_str_gives f.old result (Spec.mail_day_text date) f.new }
 {
@@ -86,7 +86,7 @@ fn mail_day<W: fmt::Write>(f: &mut fmt::Formatter<W>, date: jiff_core::civil::Da
     two_digits(f, date.day)
 }
 
-#[tactic(auto, unfolding(crate::specs::Printed::date_text))]
+#[tactic(auto, unfolding(crate::specs::meaning::Printed::date_text))]
 fn date<W: fmt::Write>(f: &mut fmt::Formatter<W>, date: jiff_core::civil::Date) -> fmt::Result
     ensures { WritesOnOk W.write_str_gives f.old result (Spec.date_text date) f.new }
 {
@@ -97,7 +97,7 @@ fn date<W: fmt::Write>(f: &mut fmt::Formatter<W>, date: jiff_core::civil::Date) 
     two_digits(f, date.day)
 }
 
-#[tactic(auto, unfolding(crate::specs::Printed::clock_text))]
+#[tactic(auto, unfolding(crate::specs::meaning::Printed::clock_text))]
 fn clock<W: fmt::Write>(f: &mut fmt::Formatter<W>, time: jiff_core::civil::Time) -> fmt::Result
     ensures { WritesOnOk W.write_str_gives f.old result (Spec.clock_text time) f.new }
 {
@@ -108,7 +108,7 @@ fn clock<W: fmt::Write>(f: &mut fmt::Formatter<W>, time: jiff_core::civil::Time)
     two_digits(f, time.second)
 }
 
-#[tactic(auto, unfolding(crate::specs::Printed::fraction_text))]
+#[tactic(auto, unfolding(crate::specs::meaning::Printed::fraction_text))]
 fn fraction<W: fmt::Write>(f: &mut fmt::Formatter<W>, nanosecond: u32) -> fmt::Result
     requires { nanosecond < 1_000_000_000 }
     ensures { WritesOnOk W.write_str_gives f.old result (Spec.fraction_text nanosecond) f.new }
@@ -136,7 +136,7 @@ fn fraction_digits<W: fmt::Write>(f: &mut fmt::Formatter<W>, nanosecond: u32) ->
     }
 }
 
-#[tactic(auto, unfolding(crate::specs::Printed::offset_text))]
+#[tactic(auto, unfolding(crate::specs::meaning::Printed::offset_text))]
 fn offset<W: fmt::Write>(f: &mut fmt::Formatter<W>, seconds: i32) -> fmt::Result
     requires { IsOffsetSeconds seconds }
     ensures { WritesOnOk W.write_str_gives f.old result (Spec.offset_text seconds) f.new }
@@ -147,7 +147,7 @@ fn offset<W: fmt::Write>(f: &mut fmt::Formatter<W>, seconds: i32) -> fmt::Result
     two_digits(f, (size / 60 % 60) as u8)
 }
 
-#[tactic(auto, unfolding(crate::specs::Printed::year_text))]
+#[tactic(auto, unfolding(crate::specs::meaning::Printed::year_text))]
 fn year<W: fmt::Write>(f: &mut fmt::Formatter<W>, year: i16) -> fmt::Result
     requires { IsYear year }
     ensures { WritesOnOk W.write_str_gives f.old result (Spec.year_text year) f.new }

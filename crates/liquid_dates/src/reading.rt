@@ -2,9 +2,9 @@ ghost use Rattle.std.specs.Prelude.{◌≡◌, ◌<◌, pos, neg_ℤ, option_map
 ghost use Rattle.std.specs.Int.{IsInRange};
 ghost use Rattle.std.specs.Option.{option_copied};
 ghost use Rattle.std.specs.Str.{bytes_eq};
-ghost use Rattle.liquid_dates.specs.DateReader as Reader;
-ghost use Rattle.liquid_dates.specs.DateReader.{read_of, by_year, by_day, by_month};
-ghost use Rattle.liquid_dates.specs.Names.{short_month_name, short_weekday_name};
+ghost use Rattle.liquid_dates.specs.steps.DateReader as Reader;
+ghost use Rattle.liquid_dates.specs.steps.DateReader.{read_of, by_year, by_day, by_month};
+ghost use Rattle.liquid_dates.specs.meaning.Names.{short_month_name, short_weekday_name};
 
 use crate::flags::is_digit;
 use crate::names::{month_name, short_month_name, short_weekday_name};
@@ -28,7 +28,7 @@ pub(crate) fn after_byte(byte: u8, text: &[u8]) -> Option<&[u8]>
 }
 
 /// Two digits of a number below a limit.
-#[tactic(auto, unfolding(crate::specs::DateReader::two_at))]
+#[tactic(auto, unfolding(crate::specs::steps::DateReader::two_at))]
 pub(crate) fn two_at(limit: u8, text: &[u8]) -> Option<(u8, &[u8])>
     ensures value { read_of result ≡ Reader.two_at limit text.now }
     ensures bound { IfSome result (λ p. p.0 < limit) }
@@ -47,7 +47,7 @@ pub(crate) fn two_at(limit: u8, text: &[u8]) -> Option<(u8, &[u8])>
 }
 
 // Four digits.
-#[tactic(auto, unfolding(crate::specs::DateReader::four_at))]
+#[tactic(auto, unfolding(crate::specs::steps::DateReader::four_at))]
 fn four_at(text: &[u8]) -> Option<(u16, &[u8])>
     ensures value { read_of result ≡ Reader.four_at text.now }
     ensures bound { IfSome result (λ p. p.0 < 10000) }
@@ -58,7 +58,7 @@ fn four_at(text: &[u8]) -> Option<(u16, &[u8])>
 }
 
 // A year, which may stand behind `-`.
-#[tactic(auto, unfolding(crate::specs::DateReader::year_at))]
+#[tactic(auto, unfolding(crate::specs::steps::DateReader::year_at))]
 pub(crate) fn year_at(text: &[u8]) -> Option<(i16, &[u8])>
     ensures value { read_of result ≡ Reader.year_at text.now }
 {
@@ -121,7 +121,7 @@ fn find_weekday(name: &[u8]) -> Option<u8>
 }
 
 // The short name of a month.
-#[tactic(auto, unfolding(crate::specs::DateReader::short_name_at))]
+#[tactic(auto, unfolding(crate::specs::steps::DateReader::short_name_at))]
 pub(crate) fn short_month_at(text: &[u8]) -> Option<(u8, &[u8])>
     ensures value { read_of result ≡ Reader.short_month_at text.now }
     ensures bound { IfSome result (λ p. IsInRange 1 12 p.0) }
@@ -134,7 +134,7 @@ pub(crate) fn short_month_at(text: &[u8]) -> Option<(u8, &[u8])>
 }
 
 /// The short name of a weekday.
-#[tactic(auto, unfolding(crate::specs::DateReader::short_name_at))]
+#[tactic(auto, unfolding(crate::specs::steps::DateReader::short_name_at))]
 pub(crate) fn weekday_at(text: &[u8]) -> Option<(u8, &[u8])>
     ensures value { read_of result ≡ Reader.weekday_at text.now }
 {
@@ -146,7 +146,7 @@ pub(crate) fn weekday_at(text: &[u8]) -> Option<(u8, &[u8])>
 }
 
 // What is behind a text at the front.
-#[tactic(auto, unfolding(crate::specs::DateReader::behind_text))]
+#[tactic(auto, unfolding(crate::specs::steps::DateReader::behind_text))]
 fn behind_text<'a>(front: &[u8], text: &'a [u8]) -> Option<&'a [u8]>
     ensures { option_copied result ≡ Reader.behind_text front.now text.now }
 {
@@ -157,7 +157,7 @@ fn behind_text<'a>(front: &[u8], text: &'a [u8]) -> Option<&'a [u8]>
 }
 
 // The name of a month.
-#[tactic(auto, unfolding(crate::specs::DateReader::month_at))]
+#[tactic(auto, unfolding(crate::specs::steps::DateReader::month_at))]
 fn month_at(text: &[u8]) -> Option<(u8, &[u8])>
     ensures value { read_of result ≡ Reader.month_at text.now }
 {
@@ -168,7 +168,7 @@ fn month_at(text: &[u8]) -> Option<(u8, &[u8])>
 }
 
 /// `YYYY-MM-DD`.
-#[tactic(auto, unfolding(crate::specs::DateReader::dashed_at))]
+#[tactic(auto, unfolding(crate::specs::steps::DateReader::dashed_at))]
 pub(crate) fn dashed_at(text: &[u8]) -> Option<(Ymd, &[u8])>
     ensures value { option_map by_year (read_of result) ≡ Reader.dashed_at text.now }
 {
@@ -181,7 +181,7 @@ pub(crate) fn dashed_at(text: &[u8]) -> Option<(Ymd, &[u8])>
 }
 
 /// `DD Month YYYY`.
-#[tactic(auto, unfolding(crate::specs::DateReader::long_at))]
+#[tactic(auto, unfolding(crate::specs::steps::DateReader::long_at))]
 pub(crate) fn long_at(text: &[u8]) -> Option<(Ymd, &[u8])>
     ensures value { option_map by_day (read_of result) ≡ Reader.long_at text.now }
 {
@@ -194,7 +194,7 @@ pub(crate) fn long_at(text: &[u8]) -> Option<(Ymd, &[u8])>
 }
 
 /// `DD Mon YYYY`.
-#[tactic(auto, unfolding(crate::specs::DateReader::short_at))]
+#[tactic(auto, unfolding(crate::specs::steps::DateReader::short_at))]
 pub(crate) fn short_at(text: &[u8]) -> Option<(Ymd, &[u8])>
     ensures value { option_map by_day (read_of result) ≡ Reader.short_at text.now }
 {
@@ -207,7 +207,7 @@ pub(crate) fn short_at(text: &[u8]) -> Option<(Ymd, &[u8])>
 }
 
 /// `MM/DD/YYYY`.
-#[tactic(auto, unfolding(crate::specs::DateReader::slashed_at))]
+#[tactic(auto, unfolding(crate::specs::steps::DateReader::slashed_at))]
 pub(crate) fn slashed_at(text: &[u8]) -> Option<(Ymd, &[u8])>
     ensures value { option_map by_month (read_of result) ≡ Reader.slashed_at text.now }
 {

@@ -1,7 +1,7 @@
 ghost use Rattle.std.specs.Prelude.{◌≡◌, ◌-◌, ◌*◌, ◌^◌, ◌<◌, pos, neg_ℤ, option_map, IfSome};
 ghost use Rattle.std.specs.Int.{IsInRange};
-ghost use Rattle.liquid_dates.specs.DateReader as Reader;
-ghost use Rattle.liquid_dates.specs.DateReader.{read_of, by_clock, stamp_by_year, stamp_by_fraction, stamp_by_day, stamp_by_month, stamp_by_weekday};
+ghost use Rattle.liquid_dates.specs.steps.DateReader as Reader;
+ghost use Rattle.liquid_dates.specs.steps.DateReader.{read_of, by_clock, stamp_by_year, stamp_by_fraction, stamp_by_day, stamp_by_month, stamp_by_weekday};
 
 use crate::flags::is_digit;
 use crate::reading::{
@@ -26,7 +26,7 @@ pub(crate) struct Stamp {
 }
 
 // `HH:MM:SS`.
-#[tactic(auto, unfolding(crate::specs::DateReader::clock_at))]
+#[tactic(auto, unfolding(crate::specs::steps::DateReader::clock_at))]
 fn clock_at(text: &[u8]) -> Option<(Clock, &[u8])>
     ensures value { option_map by_clock (read_of result) ≡ Reader.clock_at text.now }
 {
@@ -46,7 +46,7 @@ fn clock_at(text: &[u8]) -> Option<(Clock, &[u8])>
 }
 
 // An offset behind its sign, in seconds.
-#[tactic(auto, unfolding(crate::specs::DateReader::hours_at))]
+#[tactic(auto, unfolding(crate::specs::steps::DateReader::hours_at))]
 fn hours_at(text: &[u8]) -> Option<(u32, &[u8])>
     ensures value { read_of result ≡ Reader.hours_at text.now }
     ensures bound { IfSome result (λ p. p.0 < 400000) }
@@ -57,7 +57,7 @@ fn hours_at(text: &[u8]) -> Option<(u32, &[u8])>
 }
 
 /// An offset, in seconds.
-#[tactic(auto, unfolding(crate::specs::DateReader::offset_at))]
+#[tactic(auto, unfolding(crate::specs::steps::DateReader::offset_at))]
 pub(crate) fn offset_at(text: &[u8]) -> Option<(i32, &[u8])>
     ensures value { read_of result ≡ Reader.offset_at text.now }
 {
@@ -89,7 +89,7 @@ fn behind_utc(seconds: u32) -> i32
 }
 
 // A day of one digit or two.
-#[tactic(auto, unfolding(crate::specs::DateReader::short_day_at))]
+#[tactic(auto, unfolding(crate::specs::steps::DateReader::short_day_at))]
 fn short_day_at(text: &[u8]) -> Option<(u8, &[u8])>
     ensures value { read_of result ≡ Reader.short_day_at text.now }
 {
@@ -112,7 +112,7 @@ fn one_digit_at(text: &[u8]) -> Option<(u8, &[u8])>
 }
 
 /// `YYYY-MM-DD HH:MM:SS`.
-#[tactic(auto, unfolding(crate::specs::DateReader::timed_dashed_at))]
+#[tactic(auto, unfolding(crate::specs::steps::DateReader::timed_dashed_at))]
 pub(crate) fn timed_dashed_at(text: &[u8]) -> Option<(Stamp, &[u8])>
     ensures value { option_map stamp_by_year (read_of result) ≡ Reader.timed_dashed_at text.now }
     ensures whole { IfSome result (λ p. p.0.nanosecond ≡ 0) }
@@ -136,7 +136,7 @@ fn whole_second(date: Ymd, clock: Clock) -> Stamp
 }
 
 /// `DD Month YYYY HH:MM:SS`.
-#[tactic(auto, unfolding(crate::specs::DateReader::timed_long_at))]
+#[tactic(auto, unfolding(crate::specs::steps::DateReader::timed_long_at))]
 pub(crate) fn timed_long_at(text: &[u8]) -> Option<(Stamp, &[u8])>
     ensures value { option_map stamp_by_day (read_of result) ≡ Reader.timed_long_at text.now }
     ensures whole { IfSome result (λ p. p.0.nanosecond ≡ 0) }
@@ -148,7 +148,7 @@ pub(crate) fn timed_long_at(text: &[u8]) -> Option<(Stamp, &[u8])>
 }
 
 /// `DD Mon YYYY HH:MM:SS`.
-#[tactic(auto, unfolding(crate::specs::DateReader::timed_short_at))]
+#[tactic(auto, unfolding(crate::specs::steps::DateReader::timed_short_at))]
 pub(crate) fn timed_short_at(text: &[u8]) -> Option<(Stamp, &[u8])>
     ensures value { option_map stamp_by_day (read_of result) ≡ Reader.timed_short_at text.now }
     ensures whole { IfSome result (λ p. p.0.nanosecond ≡ 0) }
@@ -160,7 +160,7 @@ pub(crate) fn timed_short_at(text: &[u8]) -> Option<(Stamp, &[u8])>
 }
 
 /// `MM/DD/YYYY HH:MM:SS`.
-#[tactic(auto, unfolding(crate::specs::DateReader::timed_slashed_at))]
+#[tactic(auto, unfolding(crate::specs::steps::DateReader::timed_slashed_at))]
 pub(crate) fn timed_slashed_at(text: &[u8]) -> Option<(Stamp, &[u8])>
     ensures value { option_map stamp_by_month (read_of result) ≡ Reader.timed_slashed_at text.now }
     ensures whole { IfSome result (λ p. p.0.nanosecond ≡ 0) }
@@ -172,7 +172,7 @@ pub(crate) fn timed_slashed_at(text: &[u8]) -> Option<(Stamp, &[u8])>
 }
 
 /// `YYYY-MM-DD HH:MM:SS.fraction`.
-#[tactic(auto, unfolding(crate::specs::DateReader::timed_fraction_at))]
+#[tactic(auto, unfolding(crate::specs::steps::DateReader::timed_fraction_at))]
 pub(crate) fn timed_fraction_at(text: &[u8]) -> Option<(Stamp, &[u8])>
     ensures value { option_map stamp_by_fraction (read_of result)
         ≡ Reader.timed_fraction_at text.now }
@@ -191,7 +191,7 @@ pub(crate) fn timed_fraction_at(text: &[u8]) -> Option<(Stamp, &[u8])>
 }
 
 /// `Www Mon D HH:MM:SS YYYY`, with the weekday.
-#[tactic(auto, unfolding(crate::specs::DateReader::timed_weekday_at))]
+#[tactic(auto, unfolding(crate::specs::steps::DateReader::timed_weekday_at))]
 pub(crate) fn timed_weekday_at(text: &[u8]) -> Option<((u8, Stamp), &[u8])>
     ensures value { option_map stamp_by_weekday (read_of result)
         ≡ Reader.timed_weekday_at text.now }
@@ -232,7 +232,7 @@ fn digits_from(text: &[u8]) -> (usize, u64, &[u8])
 }
 
 // One to nine digits of a fraction, in nanoseconds.
-#[tactic(auto, unfolding(crate::specs::DateReader::fraction_at))]
+#[tactic(auto, unfolding(crate::specs::steps::DateReader::fraction_at))]
 fn fraction_at(text: &[u8]) -> Option<(u32, &[u8])>
     ensures value { read_of result ≡ Reader.fraction_at text.now }
 {

@@ -1,8 +1,8 @@
 ghost use Rattle.std.specs.Prelude.{◌≡◌, ◌<◌, ◌+◌, ◌++◌, ◌∷◌, [], OnOk, length, replicate};
 ghost use Rattle.std.specs.Fmt.{decimal};
 ghost use Rattle.std.specs.String.{string_bytes};
-ghost use Rattle.liquid_dates.specs.Filling as Spec;
-ghost use Rattle.liquid_dates.specs.Filling.{is_ascii_text};
+ghost use Rattle.liquid_dates.specs.meaning.Filling as Spec;
+ghost use Rattle.liquid_dates.specs.meaning.Filling.{is_ascii_text};
 ghost use Rattle.std.specs.Prelude.{true};
 
 use crate::flags::{Case, NumberFilling};
@@ -21,7 +21,7 @@ pub(crate) fn fill(out: &mut String, count: usize, filler: char) -> Result<(), A
 }
 
 /// Appends a number filled up to a width: by spaces before its sign, or by zeros behind it.
-#[tactic(auto, unfolding(crate::specs::Filling::filled_number))]
+#[tactic(auto, unfolding(crate::specs::meaning::Filling::filled_number))]
 pub(crate) fn write_number(
     out: &mut String,
     filling: NumberFilling,

@@ -6,8 +6,8 @@ use Rattle.liquid_error.specs.declared.cause.CauseOf.TheVariants as cause_of
 use Rattle.liquid_error.specs.declared.error.Error.{Error, the_lemmas}
 use Rattle.liquid_error.specs.declared.error.Error.TheViews.{Liquid}
 use Rattle.liquid_error.specs.declared.report.Report.{Report}
-use Rattle.liquid_error.specs.Refusal.{Refusal, Reason, with_cause}
-use Rattle.liquid_error.specs.Told.{told, reason_of, refusal_of}
+use Rattle.liquid_error.specs.meaning.Refusal.{Refusal, Reason, with_cause}
+use Rattle.liquid_error.specs.meaning.Told.{told, reason_of, refusal_of}
 
 pub told_caused : (report : Report) (cause : CauseOf Error) → told (Liquid report (Some cause)) ≡ Some (with_cause (reason_of cause) (refusal_of report))
 told_caused report (cause_of.Error e) = search (rules, the_lemmas)

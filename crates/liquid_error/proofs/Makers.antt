@@ -1,9 +1,9 @@
 -- What a helper with a closure does, from what the closure made.
 use Rattle.std.proofs.Common.{◌≡◌, Option, Some, None, option_map, Result, Err, sym, subst, IfSome}
 use Rattle.liquid_error.specs.declared.error.Error.{Error}
-use Rattle.liquid_error.specs.Refusal.{Refusal}
-use Rattle.liquid_error.specs.Told.{told, Becomes}
-use Rattle.liquid_error.specs.Helpers.{ErrBecomesBy}
+use Rattle.liquid_error.specs.meaning.Refusal.{Refusal}
+use Rattle.liquid_error.specs.meaning.Told.{told, Becomes}
+use Rattle.liquid_error.specs.meaning.Helpers.{ErrBecomesBy}
 
 weaken : {A : Type 0} (P Q : A → Type 0) → ((x : A) → P x → Q x) → (o : Option A) → IfSome o P → IfSome o Q
 weaken P Q f None h = tt

@@ -2,8 +2,8 @@
 use Rattle.std.proofs.Common.{◌≡◌, List, [], ◌∷◌, ◌++◌, refl, ap, map}
 use Rattle.std.proofs.lemmas.List.{map-append}
 use Rattle.liquid_error.specs.declared.report.Trace.{Trace}
-use Rattle.liquid_error.specs.Refusal.{Entry, Note, note_newest, note_message}
-use Rattle.liquid_error.specs.Told.{note_of}
+use Rattle.liquid_error.specs.meaning.Refusal.{Entry, Note, note_newest, note_message}
+use Rattle.liquid_error.specs.meaning.Told.{note_of}
 
 pub note_newest_append : (entry : Entry) (ns : List Note) (n : Note) → note_newest entry (ns ++ n ∷ []) ≡ ns ++ record n { contexts = n.contexts ++ entry ∷ [] } ∷ []
 note_newest_append entry [] n = refl

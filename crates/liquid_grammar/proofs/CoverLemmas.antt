@@ -4,19 +4,19 @@ use Rattle.std.proofs.lemmas.Bool.{cases_lt}
 use Rattle.std.proofs.lemmas.List.{append_cancel_right}
 use Rattle.std.proofs.lemmas.Option.{same_Some, none-some}
 use Rattle.std.specs.Option.{option_or}
-use Rattle.liquid_grammar.specs.Bytes.{is_white}
-use Rattle.liquid_grammar.specs.Rules.{Begins, One, here, instead, ends, Byte}
-use Rattle.liquid_grammar.specs.Grammar.{White, Braces, Opener, Opens, AnyOpener, LoneBrace}
-use Rattle.liquid_grammar.specs.Cover.{Element, raw, tag_element, expression, invalid, text_of, Raw, IsElement, Cover, done, next, OnlyCover, joined}
+use Rattle.liquid_grammar.specs.meaning.Bytes.{is_white}
+use Rattle.liquid_grammar.specs.meaning.Rules.{Begins, One, here, instead, ends, Byte}
+use Rattle.liquid_grammar.specs.meaning.Grammar.{White, Braces, Opener, Opens, AnyOpener, LoneBrace}
+use Rattle.liquid_grammar.specs.meaning.Cover.{Element, raw, tag_element, expression, invalid, text_of, Raw, IsElement, Cover, done, next, OnlyCover, joined}
 use Rattle.liquid_grammar.specs.declared.element.Element.{Element as CodeElement}
-use Rattle.liquid_grammar.specs.Elements.{Taken, Means}
-use Rattle.liquid_grammar.specs.Tokens.{Tag, Chain, TagRule, ExpressionRule}
-use Rattle.liquid_grammar.specs.Faults.{Fault, tag_fault, chain_fault}
-use Rattle.liquid_grammar.specs.Kinds.{Kind, chain_kind}
-use Rattle.liquid_grammar.specs.Meanings.{TagSeen, tag_seen, ChainSeen, chain_seen}
-use Rattle.liquid_grammar.specs.TokenSteps.{full_expression, tag as read_tag}
-use Rattle.liquid_grammar.specs.Steps as read
-use Rattle.liquid_grammar.specs.Steps.{EndsRaw}
+use Rattle.liquid_grammar.specs.meaning.Elements.{Taken, Means}
+use Rattle.liquid_grammar.specs.meaning.Tokens.{Tag, Chain, TagRule, ExpressionRule}
+use Rattle.liquid_grammar.specs.meaning.Faults.{Fault, tag_fault, chain_fault}
+use Rattle.liquid_grammar.specs.meaning.Kinds.{Kind, chain_kind}
+use Rattle.liquid_grammar.specs.meaning.Meanings.{TagSeen, tag_seen, ChainSeen, chain_seen}
+use Rattle.liquid_grammar.specs.steps.TokenSteps.{full_expression, tag as read_tag}
+use Rattle.liquid_grammar.specs.steps.Steps as read
+use Rattle.liquid_grammar.specs.steps.Steps.{EndsRaw}
 use Rattle.liquid_grammar.proofs.RawLemmas.{opens, opens_from, closed_from}
 use Rattle.liquid_grammar.proofs.Exact.{same_match, none_begins, option_cases, before_end}
 use Rattle.liquid_grammar.proofs.GrammarExact.{exact-white, exact-opener, exact-lone_brace, shrinks-lone_brace}

@@ -2,8 +2,8 @@
 use Rattle.std.proofs.Common.{◌≡◌, ℕ, ◌-◌, ◌<◌, ◌≤◌, Bool, true, false, cond, ◌==◌, List, [], ◌∷◌, ◌++◌, length, take, Option, Some, None, is_some, option_map, option_and_then, refl, sym, ap, ◌∙◌, subst, arith, append_assoc, take_at, length-append}
 use Rattle.std.proofs.lemmas.Option.{same_Some, none-some, option_and_then_some, cond_some}
 use Rattle.std.specs.Option.{option_or}
-use Rattle.liquid_grammar.specs.Rules.{Rule, Begins, One, Then, Else, here, instead, Seen, Where, Text, Ahead, Byte, ◌▷◌, ◌◁◌}
-use Rattle.liquid_grammar.specs.Steps.{Reader, one, byte, both, either, seen, only, text, ahead, right, left}
+use Rattle.liquid_grammar.specs.meaning.Rules.{Rule, Begins, One, Then, Else, here, instead, Seen, Where, Text, Ahead, Byte, ◌▷◌, ◌◁◌}
+use Rattle.liquid_grammar.specs.steps.Steps.{Reader, one, byte, both, either, seen, only, text, ahead, right, left}
 
 -- what R takes is the beginning of the text
 abbrev pub Cuts : {A : Type 0} → Rule A → Type 0

@@ -1,9 +1,9 @@
 -- More readers that are exact for their rules: repeated, optional, placed, and not ahead.
 use Rattle.std.proofs.Common.{◌≡◌, ℕ, zero, suc, ◌<◌, cond, List, [], ◌∷◌, ◌++◌, length, Option, Some, None, is_some, option_map, refl, sym, ap, ap₂, ◌∙◌, subst, arith, append_assoc}
 use Rattle.std.proofs.lemmas.Option.{same_Some, none-some}
-use Rattle.liquid_grammar.specs.Rules.{Rule, Repeated, ends, more, Not, Nothing, Placed, At, Optional}
-use Rattle.liquid_grammar.specs.Steps.{Reader}
-use Rattle.liquid_grammar.specs.TokenSteps.{not_ahead, nothing, optional, placed, at, repeat_turn, repeated_by, repeated}
+use Rattle.liquid_grammar.specs.meaning.Rules.{Rule, Repeated, ends, more, Not, Nothing, Placed, At, Optional}
+use Rattle.liquid_grammar.specs.steps.Steps.{Reader}
+use Rattle.liquid_grammar.specs.steps.TokenSteps.{not_ahead, nothing, optional, placed, at, repeat_turn, repeated_by, repeated}
 use Rattle.liquid_grammar.proofs.Exact.{Exact, Cuts, Shrinks, option_map_some, none_begins, finds_none, exact-either, exact-seen}
 
 not_ahead_sound : {A : Type 0} {f : Reader A} {R : Rule A} → Exact f R → (s rest : List ℕ) (a : Unit {0}) → not_ahead f s ≡ Some (a, rest) → Not R s rest a

@@ -3,14 +3,14 @@ use Rattle.std.proofs.Common.{◌≡◌, ℕ, Bool, true, false, List, ◌∷◌
 use Rattle.std.specs.Option.{option_or}
 use Rattle.liquid_grammar.specs.declared.parts.FilterStart.{FilterStart}
 use Rattle.liquid_grammar.specs.declared.parts.ArgumentStart.{ArgumentStart}
-use Rattle.liquid_grammar.specs.Rules.{Rule, Begins, here, instead, Repeated, Byte, Optional, ◌▷◌}
-use Rattle.liquid_grammar.specs.Grammar.{White}
-use Rattle.liquid_grammar.specs.Values.{ValueRule}
-use Rattle.liquid_grammar.specs.Tokens.{Argument, positional, keyword, Filter, Behind, KeywordStart, KeywordRule, ArgumentRule, Arguments, arguments_of, FilterRule}
+use Rattle.liquid_grammar.specs.meaning.Rules.{Rule, Begins, here, instead, Repeated, Byte, Optional, ◌▷◌}
+use Rattle.liquid_grammar.specs.meaning.Grammar.{White}
+use Rattle.liquid_grammar.specs.meaning.Values.{ValueRule}
+use Rattle.liquid_grammar.specs.meaning.Tokens.{Argument, positional, keyword, Filter, Behind, KeywordStart, KeywordRule, ArgumentRule, Arguments, arguments_of, FilterRule}
 use Rattle.liquid_grammar.specs.declared.head.Head.{Head}
-use Rattle.liquid_grammar.specs.Parts.{HasHead, NoneLeft, First, IsFilter, IsArgument, ArgumentsFrom, separator}
-use Rattle.liquid_grammar.specs.Steps.{Reader, identifier}
-use Rattle.liquid_grammar.specs.TokenSteps.{optional, separated, behind, argument, arguments, keyword_start}
+use Rattle.liquid_grammar.specs.meaning.Parts.{HasHead, NoneLeft, First, IsFilter, IsArgument, ArgumentsFrom, separator}
+use Rattle.liquid_grammar.specs.steps.Steps.{Reader, identifier}
+use Rattle.liquid_grammar.specs.steps.TokenSteps.{optional, separated, behind, argument, arguments, keyword_start}
 use Rattle.liquid_grammar.proofs.Exact.{Exact, same_match, none_begins, exact-right, exact-byte}
 use Rattle.liquid_grammar.proofs.ExactRepeated.{exact-optional, repeated_total}
 use Rattle.liquid_grammar.proofs.GrammarExact.{exact-white, exact-identifier}

@@ -2,17 +2,17 @@
 use Rattle.std.proofs.Common.{◌≡◌, ℕ, zero, suc, pred, ◌+◌, ◌-◌, ◌<◌, Bool, true, false, cond, ◌==◌, List, [], ◌∷◌, Option, Some, None, option_map, option_and_then, MatchOption, refl, sym, ap, ap₂, ◌∙◌, subst, arith, eqb-true}
 use Rattle.std.proofs.lemmas.Option.{same_Some, none-some}
 use Rattle.std.specs.Option.{option_or}
-use Rattle.liquid_grammar.specs.Rules.{Placed}
-use Rattle.liquid_grammar.specs.Literals.{Literal}
-use Rattle.liquid_grammar.specs.Values.{Value, Index, named_index, bracketed_index, gather, placed_literal, placed_variable, placed_bracket}
-use Rattle.liquid_grammar.specs.Faults.{Fault, literal_fault, fault_within, index_fault, indexes_fault, deep_fault}
+use Rattle.liquid_grammar.specs.meaning.Rules.{Placed}
+use Rattle.liquid_grammar.specs.meaning.Literals.{Literal}
+use Rattle.liquid_grammar.specs.meaning.Values.{Value, Index, named_index, bracketed_index, gather, placed_literal, placed_variable, placed_bracket}
+use Rattle.liquid_grammar.specs.meaning.Faults.{Fault, literal_fault, fault_within, index_fault, indexes_fault, deep_fault}
 use Rattle.liquid_grammar.specs.declared.fault.Fault.{Fault as CodeFault}
-use Rattle.liquid_grammar.specs.Meanings.{Scanned, scan, faults_of}
-use Rattle.liquid_grammar.specs.Steps.{Reader, white, name}
-use Rattle.liquid_grammar.specs.BracketSteps.{adds, index, indexes, bracket_index, closing, resume, starts, awaited, going}
+use Rattle.liquid_grammar.specs.meaning.Meanings.{Scanned, scan, faults_of}
+use Rattle.liquid_grammar.specs.steps.Steps.{Reader, white, name}
+use Rattle.liquid_grammar.specs.steps.BracketSteps.{adds, index, indexes, bracket_index, closing, resume, starts, awaited, going}
 use Rattle.liquid_grammar.specs.declared.bracket.Await.{Await}
 use Rattle.liquid_grammar.specs.declared.bracket.Open.{Open}
-use Rattle.liquid_grammar.specs.TokenSteps.{placed, literal, value, variable_over, bracketed_over, named, open_bracket, close_bracket}
+use Rattle.liquid_grammar.specs.steps.TokenSteps.{placed, literal, value, variable_over, bracketed_over, named, open_bracket, close_bracket}
 use Rattle.liquid_grammar.proofs.ExactRepeated.{repeated_more, repeated_end}
 use Rattle.liquid_grammar.proofs.TokenExact.{exact-value, exact-index, shrinks-index}
 use Rattle.liquid_grammar.proofs.ValueLaw.{value_reads}

@@ -3,10 +3,10 @@ use Rattle.std.proofs.Common.{◌≡◌, ℕ, suc, ◌+◌, Bool, true, false, c
 use Rattle.std.proofs.lemmas.Option.{same_Some}
 use Rattle.std.specs.Option.{option_or}
 use Rattle.std.specs.List.{prefix_len}
-use Rattle.liquid_grammar.specs.Bytes.{is_white, starts_name, is_word}
-use Rattle.liquid_grammar.specs.Rules.{Rule, Begins, One, here, instead, Repeated, ends, more, Byte, ◌▷◌, ◌◁◌}
-use Rattle.liquid_grammar.specs.Grammar.{White, Braces, Opener, Closer, AnyOpener, NameByte, Identifier, is_literal_word, Name, LoneBrace}
-use Rattle.liquid_grammar.specs.Steps.{Reader, one, byte, either, ahead, left, run, white, braces, dashed_opener, opener, any_opener, dashed_closer, closer, is_name_byte, name_len, name_bytes, identifier, name, lone_brace}
+use Rattle.liquid_grammar.specs.meaning.Bytes.{is_white, starts_name, is_word}
+use Rattle.liquid_grammar.specs.meaning.Rules.{Rule, Begins, One, here, instead, Repeated, ends, more, Byte, ◌▷◌, ◌◁◌}
+use Rattle.liquid_grammar.specs.meaning.Grammar.{White, Braces, Opener, Closer, AnyOpener, NameByte, Identifier, is_literal_word, Name, LoneBrace}
+use Rattle.liquid_grammar.specs.steps.Steps.{Reader, one, byte, either, ahead, left, run, white, braces, dashed_opener, opener, any_opener, dashed_closer, closer, is_name_byte, name_len, name_bytes, identifier, name, lone_brace}
 use Rattle.liquid_grammar.proofs.Exact.{Exact, none_begins, finds_none, exact-one, exact-byte, exact-both, exact-either, exact-right, exact-left, exact-only, exact-text, exact-ahead, Shrinks, shrinks-one, shrinks-first, shrinks-second, shrinks-seen, shrinks-else, shrinks-text}
 
 -- R takes one byte at a time, which is its shape

@@ -5,16 +5,16 @@ use Rattle.std.proofs.lemmas.Option.{none-some}
 use Rattle.std.specs.Option.{option_or}
 use Rattle.std.specs.Char.{is_ascii_digit}
 use Rattle.std.specs.Borrow.{Bor}
-use Rattle.liquid_grammar.specs.Bytes.{starts_name}
-use Rattle.liquid_grammar.specs.Grammar.{is_literal_word}
-use Rattle.liquid_grammar.specs.Meanings.{literal_of}
-use Rattle.liquid_grammar.specs.Literals.{Literal, word_literal, decimal, integer, text_literal}
+use Rattle.liquid_grammar.specs.meaning.Bytes.{starts_name}
+use Rattle.liquid_grammar.specs.meaning.Grammar.{is_literal_word}
+use Rattle.liquid_grammar.specs.meaning.Meanings.{literal_of}
+use Rattle.liquid_grammar.specs.meaning.Literals.{Literal, word_literal, decimal, integer, text_literal}
 use Rattle.liquid_grammar.specs.declared.literal.Literal.{Literal as CodeLiteral}
 use Rattle.liquid_grammar.specs.declared.head.Head.{Head}
 use Rattle.liquid_grammar.specs.declared.head.Head.TheVariants as head
-use Rattle.liquid_grammar.specs.Heads.{literal_in, name_in, IsHeadOf}
-use Rattle.liquid_grammar.specs.Steps.{Reader, one, byte, both, either, seen, text, right, left, run, name_bytes, identifier, name}
-use Rattle.liquid_grammar.specs.TokenSteps.{quoted, text_of_quotes, digits, sign, whole, fractional, number, not_ahead, word, literal, text_or_number}
+use Rattle.liquid_grammar.specs.steps.Heads.{literal_in, name_in, IsHeadOf}
+use Rattle.liquid_grammar.specs.steps.Steps.{Reader, one, byte, both, either, seen, text, right, left, run, name_bytes, identifier, name}
+use Rattle.liquid_grammar.specs.steps.TokenSteps.{quoted, text_of_quotes, digits, sign, whole, fractional, number, not_ahead, word, literal, text_or_number}
 use Rattle.liquid_grammar.proofs.Scanning.{both_none, both_none_behind}
 
 not_39 : (b : ℕ) → starts_name b ≡ true → (b == 39) ≡ false

@@ -1,16 +1,16 @@
 -- What the next index is, by the readers that found its beginning.
 use Rattle.std.proofs.Common.{◌≡◌, ℕ, true, false, ◌==◌, List, ◌∷◌, Some, None, option_map, refl, sym, ap, ◌∙◌, subst}
 use Rattle.std.proofs.lemmas.Bool.{eqb-true}
-use Rattle.liquid_grammar.specs.Bytes.{is_white}
-use Rattle.liquid_grammar.specs.Grammar.{White, Identifier}
-use Rattle.liquid_grammar.specs.Rules.{Rule, Begins, One, Seen, At, Byte, ◌▷◌, here, instead, Repeated, ends, more}
-use Rattle.liquid_grammar.specs.Values.{Value, Index, named_index, bracketed_index, placed_bracket, Bracketed, OpenBracket, CloseBracket, ValueRule, IndexRule}
-use Rattle.liquid_grammar.specs.Parts.{NoneLeft, First, IsNamed, IsBracketed}
-use Rattle.liquid_grammar.specs.TokenSteps.{named, open_bracket}
+use Rattle.liquid_grammar.specs.meaning.Bytes.{is_white}
+use Rattle.liquid_grammar.specs.meaning.Grammar.{White, Identifier}
+use Rattle.liquid_grammar.specs.meaning.Rules.{Rule, Begins, One, Seen, At, Byte, ◌▷◌, here, instead, Repeated, ends, more}
+use Rattle.liquid_grammar.specs.meaning.Values.{Value, Index, named_index, bracketed_index, placed_bracket, Bracketed, OpenBracket, CloseBracket, ValueRule, IndexRule}
+use Rattle.liquid_grammar.specs.meaning.Parts.{NoneLeft, First, IsNamed, IsBracketed}
+use Rattle.liquid_grammar.specs.steps.TokenSteps.{named, open_bracket}
 use Rattle.liquid_grammar.proofs.Exact.{Exact, exact-seen, same_match, none_begins}
-use Rattle.liquid_grammar.specs.Faults.{index_fault}
-use Rattle.liquid_grammar.specs.Meanings.{Scanned, scan}
-use Rattle.liquid_grammar.specs.BracketSteps.{bracket_index}
+use Rattle.liquid_grammar.specs.meaning.Faults.{index_fault}
+use Rattle.liquid_grammar.specs.meaning.Meanings.{Scanned, scan}
+use Rattle.liquid_grammar.specs.steps.BracketSteps.{bracket_index}
 use Rattle.liquid_grammar.proofs.ValueScan.{scan_some, scan_none}
 use Rattle.liquid_grammar.proofs.ExactRepeated.{exact-at}
 use Rattle.liquid_grammar.proofs.TokenExact.{exact-bracketed, exact-value, exact-index, exact-named, exact-open_bracket}

@@ -3,20 +3,20 @@ use Rattle.std.proofs.Common.{◌≡◌, ℕ, List, [], ◌∷◌, Option, Some,
 use Rattle.std.proofs.lemmas.Option.{same_Some, none-some}
 use Rattle.std.specs.Option.{option_or}
 use Rattle.std.specs.Borrow.{Bor}
-use Rattle.liquid_grammar.specs.Rules.{Placed, Begins}
-use Rattle.liquid_grammar.specs.Literals.{Literal}
-use Rattle.liquid_grammar.specs.Values.{Value, Index, placed_literal, placed_variable}
-use Rattle.liquid_grammar.specs.Tokens.{Filter, Chain, Token, range, chain, symbol, ChainRule, TokenRule}
-use Rattle.liquid_grammar.specs.Faults.{Fault, filter_fault, index_fault, range_fault}
-use Rattle.liquid_grammar.specs.Kinds.{Kind, literal_kind, variable_kind, identifier_kind, filtered_kind, value_kind, chain_kind}
+use Rattle.liquid_grammar.specs.meaning.Rules.{Placed, Begins}
+use Rattle.liquid_grammar.specs.meaning.Literals.{Literal}
+use Rattle.liquid_grammar.specs.meaning.Values.{Value, Index, placed_literal, placed_variable}
+use Rattle.liquid_grammar.specs.meaning.Tokens.{Filter, Chain, Token, range, chain, symbol, ChainRule, TokenRule}
+use Rattle.liquid_grammar.specs.meaning.Faults.{Fault, filter_fault, index_fault, range_fault}
+use Rattle.liquid_grammar.specs.meaning.Kinds.{Kind, literal_kind, variable_kind, identifier_kind, filtered_kind, value_kind, chain_kind}
 use Rattle.liquid_grammar.specs.declared.kind.TokenKind.{TokenKind}
 use Rattle.liquid_grammar.specs.declared.kind.TokenKind.TheVariants.{Range, Symbol}
 use Rattle.liquid_grammar.specs.declared.fault.Fault.{Fault as CodeFault}
-use Rattle.liquid_grammar.specs.KindMeanings.{token_kind_of, HasKind, HasChainKind, FindsKind, FindsValueKind}
-use Rattle.liquid_grammar.specs.Meanings.{scan, Scanned, scanned_of, Scans}
-use Rattle.liquid_grammar.specs.Steps.{Reader, name}
-use Rattle.liquid_grammar.specs.TokenSteps.{placed, repeated, behind, literal, value, variable_over, filter, chain_of, ranged, symbol_of, token}
-use Rattle.liquid_grammar.specs.BracketSteps.{index, indexes}
+use Rattle.liquid_grammar.specs.meaning.KindMeanings.{token_kind_of, HasKind, HasChainKind, FindsKind, FindsValueKind}
+use Rattle.liquid_grammar.specs.meaning.Meanings.{scan, Scanned, scanned_of, Scans}
+use Rattle.liquid_grammar.specs.steps.Steps.{Reader, name}
+use Rattle.liquid_grammar.specs.steps.TokenSteps.{placed, repeated, behind, literal, value, variable_over, filter, chain_of, ranged, symbol_of, token}
+use Rattle.liquid_grammar.specs.steps.BracketSteps.{index, indexes}
 use Rattle.liquid_grammar.proofs.ExactRepeated.{repeated_more, repeated_end, repeated_total}
 use Rattle.liquid_grammar.proofs.TokenExact.{exact-value, exact-index, shrinks-index, exact-behind, shrinks-behind, exact-filter, exact-chain, exact-token}
 use Rattle.liquid_grammar.proofs.ValueLaw.{value_reads}

@@ -1,11 +1,11 @@
 -- What a call found by an exact reader is the match of the rule.
 use Rattle.std.proofs.Common.{◌≡◌, ℕ, List, Option, Some, None, option_map, Bor, sym, subst}
 use Rattle.liquid_grammar.specs.declared.fault.Fault.{Fault as CodeFault}
-use Rattle.liquid_grammar.specs.Rules.{Rule}
-use Rattle.liquid_grammar.specs.Faults.{Fault}
-use Rattle.liquid_grammar.specs.Meanings.{faults_of, scanned_of, scan}
-use Rattle.liquid_grammar.specs.Matches.{Finds, Matches, Single}
-use Rattle.liquid_grammar.specs.Steps.{Reader}
+use Rattle.liquid_grammar.specs.meaning.Rules.{Rule}
+use Rattle.liquid_grammar.specs.meaning.Faults.{Fault}
+use Rattle.liquid_grammar.specs.meaning.Meanings.{faults_of, scanned_of, scan}
+use Rattle.liquid_grammar.specs.meaning.Matches.{Finds, Matches, Single}
+use Rattle.liquid_grammar.specs.steps.Steps.{Reader}
 use Rattle.liquid_grammar.proofs.Exact.{Exact, same_match, none_begins}
 use Rattle.liquid_grammar.proofs.ValueScan.{scan_some, scan_none}
 

@@ -2,17 +2,17 @@
 use Rattle.std.proofs.Common.{◌≡◌, ℕ, List, ◌++◌, Option, Some, None, option_map, option_and_then, MatchOption, Bor, refl, sym, ap, ◌∙◌, subst}
 use Rattle.liquid_grammar.specs.declared.head.Head.{Head}
 use Rattle.liquid_grammar.specs.declared.head.Head.TheVariants as head
-use Rattle.liquid_grammar.specs.Heads.{literal_in, name_in}
-use Rattle.liquid_grammar.specs.Rules.{Rule, Begins, Seen, At, here, instead, Repeated, ends, more, ◌▷◌}
-use Rattle.liquid_grammar.specs.Literals.{LiteralRule}
-use Rattle.liquid_grammar.specs.Values.{Value, literal_value, variable_value, placed_literal, gather, ValueOver, ValueRule, IndexRule}
-use Rattle.liquid_grammar.specs.Faults.{value_fault}
-use Rattle.liquid_grammar.specs.Meanings.{literal_of}
-use Rattle.liquid_grammar.specs.Grammar.{White}
-use Rattle.liquid_grammar.specs.Tokens.{Chain, Tag, ChainRule, TokenRule, ExpressionRule, TagRule}
-use Rattle.liquid_grammar.specs.Parts.{NoneLeft, First, IsHead, HasHead, IsChain}
-use Rattle.liquid_grammar.specs.Steps.{Reader, name, identifier}
-use Rattle.liquid_grammar.specs.TokenSteps.{literal, value, index_over}
+use Rattle.liquid_grammar.specs.steps.Heads.{literal_in, name_in}
+use Rattle.liquid_grammar.specs.meaning.Rules.{Rule, Begins, Seen, At, here, instead, Repeated, ends, more, ◌▷◌}
+use Rattle.liquid_grammar.specs.meaning.Literals.{LiteralRule}
+use Rattle.liquid_grammar.specs.meaning.Values.{Value, literal_value, variable_value, placed_literal, gather, ValueOver, ValueRule, IndexRule}
+use Rattle.liquid_grammar.specs.meaning.Faults.{value_fault}
+use Rattle.liquid_grammar.specs.meaning.Meanings.{literal_of}
+use Rattle.liquid_grammar.specs.meaning.Grammar.{White}
+use Rattle.liquid_grammar.specs.meaning.Tokens.{Chain, Tag, ChainRule, TokenRule, ExpressionRule, TagRule}
+use Rattle.liquid_grammar.specs.meaning.Parts.{NoneLeft, First, IsHead, HasHead, IsChain}
+use Rattle.liquid_grammar.specs.steps.Steps.{Reader, name, identifier}
+use Rattle.liquid_grammar.specs.steps.TokenSteps.{literal, value, index_over}
 use Rattle.liquid_grammar.proofs.Exact.{Exact, same_match, none_begins}
 use Rattle.liquid_grammar.proofs.ExactRepeated.{repeated_total}
 use Rattle.liquid_grammar.proofs.FlatBrackets.{left_some, left_none}

@@ -6,9 +6,9 @@ use Rattle.std.proofs.lemmas.List.{drop_more}
 use Rattle.std.proofs.lemmas.Str.{IsCharBoundary-before_ascii, IsCharBoundary-end}
 use Rattle.std.specs.Option.{option_or}
 use Rattle.std.specs.List.{prefix_len}
-use Rattle.liquid_grammar.specs.Bytes.{is_white}
-use Rattle.liquid_grammar.specs.Grammar.{Opens}
-use Rattle.liquid_grammar.specs.Steps.{Reader, byte, right, white, braces, dashed_opener, opener, any_opener, begins_braces, white_start, EndsRaw}
+use Rattle.liquid_grammar.specs.meaning.Bytes.{is_white}
+use Rattle.liquid_grammar.specs.meaning.Grammar.{Opens}
+use Rattle.liquid_grammar.specs.steps.Steps.{Reader, byte, right, white, braces, dashed_opener, opener, any_opener, begins_braces, white_start, EndsRaw}
 use Rattle.liquid_grammar.proofs.TextLemmas.{is_white_ascii}
 use Rattle.liquid_grammar.proofs.Exact.{begins_found, found_begins}
 use Rattle.liquid_grammar.proofs.GrammarExact.{is_some-map, exact-any_opener}

@@ -1,15 +1,15 @@
 -- The faults of lists of parts, and of parts behind something else.
 use Rattle.std.proofs.Common.{◌≡◌, ℕ, List, ◌∷◌, Option, Some, None, option_map, option_and_then, Bor, refl, sym, ap, ap₂, ◌∙◌}
 use Rattle.std.specs.Option.{option_or}
-use Rattle.liquid_grammar.specs.Rules.{Rule}
-use Rattle.liquid_grammar.specs.Values.{Value}
-use Rattle.liquid_grammar.specs.Tokens.{Argument, Filter}
+use Rattle.liquid_grammar.specs.meaning.Rules.{Rule}
+use Rattle.liquid_grammar.specs.meaning.Values.{Value}
+use Rattle.liquid_grammar.specs.meaning.Tokens.{Argument, Filter}
 use Rattle.liquid_grammar.specs.declared.fault.Fault.{Fault as CodeFault}
-use Rattle.liquid_grammar.specs.Faults.{Fault, first_fault, value_fault, argument_fault, filter_fault, chain_fault, range_fault}
-use Rattle.liquid_grammar.specs.Meanings.{Scanned, Scans, scan, scanned_of, faults_of}
-use Rattle.liquid_grammar.specs.Steps.{Reader, both, right, left}
-use Rattle.liquid_grammar.specs.TokenSteps.{placed, repeated, separated, behind, argument, arguments, value, filter, chain_of, range_start, dots, range_end, ranged}
-use Rattle.liquid_grammar.specs.BracketSteps.{adds}
+use Rattle.liquid_grammar.specs.meaning.Faults.{Fault, first_fault, value_fault, argument_fault, filter_fault, chain_fault, range_fault}
+use Rattle.liquid_grammar.specs.meaning.Meanings.{Scanned, Scans, scan, scanned_of, faults_of}
+use Rattle.liquid_grammar.specs.steps.Steps.{Reader, both, right, left}
+use Rattle.liquid_grammar.specs.steps.TokenSteps.{placed, repeated, separated, behind, argument, arguments, value, filter, chain_of, range_start, dots, range_end, ranged}
+use Rattle.liquid_grammar.specs.steps.BracketSteps.{adds}
 use Rattle.liquid_grammar.proofs.Exact.{Exact, Shrinks}
 use Rattle.liquid_grammar.proofs.ExactRepeated.{repeated_more, repeated_end}
 use Rattle.liquid_grammar.proofs.ValueScan.{scan_some, scan_none}

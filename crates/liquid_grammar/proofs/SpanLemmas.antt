@@ -4,8 +4,8 @@ use Rattle.std.proofs.lemmas.List.{append-nil}
 use Rattle.std.proofs.lemmas.Str.{IsCharBoundary-after_ascii, IsCharBoundary-at_seam, IsUtf8-drop}
 use Rattle.std.specs.Prelude.{⊤}
 use Rattle.std.specs.Str.{IsCharBoundary}
-use Rattle.liquid_grammar.specs.Rules.{Rule, One, Then, Else, here, instead, Repeated, ends, more, Seen, Where, Text, Ahead, Not, Nothing, Placed, At, Byte, Optional, ◌▷◌, ◌◁◌}
-use Rattle.liquid_grammar.specs.Spans.{Span, IsSlice, AreSlices, spans_of_all}
+use Rattle.liquid_grammar.specs.meaning.Rules.{Rule, One, Then, Else, here, instead, Repeated, ends, more, Seen, Where, Text, Ahead, Not, Nothing, Placed, At, Byte, Optional, ◌▷◌, ◌◁◌}
+use Rattle.liquid_grammar.specs.laws.Spans.{Span, IsSlice, AreSlices, spans_of_all}
 
 -- what is left is an end of the text, and text
 pub record Reaches (s rest : List ℕ) : Type 0 where

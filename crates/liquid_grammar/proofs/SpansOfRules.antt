@@ -5,13 +5,13 @@ use Rattle.std.proofs.lemmas.Str.{IsCharBoundary-before_ascii, IsUtf8-drop}
 use Rattle.std.proofs.Math.Seq.{get_or-append_seam}
 use Rattle.std.proofs.Common.{drop_at}
 use Rattle.std.specs.Char.{is_ascii_digit}
-use Rattle.liquid_grammar.specs.Bytes.{is_white, starts_name, is_word}
-use Rattle.liquid_grammar.specs.Rules.{Rule, One, Then, Repeated, ends, more, Where, Text}
-use Rattle.liquid_grammar.specs.Grammar.{White, Braces, Opener, Closer, NameByte, Identifier, Name, is_literal_word}
-use Rattle.liquid_grammar.specs.Literals.{decimal, integer, text_literal, word_literal, Word, Quoted, Digits, Whole, Fractional, Number, LiteralRule}
-use Rattle.liquid_grammar.specs.Values.{Value, Index, named_index, gather, placed_literal, placed_variable, placed_bracket, Bracketed, IndexOver, VariableOver, ValueOver, Nested, ValueRule, IndexRule, VariableRule}
-use Rattle.liquid_grammar.specs.Tokens.{positional, keyword, range, chain, symbol, arguments_of, is_double, is_single, ArgumentRule, Behind, Arguments, FilterRule, ChainRule, Dots, RangeRule, SymbolRule, TokenRule, ExpressionRule, TagRule}
-use Rattle.liquid_grammar.specs.Spans.{Span, spans_of_all, value_spans, index_spans, indexes_spans, argument_spans, filter_spans, chain_spans, token_spans, tag_spans}
+use Rattle.liquid_grammar.specs.meaning.Bytes.{is_white, starts_name, is_word}
+use Rattle.liquid_grammar.specs.meaning.Rules.{Rule, One, Then, Repeated, ends, more, Where, Text}
+use Rattle.liquid_grammar.specs.meaning.Grammar.{White, Braces, Opener, Closer, NameByte, Identifier, Name, is_literal_word}
+use Rattle.liquid_grammar.specs.meaning.Literals.{decimal, integer, text_literal, word_literal, Word, Quoted, Digits, Whole, Fractional, Number, LiteralRule}
+use Rattle.liquid_grammar.specs.meaning.Values.{Value, Index, named_index, gather, placed_literal, placed_variable, placed_bracket, Bracketed, IndexOver, VariableOver, ValueOver, Nested, ValueRule, IndexRule, VariableRule}
+use Rattle.liquid_grammar.specs.meaning.Tokens.{positional, keyword, range, chain, symbol, arguments_of, is_double, is_single, ArgumentRule, Behind, Arguments, FilterRule, ChainRule, Dots, RangeRule, SymbolRule, TokenRule, ExpressionRule, TagRule}
+use Rattle.liquid_grammar.specs.laws.Spans.{Span, spans_of_all, value_spans, index_spans, indexes_spans, argument_spans, filter_spans, chain_spans, token_spans, tag_spans}
 use Rattle.liquid_grammar.proofs.TextLemmas.{is_white_ascii}
 use Rattle.liquid_grammar.proofs.SpanLemmas.{Spans, Reaches, no_spans, after_ascii, spans-run, spans-one, spans-byte, spans-then, spans-else, spans-repeated, spans-seen, spans-where, spans-text, spans-not, spans-ahead, spans-at, spans-right, spans-left, spans-optional}
 

@@ -8,9 +8,9 @@ use Rattle.std.proofs.lemmas.Str.{IsCharBoundary-start, IsCharBoundary-end, IsCh
 use Rattle.std.specs.Char.{is_ascii_digit}
 use Rattle.std.specs.List.{prefix_len}
 use Rattle.std.specs.Str.{IsCharBoundary}
-use Rattle.liquid_grammar.specs.Bytes.{is_white, starts_name, is_word}
-use Rattle.liquid_grammar.specs.Tokens.{is_single, is_double}
-use Rattle.liquid_grammar.specs.Steps.{is_name_byte, name_len}
+use Rattle.liquid_grammar.specs.meaning.Bytes.{is_white, starts_name, is_word}
+use Rattle.liquid_grammar.specs.meaning.Tokens.{is_single, is_double}
+use Rattle.liquid_grammar.specs.steps.Steps.{is_name_byte, name_len}
 
 -- a byte that is not 0 was read inside the text
 pub within_from_byte : (xs : List ℕ) (i : ℕ) → 0 < get_or xs i 0 → i < length xs

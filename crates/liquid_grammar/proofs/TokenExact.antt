@@ -2,14 +2,14 @@
 use Rattle.std.proofs.Common.{ℕ, zero, suc, true, not, ◌||◌, ◌==◌, ◌∷◌, length}
 use Rattle.std.proofs.lemmas.Option.{none-some}
 use Rattle.std.specs.Char.{is_ascii_digit}
-use Rattle.liquid_grammar.specs.Bytes.{starts_name}
-use Rattle.liquid_grammar.specs.Rules.{Rule, One, Repeated, Byte, Optional, ◌▷◌, ◌◁◌}
-use Rattle.liquid_grammar.specs.Grammar.{White, Identifier, Name, is_literal_word}
-use Rattle.liquid_grammar.specs.Literals.{word_literal, text_literal, integer, decimal, Word, Quoted, Digits, Whole, Fractional, Number, LiteralRule}
-use Rattle.liquid_grammar.specs.Values.{Value, named_index, placed_literal, placed_variable, placed_bracket, OpenBracket, CloseBracket, Bracketed, IndexOver, VariableOver, ValueOver, Nested, ValueRule}
-use Rattle.liquid_grammar.specs.Tokens.{positional, keyword, range, chain, symbol, arguments_of, is_double, is_single, ArgumentRule, Behind, Arguments, FilterRule, ChainRule, Dots, RangeStart, RangeEnd, RangeRule, SymbolRule, TokenRule, ExpressionStart, ExpressionRule, TagStart, TagRule}
-use Rattle.liquid_grammar.specs.Steps.{Reader, right, white}
-use Rattle.liquid_grammar.specs.TokenSteps as read
+use Rattle.liquid_grammar.specs.meaning.Bytes.{starts_name}
+use Rattle.liquid_grammar.specs.meaning.Rules.{Rule, One, Repeated, Byte, Optional, ◌▷◌, ◌◁◌}
+use Rattle.liquid_grammar.specs.meaning.Grammar.{White, Identifier, Name, is_literal_word}
+use Rattle.liquid_grammar.specs.meaning.Literals.{word_literal, text_literal, integer, decimal, Word, Quoted, Digits, Whole, Fractional, Number, LiteralRule}
+use Rattle.liquid_grammar.specs.meaning.Values.{Value, named_index, placed_literal, placed_variable, placed_bracket, OpenBracket, CloseBracket, Bracketed, IndexOver, VariableOver, ValueOver, Nested, ValueRule}
+use Rattle.liquid_grammar.specs.meaning.Tokens.{positional, keyword, range, chain, symbol, arguments_of, is_double, is_single, ArgumentRule, Behind, Arguments, FilterRule, ChainRule, Dots, RangeStart, RangeEnd, RangeRule, SymbolRule, TokenRule, ExpressionStart, ExpressionRule, TagStart, TagRule}
+use Rattle.liquid_grammar.specs.steps.Steps.{Reader, right, white}
+use Rattle.liquid_grammar.specs.steps.TokenSteps as read
 use Rattle.liquid_grammar.proofs.Exact.{Exact, Shrinks, exact-one, exact-byte, exact-both, exact-either, exact-seen, exact-right, exact-left, exact-only, exact-text, shrinks-one, shrinks-first, shrinks-second, shrinks-seen, shrinks-else, shrinks-text}
 use Rattle.liquid_grammar.proofs.GrammarExact.{shrinks-opener, exact-white, exact-run, exact-identifier, exact-name, exact-opener, exact-closer, exact-name_bytes}
 use Rattle.liquid_grammar.proofs.ExactRepeated.{exact-not_ahead, exact-optional, exact-at, exact-repeated}

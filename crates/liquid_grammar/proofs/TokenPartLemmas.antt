@@ -2,15 +2,15 @@
 use Rattle.std.proofs.Common.{◌≡◌, ℕ, ◌-◌, List, ◌++◌, length, take, Option, Some, None, option_map, MatchOption, refl, sym, ap, ◌∙◌, subst}
 use Rattle.std.proofs.lemmas.Option.{same_Some}
 use Rattle.liquid_grammar.specs.declared.parts.TokenText.{TokenText}
-use Rattle.liquid_grammar.specs.Rules.{Begins, Seen, At, here, instead, Repeated, ◌▷◌}
-use Rattle.liquid_grammar.specs.Grammar.{White}
-use Rattle.liquid_grammar.specs.Tokens.{Chain, Token, range, chain, symbol, RangeRule, ChainRule, SymbolRule, TokenRule}
-use Rattle.liquid_grammar.specs.Faults.{Fault, value_fault, range_fault, chain_fault}
-use Rattle.liquid_grammar.specs.Kinds.{Kind, chain_kind}
-use Rattle.liquid_grammar.specs.Meanings.{scan}
-use Rattle.liquid_grammar.specs.Parts.{NoneLeft, First, HasEnds, IsRangeToken, IsChainToken, HasParts, IsToken}
-use Rattle.liquid_grammar.specs.Steps.{both, right, left, white}
-use Rattle.liquid_grammar.specs.TokenSteps.{value, range_start, dots, range_end, ranged, chain_of, symbol_of}
+use Rattle.liquid_grammar.specs.meaning.Rules.{Begins, Seen, At, here, instead, Repeated, ◌▷◌}
+use Rattle.liquid_grammar.specs.meaning.Grammar.{White}
+use Rattle.liquid_grammar.specs.meaning.Tokens.{Chain, Token, range, chain, symbol, RangeRule, ChainRule, SymbolRule, TokenRule}
+use Rattle.liquid_grammar.specs.meaning.Faults.{Fault, value_fault, range_fault, chain_fault}
+use Rattle.liquid_grammar.specs.meaning.Kinds.{Kind, chain_kind}
+use Rattle.liquid_grammar.specs.meaning.Meanings.{scan}
+use Rattle.liquid_grammar.specs.meaning.Parts.{NoneLeft, First, HasEnds, IsRangeToken, IsChainToken, HasParts, IsToken}
+use Rattle.liquid_grammar.specs.steps.Steps.{both, right, left, white}
+use Rattle.liquid_grammar.specs.steps.TokenSteps.{value, range_start, dots, range_end, ranged, chain_of, symbol_of}
 use Rattle.liquid_grammar.proofs.Exact.{none_begins, front_of, before_end, leaves_end}
 use Rattle.liquid_grammar.proofs.GrammarExact.{exact-white}
 use Rattle.liquid_grammar.proofs.TokenExact.{exact-value, exact-range, exact-chain, exact-symbol, exact-token, exact-next_token}

@@ -1,10 +1,10 @@
 -- The rule of values is the rule over itself: how often brackets stand in one another doesn't matter.
 use Rattle.std.proofs.Common.{◌≡◌, ℕ, zero, suc, ◌<◌, ◌≤◌, List, ◌∷◌, length, Option, Some, None, option_map, option_and_then, refl, sym, ap, ◌∙◌, arith, ◌↔◌}
 use Rattle.std.specs.Option.{option_or}
-use Rattle.liquid_grammar.specs.Rules.{Rule, Placed}
-use Rattle.liquid_grammar.specs.Values.{Value, Index, named_index, placed_literal, placed_variable, placed_bracket, ValueOver, ValueRule}
-use Rattle.liquid_grammar.specs.Steps.{Reader, both, seen}
-use Rattle.liquid_grammar.specs.TokenSteps.{at, placed, repeat_turn, repeated_by, repeated, close_bracket, bracketed_over, named, index_over, literal, value_over, value_by, value}
+use Rattle.liquid_grammar.specs.meaning.Rules.{Rule, Placed}
+use Rattle.liquid_grammar.specs.meaning.Values.{Value, Index, named_index, placed_literal, placed_variable, placed_bracket, ValueOver, ValueRule}
+use Rattle.liquid_grammar.specs.steps.Steps.{Reader, both, seen}
+use Rattle.liquid_grammar.specs.steps.TokenSteps.{at, placed, repeat_turn, repeated_by, repeated, close_bracket, bracketed_over, named, index_over, literal, value_over, value_by, value}
 use Rattle.liquid_grammar.proofs.Exact.{Exact, Shrinks, cuts_le}
 use Rattle.liquid_grammar.proofs.GrammarExact.{exact-name}
 use Rattle.liquid_grammar.proofs.TokenExact.{exact-index, exact-nested, exact-value, exact-value_over, shrinks-name, exact-open_bracket, shrinks-open_bracket}

@@ -2,15 +2,15 @@
 use Rattle.std.proofs.Common.{◌≡◌, ℕ, List, ◌∷◌, Option, Some, None, option_map, option_and_then, refl, sym, ap, ap₂, ◌∙◌}
 use Rattle.std.proofs.lemmas.Option.{same_Some, none-some}
 use Rattle.std.specs.Option.{option_or}
-use Rattle.liquid_grammar.specs.Rules.{Placed}
-use Rattle.liquid_grammar.specs.Literals.{Literal}
-use Rattle.liquid_grammar.specs.Values.{Value, Index, gather, placed_literal, placed_variable}
-use Rattle.liquid_grammar.specs.Faults.{Fault, literal_fault, index_fault, indexes_fault, value_fault}
+use Rattle.liquid_grammar.specs.meaning.Rules.{Placed}
+use Rattle.liquid_grammar.specs.meaning.Literals.{Literal}
+use Rattle.liquid_grammar.specs.meaning.Values.{Value, Index, gather, placed_literal, placed_variable}
+use Rattle.liquid_grammar.specs.meaning.Faults.{Fault, literal_fault, index_fault, indexes_fault, value_fault}
 use Rattle.liquid_grammar.specs.declared.fault.Fault.{Fault as CodeFault}
-use Rattle.liquid_grammar.specs.Meanings.{Scanned, scan, faults_of}
-use Rattle.liquid_grammar.specs.Steps.{name}
-use Rattle.liquid_grammar.specs.TokenSteps.{placed, literal, value, variable_over}
-use Rattle.liquid_grammar.specs.BracketSteps.{adds, index, indexes}
+use Rattle.liquid_grammar.specs.meaning.Meanings.{Scanned, scan, faults_of}
+use Rattle.liquid_grammar.specs.steps.Steps.{name}
+use Rattle.liquid_grammar.specs.steps.TokenSteps.{placed, literal, value, variable_over}
+use Rattle.liquid_grammar.specs.steps.BracketSteps.{adds, index, indexes}
 use Rattle.liquid_grammar.proofs.ExactRepeated.{repeated_more, repeated_end}
 use Rattle.liquid_grammar.proofs.TokenExact.{exact-value, exact-index, shrinks-index}
 use Rattle.liquid_grammar.proofs.FlatBrackets.{faults_or}

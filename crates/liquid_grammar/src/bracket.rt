@@ -1,10 +1,10 @@
 //! Brackets inside one another, matched one after the other with a count of those that are open.
 ghost use Rattle.std.specs.Prelude.{◌≡◌, ◌+◌, ◌*◌, ◌^◌, ◌<◌, ◌≤◌, length, Some, IfSome, MatchOption, None};
-ghost use Rattle.liquid_grammar.specs.Faults.{index_fault, deep_fault};
-ghost use Rattle.liquid_grammar.specs.Meanings.{Scans, faults_of};
-ghost use Rattle.liquid_grammar.specs.Steps.{Leaves};
-ghost use Rattle.liquid_grammar.specs.BracketSteps.{going, rank, bracket_index};
-ghost use Rattle.liquid_grammar.specs.TokenSteps as read;
+ghost use Rattle.liquid_grammar.specs.meaning.Faults.{index_fault, deep_fault};
+ghost use Rattle.liquid_grammar.specs.meaning.Meanings.{Scans, faults_of};
+ghost use Rattle.liquid_grammar.specs.steps.Steps.{Leaves};
+ghost use Rattle.liquid_grammar.specs.steps.BracketSteps.{going, rank, bracket_index};
+ghost use Rattle.liquid_grammar.specs.steps.TokenSteps as read;
 
 use crate::fault::{Fault, FaultKind, literal_fault};
 use crate::head::{Head, read_head};
@@ -145,7 +145,7 @@ fn depth_fault<'a>(place: &'a str, depth: usize) -> Option<Fault<'a>>
 }
 
 /// What follows `[` and white space.
-#[tactic(auto, unfolding(crate::specs::TokenSteps::open_bracket))]
+#[tactic(auto, unfolding(crate::specs::steps::TokenSteps::open_bracket))]
 pub(crate) fn open_bracket(s: &str) -> Option<&str>
     ensures value { Leaves result (read.open_bracket s.now) }
     ensures shorter { IfSome result (λ rest. length rest.now < length s.now) }
@@ -154,7 +154,7 @@ pub(crate) fn open_bracket(s: &str) -> Option<&str>
 }
 
 /// What follows white space and `]`.
-#[tactic(auto, unfolding(crate::specs::TokenSteps::close_bracket))]
+#[tactic(auto, unfolding(crate::specs::steps::TokenSteps::close_bracket))]
 pub(crate) fn close_bracket(s: &str) -> Option<&str>
     ensures value { Leaves result (read.close_bracket s.now) }
     ensures shorter { IfSome result (λ rest. length rest.now < length s.now) }

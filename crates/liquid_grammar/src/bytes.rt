@@ -1,6 +1,6 @@
 //! The classes of bytes of the grammar.
 ghost use Rattle.std.specs.Prelude.{◌≡◌, slice_index};
-ghost use Rattle.liquid_grammar.specs.Bytes as spec;
+ghost use Rattle.liquid_grammar.specs.meaning.Bytes as spec;
 
 /// The byte at `index`, or 0 past the end.
 #[inline]

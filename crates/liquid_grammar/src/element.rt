@@ -1,11 +1,11 @@
 //! The elements of a text.
 ghost use Rattle.std.specs.Prelude.{◌≡◌, ℕ, List, [], ◌<◌, ◌++◌, length, Some, IfSome, MatchOption};
-ghost use Rattle.liquid_grammar.specs.Grammar.{Opens};
-ghost use Rattle.liquid_grammar.specs.Cover as spec;
-ghost use Rattle.liquid_grammar.specs.Cover.{IsElement};
-ghost use Rattle.liquid_grammar.specs.Elements.{Means};
-ghost use Rattle.liquid_grammar.specs.Steps as read;
-ghost use Rattle.liquid_grammar.specs.Steps.{Splits};
+ghost use Rattle.liquid_grammar.specs.meaning.Grammar.{Opens};
+ghost use Rattle.liquid_grammar.specs.meaning.Cover as spec;
+ghost use Rattle.liquid_grammar.specs.meaning.Cover.{IsElement};
+ghost use Rattle.liquid_grammar.specs.meaning.Elements.{Means};
+ghost use Rattle.liquid_grammar.specs.steps.Steps as read;
+ghost use Rattle.liquid_grammar.specs.steps.Steps.{Splits};
 
 use crate::fault::Fault;
 use crate::kind::TokenKind;
@@ -106,7 +106,7 @@ fn marked<'a>(s: &'a str) -> (Element<'a>, &'a str)
 }
 
 /// White space and one `{`, and what follows them.
-#[tactic(auto, unfolding(crate::specs::Steps::lone_brace, crate::specs::Steps::white))]
+#[tactic(auto, unfolding(crate::specs::steps::Steps::lone_brace, crate::specs::steps::Steps::white))]
 fn lone_brace(s: &str) -> Option<(&str, &str)>
     ensures { Splits result (read.lone_brace s.now) }
 {

@@ -1,7 +1,7 @@
 //! Faults of literals and brackets, and the number of an integer literal.
 ghost use Rattle.std.specs.Prelude.{◌≡◌, option_map};
-ghost use Rattle.liquid_grammar.specs.Faults as spec;
-ghost use Rattle.liquid_grammar.specs.Meanings.{literal_of, faults_of};
+ghost use Rattle.liquid_grammar.specs.meaning.Faults as spec;
+ghost use Rattle.liquid_grammar.specs.meaning.Meanings.{literal_of, faults_of};
 
 use crate::literal::Literal;
 

@@ -1,12 +1,12 @@
 //! Arguments, filters and chains.
 ghost use Rattle.std.specs.Prelude.{◌≡◌, ◌<◌, ◌≤◌, length, Some, IfSome, option_map};
-ghost use Rattle.liquid_grammar.specs.Tokens as spec;
-ghost use Rattle.liquid_grammar.specs.Faults.{argument_fault, filter_fault, chain_fault, first_fault};
-ghost use Rattle.liquid_grammar.specs.KindMeanings.{FindsKind};
-ghost use Rattle.liquid_grammar.specs.Meanings.{Scans};
-ghost use Rattle.liquid_grammar.specs.Steps.{Splits, Leaves};
-ghost use Rattle.liquid_grammar.specs.Steps as step;
-ghost use Rattle.liquid_grammar.specs.TokenSteps as read;
+ghost use Rattle.liquid_grammar.specs.meaning.Tokens as spec;
+ghost use Rattle.liquid_grammar.specs.meaning.Faults.{argument_fault, filter_fault, chain_fault, first_fault};
+ghost use Rattle.liquid_grammar.specs.meaning.KindMeanings.{FindsKind};
+ghost use Rattle.liquid_grammar.specs.meaning.Meanings.{Scans};
+ghost use Rattle.liquid_grammar.specs.steps.Steps.{Splits, Leaves};
+ghost use Rattle.liquid_grammar.specs.steps.Steps as step;
+ghost use Rattle.liquid_grammar.specs.steps.TokenSteps as read;
 
 use crate::fault::Fault;
 use crate::kind::TokenKind;
@@ -61,7 +61,7 @@ fn next_filter<'a>(s: &'a str) -> Option<(Option<Fault<'a>>, &'a str)>
     filter(behind(s, b'|')?)
 }
 
-#[tactic(auto, unfolding(crate::specs::TokenSteps::filter))]
+#[tactic(auto, unfolding(crate::specs::steps::TokenSteps::filter))]
 pub(crate) fn filter<'a>(s: &'a str) -> Option<(Option<Fault<'a>>, &'a str)>
     ensures value { Scans filter_fault result (read.filter s.now) }
     ensures shorter { IfSome result (λ x. length x.1.now < length s.now) }
@@ -73,7 +73,7 @@ pub(crate) fn filter<'a>(s: &'a str) -> Option<(Option<Fault<'a>>, &'a str)>
     }
 }
 
-#[tactic(auto, unfolding(crate::specs::TokenSteps::arguments))]
+#[tactic(auto, unfolding(crate::specs::steps::TokenSteps::arguments))]
 fn arguments<'a>(s: &'a str) -> Option<(Option<Fault<'a>>, &'a str)>
     ensures value { Scans (first_fault argument_fault) result (read.arguments s.now) }
     ensures shorter { IfSome result (λ x. length x.1.now < length s.now) }
@@ -104,7 +104,7 @@ fn next_argument<'a>(s: &'a str) -> Option<(Option<Fault<'a>>, &'a str)>
     argument(behind(s, b',')?)
 }
 
-#[tactic(auto, unfolding(crate::specs::TokenSteps::argument))]
+#[tactic(auto, unfolding(crate::specs::steps::TokenSteps::argument))]
 pub(crate) fn argument<'a>(s: &'a str) -> Option<(Option<Fault<'a>>, &'a str)>
     ensures value { Scans argument_fault result (read.argument s.now) }
     ensures shorter { IfSome result (λ x. length x.1.now < length s.now) }
@@ -123,7 +123,7 @@ fn keyword<'a>(s: &'a str) -> Option<(Option<Fault<'a>>, &'a str)>
 }
 
 /// The identifier before `:`, and what follows the colon and its white space.
-#[tactic(auto, unfolding(crate::specs::TokenSteps::keyword_start))]
+#[tactic(auto, unfolding(crate::specs::steps::TokenSteps::keyword_start))]
 pub(crate) fn keyword_start(s: &str) -> Option<(&str, &str)>
     ensures value { Splits result (read.keyword_start s.now) }
     ensures shorter { IfSome result (λ x. length x.1.now < length s.now) }

@@ -1,9 +1,9 @@
 //! What a value begins with: a literal, or the name of a variable.
 ghost use Rattle.std.specs.Prelude.{◌≡◌, ◌<◌, length, option_and_then, IfSome};
-ghost use Rattle.liquid_grammar.specs.Heads.{literal_in, name_in, IsHeadOf};
-ghost use Rattle.liquid_grammar.specs.Meanings.{FindsLiteral};
-ghost use Rattle.liquid_grammar.specs.Steps as step;
-ghost use Rattle.liquid_grammar.specs.TokenSteps as read;
+ghost use Rattle.liquid_grammar.specs.steps.Heads.{literal_in, name_in, IsHeadOf};
+ghost use Rattle.liquid_grammar.specs.meaning.Meanings.{FindsLiteral};
+ghost use Rattle.liquid_grammar.specs.steps.Steps as step;
+ghost use Rattle.liquid_grammar.specs.steps.TokenSteps as read;
 
 use crate::literal::{Literal, text_or_number, word_literal};
 use crate::name::{identifier, is_literal_word};

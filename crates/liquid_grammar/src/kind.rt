@@ -1,10 +1,10 @@
 //! Kinds of token.
 ghost use Rattle.std.specs.Prelude.{◌≡◌, option_map, MatchOption};
-ghost use Rattle.liquid_grammar.specs.Rules.{Begins};
-ghost use Rattle.liquid_grammar.specs.Tokens.{ChainRule, TokenRule};
-ghost use Rattle.liquid_grammar.specs.Kinds.{identifier_of};
-ghost use Rattle.liquid_grammar.specs.KindMeanings.{token_kind_of, HasKind, HasChainKind, FindsKind};
-ghost use Rattle.liquid_grammar.specs.TokenSteps as read;
+ghost use Rattle.liquid_grammar.specs.meaning.Rules.{Begins};
+ghost use Rattle.liquid_grammar.specs.meaning.Tokens.{ChainRule, TokenRule};
+ghost use Rattle.liquid_grammar.specs.meaning.Kinds.{identifier_of};
+ghost use Rattle.liquid_grammar.specs.meaning.KindMeanings.{token_kind_of, HasKind, HasChainKind, FindsKind};
+ghost use Rattle.liquid_grammar.specs.steps.TokenSteps as read;
 
 use crate::filter::chain_and_kind;
 use crate::literal::Literal;

@@ -1,15 +1,15 @@
 //! Laws of the definitions: each is the clause of a function that does nothing.
 ghost use Rattle.std.specs.Prelude.{◌≡◌, ℕ, List, ◌<◌, length, drop, ◌↔◌};
-ghost use Rattle.liquid_grammar.specs.Grammar.{White, Opens, Identifier};
-ghost use Rattle.liquid_grammar.specs.Literals.{LiteralRule};
-ghost use Rattle.liquid_grammar.specs.Values.{Value, ValueOver, ValueRule, IndexRule, CloseBracket};
-ghost use Rattle.liquid_grammar.specs.Tokens.{Chain, Tag, ArgumentRule, FilterRule, ChainRule, TokenRule, ExpressionRule, TagRule};
-ghost use Rattle.liquid_grammar.specs.Matches.{Single, Takes};
-ghost use Rattle.liquid_grammar.specs.Cover.{Element, raw, IsElement, Cover, OnlyCover, joined};
-ghost use Rattle.liquid_grammar.specs.Elements.{Taken};
-ghost use Rattle.liquid_grammar.specs.Rules.{Begins, Repeated, ◌▷◌};
-ghost use Rattle.liquid_grammar.specs.Parts.{IsChain};
-ghost use Rattle.liquid_grammar.specs.Spans.{AreSlices, chain_spans, tag_spans};
+ghost use Rattle.liquid_grammar.specs.meaning.Grammar.{White, Opens, Identifier};
+ghost use Rattle.liquid_grammar.specs.meaning.Literals.{LiteralRule};
+ghost use Rattle.liquid_grammar.specs.meaning.Values.{Value, ValueOver, ValueRule, IndexRule, CloseBracket};
+ghost use Rattle.liquid_grammar.specs.meaning.Tokens.{Chain, Tag, ArgumentRule, FilterRule, ChainRule, TokenRule, ExpressionRule, TagRule};
+ghost use Rattle.liquid_grammar.specs.meaning.Matches.{Single, Takes};
+ghost use Rattle.liquid_grammar.specs.meaning.Cover.{Element, raw, IsElement, Cover, OnlyCover, joined};
+ghost use Rattle.liquid_grammar.specs.meaning.Elements.{Taken};
+ghost use Rattle.liquid_grammar.specs.meaning.Rules.{Begins, Repeated, ◌▷◌};
+ghost use Rattle.liquid_grammar.specs.meaning.Parts.{IsChain};
+ghost use Rattle.liquid_grammar.specs.laws.Spans.{AreSlices, chain_spans, tag_spans};
 
 /// Each text has one cover.
 #[tactic(auto, using(crate::proofs::CoverLemmas::cover_of))]

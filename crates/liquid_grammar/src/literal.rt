@@ -2,10 +2,10 @@
 ghost use Rattle.std.specs.Prelude.{◌≡◌, ◌<◌, ◌≤◌, ◌==◌, not, length, Some, IfSome};
 ghost use Rattle.std.specs.List.{prefix_len};
 ghost use Rattle.std.specs.Char.{is_ascii_digit};
-ghost use Rattle.liquid_grammar.specs.Literals as spec;
-ghost use Rattle.liquid_grammar.specs.Meanings.{FindsLiteral, literal_of};
-ghost use Rattle.liquid_grammar.specs.Steps.{Splits, Leaves};
-ghost use Rattle.liquid_grammar.specs.TokenSteps as read;
+ghost use Rattle.liquid_grammar.specs.meaning.Literals as spec;
+ghost use Rattle.liquid_grammar.specs.meaning.Meanings.{FindsLiteral, literal_of};
+ghost use Rattle.liquid_grammar.specs.steps.Steps.{Splits, Leaves};
+ghost use Rattle.liquid_grammar.specs.steps.TokenSteps as read;
 
 use crate::bytes::{byte_at, starts_name};
 use crate::text::{before, eat};
@@ -59,7 +59,7 @@ fn text_literal(s: &str) -> Option<(&str, &str)>
 }
 
 /// The text between two quotes.
-#[tactic(auto, unfolding(crate::specs::TokenSteps::quoted))]
+#[tactic(auto, unfolding(crate::specs::steps::TokenSteps::quoted))]
 fn quoted(s: &str, quote: u8) -> Option<(&str, &str)>
     requires { quote < 128 }
     ensures value { Splits result (read.quoted quote s.now) }
@@ -77,7 +77,7 @@ fn quoted_len(bytes: &[u8], quote: u8) -> usize
     bytes.iter().take_while(|b| **b != quote).count()
 }
 
-#[tactic(auto, unfolding(crate::specs::TokenSteps::number))]
+#[tactic(auto, unfolding(crate::specs::steps::TokenSteps::number))]
 fn number(s: &str) -> Option<(Literal, &str)>
     ensures value { FindsLiteral result (read.number s.now) }
     ensures shorter { IfSome result (λ x. length x.1.now < length s.now) }
@@ -96,7 +96,7 @@ fn number(s: &str) -> Option<(Literal, &str)>
     }
 }
 
-#[tactic(auto, unfolding(crate::specs::TokenSteps::fractional))]
+#[tactic(auto, unfolding(crate::specs::steps::TokenSteps::fractional))]
 fn fractional(s: &str) -> Option<(&str, &str)>
     ensures value { Splits result (read.fractional s.now) }
     ensures shorter { IfSome result (λ x. length x.1.now < length s.now) }
@@ -106,7 +106,7 @@ fn fractional(s: &str) -> Option<(&str, &str)>
     Some((before(s, rest), rest))
 }
 
-#[tactic(auto, unfolding(crate::specs::TokenSteps::whole))]
+#[tactic(auto, unfolding(crate::specs::steps::TokenSteps::whole))]
 fn whole(s: &str) -> Option<(&str, &str)>
     ensures value { Splits result (read.whole s.now) }
     ensures shorter { IfSome result (λ x. length x.1.now < length s.now) }
@@ -115,7 +115,7 @@ fn whole(s: &str) -> Option<(&str, &str)>
     Some((before(s, rest), rest))
 }
 
-#[tactic(auto, unfolding(crate::specs::TokenSteps::sign))]
+#[tactic(auto, unfolding(crate::specs::steps::TokenSteps::sign))]
 fn skip_sign(s: &str) -> &str
     ensures value { Leaves (Some result) (read.sign s.now) }
     ensures shorter { length result.now ≤ length s.now }
@@ -126,7 +126,7 @@ fn skip_sign(s: &str) -> &str
     }
 }
 
-#[tactic(auto, unfolding(crate::specs::TokenSteps::digits))]
+#[tactic(auto, unfolding(crate::specs::steps::TokenSteps::digits))]
 fn digits(s: &str) -> Option<(&str, &str)>
     ensures value { Splits result (read.digits s.now) }
     ensures shorter { IfSome result (λ x. length x.1.now < length s.now) }

@@ -1,12 +1,12 @@
 //! Matches of single rules. Each call takes no memory and no stack that grows with the text.
 ghost use Rattle.std.specs.Prelude.{◌<◌, ◌≤◌, length, IfSome};
-ghost use Rattle.liquid_grammar.specs.Grammar.{White, Identifier};
-ghost use Rattle.liquid_grammar.specs.Literals.{LiteralRule};
-ghost use Rattle.liquid_grammar.specs.Values.{ValueRule, VariableRule, IndexRule};
-ghost use Rattle.liquid_grammar.specs.Tokens.{ArgumentRule, FilterRule, ChainRule, TokenRule, ExpressionRule, TagRule};
-ghost use Rattle.liquid_grammar.specs.Faults.{value_fault, index_fault, argument_fault, filter_fault, chain_fault, token_fault, tag_fault};
-ghost use Rattle.liquid_grammar.specs.Matches.{Matches, Finds};
-ghost use Rattle.liquid_grammar.specs.Meanings.{literal_of};
+ghost use Rattle.liquid_grammar.specs.meaning.Grammar.{White, Identifier};
+ghost use Rattle.liquid_grammar.specs.meaning.Literals.{LiteralRule};
+ghost use Rattle.liquid_grammar.specs.meaning.Values.{ValueRule, VariableRule, IndexRule};
+ghost use Rattle.liquid_grammar.specs.meaning.Tokens.{ArgumentRule, FilterRule, ChainRule, TokenRule, ExpressionRule, TagRule};
+ghost use Rattle.liquid_grammar.specs.meaning.Faults.{value_fault, index_fault, argument_fault, filter_fault, chain_fault, token_fault, tag_fault};
+ghost use Rattle.liquid_grammar.specs.meaning.Matches.{Matches, Finds};
+ghost use Rattle.liquid_grammar.specs.meaning.Meanings.{literal_of};
 
 use crate::fault::Fault;
 use crate::filter::{argument, chain, filter};

@@ -1,13 +1,13 @@
 //! Identifiers and names.
 ghost use Rattle.std.specs.Prelude.{◌≡◌, ◌<◌, ◌≤◌, length, IfSome};
-ghost use Rattle.liquid_grammar.specs.Grammar as spec;
-ghost use Rattle.liquid_grammar.specs.Steps as read;
-ghost use Rattle.liquid_grammar.specs.Steps.{Splits};
+ghost use Rattle.liquid_grammar.specs.meaning.Grammar as spec;
+ghost use Rattle.liquid_grammar.specs.steps.Steps as read;
+ghost use Rattle.liquid_grammar.specs.steps.Steps.{Splits};
 
 use crate::bytes::{byte_at, is_word, starts_name};
 
 /// The longest identifier that the text begins with, and what follows it.
-#[tactic(auto, unfolding(crate::specs::Steps::identifier))]
+#[tactic(auto, unfolding(crate::specs::steps::Steps::identifier))]
 pub(crate) fn identifier(s: &str) -> Option<(&str, &str)>
     ensures value { Splits result (read.identifier s.now) }
     ensures shorter { IfSome result (λ x. length x.1.now < length s.now) }
@@ -21,7 +21,7 @@ pub(crate) fn identifier(s: &str) -> Option<(&str, &str)>
 }
 
 /// An identifier that is no literal word.
-#[tactic(auto, unfolding(crate::specs::Steps::name))]
+#[tactic(auto, unfolding(crate::specs::steps::Steps::name))]
 pub(crate) fn name(s: &str) -> Option<(&str, &str)>
     ensures value { Splits result (read.name s.now) }
     ensures shorter { IfSome result (λ x. length x.1.now < length s.now) }

@@ -1,12 +1,12 @@
 //! Openers and closers.
 ghost use Rattle.std.specs.Prelude.{◌≡◌, ◌<◌, ◌≤◌, length, IfSome};
-ghost use Rattle.liquid_grammar.specs.Steps as read;
-ghost use Rattle.liquid_grammar.specs.Steps.{Leaves};
+ghost use Rattle.liquid_grammar.specs.steps.Steps as read;
+ghost use Rattle.liquid_grammar.specs.steps.Steps.{Leaves};
 
 use crate::text::{eat, skip_white};
 
 /// What follows `{{` or `{%`.
-#[tactic(auto, unfolding(crate::specs::Steps::braces))]
+#[tactic(auto, unfolding(crate::specs::steps::Steps::braces))]
 pub(crate) fn braces(s: &str, kind: u8) -> Option<&str>
     requires { kind < 128 }
     ensures value { Leaves result (read.braces kind s.now) }
@@ -15,7 +15,7 @@ pub(crate) fn braces(s: &str, kind: u8) -> Option<&str>
     eat(eat(s, b'{')?, kind)
 }
 
-#[tactic(auto, unfolding(crate::specs::Steps::dashed_opener))]
+#[tactic(auto, unfolding(crate::specs::steps::Steps::dashed_opener))]
 fn dashed_opener(s: &str, kind: u8) -> Option<&str>
     requires { kind < 128 }
     ensures value { Leaves result (read.dashed_opener kind s.now) }
@@ -25,7 +25,7 @@ fn dashed_opener(s: &str, kind: u8) -> Option<&str>
 }
 
 /// What follows an opener.
-#[tactic(auto, unfolding(crate::specs::Steps::opener))]
+#[tactic(auto, unfolding(crate::specs::steps::Steps::opener))]
 pub(crate) fn opener(s: &str, kind: u8) -> Option<&str>
     requires { kind < 128 }
     ensures value { Leaves result (read.opener kind s.now) }
@@ -37,7 +37,7 @@ pub(crate) fn opener(s: &str, kind: u8) -> Option<&str>
     }
 }
 
-#[tactic(auto, unfolding(crate::specs::Steps::dashed_closer))]
+#[tactic(auto, unfolding(crate::specs::steps::Steps::dashed_closer))]
 fn dashed_closer(s: &str, kind: u8) -> Option<&str>
     requires { kind < 128 }
     ensures value { Leaves result (read.dashed_closer kind s.now) }
@@ -47,7 +47,7 @@ fn dashed_closer(s: &str, kind: u8) -> Option<&str>
 }
 
 /// What follows a closer.
-#[tactic(auto, unfolding(crate::specs::Steps::closer))]
+#[tactic(auto, unfolding(crate::specs::steps::Steps::closer))]
 pub(crate) fn closer(s: &str, kind: u8) -> Option<&str>
     requires { kind < 128 }
     ensures value { Leaves result (read.closer kind s.now) }

@@ -1,11 +1,11 @@
 //! The parts of a matched text, handed out from left to right, so that a builder walks the text once.
 ghost use Rattle.std.specs.Prelude.{◌≡◌, ℕ, false, List, ◌<◌, ◌++◌, length, IfSome, MatchOption};
-ghost use Rattle.liquid_grammar.specs.Rules.{Begins, Repeated, ◌▷◌};
-ghost use Rattle.liquid_grammar.specs.Grammar.{White};
-ghost use Rattle.liquid_grammar.specs.Values.{Value, Index, CloseBracket, ValueRule, IndexRule};
-ghost use Rattle.liquid_grammar.specs.Tokens.{Argument, Filter, Token, Behind, FilterRule, KeywordStart, KeywordRule, TokenRule};
-ghost use Rattle.liquid_grammar.specs.Parts as part;
-ghost use Rattle.liquid_grammar.specs.Parts.{NoneLeft, First, IsHead, HasHead, IsIndex, IsFilter, ArgumentsFrom, IsArgument, HasParts, IsToken};
+ghost use Rattle.liquid_grammar.specs.meaning.Rules.{Begins, Repeated, ◌▷◌};
+ghost use Rattle.liquid_grammar.specs.meaning.Grammar.{White};
+ghost use Rattle.liquid_grammar.specs.meaning.Values.{Value, Index, CloseBracket, ValueRule, IndexRule};
+ghost use Rattle.liquid_grammar.specs.meaning.Tokens.{Argument, Filter, Token, Behind, FilterRule, KeywordStart, KeywordRule, TokenRule};
+ghost use Rattle.liquid_grammar.specs.meaning.Parts as part;
+ghost use Rattle.liquid_grammar.specs.meaning.Parts.{NoneLeft, First, IsHead, HasHead, IsIndex, IsFilter, ArgumentsFrom, IsArgument, HasParts, IsToken};
 
 use crate::bracket::{self, bracketed};
 use crate::filter::{behind, chain_and_kind, keyword_start};

@@ -1,6 +1,6 @@
 //! Line and column of a place.
 ghost use Rattle.std.specs.Prelude.{◌≡◌};
-ghost use Rattle.liquid_grammar.specs.Place as spec;
+ghost use Rattle.liquid_grammar.specs.meaning.Place as spec;
 
 /// The line and the column of the place behind this text, both from 1. Lines are counted by line feeds, columns in characters.
 pub fn line_and_column(front: &str) -> (usize, usize)

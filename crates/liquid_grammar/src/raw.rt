@@ -1,7 +1,7 @@
 //! Raw text.
 ghost use Rattle.std.specs.Prelude.{◌≡◌, ◌-◌, ◌<◌, ◌≤◌, length, IfSome};
-ghost use Rattle.liquid_grammar.specs.Steps as read;
-ghost use Rattle.liquid_grammar.specs.Steps.{EndsRaw};
+ghost use Rattle.liquid_grammar.specs.steps.Steps as read;
+ghost use Rattle.liquid_grammar.specs.steps.Steps.{EndsRaw};
 ghost use Rattle.memchr.specs.Find.{IsFirst, Passes, is_byte};
 
 use crate::bytes::{byte_at, is_white};

@@ -1,9 +1,9 @@
 //! Steps over a text.
 ghost use Rattle.std.specs.Prelude.{◌≡◌, ◌-◌, ◌<◌, ◌≤◌, ◌++◌, length, take, drop, Some, IfSome};
 ghost use Rattle.std.specs.List.{prefix_len};
-ghost use Rattle.liquid_grammar.specs.Bytes as class;
-ghost use Rattle.liquid_grammar.specs.Steps as read;
-ghost use Rattle.liquid_grammar.specs.Steps.{Splits, Leaves};
+ghost use Rattle.liquid_grammar.specs.meaning.Bytes as class;
+ghost use Rattle.liquid_grammar.specs.steps.Steps as read;
+ghost use Rattle.liquid_grammar.specs.steps.Steps.{Splits, Leaves};
 
 use crate::bytes::is_white;
 
@@ -24,7 +24,7 @@ pub(crate) fn eat(s: &str, byte: u8) -> Option<&str>
 
 /// The white space that the text begins with, and what follows it.
 #[inline]
-#[tactic(auto, unfolding(crate::specs::Steps::white))]
+#[tactic(auto, unfolding(crate::specs::steps::Steps::white))]
 pub(crate) fn split_white(s: &str) -> (&str, &str)
     ensures value { Splits (Some result) (read.white s.now) }
     ensures shorter { length result.1.now ≤ length s.now }

@@ -1,13 +1,13 @@
 //! Tokens, expressions and tags.
 ghost use Rattle.std.specs.Prelude.{◌≡◌, ◌<◌, ◌≤◌, ◌++◌, length, Some, IfSome, option_map};
-ghost use Rattle.liquid_grammar.specs.Tokens as spec;
-ghost use Rattle.liquid_grammar.specs.Faults.{range_fault, token_fault, first_fault};
-ghost use Rattle.liquid_grammar.specs.KindMeanings.{FindsKind};
-ghost use Rattle.liquid_grammar.specs.Meanings.{Scans, SeesTag, SeesChain};
-ghost use Rattle.liquid_grammar.specs.Parts.{HasEnds};
-ghost use Rattle.liquid_grammar.specs.Steps.{Splits, Leaves};
-ghost use Rattle.liquid_grammar.specs.Steps as step;
-ghost use Rattle.liquid_grammar.specs.TokenSteps as read;
+ghost use Rattle.liquid_grammar.specs.meaning.Tokens as spec;
+ghost use Rattle.liquid_grammar.specs.meaning.Faults.{range_fault, token_fault, first_fault};
+ghost use Rattle.liquid_grammar.specs.meaning.KindMeanings.{FindsKind};
+ghost use Rattle.liquid_grammar.specs.meaning.Meanings.{Scans, SeesTag, SeesChain};
+ghost use Rattle.liquid_grammar.specs.meaning.Parts.{HasEnds};
+ghost use Rattle.liquid_grammar.specs.steps.Steps.{Splits, Leaves};
+ghost use Rattle.liquid_grammar.specs.steps.Steps as step;
+ghost use Rattle.liquid_grammar.specs.steps.TokenSteps as read;
 
 use crate::bytes::byte_at;
 use crate::fault::Fault;
@@ -29,7 +29,7 @@ pub(crate) struct TagMatch<'a> {
 }
 
 /// The tag that the text begins with.
-#[tactic(auto, unfolding(crate::specs::TokenSteps::tag))]
+#[tactic(auto, unfolding(crate::specs::steps::TokenSteps::tag))]
 pub(crate) fn tag<'a>(s: &'a str) -> Option<TagMatch<'a>>
     ensures value { SeesTag (option_map (λ t. (t.name, t.tokens, t.fault, t.rest)) result) (read.tag s.now) }
     ensures place { IfSome result (λ t. t.place.now ≡ t.name.now ++ t.tokens.now) }
@@ -47,7 +47,7 @@ pub(crate) fn tag<'a>(s: &'a str) -> Option<TagMatch<'a>>
 }
 
 /// The text from the name on of the tag that may begin here, the name, and what follows it.
-#[tactic(auto, unfolding(crate::specs::TokenSteps::tag_start), using(crate::proofs::PartLemmas::identifier_joined))]
+#[tactic(auto, unfolding(crate::specs::steps::TokenSteps::tag_start), using(crate::proofs::PartLemmas::identifier_joined))]
 fn tag_start(s: &str) -> Option<(&str, &str, &str)>
     ensures value { Splits (option_map (λ p. (p.1, p.2)) result) (read.tag_start s.now) }
     ensures place { IfSome result (λ p. p.0.now ≡ p.1.now ++ p.2.now) }
@@ -61,7 +61,7 @@ fn tag_start(s: &str) -> Option<(&str, &str, &str)>
 /// The expression that the text begins with: the text from its chain on, the chain's kind, its first fault, and what
 /// follows it.
 #[inline(always)]
-#[tactic(auto, unfolding(crate::specs::TokenSteps::full_expression, crate::specs::TokenSteps::chain_of))]
+#[tactic(auto, unfolding(crate::specs::steps::TokenSteps::full_expression, crate::specs::steps::TokenSteps::chain_of))]
 pub(crate) fn expression<'a>(
     s: &'a str,
 ) -> Option<(&'a str, TokenKind<'a>, Option<Fault<'a>>, &'a str)>
@@ -74,7 +74,7 @@ pub(crate) fn expression<'a>(
     Some((start, kind, fault, closer(skip_white(rest), b'}')?))
 }
 
-#[tactic(auto, unfolding(crate::specs::TokenSteps::expression_start))]
+#[tactic(auto, unfolding(crate::specs::steps::TokenSteps::expression_start))]
 fn expression_start(s: &str) -> Option<&str>
     ensures value { Leaves result (read.expression_start s.now) }
     ensures shorter { IfSome result (λ rest. length rest.now < length s.now) }
@@ -103,7 +103,7 @@ fn next_token<'a>(s: &'a str) -> Option<(Option<Fault<'a>>, &'a str)>
     token(skip_white(s))
 }
 
-#[tactic(auto, unfolding(crate::specs::TokenSteps::token))]
+#[tactic(auto, unfolding(crate::specs::steps::TokenSteps::token))]
 pub(crate) fn token<'a>(s: &'a str) -> Option<(Option<Fault<'a>>, &'a str)>
     ensures value { Scans token_fault result (read.token s.now) }
     ensures shorter { IfSome result (λ x. length x.1.now < length s.now) }
@@ -140,7 +140,7 @@ pub(crate) fn range_parts<'a>(s: &'a str) -> Option<(&'a str, &'a str, Option<Fa
     Some((start, stop, first.or(second), rest))
 }
 
-#[tactic(auto, unfolding(crate::specs::TokenSteps::range_start))]
+#[tactic(auto, unfolding(crate::specs::steps::TokenSteps::range_start))]
 fn range_start(s: &str) -> Option<&str>
     ensures value { Leaves result (read.range_start s.now) }
     ensures shorter { IfSome result (λ rest. length rest.now < length s.now) }
@@ -148,7 +148,7 @@ fn range_start(s: &str) -> Option<&str>
     Some(skip_white(eat(s, b'(')?))
 }
 
-#[tactic(auto, unfolding(crate::specs::TokenSteps::range_end))]
+#[tactic(auto, unfolding(crate::specs::steps::TokenSteps::range_end))]
 fn range_end(s: &str) -> Option<&str>
     ensures value { Leaves result (read.range_end s.now) }
     ensures shorter { IfSome result (λ rest. length rest.now < length s.now) }
@@ -156,7 +156,7 @@ fn range_end(s: &str) -> Option<&str>
     eat(skip_white(s), b')')
 }
 
-#[tactic(auto, unfolding(crate::specs::TokenSteps::dots))]
+#[tactic(auto, unfolding(crate::specs::steps::TokenSteps::dots))]
 fn dots(s: &str) -> Option<&str>
     ensures value { Leaves result (read.dots s.now) }
     ensures shorter { IfSome result (λ rest. length rest.now < length s.now) }
@@ -165,7 +165,7 @@ fn dots(s: &str) -> Option<&str>
 }
 
 /// What follows the longest symbol that stands here.
-#[tactic(auto, unfolding(crate::specs::TokenSteps::symbol_of))]
+#[tactic(auto, unfolding(crate::specs::steps::TokenSteps::symbol_of))]
 pub(crate) fn symbol(s: &str) -> Option<&str>
     ensures value { Leaves result (read.symbol_of s.now) }
     ensures shorter { IfSome result (λ rest. length rest.now < length s.now) }

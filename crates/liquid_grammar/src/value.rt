@@ -1,11 +1,11 @@
 //! Values: literals, and variables with their indexes.
 ghost use Rattle.std.specs.Prelude.{◌≡◌, ◌<◌, ◌≤◌, length, Some, IfSome, option_map};
-ghost use Rattle.liquid_grammar.specs.Values.{gather};
-ghost use Rattle.liquid_grammar.specs.Faults.{value_fault, indexes_fault, index_fault};
-ghost use Rattle.liquid_grammar.specs.KindMeanings.{FindsValueKind};
-ghost use Rattle.liquid_grammar.specs.Meanings.{Scans};
-ghost use Rattle.liquid_grammar.specs.Steps.{Splits, Leaves};
-ghost use Rattle.liquid_grammar.specs.TokenSteps as read;
+ghost use Rattle.liquid_grammar.specs.meaning.Values.{gather};
+ghost use Rattle.liquid_grammar.specs.meaning.Faults.{value_fault, indexes_fault, index_fault};
+ghost use Rattle.liquid_grammar.specs.meaning.KindMeanings.{FindsValueKind};
+ghost use Rattle.liquid_grammar.specs.meaning.Meanings.{Scans};
+ghost use Rattle.liquid_grammar.specs.steps.Steps.{Splits, Leaves};
+ghost use Rattle.liquid_grammar.specs.steps.TokenSteps as read;
 
 use crate::bracket::bracketed;
 use crate::fault::{Fault, literal_fault};
@@ -86,7 +86,7 @@ pub(crate) fn named(s: &str) -> Option<&str>
 }
 
 /// The identifier behind `.`, and what follows it.
-#[tactic(auto, unfolding(crate::specs::TokenSteps::named))]
+#[tactic(auto, unfolding(crate::specs::steps::TokenSteps::named))]
 pub(crate) fn named_index(s: &str) -> Option<(&str, &str)>
     ensures value { Splits result (read.named s.now) }
     ensures shorter { IfSome result (λ x. length x.1.now < length s.now) }

@@ -6,12 +6,12 @@ use Rattle.std.proofs.lemmas.List.{map-append}
 use Rattle.std.proofs.lemmas.Simd.{map-map}
 use Rattle.serde_json.specs.Data as json
 use Rattle.liquid_error.specs.declared.error.Error.{Error}
-use Rattle.liquid_error.specs.Refusal.{Refusal, ok_then}
-use Rattle.liquid_error.specs.Told.{told, Gives}
-use Rattle.liquid_value.specs.Tree.{Tree, Items, no_items, item, Members, no_members, member}
-use Rattle.liquid_value.specs.View.{view, items_of, items_view, members_view, entry_view}
+use Rattle.liquid_error.specs.meaning.Refusal.{Refusal, ok_then}
+use Rattle.liquid_error.specs.meaning.Told.{told, Gives}
+use Rattle.liquid_value.specs.meaning.Tree.{Tree, Items, no_items, item, Members, no_members, member}
+use Rattle.liquid_value.specs.meaning.View.{view, items_of, items_view, members_view, entry_view}
 use Rattle.liquid_value.specs.declared.value.Value.{Value}
-use Rattle.liquid_json.specs.Given.{value_given, items_given, members_given}
+use Rattle.liquid_json.specs.meaning.Given.{value_given, items_given, members_given}
 use Rattle.liquid_json.proofs.Collected.{named}
 
 abbrev Entry : Type 0

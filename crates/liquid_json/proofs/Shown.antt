@@ -4,11 +4,11 @@ use Rattle.std.proofs.lemmas.Simd.{map-map}
 use Rattle.serde_json.specs.Data as json
 use Rattle.serde_json.specs.View.{view as json_view, items_of, members_view as json_members}
 use Rattle.serde_json.specs.declared.value.Value.{Value as Json}
-use Rattle.liquid_value.specs.View.{view, items_view, members_view}
+use Rattle.liquid_value.specs.meaning.View.{view, items_view, members_view}
 use Rattle.liquid_value.specs.declared.value.Value.{Value}
 use Rattle.liquid_json.proofs.Collected.{named}
-use Rattle.liquid_json.specs.Named.{json_entry, shown_entry}
-use Rattle.liquid_json.specs.Shown.{value_shown, items_shown, members_shown}
+use Rattle.liquid_json.specs.steps.Named.{json_entry, shown_entry}
+use Rattle.liquid_json.specs.meaning.Shown.{value_shown, items_shown, members_shown}
 
 pub items_shown-map : (vs : List Value) → items_shown (items_view vs) ≡ items_of (map (λ v. value_shown (view v)) vs)
 items_shown-map [] = refl

@@ -1,3 +1,2 @@
-pub mod Given
-pub mod Shown
-pub mod Named
+pub mod meaning
+pub mod steps

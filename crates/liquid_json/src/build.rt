@@ -4,7 +4,7 @@ ghost use Rattle.std.specs.List.Sorted.{IsStrictlySortedBy};
 ghost use Rattle.std.specs.Map.{keys_of};
 ghost use Rattle.std.specs.String.{string_cmp};
 ghost use Rattle.serde_json.specs.View.{members_view as json_members};
-ghost use Rattle.liquid_value.specs.View.{members_view};
+ghost use Rattle.liquid_value.specs.meaning.View.{members_view};
 
 use liquid_value::{Object, Value};
 use serde_json::{Map, Value as Json};

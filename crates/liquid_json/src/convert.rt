@@ -1,9 +1,9 @@
 //! JSON as values, from its kinds to the kinds of values.
 ghost use Rattle.std.specs.Prelude.{◌≡◌, IfOk, map, string_bytes};
 ghost use Rattle.serde_json.specs.View.{view as json_view, items_view as json_items, members_view as json_members};
-ghost use Rattle.liquid_error.specs.Told.{Gives};
-ghost use Rattle.liquid_value.specs.View.{view, items_view, members_view, entry_view};
-ghost use Rattle.liquid_json.specs.Given.{value_given, object_given, items_given, members_given};
+ghost use Rattle.liquid_error.specs.meaning.Told.{Gives};
+ghost use Rattle.liquid_value.specs.meaning.View.{view, items_view, members_view, entry_view};
+ghost use Rattle.liquid_json.specs.meaning.Given.{value_given, object_given, items_given, members_given};
 
 use crate::build::object_in_order;
 use crate::scalar::integer;

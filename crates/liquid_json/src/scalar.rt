@@ -1,9 +1,9 @@
 //! JSON as scalars.
 ghost use Rattle.std.specs.Prelude.{ℤ, string_bytes};
 ghost use Rattle.serde_json.specs.View.{view as json_view, number_view};
-ghost use Rattle.liquid_error.specs.Told.{Gives};
-ghost use Rattle.liquid_scalar.specs.Scalar.{scal};
-ghost use Rattle.liquid_json.specs.Given.{number_given, scalar_given};
+ghost use Rattle.liquid_error.specs.meaning.Told.{Gives};
+ghost use Rattle.liquid_scalar.specs.meaning.Scalar.{scal};
+ghost use Rattle.liquid_json.specs.meaning.Given.{number_given, scalar_given};
 
 use liquid_error::{Error, Result};
 use liquid_scalar::Scalar;

@@ -4,10 +4,10 @@ ghost use Rattle.std.specs.List.Sorted.{IsStrictlySortedBy};
 ghost use Rattle.std.specs.Map.{keys_of};
 ghost use Rattle.std.specs.String.{string_cmp};
 ghost use Rattle.serde_json.specs.View.{view as json_view, items_view as json_items, members_view as json_members};
-ghost use Rattle.liquid_scalar.specs.Scalar.{scal};
-ghost use Rattle.liquid_value.specs.View.{view, items_view, members_view};
-ghost use Rattle.liquid_json.specs.Shown.{value_shown, scalar_shown, text_shown, items_shown, members_shown};
-ghost use Rattle.liquid_json.specs.Named.{shown_entry, json_entry};
+ghost use Rattle.liquid_scalar.specs.meaning.Scalar.{scal};
+ghost use Rattle.liquid_value.specs.meaning.View.{view, items_view, members_view};
+ghost use Rattle.liquid_json.specs.meaning.Shown.{value_shown, scalar_shown, text_shown, items_shown, members_shown};
+ghost use Rattle.liquid_json.specs.steps.Named.{shown_entry, json_entry};
 
 use crate::build::map_in_order;
 use liquid_scalar::Scalar;

@@ -2,15 +2,15 @@
 use Rattle.std.proofs.Common.{◌≡◌, ℕ, Bool, false, List, [], ◌∷◌, ◌++◌, Option, None, Some, Bor, refl, sym, ap, ◌∙◌, subst}
 use Rattle.std.specs.Prelude.{option_map}
 use Rattle.liquid_grammar.specs.declared.parts.ArgumentStart.{ArgumentStart}
-use Rattle.liquid_grammar.specs.Faults.{argument_fault, first_fault, value_fault}
-use Rattle.liquid_grammar.specs.Parts.{NoneLeft, First, IsArgument, ArgumentsFrom, argument_by}
-use Rattle.liquid_grammar.specs.Tokens.{Argument}
-use Rattle.liquid_grammar.specs.Values.{Value, ValueRule}
-use Rattle.liquid_plugins.specs.ArgumentsOf.{Arguments}
-use Rattle.liquid_plugins.specs.Expression.{ExpressionShape}
-use Rattle.liquid_plugins.specs.ExpressionOf.{expression_of}
+use Rattle.liquid_grammar.specs.meaning.Faults.{argument_fault, first_fault, value_fault}
+use Rattle.liquid_grammar.specs.meaning.Parts.{NoneLeft, First, IsArgument, ArgumentsFrom, argument_by}
+use Rattle.liquid_grammar.specs.meaning.Tokens.{Argument}
+use Rattle.liquid_grammar.specs.meaning.Values.{Value, ValueRule}
+use Rattle.liquid_plugins.specs.meaning.ArgumentsOf.{Arguments}
+use Rattle.liquid_plugins.specs.meaning.Expression.{ExpressionShape}
+use Rattle.liquid_plugins.specs.meaning.ExpressionOf.{expression_of}
 use Rattle.liquid_plugins.specs.declared.expression.Expression.{Expression}
-use Rattle.liquid_parser.specs.Handed.{arguments_meant, with_argument, expression_meant}
+use Rattle.liquid_parser.specs.meaning.Handed.{arguments_meant, with_argument, expression_meant}
 use Rattle.liquid_parser.proofs.Indexes.{first_none, second_none}
 
 -- arguments in front of others

@@ -1,40 +1,25 @@
 -- What a tag is asked, from the steps of the parser.
-use Rattle.std.proofs.Common.{◌≡◌, ◌+◌, ◌<◌, arith, ℕ, Bool, true, false, List, [], ◌∷◌, ◌++◌, length, Option, Some, None, Result, Ok, Err, refl, sym, ap, ◌∙◌, subst}
-use Rattle.std.specs.Prelude.{IfSome, bytes_eq, map, reverse, nat_lt, if◌then◌else◌, codes}
+use Rattle.std.proofs.Common.{◌≡◌, ◌+◌, ◌<◌, arith, ℕ, true, false, List, [], ◌∷◌, ◌++◌, length, Option, Some, None, Result, Ok, Err, refl, sym, ap, ◌∙◌, subst}
+use Rattle.std.specs.Prelude.{IfSome, bytes_eq, map, reverse, nat_lt, codes}
 use Rattle.std.proofs.lemmas.List.{map_push, reverse-append, length-reverse, length-map}
 use Rattle.std.specs.List.{list_any}
 use Rattle.liquid_error.specs.declared.error.Error.{Error}
-use Rattle.liquid_error.specs.Told.{Gives}
-use Rattle.liquid_error.specs.Refusal.{Refusal, ok_then}
-use Rattle.liquid_grammar.specs.Tokens as token
-use Rattle.liquid_tree.specs.Tree.{NodeShape, tag_node}
-use Rattle.liquid_parser.specs.Handed.{Tokens, handed, place_in, expect_nothing}
-use Rattle.liquid_parser.specs.Lang.{Filters, Lang, Block, parts}
-use Rattle.liquid_parser.specs.Reading.{Open, State, among, placed_at, name_place, entered, tag_read, unknown_tag, refused_at, block_with}
-use Rattle.liquid_parser.specs.Views.{tag_given, begun, outer_read, block_begun, parted, closed}
-
-then_mapped : {E A C D : Type 0} (e : Result E Refusal) (m : Result A Refusal) (f : A → C) (h : C → D)
-    → ok_then e (λ _. ok_then m (λ a. Ok (h (f a)))) ≡ ok_then (ok_then e (λ _. ok_then m (λ a. Ok (f a)))) (λ c. Ok (h c))
-then_mapped (Ok u) (Ok a) f h = refl
-then_mapped (Ok u) (Err r) f h = refl
-then_mapped (Err r) m f h = refl
-
-mapped : {A C D : Type 0} (m : Result A Refusal) (f : A → C) (h : C → D) → ok_then m (λ a. Ok (h (f a))) ≡ ok_then (ok_then m (λ a. Ok (f a))) (λ c. Ok (h c))
-mapped (Ok a) f h = refl
-mapped (Err r) f h = refl
+use Rattle.liquid_error.specs.meaning.Told.{Gives}
+use Rattle.liquid_error.specs.meaning.Refusal.{Refusal, ok_then}
+use Rattle.liquid_grammar.specs.meaning.Tokens as token
+use Rattle.liquid_plugins.specs.meaning.Nodes.{NodeShape}
+use Rattle.liquid_parser.specs.meaning.Handed.{Tokens}
+use Rattle.liquid_parser.specs.meaning.Lang.{Filters, Lang, Block}
+use Rattle.liquid_parser.specs.meaning.Reading.{Open, among, begun, block_begun, closed, entered, name_place, outer_read, parted, refused_at, tag_given, tag_read, unknown_tag}
 
 module _ {F T P B : Type 0} (l : Lang F T P B) (source : List ℕ) (outside : ℕ) (t : token.Tag) (b : Open F T P B) (blocks : List (Open F T P B)) (nodes : List (NodeShape F T B)) where
-  pub end_read : bytes_eq t.0 b.kind.end_name ≡ true → tag_read l source outside (b ∷ blocks) nodes t ≡ ok_then (closed source t b nodes) (λ after. Ok (among blocks after))
-  end_read is =
-      rw is (then_mapped (expect_nothing (handed source t)) (placed_at b.place (b.kind.means.finish b.plan (parts (length b.parts + 1))))
-      (λ made. b.before ++ block_with made (b.parts ++ nodes ∷ []) ∷ []) (λ after. among blocks after))
+  pub end_read : bytes_eq t.0 b.kind.names.end_name ≡ true → tag_read l source outside (b ∷ blocks) nodes t ≡ ok_then (closed source t b nodes) (λ after. Ok (among blocks after))
+  end_read is = rw is refl
 
-  pub divider_read : bytes_eq t.0 b.kind.end_name ≡ false → list_any (bytes_eq t.0) b.kind.means.dividers ≡ true → tag_read l source outside (b ∷ blocks) nodes t ≡ ok_then (parted source t b nodes) (λ b'. Ok (among (b' ∷ blocks) []))
-  divider_read differs is =
-      rw (differs, is) (mapped (placed_at (place_in source (name_place t)) (b.kind.means.divide b.plan t.0 (handed source t)))
-      (λ plan. record b { plan = plan; parts = b.parts ++ nodes ∷ [] }) (λ b'. among (b' ∷ blocks) []))
+  pub divider_read : bytes_eq t.0 b.kind.names.end_name ≡ false → list_any (bytes_eq t.0) b.kind.means.dividers ≡ true → tag_read l source outside (b ∷ blocks) nodes t ≡ ok_then (parted source t b nodes) (λ divided. Ok (among (divided ∷ blocks) []))
+  divider_read differs is = rw (differs, is) refl
 
-  pub other_read : bytes_eq t.0 b.kind.end_name ≡ false → list_any (bytes_eq t.0) b.kind.means.dividers ≡ false → tag_read l source outside (b ∷ blocks) nodes t ≡ outer_read l source outside t (b ∷ blocks) nodes
+  pub other_read : bytes_eq t.0 b.kind.names.end_name ≡ false → list_any (bytes_eq t.0) b.kind.means.dividers ≡ false → tag_read l source outside (b ∷ blocks) nodes t ≡ outer_read l source outside t (b ∷ blocks) nodes
   other_read differs none = rw (differs, none) refl
 
 -- an answer that comes of another
@@ -66,28 +51,17 @@ pub blocks_count : {A C : Type 0} (f : A → C) (xs : List A) → length (revers
 blocks_count f xs = length-reverse (map f xs) ∙ length-map xs f
 
 module _ {F T P B : Type 0} (l : Lang F T P B) (source : List ℕ) (outside : ℕ) (t : token.Tag) (blocks : List (Open F T P B)) (nodes : List (NodeShape F T B)) where
-  pub tag_outer : (make : Filters F → Tokens → Result T Refusal) → l.tags.get t.0 ≡ Some make → outer_read l source outside t blocks nodes ≡ ok_then (tag_given l.filters source t make) (λ n. Ok (among blocks (nodes ++ n ∷ [])))
-  tag_outer make has = rw has (mapped (placed_at (place_in source (name_place t)) (make l.filters (handed source t))) (λ made. tag_node made) (λ n. among blocks (nodes ++ n ∷ [])))
-
-  then_entered : (room : Bool) (kind : Block F P B) (e : Result (State F T P B) Refusal)
-      → (if room then ok_then (placed_at (place_in source (name_place t)) (kind.means.begin l.filters (handed source t))) (λ plan. Ok (entered l source outside kind.means.escapes (record { kind = kind; place = place_in source (name_place t); plan = plan; before = nodes; parts = [] }) blocks)) else e)
-      ≡ (if room then ok_then (begun source t l.filters kind nodes) (λ b. Ok (entered l source outside kind.means.escapes b blocks)) else e)
-  then_entered true kind e =
-      mapped (placed_at (place_in source (name_place t)) (kind.means.begin l.filters (handed source t)))
-      (λ plan. record { kind = kind; place = place_in source (name_place t); plan = plan; before = nodes; parts = [] }) (λ b. entered l source outside kind.means.escapes b blocks)
-  then_entered false kind e = refl
+  pub tag_outer : (make : Filters F → Tokens → Result T Refusal) → l.tags.get t.0 ≡ Some make → outer_read l source outside t blocks nodes ≡ ok_then (tag_given source t l.filters make) (λ n. Ok (among blocks (nodes ++ n ∷ [])))
+  tag_outer make has = rw has refl
 
   pub block_outer : (kind : Block F P B) → l.tags.get t.0 ≡ None → l.blocks.get t.0 ≡ Some kind → outer_read l source outside t blocks nodes ≡ block_begun l source outside t kind blocks nodes
-  block_outer kind none has = rw (none, has) (then_entered (nat_lt (outside + length blocks) 100) kind (Err (refused_at source (codes "Nested too deep") (name_place t))))
+  block_outer kind none has = rw (none, has) refl
 
-  pub unknown_outer : l.tags.get t.0 ≡ None → l.blocks.get t.0 ≡ None → outer_read l source outside t blocks nodes ≡ Err (unknown_tag l source outside t)
+  pub unknown_outer : l.tags.get t.0 ≡ None → l.blocks.get t.0 ≡ None → outer_read l source outside t blocks nodes ≡ Err (unknown_tag l source t)
   unknown_outer none nor = rw (none, nor) refl
 
-  pub room_begun : (kind : Block F P B) → nat_lt (outside + length blocks) 100 ≡ true → block_begun l source outside t kind blocks nodes ≡ ok_then (begun source t l.filters kind nodes) (λ b. Ok (entered l source outside kind.means.escapes b blocks))
+  pub room_begun : (kind : Block F P B) → nat_lt (outside + length blocks) 100 ≡ true → block_begun l source outside t kind blocks nodes ≡ ok_then (begun source t l.filters kind nodes) (λ b. Ok (entered kind.means.escapes b blocks))
   room_begun kind room = rw room refl
 
   pub deep_begun : (kind : Block F P B) → nat_lt (outside + length blocks) 100 ≡ false → block_begun l source outside t kind blocks nodes ≡ Err (refused_at source (codes "Nested too deep") (name_place t))
   deep_begun kind room = rw room refl
-
-  pub entered_plain : (e : Bool) (b : Open F T P B) → e ≡ false → entered l source outside e b blocks ≡ among (b ∷ blocks) []
-  entered_plain e b is = ap (λ x. entered l source outside x b blocks) is

@@ -1,18 +1,18 @@
 -- What the cursor over a block's elements hands out.
 use Rattle.std.proofs.Common.{◌≡◌, ℕ, true, List, [], ◌∷◌, Option, Some, None, Result, Ok, Err, sym, ap, ◌∙◌, subst}
 use Rattle.std.specs.Prelude.{IfSome, if◌then◌else◌, bytes_eq}
-use Rattle.liquid_error.specs.Refusal.{Refusal, ok_then}
-use Rattle.liquid_grammar.specs.Cover.{Element, raw, tag_element, expression, invalid, IsElement, Cover, done}
+use Rattle.liquid_error.specs.meaning.Refusal.{Refusal, ok_then}
+use Rattle.liquid_grammar.specs.meaning.Cover.{Element, raw, tag_element, expression, invalid, IsElement, Cover, done}
 use Rattle.liquid_grammar.proofs.CoverLemmas.{cover_of}
-use Rattle.liquid_grammar.specs.Tokens as token
-use Rattle.liquid_parser.specs.declared.element_cursor.BlockElement.TheVariants as cursor
-use Rattle.liquid_parser.specs.declared.tag_cursor.Tag.{Tag}
-use Rattle.liquid_parser.specs.BlockReading.{or_end, handed_out, behind_first}
-use Rattle.liquid_parser.specs.ElementReading.{element_checked}
-use Rattle.liquid_parser.specs.Elements.{StandsFor}
-use Rattle.liquid_parser.specs.Handed.{handed, expect_nothing}
-use Rattle.liquid_parser.specs.Plugins.{AreTokens}
-use Rattle.liquid_parser.specs.Reading.{unclosed_by}
+use Rattle.liquid_grammar.specs.meaning.Tokens as token
+use Rattle.liquid_parser.specs.declared.cursor.element.BlockElement.TheVariants as cursor
+use Rattle.liquid_parser.specs.declared.cursor.tag.Tag.{Tag}
+use Rattle.liquid_parser.specs.meaning.BlockReading.{or_end, handed_out, behind_first}
+use Rattle.liquid_parser.specs.meaning.ElementReading.{element_checked}
+use Rattle.liquid_parser.specs.meaning.Elements.{StandsFor}
+use Rattle.liquid_parser.specs.meaning.Handed.{handed, expect_nothing}
+use Rattle.liquid_parser.specs.meaning.Plugins.{AreTokens}
+use Rattle.liquid_parser.specs.meaning.Reading.{unclosed_by}
 use Rattle.liquid_parser.proofs.EscapeLemmas.{taken}
 
 -- an element that is an end tag, or is none

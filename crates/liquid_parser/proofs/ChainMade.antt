@@ -3,19 +3,19 @@ use Rattle.std.proofs.Common.{◌≡◌, ℕ, Bool, true, false, List, [], ◌�
 use Rattle.std.specs.Prelude.{option_map, option_and_then, IfSome, IsNone}
 use Rattle.std.specs.Result.{result_ok}
 use Rattle.liquid_error.specs.declared.place.Place.{Place}
-use Rattle.liquid_error.specs.Refusal.{Refusal, ok_then}
+use Rattle.liquid_error.specs.meaning.Refusal.{Refusal, ok_then}
 use Rattle.liquid_grammar.specs.declared.kind.TokenKind.{TokenKind}
 use Rattle.liquid_grammar.specs.declared.parts.TokenParts.TheVariants as parts
-use Rattle.liquid_grammar.specs.Faults.{token_fault, chain_fault}
-use Rattle.liquid_grammar.specs.Tokens as token
-use Rattle.liquid_grammar.specs.Tokens.{ChainRule}
-use Rattle.liquid_plugins.specs.ArgumentsOf.{Arguments}
-use Rattle.liquid_plugins.specs.Chain.{ChainShape}
-use Rattle.liquid_parser.specs.declared.tag_token.TagToken.{TagToken}
-use Rattle.liquid_parser.specs.Cursors.{IsToken, made_by, calls_made, chain_made, expect_filter_chain}
-use Rattle.liquid_parser.specs.Handed.{Token, chain, call_of, expression_meant, arguments_meant}
-use Rattle.liquid_parser.specs.Lang.{Filters}
-use Rattle.liquid_parser.specs.Reading.{filter_refused, filter_or, filters_read, chain_read}
+use Rattle.liquid_grammar.specs.meaning.Faults.{token_fault, chain_fault}
+use Rattle.liquid_grammar.specs.meaning.Tokens as token
+use Rattle.liquid_grammar.specs.meaning.Tokens.{ChainRule}
+use Rattle.liquid_plugins.specs.meaning.ArgumentsOf.{Arguments}
+use Rattle.liquid_plugins.specs.meaning.Chain.{ChainShape}
+use Rattle.liquid_parser.specs.declared.cursor.token.TagToken.{TagToken}
+use Rattle.liquid_parser.specs.meaning.Cursors.{IsToken, made_by, calls_made, chain_made, expect_filter_chain}
+use Rattle.liquid_parser.specs.meaning.Handed.{Token, chain, call_of, expression_meant, arguments_meant}
+use Rattle.liquid_parser.specs.meaning.Lang.{Filters}
+use Rattle.liquid_parser.specs.meaning.Reading.{filter_refused, filter_or, filters_read, chain_read}
 use Rattle.liquid_parser.proofs.ExpectLemmas.{has_parts, shape_of_parts}
 
 ok_of_refused : {F : Type 0} (place : Place) (text : List ℕ) (r : Result F Refusal) → result_ok (filter_refused place text r) ≡ result_ok r

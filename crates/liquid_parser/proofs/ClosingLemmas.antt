@@ -2,15 +2,15 @@
 use Rattle.std.proofs.Common.{◌≡◌, ◌<◌, arith, ℕ, List, [], ◌∷◌, ◌++◌, length, Option, None, Some, Result, Ok, Err, Bor, append_assoc, refl, sym, ap, ◌∙◌, subst}
 use Rattle.std.specs.Prelude.{IfSome, IfOk}
 use Rattle.liquid_error.specs.declared.error.Error.{Error}
-use Rattle.liquid_error.specs.Told.{Gives}
-use Rattle.liquid_error.specs.Refusal.{Refusal, ok_then}
-use Rattle.liquid_grammar.specs.Cover.{Element, IsElement, Cover, done}
+use Rattle.liquid_error.specs.meaning.Told.{Gives}
+use Rattle.liquid_error.specs.meaning.Refusal.{Refusal, ok_then}
+use Rattle.liquid_grammar.specs.meaning.Cover.{Element, IsElement, Cover, done}
 use Rattle.liquid_grammar.proofs.CoverLemmas.{cover_of, joined_cover}
-use Rattle.liquid_tree.specs.Tree.{NodeShape}
-use Rattle.liquid_parser.specs.ElementReading.{element_checked, read_closed}
-use Rattle.liquid_parser.specs.Lang.{Lang}
-use Rattle.liquid_parser.specs.Reading.{State, Open, among, inside, step, ended}
-use Rattle.liquid_parser.specs.Views.{advanced, past_escaped, LeadsTo}
+use Rattle.liquid_plugins.specs.meaning.Nodes.{NodeShape}
+use Rattle.liquid_parser.specs.meaning.ElementReading.{element_checked, read_closed}
+use Rattle.liquid_parser.specs.meaning.Lang.{Lang}
+use Rattle.liquid_parser.specs.meaning.Reading.{State, Open, among, inside, step, ended}
+use Rattle.liquid_parser.specs.steps.Views.{advanced, past_escaped, LeadsTo}
 use Rattle.liquid_parser.proofs.ElementLemmas.{unchecked_step}
 use Rattle.liquid_parser.proofs.EscapeLemmas.{past_then, taken}
 

@@ -2,32 +2,32 @@
 use Rattle.std.proofs.Common.{◌≡◌, ℕ, List, [], ◌∷◌, ◌++◌, Option, Some, None, Result, Ok, Err, Bor, refl, sym, ap, ◌∙◌, subst}
 use Rattle.std.specs.Prelude.{IfSome, codes, option_map}
 use Rattle.std.proofs.lemmas.Bool.{eqb-true}
-use Rattle.liquid_error.specs.Refusal.{Refusal, ok_then}
+use Rattle.liquid_error.specs.meaning.Refusal.{Refusal, ok_then}
 use Rattle.liquid_grammar.specs.declared.element.TagText.{TagText}
 use Rattle.liquid_grammar.specs.declared.element.ChainText.{ChainText}
 use Rattle.liquid_grammar.specs.declared.element.Element.TheVariants as found
-use Rattle.liquid_grammar.specs.Cover.{Element, raw, tag_element, expression, invalid, text_of, IsElement}
-use Rattle.liquid_grammar.specs.Elements.{Means}
-use Rattle.liquid_grammar.specs.Faults.{Fault, tag_fault, chain_fault}
-use Rattle.liquid_grammar.specs.Grammar.{White}
-use Rattle.liquid_grammar.specs.KindMeanings.{token_kind_of}
-use Rattle.liquid_grammar.specs.Kinds.{identifier_of}
-use Rattle.liquid_grammar.specs.Meanings.{faults_of}
-use Rattle.liquid_grammar.specs.Rules.{Repeated, ◌▷◌}
-use Rattle.liquid_grammar.specs.Tokens as token
-use Rattle.liquid_grammar.specs.Tokens.{ChainRule, ExpressionRule, TagRule, TokenRule}
-use Rattle.liquid_tree.specs.Tree.{NodeShape, text_node, chain_node}
-use Rattle.liquid_parser.specs.declared.element_cursor.Raw.{Raw as RawCursor}
-use Rattle.liquid_parser.specs.declared.element_cursor.Exp.{Exp as ExpCursor}
-use Rattle.liquid_parser.specs.declared.element_cursor.InvalidLiquidToken.{InvalidLiquidToken}
-use Rattle.liquid_parser.specs.declared.element_cursor.BlockElement.TheVariants as cursor
-use Rattle.liquid_parser.specs.declared.tag_cursor.Tag.{Tag}
-use Rattle.liquid_parser.specs.Elements.{IsExpression, IsInvalid, StandsFor}
-use Rattle.liquid_parser.specs.ElementReading.{HandsOver, element_checked, expression_read}
-use Rattle.liquid_parser.specs.Lang.{Lang}
-use Rattle.liquid_parser.specs.Reading.{State, Open, among, step, checked, chain_read, tag_read, refused_at}
-use Rattle.liquid_parser.specs.Views.{advanced, node_added, past_escaped}
-use Rattle.liquid_parser.specs.WholeTag.{IsTag}
+use Rattle.liquid_grammar.specs.meaning.Cover.{Element, raw, tag_element, expression, invalid, text_of, IsElement}
+use Rattle.liquid_grammar.specs.meaning.Elements.{Means}
+use Rattle.liquid_grammar.specs.meaning.Faults.{Fault, tag_fault, chain_fault}
+use Rattle.liquid_grammar.specs.meaning.Grammar.{White}
+use Rattle.liquid_grammar.specs.meaning.KindMeanings.{token_kind_of}
+use Rattle.liquid_grammar.specs.meaning.Kinds.{identifier_of}
+use Rattle.liquid_grammar.specs.meaning.Meanings.{faults_of}
+use Rattle.liquid_grammar.specs.meaning.Rules.{Repeated, ◌▷◌}
+use Rattle.liquid_grammar.specs.meaning.Tokens as token
+use Rattle.liquid_grammar.specs.meaning.Tokens.{ChainRule, ExpressionRule, TagRule, TokenRule}
+use Rattle.liquid_plugins.specs.meaning.Nodes.{NodeShape, text_node}
+use Rattle.liquid_parser.specs.declared.cursor.element.Raw.{Raw as RawCursor}
+use Rattle.liquid_parser.specs.declared.cursor.element.Exp.{Exp as ExpCursor}
+use Rattle.liquid_parser.specs.declared.cursor.element.InvalidLiquidToken.{InvalidLiquidToken}
+use Rattle.liquid_parser.specs.declared.cursor.element.BlockElement.TheVariants as cursor
+use Rattle.liquid_parser.specs.declared.cursor.tag.Tag.{Tag}
+use Rattle.liquid_parser.specs.meaning.Elements.{IsExpression, IsInvalid, StandsFor}
+use Rattle.liquid_parser.specs.meaning.ElementReading.{HandsOver, element_checked}
+use Rattle.liquid_parser.specs.meaning.Lang.{Lang}
+use Rattle.liquid_parser.specs.meaning.Reading.{State, Open, among, step, checked, expression_read, node_added, tag_read, refused_at}
+use Rattle.liquid_parser.specs.steps.Views.{advanced, past_escaped}
+use Rattle.liquid_parser.specs.meaning.WholeTag.{IsTag}
 use Rattle.liquid_parser.proofs.TokenLemmas.{same_rest}
 
 checked_none : (source : List ℕ) (o : Option Fault) → checked source o ≡ Ok tt → o ≡ None
@@ -148,17 +148,12 @@ module _ {F T P B : Type 0} (l : Lang F T P B) (source : List ℕ) (outside : �
   tag_step x behind (expression c text) m = absurd m
   tag_step x behind (invalid text) m = absurd m
 
-  node_made : {A : Type 0} (m : Result A Refusal) (f : A → NodeShape F T B) → ok_then m (λ a. Ok (among blocks (nodes ++ f a ∷ []))) ≡ node_added blocks nodes (ok_then m (λ a. Ok (f a)))
-  node_made (Ok a) f = refl
-  node_made (Err r) f = refl
-
   pub expression_step : (x : ExpCursor) (behind : List ℕ) (e : Element) → StandsFor (cursor.Expression x) source behind e
       → (c : token.Chain) × IsExpression x source c × (step l source outside (among blocks nodes) e behind ≡ node_added blocks nodes (expression_read l.filters source c))
   expression_step x behind (expression c text) m = (
     c,
     m.0,
-    ap (λ f. ok_then (checked source f) (λ _. ok_then (chain_read l.filters source c) (λ made. Ok (among blocks (nodes ++ chain_node made ∷ []))))) m.0.fine
-        ∙ node_made (chain_read l.filters source c) (λ made. chain_node made),
+    ap (λ f. ok_then (checked source f) (λ _. node_added blocks nodes (expression_read l.filters source c))) m.0.fine,
   )
   expression_step x behind (raw text) m = absurd m
   expression_step x behind (tag_element tag text) m = absurd m
@@ -178,6 +173,6 @@ module _ {F T P B : Type 0} (l : Lang F T P B) (source : List ℕ) (outside : �
   pub unchecked_step : (e : Element) (behind : List ℕ) (es : List Element) (r : Refusal) → element_checked source e ≡ Err r → advanced l source outside (among blocks nodes) source behind e es ≡ Err r
   unchecked_step (tag_element tag text) behind es r h = fault_first _ (λ _. tag_read l source outside blocks nodes tag) (λ n. past_escaped source n es) r h
   unchecked_step (expression c text) behind es r h =
-      fault_first _ (λ _. ok_then (chain_read l.filters source c) (λ made. Ok (among blocks (nodes ++ chain_node made ∷ [])))) (λ n. past_escaped source n es) r h
+      fault_first _ (λ _. node_added blocks nodes (expression_read l.filters source c)) (λ n. past_escaped source n es) r h
   unchecked_step (raw text) behind es r h = cc
   unchecked_step (invalid text) behind es r h = cc

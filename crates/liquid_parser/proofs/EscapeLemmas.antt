@@ -2,12 +2,13 @@
 use Rattle.std.proofs.Common.{◌≡◌, ℕ, Bool, List, [], ◌∷◌, ◌++◌, Option, Some, None, Result, Ok, Err, append_assoc, refl, sym, ap, ◌∙◌, subst}
 use Rattle.std.specs.Prelude.{IfSome}
 use Rattle.std.specs.Option.{option_map_or}
-use Rattle.liquid_error.specs.Refusal.{Refusal, ok_then}
-use Rattle.liquid_grammar.specs.Cover.{Element, text_of, IsElement, Cover, done, next, joined}
+use Rattle.liquid_error.specs.meaning.Refusal.{Refusal, ok_then}
+use Rattle.liquid_grammar.specs.meaning.Cover.{Element, text_of, IsElement, Cover, done, next, joined}
 use Rattle.liquid_grammar.proofs.CoverLemmas.{cover_of}
-use Rattle.liquid_parser.specs.Lang.{Lang, escaped}
-use Rattle.liquid_parser.specs.Reading.{State, Open, among, inside, step, escape, level_behind, escape_read, finished, unclosed}
-use Rattle.liquid_parser.specs.Views.{escaped_body, past_escaped}
+use Rattle.liquid_plugins.specs.meaning.Nodes.{NodeShape}
+use Rattle.liquid_parser.specs.meaning.Lang.{Lang, escaped}
+use Rattle.liquid_parser.specs.meaning.Reading.{State, Open, among, inside, step, escape, level_behind, escape_read, finished, unclosed_by}
+use Rattle.liquid_parser.specs.steps.Views.{escaped_body, past_escaped}
 
 -- `rest` is left of the body, behind this text, and so many starts wait for their ends
 pub record Going (body end_name start_name : List ℕ) (nests : Bool) (rest : List ℕ) (level : ℕ) : Type 0 where
@@ -73,21 +74,22 @@ module _ (body end_name start_name : List ℕ) (nests : Bool) where
 
 -- a reading that goes on behind each element goes on behind the end of an escaped body
 module _ {F T P B A : Type 0} (l : Lang F T P B) (source : List ℕ) (outside : ℕ) (k : State F T P B → List Element → Result A Refusal)
-    (ends : (b : Open F T P B) (blocks : List (Open F T P B)) (level : ℕ) (so_far : List ℕ) → k (inside b blocks level so_far) [] ≡ Err (unclosed source b))
+    (ends : (b : Open F T P B) (blocks : List (Open F T P B)) (level : ℕ) (so_far : List ℕ) → k (inside b blocks level so_far) [] ≡ Err (unclosed_by source b.kind.names.end_name))
     (steps : (b : Open F T P B) (blocks : List (Open F T P B)) (level : ℕ) (so_far : List ℕ) (e : Element) (es : List Element) → k (inside b blocks level so_far) (e ∷ es) ≡ ok_then (step l source outside (inside b blocks level so_far) e (joined es)) (λ n. k n es)) where
   past_read : (b : Open F T P B) (blocks : List (Open F T P B)) (level : ℕ) (so_far : List ℕ) (es : List Element) → k (inside b blocks level so_far) es ≡ ok_then (past_escaped source (inside b blocks level so_far) es) (λ p. k p.0 p.1)
   past_read b blocks level so_far [] = ends b blocks level so_far
   past_read b blocks level so_far (e ∷ es) =
-      steps b blocks level so_far e es ∙ go (level_behind b.kind.end_name b.kind.start_name b.kind.means.nests level e) (λ n. past_read b blocks n (so_far ++ text_of e) es)
+      steps b blocks level so_far e es ∙ go (level_behind b.kind.names.end_name b.kind.names.start_name b.kind.means.nests level e) (λ n. past_read b blocks n (so_far ++ text_of e) es)
     where
-      finish_then : (m : Result (State F T P B) Refusal) → ok_then m (λ n. k n es) ≡ ok_then {A = State F T P B × List Element} (ok_then m (λ n. Ok (n, es))) (λ p. k p.0 p.1)
+      finish_then : (m : Result (List (NodeShape F T B)) Refusal)
+          → ok_then {A = State F T P B} (ok_then m (λ nodes. Ok (among blocks nodes))) (λ n. k n es) ≡ ok_then {A = State F T P B × List Element} (ok_then m (λ nodes. Ok (among blocks nodes, es))) (λ p. k p.0 p.1)
       finish_then (Ok n) = refl
       finish_then (Err r) = refl
 
-      go : (o : Option ℕ) → ((n : ℕ) → k (inside b blocks n (so_far ++ text_of e)) es ≡ ok_then (escaped_body source b blocks (escape b.kind.end_name b.kind.start_name b.kind.means.nests n (so_far ++ text_of e) es)) (λ p. k p.0 p.1))
+      go : (o : Option ℕ) → ((n : ℕ) → k (inside b blocks n (so_far ++ text_of e)) es ≡ ok_then (escaped_body source b blocks (escape b.kind.names.end_name b.kind.names.start_name b.kind.means.nests n (so_far ++ text_of e) es)) (λ p. k p.0 p.1))
           → ok_then (escape_read b blocks so_far (text_of e) o) (λ n. k n es)
-          ≡ ok_then (escaped_body source b blocks (option_map_or (λ n. escape b.kind.end_name b.kind.start_name b.kind.means.nests n (so_far ++ text_of e) es) o (Some (so_far, es)))) (λ p. k p.0 p.1)
-      go None onward = finish_then (finished b blocks (escaped so_far) [])
+          ≡ ok_then (escaped_body source b blocks (option_map_or (λ n. escape b.kind.names.end_name b.kind.names.start_name b.kind.means.nests n (so_far ++ text_of e) es) o (Some (so_far, es)))) (λ p. k p.0 p.1)
+      go None onward = finish_then (finished b (escaped so_far) [])
       go (Some n) onward = onward n
 
   pub past_then : (r : Result (State F T P B) Refusal) (es : List Element) → ok_then r (λ n. k n es) ≡ ok_then (ok_then r (λ n. past_escaped source n es)) (λ p. k p.0 p.1)
@@ -97,15 +99,15 @@ module _ {F T P B A : Type 0} (l : Lang F T P B) (source : List ℕ) (outside : 
 
 -- the answers of a call that reads an escaped body
 module _ {F T P B : Type 0} (source : List ℕ) (b : Open F T P B) (blocks : List (Open F T P B)) where
-  pub escaped_ok : (o : Option (List ℕ × List Element)) (left : List Element) (text : List ℕ) (state : State F T P B) → o ≡ Some (text, left) → finished b blocks (escaped text) [] ≡ Ok state
-      → escaped_body source b blocks o ≡ Ok (state, left)
-  escaped_ok o left text state e f = ap (escaped_body source b blocks) e ∙ ap (λ r. ok_then r (λ n. Ok (n, left))) f
+  pub escaped_ok : (o : Option (List ℕ × List Element)) (left : List Element) (text : List ℕ) (nodes : List (NodeShape F T B)) → o ≡ Some (text, left) → finished b (escaped text) [] ≡ Ok nodes
+      → escaped_body source b blocks o ≡ Ok (among blocks nodes, left)
+  escaped_ok o left text nodes e f = ap (escaped_body source b blocks) e ∙ ap (λ r. ok_then r (λ ns. Ok (among blocks ns, left))) f
 
-  pub escaped_err : (told : Option Refusal) (o : Option (List ℕ × List Element)) (left : List Element) (text : List ℕ) → o ≡ Some (text, left) → IfSome told (λ r. finished b blocks (escaped text) [] ≡ Err r)
+  pub escaped_err : (told : Option Refusal) (o : Option (List ℕ × List Element)) (left : List Element) (text : List ℕ) → o ≡ Some (text, left) → IfSome told (λ r. finished b (escaped text) [] ≡ Err r)
       → IfSome told (λ r. escaped_body source b blocks o ≡ Err r)
   escaped_err None o left text e f = tt
-  escaped_err (Some r) o left text e f = ap (escaped_body source b blocks) e ∙ ap (λ q. ok_then q (λ n. Ok (n, left))) f
+  escaped_err (Some r) o left text e f = ap (escaped_body source b blocks) e ∙ ap (λ q. ok_then q (λ ns. Ok (among blocks ns, left))) f
 
-  pub escaped_open : (told : Option Refusal) (o : Option (List ℕ × List Element)) → o ≡ None → IfSome told (λ r. r ≡ unclosed source b) → IfSome told (λ r. escaped_body source b blocks o ≡ Err r)
+  pub escaped_open : (told : Option Refusal) (o : Option (List ℕ × List Element)) → o ≡ None → IfSome told (λ r. r ≡ unclosed_by source b.kind.names.end_name) → IfSome told (λ r. escaped_body source b blocks o ≡ Err r)
   escaped_open None o e f = tt
   escaped_open (Some r) o e f = ap (escaped_body source b blocks) e ∙ ap (λ x. Err x) (sym f)

@@ -7,16 +7,17 @@ use Rattle.liquid_grammar.specs.declared.kind.TokenKind.TheVariants as kind
 use Rattle.liquid_grammar.specs.declared.literal.Literal.{Literal as CodeLiteral}
 use Rattle.liquid_grammar.specs.declared.parts.TokenParts.{TokenParts}
 use Rattle.liquid_grammar.specs.declared.parts.TokenParts.TheVariants as parts
-use Rattle.liquid_grammar.specs.Faults.{token_fault}
-use Rattle.liquid_grammar.specs.KindMeanings.{token_kind_of}
-use Rattle.liquid_grammar.specs.Kinds.{Kind, range_kind, symbol_kind, filtered_kind, literal_kind, variable_kind, identifier_kind, value_kind, chain_kind, identifier_of}
-use Rattle.liquid_grammar.specs.Literals.{Literal}
-use Rattle.liquid_grammar.specs.Parts.{HasParts, IsChainToken}
-use Rattle.liquid_grammar.specs.Tokens as token
-use Rattle.liquid_grammar.specs.Values.{Value, literal_value, variable_value, no_index, more_indexes}
-use Rattle.liquid_parser.specs.declared.tag_token.TagToken.{TagToken}
-use Rattle.liquid_parser.specs.Cursors.{IsToken, IsValue}
-use Rattle.liquid_parser.specs.Handed.{Token, chain, call_of, handed_token, expression_meant, literal_tree, value_of, as_identifier, as_literal, expect_value, expect_identifier, expect_literal}
+use Rattle.liquid_grammar.specs.meaning.Faults.{token_fault}
+use Rattle.liquid_grammar.specs.meaning.KindMeanings.{token_kind_of}
+use Rattle.liquid_grammar.specs.meaning.Kinds.{Kind, range_kind, symbol_kind, filtered_kind, literal_kind, variable_kind, identifier_kind, value_kind, chain_kind, identifier_of}
+use Rattle.liquid_grammar.specs.meaning.Literals.{Literal}
+use Rattle.liquid_grammar.specs.meaning.Parts.{HasParts, IsChainToken}
+use Rattle.liquid_grammar.specs.meaning.Tokens as token
+use Rattle.liquid_grammar.specs.meaning.Values.{Value, literal_value, variable_value, no_index, more_indexes}
+use Rattle.liquid_parser.specs.declared.cursor.token.TagToken.{TagToken}
+use Rattle.liquid_parser.specs.meaning.Cursors.{IsToken, IsValue}
+use Rattle.liquid_plugins.specs.meaning.Expression.{as_literal}
+use Rattle.liquid_parser.specs.meaning.Handed.{Token, chain, call_of, handed_token, expression_meant, literal_tree, value_of, as_identifier, expect_value, expect_identifier, expect_literal}
 use Rattle.liquid_parser.proofs.Indexes.{first_none}
 
 pub is_value_kind : Kind → Bool

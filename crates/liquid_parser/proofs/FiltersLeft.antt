@@ -2,18 +2,18 @@
 use Rattle.std.proofs.Common.{◌≡◌, ℕ, List, [], ◌∷◌, ◌++◌, Option, Some, None, Result, Ok, Err, refl, sym, ap, ◌∙◌, subst}
 use Rattle.std.specs.Prelude.{IfSome, option_map}
 use Rattle.std.proofs.lemmas.Option.{same_Some}
-use Rattle.liquid_error.specs.Refusal.{Refusal, ok_then}
+use Rattle.liquid_error.specs.meaning.Refusal.{Refusal, ok_then}
 use Rattle.liquid_grammar.specs.declared.parts.FilterStart.{FilterStart}
-use Rattle.liquid_grammar.specs.Faults.{filter_fault, first_fault}
-use Rattle.liquid_grammar.specs.Parts.{NoneLeft, First, IsFilter}
-use Rattle.liquid_grammar.specs.Rules.{Repeated, more}
-use Rattle.liquid_grammar.specs.Tokens as token
-use Rattle.liquid_grammar.specs.Tokens.{Behind, FilterRule}
-use Rattle.liquid_parser.specs.Lang.{Filters}
+use Rattle.liquid_grammar.specs.meaning.Faults.{filter_fault, first_fault}
+use Rattle.liquid_grammar.specs.meaning.Parts.{NoneLeft, First, IsFilter}
+use Rattle.liquid_grammar.specs.meaning.Rules.{Repeated, more}
+use Rattle.liquid_grammar.specs.meaning.Tokens as token
+use Rattle.liquid_grammar.specs.meaning.Tokens.{Behind, FilterRule}
+use Rattle.liquid_parser.specs.meaning.Lang.{Filters}
 use Rattle.liquid_grammar.proofs.TokenExact.{exact-filter}
-use Rattle.liquid_plugins.specs.ArgumentsOf.{Arguments}
-use Rattle.liquid_parser.specs.Handed.{arguments_meant, place_in, slice_between}
-use Rattle.liquid_parser.specs.Reading.{filters_read, filter_or, filter_refused, refusal_of_filter}
+use Rattle.liquid_plugins.specs.meaning.ArgumentsOf.{Arguments}
+use Rattle.liquid_parser.specs.meaning.Handed.{arguments_meant, place_in, slice_between}
+use Rattle.liquid_parser.specs.meaning.Reading.{filters_read, filter_or, filter_refused, refusal_of_filter}
 use Rattle.liquid_parser.proofs.Slices.{front_ends}
 use Rattle.liquid_parser.proofs.Indexes.{first_none, second_none}
 

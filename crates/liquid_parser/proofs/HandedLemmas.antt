@@ -2,22 +2,22 @@
 use Rattle.std.proofs.Common.{◌≡◌, ℕ, List, [], ◌∷◌, ◌++◌, map, Some, None, Ok, Err, refl, sym, ap, ◌∙◌, subst}
 use Rattle.std.specs.Prelude.{ok_or}
 use Rattle.liquid_error.specs.declared.place.Place.{Place}
-use Rattle.liquid_error.specs.Refusal.{located}
+use Rattle.liquid_error.specs.meaning.Refusal.{located}
 use Rattle.liquid_grammar.specs.declared.parts.TokenText.{TokenText}
 use Rattle.liquid_grammar.specs.declared.parts.TokenParts.{TokenParts}
 use Rattle.liquid_grammar.specs.declared.parts.TokenParts.TheVariants as parts
-use Rattle.liquid_grammar.specs.Faults.{token_fault, first_fault}
-use Rattle.liquid_grammar.specs.Grammar.{White}
-use Rattle.liquid_grammar.specs.Parts as part
-use Rattle.liquid_grammar.specs.Parts.{NoneLeft, First, HasParts}
-use Rattle.liquid_grammar.specs.Rules.{Repeated, more, ◌▷◌}
-use Rattle.liquid_grammar.specs.Tokens as token
-use Rattle.liquid_grammar.specs.Tokens.{range, chain, symbol, TokenRule}
-use Rattle.liquid_parser.specs.declared.tag_token.TagToken.{TagToken}
-use Rattle.liquid_parser.specs.declared.tokens.TagTokenIter.{TagTokenIter}
-use Rattle.liquid_parser.specs.Cursors.{IsToken, IsHandedOut}
-use Rattle.liquid_parser.specs.Handed.{Token, Tokens, handed, handed_token, place_in, slice_between, expect_next, first_of, next}
-use Rattle.liquid_parser.specs.Plugins.{AreTokens}
+use Rattle.liquid_grammar.specs.meaning.Faults.{token_fault, first_fault}
+use Rattle.liquid_grammar.specs.meaning.Grammar.{White}
+use Rattle.liquid_grammar.specs.meaning.Parts as part
+use Rattle.liquid_grammar.specs.meaning.Parts.{NoneLeft, First, HasParts}
+use Rattle.liquid_grammar.specs.meaning.Rules.{Repeated, more, ◌▷◌}
+use Rattle.liquid_grammar.specs.meaning.Tokens as token
+use Rattle.liquid_grammar.specs.meaning.Tokens.{range, chain, symbol, TokenRule}
+use Rattle.liquid_parser.specs.declared.cursor.token.TagToken.{TagToken}
+use Rattle.liquid_parser.specs.declared.cursor.tokens.TagTokenIter.{TagTokenIter}
+use Rattle.liquid_parser.specs.meaning.Cursors.{IsToken, IsHandedOut}
+use Rattle.liquid_parser.specs.meaning.Handed.{Token, Tokens, handed, handed_token, place_in, slice_between, expect_next, first_of, next}
+use Rattle.liquid_parser.specs.meaning.Plugins.{AreTokens}
 use Rattle.liquid_parser.proofs.Indexes.{first_none, second_none}
 use Rattle.liquid_parser.proofs.TokenLemmas.{place_of, behind_of, handed_behind, handed_text, rule_place, rule_behind}
 

@@ -2,13 +2,13 @@
 use Rattle.std.proofs.Common.{◌≡◌, ℕ, List, [], ◌∷◌, ◌++◌, Option, None, Some, refl, sym, ap, ◌∙◌}
 use Rattle.std.specs.Option.{option_or}
 use Rattle.liquid_grammar.specs.declared.parts.IndexStart.{IndexStart}
-use Rattle.liquid_grammar.specs.Faults.{indexes_fault, index_fault}
-use Rattle.liquid_grammar.specs.Parts.{NoneLeft, First, IsIndex}
-use Rattle.liquid_grammar.specs.Rules.{Repeated}
-use Rattle.liquid_grammar.specs.Values.{Index, gather, IndexRule}
-use Rattle.liquid_plugins.specs.Expression.{ExpressionShape, Indexes, no_indexes, index}
-use Rattle.liquid_plugins.specs.ExpressionOf.{indexes_of}
-use Rattle.liquid_parser.specs.Handed.{indexes_meant, index_meant}
+use Rattle.liquid_grammar.specs.meaning.Faults.{indexes_fault, index_fault}
+use Rattle.liquid_grammar.specs.meaning.Parts.{NoneLeft, First, IsIndex}
+use Rattle.liquid_grammar.specs.meaning.Rules.{Repeated}
+use Rattle.liquid_grammar.specs.meaning.Values.{Index, gather, IndexRule}
+use Rattle.liquid_plugins.specs.meaning.Expression.{ExpressionShape, Indexes, no_indexes, index}
+use Rattle.liquid_plugins.specs.meaning.ExpressionOf.{indexes_of}
+use Rattle.liquid_parser.specs.meaning.Handed.{indexes_meant, index_meant}
 
 -- indexes in front of others
 abbrev pub join : List ExpressionShape → Indexes → Indexes

@@ -1,15 +1,15 @@
 -- Chains that are a name alone.
 use Rattle.std.proofs.Common.{◌≡◌, ℕ, List, [], ◌∷◌, Some, Ok}
-use Rattle.liquid_error.specs.Refusal.{ok_then}
-use Rattle.liquid_grammar.specs.Kinds.{chain_kind, identifier_of}
-use Rattle.liquid_grammar.specs.Tokens as token
-use Rattle.liquid_grammar.specs.Values.{Value, literal_value, variable_value, no_index, more_indexes}
-use Rattle.liquid_scalar.specs.Scalar.{text}
-use Rattle.liquid_plugins.specs.Chain.{ChainShape}
-use Rattle.liquid_plugins.specs.Expression.{variable, no_indexes}
-use Rattle.liquid_parser.specs.Handed.{expression_meant}
-use Rattle.liquid_parser.specs.Lang.{Filters}
-use Rattle.liquid_parser.specs.Reading.{filters_read, chain_read}
+use Rattle.liquid_error.specs.meaning.Refusal.{ok_then}
+use Rattle.liquid_grammar.specs.meaning.Kinds.{chain_kind, identifier_of}
+use Rattle.liquid_grammar.specs.meaning.Tokens as token
+use Rattle.liquid_grammar.specs.meaning.Values.{Value, literal_value, variable_value, no_index, more_indexes}
+use Rattle.liquid_scalar.specs.meaning.Scalar.{text}
+use Rattle.liquid_plugins.specs.meaning.Chain.{ChainShape}
+use Rattle.liquid_plugins.specs.meaning.Expression.{variable, no_indexes}
+use Rattle.liquid_parser.specs.meaning.Handed.{expression_meant}
+use Rattle.liquid_parser.specs.meaning.Lang.{Filters}
+use Rattle.liquid_parser.specs.meaning.Reading.{filters_read, chain_read}
 
 module _ {F : Type 0} (filters : Filters F) (source name : List ℕ) where
   parts_of_name : (value : Value) (fs : List token.Filter) → Some name ≡ identifier_of (chain_kind value fs)

@@ -2,14 +2,14 @@
 use Rattle.std.proofs.Common.{◌≡◌, ℕ, List, Option, None, Some, Result, Ok, Err, sym, ap, ◌∙◌, subst}
 use Rattle.std.specs.Prelude.{IfSome}
 use Rattle.liquid_error.specs.declared.error.Error.{Error}
-use Rattle.liquid_error.specs.Refusal.{Refusal, ok_then}
-use Rattle.liquid_error.specs.Told.{told, Gives}
-use Rattle.liquid_parser.specs.declared.tag_token.TagToken.{TagToken}
-use Rattle.liquid_parser.specs.declared.tag_token.TryMatchToken.{TryMatchToken}
-use Rattle.liquid_parser.specs.declared.tag_token.TryMatchToken.TheVariants.{Matches, Fails}
-use Rattle.liquid_parser.specs.declared.tokens.TagTokenIter.{TagTokenIter}
-use Rattle.liquid_parser.specs.Cursors.{HandsOutOr, IsToken, Tries, FailedToken, Takes, matched_of, next_as}
-use Rattle.liquid_parser.specs.Handed.{Token, Tokens, expect_next, or_unexpected, unexpected}
+use Rattle.liquid_error.specs.meaning.Refusal.{Refusal, ok_then}
+use Rattle.liquid_error.specs.meaning.Told.{told, Gives}
+use Rattle.liquid_parser.specs.declared.cursor.token.TagToken.{TagToken}
+use Rattle.liquid_parser.specs.declared.cursor.token.TryMatchToken.{TryMatchToken}
+use Rattle.liquid_parser.specs.declared.cursor.token.TryMatchToken.TheVariants.{Matches, Fails}
+use Rattle.liquid_parser.specs.declared.cursor.tokens.TagTokenIter.{TagTokenIter}
+use Rattle.liquid_parser.specs.meaning.Cursors.{HandsOutOr, IsToken, Tries, FailedToken, Takes, matched_of, next_as}
+use Rattle.liquid_parser.specs.meaning.Handed.{Token, Tokens, expect_next, or_unexpected, unexpected}
 use Rattle.liquid_parser.proofs.StepLemmas.{then_refused}
 
 -- the token is what was expected of it

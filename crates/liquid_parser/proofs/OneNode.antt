@@ -3,15 +3,15 @@ use Rattle.std.proofs.Common.{◌≡◌, ℕ, Bool, true, false, List, [], ◌�
 use Rattle.std.specs.Prelude.{⊤, ◌+◌, unwrap_or, if◌then◌else◌, nat_lt, bytes_eq, codes}
 use Rattle.std.specs.List.{list_any}
 use Rattle.std.specs.Option.{option_or}
-use Rattle.liquid_error.specs.Refusal.{Refusal, ok_then}
-use Rattle.liquid_grammar.specs.Cover.{Element, raw, tag_element, expression, invalid, text_of, joined}
-use Rattle.liquid_grammar.specs.Faults.{tag_fault, chain_fault}
-use Rattle.liquid_grammar.specs.Tokens as token
-use Rattle.liquid_tree.specs.Tree.{NodeShape, tag_node, chain_node}
-use Rattle.liquid_parser.specs.ElementReading.{read_closed, tag_node_read}
-use Rattle.liquid_parser.specs.Handed.{handed, expect_nothing, place_in}
-use Rattle.liquid_parser.specs.Lang.{Lang, Body, parts, escaped}
-use Rattle.liquid_parser.specs.Reading.{Open, State, among, inside, step, checked, chain_read, finished, escape_read, level_behind, as_end, as_divider, as_tag, as_block, asked, tag_read, unknown_tag, entered, block_with, placed_at, name_place, refused_at, block_limit}
+use Rattle.liquid_error.specs.meaning.Refusal.{Refusal, ok_then}
+use Rattle.liquid_grammar.specs.meaning.Cover.{Element, raw, tag_element, expression, invalid, text_of, joined}
+use Rattle.liquid_grammar.specs.meaning.Faults.{tag_fault, chain_fault}
+use Rattle.liquid_grammar.specs.meaning.Tokens as token
+use Rattle.liquid_plugins.specs.meaning.Nodes.{NodeShape}
+use Rattle.liquid_parser.specs.meaning.ElementReading.{read_closed, tag_node_read}
+use Rattle.liquid_parser.specs.meaning.Handed.{handed, expect_nothing, place_in}
+use Rattle.liquid_parser.specs.meaning.Lang.{Lang, Body, parts, escaped}
+use Rattle.liquid_parser.specs.meaning.Reading.{Open, State, among, inside, step, checked, expression_read, node_added, tag_given, begun, block_begun, parted, closed, finished, escape_read, level_behind, as_end, as_divider, as_tag, as_block, outer_read, tag_read, unknown_tag, entered, block_with, placed_at, name_place, refused_at, block_limit}
 
 abbrev pub IsOne : {N : Type 0} → List N → Type 0
 IsOne {N} ns = (n : N) × (ns ≡ n ∷ [])
@@ -55,9 +55,9 @@ module _ {F T P B : Type 0} where
   one_map f None h = tt
   one_map f (Some x) h = h x
 
-  one_unwrap : (o : Option (Result (State F T P B) Refusal)) (r : Refusal) → OneOr o → OneOf (unwrap_or o (Err r))
-  one_unwrap None r h = tt
-  one_unwrap (Some x) r h = h
+  one_unwrap : (o : Option (Result (State F T P B) Refusal)) (other : Result (State F T P B) Refusal) → OneOr o → OneOf other → OneOf (unwrap_or o other)
+  one_unwrap None other h k = k
+  one_unwrap (Some x) other h k = h
 
   one_room : (c : Bool) (r : Result (State F T P B) Refusal) (e : Refusal) → OneOf r → OneOf (if c then r else Err e)
   one_room true r e h = h
@@ -67,64 +67,68 @@ module _ {F T P B : Type 0} where
   one_closed b [] n h = one_behind b.before n h
   one_closed b (c ∷ blocks) n h = h
 
-  one_finished : (b : Open F T P B) (blocks : List (Open F T P B)) (body : Body) (of : List (List (NodeShape F T B))) → Alone b blocks → OneOf (finished b blocks body of)
-  one_finished b blocks body of h =
-      one_then (placed_at b.place (b.kind.means.finish b.plan body)) (λ made. Ok (among blocks (b.before ++ block_with made of ∷ []))) (λ made. one_closed b blocks (block_with made of) h)
+  one_after : {A C : Type 0} (m : Result A Refusal) (f : A → Result C Refusal) (k : C → Result (State F T P B) Refusal) → ((x : A) → OneOf (ok_then (f x) k)) → OneOf (ok_then (ok_then m f) k)
+  one_after (Ok x) f k h = h x
+  one_after (Err r) f k h = tt
 
-  one_entered : (l : Lang F T P B) (source : List ℕ) (outside : ℕ) (escapes : Bool) (b : Open F T P B) (blocks : List (Open F T P B)) → Alone b blocks → OneIn (entered l source outside escapes b blocks)
-  one_entered l source outside true b blocks h = h
-  one_entered l source outside false b blocks h = h
+  one_finished : (b : Open F T P B) (blocks : List (Open F T P B)) (body : Body) (of : List (List (NodeShape F T B))) → Alone b blocks → OneOf (ok_then (finished b body of) (λ ns. Ok (among blocks ns)))
+  one_finished b blocks body of h =
+      one_after (placed_at b.place (b.kind.means.finish b.plan body)) (λ made. Ok (b.before ++ block_with made of ∷ [])) (λ ns. Ok (among blocks ns)) (λ made. one_closed b blocks (block_with made of) h)
+
+  one_entered : (escapes : Bool) (b : Open F T P B) (blocks : List (Open F T P B)) → Alone b blocks → OneIn (entered escapes b blocks)
+  one_entered true b blocks h = h
+  one_entered false b blocks h = h
 
 module _ {F T P B : Type 0} (l : Lang F T P B) (source : List ℕ) (outside : ℕ) where
   one_block : (blocks : List (Open F T P B)) (nodes : List (NodeShape F T B)) (t : token.Tag) → ((b : Open F T P B) → b.before ≡ nodes → Alone b blocks) → OneOr (as_block l source outside blocks nodes t)
   one_block blocks nodes t h =
-      one_map
-      (λ kind.
-      if nat_lt (outside + length blocks) block_limit
-      then ok_then (placed_at (place_in source (name_place t)) (kind.means.begin l.filters (handed source t))) (λ plan. Ok (entered l source outside kind.means.escapes (record { kind = kind; place = place_in source (name_place t); plan = plan; before = nodes; parts = [] }) blocks))
-      else Err (refused_at source (codes "Nested too deep") (name_place t)))
-      (l.blocks.get t.0)
+      one_map (λ kind. block_begun l source outside t kind blocks nodes) (l.blocks.get t.0)
       (λ kind.
       one_room (nat_lt (outside + length blocks) block_limit)
-      (ok_then (placed_at (place_in source (name_place t)) (kind.means.begin l.filters (handed source t))) (λ plan. Ok (entered l source outside kind.means.escapes (record { kind = kind; place = place_in source (name_place t); plan = plan; before = nodes; parts = [] }) blocks)))
+      (ok_then (begun source t l.filters kind nodes) (λ b. Ok (entered kind.means.escapes b blocks)))
       (refused_at source (codes "Nested too deep") (name_place t))
-      (one_then (placed_at (place_in source (name_place t)) (kind.means.begin l.filters (handed source t)))
-      (λ plan. Ok (entered l source outside kind.means.escapes (record { kind = kind; place = place_in source (name_place t); plan = plan; before = nodes; parts = [] }) blocks))
-      (λ plan. one_entered l source outside kind.means.escapes (record { kind = kind; place = place_in source (name_place t); plan = plan; before = nodes; parts = [] }) blocks
+      (one_after (placed_at (place_in source (name_place t)) (kind.means.begin l.filters (handed source t)))
+      (λ plan. Ok (record { kind = kind; place = place_in source (name_place t); plan = plan; before = nodes; parts = [] }))
+      (λ b. Ok (entered kind.means.escapes b blocks))
+      (λ plan. one_entered kind.means.escapes (record { kind = kind; place = place_in source (name_place t); plan = plan; before = nodes; parts = [] }) blocks
       (h (record { kind = kind; place = place_in source (name_place t); plan = plan; before = nodes; parts = [] }) refl))))
 
-  one_made : (blocks : List (Open F T P B)) (nodes : List (NodeShape F T B)) (t : token.Tag) → ((made : T) → OneIn (among blocks (nodes ++ tag_node made ∷ []))) → OneOr (as_tag l source outside blocks nodes t)
+  one_made : (blocks : List (Open F T P B)) (nodes : List (NodeShape F T B)) (t : token.Tag) → ((n : NodeShape F T B) → OneIn (among blocks (nodes ++ n ∷ []))) → OneOr (as_tag l source outside blocks nodes t)
   one_made blocks nodes t h =
-      one_map (λ make. ok_then (placed_at (place_in source (name_place t)) (make l.filters (handed source t))) (λ made. Ok (among blocks (nodes ++ tag_node made ∷ [])))) (l.tags.get t.0)
-      (λ make. one_then (placed_at (place_in source (name_place t)) (make l.filters (handed source t))) (λ made. Ok (among blocks (nodes ++ tag_node made ∷ []))) h)
+      one_map (λ make. node_added blocks nodes (tag_given source t l.filters make)) (l.tags.get t.0)
+      (λ make. one_then (tag_given source t l.filters make) (λ n. Ok (among blocks (nodes ++ n ∷ []))) h)
 
   one_divided : (b : Open F T P B) (plan : P) (ps : List (List (NodeShape F T B))) (blocks : List (Open F T P B)) → Alone b blocks → Alone (record b { plan = plan; parts = ps }) blocks
   one_divided b plan ps [] h = h
   one_divided b plan ps (c ∷ blocks) h = h
 
+  one_outer : (blocks : List (Open F T P B)) (nodes : List (NodeShape F T B)) (t : token.Tag) → ((n : NodeShape F T B) → OneIn (among blocks (nodes ++ n ∷ []))) → ((b : Open F T P B) → b.before ≡ nodes → Alone b blocks)
+      → OneOf (outer_read l source outside t blocks nodes)
+  one_outer blocks nodes t h k =
+      one_unwrap (option_or (as_tag l source outside blocks nodes t) (as_block l source outside blocks nodes t)) (Err (unknown_tag l source t))
+      (one_or (as_tag l source outside blocks nodes t) (as_block l source outside blocks nodes t) (one_made blocks nodes t h) (one_block blocks nodes t k)) tt
+
   one_tag : (b : Open F T P B) (blocks : List (Open F T P B)) (nodes : List (NodeShape F T B)) (t : token.Tag) → Alone b blocks → OneOf (tag_read l source outside (b ∷ blocks) nodes t)
   one_tag b blocks nodes t h =
-      one_unwrap (asked l source outside (b ∷ blocks) nodes t) (unknown_tag l source outside t)
-      (one_or (as_end source (b ∷ blocks) nodes t) (option_or (as_divider source (b ∷ blocks) nodes t) (option_or (as_tag l source outside (b ∷ blocks) nodes t) (as_block l source outside (b ∷ blocks) nodes t)))
-      (one_if (bytes_eq t.0 b.kind.end_name) (ok_then (expect_nothing (handed source t)) (λ _. finished b blocks (parts (length b.parts + 1)) (b.parts ++ nodes ∷ [])))
-      (one_then (expect_nothing (handed source t)) (λ _. finished b blocks (parts (length b.parts + 1)) (b.parts ++ nodes ∷ [])) (λ u. one_finished b blocks (parts (length b.parts + 1)) (b.parts ++ nodes ∷ []) h)))
-      (one_or (as_divider source (b ∷ blocks) nodes t) (option_or (as_tag l source outside (b ∷ blocks) nodes t) (as_block l source outside (b ∷ blocks) nodes t))
-      (one_if (list_any (bytes_eq t.0) b.kind.means.dividers)
-      (ok_then (placed_at (place_in source (name_place t)) (b.kind.means.divide b.plan t.0 (handed source t))) (λ plan. Ok (among (record b { plan = plan; parts = b.parts ++ nodes ∷ [] } ∷ blocks) [])))
-      (one_then (placed_at (place_in source (name_place t)) (b.kind.means.divide b.plan t.0 (handed source t))) (λ plan. Ok (among (record b { plan = plan; parts = b.parts ++ nodes ∷ [] } ∷ blocks) []))
-      (λ plan. one_divided b plan (b.parts ++ nodes ∷ []) blocks h)))
-      (one_or (as_tag l source outside (b ∷ blocks) nodes t) (as_block l source outside (b ∷ blocks) nodes t) (one_made (b ∷ blocks) nodes t (λ made. h)) (one_block (b ∷ blocks) nodes t (λ c e. h)))))
+      one_unwrap (option_or (as_end source t (b ∷ blocks) nodes) (as_divider source t (b ∷ blocks) nodes)) (outer_read l source outside t (b ∷ blocks) nodes)
+      (one_or (as_end source t (b ∷ blocks) nodes) (as_divider source t (b ∷ blocks) nodes)
+      (one_if (bytes_eq t.0 b.kind.names.end_name) (ok_then (closed source t b nodes) (λ after. Ok (among blocks after)))
+      (one_after (expect_nothing (handed source t)) (λ _. finished b (parts (length b.parts + 1)) (b.parts ++ nodes ∷ [])) (λ after. Ok (among blocks after))
+      (λ u. one_finished b blocks (parts (length b.parts + 1)) (b.parts ++ nodes ∷ []) h)))
+      (one_if (list_any (bytes_eq t.0) b.kind.means.dividers) (ok_then (parted source t b nodes) (λ divided. Ok (among (divided ∷ blocks) [])))
+      (one_after (placed_at (place_in source (name_place t)) (b.kind.means.divide b.plan t.0 (handed source t)))
+      (λ plan. Ok (record b { plan = plan; parts = b.parts ++ nodes ∷ [] })) (λ divided. Ok (among (divided ∷ blocks) []))
+      (λ plan. one_divided b plan (b.parts ++ nodes ∷ []) blocks h))))
+      (one_outer (b ∷ blocks) nodes t (λ n. h) (λ c e. h))
 
   one_first_tag : (t : token.Tag) → OneOf (tag_read l source outside [] [] t)
-  one_first_tag t =
-      one_unwrap (asked l source outside [] [] t) (unknown_tag l source outside t)
-      (one_or (as_tag l source outside [] [] t) (as_block l source outside [] [] t) (one_made [] [] t (λ made. (tag_node made, refl))) (one_block [] [] t (λ c e. e)))
+  one_first_tag t = one_outer [] [] t (λ n. (n, refl)) (λ c e. e)
 
   one_step : (b : Open F T P B) (blocks : List (Open F T P B)) (nodes : List (NodeShape F T B)) (e : Element) (behind : List ℕ) → Alone b blocks → OneOf (step l source outside (among (b ∷ blocks) nodes) e behind)
   one_step b blocks nodes (raw text) behind h = h
   one_step b blocks nodes (expression c text) behind h =
-      one_then (checked source (chain_fault c)) (λ _. ok_then (chain_read l.filters source c) (λ made. Ok (among (b ∷ blocks) (nodes ++ chain_node made ∷ []))))
-      (λ u. one_then (chain_read l.filters source c) (λ made. Ok (among (b ∷ blocks) (nodes ++ chain_node made ∷ []))) (λ made. h))
+      one_then (checked source (chain_fault c)) (λ _. node_added (b ∷ blocks) nodes (expression_read l.filters source c))
+      (λ u. one_then (expression_read l.filters source c) (λ n. Ok (among (b ∷ blocks) (nodes ++ n ∷ []))) (λ n. h))
   one_step b blocks nodes (tag_element t text) behind h = one_then (checked source (tag_fault t)) (λ _. tag_read l source outside (b ∷ blocks) nodes t) (λ u. one_tag b blocks nodes t h)
   one_step b blocks nodes (invalid text) behind h = tt
 
@@ -147,7 +151,7 @@ module _ {F T P B : Type 0} (l : Lang F T P B) (source : List ℕ) (outside : �
   closed_one [] (inside b blocks level so_far) h = tt
   closed_one (e ∷ es) (inside b blocks level so_far) h =
       then_one (step l source outside (inside b blocks level so_far) e (joined es)) es (closed_one es)
-      (one_escaped b blocks so_far (text_of e) (level_behind b.kind.end_name b.kind.start_name b.kind.means.nests level e) h)
+      (one_escaped b blocks so_far (text_of e) (level_behind b.kind.names.end_name b.kind.names.start_name b.kind.means.nests level e) h)
 
 module _ {F T P B : Type 0} (l : Lang F T P B) (source : List ℕ) (outside : ℕ) where
   -- a tag gives one node, whatever text it stands in

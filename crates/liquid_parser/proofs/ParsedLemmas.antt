@@ -2,18 +2,18 @@
 use Rattle.std.proofs.Common.{◌≡◌, ℕ, List, [], ◌∷◌, ◌++◌, Option, Some, None, Result, Ok, Err, append_assoc, refl, sym, ap, ◌∙◌, subst}
 use Rattle.std.specs.Prelude.{IfSome}
 use Rattle.liquid_error.specs.declared.error.Error.{Error}
-use Rattle.liquid_error.specs.Told.{told, Gives}
-use Rattle.liquid_error.specs.Refusal.{Refusal, ok_then}
-use Rattle.liquid_grammar.specs.Cover.{Element, Cover}
+use Rattle.liquid_error.specs.meaning.Told.{told, Gives}
+use Rattle.liquid_error.specs.meaning.Refusal.{Refusal, ok_then}
+use Rattle.liquid_grammar.specs.meaning.Cover.{Element, Cover}
 use Rattle.liquid_grammar.proofs.CoverLemmas.{joined_cover}
-use Rattle.liquid_tree.specs.Tree.{NodeShape}
-use Rattle.liquid_parser.specs.declared.block_cursor.TagBlock.{TagBlock}
-use Rattle.liquid_parser.specs.declared.element_cursor.BlockElement.{BlockElement}
-use Rattle.liquid_parser.specs.BlockReading.{handed_out, behind_first, element_or_end, next_read, HandsOut, Parsed, ParsedNext, Passes}
-use Rattle.liquid_parser.specs.ElementReading.{read_closed, node_read}
-use Rattle.liquid_parser.specs.Elements.{StandsFor}
-use Rattle.liquid_parser.specs.Lang.{Lang}
-use Rattle.liquid_parser.specs.Views.{node_added}
+use Rattle.liquid_plugins.specs.meaning.Nodes.{NodeShape}
+use Rattle.liquid_parser.specs.declared.cursor.block.TagBlock.{TagBlock}
+use Rattle.liquid_parser.specs.declared.cursor.element.BlockElement.{BlockElement}
+use Rattle.liquid_parser.specs.meaning.BlockReading.{handed_out, behind_first, element_or_end, next_read, HandsOut, Parsed, ParsedNext, Passes}
+use Rattle.liquid_parser.specs.meaning.ElementReading.{read_closed, node_read}
+use Rattle.liquid_parser.specs.meaning.Elements.{StandsFor}
+use Rattle.liquid_parser.specs.meaning.Lang.{Lang}
+use Rattle.liquid_parser.specs.meaning.Reading.{node_added}
 use Rattle.liquid_parser.proofs.BlockLemmas.{same_fault}
 use Rattle.liquid_parser.proofs.StepLemmas.{then_refused}
 

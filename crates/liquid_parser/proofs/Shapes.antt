@@ -1,13 +1,13 @@
 -- The shapes of literals.
 use Rattle.std.proofs.Common.{◌≡◌, String, Global, string_bytes, rules}
 use Rattle.std.proofs.Common.{ap, ◌∙◌}
-use Rattle.liquid_scalar.specs.Scalar.{text}
+use Rattle.liquid_scalar.specs.meaning.Scalar.{text}
 use Rattle.liquid_scalar.specs.declared.scalar.ScalarOf.TheVariants.{Str}
-use Rattle.liquid_value.specs.Tree.{scalar}
-use Rattle.liquid_value.specs.View.{view}
+use Rattle.liquid_value.specs.meaning.Tree.{scalar}
+use Rattle.liquid_value.specs.meaning.View.{view}
 use Rattle.liquid_value.specs.declared.value.Value.{Value, Scalar, the_lemmas as value_lemmas}
-use Rattle.liquid_plugins.specs.Expression.{literal}
-use Rattle.liquid_plugins.specs.ExpressionOf.{expression_of}
+use Rattle.liquid_plugins.specs.meaning.Expression.{literal}
+use Rattle.liquid_plugins.specs.meaning.ExpressionOf.{expression_of}
 use Rattle.liquid_plugins.specs.declared.expression.Expression.{Literal, the_lemmas}
 
 pub literal_shape : (x : Value) → expression_of (Literal x) ≡ literal (view x)

@@ -4,21 +4,20 @@ use Rattle.std.specs.Prelude.{IfSome}
 use Rattle.std.specs.declared.alloc.Global.{Global}
 use Rattle.std.proofs.lemmas.List.{length-map, length-append, map_push}
 use Rattle.liquid_error.specs.declared.place.Place.{Place}
-use Rattle.liquid_error.specs.Refusal.{Refusal, or_placed, ok_then}
-use Rattle.liquid_grammar.specs.Tokens as token
-use Rattle.liquid_tree.specs.declared.node.Node as code
-use Rattle.liquid_tree.specs.declared.node.Node.TheVariants.{Text, Brief, Name, Chain, Tag, Block, rolls-Text, rolls-Brief, rolls-Name, rolls-Chain, rolls-Tag, rolls-Block}
+use Rattle.liquid_error.specs.meaning.Refusal.{Refusal, or_placed, ok_then}
+use Rattle.liquid_grammar.specs.meaning.Tokens as token
+use Rattle.liquid_plugins.specs.declared.tree.Node as code
+use Rattle.liquid_plugins.specs.declared.tree.Node.TheVariants.{Text, Brief, Name, Chain, Tag, Block, rolls-Text, rolls-Brief, rolls-Name, rolls-Chain, rolls-Tag, rolls-Block}
 use Rattle.liquid_plugins.specs.declared.expression.FilterChain.{FilterChain}
-use Rattle.liquid_plugins.specs.ExpressionOf.{chain_of}
+use Rattle.liquid_plugins.specs.meaning.ExpressionOf.{chain_of}
 use Rattle.std.specs.Prelude.{string_bytes, String}
-use Rattle.liquid_tree.specs.Tree.{NodeShape, text_node, chain_node, tag_node, block_node, nodes_from, parts_from}
-use Rattle.liquid_tree.specs.ArrayString.{ArrayString}
-use Rattle.liquid_tree.specs.NodesOf.{name_chain, IsText, node_step, node_of, shapes_of}
-use Rattle.liquid_parser.specs.Handed.{handed, place_in, expect_nothing}
-use Rattle.liquid_parser.specs.Lang as lang
-use Rattle.liquid_parser.specs.Lang.{Filters, parts}
-use Rattle.liquid_parser.specs.Reading.{Open, among, placed_at, name_place, block_with}
-use Rattle.liquid_parser.specs.Views.{begun, closed, node_added}
+use Rattle.liquid_plugins.specs.meaning.Nodes.{NodeShape, text_node, chain_node, tag_node, block_node, nodes_from, parts_from}
+use Rattle.liquid_plugins.specs.ArrayString.{ArrayString}
+use Rattle.liquid_plugins.specs.meaning.NodesOf.{name_chain, IsText, node_step, node_of, shapes_of}
+use Rattle.liquid_parser.specs.meaning.Handed.{handed, place_in, expect_nothing}
+use Rattle.liquid_parser.specs.meaning.Lang as lang
+use Rattle.liquid_parser.specs.meaning.Lang.{Filters, parts}
+use Rattle.liquid_parser.specs.meaning.Reading.{Open, among, begun, block_with, closed, finished, name_place, node_added, placed_at}
 
 pub placed_ok : {A B : Type 0} (place : Place) (m : Result A Refusal) (k : A → Result B Refusal) (x : A) → m ≡ Ok x → ok_then (placed_at place m) k ≡ k x
 placed_ok place m k x h = ap (λ n. ok_then (placed_at place n) k) h
@@ -45,10 +44,8 @@ module _ {F T P B : Type 0} (source : List ℕ) (t : token.Tag) where
       ∙ (ap (λ q. Ok (record { kind = kind; place = q; plan = plan; before = nodes; parts = [] })) (sym f)
       ∙ ap (λ q. Ok (record { kind = kind; place = at; plan = plan; before = nodes; parts = q })) (sym e))
 
-  abbrev pub ending : (b : Open F T P B) (nodes : List (NodeShape F T B)) → Result (List (NodeShape F T B)) Refusal
-  ending b nodes =
-      ok_then (placed_at b.place (b.kind.means.finish b.plan (parts (length b.parts + 1))))
-      (λ made. Ok (b.before ++ block_with made (b.parts ++ nodes ∷ []) ∷ []))
+  abbrev ending : (b : Open F T P B) (nodes : List (NodeShape F T B)) → Result (List (NodeShape F T B)) Refusal
+  ending b nodes = finished b (parts (length b.parts + 1)) (b.parts ++ nodes ∷ [])
 
   pub closed_ok : (b : Open F T P B) (nodes after : List (NodeShape F T B)) (n : ℕ) (made : B)
       → expect_nothing (handed source t) ≡ Ok tt → b.kind.means.finish b.plan (parts n) ≡ Ok made → n ≡ length b.parts + 1

@@ -1,16 +1,16 @@
 -- The first token of a tag.
 use Rattle.std.proofs.Common.{◌≡◌, ℕ, List, [], ◌∷◌, map, Option, Some, None, Ok, Err, refl, sym, ap, ◌∙◌, subst}
 use Rattle.std.proofs.lemmas.Option.{same_Some}
-use Rattle.liquid_error.specs.Refusal.{located}
+use Rattle.liquid_error.specs.meaning.Refusal.{located}
 use Rattle.std.specs.Prelude.{codes, IfSome}
-use Rattle.liquid_grammar.specs.Rules.{Begins, Repeated, ends, more, here, instead, ◌▷◌}
-use Rattle.liquid_grammar.specs.Grammar.{White}
-use Rattle.liquid_grammar.specs.Steps as read
-use Rattle.liquid_grammar.specs.Tokens.{Token, range, chain, symbol, TokenRule}
+use Rattle.liquid_grammar.specs.meaning.Rules.{Begins, Repeated, ends, more, here, instead, ◌▷◌}
+use Rattle.liquid_grammar.specs.meaning.Grammar.{White}
+use Rattle.liquid_grammar.specs.steps.Steps as read
+use Rattle.liquid_grammar.specs.meaning.Tokens.{Token, range, chain, symbol, TokenRule}
 use Rattle.liquid_grammar.proofs.GrammarExact.{exact-white}
-use Rattle.liquid_parser.specs.declared.tokens.TagTokenIter.{TagTokenIter}
-use Rattle.liquid_parser.specs.Handed.{Tokens, handed_token, expect_nothing, none_left, place_in, slice_between}
-use Rattle.liquid_parser.specs.Plugins.{AreTokens}
+use Rattle.liquid_parser.specs.declared.cursor.tokens.TagTokenIter.{TagTokenIter}
+use Rattle.liquid_parser.specs.meaning.Handed.{Tokens, handed_token, expect_nothing, none_left, place_in, slice_between}
+use Rattle.liquid_parser.specs.meaning.Plugins.{AreTokens}
 
 pub same_rest : (s a b v w : List ℕ) → White s a v → White s b w → a ≡ b
 unfolding read.white

@@ -1,18 +1,18 @@
 -- Variables that are whole texts.
 use Rattle.std.proofs.Common.{◌≡◌, ℕ, List, [], ◌∷◌, Option, Some, None, Ok, refl, sym, ap, ◌∙◌, subst, true, false, ◌==◌, length, arith, eqb-true}
-use Rattle.liquid_error.specs.Refusal.{ok_then}
-use Rattle.liquid_grammar.specs.Faults.{Fault, fault_within, value_fault, indexes_fault}
-use Rattle.liquid_grammar.specs.Grammar.{Identifier}
-use Rattle.liquid_grammar.specs.Matches.{Single}
-use Rattle.liquid_grammar.specs.Rules.{Repeated}
-use Rattle.liquid_grammar.specs.Values.{Value, Index, IndexRule, VariableRule, gather}
+use Rattle.liquid_error.specs.meaning.Refusal.{ok_then}
+use Rattle.liquid_grammar.specs.meaning.Faults.{Fault, fault_within, value_fault, indexes_fault}
+use Rattle.liquid_grammar.specs.meaning.Grammar.{Identifier}
+use Rattle.liquid_grammar.specs.meaning.Matches.{Single}
+use Rattle.liquid_grammar.specs.meaning.Rules.{Repeated}
+use Rattle.liquid_grammar.specs.meaning.Values.{Value, Index, IndexRule, VariableRule, gather}
 use Rattle.liquid_grammar.proofs.Exact.{same_match}
 use Rattle.liquid_grammar.proofs.TokenExact.{exact-variable, exact-value}
-use Rattle.liquid_scalar.specs.Scalar.{text}
-use Rattle.liquid_plugins.specs.Expression.{ExpressionShape, variable}
-use Rattle.liquid_parser.specs.Handed.{expression_meant, indexes_meant}
-use Rattle.liquid_parser.specs.Reading.{checked}
-use Rattle.liquid_parser.specs.Variables.{variable_read}
+use Rattle.liquid_scalar.specs.meaning.Scalar.{text}
+use Rattle.liquid_plugins.specs.meaning.Expression.{ExpressionShape, variable}
+use Rattle.liquid_parser.specs.meaning.Handed.{expression_meant, indexes_meant}
+use Rattle.liquid_parser.specs.meaning.Reading.{checked}
+use Rattle.liquid_parser.specs.meaning.Variables.{variable_read}
 
 pub one_variable : Single VariableRule
 one_variable s r₁ r₂ a₁ a₂ m₁ m₂ = same_match (exact-variable exact-value) s r₁ r₂ a₁ a₂ m₁ m₂

@@ -1,23 +1,7 @@
-//! The cursor over the tokens of a tag.
-ghost use Rattle.liquid_error.specs.Told.{Gives};
-ghost use Rattle.liquid_parser.specs.Handed.{Tokens, expect_nothing};
-ghost use Rattle.liquid_parser.specs.Plugins.{AreTokens};
+//! What a plug-in is handed: tags, tokens, and the elements of a block.
 
-use crate::place::refused_at;
-use crate::tokens::TagTokenIter;
-use liquid_error::Error;
-use liquid_grammar::{match_token, match_white};
-use std::alloc::Global;
-
-impl<'a> TagTokenIter<'a> {
-    /// No token is left; else the next one is refused.
-    pub fn expect_nothing(self, alloc: Global) -> std::result::Result<(), Error>
-        ensures { (ts : Tokens) → AreTokens self.entry ts → Gives (λ u. u) result (expect_nothing ts) }
-    {
-        let (_, rest) = match_white(self.rest);
-        match match_token(rest) {
-            None => Ok(()),
-            Some(_) => Err(refused_at(alloc, self.source, "Unexpected token", rest)),
-        }
-    }
-}
+pub(crate) mod block;
+pub(crate) mod element;
+pub(crate) mod tag;
+pub(crate) mod token;
+pub(crate) mod tokens;

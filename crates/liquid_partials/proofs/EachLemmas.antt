@@ -10,14 +10,14 @@ use Rattle.std.specs.Ordering.{nat_cmp, is_lt, eq_by_cmp}
 use Rattle.std.specs.String.{string_cmp}
 use Rattle.std.specs.declared.alloc.Global.{Global}
 use Rattle.liquid_error.specs.declared.error.Error.{Error}
-use Rattle.liquid_runtime.specs.Maps.{NameMap}
+use Rattle.liquid_runtime.specs.meaning.Maps.{NameMap}
 use Rattle.liquid_runtime.proofs.MapLaws.{same_names}
-use Rattle.liquid_plugins.specs.Registry.{by_name, IsCopied}
+use Rattle.liquid_plugins.specs.meaning.Registry.{by_name, IsCopied}
 use Rattle.liquid_plugins.proofs.Registries.{get-by_name, by_name-empty, by_name-unchanged, by_name-insert, names-by_name, by_name-copy}
-use Rattle.liquid_tree.specs.Tree.{Nodes}
-use Rattle.liquid_partials.specs.Each.{each}
-use Rattle.liquid_partials.specs.Kept.{kept_as, all_kept}
-use Rattle.liquid_partials.specs.Sources.{texts_in}
+use Rattle.liquid_plugins.specs.meaning.Nodes.{Nodes}
+use Rattle.liquid_partials.specs.meaning.Each.{each}
+use Rattle.liquid_partials.specs.meaning.Kept.{kept_as, all_kept}
+use Rattle.liquid_partials.specs.meaning.Sources.{texts_in}
 
 module _ {X Y : Type 0} (f : X → Y) where
   abbrev made : List ℕ × X → List ℕ × Y

@@ -13,16 +13,16 @@ use Rattle.std.specs.declared.alloc.Global.{Global}
 use Rattle.std.specs.declared.cmp.Ordering.{Ordering}
 use Rattle.std.specs.declared.cmp.Ordering.TheVariants.{Less, Equal, Greater}
 use Rattle.liquid_error.specs.declared.error.Error.{Error}
-use Rattle.liquid_error.specs.Refusal.{Refusal}
-use Rattle.liquid_runtime.specs.Maps.{NameMap, over}
+use Rattle.liquid_error.specs.meaning.Refusal.{Refusal}
+use Rattle.liquid_runtime.specs.meaning.Maps.{NameMap, over}
 use Rattle.liquid_runtime.proofs.MapLaws.{same_names, get-over, empty-over, insert-over}
-use Rattle.liquid_plugins.specs.Registry.{by_name}
-use Rattle.liquid_tree.specs.Tree.{Nodes}
-use Rattle.liquid_parser.specs.Lang.{Lang}
-use Rattle.liquid_partials.specs.Compiled.{Compiled, once}
-use Rattle.liquid_partials.specs.Keeping.{is_read, kept_after}
-use Rattle.liquid_partials.specs.Kept.{all_kept, kept_as, kept_or_read, readings, HasAll, Known}
-use Rattle.liquid_partials.specs.Sources.{Texts}
+use Rattle.liquid_plugins.specs.meaning.Registry.{by_name}
+use Rattle.liquid_plugins.specs.meaning.Nodes.{Nodes}
+use Rattle.liquid_parser.specs.meaning.Lang.{Lang}
+use Rattle.liquid_partials.specs.meaning.Compiled.{Compiled, once}
+use Rattle.liquid_partials.specs.meaning.Keeping.{is_read, kept_after}
+use Rattle.liquid_partials.specs.meaning.Kept.{all_kept, kept_as, kept_or_read, readings, HasAll, Known}
+use Rattle.liquid_partials.specs.meaning.Sources.{Texts}
 use Rattle.liquid_partials.proofs.EachLemmas.{contains-each, empty-named, get-each, keys-each}
 use Rattle.liquid_partials.proofs.StoreLemmas.{compiled, contains-readings}
 

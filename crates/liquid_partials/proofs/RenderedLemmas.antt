@@ -2,16 +2,16 @@
 use Rattle.std.proofs.Common.{◌≡◌, List, Option, None, Some, Result, Ok, Err, refl}
 use Rattle.std.specs.Prelude.{IfSome}
 use Rattle.liquid_error.specs.declared.error.Error.{Error}
-use Rattle.liquid_error.specs.Refusal.{Refusal}
-use Rattle.liquid_error.specs.Told.{told}
-use Rattle.liquid_runtime.specs.View.{View}
-use Rattle.liquid_tree.specs.Tree.{NodeShape}
-use Rattle.liquid_template.specs.Actions.{refuses}
-use Rattle.liquid_template.specs.Outcome.{Renders}
-use Rattle.liquid_template.specs.Run.{Action, Run}
-use Rattle.liquid_template.specs.Sunk.{Sunk}
+use Rattle.liquid_error.specs.meaning.Refusal.{Refusal}
+use Rattle.liquid_error.specs.meaning.Told.{told}
+use Rattle.liquid_runtime.specs.meaning.View.{View}
+use Rattle.liquid_plugins.specs.meaning.Nodes.{NodeShape}
+use Rattle.liquid_template.specs.meaning.Actions.{refuses}
+use Rattle.liquid_template.specs.meaning.Outcome.{Renders}
+use Rattle.liquid_template.specs.meaning.Run.{Action, Run}
+use Rattle.liquid_template.specs.meaning.Sunk.{Sunk}
 use Rattle.liquid_template.proofs.Joins.{renders_refused}
-use Rattle.liquid_partials.specs.Rendered.{RenderedBy}
+use Rattle.liquid_partials.specs.meaning.Rendered.{RenderedBy}
 
 module _ {Reg F T B : Type 0} (action : List (NodeShape F T B) → Action Reg) where
   abbrev Answer : Type 0

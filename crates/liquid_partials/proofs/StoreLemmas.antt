@@ -2,17 +2,17 @@
 use Rattle.std.proofs.Common.{◌≡◌, ℕ, Bool, true, false, List, Option, Some, None, is_some, Result, Ok, Err, refl, ap, sym, ◌∙◌, subst}
 use Rattle.std.specs.Prelude.{option_map, option_and_then, IfOk, IfSome}
 use Rattle.std.specs.FinMap.{get, keys}
-use Rattle.liquid_error.specs.Refusal.{Refusal, ok_then}
+use Rattle.liquid_error.specs.meaning.Refusal.{Refusal, ok_then}
 use Rattle.liquid_grammar.proofs.CoverLemmas.{cover_of}
-use Rattle.liquid_runtime.specs.Maps.{NameMap}
+use Rattle.liquid_runtime.specs.meaning.Maps.{NameMap}
 use Rattle.liquid_runtime.proofs.MapLaws.{same_names}
-use Rattle.liquid_tree.specs.Tree.{NodeShape, Nodes}
-use Rattle.liquid_parser.specs.Lang.{Lang}
-use Rattle.liquid_parser.specs.Reading.{Reads, answer}
-use Rattle.liquid_template.specs.Partials.{partial_in, tree_in, read_tree, unknown_partial}
-use Rattle.liquid_partials.specs.Sources.{Texts}
-use Rattle.liquid_partials.specs.Compiled.{as_tree, FoundAs, Compiled, OneStore}
-use Rattle.liquid_partials.specs.Kept.{reading, readings, tried}
+use Rattle.liquid_plugins.specs.meaning.Nodes.{NodeShape, Nodes}
+use Rattle.liquid_parser.specs.meaning.Lang.{Lang}
+use Rattle.liquid_parser.specs.meaning.Reading.{Reads, answer}
+use Rattle.liquid_template.specs.meaning.Partials.{partial_in, tree_in, read_tree, unknown_partial}
+use Rattle.liquid_partials.specs.meaning.Sources.{Texts}
+use Rattle.liquid_partials.specs.meaning.Compiled.{as_tree, FoundAs, Compiled, OneStore}
+use Rattle.liquid_partials.specs.meaning.Kept.{reading, readings, tried}
 use Rattle.liquid_partials.proofs.EachLemmas.{get-each, keys-each, contains-each}
 
 abbrev IsTrueBool : Bool → Type 0

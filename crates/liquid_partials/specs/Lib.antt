@@ -1,7 +1,2 @@
-pub mod Compiled
-pub mod Each
-pub mod Keeping
-pub mod Kept
-pub mod Rendered
-pub mod Requests
-pub mod Sources
+pub mod meaning
+pub mod laws

@@ -1,8 +1,8 @@
 //! Compilers of partials.
 ghost use Rattle.std.specs.Prelude.{IfOk};
-ghost use Rattle.liquid_parser.specs.Plugins.{block_of, language_of};
-ghost use Rattle.liquid_partials.specs.Compiled.{Compiled};
-ghost use Rattle.liquid_partials.specs.Sources.{Texts};
+ghost use Rattle.liquid_parser.specs.meaning.Plugins.{language_of};
+ghost use Rattle.liquid_partials.specs.meaning.Compiled.{Compiled};
+ghost use Rattle.liquid_partials.specs.meaning.Sources.{Texts};
 
 use liquid_parser::{Language, ParseBlock, ParseTag};
 use liquid_plugins::ParseFilter;
@@ -25,5 +25,5 @@ pub trait PartialCompiler<F: ParseFilter, T: ParseTag<F>, B: ParseBlock<F>> {
         alloc: Global,
         language: Rc<Language<F, T, B>>,
     ) -> Result<Self::Store, AllocError>
-        ensures { IfOk result (λ store. Compiled (language_of F.makes T.gives (block_of B.start_name B.end_name B.meaning) language.value) (texts self) (Self.Store.finds store)) };
+        ensures { IfOk result (λ store. Compiled (language_of F.makes T.gives B.block language.value) (texts self) (Self.Store.finds store)) };
 }

@@ -18,7 +18,7 @@ pub struct InMemorySource {
 impl Model for InMemorySource {
     ghost use Rattle.std.specs.Coded.{coded_list, coded_ℕ};
     ghost use Rattle.std.specs.FinMap.{code};
-    ghost use Rattle.liquid_partials.specs.Sources.{Texts, texts_in};
+    ghost use Rattle.liquid_partials.specs.meaning.Sources.{Texts, texts_in};
 
     ghost Value = { Texts };
 

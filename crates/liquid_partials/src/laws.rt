@@ -1,8 +1,8 @@
 //! Laws of stores: each is the clause of a function that does nothing.
-ghost use Rattle.liquid_parser.specs.Plugins.{block_of, language_of};
-ghost use Rattle.liquid_partials.specs.Compiled.{OneStore};
-ghost use Rattle.liquid_partials.specs.Requests.{FewReadings, StoresAgree};
-ghost use Rattle.liquid_tree.specs.Tree.{Nodes};
+ghost use Rattle.liquid_parser.specs.meaning.Plugins.{language_of};
+ghost use Rattle.liquid_partials.specs.meaning.Compiled.{OneStore};
+ghost use Rattle.liquid_partials.specs.laws.Requests.{FewReadings, StoresAgree};
+ghost use Rattle.liquid_plugins.specs.meaning.Nodes.{Nodes};
 
 use liquid_parser::{Language, ParseBlock, ParseTag};
 use liquid_plugins::ParseFilter;
@@ -12,7 +12,7 @@ use liquid_template::PartialStore;
 pub fn one_store<F: ParseFilter + Drop, T: ParseTag<F> + Drop, B: ParseBlock<F> + Drop>(
     language: &Language<F, T, B>,
 )
-    ensures { OneStore (language_of F.makes T.gives (block_of B.start_name B.end_name B.meaning) language.now) }
+    ensures { OneStore (language_of F.makes T.gives B.block language.now) }
 {}
 
 /// Any list of requests has the same answers from two stores that were compiled of one source in one
@@ -24,7 +24,7 @@ where
     B: ParseBlock<F> + Drop,
     S: PartialStore<F::Filter, T::Node, B::Node>,
     R: PartialStore<F::Filter, T::Node, B::Node>,
-    ensures { StoresAgree (language_of F.makes T.gives (block_of B.start_name B.end_name B.meaning) language.now) S.finds R.finds }
+    ensures { StoresAgree (language_of F.makes T.gives B.block language.now) S.finds R.finds }
 {}
 
 /// Over any list of requests a store that keeps its answers reads at most as many texts as it keeps

@@ -2,14 +2,14 @@
 ghost use Rattle.std.specs.Prelude.{◌≡◌, ◌+◌, true, false, is_ok, option_map, string_bytes, IfOk, IfSome, OnOk, OnErr};
 ghost use Rattle.std.specs.Borrow.{sem, Lends};
 ghost use Rattle.std.specs.FinMap.{contains_key, empty, get, insert};
-ghost use Rattle.liquid_error.specs.Told.{Gives};
-ghost use Rattle.liquid_parser.specs.Plugins.{block_of, language_of};
-ghost use Rattle.liquid_partials.specs.Compiled.{Compiled, once};
+ghost use Rattle.liquid_error.specs.meaning.Told.{Gives};
+ghost use Rattle.liquid_parser.specs.meaning.Plugins.{language_of};
+ghost use Rattle.liquid_partials.specs.meaning.Compiled.{Compiled, once};
 ghost use Rattle.liquid_partials.specs.contracts.lazy.LazyCompiler.{the_row};
-ghost use Rattle.liquid_partials.specs.Keeping.{is_answer, is_read, kept_after};
-ghost use Rattle.liquid_partials.specs.Kept.{all_kept, kept_as, kept_or_read, readings, Known};
-ghost use Rattle.liquid_template.specs.Partials.{partial_in, read_tree, tree_in};
-ghost use Rattle.liquid_template.specs.TemplateOf.{template_nodes};
+ghost use Rattle.liquid_partials.specs.meaning.Keeping.{is_answer, is_read, kept_after};
+ghost use Rattle.liquid_partials.specs.meaning.Kept.{all_kept, kept_as, kept_or_read, readings, Known};
+ghost use Rattle.liquid_template.specs.meaning.Partials.{partial_in, read_tree, tree_in};
+ghost use Rattle.liquid_template.specs.meaning.TemplateOf.{template_nodes};
 
 use crate::compiler::PartialCompiler;
 use crate::source::PartialSource;
@@ -81,8 +81,8 @@ where
         alloc: Global,
         language: Rc<Language<F, T, B>>,
     ) -> Result<LazyStore<S, F, T, B>, AllocError>
-        ensures compiled { IfOk result (λ store. Compiled (language_of F.makes T.gives (block_of B.start_name B.end_name B.meaning) language.value) (S.texts self.source)
-            (kept_or_read (λ template. template_nodes F.Filter.shape T.Node.shape B.Node.shape template.value) (language_of F.makes T.gives (block_of B.start_name B.end_name B.meaning) store.texts.language.value) store.kept (S.texts store.texts.source))) }
+        ensures compiled { IfOk result (λ store. Compiled (language_of F.makes T.gives B.block language.value) (S.texts self.source)
+            (kept_or_read (λ template. template_nodes F.Filter.shape T.Node.shape B.Node.shape template.value) (language_of F.makes T.gives B.block store.texts.language.value) store.kept (S.texts store.texts.source))) }
         ensures source { IfOk result (λ store. store.texts.source ≡ self.source) }
         ensures kept { IfOk result (λ store. (all_kept (λ template. template_nodes F.Filter.shape T.Node.shape B.Node.shape template.value) store.kept) ≡ empty) }
         ensures count { IfOk result (λ store. store.texts.readings.count ≡ 0) }
@@ -149,12 +149,12 @@ where
         name: &str,
     ) -> Result<Option<Kept<F::Filter, T::Node, B::Node>>, AllocError>
         requires { contains_key (all_kept (λ template. template_nodes F.Filter.shape T.Node.shape B.Node.shape template.value) self.old.kept) name.now ≡ false }
-        ensures gives { IfOk result (λ answer. option_map (kept_as (λ template. template_nodes F.Filter.shape T.Node.shape B.Node.shape template.value)) answer ≡ get (kept_or_read (λ template. template_nodes F.Filter.shape T.Node.shape B.Node.shape template.value) (language_of F.makes T.gives (block_of B.start_name B.end_name B.meaning) self.old.texts.language.value) self.old.kept (S.texts self.old.texts.source)) name.now) }
+        ensures gives { IfOk result (λ answer. option_map (kept_as (λ template. template_nodes F.Filter.shape T.Node.shape B.Node.shape template.value)) answer ≡ get (kept_or_read (λ template. template_nodes F.Filter.shape T.Node.shape B.Node.shape template.value) (language_of F.makes T.gives B.block self.old.texts.language.value) self.old.kept (S.texts self.old.texts.source)) name.now) }
         ensures told { IfOk result (λ answer. IfSome answer (λ kept. is_answer kept ≡ true)) }
-        ensures same { (kept_or_read (λ template. template_nodes F.Filter.shape T.Node.shape B.Node.shape template.value) (language_of F.makes T.gives (block_of B.start_name B.end_name B.meaning) self.new.texts.language.value) self.new.kept (S.texts self.new.texts.source)) ≡ (kept_or_read (λ template. template_nodes F.Filter.shape T.Node.shape B.Node.shape template.value) (language_of F.makes T.gives (block_of B.start_name B.end_name B.meaning) self.old.texts.language.value) self.old.kept (S.texts self.old.texts.source)) }
-        ensures keeps { (all_kept (λ template. template_nodes F.Filter.shape T.Node.shape B.Node.shape template.value) self.new.kept) ≡ kept_after (is_ok result) (kept_or_read (λ template. template_nodes F.Filter.shape T.Node.shape B.Node.shape template.value) (language_of F.makes T.gives (block_of B.start_name B.end_name B.meaning) self.old.texts.language.value) self.old.kept (S.texts self.old.texts.source)) name.now (all_kept (λ template. template_nodes F.Filter.shape T.Node.shape B.Node.shape template.value) self.old.kept) }
+        ensures same { (kept_or_read (λ template. template_nodes F.Filter.shape T.Node.shape B.Node.shape template.value) (language_of F.makes T.gives B.block self.new.texts.language.value) self.new.kept (S.texts self.new.texts.source)) ≡ (kept_or_read (λ template. template_nodes F.Filter.shape T.Node.shape B.Node.shape template.value) (language_of F.makes T.gives B.block self.old.texts.language.value) self.old.kept (S.texts self.old.texts.source)) }
+        ensures keeps { (all_kept (λ template. template_nodes F.Filter.shape T.Node.shape B.Node.shape template.value) self.new.kept) ≡ kept_after (is_ok result) (kept_or_read (λ template. template_nodes F.Filter.shape T.Node.shape B.Node.shape template.value) (language_of F.makes T.gives B.block self.old.texts.language.value) self.old.kept (S.texts self.old.texts.source)) name.now (all_kept (λ template. template_nodes F.Filter.shape T.Node.shape B.Node.shape template.value) self.old.kept) }
         ensures source { self.new.texts.source ≡ self.old.texts.source }
-        ensures count { self.new.texts.readings.count ≡ self.old.texts.readings.count + once (is_read (kept_or_read (λ template. template_nodes F.Filter.shape T.Node.shape B.Node.shape template.value) (language_of F.makes T.gives (block_of B.start_name B.end_name B.meaning) self.old.texts.language.value) self.old.kept (S.texts self.old.texts.source)) (all_kept (λ template. template_nodes F.Filter.shape T.Node.shape B.Node.shape template.value) self.old.kept) name.now) }
+        ensures count { self.new.texts.readings.count ≡ self.old.texts.readings.count + once (is_read (kept_or_read (λ template. template_nodes F.Filter.shape T.Node.shape B.Node.shape template.value) (language_of F.makes T.gives B.block self.old.texts.language.value) self.old.kept (S.texts self.old.texts.source)) (all_kept (λ template. template_nodes F.Filter.shape T.Node.shape B.Node.shape template.value) self.old.kept) name.now) }
     {
         match kept_of(alloc, &mut self.texts, name)? {
             Some(answer) => {
@@ -174,7 +174,7 @@ where
     T: ParseTag<F> + Drop,
     B: ParseBlock<F> + Drop,
 {
-    ghost finds = { λ store. kept_or_read (λ template. template_nodes F.Filter.shape T.Node.shape B.Node.shape template.value) (language_of F.makes T.gives (block_of B.start_name B.end_name B.meaning) store.texts.language.value) store.kept (S.texts store.texts.source) };
+    ghost finds = { λ store. kept_or_read (λ template. template_nodes F.Filter.shape T.Node.shape B.Node.shape template.value) (language_of F.makes T.gives B.block store.texts.language.value) store.kept (S.texts store.texts.source) };
 
     fn contains(&self, name: &str) -> bool {
         self.texts.contains(name)
@@ -190,11 +190,11 @@ where
         alloc: Global,
         name: &str,
     ) -> Result<Option<Rc<Template<F::Filter, T::Node, B::Node>>>, AllocError>
-        ensures gives { IfOk result (λ found. option_map (λ template. template_nodes F.Filter.shape T.Node.shape B.Node.shape template.value) found ≡ tree_in (kept_or_read (λ template. template_nodes F.Filter.shape T.Node.shape B.Node.shape template.value) (language_of F.makes T.gives (block_of B.start_name B.end_name B.meaning) self.old.texts.language.value) self.old.kept (S.texts self.old.texts.source)) name.now) }
-        ensures kept { (kept_or_read (λ template. template_nodes F.Filter.shape T.Node.shape B.Node.shape template.value) (language_of F.makes T.gives (block_of B.start_name B.end_name B.meaning) self.new.texts.language.value) self.new.kept (S.texts self.new.texts.source)) ≡ (kept_or_read (λ template. template_nodes F.Filter.shape T.Node.shape B.Node.shape template.value) (language_of F.makes T.gives (block_of B.start_name B.end_name B.meaning) self.old.texts.language.value) self.old.kept (S.texts self.old.texts.source)) }
-        ensures keeps { (all_kept (λ template. template_nodes F.Filter.shape T.Node.shape B.Node.shape template.value) self.new.kept) ≡ kept_after (is_ok result) (kept_or_read (λ template. template_nodes F.Filter.shape T.Node.shape B.Node.shape template.value) (language_of F.makes T.gives (block_of B.start_name B.end_name B.meaning) self.old.texts.language.value) self.old.kept (S.texts self.old.texts.source)) name.now (all_kept (λ template. template_nodes F.Filter.shape T.Node.shape B.Node.shape template.value) self.old.kept) }
+        ensures gives { IfOk result (λ found. option_map (λ template. template_nodes F.Filter.shape T.Node.shape B.Node.shape template.value) found ≡ tree_in (kept_or_read (λ template. template_nodes F.Filter.shape T.Node.shape B.Node.shape template.value) (language_of F.makes T.gives B.block self.old.texts.language.value) self.old.kept (S.texts self.old.texts.source)) name.now) }
+        ensures kept { (kept_or_read (λ template. template_nodes F.Filter.shape T.Node.shape B.Node.shape template.value) (language_of F.makes T.gives B.block self.new.texts.language.value) self.new.kept (S.texts self.new.texts.source)) ≡ (kept_or_read (λ template. template_nodes F.Filter.shape T.Node.shape B.Node.shape template.value) (language_of F.makes T.gives B.block self.old.texts.language.value) self.old.kept (S.texts self.old.texts.source)) }
+        ensures keeps { (all_kept (λ template. template_nodes F.Filter.shape T.Node.shape B.Node.shape template.value) self.new.kept) ≡ kept_after (is_ok result) (kept_or_read (λ template. template_nodes F.Filter.shape T.Node.shape B.Node.shape template.value) (language_of F.makes T.gives B.block self.old.texts.language.value) self.old.kept (S.texts self.old.texts.source)) name.now (all_kept (λ template. template_nodes F.Filter.shape T.Node.shape B.Node.shape template.value) self.old.kept) }
         ensures source { self.new.texts.source ≡ self.old.texts.source }
-        ensures count { self.new.texts.readings.count ≡ self.old.texts.readings.count + once (is_read (kept_or_read (λ template. template_nodes F.Filter.shape T.Node.shape B.Node.shape template.value) (language_of F.makes T.gives (block_of B.start_name B.end_name B.meaning) self.old.texts.language.value) self.old.kept (S.texts self.old.texts.source)) (all_kept (λ template. template_nodes F.Filter.shape T.Node.shape B.Node.shape template.value) self.old.kept) name.now) }
+        ensures count { self.new.texts.readings.count ≡ self.old.texts.readings.count + once (is_read (kept_or_read (λ template. template_nodes F.Filter.shape T.Node.shape B.Node.shape template.value) (language_of F.makes T.gives B.block self.old.texts.language.value) self.old.kept (S.texts self.old.texts.source)) (all_kept (λ template. template_nodes F.Filter.shape T.Node.shape B.Node.shape template.value) self.old.kept) name.now) }
     {
         match self.under(name) {
             Some(answer) => kept_tree(answer),
@@ -212,11 +212,11 @@ where
         alloc: Global,
         name: &str,
     ) -> Result<Rc<Template<F::Filter, T::Node, B::Node>>, Error>
-        ensures gives { Gives (λ template. template_nodes F.Filter.shape T.Node.shape B.Node.shape template.value) result (partial_in (kept_or_read (λ template. template_nodes F.Filter.shape T.Node.shape B.Node.shape template.value) (language_of F.makes T.gives (block_of B.start_name B.end_name B.meaning) self.old.texts.language.value) self.old.kept (S.texts self.old.texts.source)) name.now) }
-        ensures kept { (kept_or_read (λ template. template_nodes F.Filter.shape T.Node.shape B.Node.shape template.value) (language_of F.makes T.gives (block_of B.start_name B.end_name B.meaning) self.new.texts.language.value) self.new.kept (S.texts self.new.texts.source)) ≡ (kept_or_read (λ template. template_nodes F.Filter.shape T.Node.shape B.Node.shape template.value) (language_of F.makes T.gives (block_of B.start_name B.end_name B.meaning) self.old.texts.language.value) self.old.kept (S.texts self.old.texts.source)) }
-        ensures keeps { (all_kept (λ template. template_nodes F.Filter.shape T.Node.shape B.Node.shape template.value) self.new.kept) ≡ kept_after (is_answer result) (kept_or_read (λ template. template_nodes F.Filter.shape T.Node.shape B.Node.shape template.value) (language_of F.makes T.gives (block_of B.start_name B.end_name B.meaning) self.old.texts.language.value) self.old.kept (S.texts self.old.texts.source)) name.now (all_kept (λ template. template_nodes F.Filter.shape T.Node.shape B.Node.shape template.value) self.old.kept) }
+        ensures gives { Gives (λ template. template_nodes F.Filter.shape T.Node.shape B.Node.shape template.value) result (partial_in (kept_or_read (λ template. template_nodes F.Filter.shape T.Node.shape B.Node.shape template.value) (language_of F.makes T.gives B.block self.old.texts.language.value) self.old.kept (S.texts self.old.texts.source)) name.now) }
+        ensures kept { (kept_or_read (λ template. template_nodes F.Filter.shape T.Node.shape B.Node.shape template.value) (language_of F.makes T.gives B.block self.new.texts.language.value) self.new.kept (S.texts self.new.texts.source)) ≡ (kept_or_read (λ template. template_nodes F.Filter.shape T.Node.shape B.Node.shape template.value) (language_of F.makes T.gives B.block self.old.texts.language.value) self.old.kept (S.texts self.old.texts.source)) }
+        ensures keeps { (all_kept (λ template. template_nodes F.Filter.shape T.Node.shape B.Node.shape template.value) self.new.kept) ≡ kept_after (is_answer result) (kept_or_read (λ template. template_nodes F.Filter.shape T.Node.shape B.Node.shape template.value) (language_of F.makes T.gives B.block self.old.texts.language.value) self.old.kept (S.texts self.old.texts.source)) name.now (all_kept (λ template. template_nodes F.Filter.shape T.Node.shape B.Node.shape template.value) self.old.kept) }
         ensures source { self.new.texts.source ≡ self.old.texts.source }
-        ensures count { self.new.texts.readings.count ≡ self.old.texts.readings.count + once (is_read (kept_or_read (λ template. template_nodes F.Filter.shape T.Node.shape B.Node.shape template.value) (language_of F.makes T.gives (block_of B.start_name B.end_name B.meaning) self.old.texts.language.value) self.old.kept (S.texts self.old.texts.source)) (all_kept (λ template. template_nodes F.Filter.shape T.Node.shape B.Node.shape template.value) self.old.kept) name.now) }
+        ensures count { self.new.texts.readings.count ≡ self.old.texts.readings.count + once (is_read (kept_or_read (λ template. template_nodes F.Filter.shape T.Node.shape B.Node.shape template.value) (language_of F.makes T.gives B.block self.old.texts.language.value) self.old.kept (S.texts self.old.texts.source)) (all_kept (λ template. template_nodes F.Filter.shape T.Node.shape B.Node.shape template.value) self.old.kept) name.now) }
     {
         match self.under(name) {
             Some(answer) => kept_answer(answer),
@@ -242,7 +242,7 @@ where
     T: ParseTag<F> + Drop,
     B: ParseBlock<F> + Drop,
     ensures gives { IfOk result (λ kept. option_map (kept_as (λ template. template_nodes F.Filter.shape T.Node.shape B.Node.shape template.value)) kept
-        ≡ get (readings (language_of F.makes T.gives (block_of B.start_name B.end_name B.meaning) texts.old.language.value) (S.texts texts.old.source)) name.now) }
+        ≡ get (readings (language_of F.makes T.gives B.block texts.old.language.value) (S.texts texts.old.source)) name.now) }
     ensures told { IfOk result (λ kept. IfSome kept (λ answer. is_answer answer ≡ true)) }
     ensures source { texts.new.source ≡ texts.old.source }
     ensures language { texts.new.language ≡ texts.old.language }

@@ -2,13 +2,13 @@
 ghost use Rattle.std.specs.Prelude.{◌≡◌, ◌+◌, option_map, IfOk};
 ghost use Rattle.std.specs.Borrow.{sem, Lends};
 ghost use Rattle.std.specs.FinMap.{contains_key};
-ghost use Rattle.liquid_error.specs.Told.{Gives};
-ghost use Rattle.liquid_parser.specs.Plugins.{block_of, language_of};
-ghost use Rattle.liquid_partials.specs.Compiled.{Compiled, once};
+ghost use Rattle.liquid_error.specs.meaning.Told.{Gives};
+ghost use Rattle.liquid_parser.specs.meaning.Plugins.{language_of};
+ghost use Rattle.liquid_partials.specs.meaning.Compiled.{Compiled, once};
 ghost use Rattle.liquid_partials.specs.contracts.on_demand.OnDemandCompiler.{the_row};
-ghost use Rattle.liquid_partials.specs.Kept.{readings};
-ghost use Rattle.liquid_template.specs.Partials.{partial_in, tree_in};
-ghost use Rattle.liquid_template.specs.TemplateOf.{template_nodes};
+ghost use Rattle.liquid_partials.specs.meaning.Kept.{readings};
+ghost use Rattle.liquid_template.specs.meaning.Partials.{partial_in, tree_in};
+ghost use Rattle.liquid_template.specs.meaning.TemplateOf.{template_nodes};
 
 use crate::compiler::PartialCompiler;
 use crate::source::PartialSource;
@@ -79,8 +79,8 @@ where
         _alloc: Global,
         language: Rc<Language<F, T, B>>,
     ) -> Result<OnDemandStore<S, F, T, B>, AllocError>
-        ensures compiled { IfOk result (λ store. Compiled (language_of F.makes T.gives (block_of B.start_name B.end_name B.meaning) language.value) (S.texts self.source)
-            (readings (language_of F.makes T.gives (block_of B.start_name B.end_name B.meaning) store.texts.language.value) (S.texts store.texts.source))) }
+        ensures compiled { IfOk result (λ store. Compiled (language_of F.makes T.gives B.block language.value) (S.texts self.source)
+            (readings (language_of F.makes T.gives B.block store.texts.language.value) (S.texts store.texts.source))) }
         ensures count { IfOk result (λ store. store.texts.readings.count ≡ 0) }
     {
         Ok(OnDemandStore {
@@ -102,7 +102,7 @@ where
     T: ParseTag<F> + Drop,
     B: ParseBlock<F> + Drop,
 {
-    ghost finds = { λ store. readings (language_of F.makes T.gives (block_of B.start_name B.end_name B.meaning) store.texts.language.value) (S.texts store.texts.source) };
+    ghost finds = { λ store. readings (language_of F.makes T.gives B.block store.texts.language.value) (S.texts store.texts.source) };
 
     fn contains(&self, name: &str) -> bool {
         self.texts.contains(name)
@@ -117,8 +117,8 @@ where
         alloc: Global,
         name: &str,
     ) -> Result<Option<Rc<Template<F::Filter, T::Node, B::Node>>>, AllocError>
-        ensures gives { IfOk result (λ found. option_map (λ template. template_nodes F.Filter.shape T.Node.shape B.Node.shape template.value) found ≡ tree_in (readings (language_of F.makes T.gives (block_of B.start_name B.end_name B.meaning) self.old.texts.language.value) (S.texts self.old.texts.source)) name.now) }
-        ensures kept { readings (language_of F.makes T.gives (block_of B.start_name B.end_name B.meaning) self.new.texts.language.value) (S.texts self.new.texts.source) ≡ readings (language_of F.makes T.gives (block_of B.start_name B.end_name B.meaning) self.old.texts.language.value) (S.texts self.old.texts.source) }
+        ensures gives { IfOk result (λ found. option_map (λ template. template_nodes F.Filter.shape T.Node.shape B.Node.shape template.value) found ≡ tree_in (readings (language_of F.makes T.gives B.block self.old.texts.language.value) (S.texts self.old.texts.source)) name.now) }
+        ensures kept { readings (language_of F.makes T.gives B.block self.new.texts.language.value) (S.texts self.new.texts.source) ≡ readings (language_of F.makes T.gives B.block self.old.texts.language.value) (S.texts self.old.texts.source) }
         ensures count { self.new.texts.readings.count ≡ self.old.texts.readings.count + once (contains_key (S.texts self.old.texts.source) name.now) }
     {
         match self.texts.read(alloc, name) {
@@ -139,8 +139,8 @@ where
         alloc: Global,
         name: &str,
     ) -> Result<Rc<Template<F::Filter, T::Node, B::Node>>, Error>
-        ensures gives { Gives (λ template. template_nodes F.Filter.shape T.Node.shape B.Node.shape template.value) result (partial_in (readings (language_of F.makes T.gives (block_of B.start_name B.end_name B.meaning) self.old.texts.language.value) (S.texts self.old.texts.source)) name.now) }
-        ensures kept { readings (language_of F.makes T.gives (block_of B.start_name B.end_name B.meaning) self.new.texts.language.value) (S.texts self.new.texts.source) ≡ readings (language_of F.makes T.gives (block_of B.start_name B.end_name B.meaning) self.old.texts.language.value) (S.texts self.old.texts.source) }
+        ensures gives { Gives (λ template. template_nodes F.Filter.shape T.Node.shape B.Node.shape template.value) result (partial_in (readings (language_of F.makes T.gives B.block self.old.texts.language.value) (S.texts self.old.texts.source)) name.now) }
+        ensures kept { readings (language_of F.makes T.gives B.block self.new.texts.language.value) (S.texts self.new.texts.source) ≡ readings (language_of F.makes T.gives B.block self.old.texts.language.value) (S.texts self.old.texts.source) }
         ensures count { self.new.texts.readings.count ≡ self.old.texts.readings.count + once (contains_key (S.texts self.old.texts.source) name.now) }
     {
         match self.texts.read(alloc, name) {

@@ -2,9 +2,9 @@
 ghost use Rattle.std.specs.Prelude.{◌≡◌, is_some, map, option_map, ok_or, IfOk};
 ghost use Rattle.std.specs.Cow.{cow_str_bytes};
 ghost use Rattle.std.specs.FinMap.{get, keys};
-ghost use Rattle.liquid_error.specs.Told.{Gives};
-ghost use Rattle.liquid_template.specs.Partials.{unknown_partial};
-ghost use Rattle.liquid_partials.specs.Sources.{Texts};
+ghost use Rattle.liquid_error.specs.meaning.Told.{Gives};
+ghost use Rattle.liquid_template.specs.meaning.Partials.{unknown_partial};
+ghost use Rattle.liquid_partials.specs.meaning.Sources.{Texts};
 
 use liquid_error::Error;
 use liquid_template::unknown_partial;

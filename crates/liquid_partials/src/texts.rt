@@ -1,12 +1,12 @@
 //! The texts of a source, read in a language.
 ghost use Rattle.std.specs.Prelude.{◌≡◌, ◌+◌, is_some, map, option_map, Ok, IfOk, IfSome};
 ghost use Rattle.std.specs.FinMap.{contains_key, get, keys};
-ghost use Rattle.liquid_error.specs.Told.{told, Gives};
-ghost use Rattle.liquid_parser.specs.Plugins.{block_of, language_of};
-ghost use Rattle.liquid_partials.specs.Compiled.{as_tree, once};
-ghost use Rattle.liquid_partials.specs.Kept.{reading, readings, tried};
-ghost use Rattle.liquid_template.specs.Partials.{unknown_partial};
-ghost use Rattle.liquid_template.specs.TemplateOf.{template_nodes};
+ghost use Rattle.liquid_error.specs.meaning.Told.{told, Gives};
+ghost use Rattle.liquid_parser.specs.meaning.Plugins.{language_of};
+ghost use Rattle.liquid_partials.specs.meaning.Compiled.{as_tree, once};
+ghost use Rattle.liquid_partials.specs.meaning.Kept.{reading, readings, tried};
+ghost use Rattle.liquid_template.specs.meaning.Partials.{unknown_partial};
+ghost use Rattle.liquid_template.specs.meaning.TemplateOf.{template_nodes};
 
 use crate::readings::Readings;
 use crate::source::PartialSource;
@@ -80,7 +80,7 @@ where
         name: &str,
     ) -> Result<Option<Template<F::Filter, T::Node, B::Node>>, Error>
         ensures gives { Gives (option_map (λ template. template_nodes F.Filter.shape T.Node.shape B.Node.shape template)) result
-            (tried (readings (language_of F.makes T.gives (block_of B.start_name B.end_name B.meaning) self.old.language.value) (S.texts self.old.source)) name.now) }
+            (tried (readings (language_of F.makes T.gives B.block self.old.language.value) (S.texts self.old.source)) name.now) }
         ensures source { self.new.source ≡ self.old.source }
         ensures language { self.new.language ≡ self.old.language }
         ensures count { self.new.readings.count ≡ self.old.readings.count + once (contains_key (S.texts self.old.source) name.now) }
@@ -114,7 +114,7 @@ fn parsed<F: ParseFilter + Drop, T: ParseTag<F> + Drop, B: ParseBlock<F> + Drop>
     language: &Language<F, T, B>,
 ) -> Result<Template<F::Filter, T::Node, B::Node>, Error>
     ensures { Gives (template_nodes F.Filter.shape T.Node.shape B.Node.shape) result
-        (as_tree (reading (language_of F.makes T.gives (block_of B.start_name B.end_name B.meaning) language.now) text.now)) }
+        (as_tree (reading (language_of F.makes T.gives B.block language.now) text.now)) }
 {
     match parse(alloc, text, language) {
         Ok(nodes) => Ok(Template::new(nodes)),

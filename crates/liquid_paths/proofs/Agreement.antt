@@ -2,11 +2,11 @@
 use Rattle.std.proofs.Common.{◌≡◌, [], ◌∷◌, ◌++◌, Option, Some, None, Result, Ok, Err, refl, ap, ◌∙◌}
 use Rattle.std.specs.Prelude.{ok_or, option_and_then}
 use Rattle.std.specs.Result.{result_ok}
-use Rattle.liquid_error.specs.Refusal.{Refusal, ok_then}
-use Rattle.liquid_value.specs.Tree.{Tree}
-use Rattle.liquid_paths.specs.Step.{step}
-use Rattle.liquid_paths.specs.Walk.{Path, walk, find_behind, unknown_index}
-use Rattle.liquid_paths.specs.Laws.{FindAgrees}
+use Rattle.liquid_error.specs.meaning.Refusal.{Refusal, ok_then}
+use Rattle.liquid_value.specs.meaning.Tree.{Tree}
+use Rattle.liquid_paths.specs.meaning.Step.{step}
+use Rattle.liquid_paths.specs.meaning.Walk.{Path, walk, find_behind, unknown_index}
+use Rattle.liquid_paths.specs.laws.Laws.{FindAgrees}
 
 -- an answer and what comes of it
 pub ok_then-agrees : {A B : Type 0} (r : Result A Refusal) (f : A → Result B Refusal) (o : Option A) (h : A → Option B) → result_ok r ≡ o → ((x : A) → result_ok (f x) ≡ h x) → result_ok (ok_then r f) ≡ option_and_then h o

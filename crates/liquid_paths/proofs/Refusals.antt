@@ -1,20 +1,19 @@
 -- The refusal of an index that is not there.
-use Rattle.std.proofs.Common.{◌≡◌, ℕ, List, [], ◌∷◌, ◌++◌, codes, length, Option, None, Some, IfSome, refl, sym, ap, ◌∙◌}
-use Rattle.std.specs.Prelude.{option_map, decimal}
+use Rattle.std.proofs.Common.{◌≡◌, ℕ, List, codes, length, Option, None, Some, IfSome, sym, ap, ◌∙◌}
+use Rattle.std.specs.Prelude.{option_map}
 use Rattle.liquid_error.specs.declared.error.Error.{Error}
-use Rattle.liquid_error.specs.Refusal.{Refusal, plain, with_context}
-use Rattle.liquid_error.specs.Told.{told, Becomes}
-use Rattle.liquid_scalar.specs.Scalar.{Scal, render_scalar}
-use Rattle.liquid_value.specs.Tree.{Tree}
-use Rattle.liquid_value.specs.View.{items_view}
+use Rattle.liquid_error.specs.meaning.Refusal.{Refusal, plain, with_context}
+use Rattle.liquid_error.specs.meaning.Told.{told, Becomes}
+use Rattle.liquid_scalar.specs.meaning.Scalar.{Scal, render_scalar}
+use Rattle.liquid_value.specs.meaning.Members.{item_count}
+use Rattle.liquid_value.specs.meaning.Tree.{Tree}
+use Rattle.liquid_value.specs.meaning.View.{items_view}
 use Rattle.liquid_value.specs.declared.value.Value.{Value}
 use Rattle.liquid_paths.proofs.Values.{count_of_values}
-use Rattle.liquid_paths.specs.Walk.{Path, with_front, unknown_index, indexes, listed, item_indexes}
-use Rattle.liquid_paths.specs.PathOf.{count_indexes}
+use Rattle.liquid_paths.specs.meaning.Walk.{Path, with_front, unknown_index, indexes, listed, count_indexes}
 
-pub indexes_by_count : (xs : List Value) → count_indexes (length xs) ≡ item_indexes (items_view xs)
-indexes_by_count [] = refl
-indexes_by_count (x ∷ xs) = ap (λ n. (codes "0.." ++ decimal n) ∷ codes "first" ∷ codes "last" ∷ []) (sym (count_of_values xs))
+pub indexes_by_count : (xs : List Value) → count_indexes (length xs) ≡ count_indexes (item_count (items_view xs))
+indexes_by_count xs = ap count_indexes (sym (count_of_values xs))
 
 known_after : (change : Refusal → Refusal) (meant : Refusal) (old new : Option Refusal) → IfSome old (λ r. r ≡ meant) → IfSome new (λ r. option_map change old ≡ Some r) → IfSome new (λ r. r ≡ change meant)
 known_after change meant old None p q = tt

@@ -8,16 +8,16 @@ use Rattle.std.specs.Ordering.{match_ordering, nat_cmp, is_eq}
 use Rattle.std.specs.declared.cmp.Ordering.{Ordering}
 use Rattle.std.specs.declared.cmp.Ordering.TheVariants.{Less, Equal, Greater}
 use Rattle.std.specs.Slice.{IsItemAt}
-use Rattle.liquid_value.specs.Members.{item_count, get_member, member_count}
-use Rattle.liquid_scalar.specs.Scalar.{integer}
-use Rattle.liquid_value.specs.Cow.{cow_view}
+use Rattle.liquid_value.specs.meaning.Members.{item_count, get_member, member_count}
+use Rattle.liquid_scalar.specs.meaning.Scalar.{integer}
+use Rattle.liquid_value.specs.meaning.Cow.{cow_view}
 use Rattle.liquid_value.specs.declared.cow.ValueCow.{ValueCow}
 use Rattle.liquid_value.specs.declared.cow.ValueCow.TheVariants.{Owned, Borrowed}
-use Rattle.liquid_value.specs.Tree.{Tree, scalar}
-use Rattle.liquid_value.specs.View.{view, items_view, members_view}
+use Rattle.liquid_value.specs.meaning.Tree.{Tree, scalar}
+use Rattle.liquid_value.specs.meaning.View.{view, items_view, members_view}
 use Rattle.liquid_value.specs.declared.value.Value.{Value}
-use Rattle.liquid_paths.specs.InPlace.{InPlace}
-use Rattle.liquid_value.specs.Place.{nth, place_at, item_at}
+use Rattle.liquid_paths.specs.meaning.InPlace.{InPlace}
+use Rattle.liquid_value.specs.meaning.Place.{nth, place_at, item_at}
 
 pub count_of_values : (vs : List Value) → item_count (items_view vs) ≡ length vs
 count_of_values [] = refl

@@ -1,5 +1,2 @@
-pub mod Step
-pub mod Walk
-pub mod PathOf
-pub mod InPlace
-pub mod Laws
+pub mod meaning
+pub mod laws

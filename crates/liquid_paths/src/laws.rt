@@ -1,5 +1,5 @@
 //! The laws of paths, each as the contract of a function.
-ghost use Rattle.liquid_paths.specs.Laws.{FindAgrees};
+ghost use Rattle.liquid_paths.specs.laws.Laws.{FindAgrees};
 
 /// `find` gives a value exactly where `try_find` does, and then the same one.
 #[tactic(auto, using(crate::proofs::Agreement::find_agrees))]

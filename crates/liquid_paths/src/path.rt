@@ -4,8 +4,8 @@ ghost use Rattle.std.specs.Iterator.SizeHint.{IsExactHint, IsWithinCount};
 ghost use Rattle.std.specs.Slice.Iter.{iter_steps};
 ghost use Rattle.std.specs.List.{flat_map};
 ghost use Rattle.std.specs.Fmt.{WritesOnOk};
-ghost use Rattle.liquid_paths.specs.Walk.{path_text};
-ghost use Rattle.liquid_paths.specs.PathOf.{index_of, indexes_of, path_of, path_iter_rest, dotted};
+ghost use Rattle.liquid_paths.specs.meaning.Walk.{path_text};
+ghost use Rattle.liquid_paths.specs.meaning.PathOf.{index_of, indexes_of, path_of, path_iter_rest, dotted};
 
 use liquid_scalar::ScalarCow;
 use std::alloc::{AllocError, Global};

@@ -1,14 +1,14 @@
 ghost use Rattle.std.specs.Prelude.{◌≡◌, ◌<◌, ◌^◌, IfOk, IfSome, option_map, pos, string_bytes};
 ghost use Rattle.std.specs.Option.{option_or};
-ghost use Rattle.liquid_value.specs.Cow.{cow_view};
-ghost use Rattle.liquid_scalar.specs.Scalar.{scal, integer};
-ghost use Rattle.liquid_value.specs.Members.{get_member, member_count};
-ghost use Rattle.liquid_value.specs.Tree.{scalar, array, object};
-ghost use Rattle.liquid_value.specs.View.{view, items_view, members_view};
-ghost use Rattle.liquid_value.specs.Place.{place_at, item_at};
-ghost use Rattle.liquid_paths.specs.Step.{step, size_asked, item_asked};
-ghost use Rattle.liquid_paths.specs.PathOf.{index_of};
-ghost use Rattle.liquid_paths.specs.InPlace.{InPlace};
+ghost use Rattle.liquid_value.specs.meaning.Cow.{cow_view};
+ghost use Rattle.liquid_scalar.specs.meaning.Scalar.{scal, integer};
+ghost use Rattle.liquid_value.specs.meaning.Members.{get_member, member_count};
+ghost use Rattle.liquid_value.specs.meaning.Tree.{scalar, array, object};
+ghost use Rattle.liquid_value.specs.meaning.View.{view, items_view, members_view};
+ghost use Rattle.liquid_value.specs.meaning.Place.{place_at, item_at};
+ghost use Rattle.liquid_paths.specs.meaning.Step.{step, size_asked, item_asked};
+ghost use Rattle.liquid_paths.specs.meaning.PathOf.{index_of};
+ghost use Rattle.liquid_paths.specs.meaning.InPlace.{InPlace};
 
 use liquid_scalar::{Scalar, ScalarCow, ScalarOf};
 use liquid_value::{Object, Value, ValueCow};
@@ -114,7 +114,8 @@ fn step_object<'v>(
     members: &'v Object,
     index: &ScalarCow<'_>,
 ) -> Result<Option<ValueCow<'v>>, AllocError>
-    ensures gives { IfOk result (λ found. option_map cow_view found ≡ step (object (members_view members.now.entries)) (index_of index.now)) }
+    ensures gives { IfOk result (λ found. option_map cow_view found
+        ≡ step (object (members_view members.now.entries)) (index_of index.now)) }
     ensures in_place { IfOk result (λ found. IfSome found InPlace) }
 {
     let word = index.to_kstr(alloc)?;
@@ -122,7 +123,8 @@ fn step_object<'v>(
 }
 
 fn member_or_size<'v>(members: &'v Object, word: &str) -> Option<ValueCow<'v>>
-    ensures gives { option_map cow_view result ≡ option_or (get_member word.now (members_view members.now.entries)) (size_asked word.now (member_count (members_view members.now.entries))) }
+    ensures gives { option_map cow_view result
+        ≡ option_or (get_member word.now (members_view members.now.entries)) (size_asked word.now (member_count (members_view members.now.entries))) }
     ensures in_place { IfSome result InPlace }
 {
     match member_at(members, word) {

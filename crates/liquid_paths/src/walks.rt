@@ -1,12 +1,13 @@
 ghost use Rattle.std.specs.Prelude.{◌≡◌, take, drop, Some, IfOk, IfSome, option_map, string_bytes};
-ghost use Rattle.liquid_value.specs.Cow.{cow_view};
-ghost use Rattle.liquid_value.specs.View.{view, items_view, members_view};
-ghost use Rattle.liquid_error.specs.Told.{told, Gives, Becomes};
-ghost use Rattle.liquid_value.specs.Names.{names};
-ghost use Rattle.liquid_paths.specs.Step.{step};
-ghost use Rattle.liquid_paths.specs.Walk.{walk, find, find_behind, unknown_index, with_front, indexes, item_indexes, listed};
-ghost use Rattle.liquid_paths.specs.PathOf.{index_of, indexes_of, count_indexes};
-ghost use Rattle.liquid_paths.specs.InPlace.{InPlace, IsNumber};
+ghost use Rattle.liquid_value.specs.meaning.Cow.{cow_view};
+ghost use Rattle.liquid_value.specs.meaning.View.{view, items_view, members_view};
+ghost use Rattle.liquid_value.specs.meaning.Members.{item_count};
+ghost use Rattle.liquid_error.specs.meaning.Told.{told, Gives, Becomes};
+ghost use Rattle.liquid_value.specs.meaning.Names.{names};
+ghost use Rattle.liquid_paths.specs.meaning.Step.{step};
+ghost use Rattle.liquid_paths.specs.meaning.Walk.{walk, find, find_behind, unknown_index, with_front, indexes, count_indexes, listed};
+ghost use Rattle.liquid_paths.specs.meaning.PathOf.{index_of, indexes_of};
+ghost use Rattle.liquid_paths.specs.meaning.InPlace.{InPlace, IsNumber};
 
 use crate::path::PathText;
 use crate::steps::step;
@@ -152,7 +153,7 @@ fn available_indexes(alloc: Global, value: &Value) -> Result<String, AllocError>
 
 #[tactic(auto, using(crate::proofs::Refusals::indexes_by_count))]
 fn array_indexes(alloc: Global, items: &[Value]) -> Result<String, AllocError>
-    ensures { IfOk result (λ t. string_bytes t ≡ listed (item_indexes (items_view items.now))) }
+    ensures { IfOk result (λ t. string_bytes t ≡ listed (count_indexes (item_count (items_view items.now)))) }
 {
     counted_indexes(alloc, items.len())
 }

@@ -2,19 +2,18 @@
 use Rattle.std.proofs.Common.{◌≡◌, ◌∷◌, [], Bool, true, false, Option, Some, None, Result, Ok, Err, refl, ap, ◌∙◌, option_map}
 use Rattle.std.specs.Prelude.{ok_or, option_and_then, unwrap_or}
 use Rattle.std.specs.Result.{result_ok}
-use Rattle.liquid_error.specs.Refusal.{Refusal}
-use Rattle.liquid_scalar.specs.Scalar.{Scal}
-use Rattle.liquid_value.specs.Tree.{Tree, nil}
-use Rattle.liquid_value.specs.Parts.{as_scalar}
-use Rattle.liquid_error.specs.Refusal.{ok_then}
-use Rattle.liquid_runtime.specs.View.{View}
-use Rattle.liquid_runtime.specs.Lookup.{try_path, found}
-use Rattle.liquid_paths.specs.Walk.{Path}
+use Rattle.liquid_error.specs.meaning.Refusal.{Refusal}
+use Rattle.liquid_scalar.specs.meaning.Scalar.{Scal}
+use Rattle.liquid_value.specs.meaning.Tree.{Tree, nil}
+use Rattle.liquid_value.specs.meaning.Parts.{as_scalar}
+use Rattle.liquid_error.specs.meaning.Refusal.{ok_then}
+use Rattle.liquid_runtime.specs.meaning.View.{View}
+use Rattle.liquid_runtime.specs.meaning.Lookup.{try_path, found}
+use Rattle.liquid_paths.specs.meaning.Walk.{Path}
 use Rattle.liquid_paths.proofs.Agreement.{ok_then-agrees, ok_or-agrees}
 use Rattle.liquid_runtime.proofs.Agreement.{get_agrees, lenient_get_agrees}
-use Rattle.liquid_plugins.specs.Expression.{ExpressionShape, literal, variable, Indexes, no_indexes, index}
-use Rattle.liquid_plugins.specs.Evaluation.{evaluate, path_of, try_evaluate, try_path_of, expected_scalar}
-use Rattle.liquid_plugins.specs.Parts.{named_path, try_named_path}
+use Rattle.liquid_plugins.specs.meaning.Expression.{ExpressionShape, literal, variable, Indexes, no_indexes, index}
+use Rattle.liquid_plugins.specs.meaning.Evaluation.{evaluate, path_of, try_evaluate, try_path_of, expected_scalar, named_path, try_named_path}
 
 ok_then-map : (s : Scal) (r : Result Path Refusal) (o : Option Path) → result_ok r ≡ o → result_ok (ok_then r (λ path. Ok (s ∷ path))) ≡ option_map (λ path. s ∷ path) o
 ok_then-map s (Ok path) o e = ap (option_map (λ path. s ∷ path)) e

@@ -2,18 +2,18 @@
 use Rattle.std.proofs.Common.{◌≡◌, [], ◌∷◌, Option, None, Some, Result, Ok, Err, refl, ap, ◌∙◌, cond, true, false, Bool, ◌&&◌}
 use Rattle.std.specs.Prelude.{ok_or, unwrap_or, is_none, option_map, option_and_then}
 use Rattle.std.specs.FinMap.{empty, get}
-use Rattle.liquid_error.specs.Refusal.{Refusal}
-use Rattle.liquid_runtime.specs.Maps.{Names, over}
-use Rattle.liquid_scalar.specs.Scalar.{render_scalar}
-use Rattle.liquid_value.specs.Parts.{as_scalar}
-use Rattle.liquid_error.specs.Refusal.{ok_then}
-use Rattle.liquid_runtime.specs.Erased.{erase, without_names}
-use Rattle.liquid_runtime.specs.View.{View}
-use Rattle.liquid_runtime.specs.NamesSeen.{upper_names, floor_names, is_sealed}
-use Rattle.liquid_runtime.specs.Lookup.{try_path, found, or_nil, sealed_answer, unknown_variable}
-use Rattle.liquid_paths.specs.Walk.{Path, walk, find_behind}
-use Rattle.liquid_plugins.specs.Expression.{ExpressionShape, literal, variable, Indexes, no_indexes, index}
-use Rattle.liquid_plugins.specs.Evaluation.{evaluate, path_of, expected_scalar, try_evaluate, try_path_of}
+use Rattle.liquid_error.specs.meaning.Refusal.{Refusal}
+use Rattle.liquid_runtime.specs.meaning.Maps.{Names, over}
+use Rattle.liquid_scalar.specs.meaning.Scalar.{render_scalar}
+use Rattle.liquid_value.specs.meaning.Parts.{as_scalar}
+use Rattle.liquid_error.specs.meaning.Refusal.{ok_then}
+use Rattle.liquid_runtime.specs.meaning.Erased.{erase, without_names}
+use Rattle.liquid_runtime.specs.meaning.View.{View}
+use Rattle.liquid_runtime.specs.meaning.NamesSeen.{upper_names, floor_names, is_sealed}
+use Rattle.liquid_runtime.specs.meaning.Lookup.{try_path, found, or_nil, sealed_answer, unknown_variable}
+use Rattle.liquid_paths.specs.meaning.Walk.{Path, walk, find_behind}
+use Rattle.liquid_plugins.specs.meaning.Expression.{ExpressionShape, literal, variable, Indexes, no_indexes, index}
+use Rattle.liquid_plugins.specs.meaning.Evaluation.{evaluate, path_of, expected_scalar, try_evaluate, try_path_of}
 
 shown_erased : (b : Bool) (globals : Option Names) → cond b (unwrap_or (cond b globals (without_names globals)) empty) empty ≡ cond b (unwrap_or globals empty) empty
 shown_erased true globals = refl

@@ -1,14 +1,14 @@
 -- What does not depend on hidden globals, for the proofs that a node is discreet.
 use Rattle.std.proofs.Common.{◌≡◌, sym, ap, ◌∙◌, Result}
 use Rattle.std.specs.FinMap.{empty}
-use Rattle.liquid_error.specs.Refusal.{Refusal}
-use Rattle.liquid_runtime.specs.Maps.{Names}
+use Rattle.liquid_error.specs.meaning.Refusal.{Refusal}
+use Rattle.liquid_runtime.specs.meaning.Maps.{Names}
 use Rattle.liquid_runtime.proofs.MapLaws.{empty-over}
-use Rattle.liquid_runtime.specs.View.{View}
-use Rattle.liquid_plugins.specs.Expression.{ExpressionShape}
-use Rattle.liquid_plugins.specs.Evaluation.{evaluate, try_evaluate}
-use Rattle.liquid_plugins.specs.Discreet.{hiding, overlaid}
-use Rattle.liquid_plugins.specs.Turning.{answers}
+use Rattle.liquid_runtime.specs.meaning.View.{View}
+use Rattle.liquid_plugins.specs.meaning.Expression.{ExpressionShape}
+use Rattle.liquid_plugins.specs.meaning.Evaluation.{evaluate, try_evaluate}
+use Rattle.liquid_plugins.specs.meaning.Discreet.{hiding, overlaid}
+use Rattle.liquid_plugins.specs.meaning.Turning.{answers}
 use Rattle.liquid_plugins.proofs.ErasedLemmas.{evaluate_erased, try_erased}
 
 module _ {Reg : Type 0} where

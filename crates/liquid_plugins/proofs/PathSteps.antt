@@ -1,11 +1,11 @@
 -- The path of a variable, index by index.
 use Rattle.std.proofs.Common.{◌≡◌, ℕ, ◌+◌, ◌<◌, List, ◌++◌, length, drop, get_or, Option, option_map, Result, Ok, ap, ◌∙◌, add-one}
 use Rattle.std.proofs.Math.Seq.{drop-cons}
-use Rattle.liquid_error.specs.Refusal.{Refusal}
-use Rattle.liquid_error.specs.Refusal.{ok_then}
-use Rattle.liquid_paths.specs.Walk.{Path}
-use Rattle.liquid_plugins.specs.Expression.{index}
-use Rattle.liquid_plugins.specs.ExpressionOf.{expression_of, expressions_of}
+use Rattle.liquid_error.specs.meaning.Refusal.{Refusal}
+use Rattle.liquid_error.specs.meaning.Refusal.{ok_then}
+use Rattle.liquid_paths.specs.meaning.Walk.{Path}
+use Rattle.liquid_plugins.specs.meaning.Expression.{index}
+use Rattle.liquid_plugins.specs.meaning.ExpressionOf.{expression_of, expressions_of}
 use Rattle.liquid_plugins.specs.declared.expression.Expression.{Expression}
 
 -- a path behind a front, if there is one

@@ -16,7 +16,7 @@ use Rattle.std.specs.declared.alloc.Global.{Global}
 use Rattle.std.specs.declared.cmp.Ordering.TheVariants.{Less}
 use Rattle.std.proofs.lemmas.Map.Text.{is_eq-slice_cmp, btree_map_updates_text}
 use Rattle.liquid_runtime.proofs.MapLaws.{same_names}
-use Rattle.liquid_plugins.specs.Registry.{by_name, IsCopied, IsCopy}
+use Rattle.liquid_plugins.specs.meaning.Registry.{by_name, IsCopied, IsCopy}
 
 both : (a b : Bool) → T a → T b → T (a && b)
 both true b p q = q

@@ -1,16 +1,16 @@
 -- What an expression comes to where each value on the way stands.
 use Rattle.std.proofs.Common.{◌≡◌, ℕ, List, ◌∷◌, Option, Some, None, Ok, refl, ap, ◌∙◌, option_map}
 use Rattle.std.specs.Prelude.{option_and_then}
-use Rattle.liquid_scalar.specs.Scalar.{Scal, render_scalar, text}
-use Rattle.liquid_value.specs.Tree.{Tree, scalar}
-use Rattle.liquid_value.specs.Parts.{as_scalar}
-use Rattle.liquid_paths.specs.Step.{step}
-use Rattle.liquid_paths.specs.Walk.{Path, walk}
-use Rattle.liquid_runtime.specs.View.{View}
-use Rattle.liquid_runtime.specs.NamesSeen.{lookup}
-use Rattle.liquid_runtime.specs.Lookup.{try_path}
-use Rattle.liquid_plugins.specs.Expression.{ExpressionShape, variable, Indexes, no_indexes, index}
-use Rattle.liquid_plugins.specs.Evaluation.{evaluate, try_evaluate, try_path_of}
+use Rattle.liquid_scalar.specs.meaning.Scalar.{Scal, render_scalar, text}
+use Rattle.liquid_value.specs.meaning.Tree.{Tree, scalar}
+use Rattle.liquid_value.specs.meaning.Parts.{as_scalar}
+use Rattle.liquid_paths.specs.meaning.Step.{step}
+use Rattle.liquid_paths.specs.meaning.Walk.{Path, walk}
+use Rattle.liquid_runtime.specs.meaning.View.{View}
+use Rattle.liquid_runtime.specs.meaning.NamesSeen.{lookup}
+use Rattle.liquid_runtime.specs.meaning.Lookup.{try_path}
+use Rattle.liquid_plugins.specs.meaning.Expression.{ExpressionShape, variable, Indexes, no_indexes, index}
+use Rattle.liquid_plugins.specs.meaning.Evaluation.{evaluate, try_evaluate, try_path_of}
 use Rattle.liquid_plugins.proofs.Agreement.{evaluate_gives}
 
 -- what a path that is known, if it is, leads to from a value

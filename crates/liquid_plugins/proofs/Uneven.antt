@@ -1,7 +1,7 @@
 -- Indexes of different numbers are unequal.
 use Rattle.std.proofs.Common.{◌≡◌, suc, List, [], ◌∷◌, length, Bool, true, false, ◌&&◌, refl, ap, ◌∙◌}
-use Rattle.liquid_plugins.specs.ExpressionOf.{expression_of, expressions_of}
-use Rattle.liquid_plugins.specs.Same.{same_expression, same_indexes}
+use Rattle.liquid_plugins.specs.meaning.ExpressionOf.{expression_of, expressions_of}
+use Rattle.liquid_plugins.specs.meaning.Same.{same_expression, same_indexes}
 use Rattle.liquid_plugins.specs.declared.expression.Expression.{Expression}
 
 and_false : (b : Bool) → b && false ≡ false

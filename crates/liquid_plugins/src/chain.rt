@@ -2,15 +2,14 @@
 ghost use Rattle.std.specs.Prelude.{◌≡◌, ◌++◌, [], codes, map, IfOk, Some};
 ghost use Rattle.std.specs.Fmt.{WritesOnOk};
 ghost use Rattle.std.specs.List.{flat_map, join_by};
-ghost use Rattle.liquid_error.specs.Refusal.{with_trace, with_context};
-ghost use Rattle.liquid_error.specs.Told.{Gives, Becomes};
-ghost use Rattle.liquid_scalar.specs.Scalar.{text};
-ghost use Rattle.liquid_value.specs.Cow.{cow_view};
-ghost use Rattle.liquid_value.specs.Render.{source};
-ghost use Rattle.liquid_runtime.specs.Erased.{erase};
-ghost use Rattle.liquid_plugins.specs.Chain.{filtered, chain_value, chain_text};
-ghost use Rattle.liquid_plugins.specs.Expression.{variable, no_indexes};
-ghost use Rattle.liquid_plugins.specs.ExpressionOf.{expression_of, chain_of};
+ghost use Rattle.liquid_error.specs.meaning.Told.{Gives, Becomes};
+ghost use Rattle.liquid_scalar.specs.meaning.Scalar.{text};
+ghost use Rattle.liquid_value.specs.meaning.Cow.{cow_view};
+ghost use Rattle.liquid_value.specs.meaning.Render.{source};
+ghost use Rattle.liquid_runtime.specs.meaning.Erased.{erase};
+ghost use Rattle.liquid_plugins.specs.meaning.Chain.{filtered, chain_value, chain_text, from_filter};
+ghost use Rattle.liquid_plugins.specs.meaning.Expression.{variable, no_indexes};
+ghost use Rattle.liquid_plugins.specs.meaning.ExpressionOf.{expression_of, chain_of};
 
 use crate::expression::{Expression, FilterChain, Variable};
 use crate::filter::Filter;
@@ -46,7 +45,7 @@ impl<X: Filter> FilterChain<X> {
         alloc: Global,
         runtime: &'s R,
     ) -> Result<ValueCow<'s>, Error>
-        ensures { Gives cow_view result (chain_value (record { answers = X.answers; label = X.shown }) (chain_of X.shape self.now) (R.view runtime.now)) }
+        ensures { Gives cow_view result (chain_value X.means (chain_of X.shape self.now) (R.view runtime.now)) }
     {
         match self.entry.evaluate(alloc, runtime) {
             Ok(value) => apply(alloc, value, self.filters.as_slice(), runtime),
@@ -62,7 +61,7 @@ fn apply<'s, X: Filter, R: Runtime>(
     filters: &'s [X],
     runtime: &'s R,
 ) -> Result<ValueCow<'s>, Error>
-    ensures { Gives cow_view result (filtered (record { answers = X.answers; label = X.shown }) (erase (R.view runtime.now)) (map X.shape filters.now) (cow_view value.entry)) }
+    ensures { Gives cow_view result (filtered X.means (erase (R.view runtime.now)) (map X.shape filters.now) (cow_view value.entry)) }
 {
     let mut current = value;
     for filter in filters {
@@ -76,7 +75,7 @@ fn apply<'s, X: Filter, R: Runtime>(
 
 /// The refusal of a filter, with its label and its input.
 fn filter_refused<X: Filter>(alloc: Global, filter: &X, input: &ValueCow<'_>, error: Error) -> Error
-    ensures { Becomes (λ r. with_context (codes "input") (source (cow_view input.now)) (with_context (codes "filter") (X.shown (X.shape filter.now)) (with_trace (codes "Filter error") r))) error result }
+    ensures { Becomes (from_filter (X.means.label (X.shape filter.now)) (source (cow_view input.now))) error result }
 {
     let source = match ValueSource::new(input.as_view()).to_string(alloc) {
         Ok(source) => source,
@@ -87,7 +86,7 @@ fn filter_refused<X: Filter>(alloc: Global, filter: &X, input: &ValueCow<'_>, er
 
 /// The refusal with the trace of a filter, its label and its input's source.
 fn with_filter(alloc: Global, error: Error, label: &str, source: &str) -> Error
-    ensures { Becomes (λ r. with_context (codes "input") source.now (with_context (codes "filter") label.now (with_trace (codes "Filter error") r))) error result }
+    ensures { Becomes (from_filter label.now source.now) error result }
 {
     error
         .trace(alloc, "Filter error")
@@ -97,7 +96,7 @@ fn with_filter(alloc: Global, error: Error, label: &str, source: &str) -> Error
 
 /// The entry, ` | `, and the labels with ` | ` between.
 impl<X: Filter> fmt::Display for FilterChain<X> {
-    ghost output = { λ c. Some (chain_text (record { answers = X.answers; label = X.shown }) (chain_of X.shape c)) };
+    ghost output = { λ c. Some (chain_text X.means (chain_of X.shape c)) };
 
     fn fmt<W: fmt::Write>(&self, f: &mut fmt::Formatter<W>) -> fmt::Result {
         write_expression(&self.entry, f)?;
@@ -107,7 +106,7 @@ impl<X: Filter> fmt::Display for FilterChain<X> {
 }
 
 fn write_labels<X: Filter, W: fmt::Write>(filters: &[X], f: &mut fmt::Formatter<W>) -> fmt::Result
-    ensures { WritesOnOk W.write_str_gives f.old result (join_by X.shown (codes " | ") (map X.shape filters.now)) f.new }
+    ensures { WritesOnOk W.write_str_gives f.old result (join_by X.means.label (codes " | ") (map X.shape filters.now)) f.new }
 {
     match filters {
         [] => Ok(()),
@@ -119,7 +118,7 @@ fn write_labels<X: Filter, W: fmt::Write>(filters: &[X], f: &mut fmt::Formatter<
 }
 
 fn write_more<X: Filter, W: fmt::Write>(filters: &[X], f: &mut fmt::Formatter<W>) -> fmt::Result
-    ensures { WritesOnOk W.write_str_gives f.old result (flat_map (λ x. codes " | " ++ X.shown x) (map X.shape filters.now)) f.new }
+    ensures { WritesOnOk W.write_str_gives f.old result (flat_map (λ x. codes " | " ++ X.means.label x) (map X.shape filters.now)) f.new }
 {
     for filter in filters {
         write_next(filter, f)?;
@@ -128,7 +127,7 @@ fn write_more<X: Filter, W: fmt::Write>(filters: &[X], f: &mut fmt::Formatter<W>
 }
 
 fn write_next<X: Filter, W: fmt::Write>(filter: &X, f: &mut fmt::Formatter<W>) -> fmt::Result
-    ensures { WritesOnOk W.write_str_gives f.old result (codes " | " ++ X.shown (X.shape filter.now)) f.new }
+    ensures { WritesOnOk W.write_str_gives f.old result (codes " | " ++ X.means.label (X.shape filter.now)) f.new }
 {
     f.write_str(" | ")?;
     f.write_str(filter.label())

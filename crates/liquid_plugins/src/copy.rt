@@ -1,6 +1,6 @@
 // Clones of expressions.
 ghost use Rattle.std.specs.Prelude.{◌≡◌, IfOk};
-ghost use Rattle.liquid_plugins.specs.ExpressionOf.{expression_of, expressions_of, variable_of};
+ghost use Rattle.liquid_plugins.specs.meaning.ExpressionOf.{expression_of, expressions_of, variable_of};
 
 use crate::expression::{Expression, Variable, VariableOf};
 use std::alloc::AllocError;

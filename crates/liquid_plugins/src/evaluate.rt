@@ -1,16 +1,15 @@
 //! What expressions come to over a runtime.
 ghost use Rattle.std.specs.Prelude.{ok_or, ◌≡◌, string_bytes, IfOk, IfSome, option_map};
-ghost use Rattle.liquid_error.specs.Told.{told, Gives};
-ghost use Rattle.liquid_scalar.specs.Scalar.{scal};
-ghost use Rattle.liquid_value.specs.Cow.{cow_view};
-ghost use Rattle.liquid_value.specs.Parts.{as_scalar};
-ghost use Rattle.liquid_value.specs.View.{view as tree_of};
-ghost use Rattle.liquid_paths.specs.InPlace.{InPlace};
-ghost use Rattle.liquid_paths.specs.PathOf.{index_of, path_of};
-ghost use Rattle.liquid_runtime.specs.InPlaceOrNil.{InPlaceOrNil};
-ghost use Rattle.liquid_plugins.specs.Evaluation.{evaluate, expected_scalar, try_evaluate};
-ghost use Rattle.liquid_plugins.specs.ExpressionOf.{expression_of, expressions_of, name_of, own_indexes_of};
-ghost use Rattle.liquid_plugins.specs.Parts.{named_path, try_named_path};
+ghost use Rattle.liquid_error.specs.meaning.Told.{told, Gives};
+ghost use Rattle.liquid_scalar.specs.meaning.Scalar.{scal};
+ghost use Rattle.liquid_value.specs.meaning.Cow.{cow_view};
+ghost use Rattle.liquid_value.specs.meaning.Parts.{as_scalar};
+ghost use Rattle.liquid_value.specs.meaning.View.{view as tree_of};
+ghost use Rattle.liquid_paths.specs.meaning.InPlace.{InPlace};
+ghost use Rattle.liquid_paths.specs.meaning.PathOf.{index_of, path_of};
+ghost use Rattle.liquid_runtime.specs.meaning.InPlaceOrNil.{InPlaceOrNil};
+ghost use Rattle.liquid_plugins.specs.meaning.Evaluation.{Finds, evaluate, expected_scalar, try_evaluate, named_path, try_named_path};
+ghost use Rattle.liquid_plugins.specs.meaning.ExpressionOf.{expression_of, expressions_of, name_of, own_indexes_of};
 
 use crate::expression::{Expression, Variable, VariableOf};
 use crate::standing::standing;
@@ -47,7 +46,7 @@ impl Expression {
         alloc: Global,
         runtime: &'c R,
     ) -> Result<Option<ValueCow<'c>>, AllocError>
-        ensures gives { IfOk result (λ value. option_map cow_view value ≡ try_evaluate (R.view runtime.now) (expression_of self.now)) }
+        ensures gives { Finds cow_view result (try_evaluate (R.view runtime.now) (expression_of self.now)) }
         ensures in_place { IfOk result (λ value. IfSome value InPlace) }
     {
         match standing(alloc, self, runtime) {
@@ -75,7 +74,7 @@ impl VariableOf<Expression> {
         alloc: Global,
         runtime: &'c R,
     ) -> Result<Option<Path<'c>>, AllocError>
-        ensures { IfOk result (λ path. option_map path_of path ≡ try_named_path (R.view runtime.now) (name_of self.now) (own_indexes_of self.now)) }
+        ensures { Finds path_of result (try_named_path (R.view runtime.now) (name_of self.now) (own_indexes_of self.now)) }
     {
         try_named_path(alloc, &self.variable, &self.indexes, runtime)
     }
@@ -135,7 +134,7 @@ fn try_evaluate<'c, R: Runtime>(
     expression: &'c Expression,
     runtime: &'c R,
 ) -> Result<Option<ValueCow<'c>>, AllocError>
-    ensures gives { IfOk result (λ value. option_map cow_view value ≡ try_evaluate (R.view runtime.now) (expression_of expression.now)) }
+    ensures gives { Finds cow_view result (try_evaluate (R.view runtime.now) (expression_of expression.now)) }
     ensures in_place { IfOk result (λ value. IfSome value InPlace) }
 {
     match expression {
@@ -157,7 +156,7 @@ fn try_named_path<'c, R: Runtime>(
     indexes: &'c Vec<Expression>,
     runtime: &'c R,
 ) -> Result<Option<Path<'c>>, AllocError>
-    ensures { IfOk result (λ path. option_map path_of path ≡ try_named_path (R.view runtime.now) (scal string_bytes name.now) (expressions_of indexes.now.items)) }
+    ensures { Finds path_of result (try_named_path (R.view runtime.now) (scal string_bytes name.now) (expressions_of indexes.now.items)) }
 {
     let mut path = Path::with_index(alloc, name.as_ref())?;
     for index in indexes {

@@ -1,11 +1,10 @@
 //! Expressions and chains, and the markers that stand for their shapes.
 ghost use Rattle.std.specs.Prelude.{◌≡◌, map, string_bytes, option_map};
-ghost use Rattle.liquid_scalar.specs.Scalar.{scal};
-ghost use Rattle.liquid_value.specs.Tree.{scalar};
-ghost use Rattle.liquid_value.specs.View.{view as tree_of};
-ghost use Rattle.liquid_plugins.specs.Expression.{literal, variable};
-ghost use Rattle.liquid_plugins.specs.ExpressionOf.{expression_of, expressions_of, variable_of, chain_of};
-ghost use Rattle.liquid_plugins.specs.Parts.{as_literal, as_variable};
+ghost use Rattle.liquid_scalar.specs.meaning.Scalar.{scal};
+ghost use Rattle.liquid_value.specs.meaning.Tree.{scalar};
+ghost use Rattle.liquid_value.specs.meaning.View.{view as tree_of};
+ghost use Rattle.liquid_plugins.specs.meaning.Expression.{literal, variable, as_literal, as_variable};
+ghost use Rattle.liquid_plugins.specs.meaning.ExpressionOf.{expression_of, expressions_of, variable_of, chain_of};
 
 use crate::filter::Filter;
 use crate::meant::Meant;
@@ -34,9 +33,9 @@ pub type Variable = VariableOf<Expression>;
 pub struct ExpressionMark;
 
 impl Model for ExpressionMark {
-    ghost use Rattle.liquid_plugins.specs.Expression.{ExpressionShape, literal};
-    ghost use Rattle.liquid_plugins.specs.Codes.{expression_code};
-    ghost use Rattle.liquid_value.specs.Tree.{nil};
+    ghost use Rattle.liquid_plugins.specs.meaning.Expression.{ExpressionShape, literal};
+    ghost use Rattle.liquid_plugins.specs.steps.Codes.{expression_code};
+    ghost use Rattle.liquid_value.specs.meaning.Tree.{nil};
 
     ghost Value = { ExpressionShape };
 
@@ -52,10 +51,10 @@ pub struct ChainMark<S> {
 
 impl<S> Model for ChainMark<S> {
     ghost use Rattle.std.specs.Prelude.{[]};
-    ghost use Rattle.liquid_plugins.specs.Expression.{literal};
-    ghost use Rattle.liquid_plugins.specs.Chain.{ChainShape};
-    ghost use Rattle.liquid_plugins.specs.Codes.{chain_code};
-    ghost use Rattle.liquid_value.specs.Tree.{nil};
+    ghost use Rattle.liquid_plugins.specs.meaning.Expression.{literal};
+    ghost use Rattle.liquid_plugins.specs.meaning.Chain.{ChainShape};
+    ghost use Rattle.liquid_plugins.specs.steps.Codes.{chain_code};
+    ghost use Rattle.liquid_value.specs.meaning.Tree.{nil};
 
     ghost Value = { ChainShape S };
 

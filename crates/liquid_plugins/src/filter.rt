@@ -1,14 +1,13 @@
 //! Filters, and what makes them.
-ghost use Rattle.std.specs.Prelude.{◌≡◌, ℕ, List, Result};
-ghost use Rattle.liquid_error.specs.Refusal.{Refusal};
-ghost use Rattle.liquid_error.specs.Told.{Gives};
-ghost use Rattle.liquid_value.specs.Tree.{Tree};
-ghost use Rattle.liquid_value.specs.Cow.{cow_view};
-ghost use Rattle.liquid_value.specs.View.{view as tree_of};
-ghost use Rattle.liquid_error.specs.Refusal.{ok_then};
-ghost use Rattle.liquid_runtime.specs.Erased.{Erased, erase};
-ghost use Rattle.liquid_plugins.specs.ArgumentsOf.{Arguments, arguments_of};
-ghost use Rattle.liquid_plugins.specs.NoNames.{no_names_seen};
+ghost use Rattle.std.specs.Prelude.{◌≡◌, Result};
+ghost use Rattle.liquid_error.specs.meaning.Refusal.{Refusal};
+ghost use Rattle.liquid_error.specs.meaning.Told.{Gives};
+ghost use Rattle.liquid_value.specs.meaning.Cow.{cow_view};
+ghost use Rattle.liquid_value.specs.meaning.View.{view as tree_of};
+ghost use Rattle.liquid_runtime.specs.meaning.Erased.{erase};
+ghost use Rattle.liquid_plugins.specs.meaning.ArgumentsOf.{Arguments, arguments_of};
+ghost use Rattle.liquid_plugins.specs.meaning.Chain.{FilterMeaning};
+ghost use Rattle.liquid_plugins.specs.meaning.NoNames.{called};
 
 use crate::meant::Meant;
 use crate::parameters::FilterArguments;
@@ -23,11 +22,8 @@ use std::alloc::Global;
 /// It reads the runtime and can't write to it. What it answers is a function of itself, its input
 /// and what it sees of the names: globals that are hidden from a template are hidden from it too.
 pub trait Filter: Meant + Drop {
-    // what it answers, by its input and what it sees of the view
-    ghost answers: { Self.Shape → Tree → Erased → Result Tree Refusal };
-
-    // its label
-    ghost shown: { Self.Shape → List ℕ };
+    // what it answers, by its input and what it sees of the view, and its label
+    ghost means: { FilterMeaning Self.Shape };
 
     /// The value that the filter makes of the input, or its refusal.
     fn evaluate<'s, R: Runtime>(
@@ -36,11 +32,11 @@ pub trait Filter: Meant + Drop {
         input: &ValueCow<'_>,
         runtime: &'s R,
     ) -> Result<Value, Error>
-        ensures { Gives tree_of result (answers (Self.shape self.now) (cow_view input.now) (erase (R.view runtime.now))) };
+        ensures { Gives tree_of result (means.answers (Self.shape self.now) (cow_view input.now) (erase (R.view runtime.now))) };
 
     /// The text that stands for the filter where a chain is shown and in the errors out of it.
     fn label(&self) -> &str
-        ensures { result.now ≡ shown (Self.shape self.now) };
+        ensures { result.now ≡ means.label (Self.shape self.now) };
 }
 
 /// Makes the filters of a name, each of its arguments.
@@ -62,7 +58,7 @@ pub fn call_filter<P: ParseFilter>(
     input: &ValueCow<'_>,
     arguments: FilterArguments<'_>,
 ) -> Result<Value, Error>
-    ensures { Gives tree_of result (ok_then (P.makes filter.now (arguments_of arguments.entry)) (λ x. P.Filter.answers x (cow_view input.now) no_names_seen)) }
+    ensures { Gives tree_of result (called P.Filter.means (P.makes filter.now (arguments_of arguments.entry)) (cow_view input.now)) }
 {
     let runtime: BuiltRuntime<(), ()> = RuntimeBuilder::new(alloc).build();
     match filter.parse(alloc, arguments) {

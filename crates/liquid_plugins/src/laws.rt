@@ -1,5 +1,5 @@
 //! The laws of expressions, each as the contract of a function.
-ghost use Rattle.liquid_plugins.specs.Laws.{EvaluateAgrees, EvaluateGives, EvaluatesErased, PathsAgree, PathsGive};
+ghost use Rattle.liquid_plugins.specs.laws.Laws.{EvaluateAgrees, EvaluateGives, EvaluatesErased, PathsAgree, PathsGive};
 
 use liquid_runtime::Fresh;
 

@@ -1,9 +1,9 @@
 //! The arguments of a filter, and what makes parameters of them.
 ghost use Rattle.std.specs.Prelude.{Result};
-ghost use Rattle.liquid_error.specs.Refusal.{Refusal};
-ghost use Rattle.liquid_error.specs.Told.{Gives};
-ghost use Rattle.liquid_runtime.specs.Erased.{Erased, erase};
-ghost use Rattle.liquid_plugins.specs.ArgumentsOf.{Arguments, arguments_of};
+ghost use Rattle.liquid_error.specs.meaning.Refusal.{Refusal};
+ghost use Rattle.liquid_error.specs.meaning.Told.{Gives};
+ghost use Rattle.liquid_runtime.specs.meaning.Erased.{Erased, erase};
+ghost use Rattle.liquid_plugins.specs.meaning.ArgumentsOf.{Arguments, arguments_of};
 
 use crate::expression::Expression;
 use crate::meant::Meant;

@@ -5,7 +5,7 @@ ghost use Rattle.std.specs.Iterator.{UpTo, at_most};
 ghost use Rattle.std.specs.Iterator.SizeHint.{IsExactHint, IsWithinCount};
 ghost use Rattle.std.specs.Map.Iter.{TakesFirst, deref};
 ghost use Rattle.std.specs.Option.{option_copied};
-ghost use Rattle.liquid_plugins.specs.Registry.{IsCopy};
+ghost use Rattle.liquid_plugins.specs.meaning.Registry.{IsCopy};
 
 use std::alloc::{AllocError, Global};
 use std::collections::{BTreeMap, btree_map};
@@ -21,8 +21,8 @@ pub struct PluginRegistry<P> {
 impl<P> Model for PluginRegistry<P> {
     ghost use Rattle.std.specs.Coded.{coded_list, coded_ℕ};
     ghost use Rattle.std.specs.FinMap.{code};
-    ghost use Rattle.liquid_runtime.specs.Maps.{NameMap};
-    ghost use Rattle.liquid_plugins.specs.Registry.{by_name};
+    ghost use Rattle.liquid_runtime.specs.meaning.Maps.{NameMap};
+    ghost use Rattle.liquid_plugins.specs.meaning.Registry.{by_name};
 
     ghost Value = { NameMap P };
 

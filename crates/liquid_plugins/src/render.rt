@@ -1,11 +1,11 @@
 //! What a node does in its turns.
-ghost use Rattle.std.specs.Prelude.{◌≡◌, ℕ, Result, Some, OnSome};
-ghost use Rattle.liquid_error.specs.Told.{Gives};
-ghost use Rattle.liquid_runtime.specs.View.{View};
-ghost use Rattle.liquid_runtime.specs.Written.{SameFrames, with_written};
-ghost use Rattle.liquid_plugins.specs.Turns.{Told, TurnShape};
-ghost use Rattle.liquid_plugins.specs.TurnOf.{turn_of, Leaves, LeavesProgress};
-ghost use Rattle.liquid_plugins.specs.Discreet.{HidesGlobals};
+ghost use Rattle.std.specs.Prelude.{◌≡◌, Result, Some, OnSome};
+ghost use Rattle.liquid_error.specs.meaning.Told.{Gives};
+ghost use Rattle.liquid_runtime.specs.meaning.View.{View};
+ghost use Rattle.liquid_runtime.specs.meaning.Written.{SameFrames, with_written};
+ghost use Rattle.liquid_plugins.specs.meaning.Turns.{NodeMeaning};
+ghost use Rattle.liquid_plugins.specs.meaning.TurnOf.{turn_of, Leaves, LeavesProgress};
+ghost use Rattle.liquid_plugins.specs.meaning.Discreet.{Discreet};
 
 use crate::meant::Meant;
 use liquid_error::Error;
@@ -26,26 +26,23 @@ pub trait Renderable<V: Fresh>: Meant + Drop {
     type Progress: Meant + Drop;
 
     // what each call answers and leaves, by the node's shape, the progress's and the view
-    ghost starts: { Self.Shape → View V → Told Self.Progress.Shape (Unit {0}) V };
-
-    ghost count: { Self.Progress.Shape → ℕ };
-
-    ghost tells: { Self.Shape → Self.Progress.Shape → View V → Told TurnShape Self.Progress.Shape V };
+    ghost means: { NodeMeaning Self.Shape Self.Progress.Shape V };
 
     fn start<R: Runtime<Register = V>>(
         &self,
         alloc: Global,
         runtime: &mut R,
     ) -> Result<Self::Progress, Error>
-        ensures answer { Gives Self.Progress.shape result (starts (Self.shape self.now) (R.view runtime.old)).answer }
-        ensures after { Leaves result (starts (Self.shape self.now) (R.view runtime.old)).written (R.view runtime.old) (R.view runtime.new) }
+        ensures answer { Gives Self.Progress.shape result (means.starts (Self.shape self.now) (R.view runtime.old)).answer }
+        ensures after { Leaves result (means.starts (Self.shape self.now) (R.view runtime.old)).written
+            (R.view runtime.old) (R.view runtime.new) }
         ensures frames { SameFrames (R.view runtime.old) (R.view runtime.new) }
         ensures stays { R.store runtime.new ≡ R.store runtime.old }
         ensures kept { R.restores runtime.new ≡ R.restores runtime.old }
         ensures same { R.lent runtime.new ≡ R.lent runtime.old };
 
     fn turns(progress: &Self::Progress) -> u64
-        ensures { result ≡ count (Self.Progress.shape progress.now) };
+        ensures { result ≡ means.count (Self.Progress.shape progress.now) };
 
     fn turn<R: Runtime<Register = V>>(
         &self,
@@ -53,9 +50,11 @@ pub trait Renderable<V: Fresh>: Meant + Drop {
         progress: &mut Self::Progress,
         runtime: &mut R,
     ) -> Result<Turn, Error>
-        ensures answer { Gives turn_of result (tells (Self.shape self.now) (Self.Progress.shape progress.old) (R.view runtime.old)).answer }
-        ensures after { Leaves result (tells (Self.shape self.now) (Self.Progress.shape progress.old) (R.view runtime.old)).written (R.view runtime.old) (R.view runtime.new) }
-        ensures progress { LeavesProgress result (tells (Self.shape self.now) (Self.Progress.shape progress.old) (R.view runtime.old)).progress (Self.Progress.shape progress.new) }
+        ensures answer { Gives turn_of result (means.takes (Self.shape self.now) (Self.Progress.shape progress.old) (R.view runtime.old)).answer }
+        ensures after { Leaves result (means.takes (Self.shape self.now) (Self.Progress.shape progress.old) (R.view runtime.old)).written
+            (R.view runtime.old) (R.view runtime.new) }
+        ensures progress { LeavesProgress result (means.takes (Self.shape self.now) (Self.Progress.shape progress.old) (R.view runtime.old)).progress
+            (Self.Progress.shape progress.new) }
         ensures frames { SameFrames (R.view runtime.old) (R.view runtime.new) }
         ensures stays { R.store runtime.new ≡ R.store runtime.old }
         ensures kept { R.restores runtime.new ≡ R.restores runtime.old }
@@ -64,7 +63,6 @@ pub trait Renderable<V: Fresh>: Meant + Drop {
 
 /// A node whose meaning does not depend on hidden globals.
 pub trait Discreet<V: Fresh>: Renderable<V> {
-    ghost start_hides: { (x : Self.Shape) → HidesGlobals (Self.starts x) };
-
-    ghost turn_hides: { (x : Self.Shape) (p : Self.Progress.Shape) → HidesGlobals (Self.tells x p) };
+    // each start and each turn is such
+    ghost hides: { Discreet Self.means };
 }

@@ -1,9 +1,9 @@
 // Strict equality of expressions.
 ghost use Rattle.std.specs.Prelude.{◌≡◌};
 ghost use Rattle.std.specs.Cmp.{on_equiv, on_per, partial_equiv_from_equiv};
-ghost use Rattle.liquid_plugins.specs.ExpressionOf.{expression_of, expressions_of, variable_of};
-ghost use Rattle.liquid_plugins.specs.Same.{same_expression, same_indexes};
-ghost use Rattle.liquid_plugins.specs.SameLaws.{same_expression_equiv};
+ghost use Rattle.liquid_plugins.specs.meaning.ExpressionOf.{expression_of, expressions_of, variable_of};
+ghost use Rattle.liquid_plugins.specs.meaning.Same.{same_expression, same_indexes};
+ghost use Rattle.liquid_plugins.specs.laws.SameLaws.{same_expression_equiv};
 
 use crate::expression::{Expression, Variable, VariableOf};
 

@@ -1,13 +1,13 @@
 //! Values that stand where an expression leads.
 ghost use Rattle.std.specs.Prelude.{◌≡◌, IfSome, Ok, Some, string_bytes};
-ghost use Rattle.liquid_scalar.specs.Scalar.{Scal, render_scalar, scal, text};
-ghost use Rattle.liquid_value.specs.Tree.{scalar};
-ghost use Rattle.liquid_value.specs.View.{view as tree_of};
-ghost use Rattle.liquid_paths.specs.Step.{step};
-ghost use Rattle.liquid_runtime.specs.NamesSeen.{lookup};
-ghost use Rattle.liquid_plugins.specs.Evaluation.{evaluate, try_evaluate};
-ghost use Rattle.liquid_plugins.specs.Expression.{variable, no_indexes};
-ghost use Rattle.liquid_plugins.specs.ExpressionOf.{expression_of, expressions_of};
+ghost use Rattle.liquid_scalar.specs.meaning.Scalar.{Scal, render_scalar, scal, text};
+ghost use Rattle.liquid_value.specs.meaning.Tree.{scalar};
+ghost use Rattle.liquid_value.specs.meaning.View.{view as tree_of};
+ghost use Rattle.liquid_paths.specs.meaning.Step.{step};
+ghost use Rattle.liquid_runtime.specs.meaning.NamesSeen.{lookup};
+ghost use Rattle.liquid_plugins.specs.meaning.Evaluation.{evaluate, try_evaluate};
+ghost use Rattle.liquid_plugins.specs.meaning.Expression.{variable, no_indexes};
+ghost use Rattle.liquid_plugins.specs.meaning.ExpressionOf.{expression_of, expressions_of};
 
 use crate::expression::Expression;
 use liquid_paths::step;
@@ -50,7 +50,8 @@ fn standing_at<'c, R: Runtime>(
     indexes: &'c Vec<Expression>,
     runtime: &'c R,
 ) -> Option<&'c Value>
-    ensures { IfSome result (λ value. try_evaluate (R.view runtime.now) (variable (scal string_bytes name.now) (expressions_of indexes.now.items)) ≡ Some (tree_of value.now)) }
+    ensures { IfSome result (λ value.
+        try_evaluate (R.view runtime.now) (variable (scal string_bytes name.now) (expressions_of indexes.now.items)) ≡ Some (tree_of value.now)) }
 {
     let mut at = value_of(name, runtime)?;
     for index in indexes {

@@ -1,8 +1,8 @@
 // The texts that expressions display.
 ghost use Rattle.std.specs.Prelude.{Some, ◌++◌, codes};
 ghost use Rattle.std.specs.Fmt.{WritesOnOk};
-ghost use Rattle.liquid_plugins.specs.Expression.{expression_text, indexes_text};
-ghost use Rattle.liquid_plugins.specs.ExpressionOf.{expression_of, expressions_of, variable_of};
+ghost use Rattle.liquid_plugins.specs.meaning.Expression.{expression_text, indexes_text};
+ghost use Rattle.liquid_plugins.specs.meaning.ExpressionOf.{expression_of, expressions_of, variable_of};
 
 use crate::expression::{Expression, VariableOf};
 use liquid_value::render::ValueSource;

@@ -1,8 +1,8 @@
 //! Variables: a name, and indexes that lead from its value to one inside.
-ghost use Rattle.std.specs.Prelude.{◌≡◌, ◌++◌, [], ◌∷◌, map, string_bytes, IfOk};
-ghost use Rattle.liquid_scalar.specs.Scalar.{scal};
-ghost use Rattle.liquid_plugins.specs.Expression.{variable, no_indexes};
-ghost use Rattle.liquid_plugins.specs.ExpressionOf.{expression_of, indexes_of, index_list, literal_of, name_of, variable_of};
+ghost use Rattle.std.specs.Prelude.{◌≡◌, [], ◌∷◌, map, string_bytes, IfOk};
+ghost use Rattle.liquid_scalar.specs.meaning.Scalar.{scal};
+ghost use Rattle.liquid_plugins.specs.meaning.Expression.{variable, no_indexes};
+ghost use Rattle.liquid_plugins.specs.meaning.ExpressionOf.{expression_of, literal_of, variable_of, with_more};
 
 use crate::expression::{Expression, Variable, VariableOf};
 use liquid_scalar::Scalar;
@@ -21,7 +21,7 @@ impl VariableOf<Expression> {
 
     /// The variable with one more index, a literal. Where memory is refused the variable is dropped.
     pub fn push_literal<S: Into<Scalar>>(self, value: S) -> Result<Variable, AllocError>
-        ensures { IfOk result (λ v. (s : _) × S.converts value s × (variable_of v ≡ variable (name_of self) (indexes_of (index_list self ++ literal_of (scal string_bytes s) ∷ [])))) }
+        ensures { IfOk result (λ v. (s : _) × S.converts value s × (variable_of v ≡ with_more self (literal_of (scal string_bytes s) ∷ []))) }
     {
         let mut variable = self;
         variable.indexes.push(Expression::with_literal(value))?;
@@ -31,7 +31,7 @@ impl VariableOf<Expression> {
 
 /// Adds indexes behind the others. Where memory is refused a beginning of them is added.
 impl Extend<Expression> for VariableOf<Expression> {
-    ghost extend_gives = { λ v indexes w. variable_of w ≡ variable (name_of v) (indexes_of (index_list v ++ map expression_of indexes)) };
+    ghost extend_gives = { λ v indexes w. variable_of w ≡ with_more v (map expression_of indexes) };
 
     fn extend<U: IntoIterator<Item = Expression>>(&mut self, iter: U) -> Result<(), AllocError> {
         self.indexes.extend(iter)
@@ -40,7 +40,7 @@ impl Extend<Expression> for VariableOf<Expression> {
 
 /// Adds literals behind the indexes. Where memory is refused a beginning of them is added.
 impl Extend<Scalar> for VariableOf<Expression> {
-    ghost extend_gives = { λ v scalars w. variable_of w ≡ variable (name_of v) (indexes_of (index_list v ++ map (λ s. literal_of (scal string_bytes s)) scalars)) };
+    ghost extend_gives = { λ v scalars w. variable_of w ≡ with_more v (map (λ s. literal_of (scal string_bytes s)) scalars) };
 
     fn extend<U: IntoIterator<Item = Scalar>>(&mut self, iter: U) -> Result<(), AllocError> {
         for scalar in iter {

@@ -2,18 +2,18 @@
 use Rattle.std.proofs.Common.{◌≡◌, ℕ, List, [], ◌∷◌, Bool, true, false, Result, Ok, Err, inl, refl, ap, ◌∙◌}
 use Rattle.std.specs.Prelude.{codes, ok_or, unwrap_or}
 use Rattle.std.specs.Result.{result_ok}
-use Rattle.liquid_error.specs.Refusal.{Refusal}
-use Rattle.liquid_scalar.specs.Scalar.{render_scalar}
-use Rattle.liquid_value.specs.Tree.{Tree, nil}
-use Rattle.liquid_paths.specs.Walk.{Path, walk, find_behind}
+use Rattle.liquid_error.specs.meaning.Refusal.{Refusal}
+use Rattle.liquid_scalar.specs.meaning.Scalar.{render_scalar}
+use Rattle.liquid_value.specs.meaning.Tree.{Tree, nil}
+use Rattle.liquid_paths.specs.meaning.Walk.{Path, walk, find_behind}
 use Rattle.liquid_paths.proofs.Agreement.{ok_then-agrees, ok_or-agrees, find_behind-agrees}
 use Rattle.liquid_value.specs.declared.cow.ValueCow.{ValueCow}
 use Rattle.liquid_value.specs.declared.cow.ValueCow.TheVariants.{Owned, Borrowed}
-use Rattle.liquid_paths.specs.InPlace.{InPlace}
-use Rattle.liquid_runtime.specs.InPlaceOrNil.{InPlaceOrNil}
-use Rattle.liquid_runtime.specs.View.{View}
-use Rattle.liquid_runtime.specs.NamesSeen.{lookup, comes_from_seal}
-use Rattle.liquid_runtime.specs.Lookup.{try_path, found, strictly_found, or_nil, sealed_answer, unknown_variable}
+use Rattle.liquid_paths.specs.meaning.InPlace.{InPlace}
+use Rattle.liquid_runtime.specs.meaning.InPlaceOrNil.{InPlaceOrNil}
+use Rattle.liquid_runtime.specs.meaning.View.{View}
+use Rattle.liquid_runtime.specs.meaning.NamesSeen.{lookup, comes_from_seal}
+use Rattle.liquid_runtime.specs.meaning.Lookup.{try_path, found, strictly_found, or_nil, sealed_answer, unknown_variable}
 
 sealed_answer-agrees : (own : Bool) (name : List ℕ) (r : Result Tree Refusal) → result_ok (sealed_answer own name r) ≡ result_ok r
 sealed_answer-agrees own name (Ok t) = refl

@@ -5,13 +5,13 @@ use Rattle.std.specs.Option.{option_or}
 use Rattle.std.specs.Ordering.{nat_cmp}
 use Rattle.std.specs.Cmp.Lexicographic.{slice_cmp}
 use Rattle.std.specs.FinMap.{get, empty, get-empty}
-use Rattle.liquid_value.specs.Tree.{Tree}
-use Rattle.liquid_runtime.specs.Maps.{Names, over}
+use Rattle.liquid_value.specs.meaning.Tree.{Tree}
+use Rattle.liquid_runtime.specs.meaning.Maps.{Names, over}
 use Rattle.liquid_runtime.proofs.MapLaws.{get-over, empty-over, over-over}
-use Rattle.liquid_runtime.specs.View.{View}
-use Rattle.liquid_runtime.specs.NamesSeen.{lookup, upper_names, floor_names, names_seen, is_sealed, comes_from_seal}
-use Rattle.liquid_runtime.specs.Frames.{begin_stack, begin_sandboxed}
-use Rattle.liquid_runtime.specs.FrameViews.{assigned_view}
+use Rattle.liquid_runtime.specs.meaning.View.{View}
+use Rattle.liquid_runtime.specs.meaning.NamesSeen.{lookup, upper_names, floor_names, names_seen, is_sealed, comes_from_seal}
+use Rattle.liquid_runtime.specs.meaning.Frames.{begin_stack, begin_sandboxed}
+use Rattle.liquid_runtime.specs.steps.FrameViews.{assigned_view}
 
 none_of_two : (sealed : Bool) (a b : Option Tree) → sealed && is_none (option_or a b) ≡ is_none a && (sealed && is_none b)
 none_of_two true None b = refl

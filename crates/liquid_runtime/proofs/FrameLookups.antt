@@ -8,14 +8,14 @@ use Rattle.std.specs.Cmp.Lexicographic.{slice_cmp}
 use Rattle.std.specs.BTreeSet.{BTreeSet, IsEmpty}
 use Rattle.std.specs.FinMap.{get, empty, get-empty}
 use Rattle.std.specs.declared.alloc.Global.{Global}
-use Rattle.liquid_value.specs.Tree.{Tree}
-use Rattle.liquid_runtime.specs.Maps.{Names, over}
+use Rattle.liquid_value.specs.meaning.Tree.{Tree}
+use Rattle.liquid_runtime.specs.meaning.Maps.{Names, over}
 use Rattle.liquid_runtime.proofs.MapLaws.{empty-over}
-use Rattle.liquid_runtime.specs.View.{View}
-use Rattle.liquid_runtime.specs.Roots.{NamesOf, NamesOver}
-use Rattle.liquid_runtime.specs.NamesSeen.{lookup, names_seen}
-use Rattle.liquid_runtime.specs.Frames.{begin_stack}
-use Rattle.liquid_runtime.specs.FrameViews.{core_with, indexed_view, assigned_view, sandboxed_with}
+use Rattle.liquid_runtime.specs.meaning.View.{View}
+use Rattle.liquid_runtime.specs.meaning.Roots.{NamesOf, NamesOver}
+use Rattle.liquid_runtime.specs.meaning.NamesSeen.{lookup, names_seen}
+use Rattle.liquid_runtime.specs.meaning.Frames.{begin_stack}
+use Rattle.liquid_runtime.specs.steps.FrameViews.{core_with, indexed_view, assigned_view, sandboxed_with}
 use Rattle.liquid_runtime.specs.declared.registers.Registers.{Registers}
 use Rattle.liquid_runtime.proofs.FrameLaws.{lookup_stack, lookup_global, lookup_sandboxed, seal_stack, seal_global, seal_sandboxed}
 use Rattle.liquid_runtime.proofs.Objects.{changed_objects}

@@ -13,10 +13,10 @@ use Rattle.std.specs.Map.{lookup as lookup_entry}
 use Rattle.std.specs.FinMap.{get, insert, get-insert, empty, from_entries, get-from_entries}
 use Rattle.std.specs.FinMap.Entries.{find}
 use Rattle.std.specs.declared.alloc.Global.{Global}
-use Rattle.liquid_value.specs.Tree.{Tree}
-use Rattle.liquid_value.specs.View.{view}
+use Rattle.liquid_value.specs.meaning.Tree.{Tree}
+use Rattle.liquid_value.specs.meaning.View.{view}
 use Rattle.liquid_value.specs.declared.value.Value.{Value}
-use Rattle.liquid_runtime.specs.Maps.{names_of}
+use Rattle.liquid_runtime.specs.meaning.Maps.{names_of}
 use Rattle.liquid_runtime.proofs.MapLaws.{same_names}
 
 option_map-cond : {X Y : Type 0} (f : X → Y) (b : Bool) (x : X) (rest : Option X) → cond b (Some (f x)) (option_map f rest) ≡ option_map f (cond b (Some x) rest)

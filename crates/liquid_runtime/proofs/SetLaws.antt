@@ -7,14 +7,14 @@ use Rattle.std.specs.declared.cmp.Ordering.{Ordering}
 use Rattle.std.specs.declared.cmp.Ordering.TheVariants.{Less, Equal, Greater}
 use Rattle.std.specs.Cmp.Lexicographic.{slice_cmp, nat_list_cmp_total}
 use Rattle.std.specs.FinMap.{get, insert, empty, get-insert}
-use Rattle.liquid_value.specs.Tree.{Tree}
-use Rattle.liquid_runtime.specs.Maps.{Names, over}
+use Rattle.liquid_value.specs.meaning.Tree.{Tree}
+use Rattle.liquid_runtime.specs.meaning.Maps.{Names, over}
 use Rattle.liquid_runtime.proofs.MapLaws.{get-over, names_apart}
-use Rattle.liquid_runtime.specs.View.{View, Floor, unsealed, sealed}
-use Rattle.liquid_runtime.specs.NamesSeen.{lookup, shown_globals, upper_names, floor_names, names_of_floor, names_seen}
-use Rattle.liquid_runtime.specs.Sets.{put_global, put_index}
-use Rattle.liquid_runtime.specs.Laws.{SetGlobalKeepsOthers, SetIndexKeepsOthers, RootsAreSeen, StackNamesFirst, GlobalFrameKeepsNames, GlobalsAreSeen}
-use Rattle.liquid_runtime.specs.Frames.{begin_index, begin_stack, core_view}
+use Rattle.liquid_runtime.specs.meaning.View.{View, Floor, unsealed, sealed}
+use Rattle.liquid_runtime.specs.meaning.NamesSeen.{lookup, shown_globals, upper_names, floor_names, names_of_floor, names_seen}
+use Rattle.liquid_runtime.specs.meaning.Sets.{put_global, put_index}
+use Rattle.liquid_runtime.specs.laws.Laws.{SetGlobalKeepsOthers, SetIndexKeepsOthers, RootsAreSeen, StackNamesFirst, GlobalFrameKeepsNames, GlobalsAreSeen}
+use Rattle.liquid_runtime.specs.meaning.Frames.{begin_index, begin_stack, core_view}
 use Rattle.liquid_runtime.proofs.Agreement.{get_agrees, lenient_get_agrees}
 use Rattle.liquid_runtime.proofs.FrameLaws.{lookup_stack, lookup_global}
 use Rattle.liquid_runtime.proofs.FrameLookups.{lookup_indexed, nothing_there, no_names, or_none}

@@ -1,7 +1,7 @@
 ghost use Rattle.std.specs.Prelude.{◌≡◌, [], false, None, Some};
 ghost use Rattle.std.specs.FinMap.{empty};
-ghost use Rattle.liquid_runtime.specs.Frames.{built_view, leniently};
-ghost use Rattle.liquid_runtime.specs.Maps.{names_of};
+ghost use Rattle.liquid_runtime.specs.meaning.Frames.{built_view, leniently};
+ghost use Rattle.liquid_runtime.specs.meaning.Maps.{names_of};
 
 use crate::global_frame::GlobalFrame;
 use crate::index_frame::IndexFrame;
@@ -30,7 +30,7 @@ pub struct RuntimeBuilder<V, S> {
 }
 
 impl<V: Fresh, S: Drop> RuntimeBuilder<V, S> {
-    ghost use Rattle.liquid_runtime.specs.Built.{globals_of, store_of, depth_of, lenient_of};
+    ghost use Rattle.liquid_runtime.specs.meaning.Built.{globals_of, store_of, depth_of, lenient_of};
 
     /// A builder without globals and without a store, with a depth of 32, of a runtime that refuses a
     /// path without a value. What it builds takes its memory from `alloc`.
@@ -97,7 +97,8 @@ impl<V: Fresh, S: Drop> RuntimeBuilder<V, S> {
 
     /// The runtime in which a template sees the builder's globals.
     pub fn build(self) -> BuiltRuntime<V, S>
-        ensures view { ⟦<BuiltRuntime<V, S> as Runtime>⟧.view result ≡ leniently (lenient_of self) (built_view V.fresh (depth_of self) (globals_of self)) }
+        ensures view { ⟦<BuiltRuntime<V, S> as Runtime>⟧.view result
+            ≡ leniently (lenient_of self) (built_view V.fresh (depth_of self) (globals_of self)) }
         ensures store { ⟦<BuiltRuntime<V, S> as Runtime>⟧.store result ≡ store_of self }
         ensures same { ⟦<BuiltRuntime<V, S> as Runtime>⟧.lent result ≡ [] }
     {

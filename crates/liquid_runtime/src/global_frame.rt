@@ -1,7 +1,7 @@
 ghost use Rattle.std.specs.Prelude.{◌≡◌, ◌∷◌};
-ghost use Rattle.liquid_runtime.specs.Frames.{begin_global, restored_by, global_frame};
-ghost use Rattle.liquid_runtime.specs.FrameViews.{assigned_view};
-ghost use Rattle.liquid_runtime.specs.Maps.{names_of};
+ghost use Rattle.liquid_runtime.specs.meaning.Frames.{begin_global, restored_by, global_frame};
+ghost use Rattle.liquid_runtime.specs.steps.FrameViews.{assigned_view};
+ghost use Rattle.liquid_runtime.specs.meaning.Maps.{names_of};
 
 use crate::names::{add_names, set_name, value_of};
 use crate::registers::Registers;

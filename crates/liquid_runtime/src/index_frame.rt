@@ -1,7 +1,7 @@
 ghost use Rattle.std.specs.Prelude.{◌≡◌, [], Some};
-ghost use Rattle.liquid_runtime.specs.Frames.{begin_index};
-ghost use Rattle.liquid_runtime.specs.FrameViews.{core_with, indexed_view};
-ghost use Rattle.liquid_runtime.specs.Maps.{names_of};
+ghost use Rattle.liquid_runtime.specs.meaning.Frames.{begin_index};
+ghost use Rattle.liquid_runtime.specs.steps.FrameViews.{core_with, indexed_view};
+ghost use Rattle.liquid_runtime.specs.meaning.Maps.{names_of};
 
 use crate::names::{add_names, set_name, value_of};
 use crate::registers::{Fresh, Registers};

@@ -1,5 +1,5 @@
 //! The laws of names and frames, each as the contract of a function. `V` is the type of the register.
-ghost use Rattle.liquid_runtime.specs.Laws.{
+ghost use Rattle.liquid_runtime.specs.laws.Laws.{
   GetAgrees,
   GlobalFrameKeepsNames,
   GlobalsAreSeen,

@@ -1,10 +1,10 @@
 //! What frames do with the names of an object.
 ghost use Rattle.std.specs.Prelude.{◌≡◌, ◌∷◌, [], map, IfOk, IfErr, OnOk, OnErr, IfSome, Some, None, Option, string_bytes, option_map};
 ghost use Rattle.std.specs.FinMap.{empty, get, insert};
-ghost use Rattle.liquid_error.specs.Told.{told};
-ghost use Rattle.liquid_value.specs.View.{view as tree_of};
-ghost use Rattle.liquid_runtime.specs.Maps.{names_of, over};
-ghost use Rattle.liquid_runtime.specs.Roots.{NamesOf, NamesOver};
+ghost use Rattle.liquid_error.specs.meaning.Told.{told};
+ghost use Rattle.liquid_value.specs.meaning.View.{view as tree_of};
+ghost use Rattle.liquid_runtime.specs.meaning.Maps.{names_of, over};
+ghost use Rattle.liquid_runtime.specs.meaning.Roots.{NamesOf, NamesOver};
 
 use liquid_error::Error;
 use liquid_value::{Object, Value};

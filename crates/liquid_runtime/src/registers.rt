@@ -15,7 +15,7 @@ pub struct InterruptRegister {
 }
 
 impl InterruptRegister {
-    ghost use Rattle.liquid_runtime.specs.Calls.{interrupt_of};
+    ghost use Rattle.liquid_runtime.specs.meaning.Calls.{interrupt_of};
 
     /// Whether an interrupt stands.
     pub fn interrupted(&self) -> bool
@@ -42,7 +42,7 @@ impl InterruptRegister {
 
 /// No interrupt.
 impl Default for InterruptRegister {
-    ghost use Rattle.liquid_runtime.specs.Calls.{interrupt_of};
+    ghost use Rattle.liquid_runtime.specs.meaning.Calls.{interrupt_of};
 
     ghost is_default = { λ register. interrupt_of register ≡ None };
 
@@ -74,7 +74,7 @@ pub struct Registers<V> {
 }
 
 impl<V: Fresh> Registers<V> {
-    ghost use Rattle.liquid_runtime.specs.Calls.{fresh_registers};
+    ghost use Rattle.liquid_runtime.specs.meaning.Calls.{fresh_registers};
 
     pub(crate) fn fresh() -> Registers<V>
         ensures { result ≡ fresh_registers V.fresh }
@@ -88,7 +88,7 @@ impl<V: Fresh> Registers<V> {
 
 /// No interrupt, and the register's first value.
 impl<V: Fresh> Default for Registers<V> {
-    ghost use Rattle.liquid_runtime.specs.Calls.{fresh_registers};
+    ghost use Rattle.liquid_runtime.specs.meaning.Calls.{fresh_registers};
 
     ghost is_default = { λ registers. registers ≡ fresh_registers V.fresh };
 

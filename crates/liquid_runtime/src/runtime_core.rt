@@ -1,6 +1,6 @@
 ghost use Rattle.std.specs.Prelude.{◌≡◌, [], None, Some};
-ghost use Rattle.liquid_runtime.specs.Frames.{core_view, leniently};
-ghost use Rattle.liquid_runtime.specs.FrameViews.{core_with};
+ghost use Rattle.liquid_runtime.specs.meaning.Frames.{core_view, leniently};
+ghost use Rattle.liquid_runtime.specs.steps.FrameViews.{core_with};
 
 use crate::registers::{Fresh, Registers};
 use crate::runtime::Runtime;

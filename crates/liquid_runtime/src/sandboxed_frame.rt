@@ -1,8 +1,8 @@
 ghost use Rattle.std.specs.Prelude.{◌≡◌, ◌∷◌, None, string_bytes, option_map};
-ghost use Rattle.liquid_runtime.specs.Calls.{named};
-ghost use Rattle.liquid_runtime.specs.Frames.{begin_sandboxed, restored_by, sandboxed_frame};
-ghost use Rattle.liquid_runtime.specs.FrameViews.{sandboxed_with};
-ghost use Rattle.liquid_runtime.specs.Maps.{names_of};
+ghost use Rattle.liquid_runtime.specs.meaning.Calls.{named};
+ghost use Rattle.liquid_runtime.specs.meaning.Frames.{begin_sandboxed, restored_by, sandboxed_frame};
+ghost use Rattle.liquid_runtime.specs.steps.FrameViews.{sandboxed_with};
+ghost use Rattle.liquid_runtime.specs.meaning.Maps.{names_of};
 
 use crate::names::{add_names, own_name, value_of};
 use crate::registers::Registers;
@@ -25,9 +25,11 @@ pub struct SandboxedStackFrame<P: Runtime> {
 impl<P: Runtime> SandboxedStackFrame<P> {
     /// A frame of the names in `data` alone, over `parent`.
     pub fn new(parent: P, data: Object) -> Self
-        ensures view { ⟦<SandboxedStackFrame<P> as Runtime>⟧.view result ≡ begin_sandboxed P.Register.fresh (names_of «data») None (P.view parent) }
+        ensures view { ⟦<SandboxedStackFrame<P> as Runtime>⟧.view result
+            ≡ begin_sandboxed P.Register.fresh (names_of «data») None (P.view parent) }
         ensures store { ⟦<SandboxedStackFrame<P> as Runtime>⟧.store result ≡ P.store parent }
-        ensures kept { ⟦<SandboxedStackFrame<P> as Runtime>⟧.restores result ≡ restored_by (sandboxed_frame (names_of «data») None) (P.view parent) ∷ P.restores parent }
+        ensures kept { ⟦<SandboxedStackFrame<P> as Runtime>⟧.restores result
+            ≡ restored_by (sandboxed_frame (names_of «data») None) (P.view parent) ∷ P.restores parent }
         ensures same { ⟦<SandboxedStackFrame<P> as Runtime>⟧.lent result ≡ P.lent parent }
     {
         SandboxedStackFrame {
@@ -40,7 +42,8 @@ impl<P: Runtime> SandboxedStackFrame<P> {
 
     /// The frame with this name of the template, in place of any other.
     pub fn with_name(mut self, name: String) -> Self
-        ensures view { ⟦<SandboxedStackFrame<P> as Runtime>⟧.view result ≡ named (string_bytes name) (⟦<SandboxedStackFrame<P> as Runtime>⟧.view self) }
+        ensures view { ⟦<SandboxedStackFrame<P> as Runtime>⟧.view result
+            ≡ named (string_bytes name) (⟦<SandboxedStackFrame<P> as Runtime>⟧.view self) }
         ensures store { ⟦<SandboxedStackFrame<P> as Runtime>⟧.store result ≡ ⟦<SandboxedStackFrame<P> as Runtime>⟧.store self }
         ensures kept { ⟦<SandboxedStackFrame<P> as Runtime>⟧.restores result ≡ ⟦<SandboxedStackFrame<P> as Runtime>⟧.restores self }
         ensures same { ⟦<SandboxedStackFrame<P> as Runtime>⟧.lent result ≡ ⟦<SandboxedStackFrame<P> as Runtime>⟧.lent self }

@@ -1,9 +1,9 @@
 ghost use Rattle.std.specs.Prelude.{◌≡◌, ℕ, List, [], ◌∷◌, ◌<◌, length, None, IfErr, OnOk, OnErr};
-ghost use Rattle.liquid_error.specs.Told.{told};
-ghost use Rattle.liquid_runtime.specs.View.{View};
-ghost use Rattle.liquid_runtime.specs.Frames.{Restore, scope_base, beginning, restored_by};
-ghost use Rattle.liquid_runtime.specs.OpenFrames.{opened, EndsFirst};
-ghost use Rattle.liquid_runtime.specs.Calls.{frame_of};
+ghost use Rattle.liquid_error.specs.meaning.Told.{told};
+ghost use Rattle.liquid_runtime.specs.meaning.View.{View};
+ghost use Rattle.liquid_runtime.specs.meaning.Frames.{Restore, scope_base, beginning, restored_by};
+ghost use Rattle.liquid_runtime.specs.meaning.OpenFrames.{opened, EndsFirst};
+ghost use Rattle.liquid_runtime.specs.meaning.Calls.{frame_of};
 
 use crate::registers::Fresh;
 use crate::runtime::Runtime;

@@ -1,7 +1,7 @@
 ghost use Rattle.std.specs.Prelude.{◌≡◌, ◌∷◌, None, string_bytes, option_map};
-ghost use Rattle.liquid_runtime.specs.Calls.{named};
-ghost use Rattle.liquid_runtime.specs.Frames.{begin_stack, restored_by, stack_frame};
-ghost use Rattle.liquid_runtime.specs.Maps.{names_of};
+ghost use Rattle.liquid_runtime.specs.meaning.Calls.{named};
+ghost use Rattle.liquid_runtime.specs.meaning.Frames.{begin_stack, restored_by, stack_frame};
+ghost use Rattle.liquid_runtime.specs.meaning.Maps.{names_of};
 
 use crate::names::{add_names, own_name, value_of};
 use crate::registers::Registers;
@@ -24,7 +24,8 @@ impl<P: Runtime> StackFrame<P> {
     pub fn new(parent: P, data: Object) -> Self
         ensures view { ⟦<StackFrame<P> as Runtime>⟧.view result ≡ begin_stack (names_of «data») None (P.view parent) }
         ensures store { ⟦<StackFrame<P> as Runtime>⟧.store result ≡ P.store parent }
-        ensures kept { ⟦<StackFrame<P> as Runtime>⟧.restores result ≡ restored_by (stack_frame (names_of «data») None) (P.view parent) ∷ P.restores parent }
+        ensures kept { ⟦<StackFrame<P> as Runtime>⟧.restores result
+            ≡ restored_by (stack_frame (names_of «data») None) (P.view parent) ∷ P.restores parent }
         ensures same { ⟦<StackFrame<P> as Runtime>⟧.lent result ≡ P.lent parent }
     {
         StackFrame {

@@ -8,7 +8,7 @@ use Rattle.std.specs.Str.{all_ascii_digits}
 use Rattle.std.specs.Str.Parse.{IsNumeral, ParsesSigned, AllDigits, digits_value, signed_digits_value, starts_with_minus, without_leading_sign}
 use Rattle.std.proofs.lemmas.Str.Parse.{IsNumeralModel, numerals_by_value, tells_all_ascii_digits}
 use Rattle.std.proofs.lemmas.Bool.Decides.{Decides-and, Decides-ltb, Decides-like, nat_tests}
-use Rattle.liquid_scalar.specs.Scalar.{is_whole_number, whole_number_of_text, greatest_magnitude}
+use Rattle.liquid_scalar.specs.meaning.Scalar.{is_whole_number, whole_number_of_text, greatest_magnitude}
 
 -- a result that is `Ok x` exactly where Q holds, beside a test that decides Q
 ok_by_test : {E : Type 0} (r : Result ℤ E) (Q : Type 0) (t : Bool) (x : ℤ) → OkIff r Q x → Decides t Q → result_ok r ≡ cond t (Some x) None

@@ -1,5 +1,3 @@
-pub mod Scalar
-pub mod ScalarCompare
-pub mod ScalarLaws
-pub mod ScalarLawProofs
-pub mod ScalarDates
+pub mod meaning
+pub mod laws
+pub mod steps

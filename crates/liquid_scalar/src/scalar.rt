@@ -1,6 +1,6 @@
 ghost use Rattle.std.specs.Prelude.{◌≡◌, IfOk};
 ghost use Rattle.std.specs.Cow.{cow_str_bytes};
-ghost use Rattle.liquid_scalar.specs.Scalar.{scal, to_integer, to_bool};
+ghost use Rattle.liquid_scalar.specs.meaning.Scalar.{scal, to_integer, to_bool};
 
 mod compare;
 mod convert;

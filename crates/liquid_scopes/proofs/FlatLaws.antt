@@ -2,10 +2,10 @@
 use Rattle.std.proofs.Common.{◌≡◌, ℕ, zero, suc, ◌<◌, ◌≤◌, List, [], ◌∷◌, ◌++◌, length, map, get_or, Option, None, Some, Bool, true, false, cond, refl, sym, ap, ◌∙◌, arith}
 use Rattle.std.proofs.lemmas.Bool.Decides.{nat_tests}
 use Rattle.std.specs.Prelude.{is_some, nat_eq, ◌&&◌, ◌||◌, not}
-use Rattle.liquid_value.specs.Tree.{Tree}
-use Rattle.liquid_scopes.specs.Layers.{Layer, global_layer, is_global, assigned, GlobalAt}
-use Rattle.liquid_scopes.specs.NamePlaces.{is_at}
-use Rattle.liquid_scopes.specs.Standing.{own, own_at, has_at, listed_at}
+use Rattle.liquid_value.specs.meaning.Tree.{Tree}
+use Rattle.liquid_scopes.specs.steps.Layers.{Layer, global_layer, is_global, assigned, GlobalAt}
+use Rattle.liquid_scopes.specs.steps.NamePlaces.{is_at}
+use Rattle.liquid_scopes.specs.steps.Standing.{own, own_at, has_at, listed_at}
 use Rattle.liquid_scopes.proofs.Unlisted.{absent}
 use Rattle.liquid_scopes.proofs.LayerLaws.{map_append, map_length}
 use Rattle.std.specs.Prelude.{bytes_eq}
@@ -15,7 +15,7 @@ use Rattle.std.specs.Cmp.Lexicographic.{slice_cmp, nat_list_cmp_total}
 use Rattle.std.specs.FinMap.{get, insert, get-insert}
 use Rattle.std.proofs.lemmas.Map.Text.{is_eq-slice_cmp}
 use Rattle.std.proofs.Math.ListN.{set}
-use Rattle.liquid_runtime.specs.Maps.{Names}
+use Rattle.liquid_runtime.specs.meaning.Maps.{Names}
 use Rattle.liquid_scopes.proofs.LayerLaws.{set_put}
 use Rattle.liquid_scopes.proofs.TwoLooks.{suc_eq, suc_not_zero, zero_not_suc, has_at-push, nothing_behind}
 use Rattle.liquid_scopes.proofs.IndexLaws.{undone, same_text}

@@ -16,8 +16,8 @@ use Rattle.liquid_value.specs.declared.value.Value.{Value}
 use Rattle.liquid_runtime.proofs.MapLaws.{names_apart}
 use Rattle.liquid_runtime.proofs.Objects.{has_name}
 use Rattle.liquid_scopes.specs.declared.frames.Frames.{Frames}
-use Rattle.liquid_scopes.specs.NamePlaces.{is_place}
-use Rattle.liquid_scopes.specs.Standing.{Places, stands, is_among}
+use Rattle.liquid_scopes.specs.steps.NamePlaces.{is_place}
+use Rattle.liquid_scopes.specs.steps.Standing.{Places, stands, is_among}
 
 pub or_same : (b : Bool) → (b || b) ≡ b
 or_same true = refl

@@ -5,16 +5,16 @@ use Rattle.std.proofs.Math.ListN.{set}
 use Rattle.std.proofs.Math.Seq.{set-append_seam}
 use Rattle.std.proofs.lemmas.List.{length-take, take_more}
 use Rattle.std.specs.FinMap.{insert}
-use Rattle.liquid_value.specs.Tree.{Tree}
-use Rattle.liquid_runtime.specs.Maps.{Names}
-use Rattle.liquid_runtime.specs.View.{View}
-use Rattle.liquid_runtime.specs.NamesSeen.{lookup, comes_from_seal}
-use Rattle.liquid_runtime.specs.Frames.{Restore, scope_base, restored_by, FrameShape, no_frame, stack_frame, sandboxed_frame, global_frame, beginning, ending}
-use Rattle.liquid_runtime.specs.OpenFrames.{opened, EndsFirst}
-use Rattle.liquid_runtime.specs.Sets.{put_global, put_index}
-use Rattle.liquid_runtime.specs.Calls.{registers_of, with_registers}
+use Rattle.liquid_value.specs.meaning.Tree.{Tree}
+use Rattle.liquid_runtime.specs.meaning.Maps.{Names}
+use Rattle.liquid_runtime.specs.meaning.View.{View}
+use Rattle.liquid_runtime.specs.meaning.NamesSeen.{lookup, comes_from_seal}
+use Rattle.liquid_runtime.specs.meaning.Frames.{Restore, scope_base, restored_by, FrameShape, no_frame, stack_frame, sandboxed_frame, global_frame, beginning, ending}
+use Rattle.liquid_runtime.specs.meaning.OpenFrames.{opened, EndsFirst}
+use Rattle.liquid_runtime.specs.meaning.Sets.{put_global, put_index}
+use Rattle.liquid_runtime.specs.meaning.Calls.{registers_of, with_registers}
 use Rattle.liquid_runtime.specs.declared.registers.Registers.{Registers}
-use Rattle.liquid_scopes.specs.Layers.{Layer, none_layer, stack_layer, global_layer, sandboxed_layer, layer_view, layer_restores, shown_over, restoring, layer_found, layer_seals, layer_name, is_global, assigned, Plain, GlobalAt, LastGlobal}
+use Rattle.liquid_scopes.specs.steps.Layers.{Layer, none_layer, stack_layer, global_layer, sandboxed_layer, layer_view, layer_restores, shown_over, restoring, layer_found, layer_seals, layer_name, is_global, assigned, Plain, GlobalAt, LastGlobal}
 use Rattle.liquid_runtime.proofs.FrameLaws.{lookup_stack, lookup_global, lookup_sandboxed, seal_stack, seal_global, seal_sandboxed}
 
 pub map_append : {X Y : Type 0} (f : X → Y) (xs ys : List X) → map f (xs ++ ys) ≡ map f xs ++ map f ys

@@ -3,12 +3,12 @@ use Rattle.std.proofs.Common.{ap, sym, ◌∙◌}
 use Rattle.std.specs.Prelude.{String, is_some}
 use Rattle.std.specs.BTreeSet.{BTreeSet, contains_text}
 use Rattle.std.specs.declared.alloc.Global.{Global}
-use Rattle.liquid_runtime.specs.View.{View}
-use Rattle.liquid_runtime.specs.Roots.{NamesOf}
-use Rattle.liquid_runtime.specs.NamesSeen.{names_seen}
+use Rattle.liquid_runtime.specs.meaning.View.{View}
+use Rattle.liquid_runtime.specs.meaning.Roots.{NamesOf}
+use Rattle.liquid_runtime.specs.meaning.NamesSeen.{names_seen}
 use Rattle.liquid_runtime.proofs.FrameLaws.{lookup_sandboxed}
 use Rattle.liquid_runtime.proofs.FrameLookups.{roots_stack, roots_global}
-use Rattle.liquid_scopes.specs.Layers.{Layer, none_layer, stack_layer, global_layer, sandboxed_layer, layer_view, LayerNames}
+use Rattle.liquid_scopes.specs.steps.Layers.{Layer, none_layer, stack_layer, global_layer, sandboxed_layer, layer_view, LayerNames}
 
 module _ {Reg : Type 0} where
   pub roots_layer : (l : Layer Reg) (v : View Reg) (below set : BTreeSet (String Global)) → LayerNames l below set → NamesOf (names_seen v) below → NamesOf (names_seen (layer_view l v)) set

@@ -6,10 +6,10 @@ use Rattle.std.specs.Prelude.{option_map}
 use Rattle.std.specs.List.{slice_get}
 use Rattle.std.specs.Option.{option_or}
 use Rattle.std.specs.FinMap.{insert}
-use Rattle.liquid_value.specs.Tree.{Tree}
-use Rattle.liquid_runtime.specs.Maps.{Names}
-use Rattle.liquid_scopes.specs.Layers.{Layer, none_layer, stack_layer, global_layer, sandboxed_layer, is_global, assigned, GlobalAt, LastGlobal}
-use Rattle.liquid_scopes.specs.Standing.{last_place, places_where}
+use Rattle.liquid_value.specs.meaning.Tree.{Tree}
+use Rattle.liquid_runtime.specs.meaning.Maps.{Names}
+use Rattle.liquid_scopes.specs.steps.Layers.{Layer, none_layer, stack_layer, global_layer, sandboxed_layer, is_global, assigned, GlobalAt, LastGlobal}
+use Rattle.liquid_scopes.specs.steps.Standing.{last_place, places_where}
 use Rattle.liquid_scopes.proofs.LayerLaws.{map_append, map_length, set_put}
 
 some_or : (o p : Option ℕ) (i : ℕ) → o ≡ Some i → o ≡ option_or o p

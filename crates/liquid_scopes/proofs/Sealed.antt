@@ -5,12 +5,12 @@ use Rattle.std.proofs.lemmas.Option.{same_Some}
 use Rattle.std.specs.Prelude.{is_some, is_none, nat_lt, ◌&&◌, ◌||◌, not, option_map}
 use Rattle.std.specs.Option.{option_or}
 use Rattle.std.specs.FinMap.{get}
-use Rattle.liquid_value.specs.Tree.{Tree}
-use Rattle.liquid_runtime.specs.View.{View}
-use Rattle.liquid_runtime.specs.NamesSeen.{comes_from_seal}
-use Rattle.liquid_scopes.specs.Layers.{Layer, none_layer, stack_layer, global_layer, sandboxed_layer, layer_seals, layer_view, shown_over}
-use Rattle.liquid_scopes.specs.NamePlaces.{TopOf, is_under}
-use Rattle.liquid_scopes.specs.Standing.{own, has_at, listed_at, seen_over, sealed_by, is_sandboxed, last_seal}
+use Rattle.liquid_value.specs.meaning.Tree.{Tree}
+use Rattle.liquid_runtime.specs.meaning.View.{View}
+use Rattle.liquid_runtime.specs.meaning.NamesSeen.{comes_from_seal}
+use Rattle.liquid_scopes.specs.steps.Layers.{Layer, none_layer, stack_layer, global_layer, sandboxed_layer, layer_seals, layer_view, shown_over}
+use Rattle.liquid_scopes.specs.steps.NamePlaces.{TopOf, is_under}
+use Rattle.liquid_scopes.specs.steps.Standing.{own, has_at, listed_at, seen_over, sealed_by, is_sandboxed, last_seal}
 use Rattle.liquid_scopes.proofs.LayerLaws.{seal_layer}
 use Rattle.liquid_scopes.proofs.TwoLooks.{none_below, zero_below, suc_below, tail_top, none_after}
 use Rattle.liquid_scopes.proofs.Unlisted.{and_true, top_same, top_over, top_here, absent_top}

@@ -3,12 +3,12 @@ use Rattle.std.proofs.Common.{◌≡◌, ℕ, ◌<◌, ◌≤◌, List, Option, 
 use Rattle.std.proofs.lemmas.Bool.Decides.{nat_tests}
 use Rattle.std.proofs.lemmas.Option.{same_Some}
 use Rattle.std.specs.Prelude.{is_some, nat_eq, nat_lt, ◌&&◌, ◌||◌, not}
-use Rattle.liquid_value.specs.Tree.{Tree}
-use Rattle.liquid_runtime.specs.View.{View}
-use Rattle.liquid_runtime.specs.NamesSeen.{lookup}
-use Rattle.liquid_scopes.specs.Layers.{Layer, shown_over}
-use Rattle.liquid_scopes.specs.NamePlaces.{TopOf, is_at, is_under}
-use Rattle.liquid_scopes.specs.Standing.{two_looks, own_at, has_at, listed_at, seen_over, own_at_top, last_seal}
+use Rattle.liquid_value.specs.meaning.Tree.{Tree}
+use Rattle.liquid_runtime.specs.meaning.View.{View}
+use Rattle.liquid_runtime.specs.meaning.NamesSeen.{lookup}
+use Rattle.liquid_scopes.specs.steps.Layers.{Layer, shown_over}
+use Rattle.liquid_scopes.specs.steps.NamePlaces.{TopOf, is_at, is_under}
+use Rattle.liquid_scopes.specs.steps.Standing.{two_looks, own_at, has_at, listed_at, seen_over, own_at_top, last_seal}
 use Rattle.liquid_scopes.proofs.TwoLooks.{sought}
 
 pub and_true : (b : Bool) → (b && true) ≡ b

@@ -1,5 +1,2 @@
-pub mod Layers
-pub mod LinkLayers
-pub mod NamePlaces
-pub mod Standing
-pub mod Histories
+pub mod meaning
+pub mod steps

@@ -1,10 +1,10 @@
-ghost use Rattle.std.specs.Prelude.{◌≡◌, ◌∷◌, map, option_map};
-ghost use Rattle.liquid_value.specs.View.{view as tree_of};
-ghost use Rattle.liquid_runtime.specs.View.{View};
-ghost use Rattle.liquid_runtime.specs.Frames.{scope_base};
-ghost use Rattle.liquid_runtime.specs.NamesSeen.{comes_from_seal};
-ghost use Rattle.liquid_scopes.specs.Layers.{shown_over, restoring, layer_found, layer_seals, LastGlobal};
-ghost use Rattle.liquid_scopes.specs.LinkLayers.{layer_of};
+ghost use Rattle.std.specs.Prelude.{◌≡◌, ◌∷◌, option_map};
+ghost use Rattle.liquid_value.specs.meaning.View.{view as tree_of};
+ghost use Rattle.liquid_runtime.specs.meaning.View.{View};
+ghost use Rattle.liquid_runtime.specs.meaning.Frames.{scope_base};
+ghost use Rattle.liquid_runtime.specs.meaning.NamesSeen.{comes_from_seal};
+ghost use Rattle.liquid_scopes.specs.steps.Layers.{shown_over, restoring, layer_found, layer_seals, LastGlobal};
+ghost use Rattle.liquid_scopes.specs.steps.LinkLayers.{layer_of, layers_of, view_over};
 
 use crate::link::{Link, closing, opening};
 use crate::links::{name_over, roots_over};
@@ -25,7 +25,7 @@ pub struct ChainedScopes<R: Runtime> {
 impl<R: Runtime> ChainedScopes<R> {
     // The place of the innermost global frame.
     fn last_global(&self) -> Option<usize>
-        ensures { LastGlobal (map layer_of self.now.links.items) result }
+        ensures { LastGlobal (layers_of self.now.links.items) result }
     {
         let mut at = None;
         for i in 0..self.links.len() {
@@ -42,7 +42,7 @@ impl<R: Runtime> Runtime for ChainedScopes<R> {
 
     type Store = R::Store;
 
-    ghost view = { λ s. shown_over (R.view s.base) (map layer_of s.links.items) };
+    ghost view = { λ s. shown_over (R.view s.base) (layers_of s.links.items) };
 
     ghost store = { λ s. R.store s.base };
 
@@ -50,7 +50,7 @@ impl<R: Runtime> Runtime for ChainedScopes<R> {
 
     ghost restored = { λ s w. record s { base = R.restored s.base w } };
 
-    ghost restores = { λ s. restoring (R.view s.base) (map layer_of s.links.items) (scope_base ∷ R.restores s.base) };
+    ghost restores = { λ s. restoring (R.view s.base) (layers_of s.links.items) (scope_base ∷ R.restores s.base) };
 
     ghost lent = { λ s. R.lent s.base };
 
@@ -168,7 +168,8 @@ impl<R: Runtime> Scopes for ChainedScopes<R> {
 impl<V> Link<V> {
     #[tactic(auto, using(liquid_runtime::proofs::FrameLookups::own_first))]
     fn found<'a>(&'a self, name: &str, below: Option<&'a Value>) -> Option<&'a Value>
-        ensures { option_map (λ r. tree_of r.now) result ≡ layer_found (layer_of self.now) name.now (option_map (λ r. tree_of r.now) below.entry) }
+        ensures { option_map (λ r. tree_of r.now) result
+            ≡ layer_found (layer_of self.now) name.now (option_map (λ r. tree_of r.now) below.entry) }
     {
         match self {
             Link::None => below,
@@ -205,7 +206,7 @@ impl<V> Link<V> {
 
 // Whether the name, if it has a value, is the own name of a sandboxed frame.
 fn seals_over<V>(links: &[Link<V>], name: &str, below: bool) -> bool
-    ensures { (v : View V) → below ≡ comes_from_seal v name.now → result ≡ comes_from_seal (shown_over v (map layer_of links.now)) name.now }
+    ensures { (v : View V) → below ≡ comes_from_seal v name.now → result ≡ comes_from_seal (view_over v links.now) name.now }
 {
     let mut sealed = below;
     for link in links {

@@ -1,12 +1,12 @@
 //! Scopes whose names are found in at most two looks.
-ghost use Rattle.std.specs.Prelude.{◌≡◌, ◌≤◌, ◌<◌, ◌+◌, ◌^◌, ◌∷◌, ℕ, map, IfOk, IfSome, option_map};
-ghost use Rattle.liquid_paths.specs.InPlace.{InPlace};
-ghost use Rattle.liquid_paths.specs.PathOf.{indexes_of};
-ghost use Rattle.liquid_value.specs.Cow.{cow_view};
-ghost use Rattle.liquid_runtime.specs.Frames.{scope_base};
-ghost use Rattle.liquid_runtime.specs.Lookup.{try_path};
-ghost use Rattle.liquid_scopes.specs.Layers.{shown_over, restoring};
-ghost use Rattle.liquid_scopes.specs.LinkLayers.{layer_of};
+ghost use Rattle.std.specs.Prelude.{◌≡◌, ◌≤◌, ◌<◌, ◌+◌, ◌^◌, ◌∷◌, ℕ, IfOk, IfSome, option_map};
+ghost use Rattle.liquid_paths.specs.meaning.InPlace.{InPlace};
+ghost use Rattle.liquid_paths.specs.meaning.PathOf.{indexes_of};
+ghost use Rattle.liquid_value.specs.meaning.Cow.{cow_view};
+ghost use Rattle.liquid_runtime.specs.meaning.Frames.{scope_base};
+ghost use Rattle.liquid_runtime.specs.meaning.Lookup.{try_path};
+ghost use Rattle.liquid_scopes.specs.steps.Layers.{shown_over, restoring};
+ghost use Rattle.liquid_scopes.specs.steps.LinkLayers.{layers_of};
 
 use crate::link::{closing, opening};
 use crate::table::{Table, look_up};
@@ -96,7 +96,8 @@ impl<R: Runtime> FlatScopes<R> {
         looks: &mut Looks,
     ) -> Result<Option<ValueCow<'_>>, AllocError>
         requires { looks.old + 2 < 2 ^ 64 }
-        ensures gives { IfOk result (λ value. option_map cow_view value ≡ try_path (⟦<FlatScopes<R> as Runtime>⟧.view self.now) (indexes_of path.now)) }
+        ensures gives { IfOk result (λ value. option_map cow_view value
+            ≡ try_path (⟦<FlatScopes<R> as Runtime>⟧.view self.now) (indexes_of path.now)) }
         ensures in_place { IfOk result (λ value. IfSome value InPlace) }
         ensures looks { looks.new ≤ looks.old + 2 }
         ensures counts { looks.old ≤ looks.new }
@@ -120,7 +121,7 @@ impl<R: Runtime> Runtime for FlatScopes<R> {
 
     type Store = R::Store;
 
-    ghost view = { λ s. shown_over (R.view s.base) (map layer_of s.table.links.items) };
+    ghost view = { λ s. shown_over (R.view s.base) (layers_of s.table.links.items) };
 
     ghost store = { λ s. R.store s.base };
 
@@ -128,7 +129,7 @@ impl<R: Runtime> Runtime for FlatScopes<R> {
 
     ghost restored = { λ s w. record s { base = R.restored s.base w } };
 
-    ghost restores = { λ s. restoring (R.view s.base) (map layer_of s.table.links.items) (scope_base ∷ R.restores s.base) };
+    ghost restores = { λ s. restoring (R.view s.base) (layers_of s.table.links.items) (scope_base ∷ R.restores s.base) };
 
     ghost lent = { λ s. R.lent s.base };
 

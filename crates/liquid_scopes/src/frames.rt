@@ -2,8 +2,8 @@
 ghost use Rattle.std.specs.Prelude.{◌≡◌, ◌<◌, ◌&&◌, ◌||◌, ℕ, true, false, not, nat_eq, Some, None, IfErr, OnOk, OnErr};
 ghost use Rattle.std.specs.Ordering.{nat_cmp};
 ghost use Rattle.std.specs.BTreeSet.{contains};
-ghost use Rattle.liquid_error.specs.Told.{told};
-ghost use Rattle.liquid_scopes.specs.NamePlaces.{is_place, TopOf};
+ghost use Rattle.liquid_error.specs.meaning.Told.{told};
+ghost use Rattle.liquid_scopes.specs.steps.NamePlaces.{is_place, TopOf};
 
 use liquid_error::Error;
 use std::alloc::Global;
@@ -35,7 +35,8 @@ impl Frames {
     }
 
     pub(crate) fn add(&mut self, place: usize) -> Result<(), Error>
-        ensures added { OnOk result ((j : ℕ) → is_place self.new.last self.new.earlier j ≡ (is_place self.old.last self.old.earlier j || nat_eq j place)) }
+        ensures added { OnOk result ((j : ℕ) → is_place self.new.last self.new.earlier j
+            ≡ (is_place self.old.last self.old.earlier j || nat_eq j place)) }
         ensures unchanged { OnErr result ((j : ℕ) → is_place self.new.last self.new.earlier j ≡ is_place self.old.last self.old.earlier j) }
         ensures err { IfErr result (λ e. told e ≡ None) }
     {
@@ -54,7 +55,8 @@ impl Frames {
 
     // Takes a place out, and answers whether another one is left. A place that is alone stays.
     pub(crate) fn leave(&mut self, place: usize) -> bool
-        ensures left { result ≡ true → (j : ℕ) → is_place self.new.last self.new.earlier j ≡ (is_place self.old.last self.old.earlier j && not (nat_eq j place)) }
+        ensures left { result ≡ true → (j : ℕ) → is_place self.new.last self.new.earlier j
+            ≡ (is_place self.old.last self.old.earlier j && not (nat_eq j place)) }
         ensures alone { result ≡ false → (j : ℕ) → (is_place self.old.last self.old.earlier j && not (nat_eq j place)) ≡ false }
     {
         if place != self.last {

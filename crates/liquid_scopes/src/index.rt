@@ -1,10 +1,10 @@
 //! Which of the listed frames give a name a value.
-ghost use Rattle.std.specs.Prelude.{◌≡◌, ◌&&◌, ◌||◌, ℕ, List, false, not, nat_eq, is_some, IfErr, OnOk, OnErr, None, bytes_eq};
+ghost use Rattle.std.specs.Prelude.{◌≡◌, ℕ, List, false, is_some, IfErr, OnOk, OnErr, None, bytes_eq};
 ghost use Rattle.std.specs.FinMap.{get};
-ghost use Rattle.liquid_error.specs.Told.{told};
-ghost use Rattle.liquid_runtime.specs.Maps.{names_of};
-ghost use Rattle.liquid_scopes.specs.Standing.{stands};
-ghost use Rattle.liquid_scopes.specs.NamePlaces.{TopOf};
+ghost use Rattle.liquid_error.specs.meaning.Told.{told};
+ghost use Rattle.liquid_runtime.specs.meaning.Maps.{names_of};
+ghost use Rattle.liquid_scopes.specs.steps.Standing.{stands, SamePlaces, Noted, PartlyNoted, Forgotten};
+ghost use Rattle.liquid_scopes.specs.steps.NamePlaces.{TopOf};
 
 use crate::frames::Frames;
 use liquid_error::Error;
@@ -40,8 +40,8 @@ impl Index {
     // The frame gives the name a value.
     #[inline(always)]
     pub(crate) fn note(&mut self, alloc: Global, name: &str, frame: usize) -> Result<(), Error>
-        ensures noted { OnOk result ((q : List ℕ) (j : ℕ) → stands self.new.places q j ≡ (stands self.old.places q j || (bytes_eq name.now q && nat_eq j frame))) }
-        ensures unchanged { OnErr result ((q : List ℕ) (j : ℕ) → stands self.new.places q j ≡ stands self.old.places q j) }
+        ensures noted { OnOk result (Noted (λ q. bytes_eq name.now q) frame self.old.places self.new.places) }
+        ensures unchanged { OnErr result (SamePlaces self.old.places self.new.places) }
         ensures err { IfErr result (λ e. told e ≡ None) }
     {
         match self.places.get_mut(name) {
@@ -61,7 +61,7 @@ impl Index {
     // The frame gives the name no value. A name that no frame has any more leaves the index.
     #[inline(always)]
     pub(crate) fn forget(&mut self, name: &str, frame: usize)
-        ensures { (q : List ℕ) (j : ℕ) → stands self.new.places q j ≡ (stands self.old.places q j && not (bytes_eq name.now q && nat_eq j frame)) }
+        ensures { Forgotten (λ q. bytes_eq name.now q) frame self.old.places self.new.places }
     {
         match self.places.get_mut(name) {
             Some(frames) => {
@@ -82,8 +82,8 @@ impl Index {
         names: &Object,
         frame: usize,
     ) -> Result<(), Error>
-        ensures noted { OnOk result ((q : List ℕ) (j : ℕ) → stands self.new.places q j ≡ (stands self.old.places q j || (is_some (get (names_of names.now) q) && nat_eq j frame))) }
-        ensures partly { (q : List ℕ) (j : ℕ) → (stands self.new.places q j || (is_some (get (names_of names.now) q) && nat_eq j frame)) ≡ (stands self.old.places q j || (is_some (get (names_of names.now) q) && nat_eq j frame)) }
+        ensures noted { OnOk result (Noted (λ q. is_some (get (names_of names.now) q)) frame self.old.places self.new.places) }
+        ensures partly { PartlyNoted (λ q. is_some (get (names_of names.now) q)) frame self.old.places self.new.places }
         ensures err { IfErr result (λ e. told e ≡ None) }
     {
         for (name, _) in names.iter() {
@@ -98,7 +98,7 @@ impl Index {
     // The frame gives none of these names a value.
     #[inline(always)]
     pub(crate) fn forget_all(&mut self, names: &Object, frame: usize)
-        ensures { (q : List ℕ) (j : ℕ) → stands self.new.places q j ≡ (stands self.old.places q j && not (is_some (get (names_of names.now) q) && nat_eq j frame)) }
+        ensures { Forgotten (λ q. is_some (get (names_of names.now) q)) frame self.old.places self.new.places }
     {
         for (name, _) in names.iter() {
             self.forget(name.as_str(), frame);

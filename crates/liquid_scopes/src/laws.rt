@@ -1,5 +1,5 @@
 //! The law of both forms of scopes, as the contract of a function.
-ghost use Rattle.liquid_scopes.specs.Histories.{SameAnswers};
+ghost use Rattle.liquid_scopes.specs.meaning.Histories.{SameAnswers};
 
 use crate::chained_scopes::ChainedScopes;
 use crate::flat_scopes::FlatScopes;

@@ -1,14 +1,31 @@
-ghost use Rattle.std.specs.Prelude.{◌≡◌, ◌<◌, ◌+◌, ◌^◌, ◌&&◌, ◌||◌, ℕ, List, true, false, not, nat_eq, is_some, IfOk, OnOk, OnErr, IfErr, None, string_bytes, option_map};
+ghost use Rattle.std.specs.Prelude.{
+  ◌≡◌,
+  ◌<◌,
+  ◌+◌,
+  ◌^◌,
+  ℕ,
+  List,
+  true,
+  false,
+  is_some,
+  IfOk,
+  OnOk,
+  OnErr,
+  IfErr,
+  None,
+  string_bytes,
+  option_map,
+};
 ghost use Rattle.std.specs.FinMap.{get, insert};
-ghost use Rattle.liquid_error.specs.Told.{told};
-ghost use Rattle.liquid_value.specs.View.{view as tree_of};
-ghost use Rattle.liquid_runtime.specs.View.{View};
-ghost use Rattle.liquid_runtime.specs.Maps.{names_of};
-ghost use Rattle.liquid_runtime.specs.Frames.{beginning, restored_by, ending};
-ghost use Rattle.liquid_runtime.specs.Calls.{frame_of, registers_of, with_registers};
-ghost use Rattle.liquid_scopes.specs.Layers.{layer_name, layer_view, layer_restores, is_global, assigned, LayerNames};
-ghost use Rattle.liquid_scopes.specs.LinkLayers.{layer_of};
-ghost use Rattle.liquid_scopes.specs.Standing.{own, is_sandboxed, stands};
+ghost use Rattle.liquid_error.specs.meaning.Told.{told};
+ghost use Rattle.liquid_value.specs.meaning.View.{view as tree_of};
+ghost use Rattle.liquid_runtime.specs.meaning.View.{View};
+ghost use Rattle.liquid_runtime.specs.meaning.Maps.{names_of};
+ghost use Rattle.liquid_runtime.specs.meaning.Frames.{beginning, restored_by, ending};
+ghost use Rattle.liquid_runtime.specs.meaning.Calls.{frame_of, registers_of, with_registers};
+ghost use Rattle.liquid_scopes.specs.steps.Layers.{layer_name, layer_view, layer_restores, is_global, assigned, LayerNames};
+ghost use Rattle.liquid_scopes.specs.steps.LinkLayers.{layer_of};
+ghost use Rattle.liquid_scopes.specs.steps.Standing.{own, is_sandboxed, stands, Noted, PartlyNoted, Forgotten};
 
 use crate::flat_scopes::Count;
 use crate::index::Index;
@@ -94,8 +111,8 @@ impl<V> Link<V> {
     #[inline(always)]
     #[tactic(auto, using(crate::proofs::FlatLaws::no_names_stand))]
     pub(crate) fn note(&self, index: &mut Index, alloc: Global, place: usize) -> Result<(), Error>
-        ensures noted { OnOk result ((q : List ℕ) (j : ℕ) → stands index.new.places q j ≡ (stands index.old.places q j || (is_some (own (layer_of self.now) q) && nat_eq j place))) }
-        ensures partly { (q : List ℕ) (j : ℕ) → (stands index.new.places q j || (is_some (own (layer_of self.now) q) && nat_eq j place)) ≡ (stands index.old.places q j || (is_some (own (layer_of self.now) q) && nat_eq j place)) }
+        ensures noted { OnOk result (Noted (λ q. is_some (own (layer_of self.now) q)) place index.old.places index.new.places) }
+        ensures partly { PartlyNoted (λ q. is_some (own (layer_of self.now) q)) place index.old.places index.new.places }
     {
         match self {
             Link::None => Ok(()),
@@ -109,7 +126,7 @@ impl<V> Link<V> {
     #[inline(always)]
     #[tactic(auto, using(crate::proofs::FlatLaws::no_names_stand))]
     pub(crate) fn forget(&self, index: &mut Index, place: usize)
-        ensures { (q : List ℕ) (j : ℕ) → stands index.new.places q j ≡ (stands index.old.places q j && not (is_some (own (layer_of self.now) q) && nat_eq j place)) }
+        ensures { Forgotten (λ q. is_some (own (layer_of self.now) q)) place index.old.places index.new.places }
     {
         match self {
             Link::None => {}
@@ -145,7 +162,8 @@ impl<V> Link<V> {
         requires { is_global (layer_of self.old) ≡ true }
         ensures old { IfOk result (λ old. option_map tree_of old ≡ get (assigned (layer_of self.old)) (string_bytes name)) }
         ensures global { is_global (layer_of self.new) ≡ true }
-        ensures sets { OnOk result (assigned (layer_of self.new) ≡ insert (assigned (layer_of self.old)) (string_bytes name) (tree_of value)) }
+        ensures sets { OnOk result (assigned (layer_of self.new)
+            ≡ insert (assigned (layer_of self.old)) (string_bytes name) (tree_of value)) }
         ensures err { IfErr result (λ e. told e ≡ None) }
         ensures unchanged { OnErr result (assigned (layer_of self.new) ≡ assigned (layer_of self.old)) }
         ensures absent { OnErr result (None ≡ get (assigned (layer_of self.old)) (string_bytes name)) }
@@ -168,8 +186,10 @@ fn has_names(names: &Object) -> bool
 #[tactic(auto, using(liquid_runtime::proofs::Objects::changed_objects))]
 pub(crate) fn opening<R: Runtime>(alloc: Global, base: &mut R, frame: Frame) -> Link<R::Register>
     ensures registers { R.view base.new ≡ with_registers (registers_of (R.view base.new)) (R.view base.old) }
-    ensures begins { (v : View R.Register) → registers_of v ≡ registers_of (R.view base.old) → layer_view (layer_of result) (with_registers (registers_of (R.view base.new)) v) ≡ beginning R.Register.fresh (frame_of frame) v }
-    ensures restores { (v : View R.Register) → registers_of v ≡ registers_of (R.view base.old) → layer_restores (layer_of result) (with_registers (registers_of (R.view base.new)) v) ≡ restored_by (frame_of frame) v }
+    ensures begins { (v : View R.Register) → registers_of v ≡ registers_of (R.view base.old)
+        → layer_view (layer_of result) (with_registers (registers_of (R.view base.new)) v) ≡ beginning R.Register.fresh (frame_of frame) v }
+    ensures restores { (v : View R.Register) → registers_of v ≡ registers_of (R.view base.old)
+        → layer_restores (layer_of result) (with_registers (registers_of (R.view base.new)) v) ≡ restored_by (frame_of frame) v }
     ensures stays { R.store base.new ≡ R.store base.old }
     ensures kept { R.restores base.new ≡ R.restores base.old }
     ensures same { R.lent base.new ≡ R.lent base.old }
@@ -189,7 +209,8 @@ pub(crate) fn opening<R: Runtime>(alloc: Global, base: &mut R, frame: Frame) -> 
 #[inline(always)]
 pub(crate) fn closing<R: Runtime>(base: &mut R, link: Link<R::Register>)
     ensures registers { R.view base.new ≡ with_registers (registers_of (R.view base.new)) (R.view base.old) }
-    ensures ends { (v : View R.Register) → registers_of v ≡ registers_of (R.view base.old) → with_registers (registers_of (R.view base.new)) v ≡ ending (layer_restores (layer_of link) v) (layer_view (layer_of link) v) }
+    ensures ends { (v : View R.Register) → registers_of v ≡ registers_of (R.view base.old)
+        → with_registers (registers_of (R.view base.new)) v ≡ ending (layer_restores (layer_of link) v) (layer_view (layer_of link) v) }
     ensures stays { R.store base.new ≡ R.store base.old }
     ensures kept { R.restores base.new ≡ R.restores base.old }
     ensures same { R.lent base.new ≡ R.lent base.old }

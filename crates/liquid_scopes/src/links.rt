@@ -1,10 +1,9 @@
 //! What links over one another show, the oldest first, from what is shown below them.
-ghost use Rattle.std.specs.Prelude.{◌≡◌, map, IfOk, option_map};
-ghost use Rattle.liquid_runtime.specs.View.{View};
-ghost use Rattle.liquid_runtime.specs.NamesSeen.{names_seen};
-ghost use Rattle.liquid_runtime.specs.Roots.{NamesOf};
-ghost use Rattle.liquid_scopes.specs.Layers.{shown_over};
-ghost use Rattle.liquid_scopes.specs.LinkLayers.{layer_of};
+ghost use Rattle.std.specs.Prelude.{◌≡◌, IfOk, option_map};
+ghost use Rattle.liquid_runtime.specs.meaning.View.{View};
+ghost use Rattle.liquid_runtime.specs.meaning.NamesSeen.{names_seen};
+ghost use Rattle.liquid_runtime.specs.meaning.Roots.{NamesOf};
+ghost use Rattle.liquid_scopes.specs.steps.LinkLayers.{view_over};
 
 use crate::link::Link;
 use std::alloc::{AllocError, Global};
@@ -12,7 +11,7 @@ use std::collections::BTreeSet;
 
 // The name of the template.
 pub(crate) fn name_over<'a, V>(links: &'a [Link<V>], below: Option<&'a str>) -> Option<&'a str>
-    ensures { (v : View V) → option_map (λ r. r.now) below.entry ≡ v.name → option_map (λ r. r.now) result ≡ (shown_over v (map layer_of links.now)).name }
+    ensures { (v : View V) → option_map (λ r. r.now) below.entry ≡ v.name → option_map (λ r. r.now) result ≡ (view_over v links.now).name }
 {
     let mut name = below;
     for link in links {
@@ -27,7 +26,7 @@ pub(crate) fn roots_over<V>(
     links: &[Link<V>],
     below: BTreeSet<String>,
 ) -> Result<BTreeSet<String>, AllocError>
-    ensures { (v : View V) → NamesOf (names_seen v) below → IfOk result (λ names. NamesOf (names_seen (shown_over v (map layer_of links.now))) names) }
+    ensures { (v : View V) → NamesOf (names_seen v) below → IfOk result (λ names. NamesOf (names_seen (view_over v links.now)) names) }
 {
     let mut names = below;
     for link in links {

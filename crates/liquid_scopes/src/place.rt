@@ -1,7 +1,7 @@
 //! Places of frames, and lists of them.
 ghost use Rattle.std.specs.Prelude.{◌≡◌, ◌<◌, ◌-◌, ◌++◌, ℕ, List, [], ◌∷◌, true, cond, length, vec_len, vec_capacity};
 ghost use Rattle.std.specs.List.{slice_get};
-ghost use Rattle.liquid_scopes.specs.NamePlaces.{is_at, is_under};
+ghost use Rattle.liquid_scopes.specs.steps.NamePlaces.{is_at, is_under};
 
 pub(crate) fn is_at(unlisted: Option<usize>, place: usize) -> bool
     ensures { result ≡ is_at unlisted place }

@@ -1,16 +1,19 @@
 //! Frames in the order in which they began, with an index of their names.
-ghost use Rattle.std.specs.Prelude.{◌≡◌, ◌≤◌, ◌<◌, ◌+◌, ◌^◌, ◌&&◌, ◌||◌, ◌++◌, ℕ, List, [], ◌∷◌, true, length, map, nat_eq, bytes_eq, false, IfOk, IfErr, IfSome, IfNone, OnOk, OnErr, Some, None, string_bytes, option_map, option_to_list, vec_len, vec_capacity};
-ghost use Rattle.liquid_error.specs.Told.{Gives};
-ghost use Rattle.liquid_value.specs.View.{view as tree_of};
-ghost use Rattle.liquid_runtime.specs.View.{View};
-ghost use Rattle.liquid_runtime.specs.Frames.{Restore};
-ghost use Rattle.liquid_runtime.specs.NamesSeen.{lookup, names_seen, comes_from_seal};
-ghost use Rattle.liquid_runtime.specs.Roots.{NamesOf};
-ghost use Rattle.liquid_runtime.specs.Sets.{old_global, put_global};
-ghost use Rattle.liquid_scopes.specs.Layers.{shown_over, restoring, is_global, LastGlobal, GlobalAt};
-ghost use Rattle.liquid_scopes.specs.LinkLayers.{layer_of};
-ghost use Rattle.liquid_scopes.specs.Standing.{stands, own_at, has_at, listed_at, seen_over, own_at_top, two_looks, sealed_by, is_sandboxed, last_seal, places_where};
-ghost use Rattle.liquid_scopes.specs.NamePlaces.{TopOf};
+ghost use Rattle.std.specs.Prelude.{◌≡◌, ◌≤◌, ◌<◌, ◌+◌, ◌^◌, ◌&&◌, ◌||◌, ◌++◌, ℕ, List, [], ◌∷◌, true, length, map};
+ghost use Rattle.std.specs.Prelude.{nat_eq, bytes_eq, false, IfOk, IfErr, IfSome, IfNone, OnOk, OnErr, Some, None};
+ghost use Rattle.std.specs.Prelude.{string_bytes, option_map, option_to_list, vec_len, vec_capacity};
+ghost use Rattle.liquid_error.specs.meaning.Told.{Gives};
+ghost use Rattle.liquid_value.specs.meaning.View.{view as tree_of};
+ghost use Rattle.liquid_runtime.specs.meaning.View.{View};
+ghost use Rattle.liquid_runtime.specs.meaning.Frames.{Restore};
+ghost use Rattle.liquid_runtime.specs.meaning.NamesSeen.{lookup, names_seen, comes_from_seal};
+ghost use Rattle.liquid_runtime.specs.meaning.Roots.{NamesOf};
+ghost use Rattle.liquid_runtime.specs.meaning.Sets.{old_global, put_global};
+ghost use Rattle.liquid_scopes.specs.steps.Layers.{restoring, is_global, LastGlobal, GlobalAt};
+ghost use Rattle.liquid_scopes.specs.steps.LinkLayers.{layer_of, layers_of, view_over};
+ghost use Rattle.liquid_scopes.specs.steps.Standing.{stands, own_at, has_at, listed_at, seen_over, own_at_top};
+ghost use Rattle.liquid_scopes.specs.steps.Standing.{two_looks, sealed_by, is_sandboxed, last_seal, places_where};
+ghost use Rattle.liquid_scopes.specs.steps.NamePlaces.{TopOf};
 
 use crate::flat_scopes::Count;
 use crate::index::Index;
@@ -34,9 +37,9 @@ pub(crate) struct Table<V> {
     unlisted: Option<usize>,
     seals: Vec<usize>,
     globals: Vec<usize>,
-    ghost fits: { (q : List ℕ) (j : ℕ) → stands index.places q j ≡ listed_at (map layer_of links.items) unlisted q j },
-    ghost seals_are: { seals.items ≡ places_where is_sandboxed 0 (map layer_of links.items) },
-    ghost globals_are: { globals.items ≡ places_where is_global 0 (map layer_of links.items) },
+    ghost fits: { (q : List ℕ) (j : ℕ) → stands index.places q j ≡ listed_at (layers_of links.items) unlisted q j },
+    ghost seals_are: { seals.items ≡ places_where is_sandboxed 0 (layers_of links.items) },
+    ghost globals_are: { globals.items ≡ places_where is_global 0 (layers_of links.items) },
 }
 
 impl<V> Table<V> {
@@ -61,7 +64,8 @@ impl<V> Table<V> {
 
     // The name of the template over that of the base.
     pub(crate) fn name_over<'a>(&'a self, below: Option<&'a str>) -> Option<&'a str>
-        ensures { (v : View V) → option_map (λ r. r.now) below.entry ≡ v.name → option_map (λ r. r.now) result ≡ (shown_over v (map layer_of self.now.links.items)).name }
+        ensures { (v : View V) → option_map (λ r. r.now) below.entry ≡ v.name
+            → option_map (λ r. r.now) result ≡ (view_over v self.now.links.items).name }
     {
         name_over(self.links.as_slice(), below)
     }
@@ -72,7 +76,8 @@ impl<V> Table<V> {
         alloc: Global,
         below: BTreeSet<String>,
     ) -> Result<BTreeSet<String>, AllocError>
-        ensures { (v : View V) → NamesOf (names_seen v) below → IfOk result (λ names. NamesOf (names_seen (shown_over v (map layer_of self.now.links.items))) names) }
+        ensures { (v : View V) → NamesOf (names_seen v) below
+            → IfOk result (λ names. NamesOf (names_seen (view_over v self.now.links.items)) names) }
     {
         roots_over(alloc, self.links.as_slice(), below)
     }
@@ -81,7 +86,8 @@ impl<V> Table<V> {
     // of the base. It takes one look at most.
     pub(crate) fn seals_over(&self, name: &str, below: bool, count: &mut Count) -> bool
         requires { count.old.looks + 1 < 2 ^ 64 }
-        ensures seals { (v : View V) → below ≡ comes_from_seal v name.now → result ≡ comes_from_seal (shown_over v (map layer_of self.now.links.items)) name.now }
+        ensures seals { (v : View V) → below ≡ comes_from_seal v name.now
+            → result ≡ comes_from_seal (view_over v self.now.links.items) name.now }
         ensures looks { count.new.looks ≤ count.old.looks + 1 }
     {
         let top = self.top(name, count);
@@ -98,7 +104,8 @@ impl<V> Table<V> {
     // or none.
     fn top(&self, name: &str, count: &mut Count) -> Option<usize>
         requires { count.old.looks + 1 < 2 ^ 64 }
-        ensures seals { (v : View V) → comes_from_seal (shown_over v (map layer_of self.now.links.items)) name.now ≡ sealed_by result (last_seal (map layer_of self.now.links.items)) (comes_from_seal v name.now) }
+        ensures seals { (v : View V) → comes_from_seal (view_over v self.now.links.items) name.now
+            ≡ sealed_by result (last_seal (layers_of self.now.links.items)) (comes_from_seal v name.now) }
         ensures looks { count.new.looks ≤ count.old.looks + 1 }
     {
         let listed = self.listed(name);
@@ -113,14 +120,14 @@ impl<V> Table<V> {
 
     // The last listed place of the name.
     fn listed(&self, name: &str) -> Option<usize>
-        ensures { TopOf (listed_at (map layer_of self.now.links.items) self.now.unlisted name.now) result }
+        ensures { TopOf (listed_at (layers_of self.now.links.items) self.now.unlisted name.now) result }
     {
         self.index.top(name)
     }
 
     // The place of the unlisted frame, unless it stands under this place or under a sandboxed frame.
     fn unlisted_over(&self, place: Option<usize>) -> Option<usize>
-        ensures { result ≡ seen_over place (last_seal (map layer_of self.now.links.items)) self.now.unlisted }
+        ensures { result ≡ seen_over place (last_seal (layers_of self.now.links.items)) self.now.unlisted }
     {
         match self.unlisted {
             Some(unlisted) => {
@@ -136,14 +143,14 @@ impl<V> Table<V> {
 
     // The place of the last sandboxed frame.
     fn sealed(&self) -> Option<usize>
-        ensures { result ≡ last_seal (map layer_of self.now.links.items) }
+        ensures { result ≡ last_seal (layers_of self.now.links.items) }
     {
         last_of(&self.seals)
     }
 
     // The place of the last global frame.
     pub(crate) fn last_global(&self) -> Option<usize>
-        ensures { LastGlobal (map layer_of self.now.links.items) result }
+        ensures { LastGlobal (layers_of self.now.links.items) result }
     {
         last_of(&self.globals)
     }
@@ -151,7 +158,7 @@ impl<V> Table<V> {
     // The value that the frame at this place itself gives the name: one look, where there is a frame.
     fn look_at(&self, place: usize, name: &str, count: &mut Count) -> Option<&Value>
         requires { count.old.looks + 1 < 2 ^ 64 }
-        ensures value { option_map (λ r. tree_of r.now) result ≡ own_at place (map layer_of self.now.links.items) name.now }
+        ensures value { option_map (λ r. tree_of r.now) result ≡ own_at place (layers_of self.now.links.items) name.now }
         ensures looks { count.new.looks ≤ count.old.looks + 1 }
         ensures counts { count.old.looks ≤ count.new.looks }
         ensures finds { IfSome result (λ value. count.old.looks + 1 ≤ count.new.looks) }
@@ -188,7 +195,8 @@ impl<V> Table<V> {
         ensures links { self.new.links ≡ self.old.links }
         ensures seals { self.new.seals ≡ self.old.seals }
         ensures globals { self.new.globals ≡ self.old.globals }
-        ensures fits { OnOk result ((q : List ℕ) (j : ℕ) → stands self.new.index.places q j ≡ listed_at (map layer_of self.old.links.items ++ layer_of next.now ∷ []) self.new.unlisted q j) }
+        ensures fits { OnOk result ((q : List ℕ) (j : ℕ) → stands self.new.index.places q j
+            ≡ listed_at (map layer_of self.old.links.items ++ layer_of next.now ∷ []) self.new.unlisted q j) }
     {
         if !next.can_hold_names() {
             return Ok(());
@@ -273,11 +281,13 @@ impl<V> Table<V> {
         name: String,
         value: Value,
     ) -> Result<Option<Value>, Error>
-        requires { GlobalAt (map layer_of self.old.links.items) place }
-        ensures gives { (v : View V) → Gives (option_map tree_of) result (old_global (shown_over v (map layer_of self.old.links.items)) (string_bytes name)) }
-        ensures sets { (v : View V) → OnOk result (shown_over v (map layer_of self.new.links.items) ≡ put_global (shown_over v (map layer_of self.old.links.items)) (string_bytes name) (tree_of value)) }
-        ensures kept { (v : View V) (rs : List (Restore V)) → restoring v (map layer_of self.new.links.items) rs ≡ restoring v (map layer_of self.old.links.items) rs }
-        ensures unchanged { (v : View V) → OnErr result (shown_over v (map layer_of self.new.links.items) ≡ shown_over v (map layer_of self.old.links.items)) }
+        requires { GlobalAt (layers_of self.old.links.items) place }
+        ensures gives { (v : View V) → Gives (option_map tree_of) result (old_global (view_over v self.old.links.items) (string_bytes name)) }
+        ensures sets { (v : View V) → OnOk result (view_over v self.new.links.items
+            ≡ put_global (view_over v self.old.links.items) (string_bytes name) (tree_of value)) }
+        ensures kept { (v : View V) (rs : List (Restore V)) → restoring v (layers_of self.new.links.items) rs
+            ≡ restoring v (layers_of self.old.links.items) rs }
+        ensures unchanged { (v : View V) → OnErr result (view_over v self.new.links.items ≡ view_over v self.old.links.items) }
     {
         if is_at(self.unlisted, place) {
             return put(&mut self.links, place, name, value);
@@ -309,7 +319,7 @@ pub(crate) fn look_up<'a, R: Runtime>(
     count: &mut Count,
 ) -> Option<&'a Value>
     requires { count.old.looks + 2 < 2 ^ 64 }
-    ensures value { option_map (λ r. tree_of r.now) result ≡ lookup (shown_over (R.view base.now) (map layer_of table.now.links.items)) name.now }
+    ensures value { option_map (λ r. tree_of r.now) result ≡ lookup (view_over (R.view base.now) table.now.links.items) name.now }
     ensures looks { count.new.looks ≤ count.old.looks + 2 }
     ensures counts { count.old.looks ≤ count.new.looks }
     ensures finds { IfSome result (λ value. count.old.looks + 1 ≤ count.new.looks) }
@@ -334,7 +344,8 @@ fn look_listed<'a, R: Runtime>(
     count: &mut Count,
 ) -> Option<&'a Value>
     requires { count.old.looks + 1 < 2 ^ 64 }
-    ensures value { option_map (λ r. tree_of r.now) result ≡ two_looks listed (last_seal (map layer_of table.now.links.items)) (own_at_top listed (map layer_of table.now.links.items) name.now) (lookup (R.view base.now) name.now) }
+    ensures value { option_map (λ r. tree_of r.now) result
+        ≡ two_looks listed (last_seal (layers_of table.now.links.items)) (own_at_top listed (layers_of table.now.links.items) name.now) (lookup (R.view base.now) name.now) }
     ensures looks { count.new.looks ≤ count.old.looks + 1 }
     ensures counts { count.old.looks ≤ count.new.looks }
     ensures finds { IfSome result (λ value. count.old.looks + 1 ≤ count.new.looks) }
@@ -366,15 +377,20 @@ fn put<V>(
     name: String,
     value: Value,
 ) -> Result<Option<Value>, Error>
-    requires { GlobalAt (map layer_of links.old.items) place }
-    ensures gives { (v : View V) → Gives (option_map tree_of) result (old_global (shown_over v (map layer_of links.old.items)) (string_bytes name)) }
-    ensures sets { (v : View V) → OnOk result (shown_over v (map layer_of links.new.items) ≡ put_global (shown_over v (map layer_of links.old.items)) (string_bytes name) (tree_of value)) }
-    ensures kept { (v : View V) (rs : List (Restore V)) → restoring v (map layer_of links.new.items) rs ≡ restoring v (map layer_of links.old.items) rs }
-    ensures names { OnOk result ((q : List ℕ) (j : ℕ) → has_at (map layer_of links.new.items) q j ≡ (has_at (map layer_of links.old.items) q j || (bytes_eq (string_bytes name) q && nat_eq j place))) }
-    ensures seals { OnOk result (places_where is_sandboxed 0 (map layer_of links.new.items) ≡ places_where is_sandboxed 0 (map layer_of links.old.items)) }
-    ensures globals { OnOk result (places_where is_global 0 (map layer_of links.new.items) ≡ places_where is_global 0 (map layer_of links.old.items)) }
+    requires { GlobalAt (layers_of links.old.items) place }
+    ensures gives { (v : View V) → Gives (option_map tree_of) result (old_global (view_over v links.old.items) (string_bytes name)) }
+    ensures sets { (v : View V) → OnOk result (view_over v links.new.items
+        ≡ put_global (view_over v links.old.items) (string_bytes name) (tree_of value)) }
+    ensures kept { (v : View V) (rs : List (Restore V)) → restoring v (layers_of links.new.items) rs
+        ≡ restoring v (layers_of links.old.items) rs }
+    ensures names { OnOk result ((q : List ℕ) (j : ℕ) → has_at (layers_of links.new.items) q j
+        ≡ (has_at (layers_of links.old.items) q j || (bytes_eq (string_bytes name) q && nat_eq j place))) }
+    ensures seals { OnOk result (places_where is_sandboxed 0 (layers_of links.new.items)
+        ≡ places_where is_sandboxed 0 (layers_of links.old.items)) }
+    ensures globals { OnOk result (places_where is_global 0 (layers_of links.new.items)
+        ≡ places_where is_global 0 (layers_of links.old.items)) }
     ensures unchanged { OnErr result (map layer_of links.new.items ≡ map layer_of links.old.items) }
-    ensures absent { OnErr result (has_at (map layer_of links.old.items) (string_bytes name) place ≡ false) }
+    ensures absent { OnErr result (has_at (layers_of links.old.items) (string_bytes name) place ≡ false) }
 {
     match links[place].assign(name, value) {
         Ok(old) => Ok(old),

@@ -1,11 +1,11 @@
 -- What stands behind the first value of a condition.
 use Rattle.std.proofs.Common.{◌≡◌, List, [], ◌∷◌, Option, None, Some, Result, Ok, Err, refl, sym, ap, ◌∙◌}
 use Rattle.std.specs.Prelude.{IfSome}
-use Rattle.liquid_error.specs.Refusal.{Refusal, ok_then}
-use Rattle.liquid_plugins.specs.Expression.{ExpressionShape}
-use Rattle.liquid_parser.specs.Handed.{Token, Tokens, first_of, expect_value, or_unexpected, unexpected}
-use Rattle.liquid_tags.specs.Asked.{alone, next_as}
-use Rattle.liquid_tags.specs.ConditionsGiven.{behind_value, comparison_of}
+use Rattle.liquid_error.specs.meaning.Refusal.{Refusal, ok_then}
+use Rattle.liquid_plugins.specs.meaning.Expression.{ExpressionShape}
+use Rattle.liquid_parser.specs.meaning.Handed.{Token, Tokens, first_of, expect_value, or_unexpected, unexpected}
+use Rattle.liquid_tags.specs.meaning.Asked.{alone, next_as}
+use Rattle.liquid_tags.specs.meaning.ConditionsGiven.{behind_value, comparison_of}
 use Rattle.liquid_tags.specs.declared.condition.Comparison.{Comparison}
 use Rattle.liquid_tags.specs.declared.condition.ConditionShape.{ConditionShape}
 use Rattle.liquid_tags.specs.declared.condition.ConditionShape.TheVariants.{Holds, Compares}

@@ -1,10 +1,10 @@
 -- A divider behind `else`.
 use Rattle.std.proofs.Common.{◌≡◌, ℕ, List, codes, Option, None, Some, Err, cond, true, sym, ap, ◌∙◌}
 use Rattle.std.specs.Prelude.{IfSome}
-use Rattle.liquid_error.specs.Refusal.{Refusal, located}
-use Rattle.liquid_parser.specs.Handed.{Tokens}
+use Rattle.liquid_error.specs.meaning.Refusal.{Refusal, located}
+use Rattle.liquid_parser.specs.meaning.Handed.{Tokens}
 use Rattle.liquid_tags.specs.declared.block_plugins.PlanShape.{PlanShape}
-use Rattle.liquid_tags.specs.BlockPlugins.{divided, divided_on}
+use Rattle.liquid_tags.specs.meaning.BlockPlugins.{divided, divided_on}
 
 pub closed_divided : (p : PlanShape) (name : List ℕ) (ts : Tokens) (o : Option Refusal) → p.is_closed ≡ true
     → IfSome o (λ r. r ≡ located (codes "Divider after else") ts.behind) → IfSome o (λ r. divided p name ts ≡ Err r)

@@ -2,29 +2,29 @@
 use Rattle.std.proofs.Common.{◌≡◌, ℕ, List, Option, None, Some, Result, Ok, Err, refl, sym, ap, subst, ◌∙◌}
 use Rattle.std.specs.Prelude.{IfSome}
 use Rattle.liquid_error.specs.declared.error.Error.{Error}
-use Rattle.liquid_error.specs.Refusal.{Refusal}
-use Rattle.liquid_error.specs.Told.{told}
-use Rattle.liquid_runtime.specs.Frames.{built_view}
-use Rattle.liquid_runtime.specs.Maps.{Names}
-use Rattle.liquid_runtime.specs.View.{View}
-use Rattle.liquid_plugins.specs.Chain.{FilterMeaning}
-use Rattle.liquid_parser.specs.Lang.{Filters, Lang}
-use Rattle.liquid_parser.specs.Reading.{Reads}
-use Rattle.liquid_tree.specs.Tree.{nodes_from}
-use Rattle.liquid_template.specs.Partials.{Found}
-use Rattle.liquid_template.specs.Rendering.{template_run}
-use Rattle.liquid_template.specs.Sunk.{Sunk}
+use Rattle.liquid_error.specs.meaning.Refusal.{Refusal}
+use Rattle.liquid_error.specs.meaning.Told.{told}
+use Rattle.liquid_runtime.specs.meaning.Frames.{built_view}
+use Rattle.liquid_runtime.specs.meaning.Maps.{Names}
+use Rattle.liquid_runtime.specs.meaning.View.{View}
+use Rattle.liquid_plugins.specs.meaning.Chain.{FilterMeaning}
+use Rattle.liquid_parser.specs.meaning.Lang.{Filters, Lang}
+use Rattle.liquid_parser.specs.meaning.Reading.{Reads}
+use Rattle.liquid_plugins.specs.meaning.Nodes.{nodes_from}
+use Rattle.liquid_template.specs.meaning.Partials.{Found}
+use Rattle.liquid_template.specs.meaning.Rendering.{template_run}
+use Rattle.liquid_template.specs.meaning.Sunk.{Sunk}
 use Rattle.liquid_template.proofs.Framing.{renders_memory}
-use Rattle.liquid_partials.specs.Compiled.{Compiled}
-use Rattle.liquid_partials.specs.Rendered.{Rendered}
-use Rattle.liquid_partials.specs.Sources.{Texts}
+use Rattle.liquid_partials.specs.meaning.Compiled.{Compiled}
+use Rattle.liquid_partials.specs.meaning.Rendered.{Rendered}
+use Rattle.liquid_partials.specs.meaning.Sources.{Texts}
 use Rattle.liquid_partials.proofs.StoreLemmas.{one_store}
 use Rattle.liquid_tags.specs.declared.tags.TagShape.{TagShape}
 use Rattle.liquid_tags.specs.declared.blocks.BlockShape.{BlockShape}
 use Rattle.liquid_tags.specs.declared.block_plugins.PlanShape.{PlanShape}
-use Rattle.liquid_tags.specs.Languages.{tags_and_blocks}
-use Rattle.liquid_tags.specs.Pages.{PageAnswer, RendersPage, page_depth}
-use Rattle.liquid_tags.specs.Sandboxes.{library}
+use Rattle.liquid_tags.specs.meaning.Languages.{tags_and_blocks}
+use Rattle.liquid_tags.specs.meaning.Pages.{PageAnswer, RendersPage, page_depth}
+use Rattle.liquid_tags.specs.meaning.Library.{library}
 
 -- what a store finds that was compiled of the same texts in a language of the same meaning
 pub compiled_alike : {F : Type 0} (l k : Lang F (TagShape F) PlanShape BlockShape) (texts others : Texts) (found : Found F (TagShape F) BlockShape)

@@ -3,18 +3,18 @@ use Rattle.std.proofs.Common.{◌≡◌, ℕ, List, [], ◌∷◌, ◌++◌, Opt
 use Rattle.std.specs.Prelude.{IfSome}
 use Rattle.std.proofs.lemmas.List.{append-nil}
 use Rattle.liquid_error.specs.declared.error.Error.{Error}
-use Rattle.liquid_error.specs.Told.{Gives}
-use Rattle.liquid_parser.specs.declared.tag_token.TagToken.{TagToken}
-use Rattle.liquid_parser.specs.declared.tag_token.TryMatchToken.{TryMatchToken}
-use Rattle.liquid_parser.specs.declared.tag_token.TryMatchToken.TheVariants.{Matches, Fails}
-use Rattle.liquid_parser.specs.Cursors.{FailedToken, IsToken, Tries, matched_of}
+use Rattle.liquid_error.specs.meaning.Told.{Gives}
+use Rattle.liquid_parser.specs.declared.cursor.token.TagToken.{TagToken}
+use Rattle.liquid_parser.specs.declared.cursor.token.TryMatchToken.{TryMatchToken}
+use Rattle.liquid_parser.specs.declared.cursor.token.TryMatchToken.TheVariants.{Matches, Fails}
+use Rattle.liquid_parser.specs.meaning.Cursors.{FailedToken, IsToken, Tries, matched_of}
 use Rattle.liquid_parser.proofs.StepLemmas.{then_refused}
-use Rattle.liquid_error.specs.Refusal.{Refusal, ok_then}
-use Rattle.liquid_plugins.specs.Expression.{ExpressionShape}
-use Rattle.liquid_parser.specs.Handed.{Token, Tokens, first_of, expect_identifier, expect_value, or_unexpected}
-use Rattle.liquid_tags.specs.Asked.{next_as}
-use Rattle.liquid_tags.specs.CallsGiven.{colon, comma, expect_colon, expect_comma, missing_behind, pair_given, pairs_given}
-use Rattle.liquid_tags.specs.Partials.{Pair}
+use Rattle.liquid_error.specs.meaning.Refusal.{Refusal, ok_then}
+use Rattle.liquid_plugins.specs.meaning.Expression.{ExpressionShape}
+use Rattle.liquid_parser.specs.meaning.Handed.{Token, Tokens, first_of, expect_identifier, expect_value, or_unexpected}
+use Rattle.liquid_tags.specs.meaning.Asked.{next_as}
+use Rattle.liquid_tags.specs.meaning.CallsGiven.{colon, comma, expect_colon, expect_comma, missing_behind, pair_given, pairs_given}
+use Rattle.liquid_tags.specs.meaning.Partials.{Pair}
 
 abbrev behind : Token → List Token → Tokens
 behind t more = record { behind = t.behind; left = more }

@@ -1,9 +1,9 @@
 -- The items of values, as lists of trees.
 use Rattle.std.proofs.Common.{◌≡◌, List, [], ◌∷◌, None, Some, Ok, refl, ap}
-use Rattle.liquid_value.specs.Tree.{Tree, Members, nil, state, scalar, array, object}
-use Rattle.liquid_value.specs.Parts.{as_object}
-use Rattle.liquid_value.specs.View.{items_of}
-use Rattle.liquid_tags.specs.Series.{items_in, pairs, trees}
+use Rattle.liquid_value.specs.meaning.Tree.{Tree, Members, nil, state, scalar, array, object}
+use Rattle.liquid_value.specs.meaning.Parts.{as_object}
+use Rattle.liquid_value.specs.meaning.View.{items_of}
+use Rattle.liquid_tags.specs.meaning.Series.{items_in, pairs, trees}
 
 pub trees_of : (ts : List Tree) → trees (items_of ts) ≡ ts
 trees_of [] = refl

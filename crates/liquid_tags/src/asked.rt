@@ -1,8 +1,8 @@
 //! What tags and blocks ask of their tokens.
-ghost use Rattle.liquid_error.specs.Told.{Gives};
-ghost use Rattle.liquid_parser.specs.Handed.{Tokens};
-ghost use Rattle.liquid_parser.specs.Plugins.{AreTokens};
-ghost use Rattle.liquid_tags.specs.Asked.{alone};
+ghost use Rattle.liquid_error.specs.meaning.Told.{Gives};
+ghost use Rattle.liquid_parser.specs.meaning.Handed.{Tokens};
+ghost use Rattle.liquid_parser.specs.meaning.Plugins.{AreTokens};
+ghost use Rattle.liquid_tags.specs.meaning.Asked.{alone};
 
 use liquid_error::Error;
 use liquid_parser::TagTokenIter;

@@ -1,15 +1,15 @@
 //! The blocks, as plug-ins.
-ghost use Rattle.std.specs.Prelude.{◌≡◌, IfOk};
-ghost use Rattle.liquid_error.specs.Told.{Gives};
-ghost use Rattle.liquid_parser.specs.Cursors.{IsToken, Takes, Tries};
-ghost use Rattle.liquid_parser.specs.Handed.{Token, Tokens};
-ghost use Rattle.liquid_parser.specs.Plugins.{AreTokens, body_of};
-ghost use Rattle.liquid_tags.specs.Asked.{next_as};
-ghost use Rattle.liquid_tags.specs.Series.{series_of};
-ghost use Rattle.liquid_tags.specs.Blocks.{block_of};
-ghost use Rattle.liquid_tags.specs.Conditions.{condition_of};
+ghost use Rattle.std.specs.Prelude.{◌≡◌, refl, IfOk};
+ghost use Rattle.liquid_error.specs.meaning.Told.{Gives};
+ghost use Rattle.liquid_parser.specs.meaning.Cursors.{IsToken, Takes, Tries};
+ghost use Rattle.liquid_parser.specs.meaning.Handed.{Token, Tokens};
+ghost use Rattle.liquid_parser.specs.meaning.Plugins.{AreTokens, body_of};
+ghost use Rattle.liquid_tags.specs.meaning.Asked.{next_as};
+ghost use Rattle.liquid_tags.specs.meaning.Series.{series_of};
+ghost use Rattle.liquid_tags.specs.meaning.Blocks.{block_of};
+ghost use Rattle.liquid_tags.specs.meaning.Conditions.{condition_of};
 ghost use Rattle.liquid_tags.specs.declared.block_plugins.Blocks.TheVariants.{If, For};
-ghost use Rattle.liquid_tags.specs.BlockPlugins.{begun, block_meaning, end_of, expect_series, plan_of, planned, start_of, with_condition};
+ghost use Rattle.liquid_tags.specs.meaning.BlockPlugins.{begun, expect_series, names_told, plan_of, planned, whole_block, with_condition};
 
 use crate::asked::{TOKEN_EXPECTED, alone};
 use crate::blocks::{BlockNode, BlockShape};
@@ -59,9 +59,7 @@ impl Meant for BlockPlan {
 }
 
 impl BlockReflection for Blocks {
-    ghost start_name = { start_of };
-
-    ghost end_name = { end_of };
+    ghost block_names = { names_told };
 
     fn start_tag(&self) -> &str {
         match self {
@@ -93,7 +91,9 @@ impl<F: ParseFilter> ParseBlock<F> for Blocks {
 
     type Node = BlockNode;
 
-    ghost meaning = { block_meaning };
+    ghost block = { whole_block };
+
+    ghost named = { λ b. refl };
 
     fn dividers(&self) -> &[&str] {
         match self {

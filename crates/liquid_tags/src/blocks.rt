@@ -1,8 +1,8 @@
 //! The nodes of blocks, and how they are rendered.
 ghost use Rattle.std.specs.Prelude.{◌≡◌, IfOk};
-ghost use Rattle.liquid_tags.specs.BlockLaws.{block_start_hides, block_turn_hides};
-ghost use Rattle.liquid_tags.specs.Items.{items_left};
-ghost use Rattle.liquid_tags.specs.Blocks.{block_count, block_of, block_starts, block_tells, over_items, progress_of};
+ghost use Rattle.liquid_tags.specs.laws.BlockLaws.{blocks_hide};
+ghost use Rattle.liquid_tags.specs.meaning.Items.{items_left};
+ghost use Rattle.liquid_tags.specs.meaning.Blocks.{block_nodes, block_of, over_items, progress_of};
 
 use crate::condition::{Condition, ConditionShape, chosen};
 use crate::items::Items;
@@ -62,11 +62,7 @@ impl Meant for BlockProgress {
 impl<V: Fresh> Renderable<V> for BlockNode {
     type Progress = BlockProgress;
 
-    ghost starts = { block_starts };
-
-    ghost count = { block_count };
-
-    ghost tells = { block_tells };
+    ghost means = { block_nodes };
 
     fn start<R: Runtime<Register = V>>(
         &self,
@@ -111,9 +107,7 @@ impl<V: Fresh> Renderable<V> for BlockNode {
 }
 
 impl<V: Fresh> Discreet<V> for BlockNode {
-    ghost start_hides = { block_start_hides };
-
-    ghost turn_hides = { block_turn_hides };
+    ghost hides = { blocks_hide };
 }
 
 /// The progress of a loop over these items; without items the `else` part comes.

@@ -1,10 +1,10 @@
 //! The items that a loop still goes over.
 ghost use Rattle.std.specs.Prelude.{◌≡◌, drop, length, option_map, slice_get, IfOk, OnOk};
-ghost use Rattle.liquid_scalar.specs.Scalar.{integer};
-ghost use Rattle.liquid_value.specs.Tree.{scalar};
-ghost use Rattle.liquid_value.specs.View.{view as tree_of};
-ghost use Rattle.liquid_tags.specs.Series.{counted};
-ghost use Rattle.liquid_tags.specs.Items.{items_left};
+ghost use Rattle.liquid_scalar.specs.meaning.Scalar.{integer};
+ghost use Rattle.liquid_value.specs.meaning.Tree.{scalar};
+ghost use Rattle.liquid_value.specs.meaning.View.{view as tree_of};
+ghost use Rattle.liquid_tags.specs.meaning.Series.{counted};
+ghost use Rattle.liquid_tags.specs.meaning.Items.{items_left};
 
 use liquid_value::Value;
 use std::alloc::AllocError;

@@ -1,7 +1,7 @@
 //! The language of the library.
 ghost use Rattle.std.specs.Prelude.{◌≡◌, IfOk};
-ghost use Rattle.liquid_parser.specs.Plugins.{registry_of};
-ghost use Rattle.liquid_tags.specs.Languages.{meaning_of, tags_and_blocks, the_blocks, the_tags};
+ghost use Rattle.liquid_parser.specs.meaning.Plugins.{registry_of};
+ghost use Rattle.liquid_tags.specs.meaning.Languages.{meaning_of, tags_and_blocks, the_blocks, the_tags};
 
 use crate::block_plugins::Blocks;
 use crate::tag_plugins::Tags;

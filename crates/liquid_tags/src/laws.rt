@@ -1,7 +1,7 @@
 //! Laws of the library in a sandbox, each as the contract of a function. `V` is the type of the
 //! register, `F` what filters are seen as. Nothing is asked of the filters, nor of tags and blocks.
-ghost use Rattle.liquid_plugins.specs.Chain.{FilterMeaning};
-ghost use Rattle.liquid_tags.specs.Sandboxes.{LibraryAgrees, LibraryIsolated};
+ghost use Rattle.liquid_plugins.specs.meaning.Chain.{FilterMeaning};
+ghost use Rattle.liquid_tags.specs.laws.Sandboxes.{LibraryAgrees, LibraryIsolated};
 
 use liquid_runtime::Fresh;
 

@@ -1,13 +1,13 @@
 //! The turns of a loop.
 ghost use Rattle.std.specs.Prelude.{◌≡◌, ◌+◌, drop, option_map, pos, slice_get, string_bytes, IfOk, OnOk};
-ghost use Rattle.liquid_error.specs.Told.{Gives};
-ghost use Rattle.liquid_scalar.specs.Scalar.{integer};
-ghost use Rattle.liquid_value.specs.Tree.{scalar};
-ghost use Rattle.liquid_value.specs.View.{view as tree_of};
-ghost use Rattle.liquid_runtime.specs.Maps.{names_of};
-ghost use Rattle.liquid_runtime.specs.Written.{SameFrames};
-ghost use Rattle.liquid_plugins.specs.TurnOf.{turn_of, Leaves, LeavesProgress};
-ghost use Rattle.liquid_tags.specs.Loops.{behind, forloop, item_turn, loop_tells, names_of_item, rounds_of};
+ghost use Rattle.liquid_error.specs.meaning.Told.{Gives};
+ghost use Rattle.liquid_scalar.specs.meaning.Scalar.{integer};
+ghost use Rattle.liquid_value.specs.meaning.Tree.{scalar};
+ghost use Rattle.liquid_value.specs.meaning.View.{view as tree_of};
+ghost use Rattle.liquid_runtime.specs.meaning.Maps.{names_of};
+ghost use Rattle.liquid_runtime.specs.meaning.Written.{SameFrames};
+ghost use Rattle.liquid_plugins.specs.meaning.TurnOf.{turn_of, Leaves, LeavesProgress};
+ghost use Rattle.liquid_tags.specs.meaning.Loops.{behind, forloop, item_turn, loop_takes, names_of_item, rounds_of};
 
 use crate::names::bind;
 use crate::rounds::Rounds;
@@ -27,9 +27,9 @@ pub(crate) fn loop_turn<R: Runtime>(
     rounds: &mut Rounds,
     runtime: &mut R,
 ) -> Result<Turn, Error>
-    ensures answer { Gives turn_of result (loop_tells (string_bytes name.now) (rounds_of rounds.old) (R.view runtime.old)).answer }
-    ensures after { Leaves result (loop_tells (string_bytes name.now) (rounds_of rounds.old) (R.view runtime.old)).written (R.view runtime.old) (R.view runtime.new) }
-    ensures progress { LeavesProgress result (loop_tells (string_bytes name.now) (rounds_of rounds.old) (R.view runtime.old)).progress (rounds_of rounds.new) }
+    ensures answer { Gives turn_of result (loop_takes (string_bytes name.now) (rounds_of rounds.old) (R.view runtime.old)).answer }
+    ensures after { Leaves result (loop_takes (string_bytes name.now) (rounds_of rounds.old) (R.view runtime.old)).written (R.view runtime.old) (R.view runtime.new) }
+    ensures progress { LeavesProgress result (loop_takes (string_bytes name.now) (rounds_of rounds.old) (R.view runtime.old)).progress (rounds_of rounds.new) }
     ensures frames { SameFrames (R.view runtime.old) (R.view runtime.new) }
     ensures stays { R.store runtime.new ≡ R.store runtime.old }
     ensures kept { R.restores runtime.new ≡ R.restores runtime.old }

@@ -1,8 +1,8 @@
 //! Objects of names.
 ghost use Rattle.std.specs.FinMap.{insert};
 ghost use Rattle.std.specs.Prelude.{◌≡◌, IfOk};
-ghost use Rattle.liquid_value.specs.View.{view as tree_of};
-ghost use Rattle.liquid_runtime.specs.Maps.{names_of};
+ghost use Rattle.liquid_value.specs.meaning.View.{view as tree_of};
+ghost use Rattle.liquid_runtime.specs.meaning.Maps.{names_of};
 
 use liquid_value::{Object, Value};
 use std::alloc::{AllocError, Global};

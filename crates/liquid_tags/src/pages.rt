@@ -1,12 +1,11 @@
 //! Rendering a page of the library.
 ghost use Rattle.std.specs.Prelude.{◌≡◌, Some, IfOk};
-ghost use Rattle.liquid_runtime.specs.Frames.{built_view};
-ghost use Rattle.liquid_runtime.specs.Maps.{names_of};
-ghost use Rattle.liquid_parser.specs.Plugins.{registry_of};
-ghost use Rattle.liquid_template.specs.Sunk.{sunk};
-ghost use Rattle.liquid_partials.specs.Compiled.{Compiled};
-ghost use Rattle.liquid_tags.specs.Languages.{meaning_of, tags_and_blocks};
-ghost use Rattle.liquid_tags.specs.Pages.{RendersPage, page_depth};
+ghost use Rattle.liquid_runtime.specs.meaning.Frames.{built_view};
+ghost use Rattle.liquid_runtime.specs.meaning.Maps.{names_of};
+ghost use Rattle.liquid_parser.specs.meaning.Plugins.{registry_of};
+ghost use Rattle.liquid_partials.specs.meaning.Compiled.{Compiled};
+ghost use Rattle.liquid_tags.specs.meaning.Languages.{meaning_of, tags_and_blocks};
+ghost use Rattle.liquid_tags.specs.meaning.Pages.{RendersPage, page_depth};
 
 use crate::block_plugins::Blocks;
 use crate::blocks::BlockNode;
@@ -44,9 +43,8 @@ where
     F: ParseFilter,
     S: PartialSource + Drop,
     K: Sink,
-    ensures { RendersPage (record { answers = F.Filter.answers; label = F.Filter.shown }) (registry_of F.makes filters) text.now (names_of globals) (S.texts partials)
-        (sunk (K.taken sink.old) (K.failures sink.old) (K.behind sink.old) (K.lent sink.old))
-        (sunk (K.taken sink.new) (K.failures sink.new) (K.behind sink.new) (K.lent sink.new)) result }
+    ensures { RendersPage F.Filter.means (registry_of F.makes filters) text.now (names_of globals) (S.texts partials)
+        (K.sunk sink.old) (K.sunk sink.new) result }
 {
     match shared_language(alloc, filters) {
         Ok(language) => match store_of(alloc, &language, partials) {

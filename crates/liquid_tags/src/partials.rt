@@ -1,12 +1,12 @@
 //! The tags `include` and `render`.
 ghost use Rattle.std.specs.FinMap.{empty};
 ghost use Rattle.std.specs.Prelude.{◌≡◌, ◌++◌, codes, map, IfOk, string_bytes};
-ghost use Rattle.liquid_error.specs.Told.{Gives};
-ghost use Rattle.liquid_value.specs.View.{view as tree_of};
-ghost use Rattle.liquid_runtime.specs.Maps.{Names, names_of};
-ghost use Rattle.liquid_plugins.specs.ExpressionOf.{expression_of};
-ghost use Rattle.liquid_plugins.specs.TurnOf.{turn_of};
-ghost use Rattle.liquid_tags.specs.Partials.{bound, included, inclusion_turn, pair_of, partial_name, word_of};
+ghost use Rattle.liquid_error.specs.meaning.Told.{Gives};
+ghost use Rattle.liquid_value.specs.meaning.View.{view as tree_of};
+ghost use Rattle.liquid_runtime.specs.meaning.Maps.{Names, names_of};
+ghost use Rattle.liquid_plugins.specs.meaning.ExpressionOf.{expression_of};
+ghost use Rattle.liquid_plugins.specs.meaning.TurnOf.{turn_of};
+ghost use Rattle.liquid_tags.specs.meaning.Partials.{bound, included, inclusion_turn, pair_of, partial_name, word_of};
 
 use crate::names::bind;
 use crate::series::expected;

@@ -1,11 +1,11 @@
 //! Reading of the calls of partials.
 ghost use Rattle.std.specs.Prelude.{◌<◌, map, IfOk};
-ghost use Rattle.liquid_error.specs.Told.{Gives};
-ghost use Rattle.liquid_parser.specs.Cursors.{IsToken, Takes, bytes_left};
-ghost use Rattle.liquid_parser.specs.Handed.{Token, Tokens};
-ghost use Rattle.liquid_parser.specs.Plugins.{AreTokens};
-ghost use Rattle.liquid_tags.specs.Partials.{call_of, pair_of};
-ghost use Rattle.liquid_tags.specs.CallsGiven.{call_given, comma, pair_given, pairs_given};
+ghost use Rattle.liquid_error.specs.meaning.Told.{Gives};
+ghost use Rattle.liquid_parser.specs.meaning.Cursors.{IsToken, Takes, bytes_left};
+ghost use Rattle.liquid_parser.specs.meaning.Handed.{Token, Tokens};
+ghost use Rattle.liquid_parser.specs.meaning.Plugins.{AreTokens};
+ghost use Rattle.liquid_tags.specs.meaning.Partials.{call_of, pair_of};
+ghost use Rattle.liquid_tags.specs.meaning.CallsGiven.{call_given, comma, pair_given, pairs_given};
 
 use crate::asked::TOKEN_EXPECTED;
 use crate::partials::Call;

@@ -1,11 +1,11 @@
 //! Reading of conditions.
 ghost use Rattle.std.specs.Prelude.{◌≡◌};
-ghost use Rattle.liquid_error.specs.Told.{Gives};
-ghost use Rattle.liquid_plugins.specs.ExpressionOf.{expression_of};
-ghost use Rattle.liquid_parser.specs.Handed.{Tokens};
-ghost use Rattle.liquid_parser.specs.Plugins.{AreTokens};
-ghost use Rattle.liquid_tags.specs.Conditions.{condition_of};
-ghost use Rattle.liquid_tags.specs.ConditionsGiven.{behind_value, comparison_of, condition_given};
+ghost use Rattle.liquid_error.specs.meaning.Told.{Gives};
+ghost use Rattle.liquid_plugins.specs.meaning.ExpressionOf.{expression_of};
+ghost use Rattle.liquid_parser.specs.meaning.Handed.{Tokens};
+ghost use Rattle.liquid_parser.specs.meaning.Plugins.{AreTokens};
+ghost use Rattle.liquid_tags.specs.meaning.Conditions.{condition_of};
+ghost use Rattle.liquid_tags.specs.meaning.ConditionsGiven.{behind_value, comparison_of, condition_given};
 
 use crate::asked::{TOKEN_EXPECTED, alone};
 use crate::condition::{Comparison, Condition};

@@ -1,5 +1,5 @@
 //! The progress of a loop.
-ghost use Rattle.liquid_tags.specs.Loops.{rounds_of};
+ghost use Rattle.liquid_tags.specs.meaning.Loops.{rounds_of};
 
 use crate::items::Items;
 use liquid_plugins::{ListOf, Meant, TreeMark};

@@ -1,15 +1,15 @@
 //! What a loop goes over.
 ghost use Rattle.std.specs.Prelude.{◌≡◌, map, string_bytes, IfOk, IfSome, option_and_then};
-ghost use Rattle.liquid_error.specs.Told.{told, Gives};
-ghost use Rattle.liquid_scalar.specs.Scalar.{to_integer};
-ghost use Rattle.liquid_value.specs.Cow.{cow_view};
-ghost use Rattle.liquid_value.specs.Parts.{as_scalar};
-ghost use Rattle.liquid_value.specs.View.{view as tree_of, items_view, members_view};
-ghost use Rattle.liquid_plugins.specs.Evaluation.{evaluate};
-ghost use Rattle.liquid_plugins.specs.ExpressionOf.{expression_of};
-ghost use Rattle.liquid_error.specs.Refusal.{ok_then};
-ghost use Rattle.liquid_tags.specs.Items.{items_left};
-ghost use Rattle.liquid_tags.specs.Series.{expected, items_between, items_in, items_of, pair, pairs, range_too_long, series_of, trees, whole_number};
+ghost use Rattle.liquid_error.specs.meaning.Told.{told, Gives};
+ghost use Rattle.liquid_scalar.specs.meaning.Scalar.{to_integer};
+ghost use Rattle.liquid_value.specs.meaning.Cow.{cow_view};
+ghost use Rattle.liquid_value.specs.meaning.Parts.{as_scalar};
+ghost use Rattle.liquid_value.specs.meaning.View.{view as tree_of, items_view, members_view};
+ghost use Rattle.liquid_plugins.specs.meaning.Evaluation.{evaluate};
+ghost use Rattle.liquid_plugins.specs.meaning.ExpressionOf.{expression_of};
+ghost use Rattle.liquid_error.specs.meaning.Refusal.{ok_then};
+ghost use Rattle.liquid_tags.specs.meaning.Items.{items_left};
+ghost use Rattle.liquid_tags.specs.meaning.Series.{expected, items_between, items_in, items_of, pair, pairs, range_too_long, series_of, trees, whole_number};
 
 use crate::items::Items;
 use liquid_error::Error;

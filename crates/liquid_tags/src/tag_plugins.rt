@@ -1,9 +1,9 @@
 //! The tags, as plug-ins.
-ghost use Rattle.liquid_error.specs.Told.{Gives};
-ghost use Rattle.liquid_parser.specs.Handed.{Tokens};
-ghost use Rattle.liquid_parser.specs.Plugins.{AreTokens, registry_of};
-ghost use Rattle.liquid_tags.specs.Tags.{tag_of};
-ghost use Rattle.liquid_tags.specs.TagPlugins.{assign_given, inclusion_given, increment_given, tag_given};
+ghost use Rattle.liquid_error.specs.meaning.Told.{Gives};
+ghost use Rattle.liquid_parser.specs.meaning.Handed.{Tokens};
+ghost use Rattle.liquid_parser.specs.meaning.Plugins.{AreTokens, registry_of};
+ghost use Rattle.liquid_tags.specs.meaning.Tags.{tag_of};
+ghost use Rattle.liquid_tags.specs.meaning.TagPlugins.{assign_given, inclusion_given, increment_given, tag_given};
 
 use crate::asked::{TOKEN_EXPECTED, alone};
 use crate::partials::Inclusion;

@@ -1,7 +1,6 @@
 //! The nodes of tags, and how they are rendered.
-ghost use Rattle.liquid_tags.specs.Tags.{tag_of, tag_tells};
-ghost use Rattle.liquid_tags.specs.TagLaws.{tag_start_hides, tag_turn_hides};
-ghost use Rattle.liquid_plugins.specs.Turning.{begins_with};
+ghost use Rattle.liquid_tags.specs.meaning.Tags.{tag_nodes, tag_of};
+ghost use Rattle.liquid_tags.specs.laws.TagLaws.{tags_hide};
 
 use crate::assign::assign;
 use crate::increment::increment;
@@ -45,11 +44,7 @@ impl<X: Filter> Meant for TagNode<X> {
 impl<X: Filter, V: Fresh> Renderable<V> for TagNode<X> {
     type Progress = u64;
 
-    ghost starts = { λ _. begins_with 1 };
-
-    ghost count = { λ turns. turns };
-
-    ghost tells = { tag_tells (record { answers = X.answers; label = X.shown }) };
+    ghost means = { tag_nodes X.means };
 
     fn start<R: Runtime<Register = V>>(
         &self,
@@ -82,7 +77,5 @@ impl<X: Filter, V: Fresh> Renderable<V> for TagNode<X> {
 }
 
 impl<X: Filter, V: Fresh> Discreet<V> for TagNode<X> {
-    ghost start_hides = { tag_start_hides (record { answers = X.answers; label = X.shown }) };
-
-    ghost turn_hides = { tag_turn_hides (record { answers = X.answers; label = X.shown }) };
+    ghost hides = { tags_hide X.means };
 }

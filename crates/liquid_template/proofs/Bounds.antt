@@ -7,13 +7,13 @@ use Rattle.std.specs.Cmp.Lexicographic.{slice_cmp}
 use Rattle.std.specs.FinMap.{get, get-entries, entries, values, keys}
 use Rattle.std.specs.FinMap.Entries.{find}
 use Rattle.liquid_error.specs.declared.error.Error.{Error}
-use Rattle.liquid_error.specs.Refusal.{Refusal}
-use Rattle.liquid_error.specs.Told.{Gives}
-use Rattle.liquid_tree.specs.Tree.{Nodes}
-use Rattle.liquid_tree.specs.Size.{size_nodes}
-use Rattle.liquid_template.specs.Partials.{Found, partial_in, unknown_partial}
-use Rattle.liquid_template.specs.Sought.{store_answer}
-use Rattle.liquid_template.specs.Bound.{size_read, size_all, partials_size}
+use Rattle.liquid_error.specs.meaning.Refusal.{Refusal}
+use Rattle.liquid_error.specs.meaning.Told.{Gives}
+use Rattle.liquid_plugins.specs.meaning.Nodes.{Nodes}
+use Rattle.liquid_plugins.specs.meaning.Size.{size_nodes}
+use Rattle.liquid_template.specs.meaning.Partials.{Found, partial_in, unknown_partial}
+use Rattle.liquid_template.specs.steps.Sought.{store_answer}
+use Rattle.liquid_template.specs.steps.Bound.{size_read, size_all, partials_size}
 
 module _ {F T B : Type 0} where
   abbrev IsErr : Result (Nodes F T B) Refusal → Type 0

@@ -2,7 +2,8 @@
 use Rattle.std.proofs.Common.{◌≡◌, ℕ, List, [], ◌++◌, Option, None, Some, sym, ◌∙◌, append_assoc}
 use Rattle.std.specs.Io.KnownBytes.{Appends}
 use Rattle.std.proofs.lemmas.List.{append-nil}
-use Rattle.liquid_template.specs.Grows.{Grows}
+use Rattle.liquid_template.specs.meaning.Grows.{Grows}
+use Rattle.liquid_template.specs.meaning.Sunk.{Sunk}
 
 appends_nothing : (behind : Option (List ℕ)) → Appends behind behind []
 appends_nothing None = tt
@@ -15,19 +16,13 @@ appends_both (Some ws) (Some zs) None xs ys p q = absurd q
 appends_both (Some ws) None c xs ys p q = absurd p
 
 -- before the first put nothing has grown
-pub Grows-start : (taken : List ℕ) (behind : Option (List ℕ)) → Grows taken behind taken behind
-Grows-start taken behind = record { more = []; taken_is = sym (append-nil taken); behind_is = appends_nothing behind }
-
--- one put
-pub Grows-put : (taken : List ℕ) (behind : Option (List ℕ)) (taken_after : List ℕ) (behind_after : Option (List ℕ)) (more : List ℕ)
-    → taken_after ≡ taken ++ more → Appends behind behind_after more → Grows taken behind taken_after behind_after
-Grows-put taken behind taken_after behind_after more t b = record { more = more; taken_is = t; behind_is = b }
+pub Grows-start : (b : Sunk) → Grows b b
+Grows-start b = record { more = []; taken_is = sym (append-nil b.taken); behind_is = appends_nothing b.behind }
 
 -- one growth after another
-pub Grows-both : (t : List ℕ) (a : Option (List ℕ)) (u : List ℕ) (b : Option (List ℕ)) (v : List ℕ) (c : Option (List ℕ))
-    → Grows t a u b → Grows u b v c → Grows t a v c
-Grows-both t a u b v c p q = record {
+pub Grows-both : (b m a : Sunk) → Grows b m → Grows m a → Grows b a
+Grows-both b m a p q = record {
   more = p.more ++ q.more;
   taken_is = q.taken_is ∙ rw (p.taken_is, append_assoc);
-  behind_is = appends_both a b c p.more q.more p.behind_is q.behind_is;
+  behind_is = appends_both b.behind m.behind a.behind p.more q.more p.behind_is q.behind_is;
 }

@@ -2,30 +2,30 @@
 use Rattle.std.proofs.Common.{◌≡◌, ℕ, zero, suc, List, [], ◌∷◌, ◌++◌, map, Bool, true, false, cond, is_some, Option, Some, None, Result, Ok, Err, refl, sym, ap, ◌∙◌, option_map}
 use Rattle.std.specs.Prelude.{unwrap_or}
 use Rattle.std.specs.FinMap.{empty}
-use Rattle.liquid_error.specs.Refusal.{Refusal}
-use Rattle.liquid_value.specs.Tree.{Tree}
-use Rattle.liquid_runtime.specs.Maps.{Names, over}
+use Rattle.liquid_error.specs.meaning.Refusal.{Refusal}
+use Rattle.liquid_value.specs.meaning.Tree.{Tree}
+use Rattle.liquid_runtime.specs.meaning.Maps.{Names, over}
 use Rattle.liquid_runtime.proofs.MapLaws.{over-over, empty-over}
-use Rattle.liquid_runtime.specs.View.{View}
-use Rattle.liquid_runtime.specs.NamesSeen.{upper_names}
-use Rattle.liquid_runtime.specs.Written.{with_written}
-use Rattle.liquid_runtime.specs.Erased.{Erased, erase, without_names}
-use Rattle.liquid_runtime.specs.Emptied.{emptied}
-use Rattle.liquid_runtime.specs.Frames.{FrameShape, no_frame, stack_frame, sandboxed_frame, global_frame, Restore, restore_nothing, restore_global, begin_sandboxed, beginning, restored_by, ending}
-use Rattle.liquid_plugins.specs.Evaluation.{evaluate}
-use Rattle.liquid_plugins.specs.Chain.{ChainShape, FilterMeaning, chain_value, filtered}
-use Rattle.liquid_plugins.specs.Turns.{Told, TurnShape, text_turn, body_turn, partial_turn, end_turn, NodeMeaning}
-use Rattle.liquid_plugins.specs.Discreet.{hiding, overlaid, HidesGlobals, Discreet}
+use Rattle.liquid_runtime.specs.meaning.View.{View}
+use Rattle.liquid_runtime.specs.meaning.NamesSeen.{upper_names}
+use Rattle.liquid_runtime.specs.meaning.Written.{with_written}
+use Rattle.liquid_runtime.specs.meaning.Erased.{Erased, erase, without_names}
+use Rattle.liquid_runtime.specs.meaning.Emptied.{emptied}
+use Rattle.liquid_runtime.specs.meaning.Frames.{FrameShape, no_frame, stack_frame, sandboxed_frame, global_frame, Restore, restore_nothing, restore_global, begin_sandboxed, beginning, restored_by, ending}
+use Rattle.liquid_plugins.specs.meaning.Evaluation.{evaluate}
+use Rattle.liquid_plugins.specs.meaning.Chain.{ChainShape, FilterMeaning, chain_value, filtered}
+use Rattle.liquid_plugins.specs.meaning.Turns.{Answered, TurnShape, text_turn, body_turn, partial_turn, end_turn, NodeMeaning}
+use Rattle.liquid_plugins.specs.meaning.Discreet.{hiding, overlaid, HidesGlobals, Discreet}
 use Rattle.liquid_plugins.proofs.ErasedLemmas.{evaluate_erased}
-use Rattle.liquid_error.specs.Refusal.{ok_then}
-use Rattle.liquid_tree.specs.Tree.{NodeShape, text_node, chain_node, tag_node, block_node, Nodes, no_nodes, node, Parts, no_parts, part}
-use Rattle.liquid_template.specs.Run.{Step, Run, Action}
-use Rattle.liquid_template.specs.Actions.{traced, refused_through, done, refuses, writes, writes_value, goes_on, and_then, unless_interrupted, step_outside, outside, under, part_at}
-use Rattle.liquid_template.specs.Nodes.{Setting, performed, answered, turns, started, played, run_node, run_nodes, run_parts}
-use Rattle.liquid_template.specs.Partials.{partials_at, sought, read_as, no_store, too_deep}
-use Rattle.liquid_template.specs.Rendering.{nodes_run, sandboxed_run}
-use Rattle.liquid_template.specs.Sandboxed.{HasGlobals, over_outside, step_over_outside, run_over_outside}
-use Rattle.liquid_template.specs.Isolation.{Isolated, OutsidesAgree}
+use Rattle.liquid_error.specs.meaning.Refusal.{ok_then}
+use Rattle.liquid_plugins.specs.meaning.Nodes.{NodeShape, text_node, chain_node, tag_node, block_node, Nodes, no_nodes, node, Parts, no_parts, part}
+use Rattle.liquid_template.specs.meaning.Run.{Step, Run, Action}
+use Rattle.liquid_template.specs.meaning.Actions.{traced, refused_through, done, refuses, writes, writes_value, goes_on, and_then, unless_interrupted, step_outside, outside, under, part_at}
+use Rattle.liquid_template.specs.meaning.Nodes.{Setting, performed, answered, turns, started, played, run_node, run_nodes, run_parts}
+use Rattle.liquid_template.specs.meaning.Partials.{partials_at, sought, read_as, no_store, too_deep}
+use Rattle.liquid_template.specs.meaning.Rendering.{nodes_run, sandboxed_run}
+use Rattle.liquid_template.specs.meaning.Sandboxed.{HasGlobals, over_outside, step_over_outside, run_over_outside}
+use Rattle.liquid_template.specs.laws.Isolation.{Isolated, OutsidesAgree}
 
 -- globals are there, and hidden
 pub record Hidden {Reg : Type 0} (v : View Reg) : Type 0 where
@@ -145,7 +145,7 @@ module _ {Reg : Type 0} (g : Names) where
   cover_is_hiding : (v : View Reg) (h : Hidden v) → cover v ≡ hiding (over h.names g) v
   cover_is_hiding v h = ap (λ m. record v { globals = Some (over (unwrap_or m empty) g) }) h.there ∙ ap (λ b. record v { globals = Some (over h.names g); shown = b }) h.shown
 
-  module _ {A P : Type 0} (tells : View Reg → Told A P Reg) (law : HidesGlobals tells) where
+  module _ {A P : Type 0} (tells : View Reg → Answered A P Reg) (law : HidesGlobals tells) where
     told_hidden : (v : View Reg) → Hidden v → tells (cover v) ≡ overlaid g (tells v)
     told_hidden v h =
         ap tells (cover_is_hiding v h)
@@ -207,9 +207,9 @@ module _ {Reg : Type 0} (g : Names) where
         unfolding turns
         apart_turns zero progress = apart_done
         apart_turns (suc left) progress = record {
-          same = λ v h. ap (λ t. answered s partials parts t.answer (turns s partials m n parts left t.progress) (with_written t.written (cover v))) (told_hidden (m.tells n progress) (law.turn n progress) v h)
-              ∙ (apart_answered (m.tells n progress v).answer (turns s partials m n parts left (m.tells n progress v).progress) (apart_turns left (m.tells n progress v).progress)).same (with_written (m.tells n progress v).written v) (told_stays_hidden (m.tells n progress) (law.turn n progress) v h);
-          hidden = λ v h. (apart_answered (m.tells n progress v).answer (turns s partials m n parts left (m.tells n progress v).progress) (apart_turns left (m.tells n progress v).progress)).hidden (with_written (m.tells n progress v).written v) (told_stays_hidden (m.tells n progress) (law.turn n progress) v h);
+          same = λ v h. ap (λ t. answered s partials parts t.answer (turns s partials m n parts left t.progress) (with_written t.written (cover v))) (told_hidden (m.takes n progress) (law.turn n progress) v h)
+              ∙ (apart_answered (m.takes n progress v).answer (turns s partials m n parts left (m.takes n progress v).progress) (apart_turns left (m.takes n progress v).progress)).same (with_written (m.takes n progress v).written v) (told_stays_hidden (m.takes n progress) (law.turn n progress) v h);
+          hidden = λ v h. (apart_answered (m.takes n progress v).answer (turns s partials m n parts left (m.takes n progress v).progress) (apart_turns left (m.takes n progress v).progress)).hidden (with_written (m.takes n progress v).written v) (told_stays_hidden (m.takes n progress) (law.turn n progress) v h);
         }
 
         apart_started : (a : Result R Refusal) → Apart (started s partials m n parts a)

@@ -3,18 +3,18 @@ use Rattle.std.proofs.Common.{◌≡◌, ℕ, ◌+◌, List, [], ◌∷◌, ◌+
 use Rattle.std.specs.Prelude.{MatchOption, IfSome, unwrap_or}
 use Rattle.std.proofs.lemmas.List.{append-nil}
 use Rattle.liquid_error.specs.declared.error.Error.{Error}
-use Rattle.liquid_error.specs.Refusal.{Refusal}
-use Rattle.liquid_error.specs.Told.{told}
-use Rattle.liquid_error.specs.Helpers.{ErrBecomes}
-use Rattle.liquid_runtime.specs.View.{View}
-use Rattle.liquid_runtime.specs.Written.{written_of, with_written, SameFrames}
-use Rattle.liquid_runtime.specs.Frames.{FrameShape, no_frame, stack_frame, sandboxed_frame, global_frame, Restore, beginning, restored_by, ending}
-use Rattle.liquid_template.specs.Run.{Step, Run, Action, pieces, written}
-use Rattle.liquid_template.specs.Actions.{refused_through, done, refuses, writes, goes_on, and_then, step_outside, outside, under}
+use Rattle.liquid_error.specs.meaning.Refusal.{Refusal}
+use Rattle.liquid_error.specs.meaning.Told.{told}
+use Rattle.liquid_error.specs.meaning.Helpers.{ErrBecomes}
+use Rattle.liquid_runtime.specs.meaning.View.{View}
+use Rattle.liquid_runtime.specs.meaning.Written.{written_of, with_written, SameFrames}
+use Rattle.liquid_runtime.specs.meaning.Frames.{FrameShape, no_frame, stack_frame, sandboxed_frame, global_frame, Restore, beginning, restored_by, ending}
+use Rattle.liquid_template.specs.meaning.Run.{Step, Run, Action, pieces, written}
+use Rattle.liquid_template.specs.meaning.Actions.{refused_through, done, refuses, writes, goes_on, and_then, step_outside, outside, under}
 use Rattle.liquid_template.proofs.Pouring.{pours_nothing, pours_refused, pours_then, pours_through}
-use Rattle.liquid_template.specs.PieceOut.{Partly, PieceTaken, PieceOut}
-use Rattle.liquid_template.specs.Sunk.{Sunk}
-use Rattle.liquid_template.specs.Outcome.{Whole, BrokenOff, Cut, Stopped, Outcome, Renders, failed_to_render}
+use Rattle.liquid_template.specs.steps.PieceOut.{Partly, PieceTaken, PieceOut}
+use Rattle.liquid_template.specs.meaning.Sunk.{Sunk}
+use Rattle.liquid_template.specs.meaning.Outcome.{Whole, BrokenOff, Cut, Stopped, Outcome, Renders, failed_to_render}
 
 pub some_is : {A : Type 0} (x y : A) → Some x ≡ Some y → x ≡ y
 some_is x y e = ap (λ o. unwrap_or o x) e

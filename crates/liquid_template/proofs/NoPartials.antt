@@ -6,10 +6,10 @@ use Rattle.std.specs.List.{join_by, flat_map}
 use Rattle.std.specs.Ordering.{nat_cmp}
 use Rattle.std.specs.Cmp.Lexicographic.{slice_cmp}
 use Rattle.std.specs.FinMap.{empty, get, keys, entries, get-empty, len-empty, len-entries}
-use Rattle.liquid_error.specs.Refusal.{Refusal}
-use Rattle.liquid_paths.specs.Walk.{listed}
-use Rattle.liquid_runtime.specs.Maps.{NameMap}
-use Rattle.liquid_template.specs.Partials.{partial_in, tree_in, read_tree, unknown_partial}
+use Rattle.liquid_error.specs.meaning.Refusal.{Refusal}
+use Rattle.liquid_paths.specs.meaning.Walk.{listed}
+use Rattle.liquid_runtime.specs.meaning.Maps.{NameMap}
+use Rattle.liquid_template.specs.meaning.Partials.{partial_in, tree_in, read_tree, unknown_partial}
 
 none_left : {A : Type 0} (es : List A) → length es ≡ 0 → es ≡ []
 none_left [] e = refl

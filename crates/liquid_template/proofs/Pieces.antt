@@ -7,13 +7,13 @@ use Rattle.liquid_error.specs.declared.error.Error.{Error, fold-Error}
 use Rattle.liquid_error.specs.declared.error.Error.TheVariants as variants
 use Rattle.liquid_error.specs.declared.error.Error.TheOpen as layer
 use Rattle.liquid_error.specs.declared.error.Error.TheFolds.{fold-roll-Error}
-use Rattle.liquid_error.specs.Refusal.{Refusal}
-use Rattle.liquid_error.specs.Told.{told, told_step}
-use Rattle.liquid_template.specs.Grows.{Grows}
-use Rattle.liquid_template.specs.Sunk.{Sunk}
-use Rattle.liquid_template.specs.Outcome.{failed_to_render}
-use Rattle.liquid_template.specs.PieceOut.{Partly, PieceOut}
-use Rattle.liquid_template.proofs.Growth.{Grows-start, Grows-put, Grows-both}
+use Rattle.liquid_error.specs.meaning.Refusal.{Refusal}
+use Rattle.liquid_error.specs.meaning.Told.{told, told_step}
+use Rattle.liquid_template.specs.meaning.Grows.{Grows}
+use Rattle.liquid_template.specs.meaning.Sunk.{Sunk}
+use Rattle.liquid_template.specs.meaning.Outcome.{failed_to_render}
+use Rattle.liquid_template.specs.steps.PieceOut.{Partly, PieceOut}
+use Rattle.liquid_template.proofs.Growth.{Grows-start, Grows-both}
 
 -- the sink took a part of the piece, and the rest is left
 pub record SoFar (piece rest : List ℕ) (before now : Sunk) : Type 0 where
@@ -21,7 +21,7 @@ pub record SoFar (piece rest : List ℕ) (before now : Sunk) : Type 0 where
   pub is : piece ≡ part ++ rest
   pub taken : now.taken ≡ before.taken ++ part
   pub failures : now.failures ≡ before.failures
-  pub grows : Grows before.taken before.behind now.taken now.behind
+  pub grows : Grows before now
   pub lent : now.lent ≡ before.lent
 
 -- what a put leaves of a sink
@@ -32,10 +32,10 @@ pub record PutTook (taken : List ℕ) (count : ℕ) (before after : Sunk) : Type
   pub lent : after.lent ≡ before.lent
 
 pub so_far_begins : (piece : List ℕ) (b : Sunk) → SoFar piece piece b b
-so_far_begins piece b = record { part = []; is = refl; taken = sym (append-nil b.taken); failures = refl; grows = Grows-start b.taken b.behind; lent = refl }
+so_far_begins piece b = record { part = []; is = refl; taken = sym (append-nil b.taken); failures = refl; grows = Grows-start b; lent = refl }
 
-put_grows : (taken : List ℕ) (count : ℕ) (b m a : Sunk) → Grows b.taken b.behind m.taken m.behind → PutTook taken count m a → Grows b.taken b.behind a.taken a.behind
-put_grows taken count b m a g p = Grows-both b.taken b.behind m.taken m.behind a.taken a.behind g (Grows-put m.taken m.behind a.taken a.behind taken p.bytes p.behind)
+put_grows : (taken : List ℕ) (count : ℕ) (b m a : Sunk) → Grows b m → PutTook taken count m a → Grows b a
+put_grows taken count b m a g p = Grows-both b m a g (record { more = taken; taken_is = p.bytes; behind_is = p.behind })
 
 -- a put that took some of the rest leaves what stands behind it
 pub so_far_put : (piece rest : List ℕ) (b m a : Sunk) (count : ℕ) → SoFar piece rest b m → PutTook (take count rest) 0 m a → SoFar piece (take (length rest - count) (drop count rest)) b a

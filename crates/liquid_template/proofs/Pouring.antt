@@ -4,10 +4,10 @@ use Rattle.std.specs.Prelude.{OnOk}
 use Rattle.std.proofs.lemmas.List.{append-nil}
 use Rattle.std.proofs.lemmas.Str.{IsUtf8-append, IsUtf8-nil}
 use Rattle.liquid_error.specs.declared.error.Error.{Error}
-use Rattle.liquid_error.specs.Refusal.{Refusal}
-use Rattle.liquid_error.specs.Helpers.{ErrBecomes}
-use Rattle.liquid_template.specs.Sunk.{Sunk}
-use Rattle.liquid_template.specs.Pours.{TookText, Pours}
+use Rattle.liquid_error.specs.meaning.Refusal.{Refusal}
+use Rattle.liquid_error.specs.meaning.Helpers.{ErrBecomes}
+use Rattle.liquid_template.specs.meaning.Sunk.{Sunk}
+use Rattle.liquid_template.specs.meaning.Pours.{TookText, Pours}
 use Rattle.liquid_template.proofs.Growth.{Grows-start, Grows-both}
 
 abbrev Answer : Type 0
@@ -25,15 +25,15 @@ on_ok (Err e) f a = tt
 
 -- nothing was written
 pub pours_nothing : (b : Sunk) (u : Unit {0}) → Pours b b (Ok u)
-pours_nothing b u = record { grows = Grows-start b.taken b.behind; lent = refl; text = took_nothing b.taken }
+pours_nothing b u = record { grows = Grows-start b; lent = refl; text = took_nothing b.taken }
 
 pub pours_refused : (b : Sunk) (e : Error) → Pours b b (Err e)
-pours_refused b e = record { grows = Grows-start b.taken b.behind; lent = refl; text = tt }
+pours_refused b e = record { grows = Grows-start b; lent = refl; text = tt }
 
 -- one thing was written, and then another
 pub pours_then : (b m a : Sunk) (u : Unit {0}) (answer : Answer) → Pours b m (Ok u) → Pours m a answer → Pours b a answer
 pours_then b m a u answer p q = record {
-  grows = Grows-both b.taken b.behind m.taken m.behind a.taken a.behind p.grows q.grows;
+  grows = Grows-both b m a p.grows q.grows;
   lent = q.lent ∙ p.lent;
   text = on_ok answer (took_both b.taken m.taken a.taken p.text) q.text;
 }

@@ -4,33 +4,33 @@ use Rattle.std.proofs.Common.{Bool, ◌↔◌, ◌≡◌, ◌≢◌, ℕ, zero, 
 use Rattle.std.specs.declared.alloc.Global.{Global}
 use Rattle.std.specs.declared.vec.Vec.{Vec}
 use Rattle.liquid_error.specs.declared.error.Error.{Error}
-use Rattle.liquid_error.specs.Refusal.{Refusal}
-use Rattle.liquid_error.specs.Told.{told}
-use Rattle.liquid_value.specs.Tree.{Tree}
-use Rattle.liquid_value.specs.Render.{render}
-use Rattle.liquid_runtime.specs.View.{View}
-use Rattle.liquid_runtime.specs.Written.{with_written, SameFrames}
-use Rattle.liquid_runtime.specs.Frames.{FrameShape}
-use Rattle.liquid_plugins.specs.Chain.{ChainShape, FilterMeaning, chain_value}
-use Rattle.liquid_plugins.specs.Turns.{TurnShape, text_turn, body_turn, partial_turn, end_turn, NodeMeaning}
-use Rattle.liquid_plugins.specs.TurnOf.{turn_of}
+use Rattle.liquid_error.specs.meaning.Refusal.{Refusal}
+use Rattle.liquid_error.specs.meaning.Told.{told}
+use Rattle.liquid_value.specs.meaning.Tree.{Tree}
+use Rattle.liquid_value.specs.meaning.Render.{render}
+use Rattle.liquid_runtime.specs.meaning.View.{View}
+use Rattle.liquid_runtime.specs.meaning.Written.{with_written, SameFrames}
+use Rattle.liquid_runtime.specs.meaning.Frames.{FrameShape}
+use Rattle.liquid_plugins.specs.meaning.Chain.{ChainShape, FilterMeaning, chain_value}
+use Rattle.liquid_plugins.specs.meaning.Turns.{TurnShape, text_turn, body_turn, partial_turn, end_turn, NodeMeaning}
+use Rattle.liquid_plugins.specs.meaning.TurnOf.{turn_of}
 use Rattle.liquid_plugins.specs.declared.render.Turn.{Turn}
 use Rattle.liquid_plugins.specs.declared.render.Turn.TheVariants as rust
-use Rattle.liquid_tree.specs.declared.node.Node.{Node}
-use Rattle.liquid_tree.specs.Tree.{NodeShape, text_node, chain_node, tag_node, block_node, Nodes, no_nodes, node, Parts}
-use Rattle.liquid_tree.specs.NodesOf.{nodes_of}
-use Rattle.liquid_template.specs.Run.{Action}
-use Rattle.liquid_template.specs.Actions.{done, refuses, writes_value, under, part_at}
-use Rattle.liquid_template.specs.Nodes.{Setting, performed, turns, played, run_node, run_nodes, run_parts}
-use Rattle.liquid_template.specs.Partials.{too_deep, read_as, sought, partials_at}
-use Rattle.liquid_template.specs.Rendering.{nodes_run}
-use Rattle.liquid_template.specs.Sunk.{Sunk}
-use Rattle.liquid_template.specs.Outcome.{Renders}
-use Rattle.liquid_template.specs.PieceOut.{PieceOut}
+use Rattle.liquid_plugins.specs.declared.tree.Node.{Node}
+use Rattle.liquid_plugins.specs.meaning.Nodes.{NodeShape, text_node, chain_node, tag_node, block_node, Nodes, no_nodes, node, Parts}
+use Rattle.liquid_plugins.specs.meaning.NodesOf.{nodes_of}
+use Rattle.liquid_template.specs.meaning.Run.{Action}
+use Rattle.liquid_template.specs.meaning.Actions.{done, refuses, writes_value, under, part_at}
+use Rattle.liquid_template.specs.meaning.Nodes.{Setting, performed, turns, played, run_node, run_nodes, run_parts}
+use Rattle.liquid_template.specs.meaning.Partials.{too_deep, read_as, sought, partials_at}
+use Rattle.liquid_template.specs.meaning.Rendering.{nodes_run}
+use Rattle.liquid_template.specs.meaning.Sunk.{Sunk}
+use Rattle.liquid_template.specs.meaning.Outcome.{Renders}
+use Rattle.liquid_template.specs.steps.PieceOut.{PieceOut}
 use Rattle.liquid_template.proofs.Joins.{renders_done, renders_refused, renders_put}
 use Rattle.liquid_template.proofs.Steps.{turn_refused, turn_ends, turn_more, turn_fails, turns_done, start_goes, list_fails, list_stops, list_goes, list_done}
-use Rattle.liquid_template.specs.PartsOf.{parts_of}
-use Rattle.liquid_template.specs.Sought.{store_answer}
+use Rattle.liquid_template.specs.steps.PartsOf.{parts_of}
+use Rattle.liquid_template.specs.steps.Sought.{store_answer}
 
 abbrev Answer : Type 0
 Answer = Result (Unit {0}) Error
@@ -66,17 +66,17 @@ not_end rust.End h = absurd (h refl)
 
 module _ {Reg F T P B Q : Type 0} (s : Setting Reg F T P B Q) (partials : List ℕ → Action Reg) where
   module _ {N R : Type 0} (m : NodeMeaning N R Reg) (n : N) (parts : List (Action Reg)) where
-    pub turn_refused_at : (j k : ℕ) (p : R) (v v1 : View Reg) (b : Sunk) (e : Error) → j ≡ suc k → IfSome (told e) (λ r. (m.tells n p v).answer ≡ Err r) → OnSome (told e) (v1 ≡ with_written (m.tells n p v).written v) → SameFrames v v1 → Renders (turns s partials m n parts j p v) v b b v1 (Err e)
+    pub turn_refused_at : (j k : ℕ) (p : R) (v v1 : View Reg) (b : Sunk) (e : Error) → j ≡ suc k → IfSome (told e) (λ r. (m.takes n p v).answer ≡ Err r) → OnSome (told e) (v1 ≡ with_written (m.takes n p v).written v) → SameFrames v v1 → Renders (turns s partials m n parts j p v) v b b v1 (Err e)
     turn_refused_at j k p v v1 b e i a h same = subst (λ x. Renders (turns s partials m n parts x p v) v b b v1 (Err e)) (sym i) (turn_refused s partials m n parts k p v v1 b e a h same)
 
-    pub turn_ends_at : (j k : ℕ) (p : R) (v v1 : View Reg) (b : Sunk) (u : Unit {0}) → j ≡ suc k → (m.tells n p v).answer ≡ Ok end_turn → v1 ≡ with_written (m.tells n p v).written v → SameFrames v v1 → Renders (turns s partials m n parts j p v) v b b v1 (Ok u)
+    pub turn_ends_at : (j k : ℕ) (p : R) (v v1 : View Reg) (b : Sunk) (u : Unit {0}) → j ≡ suc k → (m.takes n p v).answer ≡ Ok end_turn → v1 ≡ with_written (m.takes n p v).written v → SameFrames v v1 → Renders (turns s partials m n parts j p v) v b b v1 (Ok u)
     turn_ends_at j k p v v1 b u i a h same = subst (λ x. Renders (turns s partials m n parts x p v) v b b v1 (Ok u)) (sym i) (turn_ends s partials m n parts k p v v1 b u a h same)
 
-    pub turn_more_at : (j k : ℕ) (p q : R) (v v1 v2 w : View Reg) (b c d : Sunk) (a : TurnShape) (u : Unit {0}) (answer : Answer) → j ≡ suc k → a ≢ end_turn → (m.tells n p v).answer ≡ Ok a → v1 ≡ with_written (m.tells n p v).written v → q ≡ (m.tells n p v).progress → SameFrames v v1
+    pub turn_more_at : (j k : ℕ) (p q : R) (v v1 v2 w : View Reg) (b c d : Sunk) (a : TurnShape) (u : Unit {0}) (answer : Answer) → j ≡ suc k → a ≢ end_turn → (m.takes n p v).answer ≡ Ok a → v1 ≡ with_written (m.takes n p v).written v → q ≡ (m.takes n p v).progress → SameFrames v v1
         → Renders (performed s partials parts a v1) v1 b c v2 (Ok u) → Renders (turns s partials m n parts k q v2) v2 c d w answer → Renders (turns s partials m n parts j p v) v b d w answer
     turn_more_at j k p q v v1 v2 w b c d a u answer i more e h l same x y = subst (λ z. Renders (turns s partials m n parts z p v) v b d w answer) (sym i) (turn_more s partials m n parts k p q v v1 v2 w b c d a u answer more e h l same x y)
 
-    pub turn_fails_at : (j k : ℕ) (p q : R) (v v1 w : View Reg) (b c : Sunk) (a : TurnShape) (e : Error) → j ≡ suc k → a ≢ end_turn → (m.tells n p v).answer ≡ Ok a → v1 ≡ with_written (m.tells n p v).written v → q ≡ (m.tells n p v).progress → SameFrames v v1
+    pub turn_fails_at : (j k : ℕ) (p q : R) (v v1 w : View Reg) (b c : Sunk) (a : TurnShape) (e : Error) → j ≡ suc k → a ≢ end_turn → (m.takes n p v).answer ≡ Ok a → v1 ≡ with_written (m.takes n p v).written v → q ≡ (m.takes n p v).progress → SameFrames v v1
         → Renders (performed s partials parts a v1) v1 b c w (Err e) → Renders (turns s partials m n parts j p v) v b c w (Err e)
     turn_fails_at j k p q v v1 w b c a e i more g h l same x = subst (λ z. Renders (turns s partials m n parts z p v) v b c w (Err e)) (sym i) (turn_fails s partials m n parts k p q v v1 w b c a e more g h l same x)
 

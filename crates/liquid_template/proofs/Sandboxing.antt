@@ -1,18 +1,18 @@
 -- A sandboxed frame that is pushed, rendered under and popped.
 use Rattle.std.proofs.Common.{◌≡◌, ℕ, List, ◌∷◌, Option, None, Result, Err, refl, sym, ap, ◌∙◌, subst}
 use Rattle.liquid_error.specs.declared.error.Error.{Error}
-use Rattle.liquid_error.specs.Told.{told}
-use Rattle.liquid_runtime.specs.Maps.{Names}
-use Rattle.liquid_runtime.specs.View.{View}
-use Rattle.liquid_runtime.specs.Frames.{sandboxed_frame, Restore, beginning, restored_by, restore_sandboxed, ending}
-use Rattle.liquid_runtime.specs.OpenFrames.{EndsFirst}
-use Rattle.liquid_plugins.specs.Discreet.{Discreet}
-use Rattle.liquid_tree.specs.Tree.{Nodes}
-use Rattle.liquid_template.specs.Nodes.{Setting}
-use Rattle.liquid_template.specs.Rendering.{template_run, sandboxed_run}
-use Rattle.liquid_template.specs.Sandboxed.{RendersSandboxed, Untouched}
-use Rattle.liquid_template.specs.Sunk.{Sunk}
-use Rattle.liquid_template.specs.Outcome.{Renders}
+use Rattle.liquid_error.specs.meaning.Told.{told}
+use Rattle.liquid_runtime.specs.meaning.Maps.{Names}
+use Rattle.liquid_runtime.specs.meaning.View.{View}
+use Rattle.liquid_runtime.specs.meaning.Frames.{sandboxed_frame, Restore, beginning, restored_by, restore_sandboxed, ending}
+use Rattle.liquid_runtime.specs.meaning.OpenFrames.{EndsFirst}
+use Rattle.liquid_plugins.specs.meaning.Discreet.{Discreet}
+use Rattle.liquid_plugins.specs.meaning.Nodes.{Nodes}
+use Rattle.liquid_template.specs.meaning.Nodes.{Setting}
+use Rattle.liquid_template.specs.meaning.Rendering.{template_run, sandboxed_run}
+use Rattle.liquid_template.specs.meaning.Sandboxed.{RendersSandboxed, Untouched}
+use Rattle.liquid_template.specs.meaning.Sunk.{Sunk}
+use Rattle.liquid_template.specs.meaning.Outcome.{Renders}
 use Rattle.liquid_template.proofs.Framing.{renders_framed, renders_memory, becomes_itself}
 use Rattle.liquid_template.proofs.Isolation.{isolated}
 

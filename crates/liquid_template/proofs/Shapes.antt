@@ -4,16 +4,16 @@ use Rattle.std.specs.declared.alloc.Global.{Global}
 use Rattle.std.specs.declared.vec.Vec.{Vec}
 use Rattle.std.specs.declared.string.String.{String}
 use Rattle.liquid_plugins.specs.declared.expression.FilterChain.{FilterChain}
-use Rattle.liquid_plugins.specs.ExpressionOf.{chain_of}
-use Rattle.liquid_tree.specs.ArrayString.{ArrayString}
-use Rattle.liquid_tree.specs.declared.node.Node.{Node, Text, Brief, Name, Chain, Tag, Block}
-use Rattle.liquid_tree.specs.declared.node.Node.TheOpen as layer
-use Rattle.liquid_tree.specs.declared.node.Node.TheVariants.{rolls-Text, rolls-Brief, rolls-Name, rolls-Chain, rolls-Tag, rolls-Block}
-use Rattle.liquid_tree.specs.declared.node.Node.TheFolds.{fold-roll-Node, fold-Node}
-use Rattle.liquid_tree.specs.Tree.{NodeShape, text_node, chain_node, tag_node, block_node, no_nodes, node, part, nodes_from, parts_from}
-use Rattle.liquid_tree.specs.NodesOf.{name_chain, node_step, node_of, nodes_of}
-use Rattle.liquid_tree.specs.Size.{size_node, size_nodes, size_parts}
-use Rattle.liquid_template.specs.PartsOf.{parts_of}
+use Rattle.liquid_plugins.specs.meaning.ExpressionOf.{chain_of}
+use Rattle.liquid_plugins.specs.ArrayString.{ArrayString}
+use Rattle.liquid_plugins.specs.declared.tree.Node.{Node, Text, Brief, Name, Chain, Tag, Block}
+use Rattle.liquid_plugins.specs.declared.tree.Node.TheOpen as layer
+use Rattle.liquid_plugins.specs.declared.tree.Node.TheVariants.{rolls-Text, rolls-Brief, rolls-Name, rolls-Chain, rolls-Tag, rolls-Block}
+use Rattle.liquid_plugins.specs.declared.tree.Node.TheFolds.{fold-roll-Node, fold-Node}
+use Rattle.liquid_plugins.specs.meaning.Nodes.{NodeShape, text_node, chain_node, tag_node, block_node, no_nodes, node, part, nodes_from, parts_from}
+use Rattle.liquid_plugins.specs.meaning.NodesOf.{name_chain, node_step, node_of, nodes_of}
+use Rattle.liquid_plugins.specs.meaning.Size.{size_node, size_nodes, size_parts}
+use Rattle.liquid_template.specs.steps.PartsOf.{parts_of}
 
 module _ {X N K F T B : Type 0} (f : X → F) (t : N → T) (b : K → B) where
   pub nodes_drop : (ns : List (Node X N K)) (i : ℕ) (n : Node X N K) → i < length ns → n ≡ get_or ns i n → nodes_of f t b (drop i ns) ≡ node (node_of f t b n) (nodes_of f t b (drop (i + 1) ns))

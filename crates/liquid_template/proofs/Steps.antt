@@ -2,21 +2,21 @@
 use Rattle.std.proofs.Common.{◌≡◌, ◌≢◌, ℕ, zero, suc, List, true, false, cond, is_some, Option, Some, None, Result, Ok, Err, refl, sym, ap, subst, ◌∙◌}
 use Rattle.std.specs.Prelude.{IfSome, OnSome}
 use Rattle.liquid_error.specs.declared.error.Error.{Error}
-use Rattle.liquid_error.specs.Refusal.{Refusal}
-use Rattle.liquid_error.specs.Told.{told}
-use Rattle.liquid_value.specs.Tree.{Tree}
-use Rattle.liquid_value.specs.Render.{render}
-use Rattle.liquid_runtime.specs.View.{View}
-use Rattle.liquid_runtime.specs.Written.{with_written, SameFrames}
-use Rattle.liquid_plugins.specs.Chain.{ChainShape, chain_value}
-use Rattle.liquid_plugins.specs.Turns.{TurnShape, text_turn, body_turn, partial_turn, end_turn, NodeMeaning}
-use Rattle.liquid_tree.specs.Tree.{NodeShape, chain_node, Nodes, no_nodes, node}
-use Rattle.liquid_template.specs.Run.{Run, Action}
-use Rattle.liquid_template.specs.Actions.{done, writes_value, and_then, unless_interrupted}
-use Rattle.liquid_template.specs.Nodes.{Setting, performed, answered, turns, started, played, run_node, run_nodes}
-use Rattle.liquid_template.specs.Sunk.{Sunk}
-use Rattle.liquid_template.specs.Outcome.{Renders}
-use Rattle.liquid_template.specs.PieceOut.{PieceOut}
+use Rattle.liquid_error.specs.meaning.Refusal.{Refusal}
+use Rattle.liquid_error.specs.meaning.Told.{told}
+use Rattle.liquid_value.specs.meaning.Tree.{Tree}
+use Rattle.liquid_value.specs.meaning.Render.{render}
+use Rattle.liquid_runtime.specs.meaning.View.{View}
+use Rattle.liquid_runtime.specs.meaning.Written.{with_written, SameFrames}
+use Rattle.liquid_plugins.specs.meaning.Chain.{ChainShape, chain_value}
+use Rattle.liquid_plugins.specs.meaning.Turns.{TurnShape, text_turn, body_turn, partial_turn, end_turn, NodeMeaning}
+use Rattle.liquid_plugins.specs.meaning.Nodes.{NodeShape, chain_node, Nodes, no_nodes, node}
+use Rattle.liquid_template.specs.meaning.Run.{Run, Action}
+use Rattle.liquid_template.specs.meaning.Actions.{done, writes_value, and_then, unless_interrupted}
+use Rattle.liquid_template.specs.meaning.Nodes.{Setting, performed, answered, turns, started, played, run_node, run_nodes}
+use Rattle.liquid_template.specs.meaning.Sunk.{Sunk}
+use Rattle.liquid_template.specs.meaning.Outcome.{Renders}
+use Rattle.liquid_template.specs.steps.PieceOut.{PieceOut}
 use Rattle.liquid_template.proofs.Joins.{same_frames_then, renders_then, renders_first, renders_done, renders_refused, renders_put}
 
 abbrev Answer : Type 0
@@ -39,26 +39,26 @@ module _ {Reg F T P B Q : Type 0} (s : Setting Reg F T P B Q) (partials : List �
     answered_more (partial_turn name frame trace) rest v h = refl
     answered_more end_turn rest v h = absurd (h refl)
 
-    turn_is : (k : ℕ) (p : R) (v v1 : View Reg) (a : Result TurnShape Refusal) → (m.tells n p v).answer ≡ a → v1 ≡ with_written (m.tells n p v).written v → turns s partials m n parts (suc k) p v ≡ answered s partials parts a (turns s partials m n parts k (m.tells n p v).progress) v1
+    turn_is : (k : ℕ) (p : R) (v v1 : View Reg) (a : Result TurnShape Refusal) → (m.takes n p v).answer ≡ a → v1 ≡ with_written (m.takes n p v).written v → turns s partials m n parts (suc k) p v ≡ answered s partials parts a (turns s partials m n parts k (m.takes n p v).progress) v1
     unfolding turns
-    turn_is k p v v1 a e h = ap (λ x. answered s partials parts x (turns s partials m n parts k (m.tells n p v).progress) (with_written (m.tells n p v).written v)) e
-        ∙ ap (answered s partials parts a (turns s partials m n parts k (m.tells n p v).progress)) (sym h)
+    turn_is k p v v1 a e h = ap (λ x. answered s partials parts x (turns s partials m n parts k (m.takes n p v).progress) (with_written (m.takes n p v).written v)) e
+        ∙ ap (answered s partials parts a (turns s partials m n parts k (m.takes n p v).progress)) (sym h)
 
-    pub turn_refused : (k : ℕ) (p : R) (v v1 : View Reg) (b : Sunk) (e : Error) → IfSome (told e) (λ r. (m.tells n p v).answer ≡ Err r) → OnSome (told e) (v1 ≡ with_written (m.tells n p v).written v) → SameFrames v v1 → Renders (turns s partials m n parts (suc k) p v) v b b v1 (Err e)
+    pub turn_refused : (k : ℕ) (p : R) (v v1 : View Reg) (b : Sunk) (e : Error) → IfSome (told e) (λ r. (m.takes n p v).answer ≡ Err r) → OnSome (told e) (v1 ≡ with_written (m.takes n p v).written v) → SameFrames v v1 → Renders (turns s partials m n parts (suc k) p v) v b b v1 (Err e)
     turn_refused k p v v1 b e a h same = renders_refused (turns s partials m n parts (suc k) p v) v v1 b e (if_both (told e) (λ r x y. turn_is k p v v1 (Err r) x y) a h) same
 
-    pub turn_ends : (k : ℕ) (p : R) (v v1 : View Reg) (b : Sunk) (u : Unit {0}) → (m.tells n p v).answer ≡ Ok end_turn → v1 ≡ with_written (m.tells n p v).written v → SameFrames v v1 → Renders (turns s partials m n parts (suc k) p v) v b b v1 (Ok u)
+    pub turn_ends : (k : ℕ) (p : R) (v v1 : View Reg) (b : Sunk) (u : Unit {0}) → (m.takes n p v).answer ≡ Ok end_turn → v1 ≡ with_written (m.takes n p v).written v → SameFrames v v1 → Renders (turns s partials m n parts (suc k) p v) v b b v1 (Ok u)
     turn_ends k p v v1 b u a h same = subst (λ r. Renders r v b b v1 (Ok u)) (sym (turn_is k p v v1 (Ok end_turn) a h)) (renders_from (done v1) v v1 v1 b b (Ok u) same (renders_done v1 b u))
 
-    turn_goes : (k : ℕ) (p q : R) (v v1 : View Reg) (a : TurnShape) → a ≢ end_turn → (m.tells n p v).answer ≡ Ok a → v1 ≡ with_written (m.tells n p v).written v → q ≡ (m.tells n p v).progress → turns s partials m n parts (suc k) p v ≡ and_then (performed s partials parts a v1) (turns s partials m n parts k q)
-    turn_goes k p q v v1 a more e h i = turn_is k p v v1 (Ok a) e h ∙ answered_more a (turns s partials m n parts k (m.tells n p v).progress) v1 more ∙ ap (λ x. and_then (performed s partials parts a v1) (turns s partials m n parts k x)) (sym i)
+    turn_goes : (k : ℕ) (p q : R) (v v1 : View Reg) (a : TurnShape) → a ≢ end_turn → (m.takes n p v).answer ≡ Ok a → v1 ≡ with_written (m.takes n p v).written v → q ≡ (m.takes n p v).progress → turns s partials m n parts (suc k) p v ≡ and_then (performed s partials parts a v1) (turns s partials m n parts k q)
+    turn_goes k p q v v1 a more e h i = turn_is k p v v1 (Ok a) e h ∙ answered_more a (turns s partials m n parts k (m.takes n p v).progress) v1 more ∙ ap (λ x. and_then (performed s partials parts a v1) (turns s partials m n parts k x)) (sym i)
 
-    pub turn_more : (k : ℕ) (p q : R) (v v1 v2 w : View Reg) (b c d : Sunk) (a : TurnShape) (u : Unit {0}) (answer : Answer) → a ≢ end_turn → (m.tells n p v).answer ≡ Ok a → v1 ≡ with_written (m.tells n p v).written v → q ≡ (m.tells n p v).progress → SameFrames v v1
+    pub turn_more : (k : ℕ) (p q : R) (v v1 v2 w : View Reg) (b c d : Sunk) (a : TurnShape) (u : Unit {0}) (answer : Answer) → a ≢ end_turn → (m.takes n p v).answer ≡ Ok a → v1 ≡ with_written (m.takes n p v).written v → q ≡ (m.takes n p v).progress → SameFrames v v1
         → Renders (performed s partials parts a v1) v1 b c v2 (Ok u) → Renders (turns s partials m n parts k q v2) v2 c d w answer → Renders (turns s partials m n parts (suc k) p v) v b d w answer
     turn_more k p q v v1 v2 w b c d a u answer more e h i same x y = subst (λ r. Renders r v b d w answer) (sym (turn_goes k p q v v1 a more e h i))
         (renders_from (and_then (performed s partials parts a v1) (turns s partials m n parts k q)) v v1 w b d answer same (renders_then (performed s partials parts a v1) (turns s partials m n parts k q) v1 v2 w b c d u answer x y))
 
-    pub turn_fails : (k : ℕ) (p q : R) (v v1 w : View Reg) (b c : Sunk) (a : TurnShape) (e : Error) → a ≢ end_turn → (m.tells n p v).answer ≡ Ok a → v1 ≡ with_written (m.tells n p v).written v → q ≡ (m.tells n p v).progress → SameFrames v v1
+    pub turn_fails : (k : ℕ) (p q : R) (v v1 w : View Reg) (b c : Sunk) (a : TurnShape) (e : Error) → a ≢ end_turn → (m.takes n p v).answer ≡ Ok a → v1 ≡ with_written (m.takes n p v).written v → q ≡ (m.takes n p v).progress → SameFrames v v1
         → Renders (performed s partials parts a v1) v1 b c w (Err e) → Renders (turns s partials m n parts (suc k) p v) v b c w (Err e)
     turn_fails k p q v v1 w b c a e more g h i same x = subst (λ r. Renders r v b c w (Err e)) (sym (turn_goes k p q v v1 a more g h i))
         (renders_from (and_then (performed s partials parts a v1) (turns s partials m n parts k q)) v v1 w b c (Err e) same (renders_first (performed s partials parts a v1) (turns s partials m n parts k q) v1 w b c e x))

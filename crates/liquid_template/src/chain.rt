@@ -1,15 +1,14 @@
 //! Writing what a chain comes to.
 ghost use Rattle.std.specs.Prelude.{Ok};
 ghost use Rattle.std.specs.Cow.{cow_str_bytes};
-ghost use Rattle.liquid_error.specs.Told.{Gives};
-ghost use Rattle.liquid_value.specs.View.{view as tree_of};
-ghost use Rattle.liquid_value.specs.Render.{render};
-ghost use Rattle.liquid_plugins.specs.Chain.{chain_value};
-ghost use Rattle.liquid_plugins.specs.ExpressionOf.{chain_of};
-ghost use Rattle.liquid_tree.specs.NodesOf.{name_chain};
-ghost use Rattle.liquid_template.specs.Actions.{writes_value};
-ghost use Rattle.liquid_template.specs.Sunk.{sunk};
-ghost use Rattle.liquid_template.specs.Outcome.{Renders};
+ghost use Rattle.liquid_error.specs.meaning.Told.{Gives};
+ghost use Rattle.liquid_value.specs.meaning.View.{view as tree_of};
+ghost use Rattle.liquid_value.specs.meaning.Render.{render};
+ghost use Rattle.liquid_plugins.specs.meaning.Chain.{chain_value};
+ghost use Rattle.liquid_plugins.specs.meaning.ExpressionOf.{chain_of};
+ghost use Rattle.liquid_plugins.specs.meaning.NodesOf.{name_chain};
+ghost use Rattle.liquid_template.specs.meaning.Actions.{writes_value};
+ghost use Rattle.liquid_template.specs.meaning.Outcome.{Renders};
 
 use crate::piece::write_piece;
 use crate::sink::Sink;
@@ -49,7 +48,8 @@ where
     X: Filter,
     R: Runtime,
     K: Sink,
-    ensures { Renders (writes_value (chain_value (record { answers = X.answers; label = X.shown }) (chain_of X.shape chain.now) (R.view runtime.now)) (R.view runtime.now)) (R.view runtime.now) (sunk (K.taken sink.old) (K.failures sink.old) (K.behind sink.old) (K.lent sink.old)) (sunk (K.taken sink.new) (K.failures sink.new) (K.behind sink.new) (K.lent sink.new)) (R.view runtime.now) result }
+    ensures { Renders (writes_value (chain_value X.means (chain_of X.shape chain.now) (R.view runtime.now)) (R.view runtime.now))
+        (R.view runtime.now) (K.sunk sink.old) (K.sunk sink.new) (R.view runtime.now) result }
 {
     let value = match chain.evaluate(alloc, runtime) {
         Ok(value) => value,
@@ -74,7 +74,8 @@ where
     X: Filter,
     R: Runtime,
     K: Sink,
-    ensures { Renders (writes_value (chain_value (record { answers = X.answers; label = X.shown }) (name_chain name.now) (R.view runtime.now)) (R.view runtime.now)) (R.view runtime.now) (sunk (K.taken sink.old) (K.failures sink.old) (K.behind sink.old) (K.lent sink.old)) (sunk (K.taken sink.new) (K.failures sink.new) (K.behind sink.new) (K.lent sink.new)) (R.view runtime.now) result }
+    ensures { Renders (writes_value (chain_value X.means (name_chain name.now) (R.view runtime.now)) (R.view runtime.now))
+        (R.view runtime.now) (K.sunk sink.old) (K.sunk sink.new) (R.view runtime.now) result }
 {
     match named_value(name, runtime) {
         Some(value) => {

@@ -1,15 +1,14 @@
 //! The renderer's cycle.
 ghost use Rattle.std.specs.Prelude.{◌≡◌, string_bytes, option_map};
-ghost use Rattle.liquid_runtime.specs.Calls.{frame_of};
-ghost use Rattle.liquid_plugins.specs.TurnOf.{turn_of};
-ghost use Rattle.liquid_tree.specs.NodesOf.{node_of, nodes_of};
-ghost use Rattle.liquid_template.specs.Partials.{partials_at};
-ghost use Rattle.liquid_template.specs.Rendering.{nodes_run};
-ghost use Rattle.liquid_template.specs.Sunk.{sunk};
-ghost use Rattle.liquid_template.specs.Outcome.{Renders};
-ghost use Rattle.liquid_template.specs.Runs.{setting, node_run, tag_run, block_run, turn_run, part_run, body_run, partial_run};
-ghost use Rattle.liquid_template.specs.PartsOf.{parts_of};
-ghost use Rattle.liquid_template.specs.Bound.{partials_size};
+ghost use Rattle.liquid_runtime.specs.meaning.Calls.{frame_of};
+ghost use Rattle.liquid_plugins.specs.meaning.TurnOf.{turn_of};
+ghost use Rattle.liquid_plugins.specs.meaning.NodesOf.{node_of, nodes_of};
+ghost use Rattle.liquid_template.specs.meaning.Partials.{partials_at, partials_of};
+ghost use Rattle.liquid_template.specs.meaning.Rendering.{nodes_run};
+ghost use Rattle.liquid_template.specs.meaning.Outcome.{Renders};
+ghost use Rattle.liquid_template.specs.meaning.Runs.{setting, node_run, tag_run, block_run, turn_run, part_run, body_run, partial_run};
+ghost use Rattle.liquid_template.specs.steps.PartsOf.{parts_of};
+ghost use Rattle.liquid_template.specs.steps.Bound.{partials_size};
 
 use crate::chain::{render_chain, render_name};
 use crate::partial::{find, too_deep_error};
@@ -19,9 +18,8 @@ use crate::store::PartialStore;
 use crate::template::Template;
 use crate::trace::with_own_trace;
 use liquid_error::Error;
-use liquid_plugins::{Filter, Renderable, Turn};
+use liquid_plugins::{Filter, Node, Renderable, Turn};
 use liquid_runtime::{Frame, Scopes};
-use liquid_tree::Node;
 use std::alloc::Global;
 use std::rc::Rc;
 
@@ -41,11 +39,15 @@ where
     B: Renderable<S::Register>,
     S::Store: PartialStore<X, T, B>,
     K: Sink,
-    ensures renders { Renders (nodes_run (setting S.Register.fresh X.answers X.shown T.starts T.count T.tells B.starts B.count B.tells (option_map S.Store.finds (S.store scopes.old))) depth (nodes_of X.shape T.shape B.shape nodes.now) (S.view scopes.old)) (S.view scopes.old) (sunk (K.taken sink.old) (K.failures sink.old) (K.behind sink.old) (K.lent sink.old)) (sunk (K.taken sink.new) (K.failures sink.new) (K.behind sink.new) (K.lent sink.new)) (S.view scopes.new) result }
-    ensures kept { S.restores scopes.new ≡ S.restores scopes.old }
-    ensures finds { option_map S.Store.finds (S.store scopes.new) ≡ option_map S.Store.finds (S.store scopes.old) }
-    ensures bound { partials_size (option_map S.Store.finds (S.store scopes.new)) ≡ partials_size (option_map S.Store.finds (S.store scopes.old)) }
-    ensures same { S.lent scopes.new ≡ S.lent scopes.old }
+    ensures renders { Renders (nodes_run
+        (setting S.Register.fresh X.means T.means B.means (partials_of S.Store.finds (S.store scopes.old)))
+        depth (nodes_of X.shape T.shape B.shape nodes.now) (S.view scopes.old))
+        (S.view scopes.old) (K.sunk sink.old) (K.sunk sink.new) (S.view scopes.new) result }
+    ensures owes { S.restores scopes.new ≡ S.restores scopes.old }
+    ensures store { partials_of S.Store.finds (S.store scopes.new) ≡ partials_of S.Store.finds (S.store scopes.old) }
+    ensures bound { partials_size (partials_of S.Store.finds (S.store scopes.new))
+        ≡ partials_size (partials_of S.Store.finds (S.store scopes.old)) }
+    ensures borrows { S.lent scopes.new ≡ S.lent scopes.old }
 {
     for node in nodes {
         match render_node(alloc, node, depth, sink, scopes) {
@@ -74,11 +76,15 @@ where
     B: Renderable<S::Register>,
     S::Store: PartialStore<X, T, B>,
     K: Sink,
-    ensures renders { Renders (node_run (setting S.Register.fresh X.answers X.shown T.starts T.count T.tells B.starts B.count B.tells (option_map S.Store.finds (S.store scopes.old))) depth (node_of X.shape T.shape B.shape node.now) (S.view scopes.old)) (S.view scopes.old) (sunk (K.taken sink.old) (K.failures sink.old) (K.behind sink.old) (K.lent sink.old)) (sunk (K.taken sink.new) (K.failures sink.new) (K.behind sink.new) (K.lent sink.new)) (S.view scopes.new) result }
-    ensures kept { S.restores scopes.new ≡ S.restores scopes.old }
-    ensures finds { option_map S.Store.finds (S.store scopes.new) ≡ option_map S.Store.finds (S.store scopes.old) }
-    ensures bound { partials_size (option_map S.Store.finds (S.store scopes.new)) ≡ partials_size (option_map S.Store.finds (S.store scopes.old)) }
-    ensures same { S.lent scopes.new ≡ S.lent scopes.old }
+    ensures renders { Renders (node_run
+        (setting S.Register.fresh X.means T.means B.means (partials_of S.Store.finds (S.store scopes.old)))
+        depth (node_of X.shape T.shape B.shape node.now) (S.view scopes.old))
+        (S.view scopes.old) (K.sunk sink.old) (K.sunk sink.new) (S.view scopes.new) result }
+    ensures owes { S.restores scopes.new ≡ S.restores scopes.old }
+    ensures store { partials_of S.Store.finds (S.store scopes.new) ≡ partials_of S.Store.finds (S.store scopes.old) }
+    ensures bound { partials_size (partials_of S.Store.finds (S.store scopes.new))
+        ≡ partials_size (partials_of S.Store.finds (S.store scopes.old)) }
+    ensures borrows { S.lent scopes.new ≡ S.lent scopes.old }
 {
     match node {
         Node::Text(text) => write_piece(alloc, sink, text.as_str()),
@@ -105,11 +111,15 @@ where
     B: Renderable<S::Register>,
     S::Store: PartialStore<X, T, B>,
     K: Sink,
-    ensures renders { Renders (tag_run (setting S.Register.fresh X.answers X.shown T.starts T.count T.tells B.starts B.count B.tells (option_map S.Store.finds (S.store scopes.old))) depth (T.shape tag.now) (S.view scopes.old)) (S.view scopes.old) (sunk (K.taken sink.old) (K.failures sink.old) (K.behind sink.old) (K.lent sink.old)) (sunk (K.taken sink.new) (K.failures sink.new) (K.behind sink.new) (K.lent sink.new)) (S.view scopes.new) result }
-    ensures kept { S.restores scopes.new ≡ S.restores scopes.old }
-    ensures finds { option_map S.Store.finds (S.store scopes.new) ≡ option_map S.Store.finds (S.store scopes.old) }
-    ensures bound { partials_size (option_map S.Store.finds (S.store scopes.new)) ≡ partials_size (option_map S.Store.finds (S.store scopes.old)) }
-    ensures same { S.lent scopes.new ≡ S.lent scopes.old }
+    ensures renders { Renders (tag_run
+        (setting S.Register.fresh X.means T.means B.means (partials_of S.Store.finds (S.store scopes.old)))
+        depth (T.shape tag.now) (S.view scopes.old))
+        (S.view scopes.old) (K.sunk sink.old) (K.sunk sink.new) (S.view scopes.new) result }
+    ensures owes { S.restores scopes.new ≡ S.restores scopes.old }
+    ensures store { partials_of S.Store.finds (S.store scopes.new) ≡ partials_of S.Store.finds (S.store scopes.old) }
+    ensures bound { partials_size (partials_of S.Store.finds (S.store scopes.new))
+        ≡ partials_size (partials_of S.Store.finds (S.store scopes.old)) }
+    ensures borrows { S.lent scopes.new ≡ S.lent scopes.old }
 {
     let none = Vec::new(alloc);
     let mut progress = match tag.start(alloc, scopes) {
@@ -148,11 +158,15 @@ where
     B: Renderable<S::Register>,
     S::Store: PartialStore<X, T, B>,
     K: Sink,
-    ensures renders { Renders (block_run (setting S.Register.fresh X.answers X.shown T.starts T.count T.tells B.starts B.count B.tells (option_map S.Store.finds (S.store scopes.old))) depth (B.shape block.now) (parts_of X.shape T.shape B.shape parts.now) (S.view scopes.old)) (S.view scopes.old) (sunk (K.taken sink.old) (K.failures sink.old) (K.behind sink.old) (K.lent sink.old)) (sunk (K.taken sink.new) (K.failures sink.new) (K.behind sink.new) (K.lent sink.new)) (S.view scopes.new) result }
-    ensures kept { S.restores scopes.new ≡ S.restores scopes.old }
-    ensures finds { option_map S.Store.finds (S.store scopes.new) ≡ option_map S.Store.finds (S.store scopes.old) }
-    ensures bound { partials_size (option_map S.Store.finds (S.store scopes.new)) ≡ partials_size (option_map S.Store.finds (S.store scopes.old)) }
-    ensures same { S.lent scopes.new ≡ S.lent scopes.old }
+    ensures renders { Renders (block_run
+        (setting S.Register.fresh X.means T.means B.means (partials_of S.Store.finds (S.store scopes.old)))
+        depth (B.shape block.now) (parts_of X.shape T.shape B.shape parts.now) (S.view scopes.old))
+        (S.view scopes.old) (K.sunk sink.old) (K.sunk sink.new) (S.view scopes.new) result }
+    ensures owes { S.restores scopes.new ≡ S.restores scopes.old }
+    ensures store { partials_of S.Store.finds (S.store scopes.new) ≡ partials_of S.Store.finds (S.store scopes.old) }
+    ensures bound { partials_size (partials_of S.Store.finds (S.store scopes.new))
+        ≡ partials_size (partials_of S.Store.finds (S.store scopes.old)) }
+    ensures borrows { S.lent scopes.new ≡ S.lent scopes.old }
 {
     let mut progress = match block.start(alloc, scopes) {
         Ok(progress) => progress,
@@ -190,11 +204,15 @@ where
     B: Renderable<S::Register>,
     S::Store: PartialStore<X, T, B>,
     K: Sink,
-    ensures renders { Renders (turn_run (setting S.Register.fresh X.answers X.shown T.starts T.count T.tells B.starts B.count B.tells (option_map S.Store.finds (S.store scopes.old))) depth (parts_of X.shape T.shape B.shape parts.now) (turn_of turn) (S.view scopes.old)) (S.view scopes.old) (sunk (K.taken sink.old) (K.failures sink.old) (K.behind sink.old) (K.lent sink.old)) (sunk (K.taken sink.new) (K.failures sink.new) (K.behind sink.new) (K.lent sink.new)) (S.view scopes.new) result }
-    ensures kept { S.restores scopes.new ≡ S.restores scopes.old }
-    ensures finds { option_map S.Store.finds (S.store scopes.new) ≡ option_map S.Store.finds (S.store scopes.old) }
-    ensures bound { partials_size (option_map S.Store.finds (S.store scopes.new)) ≡ partials_size (option_map S.Store.finds (S.store scopes.old)) }
-    ensures same { S.lent scopes.new ≡ S.lent scopes.old }
+    ensures renders { Renders (turn_run
+        (setting S.Register.fresh X.means T.means B.means (partials_of S.Store.finds (S.store scopes.old)))
+        depth (parts_of X.shape T.shape B.shape parts.now) (turn_of turn) (S.view scopes.old))
+        (S.view scopes.old) (K.sunk sink.old) (K.sunk sink.new) (S.view scopes.new) result }
+    ensures owes { S.restores scopes.new ≡ S.restores scopes.old }
+    ensures store { partials_of S.Store.finds (S.store scopes.new) ≡ partials_of S.Store.finds (S.store scopes.old) }
+    ensures bound { partials_size (partials_of S.Store.finds (S.store scopes.new))
+        ≡ partials_size (partials_of S.Store.finds (S.store scopes.old)) }
+    ensures borrows { S.lent scopes.new ≡ S.lent scopes.old }
 {
     match turn {
         Turn::Text(text) => write_piece(alloc, sink, text.as_str()),
@@ -226,11 +244,15 @@ where
     B: Renderable<S::Register>,
     S::Store: PartialStore<X, T, B>,
     K: Sink,
-    ensures renders { Renders (body_run (setting S.Register.fresh X.answers X.shown T.starts T.count T.tells B.starts B.count B.tells (option_map S.Store.finds (S.store scopes.old))) depth (parts_of X.shape T.shape B.shape parts.now) place (frame_of frame) (option_map (λ s. string_bytes s) trace) (S.view scopes.old)) (S.view scopes.old) (sunk (K.taken sink.old) (K.failures sink.old) (K.behind sink.old) (K.lent sink.old)) (sunk (K.taken sink.new) (K.failures sink.new) (K.behind sink.new) (K.lent sink.new)) (S.view scopes.new) result }
-    ensures kept { S.restores scopes.new ≡ S.restores scopes.old }
-    ensures finds { option_map S.Store.finds (S.store scopes.new) ≡ option_map S.Store.finds (S.store scopes.old) }
-    ensures bound { partials_size (option_map S.Store.finds (S.store scopes.new)) ≡ partials_size (option_map S.Store.finds (S.store scopes.old)) }
-    ensures same { S.lent scopes.new ≡ S.lent scopes.old }
+    ensures renders { Renders (body_run
+        (setting S.Register.fresh X.means T.means B.means (partials_of S.Store.finds (S.store scopes.old)))
+        depth (parts_of X.shape T.shape B.shape parts.now) place (frame_of frame) (option_map (λ s. string_bytes s) trace) (S.view scopes.old))
+        (S.view scopes.old) (K.sunk sink.old) (K.sunk sink.new) (S.view scopes.new) result }
+    ensures owes { S.restores scopes.new ≡ S.restores scopes.old }
+    ensures store { partials_of S.Store.finds (S.store scopes.new) ≡ partials_of S.Store.finds (S.store scopes.old) }
+    ensures bound { partials_size (partials_of S.Store.finds (S.store scopes.new))
+        ≡ partials_size (partials_of S.Store.finds (S.store scopes.old)) }
+    ensures borrows { S.lent scopes.new ≡ S.lent scopes.old }
 {
     match scopes.push(frame) {
         Ok(()) => {}
@@ -257,11 +279,15 @@ where
     B: Renderable<S::Register>,
     S::Store: PartialStore<X, T, B>,
     K: Sink,
-    ensures renders { Renders (part_run (setting S.Register.fresh X.answers X.shown T.starts T.count T.tells B.starts B.count B.tells (option_map S.Store.finds (S.store scopes.old))) depth (parts_of X.shape T.shape B.shape parts.now) place (S.view scopes.old)) (S.view scopes.old) (sunk (K.taken sink.old) (K.failures sink.old) (K.behind sink.old) (K.lent sink.old)) (sunk (K.taken sink.new) (K.failures sink.new) (K.behind sink.new) (K.lent sink.new)) (S.view scopes.new) result }
-    ensures kept { S.restores scopes.new ≡ S.restores scopes.old }
-    ensures finds { option_map S.Store.finds (S.store scopes.new) ≡ option_map S.Store.finds (S.store scopes.old) }
-    ensures bound { partials_size (option_map S.Store.finds (S.store scopes.new)) ≡ partials_size (option_map S.Store.finds (S.store scopes.old)) }
-    ensures same { S.lent scopes.new ≡ S.lent scopes.old }
+    ensures renders { Renders (part_run
+        (setting S.Register.fresh X.means T.means B.means (partials_of S.Store.finds (S.store scopes.old)))
+        depth (parts_of X.shape T.shape B.shape parts.now) place (S.view scopes.old))
+        (S.view scopes.old) (K.sunk sink.old) (K.sunk sink.new) (S.view scopes.new) result }
+    ensures owes { S.restores scopes.new ≡ S.restores scopes.old }
+    ensures store { partials_of S.Store.finds (S.store scopes.new) ≡ partials_of S.Store.finds (S.store scopes.old) }
+    ensures bound { partials_size (partials_of S.Store.finds (S.store scopes.new))
+        ≡ partials_size (partials_of S.Store.finds (S.store scopes.old)) }
+    ensures borrows { S.lent scopes.new ≡ S.lent scopes.old }
 {
     match parts.get(place as usize) {
         Some(nodes) => render_list(alloc, nodes, depth, sink, scopes),
@@ -286,11 +312,15 @@ where
     B: Renderable<S::Register>,
     S::Store: PartialStore<X, T, B>,
     K: Sink,
-    ensures renders { Renders (partial_run (setting S.Register.fresh X.answers X.shown T.starts T.count T.tells B.starts B.count B.tells (option_map S.Store.finds (S.store scopes.old))) depth name.now (frame_of frame) (option_map (λ s. string_bytes s) trace) (S.view scopes.old)) (S.view scopes.old) (sunk (K.taken sink.old) (K.failures sink.old) (K.behind sink.old) (K.lent sink.old)) (sunk (K.taken sink.new) (K.failures sink.new) (K.behind sink.new) (K.lent sink.new)) (S.view scopes.new) result }
-    ensures kept { S.restores scopes.new ≡ S.restores scopes.old }
-    ensures finds { option_map S.Store.finds (S.store scopes.new) ≡ option_map S.Store.finds (S.store scopes.old) }
-    ensures bound { partials_size (option_map S.Store.finds (S.store scopes.new)) ≡ partials_size (option_map S.Store.finds (S.store scopes.old)) }
-    ensures same { S.lent scopes.new ≡ S.lent scopes.old }
+    ensures renders { Renders (partial_run
+        (setting S.Register.fresh X.means T.means B.means (partials_of S.Store.finds (S.store scopes.old)))
+        depth name.now (frame_of frame) (option_map (λ s. string_bytes s) trace) (S.view scopes.old))
+        (S.view scopes.old) (K.sunk sink.old) (K.sunk sink.new) (S.view scopes.new) result }
+    ensures owes { S.restores scopes.new ≡ S.restores scopes.old }
+    ensures store { partials_of S.Store.finds (S.store scopes.new) ≡ partials_of S.Store.finds (S.store scopes.old) }
+    ensures bound { partials_size (partials_of S.Store.finds (S.store scopes.new))
+        ≡ partials_size (partials_of S.Store.finds (S.store scopes.old)) }
+    ensures borrows { S.lent scopes.new ≡ S.lent scopes.old }
 {
     match scopes.push(frame) {
         Ok(()) => {}
@@ -316,11 +346,15 @@ where
     B: Renderable<S::Register>,
     S::Store: PartialStore<X, T, B>,
     K: Sink,
-    ensures renders { Renders (partials_at (setting S.Register.fresh X.answers X.shown T.starts T.count T.tells B.starts B.count B.tells (option_map S.Store.finds (S.store scopes.old))) depth name.now (S.view scopes.old)) (S.view scopes.old) (sunk (K.taken sink.old) (K.failures sink.old) (K.behind sink.old) (K.lent sink.old)) (sunk (K.taken sink.new) (K.failures sink.new) (K.behind sink.new) (K.lent sink.new)) (S.view scopes.new) result }
-    ensures kept { S.restores scopes.new ≡ S.restores scopes.old }
-    ensures finds { option_map S.Store.finds (S.store scopes.new) ≡ option_map S.Store.finds (S.store scopes.old) }
-    ensures bound { partials_size (option_map S.Store.finds (S.store scopes.new)) ≡ partials_size (option_map S.Store.finds (S.store scopes.old)) }
-    ensures same { S.lent scopes.new ≡ S.lent scopes.old }
+    ensures renders { Renders (partials_at
+        (setting S.Register.fresh X.means T.means B.means (partials_of S.Store.finds (S.store scopes.old)))
+        depth name.now (S.view scopes.old))
+        (S.view scopes.old) (K.sunk sink.old) (K.sunk sink.new) (S.view scopes.new) result }
+    ensures owes { S.restores scopes.new ≡ S.restores scopes.old }
+    ensures store { partials_of S.Store.finds (S.store scopes.new) ≡ partials_of S.Store.finds (S.store scopes.old) }
+    ensures bound { partials_size (partials_of S.Store.finds (S.store scopes.new))
+        ≡ partials_size (partials_of S.Store.finds (S.store scopes.old)) }
+    ensures borrows { S.lent scopes.new ≡ S.lent scopes.old }
 {
     if depth == 0 {
         return Err(too_deep_error(alloc));

@@ -1,8 +1,8 @@
 //! Laws of sandboxed runs, each as the contract of a function. `V` is the type of the register, `F`,
 //! `T` and `B` are what filters, tags and blocks are seen as, `P` and `Q` the progress of tags and of
 //! blocks.
-ghost use Rattle.liquid_template.specs.Isolation.{Isolated, OutsidesAgree};
-ghost use Rattle.liquid_template.specs.Nodes.{Setting};
+ghost use Rattle.liquid_template.specs.laws.Isolation.{Isolated, OutsidesAgree};
+ghost use Rattle.liquid_template.specs.meaning.Nodes.{Setting};
 
 use liquid_runtime::Fresh;
 

@@ -1,11 +1,11 @@
 //! Finding a partial.
 ghost use Rattle.std.specs.Prelude.{◌≡◌, ◌≤◌, IfOk, IfSome, option_map};
-ghost use Rattle.liquid_error.specs.Told.{told, Gives};
-ghost use Rattle.liquid_tree.specs.Size.{size_nodes};
-ghost use Rattle.liquid_template.specs.Bound.{partials_size};
-ghost use Rattle.liquid_template.specs.Partials.{too_deep, no_store, partial_in};
-ghost use Rattle.liquid_template.specs.Sought.{store_answer};
-ghost use Rattle.liquid_template.specs.TemplateOf.{template_nodes};
+ghost use Rattle.liquid_error.specs.meaning.Told.{told, Gives};
+ghost use Rattle.liquid_plugins.specs.meaning.Size.{size_nodes};
+ghost use Rattle.liquid_template.specs.steps.Bound.{partials_size};
+ghost use Rattle.liquid_template.specs.meaning.Partials.{too_deep, no_store, partial_in, partials_of};
+ghost use Rattle.liquid_template.specs.steps.Sought.{store_answer};
+ghost use Rattle.liquid_template.specs.meaning.TemplateOf.{template_nodes};
 
 use crate::store::PartialStore;
 use crate::template::Template;
@@ -43,12 +43,15 @@ where
     B: Meant + Drop,
     S: Scopes,
     S::Store: PartialStore<X, T, B>,
-    ensures gives { Gives (λ template. template_nodes X.shape T.shape B.shape template.value) result (store_answer (option_map partial_in (option_map S.Store.finds (S.store scopes.old))) name.now) }
-    ensures small { IfOk result (λ template. size_nodes (template_nodes X.shape T.shape B.shape template.value) ≤ partials_size (option_map S.Store.finds (S.store scopes.old))) }
+    ensures gives { Gives (λ template. template_nodes X.shape T.shape B.shape template.value) result
+        (store_answer (option_map partial_in (partials_of S.Store.finds (S.store scopes.old))) name.now) }
+    ensures small { IfOk result (λ template. size_nodes (template_nodes X.shape T.shape B.shape template.value)
+        ≤ partials_size (partials_of S.Store.finds (S.store scopes.old))) }
     ensures view { S.view scopes.new ≡ S.view scopes.old }
-    ensures kept { S.restores scopes.new ≡ S.restores scopes.old }
-    ensures stays { (option_map S.Store.finds (S.store scopes.new) ≡ option_map S.Store.finds (S.store scopes.old)) × (partials_size (option_map S.Store.finds (S.store scopes.new)) ≡ partials_size (option_map S.Store.finds (S.store scopes.old))) }
-    ensures same { S.lent scopes.new ≡ S.lent scopes.old }
+    ensures owes { S.restores scopes.new ≡ S.restores scopes.old }
+    ensures store { partials_of S.Store.finds (S.store scopes.new) ≡ partials_of S.Store.finds (S.store scopes.old) }
+    ensures bound { partials_size (partials_of S.Store.finds (S.store scopes.new)) ≡ partials_size (partials_of S.Store.finds (S.store scopes.old)) }
+    ensures borrows { S.lent scopes.new ≡ S.lent scopes.old }
 {
     match scopes.partials() {
         Some(store) => store.get(alloc, name),

@@ -1,7 +1,6 @@
 //! Writing one piece to a sink.
 ghost use Rattle.std.specs.Prelude.{◌≡◌};
-ghost use Rattle.liquid_template.specs.Sunk.{sunk};
-ghost use Rattle.liquid_template.specs.PieceOut.{PieceOut};
+ghost use Rattle.liquid_template.specs.steps.PieceOut.{PieceOut};
 
 use crate::sink::{Sink, SinkFault};
 use liquid_error::Error;
@@ -11,9 +10,7 @@ use std::alloc::Global;
 /// refused as "Failed to render".
 #[inline(never)]
 pub(crate) fn write_piece<K: Sink>(alloc: Global, sink: &mut K, piece: &str) -> Result<(), Error>
-    ensures { PieceOut piece.now
-        (sunk (K.taken sink.old) (K.failures sink.old) (K.behind sink.old) (K.lent sink.old))
-        (sunk (K.taken sink.new) (K.failures sink.new) (K.behind sink.new) (K.lent sink.new)) result }
+    ensures { PieceOut piece.now (K.sunk sink.old) (K.sunk sink.new) result }
 {
     let mut rest = piece.as_bytes();
     while !rest.is_empty() {

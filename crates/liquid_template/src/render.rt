@@ -1,13 +1,13 @@
 //! Rendering templates.
-ghost use Rattle.std.specs.Prelude.{◌≡◌, OnOk, option_map, string_bytes};
-ghost use Rattle.liquid_error.specs.Told.{Gives};
-ghost use Rattle.liquid_runtime.specs.Written.{SameFrames};
-ghost use Rattle.liquid_template.specs.Outcome.{Left, Renders};
-ghost use Rattle.liquid_template.specs.Rendering.{template_run};
-ghost use Rattle.liquid_template.specs.Run.{whole_text};
-ghost use Rattle.liquid_template.specs.Runs.{setting};
-ghost use Rattle.liquid_template.specs.Sunk.{sunk};
-ghost use Rattle.liquid_template.specs.TemplateOf.{template_nodes};
+ghost use Rattle.std.specs.Prelude.{◌≡◌, string_bytes};
+ghost use Rattle.liquid_error.specs.meaning.Told.{Gives};
+ghost use Rattle.liquid_runtime.specs.meaning.Written.{SameFrames};
+ghost use Rattle.liquid_template.specs.meaning.Outcome.{Left, Renders};
+ghost use Rattle.liquid_template.specs.meaning.Partials.{partials_of};
+ghost use Rattle.liquid_template.specs.meaning.Rendering.{template_run};
+ghost use Rattle.liquid_template.specs.meaning.Run.{whole_text};
+ghost use Rattle.liquid_template.specs.meaning.Runs.{setting};
+ghost use Rattle.liquid_template.specs.meaning.TemplateOf.{template_nodes};
 
 use crate::cycle::render_list;
 use crate::sink::Sink;
@@ -35,15 +35,13 @@ impl<X: Filter, T, B> Template<X, T, B> {
         S::Store: PartialStore<X, T, B>,
         K: Sink,
         ensures renders { Renders (template_run
-            (setting S.Register.fresh X.answers X.shown T.starts T.count T.tells B.starts B.count B.tells (option_map S.Store.finds (S.store scopes.old)))
+            (setting S.Register.fresh X.means T.means B.means (partials_of S.Store.finds (S.store scopes.old)))
             (template_nodes X.shape T.shape B.shape self.now) (S.view scopes.old))
             (S.view scopes.old)
-            (sunk (K.taken sink.old) (K.failures sink.old) (K.behind sink.old) (K.lent sink.old))
-            (sunk (K.taken sink.new) (K.failures sink.new) (K.behind sink.new) (K.lent sink.new))
-            (S.view scopes.new) result }
-        ensures kept { S.restores scopes.new ≡ S.restores scopes.old }
-        ensures finds { option_map S.Store.finds (S.store scopes.new) ≡ option_map S.Store.finds (S.store scopes.old) }
-        ensures same { S.lent scopes.new ≡ S.lent scopes.old }
+            (K.sunk sink.old) (K.sunk sink.new) (S.view scopes.new) result }
+        ensures owes { S.restores scopes.new ≡ S.restores scopes.old }
+        ensures store { partials_of S.Store.finds (S.store scopes.new) ≡ partials_of S.Store.finds (S.store scopes.old) }
+        ensures borrows { S.lent scopes.new ≡ S.lent scopes.old }
     {
         let depth = scopes.depth();
         render_list(alloc, self.nodes(), depth, sink, scopes)
@@ -59,15 +57,13 @@ impl<X: Filter, T, B> Template<X, T, B> {
         R::Store: PartialStore<X, T, B>,
         K: Sink,
         ensures renders { Renders (template_run
-            (setting R.Register.fresh X.answers X.shown T.starts T.count T.tells B.starts B.count B.tells (option_map R.Store.finds (R.store runtime.old)))
+            (setting R.Register.fresh X.means T.means B.means (partials_of R.Store.finds (R.store runtime.old)))
             (template_nodes X.shape T.shape B.shape self.now) (R.view runtime.old))
             (R.view runtime.old)
-            (sunk (K.taken sink.old) (K.failures sink.old) (K.behind sink.old) (K.lent sink.old))
-            (sunk (K.taken sink.new) (K.failures sink.new) (K.behind sink.new) (K.lent sink.new))
-            (R.view runtime.new) result }
-        ensures kept { R.restores runtime.new ≡ R.restores runtime.old }
-        ensures finds { option_map R.Store.finds (R.store runtime.new) ≡ option_map R.Store.finds (R.store runtime.old) }
-        ensures same { R.lent runtime.new ≡ R.lent runtime.old }
+            (K.sunk sink.old) (K.sunk sink.new) (R.view runtime.new) result }
+        ensures owes { R.restores runtime.new ≡ R.restores runtime.old }
+        ensures store { partials_of R.Store.finds (R.store runtime.new) ≡ partials_of R.Store.finds (R.store runtime.old) }
+        ensures borrows { R.lent runtime.new ≡ R.lent runtime.old }
     {
         let mut scopes: FlatScopes<&mut R> = FlatScopes::new(alloc, runtime);
         let answer = self.render_in(alloc, sink, &mut scopes);
@@ -83,16 +79,16 @@ impl<X: Filter, T, B> Template<X, T, B> {
         B: Renderable<R::Register>,
         R::Store: PartialStore<X, T, B>,
         ensures value { Gives string_bytes result (whole_text (template_run
-            (setting R.Register.fresh X.answers X.shown T.starts T.count T.tells B.starts B.count B.tells (option_map R.Store.finds (R.store runtime.old)))
+            (setting R.Register.fresh X.means T.means B.means (partials_of R.Store.finds (R.store runtime.old)))
             (template_nodes X.shape T.shape B.shape self.now) (R.view runtime.old))) }
         ensures left { Left (template_run
-            (setting R.Register.fresh X.answers X.shown T.starts T.count T.tells B.starts B.count B.tells (option_map R.Store.finds (R.store runtime.old)))
+            (setting R.Register.fresh X.means T.means B.means (partials_of R.Store.finds (R.store runtime.old)))
             (template_nodes X.shape T.shape B.shape self.now) (R.view runtime.old))
             (R.view runtime.new) result }
         ensures frames { SameFrames (R.view runtime.old) (R.view runtime.new) }
-        ensures kept { R.restores runtime.new ≡ R.restores runtime.old }
-        ensures finds { option_map R.Store.finds (R.store runtime.new) ≡ option_map R.Store.finds (R.store runtime.old) }
-        ensures same { R.lent runtime.new ≡ R.lent runtime.old }
+        ensures owes { R.restores runtime.new ≡ R.restores runtime.old }
+        ensures store { partials_of R.Store.finds (R.store runtime.new) ≡ partials_of R.Store.finds (R.store runtime.old) }
+        ensures borrows { R.lent runtime.new ≡ R.lent runtime.old }
     {
         let mut sink = TextSink::new(alloc);
         match self.render_to(alloc, &mut sink, runtime) {

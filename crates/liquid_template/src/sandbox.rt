@@ -1,11 +1,11 @@
 //! Rendering templates in a sandbox.
 ghost use Rattle.std.specs.Prelude.{◌≡◌, IfOk, option_map, string_bytes};
-ghost use Rattle.liquid_runtime.specs.Maps.{names_of};
-ghost use Rattle.liquid_template.specs.Rendering.{sandboxed_run};
-ghost use Rattle.liquid_template.specs.Runs.{setting};
-ghost use Rattle.liquid_template.specs.Sandboxed.{RendersSandboxed, Untouched};
-ghost use Rattle.liquid_template.specs.Sunk.{sunk};
-ghost use Rattle.liquid_template.specs.TemplateOf.{template_nodes};
+ghost use Rattle.liquid_runtime.specs.meaning.Maps.{names_of};
+ghost use Rattle.liquid_template.specs.meaning.Partials.{partials_of};
+ghost use Rattle.liquid_template.specs.meaning.Rendering.{sandboxed_run};
+ghost use Rattle.liquid_template.specs.meaning.Runs.{setting};
+ghost use Rattle.liquid_template.specs.meaning.Sandboxed.{RendersSandboxed, Untouched};
+ghost use Rattle.liquid_template.specs.meaning.TemplateOf.{template_nodes};
 
 use crate::sink::Sink;
 use crate::store::PartialStore;
@@ -42,16 +42,14 @@ impl<X: Filter, T, B> Template<X, T, B> {
         K: Sink,
         ensures sandboxed { RendersSandboxed S.Register.fresh
             (sandboxed_run
-            (setting S.Register.fresh X.answers X.shown T.starts T.count T.tells B.starts B.count B.tells (option_map S.Store.finds (S.store scopes.old)))
+            (setting S.Register.fresh X.means T.means B.means (partials_of S.Store.finds (S.store scopes.old)))
             (names_of «data») (option_map (λ r. r.now) name.entry) (template_nodes X.shape T.shape B.shape self.now))
             (S.view scopes.old)
-            (sunk (K.taken sink.old) (K.failures sink.old) (K.behind sink.old) (K.lent sink.old))
-            (sunk (K.taken sink.new) (K.failures sink.new) (K.behind sink.new) (K.lent sink.new))
-            (S.view scopes.new) result }
+            (K.sunk sink.old) (K.sunk sink.new) (S.view scopes.new) result }
         ensures untouched { Untouched (S.view scopes.old) (S.view scopes.new) }
-        ensures kept { S.restores scopes.new ≡ S.restores scopes.old }
-        ensures finds { option_map S.Store.finds (S.store scopes.new) ≡ option_map S.Store.finds (S.store scopes.old) }
-        ensures same { S.lent scopes.new ≡ S.lent scopes.old }
+        ensures owes { S.restores scopes.new ≡ S.restores scopes.old }
+        ensures store { partials_of S.Store.finds (S.store scopes.new) ≡ partials_of S.Store.finds (S.store scopes.old) }
+        ensures borrows { S.lent scopes.new ≡ S.lent scopes.old }
     {
         let name = match name_text(alloc, name) {
             Ok(name) => name,
@@ -84,16 +82,14 @@ impl<X: Filter, T, B> Template<X, T, B> {
         K: Sink,
         ensures sandboxed { RendersSandboxed R.Register.fresh
             (sandboxed_run
-            (setting R.Register.fresh X.answers X.shown T.starts T.count T.tells B.starts B.count B.tells (option_map R.Store.finds (R.store parent.old)))
+            (setting R.Register.fresh X.means T.means B.means (partials_of R.Store.finds (R.store parent.old)))
             (names_of «data») (option_map (λ r. r.now) name.entry) (template_nodes X.shape T.shape B.shape self.now))
             (R.view parent.old)
-            (sunk (K.taken sink.old) (K.failures sink.old) (K.behind sink.old) (K.lent sink.old))
-            (sunk (K.taken sink.new) (K.failures sink.new) (K.behind sink.new) (K.lent sink.new))
-            (R.view parent.new) result }
+            (K.sunk sink.old) (K.sunk sink.new) (R.view parent.new) result }
         ensures untouched { Untouched (R.view parent.old) (R.view parent.new) }
-        ensures kept { R.restores parent.new ≡ R.restores parent.old }
-        ensures finds { option_map R.Store.finds (R.store parent.new) ≡ option_map R.Store.finds (R.store parent.old) }
-        ensures same { R.lent parent.new ≡ R.lent parent.old }
+        ensures owes { R.restores parent.new ≡ R.restores parent.old }
+        ensures store { partials_of R.Store.finds (R.store parent.new) ≡ partials_of R.Store.finds (R.store parent.old) }
+        ensures borrows { R.lent parent.new ≡ R.lent parent.old }
     {
         let mut scopes: FlatScopes<&mut R> = FlatScopes::new(alloc, parent);
         let answer = self.render_sandboxed_in(alloc, sink, &mut scopes, data, name);

@@ -1,8 +1,9 @@
 //! Where rendered bytes go.
-ghost use Rattle.std.specs.Prelude.{◌≡◌, ℕ, ◌+◌, ◌<◌, ◌≤◌, List, [], ◌∷◌, ◌++◌, length, Option, None, Some, IfOk};
+ghost use Rattle.std.specs.Prelude.{◌≡◌, ◌+◌, ◌<◌, ◌≤◌, ◌++◌, length, Some, IfOk};
 ghost use Rattle.std.specs.Io.KnownBytes.{Appends};
-ghost use Rattle.liquid_template.specs.FaultText.{fault_text};
-ghost use Rattle.liquid_template.specs.Put.{taken_part, failure_count};
+ghost use Rattle.liquid_template.specs.meaning.FaultText.{fault_text};
+ghost use Rattle.liquid_template.specs.meaning.Put.{taken_part, failure_count};
+ghost use Rattle.liquid_template.specs.meaning.Sunk.{Sunk, borrowed};
 
 use std::{error, fmt};
 
@@ -30,17 +31,9 @@ impl error::Error for SinkFault {}
 
 /// A place that bytes are written to. It means the bytes taken so far and how often a put failed.
 pub trait Sink {
-    // every byte taken so far
-    ghost taken: { Self → List ℕ };
-
-    // how many puts were answered by `SinkFault::Failed`
-    ghost failures: { Self → ℕ };
-
-    // the bytes that lie behind the sink, where they are known
-    ghost behind: { Self → Option (List ℕ) } = { λ _. None };
-
-    // the ghost names of what the sink borrows
-    ghost lent: { Self → List ℕ } = { λ _. [] };
+    // what it is: every byte taken so far, how many puts were answered by `SinkFault::Failed`, the
+    // bytes that lie behind it, and what it borrows
+    ghost sunk: { Self → Sunk };
 
     /// Takes the first bytes of a piece, at least one, and answers how many; or takes nothing and
     /// answers why.
@@ -48,20 +41,14 @@ pub trait Sink {
         requires { 0 < length piece.now }
         ensures some { IfOk result (λ count. 0 < count) }
         ensures bound { IfOk result (λ count. count ≤ length piece.now) }
-        ensures bytes { taken self.new ≡ taken self.old ++ taken_part result piece.now }
-        ensures count { failures self.new ≡ failures self.old + failure_count result }
-        ensures behind { Appends (behind self.old) (behind self.new) (taken_part result piece.now) }
-        ensures lent { lent self.new ≡ lent self.old };
+        ensures bytes { (sunk self.new).taken ≡ (sunk self.old).taken ++ taken_part result piece.now }
+        ensures count { (sunk self.new).failures ≡ (sunk self.old).failures + failure_count result }
+        ensures behind { Appends (sunk self.old).behind (sunk self.new).behind (taken_part result piece.now) }
+        ensures borrows { (sunk self.new).lent ≡ (sunk self.old).lent };
 }
 
 impl<K: Sink> Sink for &mut K {
-    ghost taken = { λ sink. K.taken sink.now };
-
-    ghost failures = { λ sink. K.failures sink.now };
-
-    ghost behind = { λ sink. K.behind sink.now };
-
-    ghost lent = { λ sink. sink.ghost_name ∷ K.lent sink.now };
+    ghost sunk = { λ sink. borrowed sink.ghost_name (K.sunk sink.now) };
 
     fn put(&mut self, piece: &[u8]) -> Result<usize, SinkFault> {
         Sink::put(&mut **self, piece)

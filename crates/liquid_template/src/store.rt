@@ -1,9 +1,9 @@
 //! Stores of partials.
 ghost use Rattle.std.specs.Prelude.{◌≡◌, is_some, map, option_map, IfOk, IfSome};
 ghost use Rattle.std.specs.FinMap.{empty, get, keys};
-ghost use Rattle.liquid_error.specs.Told.{told, Gives};
-ghost use Rattle.liquid_template.specs.Partials.{Found, partial_in, tree_in, unknown_partial};
-ghost use Rattle.liquid_template.specs.TemplateOf.{template_nodes};
+ghost use Rattle.liquid_error.specs.meaning.Told.{told, Gives};
+ghost use Rattle.liquid_template.specs.meaning.Partials.{Found, partial_in, tree_in, unknown_partial};
+ghost use Rattle.liquid_template.specs.meaning.TemplateOf.{template_nodes};
 
 use crate::template::Template;
 use liquid_error::Error;

@@ -1,8 +1,8 @@
 //! Templates.
 ghost use Rattle.std.specs.Prelude.{◌≡◌};
-ghost use Rattle.liquid_template.specs.TemplateOf.{own_nodes};
+ghost use Rattle.liquid_template.specs.meaning.TemplateOf.{own_nodes};
 
-use liquid_tree::Node;
+use liquid_plugins::Node;
 
 /// A parsed template.
 #[derive(Drop)]

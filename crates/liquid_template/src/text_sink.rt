@@ -1,6 +1,7 @@
 //! A sink over memory.
 ghost use Rattle.std.specs.Prelude.{◌≡◌, [], IfOk, IsOk, string_bytes};
 ghost use Rattle.std.specs.Prelude.{IsUtf8};
+ghost use Rattle.liquid_template.specs.meaning.Sunk.{alone};
 
 use crate::sink::{Sink, SinkFault};
 use std::alloc::Global;
@@ -15,7 +16,7 @@ pub struct TextSink {
 impl TextSink {
     /// An empty sink, which takes no memory yet.
     pub fn new(alloc: Global) -> TextSink
-        ensures { ⟦<TextSink as Sink>⟧.taken result ≡ [] }
+        ensures { (⟦<TextSink as Sink>⟧.sunk result).taken ≡ [] }
     {
         TextSink {
             bytes: Vec::new(alloc),
@@ -24,24 +25,22 @@ impl TextSink {
 
     /// The bytes taken so far.
     pub fn as_bytes(&self) -> &[u8]
-        ensures { result.now ≡ ⟦<TextSink as Sink>⟧.taken self.now }
+        ensures { result.now ≡ (⟦<TextSink as Sink>⟧.sunk self.now).taken }
     {
         self.bytes.as_slice()
     }
 
     /// The bytes taken as a text, refused where they are no UTF-8.
     pub fn into_string(self) -> Result<String, FromUtf8Error>
-        ensures value { IfOk result (λ text. string_bytes text ≡ ⟦<TextSink as Sink>⟧.taken self) }
-        ensures succeeds { IsUtf8 (⟦<TextSink as Sink>⟧.taken self) → IsOk result }
+        ensures value { IfOk result (λ text. string_bytes text ≡ (⟦<TextSink as Sink>⟧.sunk self).taken) }
+        ensures succeeds { IsUtf8 (⟦<TextSink as Sink>⟧.sunk self).taken → IsOk result }
     {
         String::from_utf8(self.bytes)
     }
 }
 
 impl Sink for TextSink {
-    ghost taken = { λ sink. sink.bytes.items };
-
-    ghost failures = { λ _. 0 };
+    ghost sunk = { λ sink. alone sink.bytes.items 0 };
 
     fn put(&mut self, piece: &[u8]) -> Result<usize, SinkFault> {
         match self.bytes.extend_from_slice(piece) {

@@ -1,7 +1,7 @@
 //! The trace of a node on an error out of it.
 ghost use Rattle.std.specs.Prelude.{option_map, string_bytes};
-ghost use Rattle.liquid_error.specs.Helpers.{ErrBecomes};
-ghost use Rattle.liquid_template.specs.Actions.{refused_through};
+ghost use Rattle.liquid_error.specs.meaning.Helpers.{ErrBecomes};
+ghost use Rattle.liquid_template.specs.meaning.Actions.{refused_through};
 
 use liquid_error::Error;
 use std::alloc::Global;

@@ -1,7 +1,8 @@
 //! A sink over any writer.
 ghost use Rattle.std.specs.Prelude.{◌≡◌, ◌+◌, ◌<◌, ◌≤◌, [], ◌∷◌, ◌++◌, length, IfOk, IfErr};
 ghost use Rattle.std.specs.Io.KnownBytes.{Appends};
-ghost use Rattle.liquid_template.specs.Put.{taken_part, failure_count};
+ghost use Rattle.liquid_template.specs.meaning.Put.{taken_part, failure_count};
+ghost use Rattle.liquid_template.specs.meaning.Sunk.{sunk as sunk_of};
 
 use crate::history::History;
 use crate::sink::{Sink, SinkFault};
@@ -20,10 +21,10 @@ pub struct WriterSink<'w, W: Write> {
 impl<'w, W: Write> WriterSink<'w, W> {
     /// A sink that has taken nothing yet. What lies behind it is what the writer tells.
     pub fn new(writer: &'w mut W) -> WriterSink<'w, W>
-        ensures taken { ⟦<WriterSink<'w, W> as Sink>⟧.taken result ≡ [] }
-        ensures failures { ⟦<WriterSink<'w, W> as Sink>⟧.failures result ≡ 0 }
-        ensures behind { ⟦<WriterSink<'w, W> as Sink>⟧.behind result ≡ W.contents writer.entry.now }
-        ensures lent { ⟦<WriterSink<'w, W> as Sink>⟧.lent result ≡ writer.entry.ghost_name ∷ [] }
+        ensures taken { (⟦<WriterSink<'w, W> as Sink>⟧.sunk result).taken ≡ [] }
+        ensures failures { (⟦<WriterSink<'w, W> as Sink>⟧.sunk result).failures ≡ 0 }
+        ensures behind { (⟦<WriterSink<'w, W> as Sink>⟧.sunk result).behind ≡ W.contents writer.entry.now }
+        ensures borrows { (⟦<WriterSink<'w, W> as Sink>⟧.sunk result).lent ≡ writer.entry.ghost_name ∷ [] }
     {
         WriterSink {
             writer,
@@ -33,8 +34,8 @@ impl<'w, W: Write> WriterSink<'w, W> {
 
     /// The writer, with what lies behind the sink.
     pub fn into_inner(self) -> &'w mut W
-        ensures behind { W.contents result.now ≡ ⟦<WriterSink<'w, W> as Sink>⟧.behind self.entry }
-        ensures lent { result.ghost_name ∷ [] ≡ ⟦<WriterSink<'w, W> as Sink>⟧.lent self.entry }
+        ensures behind { W.contents result.now ≡ (⟦<WriterSink<'w, W> as Sink>⟧.sunk self.entry).behind }
+        ensures borrows { result.ghost_name ∷ [] ≡ (⟦<WriterSink<'w, W> as Sink>⟧.sunk self.entry).lent }
     {
         let WriterSink { writer, history } = self;
         drop(history);
@@ -43,13 +44,8 @@ impl<'w, W: Write> WriterSink<'w, W> {
 }
 
 impl<'w, W: Write> Sink for WriterSink<'w, W> {
-    ghost taken = { λ sink. sink.history.taken };
-
-    ghost failures = { λ sink. sink.history.failures };
-
-    ghost behind = { λ sink. W.contents sink.writer.now };
-
-    ghost lent = { λ sink. sink.writer.ghost_name ∷ [] };
+    ghost sunk = { λ sink. sunk_of sink.history.taken sink.history.failures (W.contents sink.writer.now)
+        (sink.writer.ghost_name ∷ []) };
 
     /// Takes no memory, and so the one fault is `SinkFault::Failed`.
     fn put(&mut self, piece: &[u8]) -> Result<usize, SinkFault>
@@ -59,7 +55,7 @@ impl<'w, W: Write> Sink for WriterSink<'w, W> {
         ensures count { self.new.history.failures ≡ self.old.history.failures + failure_count result }
         ensures behind { Appends (W.contents self.old.writer.now) (W.contents self.new.writer.now)
             (taken_part result piece.now) }
-        ensures lent { self.new.writer.ghost_name ∷ [] ≡ self.old.writer.ghost_name ∷ [] }
+        ensures borrows { self.new.writer.ghost_name ∷ [] ≡ self.old.writer.ghost_name ∷ [] }
         ensures fault { IfErr result (λ fault. fault ≡ SinkFault.Failed) }
     {
         match self.writer.write(piece) {

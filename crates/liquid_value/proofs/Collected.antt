@@ -15,8 +15,8 @@ use Rattle.std.specs.Ordering.{eq_by_cmp, is_eq, ordering_reverse}
 use Rattle.std.specs.Prelude.{unwrap_or}
 use Rattle.std.specs.String.{string_cmp_total}
 use Rattle.liquid_value.proofs.Entries.{Entry}
-use Rattle.liquid_value.specs.Tree.{member}
-use Rattle.liquid_value.specs.View.{view, members_view}
+use Rattle.liquid_value.specs.meaning.Tree.{member}
+use Rattle.liquid_value.specs.meaning.View.{view, members_view}
 use Rattle.liquid_value.specs.declared.value.Value.{Value}
 
 abbrev found : List Entry → String Global → Option Value

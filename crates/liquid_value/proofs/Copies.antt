@@ -5,8 +5,8 @@ use Rattle.std.specs.List.{AllByRecursion}
 use Rattle.std.specs.List.Sorted.{IsStrictlySortedBy}
 use Rattle.std.specs.Map.{keys_of}
 use Rattle.liquid_value.proofs.Entries.{Entry}
-use Rattle.liquid_value.specs.Tree.{Tree, Members, no_members, member}
-use Rattle.liquid_value.specs.View.{view, members_view, entry_view}
+use Rattle.liquid_value.specs.meaning.Tree.{Tree, Members, no_members, member}
+use Rattle.liquid_value.specs.meaning.View.{view, members_view, entry_view}
 
 -- the members of names and trees
 viewed_members : List (List ℕ × Tree) → Members

@@ -1,7 +1,7 @@
 -- An array or an object is empty exactly where the tree that it means is.
 use Rattle.std.proofs.Common.{◌≡◌, List, [], ◌∷◌, length, String, Global, refl, ◌==◌, rules}
-use Rattle.liquid_value.specs.Kind.{has_no_items, has_no_members}
-use Rattle.liquid_value.specs.View.{items_view, members_view}
+use Rattle.liquid_value.specs.meaning.Kind.{has_no_items, has_no_members}
+use Rattle.liquid_value.specs.meaning.View.{items_view, members_view}
 use Rattle.liquid_value.specs.declared.value.Value.{Value}
 
 pub has_no_items_of_view : (vs : List Value) → has_no_items (items_view vs) ≡ (length vs == 0)

@@ -7,9 +7,9 @@ use Rattle.std.specs.List.Sorted.{IsStrictlySortedBy}
 use Rattle.std.specs.Map.{keys_of}
 use Rattle.std.specs.Ordering.{match_ordering, ordering_reverse}
 use Rattle.std.specs.BTreeMap.{insert_entry}
-use Rattle.liquid_value.specs.Members.{put_member}
-use Rattle.liquid_value.specs.Tree.{member}
-use Rattle.liquid_value.specs.View.{view, members_view}
+use Rattle.liquid_value.specs.meaning.Members.{put_member}
+use Rattle.liquid_value.specs.meaning.Tree.{member}
+use Rattle.liquid_value.specs.meaning.View.{view, members_view}
 use Rattle.liquid_value.specs.declared.value.Value.{Value}
 
 abbrev pub Entry : Type 0

@@ -4,11 +4,11 @@ use Rattle.std.proofs.lemmas.Bool.{eqb-true}
 use Rattle.std.specs.Prelude.{◌==◌}
 use Rattle.std.specs.Ordering.{nat_cmp, is_eq, is_lt, match_ordering, ordering_reverse}
 use Rattle.std.specs.Cmp.Lexicographic.{slice_cmp, nat_list_cmp_total, texts_ties, bytes_decides}
-use Rattle.liquid_value.specs.Conjunction.{both_true, first_true, second_true}
-use Rattle.liquid_value.specs.Loose.{facing, members_facing, value_eq}
-use Rattle.liquid_value.specs.LooseLaws.{comes_before, in_name_order, equal_back, each_is_in, objects_equal_by_name}
-use Rattle.liquid_value.specs.Members.{get_member, member_count}
-use Rattle.liquid_value.specs.Tree.{Tree, Members, no_members, member}
+use Rattle.liquid_value.specs.steps.Conjunction.{both_true, first_true, second_true}
+use Rattle.liquid_value.specs.meaning.Loose.{facing, members_facing, value_eq}
+use Rattle.liquid_value.specs.laws.LooseLaws.{comes_before, in_name_order, equal_back, each_is_in, objects_equal_by_name}
+use Rattle.liquid_value.specs.meaning.Members.{get_member, member_count}
+use Rattle.liquid_value.specs.meaning.Tree.{Tree, Members, no_members, member}
 use Rattle.liquid_value.proofs.LooseEquality.{facing_back}
 
 less : (o : Ordering) → is_lt o ≡ true → o ≡ Less

@@ -2,14 +2,14 @@
 use Rattle.std.proofs.Common.{◌≡◌, Bool, true, false, not, ◌&&◌, refl, ap, ◌∙◌, sym}
 use Rattle.std.specs.Prelude.{nat_eq}
 use Rattle.std.specs.Cmp.Lexicographic.{pointwise, nat_list_eq_equiv}
-use Rattle.liquid_scalar.specs.ScalarLawProofs.{loose_refl as scalar_refl, loose_symm as scalar_symm}
+use Rattle.liquid_scalar.specs.steps.ScalarLawProofs.{loose_refl as scalar_refl, loose_symm as scalar_symm}
 use Rattle.liquid_value.specs.declared.state.State.{State}
 use Rattle.liquid_value.specs.declared.state.State.TheVariants.{Truthy, DefaultValue, Empty, Blank}
-use Rattle.liquid_value.specs.Conjunction.{both_true, first_true, second_true}
-use Rattle.liquid_value.specs.Kind.{absent_state}
-use Rattle.liquid_value.specs.Loose.{leaf_eq, leaf_facing, facing, items_facing, members_facing, value_eq}
-use Rattle.liquid_value.specs.LooseLaws.{is_not_truthy, without_truthy, items_without_truthy, members_without_truthy}
-use Rattle.liquid_value.specs.Tree.{Tree, nil, state, scalar, array, object, Items, no_items, item, Members, no_members, member}
+use Rattle.liquid_value.specs.steps.Conjunction.{both_true, first_true, second_true}
+use Rattle.liquid_value.specs.meaning.Kind.{absent_state}
+use Rattle.liquid_value.specs.meaning.Loose.{leaf_eq, leaf_facing, facing, items_facing, members_facing, value_eq}
+use Rattle.liquid_value.specs.laws.LooseLaws.{is_not_truthy, without_truthy, items_without_truthy, members_without_truthy}
+use Rattle.liquid_value.specs.meaning.Tree.{Tree, nil, state, scalar, array, object, Items, no_items, item, Members, no_members, member}
 
 -- nil and the states are in each state but the truthy one
 absent : (s : State) → is_not_truthy s ≡ true → absent_state s ≡ true

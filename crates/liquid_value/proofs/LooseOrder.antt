@@ -3,13 +3,13 @@ use Rattle.std.proofs.Common.{◌≡◌, ℕ, List, Bool, true, false, not, Opti
 use Rattle.std.specs.Prelude.{nat_eq, option_map}
 use Rattle.std.specs.Ordering.{nat_cmp, is_eq, ordering_reverse}
 use Rattle.std.specs.Cmp.Lexicographic.{pointwise, slice_cmp, nat_list_cmp_total, texts_ties}
-use Rattle.liquid_scalar.specs.Scalar.{Scal}
-use Rattle.liquid_scalar.specs.ScalarCompare.{scalar_cmp}
-use Rattle.liquid_scalar.specs.ScalarLawProofs.{loose_symm as scalar_symm, order_swapped as scalar_swapped, equal_is_loose as scalar_equal}
-use Rattle.liquid_value.specs.Conjunction.{both_true}
-use Rattle.liquid_value.specs.Loose.{facing, items_facing, members_facing, value_eq}
-use Rattle.liquid_value.specs.Order.{deciding, value_cmp, items_cmp, members_cmp}
-use Rattle.liquid_value.specs.Tree.{Tree, nil, state, scalar, array, object, Items, no_items, item, Members, no_members, member}
+use Rattle.liquid_scalar.specs.meaning.Scalar.{Scal}
+use Rattle.liquid_scalar.specs.meaning.ScalarCompare.{scalar_cmp}
+use Rattle.liquid_scalar.specs.steps.ScalarLawProofs.{loose_symm as scalar_symm, order_swapped as scalar_swapped, equal_is_loose as scalar_equal}
+use Rattle.liquid_value.specs.steps.Conjunction.{both_true}
+use Rattle.liquid_value.specs.meaning.Loose.{facing, items_facing, members_facing, value_eq}
+use Rattle.liquid_value.specs.meaning.Order.{deciding, value_cmp, items_cmp, members_cmp}
+use Rattle.liquid_value.specs.meaning.Tree.{Tree, nil, state, scalar, array, object, Items, no_items, item, Members, no_members, member}
 
 deciding_reversed : (a b : Option Ordering) → deciding (option_map ordering_reverse a) (option_map ordering_reverse b) ≡ option_map ordering_reverse (deciding a b)
 deciding_reversed None b = refl

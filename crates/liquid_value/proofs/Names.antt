@@ -4,9 +4,9 @@ use Rattle.std.specs.List.{AllByRecursion}
 use Rattle.std.specs.List.Sorted.{IsStrictlySortedBy}
 use Rattle.std.specs.Map.{keys_of}
 use Rattle.std.specs.Ordering.{is_lt}
-use Rattle.liquid_value.specs.Conjunction.{both_true}
-use Rattle.liquid_value.specs.LooseLaws.{comes_before, in_name_order}
-use Rattle.liquid_value.specs.View.{members_view}
+use Rattle.liquid_value.specs.steps.Conjunction.{both_true}
+use Rattle.liquid_value.specs.laws.LooseLaws.{comes_before, in_name_order}
+use Rattle.liquid_value.specs.meaning.View.{members_view}
 use Rattle.liquid_value.proofs.Entries.{Entry}
 
 before_all : (e : Entry) (es : List Entry) → AllByRecursion (λ y. string_cmp e.0 y ≡ Less) (keys_of es) → comes_before (string_bytes e.0) (members_view es) ≡ true

@@ -1,9 +1,9 @@
 -- Arrays of different sizes.
 use Rattle.std.proofs.Common.{ℕ, ◌<◌, drop, Some, Less, subst, ◌≡◌, List, [], ◌∷◌, length, Bool, true, false, ◌&&◌, refl, ap, ◌∙◌, arith}
-use Rattle.liquid_value.specs.Loose.{facing, items_facing}
-use Rattle.liquid_value.specs.Order.{items_cmp}
-use Rattle.liquid_value.specs.Strict.{same_value, same_items}
-use Rattle.liquid_value.specs.View.{view, items_view}
+use Rattle.liquid_value.specs.meaning.Loose.{facing, items_facing}
+use Rattle.liquid_value.specs.meaning.Order.{items_cmp}
+use Rattle.liquid_value.specs.meaning.Strict.{same_value, same_items}
+use Rattle.liquid_value.specs.meaning.View.{view, items_view}
 use Rattle.liquid_value.specs.declared.value.Value.{Value}
 
 and_false : (b : Bool) → b && false ≡ false

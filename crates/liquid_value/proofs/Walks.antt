@@ -1,8 +1,8 @@
 -- One turn of a walk over the items of an array, or over the entries of an object.
 use Rattle.std.proofs.Common.{◌≡◌, ℕ, ◌+◌, ◌<◌, List, ◌∷◌, ◌++◌, length, drop, get_or, String, Global, string_bytes, sym, ap, ◌∙◌, append_assoc, add-one}
 use Rattle.std.proofs.Math.Seq.{drop-cons}
-use Rattle.liquid_value.specs.Tree.{Tree, Items, item, Members, member}
-use Rattle.liquid_value.specs.View.{view, items_view, members_view}
+use Rattle.liquid_value.specs.meaning.Tree.{Tree, Items, item, Members, member}
+use Rattle.liquid_value.specs.meaning.View.{view, items_view, members_view}
 use Rattle.liquid_value.specs.declared.value.Value.{Value}
 
 pub items_view-drop : (vs : List Value) (i : ℕ) (v : Value) → i < length vs → v ≡ get_or vs i v → items_view (drop i vs) ≡ item (view v) (items_view (drop (i + 1) vs))

@@ -2,7 +2,7 @@ ghost use Rattle.std.specs.Prelude.{◌≡◌, IfOk, map};
 ghost use Rattle.std.specs.List.Sorted.{IsStrictlySortedBy};
 ghost use Rattle.std.specs.Map.{keys_of};
 ghost use Rattle.std.specs.String.{string_cmp};
-ghost use Rattle.liquid_value.specs.View.{view, items_view, members_view, entry_view};
+ghost use Rattle.liquid_value.specs.meaning.View.{view, items_view, members_view, entry_view};
 
 use crate::value::{Array, Object, Value};
 use std::alloc::{AllocError, Global};

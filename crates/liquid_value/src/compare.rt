@@ -1,7 +1,7 @@
 ghost use Rattle.std.specs.Prelude.{◌≡◌};
-ghost use Rattle.liquid_value.specs.Loose.{value_eq};
-ghost use Rattle.liquid_value.specs.Order.{value_cmp};
-ghost use Rattle.liquid_value.specs.View.{view};
+ghost use Rattle.liquid_value.specs.meaning.Loose.{value_eq};
+ghost use Rattle.liquid_value.specs.meaning.Order.{value_cmp};
+ghost use Rattle.liquid_value.specs.meaning.View.{view};
 
 use crate::loose::value_eq;
 use crate::order::value_cmp;

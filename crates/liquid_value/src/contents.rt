@@ -1,6 +1,6 @@
 ghost use Rattle.std.specs.Prelude.{◌≡◌};
-ghost use Rattle.liquid_value.specs.Kind.{has_no_items, has_no_members};
-ghost use Rattle.liquid_value.specs.View.{items_view, members_view};
+ghost use Rattle.liquid_value.specs.meaning.Kind.{has_no_items, has_no_members};
+ghost use Rattle.liquid_value.specs.meaning.View.{items_view, members_view};
 
 use crate::value::{Array, Object};
 

@@ -1,12 +1,12 @@
 ghost use Rattle.std.specs.Prelude.{◌≡◌, IfOk, option_map, string_bytes};
 ghost use Rattle.std.specs.Cmp.{on_equiv, on_per, partial_equiv_from_equiv};
-ghost use Rattle.liquid_scalar.specs.Scalar.{scal};
-ghost use Rattle.liquid_value.specs.Cow.{cow_view};
-ghost use Rattle.liquid_value.specs.Parts.{as_array, as_object};
-ghost use Rattle.liquid_value.specs.Strict.{same_value};
-ghost use Rattle.liquid_value.specs.StrictLawProofs.{same_value_equiv};
-ghost use Rattle.liquid_value.specs.Tree.{nil, state, scalar, array, object};
-ghost use Rattle.liquid_value.specs.View.{view, items_view, members_view};
+ghost use Rattle.liquid_scalar.specs.meaning.Scalar.{scal};
+ghost use Rattle.liquid_value.specs.meaning.Cow.{cow_view};
+ghost use Rattle.liquid_value.specs.meaning.Parts.{as_array, as_object};
+ghost use Rattle.liquid_value.specs.meaning.Strict.{same_value};
+ghost use Rattle.liquid_value.specs.steps.StrictLawProofs.{same_value_equiv};
+ghost use Rattle.liquid_value.specs.meaning.Tree.{nil, state, scalar, array, object};
+ghost use Rattle.liquid_value.specs.meaning.View.{view, items_view, members_view};
 
 use crate::state::State;
 use crate::value::{Array, Object, Value};

@@ -1,8 +1,8 @@
 // Conversions into a value, which neither fail nor take memory.
 ghost use Rattle.std.specs.Prelude.{◌≡◌, string_bytes};
-ghost use Rattle.liquid_scalar.specs.Scalar.{scal};
-ghost use Rattle.liquid_value.specs.Tree.{state, scalar, array, object};
-ghost use Rattle.liquid_value.specs.View.{view, items_view, members_view};
+ghost use Rattle.liquid_scalar.specs.meaning.Scalar.{scal};
+ghost use Rattle.liquid_value.specs.meaning.Tree.{state, scalar, array, object};
+ghost use Rattle.liquid_value.specs.meaning.View.{view, items_view, members_view};
 
 use crate::state::State;
 use crate::value::{Array, Object, Value};

@@ -1,8 +1,8 @@
 // The laws of the comparisons of values. Each function only states its law.
-ghost use Rattle.liquid_value.specs.LooseLaws.{LooseEqualityIsReflexive, LooseEqualityIsSymmetric, LooseEqualityIsNotTransitive, OrderSwappedIsReversed, EqualInOrderIsLooselyEqual, LooseEqualityOfObjectsGoesByName, in_name_order};
-ghost use Rattle.liquid_value.specs.StrictLaws.{StrictEqualityIsEquivalence, HashAgreesWithEquality};
+ghost use Rattle.liquid_value.specs.laws.LooseLaws.{LooseEqualityIsReflexive, LooseEqualityIsSymmetric, LooseEqualityIsNotTransitive, OrderSwappedIsReversed, EqualInOrderIsLooselyEqual, LooseEqualityOfObjectsGoesByName, in_name_order};
+ghost use Rattle.liquid_value.specs.laws.StrictLaws.{StrictEqualityIsEquivalence, HashAgreesWithEquality};
 ghost use Rattle.std.specs.Prelude.{◌≡◌, true};
-ghost use Rattle.liquid_value.specs.View.{members_view};
+ghost use Rattle.liquid_value.specs.meaning.View.{members_view};
 
 use crate::value::Object;
 
@@ -51,13 +51,13 @@ pub fn entries_stand_in_name_order(object: &Object)
 }
 
 /// Strict equality is an equivalence.
-#[tactic(auto, using(crate::specs::StrictLawProofs::same_value_equiv))]
+#[tactic(auto, using(crate::specs::steps::StrictLawProofs::same_value_equiv))]
 pub fn strict_equality_is_equivalence()
     ensures { StrictEqualityIsEquivalence }
 {}
 
 /// Strictly equal values feed a hasher alike.
-#[tactic(auto, using(crate::specs::StrictLawProofs::hash_agrees))]
+#[tactic(auto, using(crate::specs::steps::StrictLawProofs::hash_agrees))]
 pub fn hash_agrees_with_equality()
     ensures { HashAgreesWithEquality }
 {}

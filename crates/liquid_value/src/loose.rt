@@ -1,6 +1,6 @@
 ghost use Rattle.std.specs.Prelude.{◌≡◌, true, false};
-ghost use Rattle.liquid_value.specs.Loose.{leaf_eq, facing, items_facing, members_facing, value_eq};
-ghost use Rattle.liquid_value.specs.View.{view, items_view, members_view};
+ghost use Rattle.liquid_value.specs.meaning.Loose.{leaf_eq, facing, items_facing, members_facing, value_eq};
+ghost use Rattle.liquid_value.specs.meaning.View.{view, items_view, members_view};
 
 use crate::value::{Array, Object, Value};
 

@@ -1,8 +1,8 @@
 ghost use Rattle.std.specs.Prelude.{◌≡◌, Some};
 ghost use Rattle.std.specs.Ordering.{nat_cmp};
 ghost use Rattle.std.specs.Cmp.Lexicographic.{slice_cmp};
-ghost use Rattle.liquid_value.specs.Order.{deciding, value_cmp, items_cmp, members_cmp};
-ghost use Rattle.liquid_value.specs.View.{view, items_view, members_view};
+ghost use Rattle.liquid_value.specs.meaning.Order.{deciding, value_cmp, items_cmp, members_cmp};
+ghost use Rattle.liquid_value.specs.meaning.View.{view, items_view, members_view};
 
 use crate::value::{Array, Object, Value};
 use std::cmp::Ordering;

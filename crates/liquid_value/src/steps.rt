@@ -1,7 +1,7 @@
 //! Walks over an object: each says how many items are left, and ends after them.
 ghost use Rattle.std.specs.Prelude.{◌≡◌, length};
 ghost use Rattle.std.specs.Map.Iter.{TakesFirst, deref, deref_pair};
-ghost use Rattle.liquid_value.specs.Steps.{CountsDown};
+ghost use Rattle.liquid_value.specs.laws.Steps.{CountsDown};
 
 use crate::map::{IntoIter, Iter, Keys, Values};
 use crate::value::Value;

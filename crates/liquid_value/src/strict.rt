@@ -1,9 +1,9 @@
 ghost use Rattle.std.specs.Prelude.{◌≡◌, ◌++◌, fold};
 ghost use Rattle.std.specs.Hash as writes;
 ghost use Rattle.std.specs.Cmp.{on_equiv, on_per, partial_equiv_from_equiv};
-ghost use Rattle.liquid_value.specs.View.{view, items_view, members_view};
-ghost use Rattle.liquid_value.specs.Strict.{same_value, same_items, same_members, value_hash, items_hash, members_hash};
-ghost use Rattle.liquid_value.specs.StrictLawProofs.{same_value_equiv, hash_agrees};
+ghost use Rattle.liquid_value.specs.meaning.View.{view, items_view, members_view};
+ghost use Rattle.liquid_value.specs.meaning.Strict.{same_value, same_items, same_members, value_hash, items_hash, members_hash};
+ghost use Rattle.liquid_value.specs.steps.StrictLawProofs.{same_value_equiv, hash_agrees};
 
 use crate::value::{Array, Object, Value};
 use std::hash::{Hash, Hasher};

@@ -8,9 +8,9 @@ use Rattle.std.specs.Cmp.Lexicographic.{slice_cmp}
 use Rattle.std.specs.List.{AllByRecursion, IsDistinct}
 use Rattle.std.specs.Map.{keys_of, lookup}
 use Rattle.std.specs.Ordering.{match_ordering}
-use Rattle.liquid_value.specs.Members.{get_member, put_member, member_count}
-use Rattle.liquid_value.specs.Tree.{Tree, Members, no_members, member}
-use Rattle.liquid_views.specs.Entries.{put_entries}
+use Rattle.liquid_value.specs.meaning.Members.{get_member, put_member, member_count}
+use Rattle.liquid_value.specs.meaning.Tree.{Tree, Members, no_members, member}
+use Rattle.liquid_views.specs.meaning.Entries.{put_entries}
 
 same_text : (xs : List ℕ) → slice_cmp nat_cmp xs xs ≡ Equal
 same_text xs = tied_itself nat_list_cmp_total xs

@@ -4,10 +4,10 @@ use Rattle.std.specs.Prelude.{◌==◌}
 use Rattle.std.specs.BTreeMap.{insert_entry}
 use Rattle.std.specs.Cmp.Lexicographic.{slice_cmp}
 use Rattle.std.specs.Ordering.{match_ordering}
-use Rattle.liquid_value.specs.Kind.{has_no_members}
-use Rattle.liquid_value.specs.Members.{put_member}
-use Rattle.liquid_value.specs.Tree.{Tree, Members, no_members, member}
-use Rattle.liquid_views.specs.Entries.{put_entries, index_members}
+use Rattle.liquid_value.specs.meaning.Kind.{has_no_members}
+use Rattle.liquid_value.specs.meaning.Members.{put_member}
+use Rattle.liquid_value.specs.meaning.Tree.{Tree, Members, no_members, member}
+use Rattle.liquid_views.specs.meaning.Entries.{put_entries, index_members}
 
 some_members : (o : Ordering) (a b c d e f : Members) → has_no_members a ≡ false → has_no_members b ≡ false → has_no_members c ≡ false → has_no_members (match_ordering o a b c) ≡ false
 some_members Less a b c d e f h k l = h

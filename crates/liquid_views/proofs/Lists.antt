@@ -3,12 +3,12 @@ use Rattle.std.proofs.Common.{Bor, ◌≡◌, ℕ, zero, suc, ◌+◌, ◌<◌, 
 use borrow.Author.Tests.{ltb-true}
 use Rattle.std.specs.Prelude.{◌==◌, ◌-◌, Bool, true, false, nat_lt, is_some, if◌then◌else◌, ℤ, pos, negsuc, option_map, option_and_then}
 use Rattle.std.proofs.Math.Seq.{drop-cons}
-use Rattle.liquid_value.specs.Kind.{has_no_items}
-use Rattle.liquid_value.specs.Members.{item_count}
-use Rattle.liquid_value.specs.Tree.{Tree, Items, no_items, item}
+use Rattle.liquid_value.specs.meaning.Kind.{has_no_items}
+use Rattle.liquid_value.specs.meaning.Members.{item_count}
+use Rattle.liquid_value.specs.meaning.Tree.{Tree, Items, no_items, item}
 use Rattle.std.specs.Slice.{IsItemAt}
-use Rattle.liquid_value.specs.Place.{nth, place_at, item_at}
-use Rattle.liquid_views.specs.Trees.{items_by}
+use Rattle.liquid_value.specs.meaning.Place.{nth, place_at, item_at}
+use Rattle.liquid_views.specs.meaning.Trees.{items_by}
 
 pub has_no_items_of_list : {T : Type 0} (tree : T → Tree) (xs : List T) → has_no_items (items_by tree xs) ≡ (length xs == 0)
 has_no_items_of_list tree [] = refl

@@ -8,10 +8,10 @@ use Rattle.std.specs.List.{AllByRecursion}
 use Rattle.std.specs.List.Sorted.{IsStrictlySortedBy}
 use Rattle.std.specs.Map.{keys_of, lookup}
 use Rattle.std.specs.Ordering.{match_ordering, ordering_reverse}
-use Rattle.liquid_value.specs.Kind.{has_no_members}
-use Rattle.liquid_value.specs.Members.{get_member, put_member, member_count}
-use Rattle.liquid_value.specs.Tree.{Tree, Members, member}
-use Rattle.liquid_views.specs.Trees.{members_by}
+use Rattle.liquid_value.specs.meaning.Kind.{has_no_members}
+use Rattle.liquid_value.specs.meaning.Members.{get_member, put_member, member_count}
+use Rattle.liquid_value.specs.meaning.Tree.{Tree, Members, member}
+use Rattle.liquid_views.specs.meaning.Trees.{members_by}
 
 pub has_no_members_of_map : {K V : Type 0} (index : K → List ℕ) (tree : V → Tree) (es : List (K × V)) → has_no_members (members_by index tree es) ≡ (length es == 0)
 has_no_members_of_map index tree [] = refl

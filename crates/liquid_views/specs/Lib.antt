@@ -1,7 +1,3 @@
-pub mod Outline
-pub mod Place
-pub mod Names
-pub mod Pairs
-pub mod ArrayLaws
-pub mod Entries
-pub mod Trees
+pub mod meaning
+pub mod laws
+pub mod steps

@@ -1,11 +1,11 @@
 ghost use Rattle.std.specs.Prelude.{◌≡◌, pos, negsuc, refl, is_some, option_map};
-ghost use Rattle.liquid_value.specs.Members.{item_count};
-ghost use Rattle.liquid_value.specs.Tree.{Items, array};
-ghost use Rattle.liquid_value.specs.Render.{render_items, listed_items, render};
+ghost use Rattle.liquid_value.specs.meaning.Members.{item_count};
+ghost use Rattle.liquid_value.specs.meaning.Tree.{Items, array};
+ghost use Rattle.liquid_value.specs.meaning.Render.{render_items, listed_items, render};
 ghost use Rattle.std.specs.Fmt.{WritesOnOk};
 ghost use Rattle.std.specs.Prelude.{◌++◌, codes};
-ghost use Rattle.liquid_value.specs.Place.{place_at, item_at};
-ghost use Rattle.liquid_views.specs.Trees.{items_by};
+ghost use Rattle.liquid_value.specs.meaning.Place.{place_at, item_at};
+ghost use Rattle.liquid_views.specs.meaning.Trees.{items_by};
 
 use crate::build::array_of;
 use crate::kind::ViewKind;

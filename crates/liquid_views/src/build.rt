@@ -1,9 +1,9 @@
 // Values from what the program has.
 ghost use Rattle.std.specs.Prelude.{◌≡◌, IfOk};
-ghost use Rattle.liquid_value.specs.Tree.{no_members};
-ghost use Rattle.liquid_value.specs.View.{items_view, members_view};
-ghost use Rattle.liquid_views.specs.Pairs.{put_pairs};
-ghost use Rattle.liquid_views.specs.Trees.{items_by};
+ghost use Rattle.liquid_value.specs.meaning.Tree.{no_members};
+ghost use Rattle.liquid_value.specs.meaning.View.{items_view, members_view};
+ghost use Rattle.liquid_views.specs.meaning.Pairs.{put_pairs};
+ghost use Rattle.liquid_views.specs.meaning.Trees.{items_by};
 
 use crate::view::ValueView;
 use liquid_scalar::Scalar;

@@ -1,6 +1,6 @@
 // Dates and date times.
-ghost use Rattle.liquid_scalar.specs.Scalar.{date, date_time};
-ghost use Rattle.liquid_value.specs.Tree.{scalar};
+ghost use Rattle.liquid_scalar.specs.meaning.Scalar.{date, date_time};
+ghost use Rattle.liquid_value.specs.meaning.Tree.{scalar};
 
 use crate::kind::ViewKind;
 use crate::view::ValueView;

@@ -1,12 +1,12 @@
 // Maps without an order of their own: they are told in byte order of their names.
 ghost use Rattle.std.specs.Prelude.{◌≡◌, refl, map, option_map, IfOk};
-ghost use Rattle.liquid_value.specs.Names.{names};
-ghost use Rattle.liquid_value.specs.Members.{get_member};
+ghost use Rattle.liquid_value.specs.meaning.Names.{names};
+ghost use Rattle.liquid_value.specs.meaning.Members.{get_member};
 ghost use Rattle.std.specs.Fmt.{WritesOnOk};
-ghost use Rattle.liquid_value.specs.Render.{source, render_members, listed_members};
-ghost use Rattle.liquid_value.specs.Tree.{no_members, object};
-ghost use Rattle.liquid_value.specs.View.{members_view};
-ghost use Rattle.liquid_views.specs.Entries.{put_entries, index_members};
+ghost use Rattle.liquid_value.specs.meaning.Render.{source, render_members, listed_members};
+ghost use Rattle.liquid_value.specs.meaning.Tree.{no_members, object};
+ghost use Rattle.liquid_value.specs.meaning.View.{members_view};
+ghost use Rattle.liquid_views.specs.meaning.Entries.{put_entries, index_members};
 
 use crate::kind::ViewKind;
 use crate::object::{ObjectView, list_member, write_member};

@@ -1,5 +1,5 @@
 // The law of the indexes of an array. The function only states it.
-ghost use Rattle.liquid_views.specs.ArrayLaws.{ContainsKeyWhereGet};
+ghost use Rattle.liquid_views.specs.laws.ArrayLaws.{ContainsKeyWhereGet};
 
 /// An array contains an index exactly where `get` gives an item at it.
 #[tactic(auto, using(crate::proofs::Lists::contains_where_get))]

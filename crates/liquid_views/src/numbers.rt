@@ -1,7 +1,7 @@
 // Numbers are whole numbers.
 ghost use Rattle.std.specs.Prelude.{pos};
-ghost use Rattle.liquid_scalar.specs.Scalar.{integer};
-ghost use Rattle.liquid_value.specs.Tree.{scalar};
+ghost use Rattle.liquid_scalar.specs.meaning.Scalar.{integer};
+ghost use Rattle.liquid_value.specs.meaning.Tree.{scalar};
 
 use crate::kind::ViewKind;
 use crate::view::ValueView;

@@ -1,12 +1,12 @@
 ghost use Rattle.std.specs.Prelude.{◌≡◌, Some, ◌++◌, ℕ, List, pos, refl, is_some, option_map, IfOk, map, string_bytes};
 ghost use Rattle.std.specs.Fmt.{WritesOnOk};
-ghost use Rattle.liquid_value.specs.Cow.{cow_view};
-ghost use Rattle.liquid_value.specs.Members.{get_member, member_count};
-ghost use Rattle.liquid_value.specs.Render.{render, source, listed_member, listed_members};
-ghost use Rattle.liquid_value.specs.Tree.{Members, object};
-ghost use Rattle.liquid_value.specs.View.{members_view};
-ghost use Rattle.liquid_value.specs.Names.{names};
-ghost use Rattle.liquid_views.specs.Trees.{members_by};
+ghost use Rattle.liquid_value.specs.meaning.Cow.{cow_view};
+ghost use Rattle.liquid_value.specs.meaning.Members.{get_member, member_count};
+ghost use Rattle.liquid_value.specs.meaning.Render.{render, source, listed_member, listed_members};
+ghost use Rattle.liquid_value.specs.meaning.Tree.{Members, object};
+ghost use Rattle.liquid_value.specs.meaning.View.{members_view};
+ghost use Rattle.liquid_value.specs.meaning.Names.{names};
+ghost use Rattle.liquid_views.specs.meaning.Trees.{members_by};
 
 use crate::index::ObjectIndex;
 use crate::kind::ViewKind;

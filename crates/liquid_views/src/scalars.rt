@@ -1,7 +1,7 @@
 // Truth values, texts and scalars.
 ghost use Rattle.std.specs.Prelude.{string_bytes};
-ghost use Rattle.liquid_scalar.specs.Scalar.{boolean, text, scal};
-ghost use Rattle.liquid_value.specs.Tree.{scalar};
+ghost use Rattle.liquid_scalar.specs.meaning.Scalar.{boolean, text, scal};
+ghost use Rattle.liquid_value.specs.meaning.Tree.{scalar};
 
 use crate::kind::ViewKind;
 use crate::view::ValueView;

@@ -1,8 +1,8 @@
 // Values themselves, states, what may be absent, and references.
-ghost use Rattle.liquid_value.specs.Cow.{cow_view};
-ghost use Rattle.liquid_value.specs.Tree.{state};
-ghost use Rattle.liquid_value.specs.View.{view};
-ghost use Rattle.liquid_views.specs.Trees.{option_tree};
+ghost use Rattle.liquid_value.specs.meaning.Cow.{cow_view};
+ghost use Rattle.liquid_value.specs.meaning.Tree.{state};
+ghost use Rattle.liquid_value.specs.meaning.View.{view};
+ghost use Rattle.liquid_views.specs.meaning.Trees.{option_tree};
 
 use crate::kind::ViewKind;
 use crate::view::ValueView;

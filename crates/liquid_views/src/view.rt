@@ -1,14 +1,14 @@
 ghost use Rattle.std.specs.Prelude.{◌≡◌, Some, IfOk, option_map, is_some};
 ghost use Rattle.std.specs.Cow.{cow_str_bytes};
 ghost use Rattle.std.specs.Fmt.{WritesOnOk};
-ghost use Rattle.liquid_scalar.specs.Scalar.{scal};
-ghost use Rattle.liquid_value.specs.Cow.{cow_view};
-ghost use Rattle.liquid_value.specs.Kind.{type_name, query_state};
-ghost use Rattle.liquid_value.specs.Parts.{as_scalar, as_array, as_object, as_state, is_nil};
-ghost use Rattle.liquid_value.specs.Render.{render, source};
-ghost use Rattle.liquid_value.specs.Tree.{Tree};
-ghost use Rattle.liquid_value.specs.View.{view};
-ghost use Rattle.liquid_views.specs.Outline.{outline, told_outline};
+ghost use Rattle.liquid_scalar.specs.meaning.Scalar.{scal};
+ghost use Rattle.liquid_value.specs.meaning.Cow.{cow_view};
+ghost use Rattle.liquid_value.specs.meaning.Kind.{type_name, query_state};
+ghost use Rattle.liquid_value.specs.meaning.Parts.{as_scalar, as_array, as_object, as_state, is_nil};
+ghost use Rattle.liquid_value.specs.meaning.Render.{render, source};
+ghost use Rattle.liquid_value.specs.meaning.Tree.{Tree};
+ghost use Rattle.liquid_value.specs.meaning.View.{view};
+ghost use Rattle.liquid_views.specs.meaning.Outline.{outline, told_outline};
 
 use crate::kind::ViewKind;
 use liquid_scalar::ScalarCow;

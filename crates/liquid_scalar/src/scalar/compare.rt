@@ -1,8 +1,8 @@
 ghost use Rattle.std.specs.Prelude.{◌≡◌};
 ghost use Rattle.std.specs.Cmp.{on_equiv, on_per, partial_equiv_from_equiv};
-ghost use Rattle.liquid_scalar.specs.Scalar.{scal};
-ghost use Rattle.liquid_scalar.specs.ScalarCompare.{scalar_eq, scalar_cmp, same_scalar, scalar_hash};
-ghost use Rattle.liquid_scalar.specs.ScalarLawProofs.{same_scalar_equiv, hash_agrees};
+ghost use Rattle.liquid_scalar.specs.meaning.Scalar.{scal};
+ghost use Rattle.liquid_scalar.specs.meaning.ScalarCompare.{scalar_eq, scalar_cmp, same_scalar, scalar_hash};
+ghost use Rattle.liquid_scalar.specs.steps.ScalarLawProofs.{same_scalar_equiv, hash_agrees};
 
 use super::ScalarOf;
 use std::cmp::Ordering;
@@ -32,7 +32,7 @@ impl<T: AsStr> ScalarOf<T> {
     /// Loose order: scalars of one kind by their order, false below true, texts by bytes and date times by their
     /// instant. A date stands to a date time as the date time moved to that date stands to itself. Other scalars have
     /// no order.
-    #[tactic(auto, using(crate::specs::ScalarLawProofs::moved_before, crate::specs::ScalarLawProofs::moved_behind))]
+    #[tactic(auto, using(crate::specs::steps::ScalarLawProofs::moved_before, crate::specs::steps::ScalarLawProofs::moved_behind))]
     pub fn scalar_cmp<U: AsStr>(&self, other: &ScalarOf<U>) -> Option<Ordering>
         ensures { result ≡ scalar_cmp (scal T.text self.now) (scal U.text other.now) }
     {

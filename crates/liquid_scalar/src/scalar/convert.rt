@@ -1,6 +1,6 @@
 ghost use Rattle.std.specs.Prelude.{◌≡◌, pos, IfOk, string_bytes};
 ghost use Rattle.std.specs.Cow.{cow_str_bytes};
-ghost use Rattle.liquid_scalar.specs.Scalar.{Scal, scal, integer, boolean, text, render_scalar};
+ghost use Rattle.liquid_scalar.specs.meaning.Scalar.{Scal, scal, integer, boolean, text, render_scalar};
 
 use super::{Scalar, ScalarCow, ScalarOf};
 use std::alloc::{AllocError, Global};

@@ -1,9 +1,9 @@
 ghost use Rattle.std.specs.Prelude.{IfSome, IsSomeAnd};
 ghost use Rattle.jiff_core.specs.declared.civil.date.Date.{Date as CivilDate};
 ghost use Rattle.liquid_dates.specs.declared.date_time.DateTime.{DateTime as DateTimeShape};
-ghost use Rattle.liquid_dates.specs.DateText.{SameDate, SameDateTime};
-ghost use Rattle.liquid_scalar.specs.Scalar.{scal};
-ghost use Rattle.liquid_scalar.specs.ScalarDates.{IsDateOf, IsDateTimeOf};
+ghost use Rattle.liquid_dates.specs.meaning.DateText.{SameDate, SameDateTime};
+ghost use Rattle.liquid_scalar.specs.meaning.Scalar.{scal};
+ghost use Rattle.liquid_scalar.specs.meaning.ScalarDates.{IsDateOf, IsDateTimeOf};
 
 use super::ScalarOf;
 use liquid_dates::{Date, DateTime};

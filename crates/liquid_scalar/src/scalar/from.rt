@@ -1,7 +1,7 @@
 ghost use Rattle.std.specs.Prelude.{◌≡◌, pos, string_bytes};
 ghost use Rattle.std.specs.Cow.{cow_str_bytes};
 ghost use Rattle.liquid_scalar.specs.declared.scalar.ScalarOf.TheVariants as variant;
-ghost use Rattle.liquid_scalar.specs.Scalar.{scal, text};
+ghost use Rattle.liquid_scalar.specs.meaning.Scalar.{scal, text};
 
 use super::ScalarOf;
 use liquid_dates::{Date, DateTime};

@@ -1,44 +1,44 @@
 // The laws of the comparisons of scalars. Each function only states its law.
-ghost use Rattle.liquid_scalar.specs.ScalarLaws.{LooseEqualityIsReflexive, LooseEqualityIsSymmetric, OrderSwappedIsReversed, EqualInOrderIsLooselyEqual, StrictEqualityIsEquivalence, StrictlyEqualIsLooselyEqual, HashAgreesWithEquality};
+ghost use Rattle.liquid_scalar.specs.laws.ScalarLaws.{LooseEqualityIsReflexive, LooseEqualityIsSymmetric, OrderSwappedIsReversed, EqualInOrderIsLooselyEqual, StrictEqualityIsEquivalence, StrictlyEqualIsLooselyEqual, HashAgreesWithEquality};
 
 /// Each scalar loosely equals itself.
-#[tactic(auto, using(crate::specs::ScalarLawProofs::loose_refl))]
+#[tactic(auto, using(crate::specs::steps::ScalarLawProofs::loose_refl))]
 pub fn loose_equality_is_reflexive()
     ensures { LooseEqualityIsReflexive }
 {}
 
 /// Loose equality of scalars holds both ways.
-#[tactic(auto, using(crate::specs::ScalarLawProofs::loose_symm))]
+#[tactic(auto, using(crate::specs::steps::ScalarLawProofs::loose_symm))]
 pub fn loose_equality_is_symmetric()
     ensures { LooseEqualityIsSymmetric }
 {}
 
 /// The order of two scalars swapped is their order reversed, and none stays none.
-#[tactic(auto, using(crate::specs::ScalarLawProofs::order_swapped))]
+#[tactic(auto, using(crate::specs::steps::ScalarLawProofs::order_swapped))]
 pub fn order_swapped_is_reversed()
     ensures { OrderSwappedIsReversed }
 {}
 
 /// Scalars that compare as `Equal` are loosely equal.
-#[tactic(auto, using(crate::specs::ScalarLawProofs::equal_is_loose))]
+#[tactic(auto, using(crate::specs::steps::ScalarLawProofs::equal_is_loose))]
 pub fn equal_in_order_is_loosely_equal()
     ensures { EqualInOrderIsLooselyEqual }
 {}
 
 /// Strict equality is an equivalence.
-#[tactic(auto, using(crate::specs::ScalarLawProofs::same_scalar_equiv))]
+#[tactic(auto, using(crate::specs::steps::ScalarLawProofs::same_scalar_equiv))]
 pub fn strict_equality_is_equivalence()
     ensures { StrictEqualityIsEquivalence }
 {}
 
 /// Strictly equal scalars are loosely equal.
-#[tactic(auto, using(crate::specs::ScalarLawProofs::same_is_loose))]
+#[tactic(auto, using(crate::specs::steps::ScalarLawProofs::same_is_loose))]
 pub fn strictly_equal_is_loosely_equal()
     ensures { StrictlyEqualIsLooselyEqual }
 {}
 
 /// Strictly equal scalars feed a hasher alike.
-#[tactic(auto, using(crate::specs::ScalarLawProofs::hash_agrees))]
+#[tactic(auto, using(crate::specs::steps::ScalarLawProofs::hash_agrees))]
 pub fn hash_agrees_with_equality()
     ensures { HashAgreesWithEquality }
 {}

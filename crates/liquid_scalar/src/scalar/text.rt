@@ -1,6 +1,6 @@
 ghost use Rattle.std.specs.Prelude.{◌≡◌, Some, IfOk};
 ghost use Rattle.std.specs.Cow.{cow_str_bytes};
-ghost use Rattle.liquid_scalar.specs.Scalar.{scal, render_scalar, source_scalar, scalar_type_name};
+ghost use Rattle.liquid_scalar.specs.meaning.Scalar.{scal, render_scalar, source_scalar, scalar_type_name};
 
 use super::ScalarOf;
 use std::alloc::{AllocError, Global};

@@ -1,7 +1,7 @@
 use Rattle.std.proofs.Common.{Ok, ap}
-use Rattle.liquid_error.specs.Refusal.{ok_then}
-use Rattle.liquid_error.specs.Told.{told}
-use Rattle.bench.specs.Asked.{name_alone, name_and_value}
+use Rattle.liquid_error.specs.meaning.Refusal.{ok_then}
+use Rattle.liquid_error.specs.meaning.Told.{told}
+use Rattle.bench.specs.meaning.Asked.{name_alone, name_and_value}
 use Rattle.bench.specs.declared.tags.TagShape.TheVariants.{Set, Inc}
 use Rattle.liquid_parser.proofs.StepLemmas.{then_refused}
 use Rattle.bench.proofs.tag_plugins.plain_tag.Goals as goal

@@ -1,8 +1,8 @@
 use Rattle.std.proofs.Common.{◌≡◌, ◌∙◌, ◌∷◌, ap, map, string_bytes, sym}
 use Rattle.std.specs.FinMap.{empty, insert}
-use Rattle.liquid_plugins.specs.Registry.{by_name}
+use Rattle.liquid_plugins.specs.meaning.Registry.{by_name}
 use Rattle.liquid_plugins.proofs.Registries.{by_name-empty, by_name-insert}
-use Rattle.liquid.specs.Gathered.{names_into}
+use Rattle.liquid.specs.meaning.Gathered.{names_into}
 use Rattle.liquid.proofs.gather.in_order.Goals as goal
 
 pub loop-name-init : goal.loop-name-init

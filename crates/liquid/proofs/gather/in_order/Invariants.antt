@@ -1,7 +1,7 @@
 use Rattle.std.proofs.Common.{◌≡◌, map, string_bytes}
 use Rattle.std.specs.FinMap.{empty}
-use Rattle.liquid_plugins.specs.Registry.{by_name}
-use Rattle.liquid.specs.Gathered.{names_into}
+use Rattle.liquid_plugins.specs.meaning.Registry.{by_name}
+use Rattle.liquid.specs.meaning.Gathered.{names_into}
 use Rattle.liquid.proofs.gather.in_order.Given as goal
 
 abbrev pub invariant-loop-name : goal.invariant-loop-name

@@ -1,9 +1,9 @@
 use Rattle.std.proofs.Common.{◌≡◌, Err, rules, sym, subst}
 use Rattle.std.specs.FinMap.{empty, keys}
-use Rattle.liquid_partials.specs.Sources.{Texts}
-use Rattle.liquid_plugins.specs.Registry.{by_name}
-use Rattle.liquid.specs.Gathered.{WithFiles, WithFolder}
-use Rattle.liquid.specs.Steps.{Stops, Brings}
+use Rattle.liquid_partials.specs.meaning.Sources.{Texts}
+use Rattle.liquid_plugins.specs.meaning.Registry.{by_name}
+use Rattle.liquid.specs.meaning.Gathered.{WithFiles, WithFolder}
+use Rattle.liquid.specs.steps.Steps.{Stops, Brings}
 use Rattle.liquid.proofs.FolderLemmas.{folder_read, folder_stops}
 use Rattle.liquid.proofs.GatheredLemmas.{Files}
 use Rattle.liquid.proofs.gather.partials_in.Goals as goal

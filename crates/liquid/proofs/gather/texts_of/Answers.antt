@@ -1,14 +1,14 @@
 use Rattle.std.proofs.Common.{◌≡◌, ◌∙◌, ◌∷◌, [], Ok, Err, String, Global, ap, map, string_bytes, refl, rules, sym, subst}
 use Rattle.std.specs.FinMap.{empty, insert, keys}
 use Rattle.std.specs.Map.{keys_of}
-use Rattle.liquid_partials.specs.Sources.{Texts}
-use Rattle.liquid_plugins.specs.Registry.{by_name}
+use Rattle.liquid_partials.specs.meaning.Sources.{Texts}
+use Rattle.liquid_plugins.specs.meaning.Registry.{by_name}
 use Rattle.liquid_plugins.proofs.Registries.{names-by_name}
 use Rattle.liquid_error.specs.declared.error.Error.{roll-Error}
 use Rattle.liquid_error.specs.declared.error.Error.TheOpen.{Error-F}
 use Rattle.liquid.specs.declared.fault.Fault.TheVariants.{Refused}
-use Rattle.liquid.specs.Gathered.{WithText, WithFiles, path_in}
-use Rattle.liquid.specs.Steps.{Stops, Brings}
+use Rattle.liquid.specs.meaning.Gathered.{WithText, WithFiles, path_in}
+use Rattle.liquid.specs.steps.Steps.{Stops, Brings}
 use Rattle.liquid.proofs.GatheredLemmas.{Files}
 use Rattle.liquid.proofs.FolderLemmas.{ReadSoFar, nothing_read, read_more, read_stops, read_memory, read_all}
 use Rattle.liquid.proofs.gather.texts_of.Goals as goal

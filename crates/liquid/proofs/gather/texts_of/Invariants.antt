@@ -1,7 +1,7 @@
 use Rattle.std.proofs.Common.{◌≡◌, map, string_bytes}
 use Rattle.std.specs.FinMap.{keys}
 use Rattle.std.specs.Map.{keys_of}
-use Rattle.liquid_plugins.specs.Registry.{by_name}
+use Rattle.liquid_plugins.specs.meaning.Registry.{by_name}
 use Rattle.liquid.proofs.FolderLemmas.{ReadSoFar}
 use Rattle.liquid.proofs.gather.texts_of.Given as goal
 

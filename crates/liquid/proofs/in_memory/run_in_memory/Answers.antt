@@ -1,5 +1,5 @@
 use Rattle.std.proofs.Common.{map, string_bytes}
-use Rattle.liquid.specs.InMemory.{bytes_at, names_at}
+use Rattle.liquid.specs.meaning.InMemory.{bytes_at, names_at}
 use Rattle.liquid.proofs.ShownRuns.{Shows-printed}
 use Rattle.liquid.proofs.in_memory.run_in_memory.Goals as goal
 

@@ -1,7 +1,7 @@
 use Rattle.std.proofs.Common.{true, false, rules, ap, option_map, ◌∙◌}
 use Rattle.liquid_error.specs.declared.error.Error.{the_lemmas}
-use Rattle.liquid.specs.Program.{built_over}
-use Rattle.liquid.specs.ProgramLanguage.{meaning_of}
+use Rattle.liquid.specs.meaning.Program.{built_over}
+use Rattle.liquid.specs.meaning.ProgramLanguage.{meaning_of}
 use Rattle.liquid.proofs.MemoryLemmas.{nothing_rendered}
 use Rattle.liquid.proofs.RunLemmas.{Renders-over}
 use Rattle.liquid.proofs.rendering.render_in_language.Goals as goal

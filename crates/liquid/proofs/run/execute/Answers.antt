@@ -1,30 +1,29 @@
 use Rattle.std.proofs.Common.{Ok, Err, Option, String, Global, rules, subst, ◌∙◌, string_bytes, option_map}
-use Rattle.liquid_template.specs.Sunk.{sunk}
-use Rattle.liquid_partials.specs.Sources.{Texts}
-use Rattle.liquid.specs.Command.{option_words}
-use Rattle.liquid.specs.Gathered.{WithText, WithPartials}
-use Rattle.liquid.specs.Status.{exit_status}
-use Rattle.liquid.specs.Steps.{Stops, Brings}
+use Rattle.liquid_partials.specs.meaning.Sources.{Texts}
+use Rattle.liquid.specs.meaning.Command.{option_words}
+use Rattle.liquid.specs.meaning.Gathered.{WithText, WithPartials}
+use Rattle.liquid.specs.meaning.Status.{exit_status}
+use Rattle.liquid.specs.steps.Steps.{Stops, Brings}
 use Rattle.liquid.proofs.GatheredLemmas.{Files, Folders}
 use Rattle.liquid.proofs.ExecutedLemmas.{no_template, no_json, no_globals, no_partials, executed, failed}
 use Rattle.liquid.proofs.run.execute.Goals as goal
 
 pub returns-in_err-template-clause-executes : goal.returns-in_err-template-clause-executes
 returns-in_err-template-clause-executes g c =
-    let before = sunk (g.K.Sink.taken c.args.sink.now) (g.K.Sink.failures c.args.sink.now) (g.K.Sink.behind c.args.sink.now) (g.K.Sink.lent c.args.sink.now) in
+    let before = g.K.Sink.sunk c.args.sink.now in
     no_template c.args.command.options c.args.command.paths.template.now c.args.command.paths.globals.now (option_map (λ f. f.now) c.args.command.paths.folder) (g.F.Folder.known c.args.files.now) (g.F.Folder.listed c.args.files.now) before
     (exit_status c.from_residual.result) c.in_err-template.field-0.0 (failed c.from_residual.result c.in_err-template.field-0.0 (search rules)) c.in_err-template.ensures.text
 
 pub returns-in_err-json-clause-executes : goal.returns-in_err-json-clause-executes
 returns-in_err-json-clause-executes g c =
-    let before = sunk (g.K.Sink.taken c.args.sink.now) (g.K.Sink.failures c.args.sink.now) (g.K.Sink.behind c.args.sink.now) (g.K.Sink.lent c.args.sink.now) in
+    let before = g.K.Sink.sunk c.args.sink.now in
     no_json c.args.command.options c.args.command.paths.template.now c.args.command.paths.globals.now (option_map (λ f. f.now) c.args.command.paths.folder) (g.F.Folder.known c.args.files.now) (g.F.Folder.listed c.args.files.now) before
     (exit_status c.from_residual-in_err-json.result) c.in_ok-template.template c.in_ok-template.ensures.text c.in_err-json.field-0.0 (failed c.from_residual-in_err-json.result c.in_err-json.field-0.0 (search rules))
     (subst (λ (known : Files). WithText (known c.args.command.paths.globals.now) (Stops {A = String Global} (Err c.in_err-json.field-0.0)) (λ bytes. Brings (string_bytes {Z = Global}) bytes (Err c.in_err-json.field-0.0))) c.text_of.ensures.same c.in_err-json.ensures.text)
 
 pub returns-in_err-globals-clause-executes : goal.returns-in_err-globals-clause-executes
 returns-in_err-globals-clause-executes g c =
-    let before = sunk (g.K.Sink.taken c.args.sink.now) (g.K.Sink.failures c.args.sink.now) (g.K.Sink.behind c.args.sink.now) (g.K.Sink.lent c.args.sink.now) in
+    let before = g.K.Sink.sunk c.args.sink.now in
     let json = subst (λ (known : Files). WithText (known c.args.command.paths.globals.now) (Stops (Ok c.in_ok-json.json)) (λ bytes. Brings string_bytes bytes (Ok c.in_ok-json.json))) c.text_of.ensures.same c.in_ok-json.ensures.text in
     no_globals c.args.command.options c.args.command.paths.template.now c.args.command.paths.globals.now (option_map (λ f. f.now) c.args.command.paths.folder) (g.F.Folder.known c.args.files.now) (g.F.Folder.listed c.args.files.now) before
     (exit_status c.from_residual-in_err-globals.result) c.in_ok-template.template c.in_ok-template.ensures.text c.in_ok-json.json json c.in_err-globals.field-0.0 (failed c.from_residual-in_err-globals.result c.in_err-globals.field-0.0 (search rules))
@@ -32,7 +31,7 @@ returns-in_err-globals-clause-executes g c =
 
 pub returns-in_err-partials-clause-executes : goal.returns-in_err-partials-clause-executes
 returns-in_err-partials-clause-executes g c =
-    let before = sunk (g.K.Sink.taken c.args.sink.now) (g.K.Sink.failures c.args.sink.now) (g.K.Sink.behind c.args.sink.now) (g.K.Sink.lent c.args.sink.now) in
+    let before = g.K.Sink.sunk c.args.sink.now in
     let json = subst (λ (known : Files). WithText (known c.args.command.paths.globals.now) (Stops (Ok c.in_ok-json.json)) (λ bytes. Brings string_bytes bytes (Ok c.in_ok-json.json))) c.text_of.ensures.same c.in_ok-json.ensures.text in
     let words = option_words (option_map (λ f. f.now) c.args.command.paths.folder) in
     let same = c.text_of-2.ensures.same ∙ c.text_of.ensures.same in
@@ -46,8 +45,8 @@ returns-in_err-partials-clause-executes g c =
 
 pub returns-in-Ok-clause-executes : goal.returns-in-Ok-clause-executes
 returns-in-Ok-clause-executes g c =
-    let before = sunk (g.K.Sink.taken c.args.sink.now) (g.K.Sink.failures c.args.sink.now) (g.K.Sink.behind c.args.sink.now) (g.K.Sink.lent c.args.sink.now) in
-    let after = sunk (g.K.Sink.taken c.render_over.new.sink) (g.K.Sink.failures c.render_over.new.sink) (g.K.Sink.behind c.render_over.new.sink) (g.K.Sink.lent c.render_over.new.sink) in
+    let before = g.K.Sink.sunk c.args.sink.now in
+    let after = g.K.Sink.sunk c.render_over.new.sink in
     let json = subst (λ (known : Files). WithText (known c.args.command.paths.globals.now) (Stops (Ok c.in_ok-json.json)) (λ bytes. Brings string_bytes bytes (Ok c.in_ok-json.json))) c.text_of.ensures.same c.in_ok-json.ensures.text in
     let words = option_words (option_map (λ f. f.now) c.args.command.paths.folder) in
     let same = c.text_of-2.ensures.same ∙ c.text_of.ensures.same in
@@ -61,8 +60,8 @@ returns-in-Ok-clause-executes g c =
 
 pub returns-clause-executes : goal.returns-clause-executes
 returns-clause-executes g c =
-    let before = sunk (g.K.Sink.taken c.args.sink.now) (g.K.Sink.failures c.args.sink.now) (g.K.Sink.behind c.args.sink.now) (g.K.Sink.lent c.args.sink.now) in
-    let after = sunk (g.K.Sink.taken c.render_over.new.sink) (g.K.Sink.failures c.render_over.new.sink) (g.K.Sink.behind c.render_over.new.sink) (g.K.Sink.lent c.render_over.new.sink) in
+    let before = g.K.Sink.sunk c.args.sink.now in
+    let after = g.K.Sink.sunk c.render_over.new.sink in
     let json = subst (λ (known : Files). WithText (known c.args.command.paths.globals.now) (Stops (Ok c.in_ok-json.json)) (λ bytes. Brings string_bytes bytes (Ok c.in_ok-json.json))) c.text_of.ensures.same c.in_ok-json.ensures.text in
     let words = option_words (option_map (λ f. f.now) c.args.command.paths.folder) in
     let same = c.text_of-2.ensures.same ∙ c.text_of.ensures.same in

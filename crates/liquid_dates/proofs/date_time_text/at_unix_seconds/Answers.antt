@@ -1,7 +1,7 @@
 use Rattle.std.proofs.Common.{arith, ◌≡◌}
 use Rattle.jiff_core.specs.Timestamp.{nanos_of_seconds}
 use Rattle.jiff_core.proofs.SignedLemmas.{signed_arith}
-use Rattle.liquid_dates.specs.Instant.{instant}
+use Rattle.liquid_dates.specs.meaning.Instant.{instant}
 use Rattle.liquid_dates.proofs.UnixTimeLemmas.{unix_found, unix_range}
 use Rattle.liquid_dates.proofs.date_time_text.at_unix_seconds.Goals as goal
 

@@ -1,6 +1,6 @@
 use Rattle.std.proofs.Common.{◌≡◌, ◌∙◌, ap, unwrap_or, arith}
 use Rattle.jiff_core.proofs.SignedLemmas.{signed_arith}
-use Rattle.liquid_dates.specs.Instant.{offset_seconds}
+use Rattle.liquid_dates.specs.meaning.Instant.{offset_seconds}
 use Rattle.liquid_dates.proofs.WholeLemmas.{none_weaker}
 use Rattle.liquid_dates.proofs.date_time_text.date_time_of.Goals as goal
 

@@ -1,7 +1,7 @@
 use Rattle.std.proofs.Common.{refl, ◌∙◌, sym}
 use Rattle.std.specs.Str.{chars}
-use Rattle.liquid_dates.specs.Flags.{is_flag, is_digit}
-use Rattle.liquid_dates.specs.PatternReader.{front}
+use Rattle.liquid_dates.specs.meaning.Flags.{is_flag, is_digit}
+use Rattle.liquid_dates.specs.steps.PatternReader.{front}
 use Rattle.liquid_dates.proofs.PatternReaderLemmas.{flags_from_none, width_from_unset, directive_at_is, read_unset, read_given, read_great, behind_width_fits, behind_width_great}
 use Rattle.liquid_dates.proofs.pattern.read_conversion.Goals as goal
 

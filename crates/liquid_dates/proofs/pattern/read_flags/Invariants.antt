@@ -1,7 +1,7 @@
 use Rattle.std.proofs.Common.{◌≡◌, length}
 use Rattle.std.specs.Str.{chars, IsUtf8}
-use Rattle.liquid_dates.specs.Flags.{is_flag, no_flags}
-use Rattle.liquid_dates.specs.PatternReader.{flags_from, behind}
+use Rattle.liquid_dates.specs.meaning.Flags.{is_flag, no_flags}
+use Rattle.liquid_dates.specs.steps.PatternReader.{flags_from, behind}
 use Rattle.liquid_dates.proofs.pattern.read_flags.Given as goal
 
 abbrev pub invariant-flags : goal.invariant-flags

@@ -1,8 +1,8 @@
 use Rattle.std.proofs.Common.{◌≡◌, length}
 use Rattle.std.specs.Str.{chars, IsUtf8}
 use Rattle.liquid_dates.specs.declared.pattern.Width.TheVariants.{Unset}
-use Rattle.liquid_dates.specs.Flags.{is_digit}
-use Rattle.liquid_dates.specs.PatternReader.{width_from, behind}
+use Rattle.liquid_dates.specs.meaning.Flags.{is_digit}
+use Rattle.liquid_dates.specs.steps.PatternReader.{width_from, behind}
 use Rattle.liquid_dates.proofs.pattern.read_width.Given as goal
 
 abbrev pub invariant-digits : goal.invariant-digits

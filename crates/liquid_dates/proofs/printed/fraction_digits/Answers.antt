@@ -1,6 +1,6 @@
 use Rattle.std.proofs.Common.{◌≡◌, ◌+◌, ◌/◌, ◌^◌, [], ◌∷◌, ◌++◌, refl, sym, ap, ◌∙◌, rules, arith, append_assoc}
 use Rattle.std.proofs.Output.{has_written_append, has_written_of_eq}
-use Rattle.liquid_dates.specs.Printed.{fraction_digits}
+use Rattle.liquid_dates.specs.meaning.Printed.{fraction_digits}
 use Rattle.liquid_dates.proofs.FractionLemmas.{fraction_digits_last, fraction_digits_more}
 use Rattle.liquid_dates.proofs.printed.fraction_digits.Goals as goal
 

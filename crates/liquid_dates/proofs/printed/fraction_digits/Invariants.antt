@@ -1,6 +1,6 @@
 use Rattle.std.proofs.Common.{◌≡◌, ℕ, suc, ◌*◌, ◌^◌, ◌<◌, List, ◌++◌}
 use Rattle.std.specs.Fmt.{HasWritten, IsPlainFormatter}
-use Rattle.liquid_dates.specs.Printed.{fraction_digits}
+use Rattle.liquid_dates.specs.meaning.Printed.{fraction_digits}
 use Rattle.liquid_dates.proofs.printed.fraction_digits.Given as goal
 
 abbrev pub invariant-digits : goal.invariant-digits

@@ -1,6 +1,6 @@
 use Rattle.std.proofs.Common.{◌≡◌, ◌-◌}
-use Rattle.liquid_dates.specs.DateReader.{find_name}
-use Rattle.liquid_dates.specs.Names.{short_month_name}
+use Rattle.liquid_dates.specs.steps.DateReader.{find_name}
+use Rattle.liquid_dates.specs.meaning.Names.{short_month_name}
 use Rattle.liquid_dates.proofs.reading.find_month.Given as goal
 
 abbrev pub invariant-months : goal.invariant-months

@@ -1,6 +1,6 @@
 use Rattle.std.proofs.Common.{◌≡◌, ◌∙◌, sym, ap, arith, true, false}
 use Rattle.std.specs.Str.{bytes_eq}
-use Rattle.liquid_dates.specs.Names.{short_weekday_name}
+use Rattle.liquid_dates.specs.meaning.Names.{short_weekday_name}
 use Rattle.liquid_dates.proofs.ReaderLemmas.{find_hit, find_miss, find_end}
 use Rattle.liquid_dates.proofs.reading.find_weekday.Goals as goal
 

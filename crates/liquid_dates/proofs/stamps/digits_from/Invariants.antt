@@ -1,5 +1,5 @@
 use Rattle.std.proofs.Common.{◌≡◌, ◌<◌, ◌≤◌, ◌^◌, length}
-use Rattle.liquid_dates.specs.DateReader.{digits_from}
+use Rattle.liquid_dates.specs.steps.DateReader.{digits_from}
 use Rattle.liquid_dates.proofs.stamps.digits_from.Given as goal
 
 abbrev pub invariant-digits : goal.invariant-digits

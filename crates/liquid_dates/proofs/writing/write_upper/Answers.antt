@@ -1,5 +1,5 @@
 use Rattle.std.proofs.Common.{◌≡◌, ◌∙◌, true}
-use Rattle.liquid_dates.specs.Filling.{is_ascii_text}
+use Rattle.liquid_dates.specs.meaning.Filling.{is_ascii_text}
 use Rattle.liquid_dates.proofs.AsciiLemmas.{upper_more}
 use Rattle.liquid_dates.proofs.writing.write_upper.Goals as goal
 

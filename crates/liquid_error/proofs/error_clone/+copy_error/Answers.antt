@@ -3,8 +3,8 @@ use Rattle.liquid_error.specs.declared.cause.CauseOf.{CauseOf}
 use Rattle.liquid_error.specs.declared.cause.CauseOf.TheVariants as cause_of
 use Rattle.liquid_error.specs.declared.error.Error.{Error}
 use Rattle.liquid_error.specs.declared.error.Error.TheViews.{Liquid}
-use Rattle.liquid_error.specs.Refusal.{by_text, reason_of_told}
-use Rattle.liquid_error.specs.Told.{told, reason_of}
+use Rattle.liquid_error.specs.meaning.Refusal.{by_text, reason_of_told}
+use Rattle.liquid_error.specs.meaning.Told.{told, reason_of}
 use Rattle.liquid_error.proofs.Causes.{copied_cause}
 use Rattle.liquid_error.proofs.error_clone.+copy_error.Goals as goal
 

@@ -1,8 +1,8 @@
 use Rattle.std.proofs.Common.{map, take}
 use Rattle.std.specs.List.{flat_map}
 use Rattle.std.specs.Fmt.{HasWritten, IsPlainFormatter}
-use Rattle.liquid_error.specs.ErrorText.{entry_line}
-use Rattle.liquid_error.specs.Told.{entry_of}
+use Rattle.liquid_error.specs.meaning.ErrorText.{entry_line}
+use Rattle.liquid_error.specs.meaning.Told.{entry_of}
 use Rattle.liquid_error.proofs.error_text.write_entries.Given as goal
 
 abbrev pub invariant-loop-context : goal.invariant-loop-context

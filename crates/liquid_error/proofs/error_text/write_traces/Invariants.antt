@@ -1,8 +1,8 @@
 use Rattle.std.proofs.Common.{map, take}
 use Rattle.std.specs.List.{flat_map}
 use Rattle.std.specs.Fmt.{HasWritten, IsPlainFormatter}
-use Rattle.liquid_error.specs.ErrorText.{note_text}
-use Rattle.liquid_error.specs.Told.{note_of}
+use Rattle.liquid_error.specs.meaning.ErrorText.{note_text}
+use Rattle.liquid_error.specs.meaning.Told.{note_of}
 use Rattle.liquid_error.proofs.error_text.write_traces.Given as goal
 
 abbrev pub invariant-loop-trace : goal.invariant-loop-trace

@@ -1,7 +1,7 @@
 use Rattle.std.proofs.Common.{◌+◌, Option, sym, ap, ◌∙◌}
 use Rattle.liquid_grammar.specs.declared.bracket.Await.TheVariants.{Index}
-use Rattle.liquid_grammar.specs.Faults.{Fault}
-use Rattle.liquid_grammar.specs.BracketSteps.{adds, starts}
+use Rattle.liquid_grammar.specs.meaning.Faults.{Fault}
+use Rattle.liquid_grammar.specs.steps.BracketSteps.{adds, starts}
 use Rattle.liquid_grammar.proofs.FlatBrackets.{turn_named, turn_open, turn_to_close, going_at, fault_added}
 use Rattle.liquid_grammar.proofs.bracket.at_index.Goals as goal
 

@@ -1,8 +1,8 @@
 use Rattle.std.proofs.Common.{pred, Option, ap, ◌∙◌}
 use Rattle.liquid_grammar.specs.declared.bracket.Await.TheVariants.{Value}
-use Rattle.liquid_grammar.specs.Faults.{Fault}
-use Rattle.liquid_grammar.specs.Meanings.{literal_of}
-use Rattle.liquid_grammar.specs.BracketSteps.{adds, resume, closing}
+use Rattle.liquid_grammar.specs.meaning.Faults.{Fault}
+use Rattle.liquid_grammar.specs.meaning.Meanings.{literal_of}
+use Rattle.liquid_grammar.specs.steps.BracketSteps.{adds, resume, closing}
 use Rattle.liquid_grammar.proofs.HeadLemmas.{literal_found, name_found, no_literal_found}
 use Rattle.liquid_grammar.proofs.FlatBrackets.{turn_literal, turn_name, turn_no_value, going_at, fault_added, match_none}
 use Rattle.liquid_grammar.proofs.bracket.at_value.Goals as goal

@@ -1,9 +1,9 @@
 use Rattle.std.proofs.Common.{◌≡◌, ◌+◌, ◌*◌, ◌<◌, ◌≤◌, length}
 use denote.Text.{Utf8}
 use denote.Shadow.{shadow}
-use Rattle.liquid_grammar.specs.Faults.{index_fault}
-use Rattle.liquid_grammar.specs.Meanings.{scan}
-use Rattle.liquid_grammar.specs.BracketSteps.{going, rank, bracket_index}
+use Rattle.liquid_grammar.specs.meaning.Faults.{index_fault}
+use Rattle.liquid_grammar.specs.meaning.Meanings.{scan}
+use Rattle.liquid_grammar.specs.steps.BracketSteps.{going, rank, bracket_index}
 use Rattle.liquid_grammar.specs.declared.bracket.Await.TheVariants.{Index}
 use Rattle.liquid_grammar.proofs.bracket.bracketed.Given as goal
 

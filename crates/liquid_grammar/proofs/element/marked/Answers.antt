@@ -1,5 +1,5 @@
 use Rattle.std.proofs.Common.{ℕ, List, sym, refl, ap₂, ◌∙◌, ◌++◌, take, ◌-◌, length}
-use Rattle.liquid_grammar.specs.Cover.{tag_element, expression, invalid}
+use Rattle.liquid_grammar.specs.meaning.Cover.{tag_element, expression, invalid}
 use Rattle.liquid_grammar.proofs.CoverLemmas.{tag_found, expression_found, no_tag, no_expression, tag_ends, expression_ends, tag_element_is, expression_is, invalid_is, brace_found}
 use Rattle.liquid_grammar.proofs.element.marked.Goals as goal
 

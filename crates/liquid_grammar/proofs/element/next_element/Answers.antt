@@ -1,7 +1,7 @@
 use Rattle.std.proofs.Common.{ℕ, ◌<◌, List, length, refl, sym, ◌∙◌, arith, eqb-true, subst₂}
 use Rattle.std.proofs.lemmas.Bool.{eqb-false}
 use Rattle.liquid_grammar.specs.declared.element.Element.TheVariants.{Raw}
-use Rattle.liquid_grammar.specs.Cover.{IsElement, raw}
+use Rattle.liquid_grammar.specs.meaning.Cover.{IsElement, raw}
 use Rattle.liquid_grammar.proofs.CoverLemmas.{only_element, element_some, raw_element}
 use Rattle.liquid_grammar.proofs.element.next_element.Goals as goal
 

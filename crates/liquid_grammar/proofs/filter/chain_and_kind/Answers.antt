@@ -1,5 +1,5 @@
-use Rattle.liquid_grammar.specs.Faults.{chain_fault}
-use Rattle.liquid_grammar.specs.TokenSteps.{chain_of}
+use Rattle.liquid_grammar.specs.meaning.Faults.{chain_fault}
+use Rattle.liquid_grammar.specs.steps.TokenSteps.{chain_of}
 use Rattle.liquid_grammar.proofs.KindLemmas.{filtered_is, unfiltered_is, nothing_chain_kind, nothing_scan}
 use Rattle.liquid_grammar.proofs.Scanning.{chain_more, chain_end, no_chain_scan}
 use Rattle.liquid_grammar.proofs.filter.chain_and_kind.Goals as goal

@@ -1,8 +1,8 @@
 use Rattle.std.proofs.Common.{Option, ap, sym, ◌∙◌, arith, rules, refl}
-use Rattle.liquid_grammar.specs.Faults.{Fault, first_fault, argument_fault}
-use Rattle.liquid_grammar.specs.Meanings.{scan, faults_of, Scanned}
-use Rattle.liquid_grammar.specs.TokenSteps.{repeated, behind, argument}
-use Rattle.liquid_grammar.specs.BracketSteps.{adds}
+use Rattle.liquid_grammar.specs.meaning.Faults.{Fault, first_fault, argument_fault}
+use Rattle.liquid_grammar.specs.meaning.Meanings.{scan, faults_of, Scanned}
+use Rattle.liquid_grammar.specs.steps.TokenSteps.{repeated, behind, argument}
+use Rattle.liquid_grammar.specs.steps.BracketSteps.{adds}
 use Rattle.liquid_grammar.proofs.FlatBrackets.{adds_adds, fault_added, adds_found}
 use Rattle.liquid_grammar.proofs.Scanning.{repeated_scan_more, repeated_scan_end}
 use Rattle.liquid_grammar.proofs.TokenExact.{exact-behind, shrinks-behind, exact-argument}

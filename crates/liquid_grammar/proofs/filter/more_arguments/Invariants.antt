@@ -1,10 +1,10 @@
 use Rattle.std.proofs.Common.{◌≡◌, ◌≤◌, length}
 use denote.Text.{Utf8}
 use denote.Shadow.{shadow}
-use Rattle.liquid_grammar.specs.Faults.{first_fault, argument_fault}
-use Rattle.liquid_grammar.specs.Meanings.{scan, faults_of}
-use Rattle.liquid_grammar.specs.TokenSteps.{repeated, behind, argument}
-use Rattle.liquid_grammar.specs.BracketSteps.{adds}
+use Rattle.liquid_grammar.specs.meaning.Faults.{first_fault, argument_fault}
+use Rattle.liquid_grammar.specs.meaning.Meanings.{scan, faults_of}
+use Rattle.liquid_grammar.specs.steps.TokenSteps.{repeated, behind, argument}
+use Rattle.liquid_grammar.specs.steps.BracketSteps.{adds}
 use Rattle.liquid_grammar.proofs.filter.more_arguments.Given as goal
 
 abbrev pub invariant-arguments : goal.invariant-arguments

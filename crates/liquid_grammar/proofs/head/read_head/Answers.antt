@@ -1,5 +1,5 @@
 use Rattle.std.proofs.Common.{option_and_then, ap, ◌∙◌}
-use Rattle.liquid_grammar.specs.Heads.{literal_in, name_in}
+use Rattle.liquid_grammar.specs.steps.Heads.{literal_in, name_in}
 use Rattle.liquid_grammar.proofs.HeadLemmas.{literal_of_word, name_of_word, literal_without_word, no_name}
 use Rattle.liquid_grammar.proofs.head.read_head.Goals as goal
 

@@ -1,4 +1,4 @@
-use Rattle.liquid_grammar.specs.Faults.{argument_fault}
+use Rattle.liquid_grammar.specs.meaning.Faults.{argument_fault}
 use Rattle.liquid_grammar.proofs.MatchLemmas.{matches_from_scan}
 use Rattle.liquid_grammar.proofs.TokenExact.{exact-argument}
 use Rattle.liquid_grammar.proofs.matching.match_argument.Goals as goal

@@ -1,4 +1,4 @@
-use Rattle.liquid_grammar.specs.Faults.{chain_fault}
+use Rattle.liquid_grammar.specs.meaning.Faults.{chain_fault}
 use Rattle.liquid_grammar.proofs.MatchLemmas.{matches_from_scan}
 use Rattle.liquid_grammar.proofs.TokenExact.{exact-chain}
 use Rattle.liquid_grammar.proofs.matching.match_chain.Goals as goal

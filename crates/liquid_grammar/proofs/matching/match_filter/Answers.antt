@@ -1,4 +1,4 @@
-use Rattle.liquid_grammar.specs.Faults.{filter_fault}
+use Rattle.liquid_grammar.specs.meaning.Faults.{filter_fault}
 use Rattle.liquid_grammar.proofs.MatchLemmas.{matches_from_scan}
 use Rattle.liquid_grammar.proofs.TokenExact.{exact-filter}
 use Rattle.liquid_grammar.proofs.matching.match_filter.Goals as goal

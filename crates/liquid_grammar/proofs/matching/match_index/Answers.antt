@@ -1,4 +1,4 @@
-use Rattle.liquid_grammar.specs.Faults.{index_fault}
+use Rattle.liquid_grammar.specs.meaning.Faults.{index_fault}
 use Rattle.liquid_grammar.proofs.MatchLemmas.{matches_from_scan}
 use Rattle.liquid_grammar.proofs.TokenExact.{exact-index, exact-value}
 use Rattle.liquid_grammar.proofs.matching.match_index.Goals as goal

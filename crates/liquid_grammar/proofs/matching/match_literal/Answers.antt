@@ -1,4 +1,4 @@
-use Rattle.liquid_grammar.specs.Meanings.{literal_of}
+use Rattle.liquid_grammar.specs.meaning.Meanings.{literal_of}
 use Rattle.liquid_grammar.proofs.MatchLemmas.{finds_from_found}
 use Rattle.liquid_grammar.proofs.TokenExact.{exact-literal}
 use Rattle.liquid_grammar.proofs.matching.match_literal.Goals as goal

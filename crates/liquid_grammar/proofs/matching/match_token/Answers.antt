@@ -1,4 +1,4 @@
-use Rattle.liquid_grammar.specs.Faults.{token_fault}
+use Rattle.liquid_grammar.specs.meaning.Faults.{token_fault}
 use Rattle.liquid_grammar.proofs.MatchLemmas.{matches_from_scan}
 use Rattle.liquid_grammar.proofs.TokenExact.{exact-token}
 use Rattle.liquid_grammar.proofs.matching.match_token.Goals as goal

@@ -1,4 +1,4 @@
-use Rattle.liquid_grammar.specs.Faults.{value_fault}
+use Rattle.liquid_grammar.specs.meaning.Faults.{value_fault}
 use Rattle.liquid_grammar.proofs.MatchLemmas.{matches_from_scan}
 use Rattle.liquid_grammar.proofs.TokenExact.{exact-value}
 use Rattle.liquid_grammar.proofs.matching.match_value.Goals as goal

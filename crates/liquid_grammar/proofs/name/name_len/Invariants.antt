@@ -1,5 +1,5 @@
 use Rattle.std.proofs.Common.{◌≡◌, ◌+◌, drop}
-use Rattle.liquid_grammar.specs.Steps.{name_len}
+use Rattle.liquid_grammar.specs.steps.Steps.{name_len}
 use Rattle.liquid_grammar.proofs.name.name_len.Given as goal
 
 abbrev pub invariant-bytes : goal.invariant-bytes

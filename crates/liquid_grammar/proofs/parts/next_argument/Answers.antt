@@ -1,6 +1,6 @@
 use Rattle.liquid_grammar.proofs.PartLemmas.{returned_none}
 use Rattle.liquid_grammar.proofs.FilterPartLemmas.{no_argument_left, no_separator, none_behind, no_argument_value, keyword_first, positional_first, at_separator}
-use Rattle.liquid_grammar.specs.Parts.{separator}
+use Rattle.liquid_grammar.specs.meaning.Parts.{separator}
 use Rattle.liquid_grammar.proofs.parts.next_argument.Goals as goal
 
 pub returns-in_err-place-clause-only : goal.returns-in_err-place-clause-only

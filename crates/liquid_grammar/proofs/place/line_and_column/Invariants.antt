@@ -1,5 +1,5 @@
 use Rattle.std.proofs.Common.{◌≡◌, ◌+◌, ◌≤◌, take}
-use Rattle.liquid_grammar.specs.Place.{line_and_column}
+use Rattle.liquid_grammar.specs.meaning.Place.{line_and_column}
 use Rattle.liquid_grammar.proofs.place.line_and_column.Given as goal
 
 abbrev pub invariant-loop-byte : goal.invariant-loop-byte

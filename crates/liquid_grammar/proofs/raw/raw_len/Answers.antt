@@ -1,5 +1,5 @@
 use Rattle.std.proofs.Common.{rules, ℕ, ◌-◌, ◌<◌, length, List, subst, sym, ◌∙◌, arith}
-use Rattle.liquid_grammar.specs.Steps.{EndsRaw, white_start}
+use Rattle.liquid_grammar.specs.steps.Steps.{EndsRaw, white_start}
 use Rattle.liquid_grammar.proofs.RawLemmas.{ends_here, passed_to, passed_brace, ends_at_white, ends_at_braces, ends_at_end}
 use Rattle.liquid_grammar.proofs.raw.raw_len.Goals as goal
 

@@ -1,5 +1,5 @@
 use Rattle.std.proofs.Common.{◌≡◌, ◌≤◌, ◌-◌}
-use Rattle.liquid_grammar.specs.Steps.{white_start}
+use Rattle.liquid_grammar.specs.steps.Steps.{white_start}
 use Rattle.liquid_grammar.proofs.raw.white_start.Given as goal
 
 abbrev pub invariant-white : goal.invariant-white

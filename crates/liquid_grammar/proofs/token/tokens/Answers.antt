@@ -1,9 +1,9 @@
 use Rattle.std.proofs.Common.{Option, ap, sym, ◌∙◌, arith, rules, refl}
-use Rattle.liquid_grammar.specs.Faults.{Fault, first_fault, token_fault}
-use Rattle.liquid_grammar.specs.Meanings.{scan, faults_of, Scanned}
-use Rattle.liquid_grammar.specs.TokenSteps.{repeated, token}
-use Rattle.liquid_grammar.specs.Steps.{right, white}
-use Rattle.liquid_grammar.specs.BracketSteps.{adds}
+use Rattle.liquid_grammar.specs.meaning.Faults.{Fault, first_fault, token_fault}
+use Rattle.liquid_grammar.specs.meaning.Meanings.{scan, faults_of, Scanned}
+use Rattle.liquid_grammar.specs.steps.TokenSteps.{repeated, token}
+use Rattle.liquid_grammar.specs.steps.Steps.{right, white}
+use Rattle.liquid_grammar.specs.steps.BracketSteps.{adds}
 use Rattle.liquid_grammar.proofs.FlatBrackets.{adds_adds, fault_added, adds_found}
 use Rattle.liquid_grammar.proofs.Scanning.{repeated_scan_more, repeated_scan_end}
 use Rattle.liquid_grammar.proofs.TokenExact.{exact-next_token, shrinks-next_token}

@@ -1,11 +1,11 @@
 use Rattle.std.proofs.Common.{◌≡◌, ◌≤◌, length}
 use denote.Text.{Utf8}
 use denote.Shadow.{shadow}
-use Rattle.liquid_grammar.specs.Faults.{first_fault, token_fault}
-use Rattle.liquid_grammar.specs.Meanings.{scan, faults_of}
-use Rattle.liquid_grammar.specs.TokenSteps.{repeated, token}
-use Rattle.liquid_grammar.specs.Steps.{right, white}
-use Rattle.liquid_grammar.specs.BracketSteps.{adds}
+use Rattle.liquid_grammar.specs.meaning.Faults.{first_fault, token_fault}
+use Rattle.liquid_grammar.specs.meaning.Meanings.{scan, faults_of}
+use Rattle.liquid_grammar.specs.steps.TokenSteps.{repeated, token}
+use Rattle.liquid_grammar.specs.steps.Steps.{right, white}
+use Rattle.liquid_grammar.specs.steps.BracketSteps.{adds}
 use Rattle.liquid_grammar.proofs.token.tokens.Given as goal
 
 abbrev pub invariant-tokens : goal.invariant-tokens

@@ -1,7 +1,7 @@
 use Rattle.std.proofs.Common.{Option, ap, sym, ◌∙◌, arith, rules, refl}
-use Rattle.liquid_grammar.specs.Faults.{Fault}
-use Rattle.liquid_grammar.specs.Meanings.{scan, faults_of, Scanned}
-use Rattle.liquid_grammar.specs.BracketSteps.{adds, indexes}
+use Rattle.liquid_grammar.specs.meaning.Faults.{Fault}
+use Rattle.liquid_grammar.specs.meaning.Meanings.{scan, faults_of, Scanned}
+use Rattle.liquid_grammar.specs.steps.BracketSteps.{adds, indexes}
 use Rattle.liquid_grammar.proofs.FlatBrackets.{adds_adds, fault_added, adds_found}
 use Rattle.liquid_grammar.proofs.ValueScan.{list_fault, indexes_more, indexes_end}
 use Rattle.liquid_grammar.proofs.value.indexes.Goals as goal

@@ -1,10 +1,10 @@
 use Rattle.std.proofs.Common.{◌≡◌, ◌≤◌, length}
 use denote.Text.{Utf8}
 use denote.Shadow.{shadow}
-use Rattle.liquid_grammar.specs.Values.{gather}
-use Rattle.liquid_grammar.specs.Faults.{indexes_fault}
-use Rattle.liquid_grammar.specs.Meanings.{scan, faults_of}
-use Rattle.liquid_grammar.specs.BracketSteps.{adds, indexes}
+use Rattle.liquid_grammar.specs.meaning.Values.{gather}
+use Rattle.liquid_grammar.specs.meaning.Faults.{indexes_fault}
+use Rattle.liquid_grammar.specs.meaning.Meanings.{scan, faults_of}
+use Rattle.liquid_grammar.specs.steps.BracketSteps.{adds, indexes}
 use Rattle.liquid_grammar.proofs.value.indexes.Given as goal
 
 abbrev pub invariant-indexes : goal.invariant-indexes

@@ -1,6 +1,6 @@
-use Rattle.liquid_grammar.specs.Faults.{value_fault}
-use Rattle.liquid_grammar.specs.Meanings.{literal_of}
-use Rattle.liquid_grammar.specs.TokenSteps.{value}
+use Rattle.liquid_grammar.specs.meaning.Faults.{value_fault}
+use Rattle.liquid_grammar.specs.meaning.Meanings.{literal_of}
+use Rattle.liquid_grammar.specs.steps.TokenSteps.{value}
 use Rattle.liquid_grammar.proofs.HeadLemmas.{literal_found, name_found, no_literal_found}
 use Rattle.liquid_grammar.proofs.KindLemmas.{literal_is, identifier_is, variable_is, nothing_kind, nothing_scan}
 use Rattle.liquid_grammar.proofs.ValueScan.{value_literal, variable_end, variable_more, no_value_scan}

@@ -2,8 +2,8 @@ use Rattle.std.proofs.Common.{◌≡◌, ◌++◌, map}
 use Rattle.std.specs.Map.{keys_of}
 use Rattle.std.specs.Vec.Iter.{into_iter_items}
 use Rattle.serde_json.specs.View.{items_view as json_items, members_view as json_members}
-use Rattle.liquid_value.specs.View.{view, entry_view}
-use Rattle.liquid_json.specs.Given.{items_given, members_given}
+use Rattle.liquid_value.specs.meaning.View.{view, entry_view}
+use Rattle.liquid_json.specs.meaning.Given.{items_given, members_given}
 use Rattle.liquid_json.proofs.Given.{after_items, after_members}
 use Rattle.liquid_json.proofs.convert.+convert.Given as goal
 

@@ -2,9 +2,9 @@ use Rattle.std.proofs.Common.{◌≡◌, map, rules, arith, sym, ap, ◌∙◌}
 use Rattle.std.proofs.lemmas.Grind.{common_steps}
 use Rattle.std.proofs.lemmas.Result.{IfOk-weaker}
 use Rattle.serde_json.specs.View.{view as json_view, items_of, members_view as json_members}
-use Rattle.liquid_value.specs.View.{view}
-use Rattle.liquid_json.specs.Shown.{value_shown}
-use Rattle.liquid_json.specs.Named.{json_entry, shown_entry}
+use Rattle.liquid_value.specs.meaning.View.{view}
+use Rattle.liquid_json.specs.meaning.Shown.{value_shown}
+use Rattle.liquid_json.specs.steps.Named.{json_entry, shown_entry}
 use Rattle.liquid_json.proofs.Names.{same_order}
 use Rattle.liquid_json.proofs.Shown.{members_shown-listed, names_shown, items_shown-map}
 use Rattle.liquid_json.proofs.write.+write.Goals as goal

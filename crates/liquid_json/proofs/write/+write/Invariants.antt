@@ -1,8 +1,8 @@
 use Rattle.std.proofs.Common.{◌≡◌, ◌++◌, map, take}
 use Rattle.serde_json.specs.View.{view as json_view}
-use Rattle.liquid_value.specs.View.{view}
-use Rattle.liquid_json.specs.Shown.{value_shown}
-use Rattle.liquid_json.specs.Named.{shown_entry, json_entry}
+use Rattle.liquid_value.specs.meaning.View.{view}
+use Rattle.liquid_json.specs.meaning.Shown.{value_shown}
+use Rattle.liquid_json.specs.steps.Named.{shown_entry, json_entry}
 use Rattle.liquid_json.proofs.write.+write.Given as goal
 
 abbrev pub invariant-from_entries-loop-name : goal.invariant-from_entries-loop-name

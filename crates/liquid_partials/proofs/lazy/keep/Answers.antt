@@ -1,4 +1,4 @@
-use Rattle.liquid_template.specs.TemplateOf.{template_nodes}
+use Rattle.liquid_template.specs.meaning.TemplateOf.{template_nodes}
 use Rattle.liquid_partials.proofs.EachLemmas.{unchanged_kept}
 use Rattle.liquid_partials.proofs.lazy.keep.Goals as goal
 

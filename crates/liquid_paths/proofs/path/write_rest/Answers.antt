@@ -1,6 +1,6 @@
 use Rattle.std.proofs.Common.{◌++◌, rules}
 use Rattle.std.proofs.Output.{has_written_append}
-use Rattle.liquid_paths.specs.PathOf.{index_of, dotted}
+use Rattle.liquid_paths.specs.meaning.PathOf.{index_of, dotted}
 use Rattle.liquid_paths.proofs.Turns.{pieces_turn}
 use Rattle.liquid_paths.proofs.path.write_rest.Goals as goal
 

@@ -1,7 +1,7 @@
 use Rattle.std.proofs.Common.{◌≡◌, ℕ, List, ◌++◌, drop}
 use Rattle.std.specs.Fmt.{HasWritten, IsPlainFormatter}
 use Rattle.std.specs.List.{flat_map}
-use Rattle.liquid_paths.specs.PathOf.{indexes_of, dotted}
+use Rattle.liquid_paths.specs.meaning.PathOf.{indexes_of, dotted}
 use Rattle.liquid_paths.proofs.path.write_rest.Given as goal
 
 abbrev pub invariant-loop-index : goal.invariant-loop-index

@@ -1,8 +1,8 @@
 use Rattle.std.proofs.Common.{w64, length, sym, ap, ◌∙◌}
 use Rattle.std.specs.Prelude.{option_and_then}
 use Rattle.std.proofs.lemmas.Int.{to_z-of_z}
-use Rattle.liquid_value.specs.View.{items_view}
-use Rattle.liquid_value.specs.Place.{nth, place_at}
+use Rattle.liquid_value.specs.meaning.View.{items_view}
+use Rattle.liquid_value.specs.meaning.Place.{nth, place_at}
 use Rattle.liquid_paths.proofs.Values.{nth_of_values, item_at_of_values}
 use Rattle.liquid_paths.proofs.steps.item_at.Goals as goal
 

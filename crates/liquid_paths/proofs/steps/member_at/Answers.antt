@@ -1,6 +1,6 @@
 use Rattle.std.proofs.Common.{ap, ◌∙◌}
 use Rattle.std.specs.Prelude.{option_map}
-use Rattle.liquid_value.specs.View.{view}
+use Rattle.liquid_value.specs.meaning.View.{view}
 use Rattle.liquid_paths.proofs.Values.{value_of_member}
 use Rattle.liquid_paths.proofs.Turns.{now_mapped}
 use Rattle.liquid_paths.proofs.steps.member_at.Goals as goal

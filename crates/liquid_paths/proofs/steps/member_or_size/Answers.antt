@@ -1,9 +1,9 @@
 use Rattle.std.proofs.Common.{sym, ap, ◌∙◌}
 use Rattle.std.specs.Option.{option_or}
-use Rattle.liquid_value.specs.Members.{member_count}
-use Rattle.liquid_value.specs.View.{members_view}
+use Rattle.liquid_value.specs.meaning.Members.{member_count}
+use Rattle.liquid_value.specs.meaning.View.{members_view}
 use Rattle.liquid_paths.proofs.Values.{count_of_members}
-use Rattle.liquid_paths.specs.Step.{size_asked}
+use Rattle.liquid_paths.specs.meaning.Step.{size_asked}
 use Rattle.liquid_paths.proofs.steps.member_or_size.Goals as goal
 
 pub returns-in-None-clause-gives : goal.returns-in-None-clause-gives

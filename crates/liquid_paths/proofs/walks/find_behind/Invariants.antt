@@ -1,9 +1,9 @@
 use Rattle.std.proofs.Common.{◌≡◌, take, drop}
-use Rattle.liquid_value.specs.Cow.{cow_view}
-use Rattle.liquid_value.specs.View.{view}
-use Rattle.liquid_paths.specs.Walk.{find_behind}
-use Rattle.liquid_paths.specs.PathOf.{indexes_of}
-use Rattle.liquid_paths.specs.InPlace.{InPlace}
+use Rattle.liquid_value.specs.meaning.Cow.{cow_view}
+use Rattle.liquid_value.specs.meaning.View.{view}
+use Rattle.liquid_paths.specs.meaning.Walk.{find_behind}
+use Rattle.liquid_paths.specs.meaning.PathOf.{indexes_of}
+use Rattle.liquid_paths.specs.meaning.InPlace.{InPlace}
 use Rattle.liquid_paths.proofs.walks.find_behind.Given as goal
 
 abbrev pub invariant-loop-place : goal.invariant-loop-place

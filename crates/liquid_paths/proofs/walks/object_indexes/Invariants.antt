@@ -1,8 +1,8 @@
 use Rattle.std.proofs.Common.{◌≡◌, ◌++◌, codes, string_bytes, cond}
 use Rattle.std.specs.List.{flat_map}
-use Rattle.liquid_value.specs.View.{members_view}
-use Rattle.liquid_value.specs.Names.{names}
-use Rattle.liquid_paths.specs.Walk.{listed}
+use Rattle.liquid_value.specs.meaning.View.{members_view}
+use Rattle.liquid_value.specs.meaning.Names.{names}
+use Rattle.liquid_paths.specs.meaning.Walk.{listed}
 use Rattle.liquid_paths.proofs.walks.object_indexes.Given as goal
 
 abbrev pub invariant-loop-name : goal.invariant-loop-name

@@ -1,5 +1,5 @@
-use Rattle.liquid_value.specs.View.{view}
-use Rattle.liquid_paths.specs.PathOf.{index_of, indexes_of}
+use Rattle.liquid_value.specs.meaning.View.{view}
+use Rattle.liquid_paths.specs.meaning.PathOf.{index_of, indexes_of}
 use Rattle.liquid_paths.proofs.Refusals.{unknown_told}
 use Rattle.liquid_paths.proofs.walks.unknown_index.Goals as goal
 

@@ -1,5 +1,5 @@
 use Rattle.std.proofs.Common.{◌≡◌, map, take}
-use Rattle.liquid_plugins.specs.ExpressionOf.{expression_of}
+use Rattle.liquid_plugins.specs.meaning.ExpressionOf.{expression_of}
 use Rattle.liquid_plugins.proofs.copy.+copy.Given as goal
 
 abbrev pub invariant-copy_indexes-loop-index : goal.invariant-copy_indexes-loop-index

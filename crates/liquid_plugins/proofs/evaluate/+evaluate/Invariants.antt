@@ -1,9 +1,8 @@
 use Rattle.std.proofs.Common.{◌≡◌, drop, string_bytes}
-use Rattle.liquid_scalar.specs.Scalar.{scal}
-use Rattle.liquid_paths.specs.PathOf.{path_of as code_path_of}
-use Rattle.liquid_plugins.specs.Evaluation.{path_of}
-use Rattle.liquid_plugins.specs.ExpressionOf.{expressions_of}
-use Rattle.liquid_plugins.specs.Parts.{named_path}
+use Rattle.liquid_scalar.specs.meaning.Scalar.{scal}
+use Rattle.liquid_paths.specs.meaning.PathOf.{path_of as code_path_of}
+use Rattle.liquid_plugins.specs.meaning.Evaluation.{path_of, named_path}
+use Rattle.liquid_plugins.specs.meaning.ExpressionOf.{expressions_of}
 use Rattle.liquid_plugins.proofs.PathSteps.{behind}
 use Rattle.liquid_plugins.proofs.evaluate.+evaluate.Given as goal
 

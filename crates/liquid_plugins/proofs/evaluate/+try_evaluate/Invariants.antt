@@ -1,9 +1,8 @@
 use Rattle.std.proofs.Common.{◌≡◌, drop, string_bytes}
-use Rattle.liquid_scalar.specs.Scalar.{scal}
-use Rattle.liquid_paths.specs.PathOf.{path_of as code_path_of}
-use Rattle.liquid_plugins.specs.Evaluation.{try_path_of}
-use Rattle.liquid_plugins.specs.ExpressionOf.{expressions_of}
-use Rattle.liquid_plugins.specs.Parts.{try_named_path}
+use Rattle.liquid_scalar.specs.meaning.Scalar.{scal}
+use Rattle.liquid_paths.specs.meaning.PathOf.{path_of as code_path_of}
+use Rattle.liquid_plugins.specs.meaning.Evaluation.{try_path_of, try_named_path}
+use Rattle.liquid_plugins.specs.meaning.ExpressionOf.{expressions_of}
 use Rattle.liquid_plugins.proofs.PathSteps.{try_behind}
 use Rattle.liquid_plugins.proofs.evaluate.+try_evaluate.Given as goal
 

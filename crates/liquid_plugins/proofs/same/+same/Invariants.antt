@@ -1,6 +1,6 @@
 use Rattle.std.proofs.Common.{◌≡◌, drop}
-use Rattle.liquid_plugins.specs.ExpressionOf.{expressions_of}
-use Rattle.liquid_plugins.specs.Same.{same_indexes}
+use Rattle.liquid_plugins.specs.meaning.ExpressionOf.{expressions_of}
+use Rattle.liquid_plugins.specs.meaning.Same.{same_indexes}
 use Rattle.liquid_plugins.proofs.same.+same.Given as goal
 
 abbrev pub invariant-same_indexes-loop-place : goal.invariant-same_indexes-loop-place

@@ -1,9 +1,9 @@
 use Rattle.std.proofs.Common.{◌≡◌, drop, string_bytes}
-use Rattle.liquid_scalar.specs.Scalar.{scal}
-use Rattle.liquid_value.specs.View.{view as tree_of}
-use Rattle.liquid_plugins.specs.Evaluation.{try_evaluate, try_path_of}
-use Rattle.liquid_plugins.specs.Expression.{variable}
-use Rattle.liquid_plugins.specs.ExpressionOf.{expressions_of}
+use Rattle.liquid_scalar.specs.meaning.Scalar.{scal}
+use Rattle.liquid_value.specs.meaning.View.{view as tree_of}
+use Rattle.liquid_plugins.specs.meaning.Evaluation.{try_evaluate, try_path_of}
+use Rattle.liquid_plugins.specs.meaning.Expression.{variable}
+use Rattle.liquid_plugins.specs.meaning.ExpressionOf.{expressions_of}
 use Rattle.liquid_plugins.proofs.StandingValues.{from_here}
 use Rattle.liquid_plugins.proofs.standing.+standing.Given as goal
 

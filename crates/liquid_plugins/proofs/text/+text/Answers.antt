@@ -1,7 +1,7 @@
 use Rattle.std.proofs.Common.{[], ◌++◌, codes, ap, sym, ◌∙◌, append_assoc, rules}
 use Rattle.std.proofs.Output.{has_written_append}
-use Rattle.liquid_plugins.specs.Expression.{expression_text, indexes_text}
-use Rattle.liquid_plugins.specs.ExpressionOf.{expression_of, expressions_of}
+use Rattle.liquid_plugins.specs.meaning.Expression.{expression_text, indexes_text}
+use Rattle.liquid_plugins.specs.meaning.ExpressionOf.{expression_of, expressions_of}
 use Rattle.liquid_plugins.proofs.PathSteps.{expressions_of-drop}
 use Rattle.liquid_plugins.proofs.text.+text.Goals as goal
 

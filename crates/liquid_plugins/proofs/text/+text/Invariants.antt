@@ -1,7 +1,7 @@
 use Rattle.std.proofs.Common.{◌≡◌, ℕ, List, ◌++◌, drop}
 use Rattle.std.specs.Fmt.{HasWritten, IsPlainFormatter}
-use Rattle.liquid_plugins.specs.Expression.{indexes_text}
-use Rattle.liquid_plugins.specs.ExpressionOf.{expressions_of}
+use Rattle.liquid_plugins.specs.meaning.Expression.{indexes_text}
+use Rattle.liquid_plugins.specs.meaning.ExpressionOf.{expressions_of}
 use Rattle.liquid_plugins.proofs.text.+text.Given as goal
 
 abbrev pub invariant-write_indexes-loop-index : goal.invariant-write_indexes-loop-index

@@ -1,5 +1,5 @@
-use Rattle.liquid_runtime.specs.Maps.{names_of}
-use Rattle.liquid_runtime.specs.Roots.{NamesOf, NamesOver}
+use Rattle.liquid_runtime.specs.meaning.Maps.{names_of}
+use Rattle.liquid_runtime.specs.meaning.Roots.{NamesOf, NamesOver}
 use Rattle.liquid_runtime.proofs.FrameLookups.{names_alone, if_ok}
 use Rattle.liquid_runtime.proofs.names.only_names.Goals as goal
 

@@ -1,7 +1,7 @@
 use Rattle.std.proofs.Common.{sym, ◌∙◌, ap, map, take}
-use Rattle.liquid_runtime.specs.NamesSeen.{comes_from_seal}
-use Rattle.liquid_scopes.specs.Layers.{shown_over, layer_seals}
-use Rattle.liquid_scopes.specs.LinkLayers.{layer_of}
+use Rattle.liquid_runtime.specs.meaning.NamesSeen.{comes_from_seal}
+use Rattle.liquid_scopes.specs.steps.Layers.{shown_over, layer_seals}
+use Rattle.liquid_scopes.specs.steps.LinkLayers.{layer_of}
 use Rattle.liquid_scopes.proofs.LayerLaws.{seal_layer, shown_step}
 use Rattle.liquid_scopes.proofs.chained_scopes.seals_over.Goals as goal
 

@@ -1,7 +1,7 @@
 use Rattle.std.proofs.Common.{arith, sym, ◌∙◌, ap, map, take}
 use Rattle.std.proofs.lemmas.List.{take_all}
-use Rattle.liquid_scopes.specs.Layers.{shown_over, layer_name}
-use Rattle.liquid_scopes.specs.LinkLayers.{layer_of}
+use Rattle.liquid_scopes.specs.steps.Layers.{shown_over, layer_name}
+use Rattle.liquid_scopes.specs.steps.LinkLayers.{layer_of}
 use Rattle.liquid_scopes.proofs.LayerLaws.{shown_step, name_link}
 use Rattle.liquid_scopes.proofs.links.name_over.Goals as goal
 

@@ -1,7 +1,7 @@
 use Rattle.std.proofs.Common.{◌≡◌, take, map, option_map}
-use Rattle.liquid_runtime.specs.View.{View}
-use Rattle.liquid_scopes.specs.Layers.{shown_over}
-use Rattle.liquid_scopes.specs.LinkLayers.{layer_of}
+use Rattle.liquid_runtime.specs.meaning.View.{View}
+use Rattle.liquid_scopes.specs.steps.Layers.{shown_over}
+use Rattle.liquid_scopes.specs.steps.LinkLayers.{layer_of}
 use Rattle.liquid_scopes.proofs.links.name_over.Given as goal
 
 abbrev pub invariant-loop-link : goal.invariant-loop-link

@@ -1,9 +1,9 @@
 use Rattle.std.proofs.Common.{arith, sym, subst, map, take}
-use Rattle.liquid_runtime.specs.NamesSeen.{names_seen}
-use Rattle.liquid_runtime.specs.Roots.{NamesOf}
+use Rattle.liquid_runtime.specs.meaning.NamesSeen.{names_seen}
+use Rattle.liquid_runtime.specs.meaning.Roots.{NamesOf}
 use Rattle.std.proofs.lemmas.List.{take_all}
-use Rattle.liquid_scopes.specs.Layers.{shown_over}
-use Rattle.liquid_scopes.specs.LinkLayers.{layer_of}
+use Rattle.liquid_scopes.specs.steps.Layers.{shown_over}
+use Rattle.liquid_scopes.specs.steps.LinkLayers.{layer_of}
 use Rattle.liquid_scopes.proofs.LayerLaws.{shown_step}
 use Rattle.liquid_scopes.proofs.LayerNames.{roots_layer}
 use Rattle.liquid_scopes.proofs.links.roots_over.Goals as goal

@@ -1,7 +1,7 @@
 use Rattle.std.proofs.Common.{map, sym, ap, ◌∙◌}
-use Rattle.liquid_runtime.specs.NamesSeen.{lookup}
-use Rattle.liquid_scopes.specs.LinkLayers.{layer_of}
-use Rattle.liquid_scopes.specs.Standing.{own_at_top, last_seal}
+use Rattle.liquid_runtime.specs.meaning.NamesSeen.{lookup}
+use Rattle.liquid_scopes.specs.steps.LinkLayers.{layer_of}
+use Rattle.liquid_scopes.specs.steps.Standing.{own_at_top, last_seal}
 use Rattle.liquid_scopes.proofs.TwoLooks.{sealed_away, above_seal, no_seal, base_sealed, base_seen}
 use Rattle.liquid_scopes.proofs.table.look_listed.Goals as goal
 

@@ -1,6 +1,6 @@
 use Rattle.std.proofs.Common.{map, refl}
-use Rattle.liquid_scopes.specs.LinkLayers.{layer_of}
-use Rattle.liquid_scopes.specs.Standing.{last_seal}
+use Rattle.liquid_scopes.specs.steps.LinkLayers.{layer_of}
+use Rattle.liquid_scopes.specs.steps.Standing.{last_seal}
 use Rattle.liquid_scopes.proofs.Unlisted.{unlisted_gives, passed_unlisted, no_unlisted}
 use Rattle.liquid_scopes.proofs.table.look_up.Goals as goal
 

@@ -1,11 +1,11 @@
 use Rattle.std.proofs.Common.{sym, ◌∙◌, ap, refl, string_bytes, map}
 use Rattle.std.specs.Prelude.{Ok, is_some}
 use Rattle.std.specs.FinMap.{get, insert}
-use Rattle.liquid_value.specs.View.{view as tree_of}
-use Rattle.liquid_runtime.specs.Sets.{old_value, no_global_frame}
-use Rattle.liquid_scopes.specs.Layers.{restoring, assigned, is_global}
-use Rattle.liquid_scopes.specs.LinkLayers.{layer_of}
-use Rattle.liquid_scopes.specs.Standing.{is_sandboxed}
+use Rattle.liquid_value.specs.meaning.View.{view as tree_of}
+use Rattle.liquid_runtime.specs.meaning.Sets.{old_value, no_global_frame}
+use Rattle.liquid_scopes.specs.steps.Layers.{restoring, assigned, is_global}
+use Rattle.liquid_scopes.specs.steps.LinkLayers.{layer_of}
+use Rattle.liquid_scopes.specs.steps.Standing.{is_sandboxed}
 use Rattle.liquid_scopes.proofs.LayerLaws.{set_shown, set_restoring, set_same, globals_here, read_here}
 use Rattle.liquid_scopes.proofs.FlatLaws.{put_at, own_here}
 use Rattle.liquid_scopes.proofs.Places.{put_places}

@@ -1,6 +1,6 @@
-use Rattle.liquid_tags.specs.Asked.{token_expected}
-use Rattle.liquid_tags.specs.BlockPlugins.{expect_series}
-use Rattle.liquid_tags.specs.Series.{series_of}
+use Rattle.liquid_tags.specs.meaning.Asked.{token_expected}
+use Rattle.liquid_tags.specs.meaning.BlockPlugins.{expect_series}
+use Rattle.liquid_tags.specs.meaning.Series.{series_of}
 use Rattle.liquid_parser.proofs.NextLemmas.{next_given, none_given}
 use Rattle.liquid_tags.proofs.block_plugins.next_series.Goals as goal
 

@@ -1,7 +1,7 @@
 use Rattle.std.proofs.Common.{rules, refl, ap, ◌∙◌}
 use Rattle.std.specs.Prelude.{option_map}
 use Rattle.liquid_error.specs.declared.error.Error.{the_lemmas}
-use Rattle.liquid_tags.specs.Languages.{meaning_of}
+use Rattle.liquid_tags.specs.meaning.Languages.{meaning_of}
 use Rattle.liquid_tags.proofs.PageLemmas.{compiled_alike, no_page, page_over}
 use Rattle.liquid_tags.proofs.pages.render_page.Goals as goal
 

@@ -1,10 +1,10 @@
 use Rattle.std.proofs.Common.{sym, subst, ◌≡◌, Ok, Err}
 use Rattle.std.specs.Prelude.{IfSome}
-use Rattle.liquid_error.specs.Refusal.{ok_then}
-use Rattle.liquid_error.specs.Told.{told}
-use Rattle.liquid_plugins.specs.ExpressionOf.{expression_of}
-use Rattle.liquid_tags.specs.CallsGiven.{pairs_given}
-use Rattle.liquid_tags.specs.Partials.{CallShape}
+use Rattle.liquid_error.specs.meaning.Refusal.{ok_then}
+use Rattle.liquid_error.specs.meaning.Told.{told}
+use Rattle.liquid_plugins.specs.meaning.ExpressionOf.{expression_of}
+use Rattle.liquid_tags.specs.meaning.CallsGiven.{pairs_given}
+use Rattle.liquid_tags.specs.meaning.Partials.{CallShape}
 use Rattle.liquid_parser.proofs.StepLemmas.{then_refused}
 use Rattle.liquid_tags.proofs.read_call.read_call.Goals as goal
 

@@ -1,8 +1,8 @@
 use Rattle.std.proofs.Common.{map, ap, [], ◌∷◌, ◌∙◌}
 use Rattle.std.proofs.lemmas.List.{map-append}
-use Rattle.liquid_error.specs.Told.{told}
-use Rattle.liquid_tags.specs.Partials.{pair_of}
-use Rattle.liquid_tags.specs.CallsGiven.{pairs_given}
+use Rattle.liquid_error.specs.meaning.Told.{told}
+use Rattle.liquid_tags.specs.meaning.Partials.{pair_of}
+use Rattle.liquid_tags.specs.meaning.CallsGiven.{pairs_given}
 use Rattle.liquid_tags.proofs.PairLemmas.{all_read, comma_refused, pair_read, pair_refused}
 use Rattle.liquid_tags.proofs.read_call.read_pairs.Goals as goal
 

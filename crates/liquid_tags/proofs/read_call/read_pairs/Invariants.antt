@@ -1,9 +1,9 @@
 use Rattle.std.proofs.Common.{◌≡◌, map}
-use Rattle.liquid_parser.specs.Cursors.{bytes_left}
-use Rattle.liquid_parser.specs.Handed.{Tokens}
-use Rattle.liquid_parser.specs.Plugins.{AreTokens}
-use Rattle.liquid_tags.specs.CallsGiven.{pairs_given}
-use Rattle.liquid_tags.specs.Partials.{pair_of}
+use Rattle.liquid_parser.specs.meaning.Cursors.{bytes_left}
+use Rattle.liquid_parser.specs.meaning.Handed.{Tokens}
+use Rattle.liquid_parser.specs.meaning.Plugins.{AreTokens}
+use Rattle.liquid_tags.specs.meaning.CallsGiven.{pairs_given}
+use Rattle.liquid_tags.specs.meaning.Partials.{pair_of}
 use Rattle.liquid_tags.proofs.PairLemmas.{read_on}
 use Rattle.liquid_tags.proofs.read_call.read_pairs.Given as goal
 

@@ -1,13 +1,13 @@
 use Rattle.std.proofs.Common.{◌≡◌, ap, sym, subst, ◌∙◌, Some, None, Err}
 use Rattle.std.specs.Prelude.{IfSome}
-use Rattle.liquid_error.specs.Refusal.{ok_then}
-use Rattle.liquid_error.specs.Told.{told, Gives}
-use Rattle.liquid_plugins.specs.ExpressionOf.{expression_of}
-use Rattle.liquid_parser.specs.Handed.{expect_value}
-use Rattle.liquid_tags.specs.Asked.{alone, next_as}
+use Rattle.liquid_error.specs.meaning.Refusal.{ok_then}
+use Rattle.liquid_error.specs.meaning.Told.{told, Gives}
+use Rattle.liquid_plugins.specs.meaning.ExpressionOf.{expression_of}
+use Rattle.liquid_parser.specs.meaning.Handed.{expect_value}
+use Rattle.liquid_tags.specs.meaning.Asked.{alone, next_as}
 use Rattle.liquid_tags.specs.declared.condition.ConditionShape.{ConditionShape}
-use Rattle.liquid_tags.specs.Conditions.{condition_of}
-use Rattle.liquid_tags.specs.ConditionsGiven.{comparison_of}
+use Rattle.liquid_tags.specs.meaning.Conditions.{condition_of}
+use Rattle.liquid_tags.specs.meaning.ConditionsGiven.{comparison_of}
 use Rattle.liquid_tags.specs.declared.condition.ConditionShape.TheVariants.{Compares}
 use Rattle.liquid_parser.proofs.StepLemmas.{then_refused}
 use Rattle.liquid_tags.proofs.ConditionLemmas.{nothing_behind, compared, uncompared}

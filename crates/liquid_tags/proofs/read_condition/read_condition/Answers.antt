@@ -1,8 +1,8 @@
 use Rattle.std.proofs.Common.{ap, sym, subst}
-use Rattle.liquid_error.specs.Refusal.{ok_then}
-use Rattle.liquid_error.specs.Told.{Gives}
-use Rattle.liquid_tags.specs.Conditions.{condition_of}
-use Rattle.liquid_tags.specs.ConditionsGiven.{behind_value}
+use Rattle.liquid_error.specs.meaning.Refusal.{ok_then}
+use Rattle.liquid_error.specs.meaning.Told.{Gives}
+use Rattle.liquid_tags.specs.meaning.Conditions.{condition_of}
+use Rattle.liquid_tags.specs.meaning.ConditionsGiven.{behind_value}
 use Rattle.liquid_tags.proofs.read_condition.read_condition.Goals as goal
 
 pub returns-in-Ok : goal.returns-in-Ok

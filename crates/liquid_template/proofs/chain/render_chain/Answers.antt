@@ -1,7 +1,7 @@
 use Rattle.std.proofs.Common.{◌≡◌, ap, ◌∙◌}
 use Rattle.std.specs.Cow.{cow_str_bytes}
-use Rattle.liquid_value.specs.View.{view as tree_of}
-use Rattle.liquid_value.specs.Render.{render}
+use Rattle.liquid_value.specs.meaning.View.{view as tree_of}
+use Rattle.liquid_value.specs.meaning.Render.{render}
 use Rattle.liquid_template.proofs.Renderings.{value_refused, value_out}
 use Rattle.liquid_template.proofs.chain.render_chain.Goals as goal
 

@@ -1,21 +1,21 @@
 use Rattle.std.proofs.Common.{◌≡◌, ◌+◌, ◌<◌, ◌≤◌, rules, arith, refl, sym, ap, subst, ◌∙◌, Ok, is_some, option_map}
-use Rattle.liquid_plugins.specs.TurnOf.{turn_of}
-use Rattle.liquid_tree.specs.NodesOf.{node_of, nodes_of}
-use Rattle.liquid_tree.specs.Size.{size_node, size_nodes, size_parts}
-use Rattle.liquid_template.specs.Nodes.{Setting}
-use Rattle.liquid_template.specs.Partials.{partials_at}
+use Rattle.liquid_plugins.specs.meaning.TurnOf.{turn_of}
+use Rattle.liquid_plugins.specs.meaning.NodesOf.{node_of, nodes_of}
+use Rattle.liquid_plugins.specs.meaning.Size.{size_node, size_nodes, size_parts}
+use Rattle.liquid_template.specs.meaning.Nodes.{Setting}
+use Rattle.liquid_template.specs.meaning.Partials.{partials_at}
 use Rattle.liquid_template.proofs.Steps.{start_refused}
 use Rattle.liquid_template.proofs.Framing.{renders_framed, renders_memory}
-use Rattle.liquid_template.specs.Runs.{setting}
-use Rattle.liquid_template.specs.PartsOf.{parts_of}
-use Rattle.liquid_template.specs.Bound.{partials_size}
+use Rattle.liquid_template.specs.meaning.Runs.{setting}
+use Rattle.liquid_template.specs.steps.PartsOf.{parts_of}
+use Rattle.liquid_template.specs.steps.Bound.{partials_size}
 use Rattle.liquid_template.proofs.Shapes.{nodes_drop, nodes_end, size_member, size_part, node_text, node_brief, node_name, node_chain, node_tag, node_block}
 use Rattle.liquid_template.proofs.Renderings.{stands, stands_not, left_more, left_none, none_yet, not_end, turn_refused_at, turn_ends_at, turn_more_at, turn_fails_at, turns_done_at, start_goes_at, node_puts, node_chains, node_tags, node_blocks, list_fails_at, list_stops_at, list_goes_at, list_done_at, turn_puts, turn_bodies, turn_includes, turn_nothing, part_renders, no_part_renders, without_parts, found_deep, found_fails, found_goes}
 use Rattle.liquid_template.proofs.cycle.+render.Goals as goal
 
 pub render_list-loop-node-init : goal.render_list-loop-node-init
 render_list-loop-node-init g t c =
-    record { kept = refl; finds = refl; bound = refl; same = refl; renders = λ after left answer h. h }
+    record { owes = refl; store = refl; bound = refl; borrows = refl; renders = λ after left answer h. h }
 
 pub render_list-render_node-requires : goal.render_list-render_node-requires
 render_list-render_node-requires g t c =
@@ -26,23 +26,23 @@ render_list-render_node-requires g t c =
 pub render_list-returns-in-Err : goal.render_list-returns-in-Err
 render_list-returns-in-Err g t c =
     let q = nodes_drop g.X.Meant.shape g.T.Meant.shape g.B.Meant.shape c.args.nodes.now c.loop-node.node-index c.node-item.result c.loop-node-test.true c.node-item.is in
-    record { renders = c.loop-node.invariant.renders _ _ _ (list_fails_at _ _ _ _ _ _ _ _ _ _ q (rw c.loop-node.invariant.finds at c.in-Err.ensures.renders)); kept = c.in-Err.ensures.kept ∙ c.loop-node.invariant.kept; finds = c.in-Err.ensures.finds ∙ c.loop-node.invariant.finds; bound = c.in-Err.ensures.bound ∙ c.loop-node.invariant.bound; same = c.in-Err.ensures.same ∙ c.loop-node.invariant.same }
+    record { renders = c.loop-node.invariant.renders _ _ _ (list_fails_at _ _ _ _ _ _ _ _ _ _ q (rw c.loop-node.invariant.store at c.in-Err.ensures.renders)); owes = c.in-Err.ensures.owes ∙ c.loop-node.invariant.owes; store = c.in-Err.ensures.store ∙ c.loop-node.invariant.store; bound = c.in-Err.ensures.bound ∙ c.loop-node.invariant.bound; borrows = c.in-Err.ensures.borrows ∙ c.loop-node.invariant.borrows }
 
 pub render_list-returns-then-interrupted : goal.render_list-returns-then-interrupted
 render_list-returns-then-interrupted g t c =
     let q = nodes_drop g.X.Meant.shape g.T.Meant.shape g.B.Meant.shape c.args.nodes.now c.loop-node.node-index c.node-item.result c.loop-node-test.true c.node-item.is in
     let i : is_some (g.S.Runtime.view c.render_node.new.scopes).interrupt ≡ _ = ap (λ x. is_some x.interrupt.current) (sym c.registers.ensures) ∙ stands _ _ c.interrupted.ensures c.if-interrupted.true in
-    record { renders = c.loop-node.invariant.renders _ _ _ (list_stops_at _ _ _ _ _ _ _ _ _ _ q i (rw c.loop-node.invariant.finds at c.in-Ok.ensures.renders)); kept = c.in-Ok.ensures.kept ∙ c.loop-node.invariant.kept; finds = c.in-Ok.ensures.finds ∙ c.loop-node.invariant.finds; bound = c.in-Ok.ensures.bound ∙ c.loop-node.invariant.bound; same = c.in-Ok.ensures.same ∙ c.loop-node.invariant.same }
+    record { renders = c.loop-node.invariant.renders _ _ _ (list_stops_at _ _ _ _ _ _ _ _ _ _ q i (rw c.loop-node.invariant.store at c.in-Ok.ensures.renders)); owes = c.in-Ok.ensures.owes ∙ c.loop-node.invariant.owes; store = c.in-Ok.ensures.store ∙ c.loop-node.invariant.store; bound = c.in-Ok.ensures.bound ∙ c.loop-node.invariant.bound; borrows = c.in-Ok.ensures.borrows ∙ c.loop-node.invariant.borrows }
 
 pub render_list-loop-node-preserved : goal.render_list-loop-node-preserved
 render_list-loop-node-preserved g t c =
     let q = nodes_drop g.X.Meant.shape g.T.Meant.shape g.B.Meant.shape c.args.nodes.now c.loop-node.node-index c.node-item.result c.loop-node-test.true c.node-item.is in
     let i : is_some (g.S.Runtime.view c.render_node.new.scopes).interrupt ≡ _ = ap (λ x. is_some x.interrupt.current) (sym c.registers.ensures) ∙ stands_not _ _ c.interrupted.ensures c.if-interrupted.false in
-    record { kept = c.in-Ok.ensures.kept ∙ c.loop-node.invariant.kept; finds = c.in-Ok.ensures.finds ∙ c.loop-node.invariant.finds; bound = c.in-Ok.ensures.bound ∙ c.loop-node.invariant.bound; same = c.in-Ok.ensures.same ∙ c.loop-node.invariant.same; renders = λ after left answer h. c.loop-node.invariant.renders after left answer (list_goes_at _ _ _ _ _ _ _ _ _ _ _ _ _ q i (rw c.loop-node.invariant.finds at c.in-Ok.ensures.renders) h) }
+    record { owes = c.in-Ok.ensures.owes ∙ c.loop-node.invariant.owes; store = c.in-Ok.ensures.store ∙ c.loop-node.invariant.store; bound = c.in-Ok.ensures.bound ∙ c.loop-node.invariant.bound; borrows = c.in-Ok.ensures.borrows ∙ c.loop-node.invariant.borrows; renders = λ after left answer h. c.loop-node.invariant.renders after left answer (list_goes_at _ _ _ _ _ _ _ _ _ _ _ _ _ q i (rw c.loop-node.invariant.store at c.in-Ok.ensures.renders) h) }
 
 pub render_list-returns : goal.render_list-returns
 render_list-returns g t c =
-    record { renders = c.loop-node.invariant.renders _ _ _ (list_done_at _ _ _ _ _ _ (nodes_end g.X.Meant.shape g.T.Meant.shape g.B.Meant.shape c.args.nodes.now c.loop-node.node-index c.loop-node-test.false)); kept = c.loop-node.invariant.kept; finds = c.loop-node.invariant.finds; bound = c.loop-node.invariant.bound; same = c.loop-node.invariant.same }
+    record { renders = c.loop-node.invariant.renders _ _ _ (list_done_at _ _ _ _ _ _ (nodes_end g.X.Meant.shape g.T.Meant.shape g.B.Meant.shape c.args.nodes.now c.loop-node.node-index c.loop-node-test.false)); owes = c.loop-node.invariant.owes; store = c.loop-node.invariant.store; bound = c.loop-node.invariant.bound; borrows = c.loop-node.invariant.borrows }
 
 pub render_node-render_tag-requires : goal.render_node-render_tag-requires
 render_node-render_tag-requires g t c =
@@ -84,35 +84,35 @@ render_tag-returns-in-Err-clause-renders g t c =
 
 pub render_tag-loop-init : goal.render_tag-loop-init
 render_tag-loop-init g t c =
-    record { kept = c.start.ensures.kept; finds = ap (option_map g.S.Store.PartialStore.finds) c.start.ensures.stays; bound = ap (λ store. partials_size (option_map g.S.Store.PartialStore.finds store)) c.start.ensures.stays; same = c.start.ensures.same; none = c.new-none.ensures.items; renders = λ after left answer h. start_goes_at _ _ _ _ _ _ _ _ _ _ _ _ _ (none_yet c.turns-end.result _ c.turns-end.ensures) c.in-Ok.ensures.answer c.in-Ok.ensures.after c.start.ensures.frames h }
+    record { owes = c.start.ensures.kept; store = ap (option_map g.S.Store.PartialStore.finds) c.start.ensures.stays; bound = ap (λ store. partials_size (option_map g.S.Store.PartialStore.finds store)) c.start.ensures.stays; borrows = c.start.ensures.same; none = c.new-none.ensures.items; renders = λ after left answer h. start_goes_at _ _ _ _ _ _ _ _ _ _ _ _ _ (none_yet c.turns-end.result _ c.turns-end.ensures) c.in-Ok.ensures.answer c.in-Ok.ensures.after c.start.ensures.frames h }
 
 pub render_tag-returns-in-Err-turn : goal.render_tag-returns-in-Err-turn
 render_tag-returns-in-Err-turn g t c =
-    record { renders = c.loop.invariant.renders _ _ _ (turn_refused_at _ _ _ _ _ _ _ _ _ _ _ _ (left_more c.loop.counter c.turns-end.result c.loop-test.true) c.in-Err-turn.ensures.answer c.in-Err-turn.ensures.after c.turn.ensures.frames); kept = c.turn.ensures.kept ∙ c.loop.invariant.kept; finds = ap (option_map g.S.Store.PartialStore.finds) c.turn.ensures.stays ∙ c.loop.invariant.finds; bound = ap (λ store. partials_size (option_map g.S.Store.PartialStore.finds store)) c.turn.ensures.stays ∙ c.loop.invariant.bound; same = c.turn.ensures.same ∙ c.loop.invariant.same }
+    record { renders = c.loop.invariant.renders _ _ _ (turn_refused_at _ _ _ _ _ _ _ _ _ _ _ _ (left_more c.loop.counter c.turns-end.result c.loop-test.true) c.in-Err-turn.ensures.answer c.in-Err-turn.ensures.after c.turn.ensures.frames); owes = c.turn.ensures.kept ∙ c.loop.invariant.owes; store = ap (option_map g.S.Store.PartialStore.finds) c.turn.ensures.stays ∙ c.loop.invariant.store; bound = ap (λ store. partials_size (option_map g.S.Store.PartialStore.finds store)) c.turn.ensures.stays ∙ c.loop.invariant.bound; borrows = c.turn.ensures.same ∙ c.loop.invariant.borrows }
 
 pub render_tag-returns-in-End : goal.render_tag-returns-in-End
 render_tag-returns-in-End g t c =
-    record { renders = c.loop.invariant.renders _ _ _ (turn_ends_at _ _ _ _ _ _ _ _ _ _ _ _ (left_more c.loop.counter c.turns-end.result c.loop-test.true) (c.in-Ok-turn.ensures.answer ∙ ap (λ x. Ok (turn_of x)) c.in-End.is) c.in-Ok-turn.ensures.after c.turn.ensures.frames); kept = c.turn.ensures.kept ∙ c.loop.invariant.kept; finds = ap (option_map g.S.Store.PartialStore.finds) c.turn.ensures.stays ∙ c.loop.invariant.finds; bound = ap (λ store. partials_size (option_map g.S.Store.PartialStore.finds store)) c.turn.ensures.stays ∙ c.loop.invariant.bound; same = c.turn.ensures.same ∙ c.loop.invariant.same }
+    record { renders = c.loop.invariant.renders _ _ _ (turn_ends_at _ _ _ _ _ _ _ _ _ _ _ _ (left_more c.loop.counter c.turns-end.result c.loop-test.true) (c.in-Ok-turn.ensures.answer ∙ ap (λ x. Ok (turn_of x)) c.in-End.is) c.in-Ok-turn.ensures.after c.turn.ensures.frames); owes = c.turn.ensures.kept ∙ c.loop.invariant.owes; store = ap (option_map g.S.Store.PartialStore.finds) c.turn.ensures.stays ∙ c.loop.invariant.store; bound = ap (λ store. partials_size (option_map g.S.Store.PartialStore.finds store)) c.turn.ensures.stays ∙ c.loop.invariant.bound; borrows = c.turn.ensures.same ∙ c.loop.invariant.borrows }
 
 pub render_tag-returns-in-Err-perform : goal.render_tag-returns-in-Err-perform
 render_tag-returns-in-Err-perform g t c =
-    let s : Setting _ _ _ _ _ _ = (setting g.S.Register.Fresh.fresh g.X.Filter.answers g.X.Filter.shown g.T.Renderable.starts g.T.Renderable.count g.T.Renderable.tells g.B.Renderable.starts g.B.Renderable.count g.B.Renderable.tells (option_map g.S.Store.PartialStore.finds (g.S.Runtime.store c.args.scopes.now))) in
-    let fs = ap (option_map g.S.Store.PartialStore.finds) c.in-Ok-turn.ensures.stays ∙ c.loop.invariant.finds in
+    let s : Setting _ _ _ _ _ _ = (setting g.S.Register.Fresh.fresh g.X.Filter.means g.T.Renderable.means g.B.Renderable.means (option_map g.S.Store.PartialStore.finds (g.S.Runtime.store c.args.scopes.now))) in
+    let fs = ap (option_map g.S.Store.PartialStore.finds) c.in-Ok-turn.ensures.stays ∙ c.loop.invariant.store in
     let x0 = rw fs at c.in-Err-perform.ensures.renders in
     let x = without_parts s (partials_at s c.args.depth) g.X.Meant.shape g.T.Meant.shape g.B.Meant.shape c.deref.result.now _ _ _ _ _ _ (c.deref.ensures.value ∙ c.loop.invariant.none) x0 in
-    record { renders = c.loop.invariant.renders _ _ _ (turn_fails_at _ _ _ _ _ _ _ _ _ _ _ _ _ _ _ _ (left_more c.loop.counter c.turns-end.result c.loop-test.true) (not_end c.in-Ok-turn.turn c.in_default.not-End) c.in-Ok-turn.ensures.answer c.in-Ok-turn.ensures.after c.in-Ok-turn.ensures.progress c.turn.ensures.frames x); kept = c.perform.ensures.kept ∙ c.turn.ensures.kept ∙ c.loop.invariant.kept; finds = c.perform.ensures.finds ∙ fs; bound = c.perform.ensures.bound ∙ ap (λ store. partials_size (option_map g.S.Store.PartialStore.finds store)) c.turn.ensures.stays ∙ c.loop.invariant.bound; same = c.perform.ensures.same ∙ c.turn.ensures.same ∙ c.loop.invariant.same }
+    record { renders = c.loop.invariant.renders _ _ _ (turn_fails_at _ _ _ _ _ _ _ _ _ _ _ _ _ _ _ _ (left_more c.loop.counter c.turns-end.result c.loop-test.true) (not_end c.in-Ok-turn.turn c.in_default.not-End) c.in-Ok-turn.ensures.answer c.in-Ok-turn.ensures.after c.in-Ok-turn.ensures.progress c.turn.ensures.frames x); owes = c.perform.ensures.owes ∙ c.turn.ensures.kept ∙ c.loop.invariant.owes; store = c.perform.ensures.store ∙ fs; bound = c.perform.ensures.bound ∙ ap (λ store. partials_size (option_map g.S.Store.PartialStore.finds store)) c.turn.ensures.stays ∙ c.loop.invariant.bound; borrows = c.perform.ensures.borrows ∙ c.turn.ensures.same ∙ c.loop.invariant.borrows }
 
 pub render_tag-loop-preserved : goal.render_tag-loop-preserved
 render_tag-loop-preserved g t c =
-    let s : Setting _ _ _ _ _ _ = (setting g.S.Register.Fresh.fresh g.X.Filter.answers g.X.Filter.shown g.T.Renderable.starts g.T.Renderable.count g.T.Renderable.tells g.B.Renderable.starts g.B.Renderable.count g.B.Renderable.tells (option_map g.S.Store.PartialStore.finds (g.S.Runtime.store c.args.scopes.now))) in
-    let fs = ap (option_map g.S.Store.PartialStore.finds) c.in-Ok-turn.ensures.stays ∙ c.loop.invariant.finds in
+    let s : Setting _ _ _ _ _ _ = (setting g.S.Register.Fresh.fresh g.X.Filter.means g.T.Renderable.means g.B.Renderable.means (option_map g.S.Store.PartialStore.finds (g.S.Runtime.store c.args.scopes.now))) in
+    let fs = ap (option_map g.S.Store.PartialStore.finds) c.in-Ok-turn.ensures.stays ∙ c.loop.invariant.store in
     let x0 = rw fs at c.in-Ok-perform.ensures.renders in
     let x = without_parts s (partials_at s c.args.depth) g.X.Meant.shape g.T.Meant.shape g.B.Meant.shape c.deref.result.now _ _ _ _ _ _ (c.deref.ensures.value ∙ c.loop.invariant.none) x0 in
-    record { kept = c.perform.ensures.kept ∙ c.turn.ensures.kept ∙ c.loop.invariant.kept; finds = c.perform.ensures.finds ∙ fs; bound = c.perform.ensures.bound ∙ ap (λ store. partials_size (option_map g.S.Store.PartialStore.finds store)) c.turn.ensures.stays ∙ c.loop.invariant.bound; same = c.perform.ensures.same ∙ c.turn.ensures.same ∙ c.loop.invariant.same; none = c.loop.invariant.none; renders = λ after left answer h. c.loop.invariant.renders after left answer (turn_more_at _ _ _ _ _ _ _ _ _ _ _ _ _ _ _ _ _ _ _ (left_more c.loop.counter c.turns-end.result c.loop-test.true) (not_end c.in-Ok-turn.turn c.in_default.not-End) c.in-Ok-turn.ensures.answer c.in-Ok-turn.ensures.after c.in-Ok-turn.ensures.progress c.turn.ensures.frames x h) }
+    record { owes = c.perform.ensures.owes ∙ c.turn.ensures.kept ∙ c.loop.invariant.owes; store = c.perform.ensures.store ∙ fs; bound = c.perform.ensures.bound ∙ ap (λ store. partials_size (option_map g.S.Store.PartialStore.finds store)) c.turn.ensures.stays ∙ c.loop.invariant.bound; borrows = c.perform.ensures.borrows ∙ c.turn.ensures.same ∙ c.loop.invariant.borrows; none = c.loop.invariant.none; renders = λ after left answer h. c.loop.invariant.renders after left answer (turn_more_at _ _ _ _ _ _ _ _ _ _ _ _ _ _ _ _ _ _ _ (left_more c.loop.counter c.turns-end.result c.loop-test.true) (not_end c.in-Ok-turn.turn c.in_default.not-End) c.in-Ok-turn.ensures.answer c.in-Ok-turn.ensures.after c.in-Ok-turn.ensures.progress c.turn.ensures.frames x h) }
 
 pub render_tag-returns : goal.render_tag-returns
 render_tag-returns g t c =
-    record { renders = c.loop.invariant.renders _ _ _ (turns_done_at _ _ _ _ _ _ _ _ _ _ (left_none c.loop.counter c.turns-end.result c.loop-test.false)); kept = c.loop.invariant.kept; finds = c.loop.invariant.finds; bound = c.loop.invariant.bound; same = c.loop.invariant.same }
+    record { renders = c.loop.invariant.renders _ _ _ (turns_done_at _ _ _ _ _ _ _ _ _ _ (left_none c.loop.counter c.turns-end.result c.loop-test.false)); owes = c.loop.invariant.owes; store = c.loop.invariant.store; bound = c.loop.invariant.bound; borrows = c.loop.invariant.borrows }
 
 pub render_block-returns-in-Err-clause-renders : goal.render_block-returns-in-Err-clause-renders
 render_block-returns-in-Err-clause-renders g t c =
@@ -120,35 +120,35 @@ render_block-returns-in-Err-clause-renders g t c =
 
 pub render_block-loop-init : goal.render_block-loop-init
 render_block-loop-init g t c =
-    record { kept = c.start.ensures.kept; finds = ap (option_map g.S.Store.PartialStore.finds) c.start.ensures.stays; bound = ap (λ store. partials_size (option_map g.S.Store.PartialStore.finds store)) c.start.ensures.stays; same = c.start.ensures.same; renders = λ after left answer h. start_goes_at _ _ _ _ _ _ _ _ _ _ _ _ _ (none_yet c.turns-end.result _ c.turns-end.ensures) c.in-Ok.ensures.answer c.in-Ok.ensures.after c.start.ensures.frames h }
+    record { owes = c.start.ensures.kept; store = ap (option_map g.S.Store.PartialStore.finds) c.start.ensures.stays; bound = ap (λ store. partials_size (option_map g.S.Store.PartialStore.finds store)) c.start.ensures.stays; borrows = c.start.ensures.same; renders = λ after left answer h. start_goes_at _ _ _ _ _ _ _ _ _ _ _ _ _ (none_yet c.turns-end.result _ c.turns-end.ensures) c.in-Ok.ensures.answer c.in-Ok.ensures.after c.start.ensures.frames h }
 
 pub render_block-returns-in-Err-turn : goal.render_block-returns-in-Err-turn
 render_block-returns-in-Err-turn g t c =
-    record { renders = c.loop.invariant.renders _ _ _ (turn_refused_at _ _ _ _ _ _ _ _ _ _ _ _ (left_more c.loop.counter c.turns-end.result c.loop-test.true) c.in-Err-turn.ensures.answer c.in-Err-turn.ensures.after c.turn.ensures.frames); kept = c.turn.ensures.kept ∙ c.loop.invariant.kept; finds = ap (option_map g.S.Store.PartialStore.finds) c.turn.ensures.stays ∙ c.loop.invariant.finds; bound = ap (λ store. partials_size (option_map g.S.Store.PartialStore.finds store)) c.turn.ensures.stays ∙ c.loop.invariant.bound; same = c.turn.ensures.same ∙ c.loop.invariant.same }
+    record { renders = c.loop.invariant.renders _ _ _ (turn_refused_at _ _ _ _ _ _ _ _ _ _ _ _ (left_more c.loop.counter c.turns-end.result c.loop-test.true) c.in-Err-turn.ensures.answer c.in-Err-turn.ensures.after c.turn.ensures.frames); owes = c.turn.ensures.kept ∙ c.loop.invariant.owes; store = ap (option_map g.S.Store.PartialStore.finds) c.turn.ensures.stays ∙ c.loop.invariant.store; bound = ap (λ store. partials_size (option_map g.S.Store.PartialStore.finds store)) c.turn.ensures.stays ∙ c.loop.invariant.bound; borrows = c.turn.ensures.same ∙ c.loop.invariant.borrows }
 
 pub render_block-returns-in-End : goal.render_block-returns-in-End
 render_block-returns-in-End g t c =
-    record { renders = c.loop.invariant.renders _ _ _ (turn_ends_at _ _ _ _ _ _ _ _ _ _ _ _ (left_more c.loop.counter c.turns-end.result c.loop-test.true) (c.in-Ok-turn.ensures.answer ∙ ap (λ x. Ok (turn_of x)) c.in-End.is) c.in-Ok-turn.ensures.after c.turn.ensures.frames); kept = c.turn.ensures.kept ∙ c.loop.invariant.kept; finds = ap (option_map g.S.Store.PartialStore.finds) c.turn.ensures.stays ∙ c.loop.invariant.finds; bound = ap (λ store. partials_size (option_map g.S.Store.PartialStore.finds store)) c.turn.ensures.stays ∙ c.loop.invariant.bound; same = c.turn.ensures.same ∙ c.loop.invariant.same }
+    record { renders = c.loop.invariant.renders _ _ _ (turn_ends_at _ _ _ _ _ _ _ _ _ _ _ _ (left_more c.loop.counter c.turns-end.result c.loop-test.true) (c.in-Ok-turn.ensures.answer ∙ ap (λ x. Ok (turn_of x)) c.in-End.is) c.in-Ok-turn.ensures.after c.turn.ensures.frames); owes = c.turn.ensures.kept ∙ c.loop.invariant.owes; store = ap (option_map g.S.Store.PartialStore.finds) c.turn.ensures.stays ∙ c.loop.invariant.store; bound = ap (λ store. partials_size (option_map g.S.Store.PartialStore.finds store)) c.turn.ensures.stays ∙ c.loop.invariant.bound; borrows = c.turn.ensures.same ∙ c.loop.invariant.borrows }
 
 pub render_block-returns-in-Err-perform : goal.render_block-returns-in-Err-perform
 render_block-returns-in-Err-perform g t c =
-    let s : Setting _ _ _ _ _ _ = (setting g.S.Register.Fresh.fresh g.X.Filter.answers g.X.Filter.shown g.T.Renderable.starts g.T.Renderable.count g.T.Renderable.tells g.B.Renderable.starts g.B.Renderable.count g.B.Renderable.tells (option_map g.S.Store.PartialStore.finds (g.S.Runtime.store c.args.scopes.now))) in
-    let fs = ap (option_map g.S.Store.PartialStore.finds) c.in-Ok-turn.ensures.stays ∙ c.loop.invariant.finds in
+    let s : Setting _ _ _ _ _ _ = (setting g.S.Register.Fresh.fresh g.X.Filter.means g.T.Renderable.means g.B.Renderable.means (option_map g.S.Store.PartialStore.finds (g.S.Runtime.store c.args.scopes.now))) in
+    let fs = ap (option_map g.S.Store.PartialStore.finds) c.in-Ok-turn.ensures.stays ∙ c.loop.invariant.store in
     let x0 = rw fs at c.in-Err-perform.ensures.renders in
     let x = x0 in
-    record { renders = c.loop.invariant.renders _ _ _ (turn_fails_at _ _ _ _ _ _ _ _ _ _ _ _ _ _ _ _ (left_more c.loop.counter c.turns-end.result c.loop-test.true) (not_end c.in-Ok-turn.turn c.in_default.not-End) c.in-Ok-turn.ensures.answer c.in-Ok-turn.ensures.after c.in-Ok-turn.ensures.progress c.turn.ensures.frames x); kept = c.perform.ensures.kept ∙ c.turn.ensures.kept ∙ c.loop.invariant.kept; finds = c.perform.ensures.finds ∙ fs; bound = c.perform.ensures.bound ∙ ap (λ store. partials_size (option_map g.S.Store.PartialStore.finds store)) c.turn.ensures.stays ∙ c.loop.invariant.bound; same = c.perform.ensures.same ∙ c.turn.ensures.same ∙ c.loop.invariant.same }
+    record { renders = c.loop.invariant.renders _ _ _ (turn_fails_at _ _ _ _ _ _ _ _ _ _ _ _ _ _ _ _ (left_more c.loop.counter c.turns-end.result c.loop-test.true) (not_end c.in-Ok-turn.turn c.in_default.not-End) c.in-Ok-turn.ensures.answer c.in-Ok-turn.ensures.after c.in-Ok-turn.ensures.progress c.turn.ensures.frames x); owes = c.perform.ensures.owes ∙ c.turn.ensures.kept ∙ c.loop.invariant.owes; store = c.perform.ensures.store ∙ fs; bound = c.perform.ensures.bound ∙ ap (λ store. partials_size (option_map g.S.Store.PartialStore.finds store)) c.turn.ensures.stays ∙ c.loop.invariant.bound; borrows = c.perform.ensures.borrows ∙ c.turn.ensures.same ∙ c.loop.invariant.borrows }
 
 pub render_block-loop-preserved : goal.render_block-loop-preserved
 render_block-loop-preserved g t c =
-    let s : Setting _ _ _ _ _ _ = (setting g.S.Register.Fresh.fresh g.X.Filter.answers g.X.Filter.shown g.T.Renderable.starts g.T.Renderable.count g.T.Renderable.tells g.B.Renderable.starts g.B.Renderable.count g.B.Renderable.tells (option_map g.S.Store.PartialStore.finds (g.S.Runtime.store c.args.scopes.now))) in
-    let fs = ap (option_map g.S.Store.PartialStore.finds) c.in-Ok-turn.ensures.stays ∙ c.loop.invariant.finds in
+    let s : Setting _ _ _ _ _ _ = (setting g.S.Register.Fresh.fresh g.X.Filter.means g.T.Renderable.means g.B.Renderable.means (option_map g.S.Store.PartialStore.finds (g.S.Runtime.store c.args.scopes.now))) in
+    let fs = ap (option_map g.S.Store.PartialStore.finds) c.in-Ok-turn.ensures.stays ∙ c.loop.invariant.store in
     let x0 = rw fs at c.in-Ok-perform.ensures.renders in
     let x = x0 in
-    record { kept = c.perform.ensures.kept ∙ c.turn.ensures.kept ∙ c.loop.invariant.kept; finds = c.perform.ensures.finds ∙ fs; bound = c.perform.ensures.bound ∙ ap (λ store. partials_size (option_map g.S.Store.PartialStore.finds store)) c.turn.ensures.stays ∙ c.loop.invariant.bound; same = c.perform.ensures.same ∙ c.turn.ensures.same ∙ c.loop.invariant.same; renders = λ after left answer h. c.loop.invariant.renders after left answer (turn_more_at _ _ _ _ _ _ _ _ _ _ _ _ _ _ _ _ _ _ _ (left_more c.loop.counter c.turns-end.result c.loop-test.true) (not_end c.in-Ok-turn.turn c.in_default.not-End) c.in-Ok-turn.ensures.answer c.in-Ok-turn.ensures.after c.in-Ok-turn.ensures.progress c.turn.ensures.frames x h) }
+    record { owes = c.perform.ensures.owes ∙ c.turn.ensures.kept ∙ c.loop.invariant.owes; store = c.perform.ensures.store ∙ fs; bound = c.perform.ensures.bound ∙ ap (λ store. partials_size (option_map g.S.Store.PartialStore.finds store)) c.turn.ensures.stays ∙ c.loop.invariant.bound; borrows = c.perform.ensures.borrows ∙ c.turn.ensures.same ∙ c.loop.invariant.borrows; renders = λ after left answer h. c.loop.invariant.renders after left answer (turn_more_at _ _ _ _ _ _ _ _ _ _ _ _ _ _ _ _ _ _ _ (left_more c.loop.counter c.turns-end.result c.loop-test.true) (not_end c.in-Ok-turn.turn c.in_default.not-End) c.in-Ok-turn.ensures.answer c.in-Ok-turn.ensures.after c.in-Ok-turn.ensures.progress c.turn.ensures.frames x h) }
 
 pub render_block-returns : goal.render_block-returns
 render_block-returns g t c =
-    record { renders = c.loop.invariant.renders _ _ _ (turns_done_at _ _ _ _ _ _ _ _ _ _ (left_none c.loop.counter c.turns-end.result c.loop-test.false)); kept = c.loop.invariant.kept; finds = c.loop.invariant.finds; bound = c.loop.invariant.bound; same = c.loop.invariant.same }
+    record { renders = c.loop.invariant.renders _ _ _ (turns_done_at _ _ _ _ _ _ _ _ _ _ (left_none c.loop.counter c.turns-end.result c.loop-test.false)); owes = c.loop.invariant.owes; store = c.loop.invariant.store; bound = c.loop.invariant.bound; borrows = c.loop.invariant.borrows }
 
 pub perform-returns-in-Text-clause-renders : goal.perform-returns-in-Text-clause-renders
 perform-returns-in-Text-clause-renders g t c =
@@ -173,7 +173,7 @@ render_body-returns-in-Err-clause-renders g t c =
 pub render_body-returns-clause-renders : goal.render_body-returns-clause-renders
 render_body-returns-clause-renders g t c =
     let x = rw (ap (option_map g.S.Store.PartialStore.finds) c.in-Ok.ensures.stays) at c.render_part-answer.ensures.renders in
-    renders_framed _ _ _ _ _ _ _ _ _ _ _ _ _ _ _ _ c.in-Ok.ensures.ok c.in-Ok.ensures.opens c.render_part-answer.ensures.kept c.pop.ensures.ends c.with_own_trace.ensures x
+    renders_framed _ _ _ _ _ _ _ _ _ _ _ _ _ _ _ _ c.in-Ok.ensures.ok c.in-Ok.ensures.opens c.render_part-answer.ensures.owes c.pop.ensures.ends c.with_own_trace.ensures x
 
 pub render_partial-returns-in-Err-clause-renders : goal.render_partial-returns-in-Err-clause-renders
 render_partial-returns-in-Err-clause-renders g t c =
@@ -182,7 +182,7 @@ render_partial-returns-in-Err-clause-renders g t c =
 pub render_partial-returns-clause-renders : goal.render_partial-returns-clause-renders
 render_partial-returns-clause-renders g t c =
     let x = rw (ap (option_map g.S.Store.PartialStore.finds) c.in-Ok.ensures.stays) at c.render_found-answer.ensures.renders in
-    renders_framed _ _ _ _ _ _ _ _ _ _ _ _ _ _ _ _ c.in-Ok.ensures.ok c.in-Ok.ensures.opens c.render_found-answer.ensures.kept c.pop.ensures.ends c.with_own_trace.ensures x
+    renders_framed _ _ _ _ _ _ _ _ _ _ _ _ _ _ _ _ c.in-Ok.ensures.ok c.in-Ok.ensures.opens c.render_found-answer.ensures.owes c.pop.ensures.ends c.with_own_trace.ensures x
 
 pub render_part-render_list-requires : goal.render_part-render_list-requires
 render_part-render_list-requires g t c =
@@ -203,13 +203,13 @@ render_found-returns-then-depth-eq0-clause-renders g t c =
 
 pub render_found-returns-in-Err-clause-renders : goal.render_found-returns-in-Err-clause-renders
 render_found-returns-in-Err-clause-renders g t c =
-    let s : Setting _ _ _ _ _ _ = (setting g.S.Register.Fresh.fresh g.X.Filter.answers g.X.Filter.shown g.T.Renderable.starts g.T.Renderable.count g.T.Renderable.tells g.B.Renderable.starts g.B.Renderable.count g.B.Renderable.tells (option_map g.S.Store.PartialStore.finds (g.S.Runtime.store c.args.scopes.now))) in
+    let s : Setting _ _ _ _ _ _ = (setting g.S.Register.Fresh.fresh g.X.Filter.means g.T.Renderable.means g.B.Renderable.means (option_map g.S.Store.PartialStore.finds (g.S.Runtime.store c.args.scopes.now))) in
     let h : 0 < c.args.depth = omega arith in
     found_fails s c.args.depth c.args.name.now _ _ _ _ h c.in-Err.ensures.gives c.in-Err.ensures.view
 
 pub render_found-returns-in-Ok-clause-renders : goal.render_found-returns-in-Ok-clause-renders
 render_found-returns-in-Ok-clause-renders g t c =
-    let s : Setting _ _ _ _ _ _ = (setting g.S.Register.Fresh.fresh g.X.Filter.answers g.X.Filter.shown g.T.Renderable.starts g.T.Renderable.count g.T.Renderable.tells g.B.Renderable.starts g.B.Renderable.count g.B.Renderable.tells (option_map g.S.Store.PartialStore.finds (g.S.Runtime.store c.args.scopes.now))) in
+    let s : Setting _ _ _ _ _ _ = (setting g.S.Register.Fresh.fresh g.X.Filter.means g.T.Renderable.means g.B.Renderable.means (option_map g.S.Store.PartialStore.finds (g.S.Runtime.store c.args.scopes.now))) in
     let h : 0 < c.args.depth = omega arith in
-    let x = rw (c.in-Ok.ensures.stays.0, c.nodes.ensures, c.deref.ensures) at c.render_list.ensures.renders in
+    let x = rw (c.in-Ok.ensures.store, c.nodes.ensures, c.deref.ensures) at c.render_list.ensures.renders in
     found_goes s c.args.depth c.args.name.now _ _ _ _ _ _ _ h c.in-Ok.ensures.gives c.in-Ok.ensures.view x

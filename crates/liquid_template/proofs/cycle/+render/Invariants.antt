@@ -1,16 +1,16 @@
 use Rattle.std.proofs.Common.{◌≡◌, ◌+◌, ◌*◌, ◌-◌, [], drop, Result, option_map}
 use Rattle.liquid_error.specs.declared.error.Error.{Error}
-use Rattle.liquid_runtime.specs.View.{View}
-use Rattle.liquid_tree.specs.NodesOf.{node_of, nodes_of}
-use Rattle.liquid_tree.specs.Size.{size_node, size_nodes, size_parts}
-use Rattle.liquid_template.specs.Nodes.{turns, run_parts}
-use Rattle.liquid_template.specs.Partials.{partials_at}
-use Rattle.liquid_template.specs.Rendering.{nodes_run}
-use Rattle.liquid_template.specs.Sunk.{Sunk, sunk}
-use Rattle.liquid_template.specs.Outcome.{Renders}
-use Rattle.liquid_template.specs.Runs.{setting, tag_run, block_run}
-use Rattle.liquid_template.specs.PartsOf.{parts_of}
-use Rattle.liquid_template.specs.Bound.{partials_size, work}
+use Rattle.liquid_runtime.specs.meaning.View.{View}
+use Rattle.liquid_plugins.specs.meaning.NodesOf.{node_of, nodes_of}
+use Rattle.liquid_plugins.specs.meaning.Size.{size_node, size_nodes, size_parts}
+use Rattle.liquid_template.specs.meaning.Nodes.{turns, run_parts}
+use Rattle.liquid_template.specs.meaning.Partials.{partials_at}
+use Rattle.liquid_template.specs.meaning.Rendering.{nodes_run}
+use Rattle.liquid_template.specs.meaning.Sunk.{Sunk}
+use Rattle.liquid_template.specs.meaning.Outcome.{Renders}
+use Rattle.liquid_template.specs.meaning.Runs.{setting, tag_run, block_run}
+use Rattle.liquid_template.specs.steps.PartsOf.{parts_of}
+use Rattle.liquid_template.specs.steps.Bound.{partials_size, work}
 use Rattle.liquid_template.proofs.cycle.+render.Given as goal
 
 abbrev pub decreases-render_list : goal.decreases-render_list
@@ -42,34 +42,34 @@ decreases-render_found g l = 8 * work l.depth (partials_size (option_map g.S.Sto
 
 abbrev pub invariant-render_list-loop-node : goal.invariant-render_list-loop-node
 invariant-render_list-loop-node g l = record {
-  kept : g.S.Runtime.restores l.scopes ≡ g.S.Runtime.restores l.fn.scopes;
-  finds : option_map g.S.Store.PartialStore.finds (g.S.Runtime.store l.scopes) ≡ option_map g.S.Store.PartialStore.finds (g.S.Runtime.store l.fn.scopes);
+  owes : g.S.Runtime.restores l.scopes ≡ g.S.Runtime.restores l.fn.scopes;
+  store : option_map g.S.Store.PartialStore.finds (g.S.Runtime.store l.scopes) ≡ option_map g.S.Store.PartialStore.finds (g.S.Runtime.store l.fn.scopes);
   bound : partials_size (option_map g.S.Store.PartialStore.finds (g.S.Runtime.store l.scopes)) ≡ partials_size (option_map g.S.Store.PartialStore.finds (g.S.Runtime.store l.fn.scopes));
-  same : g.S.Runtime.lent l.scopes ≡ g.S.Runtime.lent l.fn.scopes;
+  borrows : g.S.Runtime.lent l.scopes ≡ g.S.Runtime.lent l.fn.scopes;
   renders : (after : Sunk) (left : View g.row.S-Register.Denot) (answer : Result (Unit {0}) Error)
-      → Renders (nodes_run (setting g.S.Register.Fresh.fresh g.X.Filter.answers g.X.Filter.shown g.T.Renderable.starts g.T.Renderable.count g.T.Renderable.tells g.B.Renderable.starts g.B.Renderable.count g.B.Renderable.tells (option_map g.S.Store.PartialStore.finds (g.S.Runtime.store l.fn.scopes))) l.depth (nodes_of g.X.Meant.shape g.T.Meant.shape g.B.Meant.shape (drop l.node-index l.nodes)) (g.S.Runtime.view l.scopes)) (g.S.Runtime.view l.scopes) (sunk (g.K.Sink.taken l.sink) (g.K.Sink.failures l.sink) (g.K.Sink.behind l.sink) (g.K.Sink.lent l.sink)) after left answer
-      → Renders (nodes_run (setting g.S.Register.Fresh.fresh g.X.Filter.answers g.X.Filter.shown g.T.Renderable.starts g.T.Renderable.count g.T.Renderable.tells g.B.Renderable.starts g.B.Renderable.count g.B.Renderable.tells (option_map g.S.Store.PartialStore.finds (g.S.Runtime.store l.fn.scopes))) l.depth (nodes_of g.X.Meant.shape g.T.Meant.shape g.B.Meant.shape l.nodes) (g.S.Runtime.view l.fn.scopes)) (g.S.Runtime.view l.fn.scopes) (sunk (g.K.Sink.taken l.fn.sink) (g.K.Sink.failures l.fn.sink) (g.K.Sink.behind l.fn.sink) (g.K.Sink.lent l.fn.sink)) after left answer;
+      → Renders (nodes_run (setting g.S.Register.Fresh.fresh g.X.Filter.means g.T.Renderable.means g.B.Renderable.means (option_map g.S.Store.PartialStore.finds (g.S.Runtime.store l.fn.scopes))) l.depth (nodes_of g.X.Meant.shape g.T.Meant.shape g.B.Meant.shape (drop l.node-index l.nodes)) (g.S.Runtime.view l.scopes)) (g.S.Runtime.view l.scopes) (g.K.Sink.sunk l.sink) after left answer
+      → Renders (nodes_run (setting g.S.Register.Fresh.fresh g.X.Filter.means g.T.Renderable.means g.B.Renderable.means (option_map g.S.Store.PartialStore.finds (g.S.Runtime.store l.fn.scopes))) l.depth (nodes_of g.X.Meant.shape g.T.Meant.shape g.B.Meant.shape l.nodes) (g.S.Runtime.view l.fn.scopes)) (g.S.Runtime.view l.fn.scopes) (g.K.Sink.sunk l.fn.sink) after left answer;
 }
 
 abbrev pub invariant-render_tag-loop : goal.invariant-render_tag-loop
 invariant-render_tag-loop g l = record {
-  kept : g.S.Runtime.restores l.scopes ≡ g.S.Runtime.restores l.fn.scopes;
-  finds : option_map g.S.Store.PartialStore.finds (g.S.Runtime.store l.scopes) ≡ option_map g.S.Store.PartialStore.finds (g.S.Runtime.store l.fn.scopes);
+  owes : g.S.Runtime.restores l.scopes ≡ g.S.Runtime.restores l.fn.scopes;
+  store : option_map g.S.Store.PartialStore.finds (g.S.Runtime.store l.scopes) ≡ option_map g.S.Store.PartialStore.finds (g.S.Runtime.store l.fn.scopes);
   bound : partials_size (option_map g.S.Store.PartialStore.finds (g.S.Runtime.store l.scopes)) ≡ partials_size (option_map g.S.Store.PartialStore.finds (g.S.Runtime.store l.fn.scopes));
-  same : g.S.Runtime.lent l.scopes ≡ g.S.Runtime.lent l.fn.scopes;
+  borrows : g.S.Runtime.lent l.scopes ≡ g.S.Runtime.lent l.fn.scopes;
   none : l.none.items ≡ [];
   renders : (after : Sunk) (left : View g.row.S-Register.Denot) (answer : Result (Unit {0}) Error)
-      → Renders (turns (setting g.S.Register.Fresh.fresh g.X.Filter.answers g.X.Filter.shown g.T.Renderable.starts g.T.Renderable.count g.T.Renderable.tells g.B.Renderable.starts g.B.Renderable.count g.B.Renderable.tells (option_map g.S.Store.PartialStore.finds (g.S.Runtime.store l.fn.scopes))) (partials_at (setting g.S.Register.Fresh.fresh g.X.Filter.answers g.X.Filter.shown g.T.Renderable.starts g.T.Renderable.count g.T.Renderable.tells g.B.Renderable.starts g.B.Renderable.count g.B.Renderable.tells (option_map g.S.Store.PartialStore.finds (g.S.Runtime.store l.fn.scopes))) l.depth) (record { starts = g.T.Renderable.starts; count = g.T.Renderable.count; tells = g.T.Renderable.tells }) (g.T.Meant.shape l.tag) [] (l.end - l.counter) (g.T.Progress.Meant.shape l.progress) (g.S.Runtime.view l.scopes)) (g.S.Runtime.view l.scopes) (sunk (g.K.Sink.taken l.sink) (g.K.Sink.failures l.sink) (g.K.Sink.behind l.sink) (g.K.Sink.lent l.sink)) after left answer
-      → Renders (tag_run (setting g.S.Register.Fresh.fresh g.X.Filter.answers g.X.Filter.shown g.T.Renderable.starts g.T.Renderable.count g.T.Renderable.tells g.B.Renderable.starts g.B.Renderable.count g.B.Renderable.tells (option_map g.S.Store.PartialStore.finds (g.S.Runtime.store l.fn.scopes))) l.depth (g.T.Meant.shape l.tag) (g.S.Runtime.view l.fn.scopes)) (g.S.Runtime.view l.fn.scopes) (sunk (g.K.Sink.taken l.fn.sink) (g.K.Sink.failures l.fn.sink) (g.K.Sink.behind l.fn.sink) (g.K.Sink.lent l.fn.sink)) after left answer;
+      → Renders (turns (setting g.S.Register.Fresh.fresh g.X.Filter.means g.T.Renderable.means g.B.Renderable.means (option_map g.S.Store.PartialStore.finds (g.S.Runtime.store l.fn.scopes))) (partials_at (setting g.S.Register.Fresh.fresh g.X.Filter.means g.T.Renderable.means g.B.Renderable.means (option_map g.S.Store.PartialStore.finds (g.S.Runtime.store l.fn.scopes))) l.depth) g.T.Renderable.means (g.T.Meant.shape l.tag) [] (l.end - l.counter) (g.T.Progress.Meant.shape l.progress) (g.S.Runtime.view l.scopes)) (g.S.Runtime.view l.scopes) (g.K.Sink.sunk l.sink) after left answer
+      → Renders (tag_run (setting g.S.Register.Fresh.fresh g.X.Filter.means g.T.Renderable.means g.B.Renderable.means (option_map g.S.Store.PartialStore.finds (g.S.Runtime.store l.fn.scopes))) l.depth (g.T.Meant.shape l.tag) (g.S.Runtime.view l.fn.scopes)) (g.S.Runtime.view l.fn.scopes) (g.K.Sink.sunk l.fn.sink) after left answer;
 }
 
 abbrev pub invariant-render_block-loop : goal.invariant-render_block-loop
 invariant-render_block-loop g l = record {
-  kept : g.S.Runtime.restores l.scopes ≡ g.S.Runtime.restores l.fn.scopes;
-  finds : option_map g.S.Store.PartialStore.finds (g.S.Runtime.store l.scopes) ≡ option_map g.S.Store.PartialStore.finds (g.S.Runtime.store l.fn.scopes);
+  owes : g.S.Runtime.restores l.scopes ≡ g.S.Runtime.restores l.fn.scopes;
+  store : option_map g.S.Store.PartialStore.finds (g.S.Runtime.store l.scopes) ≡ option_map g.S.Store.PartialStore.finds (g.S.Runtime.store l.fn.scopes);
   bound : partials_size (option_map g.S.Store.PartialStore.finds (g.S.Runtime.store l.scopes)) ≡ partials_size (option_map g.S.Store.PartialStore.finds (g.S.Runtime.store l.fn.scopes));
-  same : g.S.Runtime.lent l.scopes ≡ g.S.Runtime.lent l.fn.scopes;
+  borrows : g.S.Runtime.lent l.scopes ≡ g.S.Runtime.lent l.fn.scopes;
   renders : (after : Sunk) (left : View g.row.S-Register.Denot) (answer : Result (Unit {0}) Error)
-      → Renders (turns (setting g.S.Register.Fresh.fresh g.X.Filter.answers g.X.Filter.shown g.T.Renderable.starts g.T.Renderable.count g.T.Renderable.tells g.B.Renderable.starts g.B.Renderable.count g.B.Renderable.tells (option_map g.S.Store.PartialStore.finds (g.S.Runtime.store l.fn.scopes))) (partials_at (setting g.S.Register.Fresh.fresh g.X.Filter.answers g.X.Filter.shown g.T.Renderable.starts g.T.Renderable.count g.T.Renderable.tells g.B.Renderable.starts g.B.Renderable.count g.B.Renderable.tells (option_map g.S.Store.PartialStore.finds (g.S.Runtime.store l.fn.scopes))) l.depth) (record { starts = g.B.Renderable.starts; count = g.B.Renderable.count; tells = g.B.Renderable.tells }) (g.B.Meant.shape l.block) (run_parts (setting g.S.Register.Fresh.fresh g.X.Filter.answers g.X.Filter.shown g.T.Renderable.starts g.T.Renderable.count g.T.Renderable.tells g.B.Renderable.starts g.B.Renderable.count g.B.Renderable.tells (option_map g.S.Store.PartialStore.finds (g.S.Runtime.store l.fn.scopes))) (partials_at (setting g.S.Register.Fresh.fresh g.X.Filter.answers g.X.Filter.shown g.T.Renderable.starts g.T.Renderable.count g.T.Renderable.tells g.B.Renderable.starts g.B.Renderable.count g.B.Renderable.tells (option_map g.S.Store.PartialStore.finds (g.S.Runtime.store l.fn.scopes))) l.depth) (parts_of g.X.Meant.shape g.T.Meant.shape g.B.Meant.shape l.parts)) (l.end - l.counter) (g.B.Progress.Meant.shape l.progress) (g.S.Runtime.view l.scopes)) (g.S.Runtime.view l.scopes) (sunk (g.K.Sink.taken l.sink) (g.K.Sink.failures l.sink) (g.K.Sink.behind l.sink) (g.K.Sink.lent l.sink)) after left answer
-      → Renders (block_run (setting g.S.Register.Fresh.fresh g.X.Filter.answers g.X.Filter.shown g.T.Renderable.starts g.T.Renderable.count g.T.Renderable.tells g.B.Renderable.starts g.B.Renderable.count g.B.Renderable.tells (option_map g.S.Store.PartialStore.finds (g.S.Runtime.store l.fn.scopes))) l.depth (g.B.Meant.shape l.block) (parts_of g.X.Meant.shape g.T.Meant.shape g.B.Meant.shape l.parts) (g.S.Runtime.view l.fn.scopes)) (g.S.Runtime.view l.fn.scopes) (sunk (g.K.Sink.taken l.fn.sink) (g.K.Sink.failures l.fn.sink) (g.K.Sink.behind l.fn.sink) (g.K.Sink.lent l.fn.sink)) after left answer;
+      → Renders (turns (setting g.S.Register.Fresh.fresh g.X.Filter.means g.T.Renderable.means g.B.Renderable.means (option_map g.S.Store.PartialStore.finds (g.S.Runtime.store l.fn.scopes))) (partials_at (setting g.S.Register.Fresh.fresh g.X.Filter.means g.T.Renderable.means g.B.Renderable.means (option_map g.S.Store.PartialStore.finds (g.S.Runtime.store l.fn.scopes))) l.depth) g.B.Renderable.means (g.B.Meant.shape l.block) (run_parts (setting g.S.Register.Fresh.fresh g.X.Filter.means g.T.Renderable.means g.B.Renderable.means (option_map g.S.Store.PartialStore.finds (g.S.Runtime.store l.fn.scopes))) (partials_at (setting g.S.Register.Fresh.fresh g.X.Filter.means g.T.Renderable.means g.B.Renderable.means (option_map g.S.Store.PartialStore.finds (g.S.Runtime.store l.fn.scopes))) l.depth) (parts_of g.X.Meant.shape g.T.Meant.shape g.B.Meant.shape l.parts)) (l.end - l.counter) (g.B.Progress.Meant.shape l.progress) (g.S.Runtime.view l.scopes)) (g.S.Runtime.view l.scopes) (g.K.Sink.sunk l.sink) after left answer
+      → Renders (block_run (setting g.S.Register.Fresh.fresh g.X.Filter.means g.T.Renderable.means g.B.Renderable.means (option_map g.S.Store.PartialStore.finds (g.S.Runtime.store l.fn.scopes))) l.depth (g.B.Meant.shape l.block) (parts_of g.X.Meant.shape g.T.Meant.shape g.B.Meant.shape l.parts) (g.S.Runtime.view l.fn.scopes)) (g.S.Runtime.view l.fn.scopes) (g.K.Sink.sunk l.fn.sink) after left answer;
 }

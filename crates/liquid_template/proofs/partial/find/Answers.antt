@@ -1,7 +1,7 @@
 use Rattle.std.proofs.Common.{◌≤◌, Some, IfOk, option_map, subst}
-use Rattle.liquid_tree.specs.Size.{size_nodes}
-use Rattle.liquid_template.specs.Bound.{partials_size}
-use Rattle.liquid_template.specs.TemplateOf.{template_nodes}
+use Rattle.liquid_plugins.specs.meaning.Size.{size_nodes}
+use Rattle.liquid_template.specs.steps.Bound.{partials_size}
+use Rattle.liquid_template.specs.meaning.TemplateOf.{template_nodes}
 use Rattle.liquid_template.proofs.Bounds.{small_answer}
 use Rattle.liquid_template.proofs.partial.find.Goals as goal
 

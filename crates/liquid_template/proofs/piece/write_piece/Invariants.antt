@@ -1,13 +1,10 @@
 use Rattle.std.proofs.Common.{length}
-use Rattle.liquid_template.specs.Sunk.{sunk}
 use Rattle.liquid_template.proofs.Pieces.{SoFar}
 use Rattle.liquid_template.proofs.piece.write_piece.Given as goal
 
 abbrev pub invariant-loop-rest : goal.invariant-loop-rest
 invariant-loop-rest g l = record {
-  so_far : SoFar l.piece l.rest
-      (sunk (g.K.Sink.taken l.initial.sink) (g.K.Sink.failures l.initial.sink) (g.K.Sink.behind l.initial.sink) (g.K.Sink.lent l.initial.sink))
-      (sunk (g.K.Sink.taken l.sink) (g.K.Sink.failures l.sink) (g.K.Sink.behind l.sink) (g.K.Sink.lent l.sink));
+  so_far : SoFar l.piece l.rest (g.K.Sink.sunk l.initial.sink) (g.K.Sink.sunk l.sink);
 }
 
 abbrev pub decreases-loop-rest : goal.decreases-loop-rest

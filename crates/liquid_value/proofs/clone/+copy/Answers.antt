@@ -1,6 +1,6 @@
 use Rattle.std.proofs.Common.{◌≡◌, ◌∙◌}
 use Rattle.std.proofs.lemmas.Result.{IfOk-weaker}
-use Rattle.liquid_value.specs.View.{members_view}
+use Rattle.liquid_value.specs.meaning.View.{members_view}
 use Rattle.liquid_value.proofs.Copies.{copied_members, copied_order}
 use Rattle.liquid_value.proofs.clone.+copy.Goals as goal
 

@@ -1,5 +1,5 @@
 use Rattle.std.proofs.Common.{◌≡◌, ◌++◌, take, map}
-use Rattle.liquid_value.specs.View.{view, entry_view}
+use Rattle.liquid_value.specs.meaning.View.{view, entry_view}
 use Rattle.liquid_value.proofs.clone.+copy.Given as goal
 
 abbrev pub invariant-copy_array-loop-item : goal.invariant-copy_array-loop-item

@@ -1,6 +1,6 @@
 use Rattle.std.proofs.Common.{◌≡◌, drop}
-use Rattle.liquid_value.specs.Loose.{items_facing, members_facing}
-use Rattle.liquid_value.specs.View.{items_view, members_view}
+use Rattle.liquid_value.specs.meaning.Loose.{items_facing, members_facing}
+use Rattle.liquid_value.specs.meaning.View.{items_view, members_view}
 use Rattle.liquid_value.proofs.loose.+loose.Given as goal
 
 abbrev pub invariant-items_face-loop-index : goal.invariant-items_face-loop-index

@@ -1,6 +1,6 @@
 use Rattle.std.proofs.Common.{◌≡◌, drop}
-use Rattle.liquid_value.specs.Order.{items_cmp, members_cmp}
-use Rattle.liquid_value.specs.View.{items_view, members_view}
+use Rattle.liquid_value.specs.meaning.Order.{items_cmp, members_cmp}
+use Rattle.liquid_value.specs.meaning.View.{items_view, members_view}
 use Rattle.liquid_value.proofs.order.+order.Given as goal
 
 abbrev pub invariant-items_cmp-loop-index : goal.invariant-items_cmp-loop-index

@@ -1,8 +1,8 @@
 use Rattle.std.proofs.Common.{[], ◌++◌, string_bytes, refl, ap, ◌∙◌, sym, rules}
 use Rattle.std.proofs.Output.{has_written_append}
 use Rattle.liquid_value.proofs.Walks.{items_turn, members_turn}
-use Rattle.liquid_value.specs.Render.{render, render_items, render_members}
-use Rattle.liquid_value.specs.View.{view, items_view, members_view}
+use Rattle.liquid_value.specs.meaning.Render.{render, render_items, render_members}
+use Rattle.liquid_value.specs.meaning.View.{view, items_view, members_view}
 use Rattle.liquid_value.proofs.render.+render.Goals as goal
 
 pub write_items-loop-item-init : goal.write_items-loop-item-init

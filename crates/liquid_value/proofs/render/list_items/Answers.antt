@@ -1,8 +1,8 @@
 use Rattle.std.proofs.Common.{[], ◌++◌, codes, refl, ap, sym, rules}
 use Rattle.std.proofs.Output.{has_written_append}
 use Rattle.liquid_value.proofs.Walks.{items_turn}
-use Rattle.liquid_value.specs.Render.{render, listed_items}
-use Rattle.liquid_value.specs.View.{view, items_view}
+use Rattle.liquid_value.specs.meaning.Render.{render, listed_items}
+use Rattle.liquid_value.specs.meaning.View.{view, items_view}
 use Rattle.liquid_value.proofs.render.list_items.Goals as goal
 
 pub loop-item-init : goal.loop-item-init

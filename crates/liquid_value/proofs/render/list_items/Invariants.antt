@@ -1,7 +1,7 @@
 use Rattle.std.proofs.Common.{◌≡◌, ℕ, List, ◌++◌, drop}
 use Rattle.std.specs.Fmt.{HasWritten, IsPlainFormatter}
-use Rattle.liquid_value.specs.Render.{listed_items}
-use Rattle.liquid_value.specs.View.{items_view}
+use Rattle.liquid_value.specs.meaning.Render.{listed_items}
+use Rattle.liquid_value.specs.meaning.View.{items_view}
 use Rattle.liquid_value.proofs.render.list_items.Given as goal
 
 abbrev pub invariant-loop-item : goal.invariant-loop-item

@@ -1,8 +1,8 @@
 use Rattle.std.proofs.Common.{[], ◌++◌, string_bytes, refl, ap, sym, ◌∙◌, rules}
 use Rattle.std.proofs.Output.{has_written_append}
 use Rattle.liquid_value.proofs.Walks.{members_turn}
-use Rattle.liquid_value.specs.Render.{listed_member, listed_members}
-use Rattle.liquid_value.specs.View.{view, members_view}
+use Rattle.liquid_value.specs.meaning.Render.{listed_member, listed_members}
+use Rattle.liquid_value.specs.meaning.View.{view, members_view}
 use Rattle.liquid_value.proofs.render.list_members.Goals as goal
 
 pub loop-key-init : goal.loop-key-init

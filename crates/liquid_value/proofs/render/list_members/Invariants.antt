@@ -1,7 +1,7 @@
 use Rattle.std.proofs.Common.{◌≡◌, ℕ, List, ◌++◌}
 use Rattle.std.specs.Fmt.{HasWritten, IsPlainFormatter}
-use Rattle.liquid_value.specs.Render.{listed_members}
-use Rattle.liquid_value.specs.View.{members_view}
+use Rattle.liquid_value.specs.meaning.Render.{listed_members}
+use Rattle.liquid_value.specs.meaning.View.{members_view}
 use Rattle.liquid_value.proofs.render.list_members.Given as goal
 
 abbrev pub invariant-loop-key : goal.invariant-loop-key

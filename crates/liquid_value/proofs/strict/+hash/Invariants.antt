@@ -1,7 +1,7 @@
 use Rattle.std.proofs.Common.{◌≡◌, drop}
 use Rattle.std.specs.Prelude.{fold}
-use Rattle.liquid_value.specs.Strict.{items_hash, members_hash}
-use Rattle.liquid_value.specs.View.{items_view, members_view}
+use Rattle.liquid_value.specs.meaning.Strict.{items_hash, members_hash}
+use Rattle.liquid_value.specs.meaning.View.{items_view, members_view}
 use Rattle.liquid_value.proofs.strict.+hash.Given as goal
 
 abbrev pub invariant-hash_items-loop-item : goal.invariant-hash_items-loop-item

@@ -1,6 +1,6 @@
 use Rattle.std.proofs.Common.{◌≡◌, drop}
-use Rattle.liquid_value.specs.Strict.{same_items, same_members}
-use Rattle.liquid_value.specs.View.{items_view, members_view}
+use Rattle.liquid_value.specs.meaning.Strict.{same_items, same_members}
+use Rattle.liquid_value.specs.meaning.View.{items_view, members_view}
 use Rattle.liquid_value.proofs.strict.+same.Given as goal
 
 abbrev pub invariant-same_items-loop-index : goal.invariant-same_items-loop-index

@@ -1,8 +1,8 @@
 use Rattle.std.proofs.Common.{w64, length, sym, ap, ◌∙◌}
 use Rattle.std.specs.Prelude.{option_and_then}
-use Rattle.liquid_value.specs.Place.{nth, place_at}
+use Rattle.liquid_value.specs.meaning.Place.{nth, place_at}
 use Rattle.std.proofs.lemmas.Int.{to_z-of_z}
-use Rattle.liquid_views.specs.Trees.{items_by}
+use Rattle.liquid_views.specs.meaning.Trees.{items_by}
 use Rattle.liquid_views.proofs.Lists.{count_of_list, nth_of_slice, item_at_of_list}
 use Rattle.liquid_views.proofs.array.item_at.Goals as goal
 

@@ -1,6 +1,6 @@
 use Rattle.std.proofs.Common.{◌++◌, codes, refl, rules}
 use Rattle.std.proofs.Output.{has_written_append}
-use Rattle.liquid_value.specs.Render.{render, listed_items}
+use Rattle.liquid_value.specs.meaning.Render.{render, listed_items}
 use Rattle.liquid_views.proofs.Lists.{list_turn}
 use Rattle.liquid_views.proofs.array.list_items.Goals as goal
 

@@ -1,7 +1,7 @@
 use Rattle.std.proofs.Common.{◌≡◌, ℕ, List, ◌++◌, drop}
 use Rattle.std.specs.Fmt.{HasWritten, IsPlainFormatter}
-use Rattle.liquid_value.specs.Render.{listed_items}
-use Rattle.liquid_views.specs.Trees.{items_by}
+use Rattle.liquid_value.specs.meaning.Render.{listed_items}
+use Rattle.liquid_views.specs.meaning.Trees.{items_by}
 use Rattle.liquid_views.proofs.array.list_items.Given as goal
 
 abbrev pub invariant-loop-item : goal.invariant-loop-item

@@ -1,5 +1,5 @@
 use Rattle.std.proofs.Common.{◌≡◌, map, take}
-use Rattle.liquid_value.specs.View.{view}
+use Rattle.liquid_value.specs.meaning.View.{view}
 use Rattle.liquid_views.proofs.build.array_of.Given as goal
 
 abbrev pub invariant-loop-item : goal.invariant-loop-item

@@ -1,9 +1,9 @@
 use Rattle.std.proofs.Common.{◌≡◌, ◌+◌, drop, string_bytes, sym, ap, ◌∙◌}
 use Rattle.liquid_value.proofs.Entries.{members_view-insert_entry}
-use Rattle.liquid_value.specs.Members.{put_member}
-use Rattle.liquid_value.specs.View.{view, members_view}
+use Rattle.liquid_value.specs.meaning.Members.{put_member}
+use Rattle.liquid_value.specs.meaning.View.{view, members_view}
 use Rattle.liquid_views.proofs.Pairs.{pairs_turn}
-use Rattle.liquid_views.specs.Pairs.{put_pairs}
+use Rattle.liquid_views.specs.meaning.Pairs.{put_pairs}
 use Rattle.liquid_views.proofs.build.object_of.Goals as goal
 
 pub loop-pair-preserved : goal.loop-pair-preserved

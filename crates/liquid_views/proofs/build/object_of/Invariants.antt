@@ -1,7 +1,7 @@
 use Rattle.std.proofs.Common.{◌≡◌, drop}
-use Rattle.liquid_value.specs.Tree.{no_members}
-use Rattle.liquid_value.specs.View.{members_view}
-use Rattle.liquid_views.specs.Pairs.{put_pairs}
+use Rattle.liquid_value.specs.meaning.Tree.{no_members}
+use Rattle.liquid_value.specs.meaning.View.{members_view}
+use Rattle.liquid_views.specs.meaning.Pairs.{put_pairs}
 use Rattle.liquid_views.proofs.build.object_of.Given as goal
 
 abbrev pub invariant-loop-pair : goal.invariant-loop-pair

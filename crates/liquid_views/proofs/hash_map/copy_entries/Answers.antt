@@ -1,8 +1,8 @@
 use Rattle.std.proofs.Common.{◌≡◌, string_bytes, sym, ap, ◌∙◌}
 use Rattle.liquid_value.proofs.Entries.{members_view-insert_entry}
-use Rattle.liquid_value.specs.Members.{put_member}
-use Rattle.liquid_value.specs.View.{view, members_view}
-use Rattle.liquid_views.specs.Entries.{put_entries}
+use Rattle.liquid_value.specs.meaning.Members.{put_member}
+use Rattle.liquid_value.specs.meaning.View.{view, members_view}
+use Rattle.liquid_views.specs.meaning.Entries.{put_entries}
 use Rattle.liquid_views.proofs.hash_map.copy_entries.Goals as goal
 
 pub loop-key-preserved : goal.loop-key-preserved

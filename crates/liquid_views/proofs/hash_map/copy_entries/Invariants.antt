@@ -1,7 +1,7 @@
 use Rattle.std.proofs.Common.{◌≡◌}
-use Rattle.liquid_value.specs.Tree.{no_members}
-use Rattle.liquid_value.specs.View.{members_view}
-use Rattle.liquid_views.specs.Entries.{put_entries}
+use Rattle.liquid_value.specs.meaning.Tree.{no_members}
+use Rattle.liquid_value.specs.meaning.View.{members_view}
+use Rattle.liquid_views.specs.meaning.Entries.{put_entries}
 use Rattle.liquid_views.proofs.hash_map.copy_entries.Given as goal
 
 abbrev pub invariant-loop-key : goal.invariant-loop-key

@@ -1,6 +1,6 @@
 use Rattle.std.proofs.Common.{◌≡◌, ◌++◌, map}
-use Rattle.liquid_views.specs.Entries.{index_members}
-use Rattle.liquid_value.specs.Names.{names}
+use Rattle.liquid_views.specs.meaning.Entries.{index_members}
+use Rattle.liquid_value.specs.meaning.Names.{names}
 use Rattle.liquid_views.proofs.hash_map.index_names.Given as goal
 
 abbrev pub invariant-loop-key : goal.invariant-loop-key

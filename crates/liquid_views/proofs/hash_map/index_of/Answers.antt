@@ -1,6 +1,6 @@
 use Rattle.std.proofs.Common.{◌≡◌, string_bytes, sym, ap, ◌∙◌}
-use Rattle.liquid_value.specs.Members.{put_member}
-use Rattle.liquid_views.specs.Entries.{put_entries, index_members}
+use Rattle.liquid_value.specs.meaning.Members.{put_member}
+use Rattle.liquid_views.specs.meaning.Entries.{put_entries, index_members}
 use Rattle.liquid_views.proofs.HashMaps.{index_members-insert_entry}
 use Rattle.liquid_views.proofs.hash_map.index_of.Goals as goal
 

@@ -1,6 +1,6 @@
 use Rattle.std.proofs.Common.{◌≡◌}
-use Rattle.liquid_value.specs.Tree.{no_members}
-use Rattle.liquid_views.specs.Entries.{put_entries, index_members}
+use Rattle.liquid_value.specs.meaning.Tree.{no_members}
+use Rattle.liquid_views.specs.meaning.Entries.{put_entries, index_members}
 use Rattle.liquid_views.proofs.hash_map.index_of.Given as goal
 
 abbrev pub invariant-loop-key : goal.invariant-loop-key

@@ -1,7 +1,7 @@
 use Rattle.std.proofs.Common.{[], ◌++◌, refl, ap, sym, ◌∙◌, rules}
 use Rattle.std.proofs.Output.{has_written_append}
-use Rattle.liquid_value.specs.Render.{listed_member, listed_members}
-use Rattle.liquid_views.specs.Entries.{index_members}
+use Rattle.liquid_value.specs.meaning.Render.{listed_member, listed_members}
+use Rattle.liquid_views.specs.meaning.Entries.{index_members}
 use Rattle.liquid_views.proofs.HashMaps.{index_turn}
 use Rattle.liquid_views.proofs.hash_map.list_index.Goals as goal
 

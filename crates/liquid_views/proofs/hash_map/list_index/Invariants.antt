@@ -1,7 +1,7 @@
 use Rattle.std.proofs.Common.{◌≡◌, ℕ, List, ◌++◌}
 use Rattle.std.specs.Fmt.{HasWritten, IsPlainFormatter}
-use Rattle.liquid_value.specs.Render.{listed_members}
-use Rattle.liquid_views.specs.Entries.{index_members}
+use Rattle.liquid_value.specs.meaning.Render.{listed_members}
+use Rattle.liquid_views.specs.meaning.Entries.{index_members}
 use Rattle.liquid_views.proofs.hash_map.list_index.Given as goal
 
 abbrev pub invariant-loop-key : goal.invariant-loop-key

@@ -1,7 +1,7 @@
 use Rattle.std.proofs.Common.{◌≡◌, [], ◌∷◌, ◌++◌, string_bytes, sym, ap, ◌∙◌, subst, append_assoc}
 use Rattle.std.specs.List.Sorted.{IsStrictlySortedBy}
 use Rattle.std.specs.Map.{keys_of}
-use Rattle.liquid_value.specs.View.{members_view}
+use Rattle.liquid_value.specs.meaning.View.{members_view}
 use Rattle.liquid_value.proofs.Entries.{members_view-insert_entry}
 use Rattle.liquid_views.proofs.Maps.{put_last}
 use Rattle.liquid_views.proofs.object.copy_members.Goals as goal

@@ -1,6 +1,6 @@
 use Rattle.std.proofs.Common.{◌≡◌, List, ◌++◌}
-use Rattle.liquid_value.specs.View.{members_view}
-use Rattle.liquid_views.specs.Trees.{members_by}
+use Rattle.liquid_value.specs.meaning.View.{members_view}
+use Rattle.liquid_views.specs.meaning.Trees.{members_by}
 use Rattle.liquid_views.proofs.object.copy_members.Given as goal
 
 abbrev pub invariant-loop-key : goal.invariant-loop-key

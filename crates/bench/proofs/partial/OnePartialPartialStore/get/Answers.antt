@@ -1,7 +1,7 @@
 use Rattle.std.proofs.Common.{◌≡◌, Ok, Err, Some, map, string_bytes, sym, ap, ◌∙◌}
-use Rattle.liquid_error.specs.Told.{told}
+use Rattle.liquid_error.specs.meaning.Told.{told}
 use Rattle.liquid_template.proofs.Renderings.{if_then}
-use Rattle.liquid_template.specs.TemplateOf.{template_nodes}
+use Rattle.liquid_template.specs.meaning.TemplateOf.{template_nodes}
 use Rattle.bench.proofs.PartialLemmas.{partial_own, partial_other}
 use Rattle.bench.proofs.partial.OnePartialPartialStore.get.Goals as goal
 

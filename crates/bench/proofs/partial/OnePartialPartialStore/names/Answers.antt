@@ -1,5 +1,5 @@
 use Rattle.std.proofs.Common.{◌≡◌, ◌++◌, [], ◌∷◌, Ok, Err, Some, map, string_bytes, sym, ap, ◌∙◌}
-use Rattle.liquid_template.specs.TemplateOf.{template_nodes}
+use Rattle.liquid_template.specs.meaning.TemplateOf.{template_nodes}
 use Rattle.bench.proofs.PartialLemmas.{keys_one, names_pushed}
 use Rattle.bench.proofs.partial.OnePartialPartialStore.names.Goals as goal
 

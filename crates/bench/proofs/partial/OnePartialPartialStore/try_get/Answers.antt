@@ -1,5 +1,5 @@
 use Rattle.std.proofs.Common.{◌≡◌, Ok, Err, Some, map, string_bytes, sym, ap, ◌∙◌}
-use Rattle.liquid_template.specs.TemplateOf.{template_nodes}
+use Rattle.liquid_template.specs.meaning.TemplateOf.{template_nodes}
 use Rattle.bench.proofs.PartialLemmas.{tree_own, tree_other}
 use Rattle.bench.proofs.partial.OnePartialPartialStore.try_get.Goals as goal
 

@@ -1,6 +1,6 @@
 use Rattle.std.proofs.Common.{rules, ◌≡◌, Some, string_bytes, ◌∙◌, if◌then◌else◌, ap}
 use Rattle.std.specs.Str.{bytes_eq}
-use Rattle.liquid.specs.InMemory.{bytes_at}
+use Rattle.liquid.specs.meaning.InMemory.{bytes_at}
 use Rattle.liquid.proofs.FilesInMemory.{bytes_at-insert}
 use Rattle.liquid.proofs.in_memory.InMemoryFolder.add.Goals as goal
 

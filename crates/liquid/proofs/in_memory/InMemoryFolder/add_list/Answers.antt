@@ -1,6 +1,6 @@
 use Rattle.std.proofs.Common.{◌≡◌, Some, map, string_bytes, ◌∙◌, if◌then◌else◌, ap}
 use Rattle.std.specs.Str.{bytes_eq}
-use Rattle.liquid.specs.InMemory.{names_at}
+use Rattle.liquid.specs.meaning.InMemory.{names_at}
 use Rattle.liquid.proofs.FilesInMemory.{names_at-insert}
 use Rattle.liquid.proofs.in_memory.InMemoryFolder.add_list.Goals as goal
 

@@ -1,6 +1,6 @@
 use Rattle.std.proofs.Common.{[], refl, ◌∙◌}
 use Rattle.std.specs.Str.{chars}
-use Rattle.liquid_dates.specs.Pattern.{IsFront, print}
+use Rattle.liquid_dates.specs.meaning.Pattern.{IsFront, print}
 use Rattle.liquid_dates.proofs.FormatLemmas.{cut_at, cut_front, cut_shorter, copied_rest, printed_directive, printed_more, printed_shorter, refuses, formats_once, refuses_only}
 use Rattle.liquid_dates.proofs.date_time.DateTime.format.Goals as goal
 

@@ -1,7 +1,7 @@
 use Rattle.std.proofs.Common.{◌≡◌, List, length}
 use Rattle.std.specs.Str.{chars, IsUtf8}
 use Rattle.std.specs.String.{string_bytes}
-use Rattle.liquid_dates.specs.Pattern.{Item, IsFront, print}
+use Rattle.liquid_dates.specs.meaning.Pattern.{Item, IsFront, print}
 use Rattle.liquid_dates.proofs.date_time.DateTime.format.Given as goal
 
 abbrev pub invariant-directives : goal.invariant-directives

@@ -1,7 +1,7 @@
 use Rattle.std.proofs.Common.{sym, ap, ◌∙◌, option_map}
 use Rattle.liquid_error.specs.declared.error.Error.{Error}
-use Rattle.liquid_error.specs.Refusal.{with_cause}
-use Rattle.liquid_error.specs.Told.{told, reason_of}
+use Rattle.liquid_error.specs.meaning.Refusal.{with_cause}
+use Rattle.liquid_error.specs.meaning.Told.{told, reason_of}
 use Rattle.liquid_error.proofs.Causes.{told_caused, told_recaused}
 use Rattle.liquid_error.proofs.error.Error.cause.Goals as goal
 

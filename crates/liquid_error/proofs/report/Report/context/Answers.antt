@@ -1,6 +1,6 @@
 use Rattle.std.proofs.Common.{◌≡◌, ◌++◌, ◌∷◌, [], refl, rules, map}
 use Rattle.std.specs.Prelude.{string_bytes}
-use Rattle.liquid_error.specs.Told.{entry_of, note_of}
+use Rattle.liquid_error.specs.meaning.Told.{entry_of, note_of}
 use Rattle.liquid_error.proofs.Newest.{noted_newest, noted_message}
 use Rattle.liquid_error.proofs.report.Report.context.Goals as goal
 

@@ -1,5 +1,5 @@
 use Rattle.std.proofs.Common.{rules}
-use Rattle.liquid_error.specs.Told.{entry_of}
+use Rattle.liquid_error.specs.meaning.Told.{entry_of}
 use Rattle.liquid_error.proofs.Causes.{same_clones}
 use Rattle.liquid_error.proofs.report.TraceClone.clone.Goals as goal
 

@@ -1,6 +1,6 @@
 use Rattle.std.proofs.Common.{Ok, String, Global}
 use Rattle.std.specs.Prelude.{string_bytes}
-use Rattle.liquid_error.specs.Refusal.{chained}
+use Rattle.liquid_error.specs.meaning.Refusal.{chained}
 use Rattle.liquid_error.proofs.Makers.{changed_by}
 use Rattle.liquid_error.proofs.result_chain.ResultResultErrorResultLiquidChainExt.chain_with.Goals as goal
 

@@ -1,6 +1,6 @@
 use Rattle.std.proofs.Common.{Ok, String, Global}
 use Rattle.std.specs.Prelude.{string_bytes}
-use Rattle.liquid_error.specs.ErrorText.{lossy_chained}
+use Rattle.liquid_error.specs.meaning.ErrorText.{lossy_chained}
 use Rattle.liquid_error.proofs.Makers.{changed_by}
 use Rattle.liquid_error.proofs.result_chain.ResultResultErrorResultLiquidReplaceExt.lossy_chain_with.Goals as goal
 

@@ -1,8 +1,8 @@
 use Rattle.std.proofs.Common.{ℕ, List, Ok, String, Global, subst}
 use Rattle.std.specs.Prelude.{string_bytes}
-use Rattle.liquid_error.specs.Refusal.{with_context}
-use Rattle.liquid_error.specs.Told.{Becomes}
-use Rattle.liquid_error.specs.Helpers.{fn_key_result, fn_key_maker}
+use Rattle.liquid_error.specs.meaning.Refusal.{with_context}
+use Rattle.liquid_error.specs.meaning.Told.{Becomes}
+use Rattle.liquid_error.specs.meaning.Helpers.{fn_key_result, fn_key_maker}
 use Rattle.liquid_error.proofs.Makers.{changed_by}
 use Rattle.liquid_error.proofs.result_ext.FnKey.value.Goals as goal
 

@@ -1,7 +1,7 @@
 use Rattle.std.proofs.Common.{Ok, String, Global}
 use Rattle.std.specs.Prelude.{string_bytes}
-use Rattle.liquid_error.specs.Refusal.{with_context}
-use Rattle.liquid_error.specs.Helpers.{fn_key_result, fn_key_maker}
+use Rattle.liquid_error.specs.meaning.Refusal.{with_context}
+use Rattle.liquid_error.specs.meaning.Helpers.{fn_key_result, fn_key_maker}
 use Rattle.liquid_error.proofs.Makers.{changed_by}
 use Rattle.liquid_error.proofs.result_ext.FnKey.value_with.Goals as goal
 

@@ -1,8 +1,8 @@
 use Rattle.std.proofs.Common.{map, string_bytes, sym, ap, ◌∙◌, subst}
-use Rattle.liquid_parser.specs.Plugins.{block_of, language_of}
-use Rattle.liquid_template.specs.TemplateOf.{template_nodes}
-use Rattle.liquid_partials.specs.Compiled.{Compiled}
-use Rattle.liquid_partials.specs.Kept.{HasAll, Known}
+use Rattle.liquid_parser.specs.meaning.Plugins.{language_of}
+use Rattle.liquid_template.specs.meaning.TemplateOf.{template_nodes}
+use Rattle.liquid_partials.specs.meaning.Compiled.{Compiled}
+use Rattle.liquid_partials.specs.meaning.Kept.{HasAll, Known}
 use Rattle.liquid_partials.proofs.LazyLemmas.{ReadSoFar, none_left, read_none, read_more, read_all, all_counted}
 use Rattle.liquid_partials.proofs.eager.EagerCompilerPartialCompiler.compile.Goals as goal
 
@@ -21,8 +21,8 @@ loop-name-preserved g c =
     let so_far = subst (λ items. ReadSoFar (λ template. template_nodes g.F.Filter.Meant.shape g.T.Node.Meant.shape g.B.Node.Meant.shape template.value) (g.S.PartialSource.texts c.args.self.source) old.kept old.texts.readings.count (map (λ name. string_bytes name) items)) c.in-Some.ensures.steps.0 c.loop-name.invariant.read in
     record {
       source = c.in_ok-try_get.ensures.source ∙ c.loop-name.invariant.source;
-      compiled = subst (Compiled (language_of g.F.ParseFilter.makes g.T.ParseTag.gives (block_of g.B.BlockReflection.start_name g.B.BlockReflection.end_name g.B.ParseBlock.meaning) c.args.language.value) (g.S.PartialSource.texts c.args.self.source)) (sym c.in_ok-try_get.ensures.kept) c.loop-name.invariant.compiled;
-      read = read_more (λ template. template_nodes g.F.Filter.Meant.shape g.T.Node.Meant.shape g.B.Node.Meant.shape template.value) (language_of g.F.ParseFilter.makes g.T.ParseTag.gives (block_of g.B.BlockReflection.start_name g.B.BlockReflection.end_name g.B.ParseBlock.meaning) old.texts.language.value) (g.S.PartialSource.texts c.args.self.source) old.kept c.try_get.new.self.kept old.texts.readings.count c.try_get.new.self.texts.readings.count (string_bytes c.in-Some.name) (map (λ name. string_bytes name) c.next.new.self.rest.items)
+      compiled = subst (Compiled (language_of g.F.ParseFilter.makes g.T.ParseTag.gives g.B.ParseBlock.block c.args.language.value) (g.S.PartialSource.texts c.args.self.source)) (sym c.in_ok-try_get.ensures.kept) c.loop-name.invariant.compiled;
+      read = read_more (λ template. template_nodes g.F.Filter.Meant.shape g.T.Node.Meant.shape g.B.Node.Meant.shape template.value) (language_of g.F.ParseFilter.makes g.T.ParseTag.gives g.B.ParseBlock.block old.texts.language.value) (g.S.PartialSource.texts c.args.self.source) old.kept c.try_get.new.self.kept old.texts.readings.count c.try_get.new.self.texts.readings.count (string_bytes c.in-Some.name) (map (λ name. string_bytes name) c.next.new.self.rest.items)
           known so_far (rw (c.as_str.ensures.value, c.loop-name.invariant.source) at c.in_ok-try_get.ensures.keeps) (rw (c.as_str.ensures.value, c.loop-name.invariant.source) at c.in_ok-try_get.ensures.count);
     }
 

@@ -1,10 +1,10 @@
 use Rattle.std.proofs.Common.{sym, ◌∙◌}
-use Rattle.liquid_parser.specs.Plugins.{block_of, language_of}
-use Rattle.liquid_template.specs.TemplateOf.{template_nodes}
+use Rattle.liquid_parser.specs.meaning.Plugins.{language_of}
+use Rattle.liquid_template.specs.meaning.TemplateOf.{template_nodes}
 use Rattle.liquid_partials.proofs.LazyLemmas.{contains-known}
 use Rattle.liquid_partials.proofs.lazy.LazyStorePartialStoreFilterNodeNode.contains.Goals as goal
 
 pub returns : goal.returns
 returns g c =
     c.contains.ensures
-    ∙ sym (contains-known (λ template. template_nodes g.F.Filter.Meant.shape g.T.Node.Meant.shape g.B.Node.Meant.shape template.value) (language_of g.F.ParseFilter.makes g.T.ParseTag.gives (block_of g.B.BlockReflection.start_name g.B.BlockReflection.end_name g.B.ParseBlock.meaning) c.args.self.now.texts.language.value) (g.S.PartialSource.texts c.args.self.now.texts.source) c.args.self.now.kept c.args.self.now.known c.args.name.now)
+    ∙ sym (contains-known (λ template. template_nodes g.F.Filter.Meant.shape g.T.Node.Meant.shape g.B.Node.Meant.shape template.value) (language_of g.F.ParseFilter.makes g.T.ParseTag.gives g.B.ParseBlock.block c.args.self.now.texts.language.value) (g.S.PartialSource.texts c.args.self.now.texts.source) c.args.self.now.kept c.args.self.now.known c.args.name.now)

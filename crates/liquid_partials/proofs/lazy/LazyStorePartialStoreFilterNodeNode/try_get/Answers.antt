@@ -1,14 +1,14 @@
 use Rattle.std.proofs.Common.{Some, is_ok, sym, ◌∙◌}
-use Rattle.liquid_parser.specs.Plugins.{block_of, language_of}
-use Rattle.liquid_template.specs.TemplateOf.{template_nodes}
-use Rattle.liquid_partials.specs.Kept.{all_kept, kept_as, kept_or_read, readings}
+use Rattle.liquid_parser.specs.meaning.Plugins.{language_of}
+use Rattle.liquid_template.specs.meaning.TemplateOf.{template_nodes}
+use Rattle.liquid_partials.specs.meaning.Kept.{all_kept, kept_as, kept_or_read, readings}
 use Rattle.liquid_partials.proofs.LazyLemmas.{found_kept, kept_stays}
 use Rattle.liquid_partials.proofs.StoreLemmas.{if_ok, tree_found}
 use Rattle.liquid_partials.proofs.lazy.LazyStorePartialStoreFilterNodeNode.try_get.Goals as goal
 
 pub returns-in-Some-clause-gives : goal.returns-in-Some-clause-gives
 returns-in-Some-clause-gives g c =
-    if_ok c.kept_tree.result (λ found h. h ∙ sym (tree_found (kept_or_read (λ template. template_nodes g.F.Filter.Meant.shape g.T.Node.Meant.shape g.B.Node.Meant.shape template.value) (language_of g.F.ParseFilter.makes g.T.ParseTag.gives (block_of g.B.BlockReflection.start_name g.B.BlockReflection.end_name g.B.ParseBlock.meaning) c.args.self.now.texts.language.value) c.args.self.now.kept (g.S.PartialSource.texts c.args.self.now.texts.source)) c.args.name.now (Some (kept_as (λ template. template_nodes g.F.Filter.Meant.shape g.T.Node.Meant.shape g.B.Node.Meant.shape template.value) c.in-Some.answer.now)) (found_kept (all_kept (λ template. template_nodes g.F.Filter.Meant.shape g.T.Node.Meant.shape g.B.Node.Meant.shape template.value) c.args.self.now.kept) (readings (language_of g.F.ParseFilter.makes g.T.ParseTag.gives (block_of g.B.BlockReflection.start_name g.B.BlockReflection.end_name g.B.ParseBlock.meaning) c.args.self.now.texts.language.value) (g.S.PartialSource.texts c.args.self.now.texts.source)) c.args.name.now (kept_as (λ template. template_nodes g.F.Filter.Meant.shape g.T.Node.Meant.shape g.B.Node.Meant.shape template.value) c.in-Some.answer.now) (rw c.in-Some.is at c.under.ensures)))) c.kept_tree.ensures
+    if_ok c.kept_tree.result (λ found h. h ∙ sym (tree_found (kept_or_read (λ template. template_nodes g.F.Filter.Meant.shape g.T.Node.Meant.shape g.B.Node.Meant.shape template.value) (language_of g.F.ParseFilter.makes g.T.ParseTag.gives g.B.ParseBlock.block c.args.self.now.texts.language.value) c.args.self.now.kept (g.S.PartialSource.texts c.args.self.now.texts.source)) c.args.name.now (Some (kept_as (λ template. template_nodes g.F.Filter.Meant.shape g.T.Node.Meant.shape g.B.Node.Meant.shape template.value) c.in-Some.answer.now)) (found_kept (all_kept (λ template. template_nodes g.F.Filter.Meant.shape g.T.Node.Meant.shape g.B.Node.Meant.shape template.value) c.args.self.now.kept) (readings (language_of g.F.ParseFilter.makes g.T.ParseTag.gives g.B.ParseBlock.block c.args.self.now.texts.language.value) (g.S.PartialSource.texts c.args.self.now.texts.source)) c.args.name.now (kept_as (λ template. template_nodes g.F.Filter.Meant.shape g.T.Node.Meant.shape g.B.Node.Meant.shape template.value) c.in-Some.answer.now) (rw c.in-Some.is at c.under.ensures)))) c.kept_tree.ensures
 
 pub returns-in-Some-clause-keeps : goal.returns-in-Some-clause-keeps
-returns-in-Some-clause-keeps g c = kept_stays (is_ok c.kept_tree.result) (all_kept (λ template. template_nodes g.F.Filter.Meant.shape g.T.Node.Meant.shape g.B.Node.Meant.shape template.value) c.args.self.now.kept) (readings (language_of g.F.ParseFilter.makes g.T.ParseTag.gives (block_of g.B.BlockReflection.start_name g.B.BlockReflection.end_name g.B.ParseBlock.meaning) c.args.self.now.texts.language.value) (g.S.PartialSource.texts c.args.self.now.texts.source)) c.args.name.now (kept_as (λ template. template_nodes g.F.Filter.Meant.shape g.T.Node.Meant.shape g.B.Node.Meant.shape template.value) c.in-Some.answer.now) (rw c.in-Some.is at c.under.ensures)
+returns-in-Some-clause-keeps g c = kept_stays (is_ok c.kept_tree.result) (all_kept (λ template. template_nodes g.F.Filter.Meant.shape g.T.Node.Meant.shape g.B.Node.Meant.shape template.value) c.args.self.now.kept) (readings (language_of g.F.ParseFilter.makes g.T.ParseTag.gives g.B.ParseBlock.block c.args.self.now.texts.language.value) (g.S.PartialSource.texts c.args.self.now.texts.source)) c.args.name.now (kept_as (λ template. template_nodes g.F.Filter.Meant.shape g.T.Node.Meant.shape g.B.Node.Meant.shape template.value) c.in-Some.answer.now) (rw c.in-Some.is at c.under.ensures)

@@ -1,23 +1,23 @@
 use Rattle.std.proofs.Common.{◌≡◌, Some, Ok, Err, sym, ap, ◌∙◌}
 use Rattle.std.specs.FinMap.{get}
-use Rattle.liquid_error.specs.Told.{told}
-use Rattle.liquid_parser.specs.Plugins.{block_of, language_of}
-use Rattle.liquid_template.specs.TemplateOf.{template_nodes}
+use Rattle.liquid_error.specs.meaning.Told.{told}
+use Rattle.liquid_parser.specs.meaning.Plugins.{language_of}
+use Rattle.liquid_template.specs.meaning.TemplateOf.{template_nodes}
 use Rattle.liquid_partials.proofs.StoreLemmas.{if_some, absent, present}
 use Rattle.liquid_partials.proofs.texts.Texts.read.Goals as goal
 
 pub returns-then-not-contains-clause-gives : goal.returns-then-not-contains-clause-gives
 returns-then-not-contains-clause-gives g c =
-    absent (language_of g.F.ParseFilter.makes g.T.ParseTag.gives (block_of g.B.BlockReflection.start_name g.B.BlockReflection.end_name g.B.ParseBlock.meaning) c.args.self.now.language.value) (g.S.PartialSource.texts c.args.self.now.source) c.args.name.now (sym c.contains.ensures ∙ c.if-not-contains.true)
+    absent (language_of g.F.ParseFilter.makes g.T.ParseTag.gives g.B.ParseBlock.block c.args.self.now.language.value) (g.S.PartialSource.texts c.args.self.now.source) c.args.name.now (sym c.contains.ensures ∙ c.if-not-contains.true)
 
 pub returns-in-Ok-clause-gives : goal.returns-in-Ok-clause-gives
 returns-in-Ok-clause-gives g c =
     let texts = g.S.PartialSource.texts c.args.self.now.source in
     let there : get texts c.args.name.now ≡ Some c.as_str.result.now = sym (rw c.in-Ok-Some.field-0-is at c.in-Ok-Some.ensures) ∙ ap (λ text. Some text) (sym c.as_str.ensures.value) in
-    present (language_of g.F.ParseFilter.makes g.T.ParseTag.gives (block_of g.B.BlockReflection.start_name g.B.BlockReflection.end_name g.B.ParseBlock.meaning) c.args.self.now.language.value) texts c.args.name.now c.as_str.result.now (Ok (template_nodes g.F.Filter.Meant.shape g.T.Node.Meant.shape g.B.Node.Meant.shape c.in-Ok.template)) there (rw c.deref.ensures at c.in-Ok.ensures)
+    present (language_of g.F.ParseFilter.makes g.T.ParseTag.gives g.B.ParseBlock.block c.args.self.now.language.value) texts c.args.name.now c.as_str.result.now (Ok (template_nodes g.F.Filter.Meant.shape g.T.Node.Meant.shape g.B.Node.Meant.shape c.in-Ok.template)) there (rw c.deref.ensures at c.in-Ok.ensures)
 
 pub returns-in-Ok-Some-clause-gives : goal.returns-in-Ok-Some-clause-gives
 returns-in-Ok-Some-clause-gives g c =
     let texts = g.S.PartialSource.texts c.args.self.now.source in
     let there : get texts c.args.name.now ≡ Some c.as_str.result.now = sym (rw c.in-Ok-Some.field-0-is at c.in-Ok-Some.ensures) ∙ ap (λ text. Some text) (sym c.as_str.ensures.value) in
-    if_some (told c.in-Err-parsed.error) (λ r e. present (language_of g.F.ParseFilter.makes g.T.ParseTag.gives (block_of g.B.BlockReflection.start_name g.B.BlockReflection.end_name g.B.ParseBlock.meaning) c.args.self.now.language.value) texts c.args.name.now c.as_str.result.now (Err r) there e) (rw c.deref.ensures at c.in-Err-parsed.ensures)
+    if_some (told c.in-Err-parsed.error) (λ r e. present (language_of g.F.ParseFilter.makes g.T.ParseTag.gives g.B.ParseBlock.block c.args.self.now.language.value) texts c.args.name.now c.as_str.result.now (Err r) there e) (rw c.deref.ensures at c.in-Err-parsed.ensures)

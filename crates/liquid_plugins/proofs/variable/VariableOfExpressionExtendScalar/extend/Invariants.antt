@@ -1,6 +1,6 @@
 use Rattle.std.proofs.Common.{◌≡◌, ◌++◌, map, string_bytes}
-use Rattle.liquid_scalar.specs.Scalar.{scal}
-use Rattle.liquid_plugins.specs.ExpressionOf.{index_list, literal_of, name_of}
+use Rattle.liquid_scalar.specs.meaning.Scalar.{scal}
+use Rattle.liquid_plugins.specs.meaning.ExpressionOf.{index_list, literal_of, name_of}
 use Rattle.liquid_plugins.proofs.variable.VariableOfExpressionExtendScalar.extend.Given as goal
 
 abbrev pub invariant-loop-scalar : goal.invariant-loop-scalar

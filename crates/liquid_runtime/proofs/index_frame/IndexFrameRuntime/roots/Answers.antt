@@ -1,7 +1,7 @@
-use Rattle.liquid_runtime.specs.Maps.{names_of}
-use Rattle.liquid_runtime.specs.NamesSeen.{names_seen}
-use Rattle.liquid_runtime.specs.Roots.{NamesOf, NamesOver}
-use Rattle.liquid_runtime.specs.FrameViews.{core_with, indexed_view}
+use Rattle.liquid_runtime.specs.meaning.Maps.{names_of}
+use Rattle.liquid_runtime.specs.meaning.NamesSeen.{names_seen}
+use Rattle.liquid_runtime.specs.meaning.Roots.{NamesOf, NamesOver}
+use Rattle.liquid_runtime.specs.steps.FrameViews.{core_with, indexed_view}
 use Rattle.liquid_runtime.proofs.FrameLookups.{roots_indexed, if_ok}
 use Rattle.liquid_runtime.proofs.index_frame.IndexFrameRuntime.roots.Goals as goal
 

@@ -1,5 +1,5 @@
 use Rattle.std.proofs.Common.{sym, ◌∙◌}
-use Rattle.liquid_runtime.specs.Maps.{names_of}
+use Rattle.liquid_runtime.specs.meaning.Maps.{names_of}
 use Rattle.liquid_runtime.proofs.FrameLookups.{lookup_indexed}
 use Rattle.liquid_runtime.proofs.index_frame.IndexFrameRuntime.try_get_name.Goals as goal
 

@@ -1,6 +1,6 @@
 use Rattle.std.proofs.Common.{Ok, sym, ap, ◌∙◌, unwrap_or}
-use Rattle.liquid_paths.specs.PathOf.{indexes_of}
-use Rattle.liquid_value.specs.Tree.{nil}
+use Rattle.liquid_paths.specs.meaning.PathOf.{indexes_of}
+use Rattle.liquid_value.specs.meaning.Tree.{nil}
 use Rattle.liquid_runtime.proofs.Agreement.{lenient_get_agrees}
 use Rattle.liquid_runtime.proofs.runtime.Runtime.get.Goals as goal
 

@@ -1,8 +1,8 @@
 use Rattle.std.proofs.Common.{option_map, string_bytes}
-use Rattle.liquid_runtime.specs.Maps.{names_of}
-use Rattle.liquid_runtime.specs.NamesSeen.{names_seen}
-use Rattle.liquid_runtime.specs.Roots.{NamesOf, NamesOver}
-use Rattle.liquid_runtime.specs.FrameViews.{sandboxed_with}
+use Rattle.liquid_runtime.specs.meaning.Maps.{names_of}
+use Rattle.liquid_runtime.specs.meaning.NamesSeen.{names_seen}
+use Rattle.liquid_runtime.specs.meaning.Roots.{NamesOf, NamesOver}
+use Rattle.liquid_runtime.specs.steps.FrameViews.{sandboxed_with}
 use Rattle.liquid_runtime.proofs.FrameLookups.{roots_sandboxed, if_ok}
 use Rattle.liquid_runtime.proofs.sandboxed_frame.SandboxedStackFrameRuntime.roots.Goals as goal
 

@@ -1,5 +1,5 @@
 use Rattle.std.proofs.Common.{sym, ◌∙◌, option_map, string_bytes}
-use Rattle.liquid_runtime.specs.Maps.{names_of}
+use Rattle.liquid_runtime.specs.meaning.Maps.{names_of}
 use Rattle.liquid_runtime.proofs.FrameLaws.{lookup_sandboxed}
 use Rattle.liquid_runtime.proofs.sandboxed_frame.SandboxedStackFrameRuntime.try_get_name.Goals as goal
 

@@ -1,8 +1,8 @@
 use Rattle.std.proofs.Common.{option_map, string_bytes}
-use Rattle.liquid_runtime.specs.Maps.{names_of}
-use Rattle.liquid_runtime.specs.NamesSeen.{names_seen}
-use Rattle.liquid_runtime.specs.Roots.{NamesOf, NamesOver}
-use Rattle.liquid_runtime.specs.Frames.{begin_stack}
+use Rattle.liquid_runtime.specs.meaning.Maps.{names_of}
+use Rattle.liquid_runtime.specs.meaning.NamesSeen.{names_seen}
+use Rattle.liquid_runtime.specs.meaning.Roots.{NamesOf, NamesOver}
+use Rattle.liquid_runtime.specs.meaning.Frames.{begin_stack}
 use Rattle.liquid_runtime.proofs.FrameLookups.{roots_stack, if_ok}
 use Rattle.liquid_runtime.proofs.stack_frame.StackFrameRuntime.roots.Goals as goal
 

@@ -1,7 +1,7 @@
 use Rattle.std.proofs.Common.{sym, ◌∙◌, None}
-use Rattle.liquid_runtime.specs.Maps.{names_of}
+use Rattle.liquid_runtime.specs.meaning.Maps.{names_of}
 use Rattle.std.specs.FinMap.{get}
-use Rattle.liquid_runtime.specs.NamesSeen.{comes_from_seal}
+use Rattle.liquid_runtime.specs.meaning.NamesSeen.{comes_from_seal}
 use Rattle.liquid_runtime.proofs.FrameLaws.{seal_stack}
 use Rattle.liquid_runtime.proofs.FrameLookups.{seal_own, seal_below}
 use Rattle.liquid_runtime.proofs.stack_frame.StackFrameRuntime.seals.Goals as goal

@@ -1,7 +1,7 @@
 use Rattle.std.proofs.Common.{sym, ◌∙◌, None}
-use Rattle.liquid_runtime.specs.Maps.{names_of}
+use Rattle.liquid_runtime.specs.meaning.Maps.{names_of}
 use Rattle.std.specs.FinMap.{get}
-use Rattle.liquid_runtime.specs.NamesSeen.{lookup}
+use Rattle.liquid_runtime.specs.meaning.NamesSeen.{lookup}
 use Rattle.liquid_runtime.proofs.FrameLaws.{lookup_stack}
 use Rattle.liquid_runtime.proofs.FrameLookups.{own_value, value_below}
 use Rattle.liquid_runtime.proofs.stack_frame.StackFrameRuntime.try_get_name.Goals as goal

@@ -1,9 +1,9 @@
 use Rattle.std.proofs.Common.{◌≡◌, ap, sym, ◌∙◌, subst, IfSome}
 use Rattle.std.specs.Prelude.{IsSomeAnd}
 use Rattle.liquid_dates.specs.declared.date_time.DateTime.{DateTime}
-use Rattle.liquid_dates.specs.DateText.{SameDateTime}
-use Rattle.liquid_scalar.specs.Scalar.{Scal, text, scal}
-use Rattle.liquid_scalar.specs.ScalarDates.{IsDateTimeOf}
+use Rattle.liquid_dates.specs.meaning.DateText.{SameDateTime}
+use Rattle.liquid_scalar.specs.meaning.Scalar.{Scal, text, scal}
+use Rattle.liquid_scalar.specs.meaning.ScalarDates.{IsDateTimeOf}
 use Rattle.liquid_scalar.proofs.scalar.ScalarOf.to_date_time.Goals as goal
 
 pub returns-in-Str-clause-fits : goal.returns-in-Str-clause-fits

@@ -1,6 +1,6 @@
 use Rattle.std.proofs.Common.{sym, ◌∙◌, subst, arith, ◌+◌, ◌<◌, length, map, take}
-use Rattle.liquid_scopes.specs.Layers.{LastGlobal}
-use Rattle.liquid_scopes.specs.LinkLayers.{layer_of}
+use Rattle.liquid_scopes.specs.steps.Layers.{LastGlobal}
+use Rattle.liquid_scopes.specs.steps.LinkLayers.{layer_of}
 use Rattle.liquid_scopes.proofs.LayerLaws.{last_step, last_taken}
 use Rattle.liquid_scopes.proofs.chained_scopes.ChainedScopes.last_global.Goals as goal
 use Rattle.liquid_scopes.proofs.chained_scopes.ChainedScopes.last_global.Goals.{then-is_global, else-is_global}

@@ -1,5 +1,5 @@
 use Rattle.std.proofs.Common.{sym, ◌∙◌, map}
-use Rattle.liquid_scopes.specs.LinkLayers.{layer_of}
+use Rattle.liquid_scopes.specs.steps.LinkLayers.{layer_of}
 use Rattle.liquid_scopes.proofs.LayerLaws.{shown_registers}
 use Rattle.liquid_scopes.proofs.chained_scopes.ChainedScopesRuntime.registers.Goals as goal
 

@@ -1,7 +1,7 @@
 use Rattle.std.proofs.Common.{sym, ◌∙◌, ap, refl, ◌∷◌, map}
-use Rattle.liquid_runtime.specs.Frames.{scope_base}
-use Rattle.liquid_scopes.specs.Layers.{shown_over, restoring}
-use Rattle.liquid_scopes.specs.LinkLayers.{layer_of}
+use Rattle.liquid_runtime.specs.meaning.Frames.{scope_base}
+use Rattle.liquid_scopes.specs.steps.Layers.{shown_over, restoring}
+use Rattle.liquid_scopes.specs.steps.LinkLayers.{layer_of}
 use Rattle.liquid_scopes.proofs.LayerLaws.{shown_with_registers, restoring_with_registers, shown_registers}
 use Rattle.liquid_scopes.proofs.chained_scopes.ChainedScopesRuntime.registers_mut.Goals as goal
 

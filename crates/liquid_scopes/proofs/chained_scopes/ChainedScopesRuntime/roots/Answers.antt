@@ -1,9 +1,9 @@
 use Rattle.std.proofs.Common.{subst, map}
 use Rattle.std.specs.Prelude.{IfOk}
-use Rattle.liquid_runtime.specs.NamesSeen.{names_seen}
-use Rattle.liquid_runtime.specs.Roots.{NamesOf}
-use Rattle.liquid_scopes.specs.Layers.{shown_over}
-use Rattle.liquid_scopes.specs.LinkLayers.{layer_of}
+use Rattle.liquid_runtime.specs.meaning.NamesSeen.{names_seen}
+use Rattle.liquid_runtime.specs.meaning.Roots.{NamesOf}
+use Rattle.liquid_scopes.specs.steps.Layers.{shown_over}
+use Rattle.liquid_scopes.specs.steps.LinkLayers.{layer_of}
 use Rattle.liquid_scopes.proofs.chained_scopes.ChainedScopesRuntime.roots.Goals as goal
 
 pub returns : goal.returns

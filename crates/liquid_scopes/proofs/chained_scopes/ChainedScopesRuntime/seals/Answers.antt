@@ -1,7 +1,7 @@
 use Rattle.std.proofs.Common.{ap, ◌∙◌, map}
-use Rattle.liquid_runtime.specs.NamesSeen.{comes_from_seal}
-use Rattle.liquid_scopes.specs.Layers.{shown_over}
-use Rattle.liquid_scopes.specs.LinkLayers.{layer_of}
+use Rattle.liquid_runtime.specs.meaning.NamesSeen.{comes_from_seal}
+use Rattle.liquid_scopes.specs.steps.Layers.{shown_over}
+use Rattle.liquid_scopes.specs.steps.LinkLayers.{layer_of}
 use Rattle.liquid_scopes.proofs.chained_scopes.ChainedScopesRuntime.seals.Goals as goal
 
 pub returns : goal.returns

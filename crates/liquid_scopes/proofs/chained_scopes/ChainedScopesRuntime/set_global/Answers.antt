@@ -1,13 +1,13 @@
 use Rattle.std.proofs.Common.{◌≡◌, sym, ◌∙◌, ap, string_bytes, subst, ◌∷◌, map}
 use Rattle.std.specs.FinMap.{get, insert}
-use Rattle.liquid_value.specs.View.{view as tree_of}
-use Rattle.liquid_runtime.specs.Frames.{scope_base}
-use Rattle.liquid_runtime.specs.Sets.{old_value, no_global_frame}
-use Rattle.liquid_scopes.specs.Layers.{shown_over, restoring, assigned, is_global}
-use Rattle.liquid_scopes.specs.LinkLayers.{layer_of}
+use Rattle.liquid_value.specs.meaning.View.{view as tree_of}
+use Rattle.liquid_runtime.specs.meaning.Frames.{scope_base}
+use Rattle.liquid_runtime.specs.meaning.Sets.{old_value, no_global_frame}
+use Rattle.liquid_scopes.specs.steps.Layers.{shown_over, restoring, assigned, is_global}
+use Rattle.liquid_scopes.specs.steps.LinkLayers.{layer_of}
 use Rattle.liquid_scopes.proofs.LayerLaws.{shown_globals_are, shown_put_global, restoring_put_global, set_shown, set_restoring, set_same, globals_here, read_here}
 use Rattle.std.specs.Prelude.{Ok, Err, IfSome}
-use Rattle.liquid_error.specs.Told.{told}
+use Rattle.liquid_error.specs.meaning.Told.{told}
 use Rattle.liquid_scopes.proofs.chained_scopes.ChainedScopesRuntime.set_global.Goals as goal
 
 pub assign-requires : goal.assign-requires

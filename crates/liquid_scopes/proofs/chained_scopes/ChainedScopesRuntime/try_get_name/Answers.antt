@@ -1,7 +1,7 @@
 use Rattle.std.proofs.Common.{sym, ◌∙◌, ap, map, take}
-use Rattle.liquid_runtime.specs.NamesSeen.{lookup}
-use Rattle.liquid_scopes.specs.Layers.{shown_over, layer_found}
-use Rattle.liquid_scopes.specs.LinkLayers.{layer_of}
+use Rattle.liquid_runtime.specs.meaning.NamesSeen.{lookup}
+use Rattle.liquid_scopes.specs.steps.Layers.{shown_over, layer_found}
+use Rattle.liquid_scopes.specs.steps.LinkLayers.{layer_of}
 use Rattle.liquid_scopes.proofs.LayerLaws.{lookup_link, shown_step}
 use Rattle.liquid_scopes.proofs.chained_scopes.ChainedScopesRuntime.try_get_name.Goals as goal
 

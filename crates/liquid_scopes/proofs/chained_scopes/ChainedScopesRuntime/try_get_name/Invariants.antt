@@ -1,8 +1,8 @@
 use Rattle.std.proofs.Common.{◌≡◌, take, map, option_map}
-use Rattle.liquid_value.specs.View.{view as tree_of}
-use Rattle.liquid_runtime.specs.NamesSeen.{lookup}
-use Rattle.liquid_scopes.specs.Layers.{shown_over}
-use Rattle.liquid_scopes.specs.LinkLayers.{layer_of}
+use Rattle.liquid_value.specs.meaning.View.{view as tree_of}
+use Rattle.liquid_runtime.specs.meaning.NamesSeen.{lookup}
+use Rattle.liquid_scopes.specs.steps.Layers.{shown_over}
+use Rattle.liquid_scopes.specs.steps.LinkLayers.{layer_of}
 use Rattle.liquid_scopes.proofs.chained_scopes.ChainedScopesRuntime.try_get_name.Given as goal
 
 abbrev pub invariant-loop-link : goal.invariant-loop-link

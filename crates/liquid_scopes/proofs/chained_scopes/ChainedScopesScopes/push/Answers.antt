@@ -1,8 +1,8 @@
 use Rattle.std.proofs.Common.{◌∙◌, ap, [], ◌∷◌, ◌++◌, map}
-use Rattle.liquid_runtime.specs.Frames.{scope_base, restored_by}
-use Rattle.liquid_runtime.specs.Calls.{frame_of}
-use Rattle.liquid_scopes.specs.Layers.{shown_over, restoring}
-use Rattle.liquid_scopes.specs.LinkLayers.{layer_of}
+use Rattle.liquid_runtime.specs.meaning.Frames.{scope_base, restored_by}
+use Rattle.liquid_runtime.specs.meaning.Calls.{frame_of}
+use Rattle.liquid_scopes.specs.steps.Layers.{shown_over, restoring}
+use Rattle.liquid_scopes.specs.steps.LinkLayers.{layer_of}
 use Rattle.liquid_scopes.proofs.LayerLaws.{map_append, shown_registers, begins_over, restores_over}
 use Rattle.liquid_scopes.proofs.chained_scopes.ChainedScopesScopes.push.Goals as goal
 

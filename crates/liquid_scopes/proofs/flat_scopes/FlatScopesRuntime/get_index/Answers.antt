@@ -1,6 +1,6 @@
 use Rattle.std.proofs.Common.{sym, ◌∙◌, ap, map}
-use Rattle.liquid_runtime.specs.Calls.{value_in}
-use Rattle.liquid_scopes.specs.LinkLayers.{layer_of}
+use Rattle.liquid_runtime.specs.meaning.Calls.{value_in}
+use Rattle.liquid_scopes.specs.steps.LinkLayers.{layer_of}
 use Rattle.liquid_scopes.proofs.LayerLaws.{shown_index}
 use Rattle.liquid_scopes.proofs.flat_scopes.FlatScopesRuntime.get_index.Goals as goal
 

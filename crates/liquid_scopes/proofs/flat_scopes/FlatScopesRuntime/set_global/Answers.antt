@@ -1,12 +1,12 @@
 use Rattle.std.proofs.Common.{◌≡◌, sym, ◌∙◌, ap, string_bytes, subst, ◌∷◌, map}
-use Rattle.liquid_value.specs.View.{view as tree_of}
-use Rattle.liquid_runtime.specs.Frames.{scope_base}
-use Rattle.liquid_runtime.specs.Sets.{old_value, no_global_frame}
-use Rattle.liquid_scopes.specs.Layers.{shown_over, restoring}
-use Rattle.liquid_scopes.specs.LinkLayers.{layer_of}
+use Rattle.liquid_value.specs.meaning.View.{view as tree_of}
+use Rattle.liquid_runtime.specs.meaning.Frames.{scope_base}
+use Rattle.liquid_runtime.specs.meaning.Sets.{old_value, no_global_frame}
+use Rattle.liquid_scopes.specs.steps.Layers.{shown_over, restoring}
+use Rattle.liquid_scopes.specs.steps.LinkLayers.{layer_of}
 use Rattle.liquid_scopes.proofs.LayerLaws.{shown_globals_are, shown_put_global, restoring_put_global}
 use Rattle.std.specs.Prelude.{Err, IfSome}
-use Rattle.liquid_error.specs.Told.{told}
+use Rattle.liquid_error.specs.meaning.Told.{told}
 use Rattle.liquid_scopes.proofs.flat_scopes.FlatScopesRuntime.set_global.Goals as goal
 
 pub returns-in-Ok-clause-gives : goal.returns-in-Ok-clause-gives

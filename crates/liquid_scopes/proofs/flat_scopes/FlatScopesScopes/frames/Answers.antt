@@ -1,6 +1,6 @@
 use Rattle.std.proofs.Common.{arith, ◌∷◌, map}
-use Rattle.liquid_runtime.specs.Frames.{scope_base}
-use Rattle.liquid_scopes.specs.LinkLayers.{layer_of}
+use Rattle.liquid_runtime.specs.meaning.Frames.{scope_base}
+use Rattle.liquid_scopes.specs.steps.LinkLayers.{layer_of}
 use Rattle.liquid_scopes.proofs.LayerLaws.{map_length, count_open}
 use Rattle.liquid_scopes.proofs.flat_scopes.FlatScopesScopes.frames.Goals as goal
 

@@ -1,7 +1,7 @@
 use Rattle.std.proofs.Common.{sym, ap, ◌∷◌, map}
-use Rattle.liquid_runtime.specs.Frames.{scope_base}
-use Rattle.liquid_scopes.specs.Layers.{shown_over, restoring}
-use Rattle.liquid_scopes.specs.LinkLayers.{layer_of}
+use Rattle.liquid_runtime.specs.meaning.Frames.{scope_base}
+use Rattle.liquid_scopes.specs.steps.Layers.{shown_over, restoring}
+use Rattle.liquid_scopes.specs.steps.LinkLayers.{layer_of}
 use Rattle.liquid_scopes.proofs.LayerLaws.{none_open}
 use Rattle.liquid_scopes.proofs.flat_scopes.FlatScopesScopes.into_base.Goals as goal
 

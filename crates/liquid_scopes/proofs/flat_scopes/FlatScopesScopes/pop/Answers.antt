@@ -1,5 +1,5 @@
 use Rattle.std.proofs.Common.{◌∙◌, ap, [], ◌∷◌, map}
-use Rattle.liquid_scopes.specs.LinkLayers.{layer_of}
+use Rattle.liquid_scopes.specs.steps.LinkLayers.{layer_of}
 use Rattle.liquid_scopes.proofs.LayerLaws.{map_append, pops}
 use Rattle.liquid_scopes.proofs.flat_scopes.FlatScopesScopes.pop.Goals as goal
 

@@ -1,6 +1,6 @@
 use Rattle.std.proofs.Common.{◌≡◌, sym, ap, ◌∙◌, string_bytes, bytes_eq}
 use Rattle.std.specs.Prelude.{nat_eq, ◌&&◌, ◌||◌, not}
-use Rattle.liquid_scopes.specs.Standing.{stands}
+use Rattle.liquid_scopes.specs.steps.Standing.{stands}
 use Rattle.liquid_runtime.proofs.Objects.{has_name, has_names_of}
 use Rattle.liquid_scopes.proofs.IndexLaws.{has_more, forget_moves, and_true}
 use Rattle.liquid_scopes.proofs.index.Index.forget_all.Goals as goal

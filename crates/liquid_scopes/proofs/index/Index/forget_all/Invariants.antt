@@ -1,8 +1,8 @@
 use Rattle.std.proofs.Common.{◌≡◌, ℕ, List}
 use Rattle.std.specs.Prelude.{is_some, nat_eq, ◌&&◌, not}
 use Rattle.std.specs.FinMap.{get}
-use Rattle.liquid_runtime.specs.Maps.{names_of}
-use Rattle.liquid_scopes.specs.Standing.{stands}
+use Rattle.liquid_runtime.specs.meaning.Maps.{names_of}
+use Rattle.liquid_scopes.specs.steps.Standing.{stands}
 use Rattle.liquid_runtime.proofs.Objects.{has_name}
 use Rattle.liquid_scopes.proofs.index.Index.forget_all.Given as goal
 

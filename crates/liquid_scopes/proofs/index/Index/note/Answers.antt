@@ -3,7 +3,7 @@ use Rattle.std.specs.Prelude.{nat_eq, ◌&&◌, ◌||◌}
 use Rattle.std.specs.BTreeMap.{get_by_text}
 use Rattle.std.proofs.lemmas.Map.Text.{btree_map_updates_text}
 use Rattle.std.proofs.Common.{rules}
-use Rattle.liquid_scopes.specs.Standing.{stands}
+use Rattle.liquid_scopes.specs.steps.Standing.{stands}
 use Rattle.liquid_scopes.proofs.IndexLaws.{added_frame, same_frames, new_name, on_ok, on_err}
 use Rattle.liquid_scopes.proofs.index.Index.note.Goals as goal
 

@@ -1,8 +1,8 @@
 use Rattle.std.proofs.Common.{◌≡◌, sym, ap, ◌∙◌, string_bytes, bytes_eq}
 use Rattle.std.specs.Prelude.{is_some, nat_eq, ◌&&◌, ◌||◌}
 use Rattle.std.specs.FinMap.{get}
-use Rattle.liquid_runtime.specs.Maps.{names_of}
-use Rattle.liquid_scopes.specs.Standing.{stands}
+use Rattle.liquid_runtime.specs.meaning.Maps.{names_of}
+use Rattle.liquid_scopes.specs.steps.Standing.{stands}
 use Rattle.liquid_runtime.proofs.Objects.{has_name, has_names_of}
 use Rattle.liquid_scopes.proofs.IndexLaws.{has_more, note_moves, stays_there, partly_noted, or_same, or_false}
 use Rattle.liquid_scopes.proofs.index.Index.note_all.Goals as goal

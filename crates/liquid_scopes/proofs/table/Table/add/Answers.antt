@@ -1,7 +1,7 @@
 use Rattle.std.proofs.Common.{[], ◌∷◌, ◌++◌, ap, sym, ◌∙◌, cond, map, arith}
-use Rattle.liquid_scopes.specs.Layers.{is_global}
-use Rattle.liquid_scopes.specs.LinkLayers.{layer_of}
-use Rattle.liquid_scopes.specs.Standing.{is_sandboxed, listed_at}
+use Rattle.liquid_scopes.specs.steps.Layers.{is_global}
+use Rattle.liquid_scopes.specs.steps.LinkLayers.{layer_of}
+use Rattle.liquid_scopes.specs.steps.Standing.{is_sandboxed, listed_at}
 use Rattle.liquid_scopes.proofs.LayerLaws.{map_append}
 use Rattle.liquid_scopes.proofs.Places.{kept_place}
 use Rattle.liquid_scopes.proofs.table.Table.add.Goals as goal

@@ -1,6 +1,6 @@
 use Rattle.std.proofs.Common.{sym, subst, ◌∙◌, map}
-use Rattle.liquid_scopes.specs.Layers.{LastGlobal, is_global}
-use Rattle.liquid_scopes.specs.LinkLayers.{layer_of}
+use Rattle.liquid_scopes.specs.steps.Layers.{LastGlobal, is_global}
+use Rattle.liquid_scopes.specs.steps.LinkLayers.{layer_of}
 use Rattle.liquid_scopes.proofs.Places.{last_of_places, last_global_is}
 use Rattle.liquid_scopes.proofs.table.Table.last_global.Goals as goal
 

@@ -1,6 +1,6 @@
 use Rattle.std.proofs.Common.{ap, ◌∙◌, sym, map, length, subst, ◌≤◌}
-use Rattle.liquid_scopes.specs.LinkLayers.{layer_of}
-use Rattle.liquid_scopes.specs.Standing.{listed_at, own_at}
+use Rattle.liquid_scopes.specs.steps.LinkLayers.{layer_of}
+use Rattle.liquid_scopes.specs.steps.Standing.{listed_at, own_at}
 use Rattle.liquid_scopes.proofs.FlatLaws.{fits_listed, fits_past, fits_undone, own_within}
 use Rattle.liquid_scopes.proofs.table.Table.list.Goals as goal
 

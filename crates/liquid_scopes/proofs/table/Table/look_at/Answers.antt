@@ -1,6 +1,6 @@
 use Rattle.std.proofs.Common.{map, ap, ◌∙◌}
-use Rattle.liquid_scopes.specs.LinkLayers.{layer_of}
-use Rattle.liquid_scopes.specs.Standing.{own_at}
+use Rattle.liquid_scopes.specs.steps.LinkLayers.{layer_of}
+use Rattle.liquid_scopes.specs.steps.Standing.{own_at}
 use Rattle.liquid_scopes.proofs.FlatLaws.{own_within, own_past}
 use Rattle.liquid_scopes.proofs.table.Table.look_at.Goals as goal
 

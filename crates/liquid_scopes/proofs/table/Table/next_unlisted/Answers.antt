@@ -1,6 +1,6 @@
 use Rattle.std.proofs.Common.{map, sym, ap, ◌∙◌, arith, false, ◌≡◌, Some, [], ◌∷◌, ◌++◌, rules}
-use Rattle.liquid_scopes.specs.LinkLayers.{layer_of}
-use Rattle.liquid_scopes.specs.Standing.{listed_at}
+use Rattle.liquid_scopes.specs.steps.LinkLayers.{layer_of}
+use Rattle.liquid_scopes.specs.steps.Standing.{listed_at}
 use Rattle.liquid_scopes.proofs.LayerLaws.{map_length}
 use Rattle.liquid_scopes.proofs.FlatLaws.{fits_next, fits_push, fits_nameless}
 use Rattle.liquid_scopes.proofs.table.Table.next_unlisted.Goals as goal

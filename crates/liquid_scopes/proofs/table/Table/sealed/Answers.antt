@@ -1,6 +1,6 @@
 use Rattle.std.proofs.Common.{◌∙◌, map}
-use Rattle.liquid_scopes.specs.LinkLayers.{layer_of}
-use Rattle.liquid_scopes.specs.Standing.{is_sandboxed}
+use Rattle.liquid_scopes.specs.steps.LinkLayers.{layer_of}
+use Rattle.liquid_scopes.specs.steps.Standing.{is_sandboxed}
 use Rattle.liquid_scopes.proofs.Places.{last_of_places}
 use Rattle.liquid_scopes.proofs.table.Table.sealed.Goals as goal
 

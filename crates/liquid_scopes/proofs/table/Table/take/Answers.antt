@@ -1,7 +1,7 @@
 use Rattle.std.proofs.Common.{[], ◌∷◌, ◌++◌, sym, ap, ◌∙◌, cond, arith}
-use Rattle.liquid_scopes.specs.Layers.{is_global}
-use Rattle.liquid_scopes.specs.LinkLayers.{layer_of}
-use Rattle.liquid_scopes.specs.Standing.{is_sandboxed}
+use Rattle.liquid_scopes.specs.steps.Layers.{is_global}
+use Rattle.liquid_scopes.specs.steps.LinkLayers.{layer_of}
+use Rattle.liquid_scopes.specs.steps.Standing.{is_sandboxed}
 use Rattle.liquid_scopes.proofs.FlatLaws.{fits_pop, fits_pop_unlisted}
 use Rattle.liquid_scopes.proofs.Places.{dropped_place}
 use Rattle.liquid_scopes.proofs.table.Table.take.Goals as goal

@@ -1,4 +1,4 @@
-use Rattle.liquid_error.specs.Told.{told}
+use Rattle.liquid_error.specs.meaning.Told.{told}
 use Rattle.liquid_tags.proofs.DivideLemmas.{closed_divided}
 use Rattle.liquid_tags.proofs.block_plugins.BlocksParseBlock.divide.Goals as goal
 

@@ -1,5 +1,5 @@
 use Rattle.std.proofs.Common.{Err, ap, sym, ◌∙◌}
-use Rattle.liquid_error.specs.Told.{told}
+use Rattle.liquid_error.specs.meaning.Told.{told}
 use Rattle.liquid_template.proofs.NoPartials.{no_partial}
 use Rattle.liquid_template.proofs.Renderings.{if_then}
 use Rattle.liquid_template.proofs.store.UnitPartialStore.get.Goals as goal

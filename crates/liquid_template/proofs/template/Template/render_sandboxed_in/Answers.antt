@@ -5,16 +5,16 @@ use Rattle.liquid_template.proofs.template.Template.render_sandboxed_in.Goals as
 
 pub returns-in-Err-clause-sandboxed : goal.returns-in-Err-clause-sandboxed
 returns-in-Err-clause-sandboxed g c =
-    sandboxed_memory _ (record { start = g.met.T.Discreet.start_hides; turn = g.met.T.Discreet.turn_hides }) (record { start = g.met.B.Discreet.start_hides; turn = g.met.B.Discreet.turn_hides }) _ _ _ _ _ _ told_memory
+    sandboxed_memory _ g.met.T.Discreet.hides g.met.B.Discreet.hides _ _ _ _ _ _ told_memory
 
 pub returns-in-Err-push-clause-sandboxed : goal.returns-in-Err-push-clause-sandboxed
 returns-in-Err-push-clause-sandboxed g c =
-    rw c.in-Err-push.ensures.unchanged (sandboxed_memory _ (record { start = g.met.T.Discreet.start_hides; turn = g.met.T.Discreet.turn_hides }) (record { start = g.met.B.Discreet.start_hides; turn = g.met.B.Discreet.turn_hides }) _ _ _ _ _ _ c.in-Err-push.ensures.err)
+    rw c.in-Err-push.ensures.unchanged (sandboxed_memory _ g.met.T.Discreet.hides g.met.B.Discreet.hides _ _ _ _ _ _ c.in-Err-push.ensures.err)
 
 pub returns-clause-sandboxed : goal.returns-clause-sandboxed
 returns-clause-sandboxed g c =
-    sandboxed_renders _ (record { start = g.met.T.Discreet.start_hides; turn = g.met.T.Discreet.turn_hides }) (record { start = g.met.B.Discreet.start_hides; turn = g.met.B.Discreet.turn_hides }) _ _ _ _ _ _ _ _ _ _ _ _ _ _ _
-    c.in-Ok.ensures c.in-Ok-push.ensures.ok c.in-Ok-push.ensures.opens c.render_in-answer.ensures.kept c.pop.ensures.ends (rw c.in-Ok-push.ensures.stays at c.render_in-answer.ensures.renders)
+    sandboxed_renders _ g.met.T.Discreet.hides g.met.B.Discreet.hides _ _ _ _ _ _ _ _ _ _ _ _ _ _ _
+    c.in-Ok.ensures c.in-Ok-push.ensures.ok c.in-Ok-push.ensures.opens c.render_in-answer.ensures.owes c.pop.ensures.ends (rw c.in-Ok-push.ensures.stays at c.render_in-answer.ensures.renders)
 
 pub returns-in-Err-clause-untouched : goal.returns-in-Err-clause-untouched
 returns-in-Err-clause-untouched g c = untouched_still _ _ refl
@@ -23,4 +23,4 @@ pub returns-in-Err-push-clause-untouched : goal.returns-in-Err-push-clause-untou
 returns-in-Err-push-clause-untouched g c = untouched_still _ _ c.in-Err-push.ensures.unchanged
 
 pub returns-clause-untouched : goal.returns-clause-untouched
-returns-clause-untouched g c = untouched_after _ _ _ _ _ _ _ c.in-Ok-push.ensures.opens c.render_in-answer.ensures.kept c.pop.ensures.ends
+returns-clause-untouched g c = untouched_after _ _ _ _ _ _ _ c.in-Ok-push.ensures.opens c.render_in-answer.ensures.owes c.pop.ensures.ends

@@ -1,6 +1,6 @@
 use Rattle.std.proofs.Common.{ap, ◌∙◌}
-use Rattle.liquid_value.specs.Tree.{array}
-use Rattle.liquid_value.specs.View.{items_view}
+use Rattle.liquid_value.specs.meaning.Tree.{array}
+use Rattle.liquid_value.specs.meaning.View.{items_view}
 use Rattle.liquid_value.proofs.Listed.{view-Array}
 use Rattle.liquid_value.proofs.value.Value.array.Goals as goal
 

@@ -1,7 +1,7 @@
 use Rattle.std.proofs.Common.{[], ◌++◌, refl, ap, sym, rules}
 use Rattle.std.proofs.Output.{has_written_append}
-use Rattle.liquid_value.specs.Render.{render, render_items}
-use Rattle.liquid_views.specs.Trees.{items_by}
+use Rattle.liquid_value.specs.meaning.Render.{render, render_items}
+use Rattle.liquid_views.specs.meaning.Trees.{items_by}
 use Rattle.liquid_views.proofs.Lists.{list_turn}
 use Rattle.liquid_views.proofs.array.VecValueView.write_render.Goals as goal
 

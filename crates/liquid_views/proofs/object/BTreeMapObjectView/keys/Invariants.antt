@@ -1,6 +1,6 @@
 use Rattle.std.proofs.Common.{◌≡◌, ◌++◌, map}
-use Rattle.liquid_value.specs.Names.{names}
-use Rattle.liquid_views.specs.Trees.{members_by}
+use Rattle.liquid_value.specs.meaning.Names.{names}
+use Rattle.liquid_views.specs.meaning.Trees.{members_by}
 use Rattle.liquid_views.proofs.object.BTreeMapObjectView.keys.Given as goal
 
 abbrev pub invariant-loop-key : goal.invariant-loop-key

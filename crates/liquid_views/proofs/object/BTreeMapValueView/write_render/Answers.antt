@@ -1,7 +1,7 @@
 use Rattle.std.proofs.Common.{[], ◌++◌, string_bytes, refl, ap, sym, ◌∙◌, rules}
 use Rattle.std.proofs.Output.{has_written_append}
-use Rattle.liquid_value.specs.Render.{render, render_members}
-use Rattle.liquid_views.specs.Trees.{members_by}
+use Rattle.liquid_value.specs.meaning.Render.{render, render_members}
+use Rattle.liquid_views.specs.meaning.Trees.{members_by}
 use Rattle.liquid_views.proofs.Maps.{map_turn}
 use Rattle.liquid_views.proofs.object.BTreeMapValueView.write_render.Goals as goal
 

@@ -1,0 +1,57 @@
+-- What a run of the program over files in memory shows on its output.
+use Rattle.std.specs.Prelude.{◌≡◌, ℕ, Bool, true, false, ◌⊎◌, List, [], ◌++◌, Option, None, Some, Ok, Err, map, string_bytes, option_map}
+use Rattle.std.specs.BTreeMap.{get_by_text}
+use Rattle.liquid_runtime.specs.meaning.Maps.{Names}
+use Rattle.liquid_parser.specs.meaning.Reading.{Reads}
+use Rattle.liquid_template.specs.meaning.Run.{Run, written}
+use Rattle.liquid_partials.specs.meaning.Sources.{Texts}
+use Rattle.liquid.specs.declared.in_memory.InMemoryFolder.{InMemoryFolder}
+use Rattle.liquid.specs.meaning.Command.{is_command, options_of, paths_of}
+use Rattle.liquid.specs.declared.command.Options.{Options}
+use Rattle.liquid.specs.meaning.Gathered.{Gathers}
+use Rattle.liquid.specs.meaning.Program.{IsFoundIn, first_view, program_action}
+use Rattle.liquid.specs.meaning.ProgramLanguage.{ProgramAnswer, ProgramFound, ProgramNode, program_language}
+
+-- the bytes of the file at a path
+abbrev pub bytes_at : InMemoryFolder → List ℕ → Option (List ℕ)
+bytes_at folder path = option_map (λ v. v.items) (get_by_text folder.files path)
+
+-- the names in the folder at a path
+abbrev pub names_at : InMemoryFolder → List ℕ → Option (List (List ℕ))
+names_at folder path = option_map (λ v. map string_bytes v.items) (get_by_text folder.folders path)
+
+-- the output is all pieces of the run, which has no refusal
+abbrev pub IsWhole : Run (Unit {0}) → List ℕ → Type 0
+IsWhole r output = (output ≡ written r) × (r.refusal ≡ None)
+
+-- the output is a beginning of all pieces joined
+abbrev pub IsBeginning : Run (Unit {0}) → List ℕ → Type 0
+IsBeginning r output = (left : List ℕ) × (written r ≡ output ++ left)
+
+-- what the program's templates of these nodes come to, by these options, over these globals, where a store finds this
+abbrev pub program_run : Options → Names → Option ProgramFound → List ProgramNode → Run (Unit {0})
+program_run options globals found nodes = program_action options.sandboxed found globals nodes (first_view options globals)
+
+-- status 0 shows the whole run of what the text is read as, status 1 a beginning of it; a text that is refused shows nothing
+abbrev pub ShowsAnswer : (List ProgramNode → Run (Unit {0})) → ProgramAnswer → List ℕ → ℕ → Type 0
+ShowsAnswer run_of (Ok nodes) output status = ((status ≡ 0) × IsWhole (run_of nodes) output) ⊎ ((status ≡ 1) × IsBeginning (run_of nodes) output)
+ShowsAnswer run_of (Err refusal) output status = (output ≡ []) × (status ≡ 1)
+
+-- nothing is shown: a file can't be read as what it is to be, or memory ran out
+abbrev pub ShowsNothing : List ℕ → ℕ → Type 0
+ShowsNothing output status = (output ≡ []) × ((status ≡ 3) ⊎ (status ≡ 1))
+
+-- the template's text over the globals, with a store of the partials
+abbrev pub ShowsText : Options → List ℕ → Names → Option Texts → List ℕ → ℕ → Type 0
+ShowsText options text globals partials output status =
+    (answer : ProgramAnswer) → Reads program_language text answer → (found : Option ProgramFound) → IsFoundIn partials found → ShowsAnswer (program_run options globals found) answer output status
+
+-- what a command shows, by the files at its paths
+abbrev pub ShowsCommand : Options → List (List ℕ) → (List ℕ → Option (List ℕ)) → (List ℕ → Option (List (List ℕ))) → List ℕ → ℕ → Type 0
+ShowsCommand options paths files folders output status =
+    Gathers paths (λ path. Some (files path)) (λ path. Some (folders path)) (ShowsNothing output status) (λ text globals partials. ShowsText options text globals partials output status)
+
+-- what the words show, by the files; words that are no command show nothing
+abbrev pub Shows : List (List ℕ) → (List ℕ → Option (List ℕ)) → (List ℕ → Option (List (List ℕ))) → List ℕ → ℕ → Type 0
+Shows words files folders output status =
+    (is_command words ≡ true → ShowsCommand (options_of words) (paths_of words) files folders output status) × (is_command words ≡ false → (output ≡ []) × (status ≡ 2))

@@ -1,0 +1,12 @@
+pub mod DateText
+pub mod DirectiveText
+pub mod ErrorText
+pub mod Filling
+pub mod Flags
+pub mod Instant
+pub mod IsoWeek
+pub mod Letters
+pub mod Names
+pub mod Numbers
+pub mod Pattern
+pub mod Printed

@@ -1,0 +1,2 @@
+pub mod DateReader
+pub mod PatternReader

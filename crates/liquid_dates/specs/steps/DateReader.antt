@@ -1,0 +1,237 @@
+-- Readers of date texts. They are a bridge between the code and the forms of `DateText`: what they read is proved to be what those forms relate.
+use Rattle.std.specs.Prelude.{true, false, ◌≡◌, ℕ, zero, suc, ◌+◌, ◌-◌, ◌*◌, ◌^◌, Bool, ◌&&◌, ◌==◌, nat_lt, if◌then◌else◌, ℤ, pos, neg_ℤ, List, [], ◌∷◌, take, drop, length, Option, Some, None, option_map, option_and_then}
+use Rattle.std.specs.Borrow.{Bor}
+use Rattle.std.specs.Str.{bytes_eq}
+use Rattle.jiff_core.specs.declared.civil.date.Date.{Date as CivilDate}
+use Rattle.liquid_dates.specs.declared.date_time.DateTime.{DateTime}
+use Rattle.liquid_dates.specs.meaning.Instant.{civil_date, civil_time, nanosecond, offset_seconds}
+use Rattle.liquid_dates.specs.declared.reading.Ymd.{Ymd}
+use Rattle.liquid_dates.specs.declared.stamps.Clock.{Clock}
+use Rattle.liquid_dates.specs.declared.stamps.Stamp.{Stamp}
+use Rattle.liquid_dates.specs.meaning.Flags.{is_digit}
+use Rattle.liquid_dates.specs.meaning.Names.{month_name, short_month_name, short_weekday_name}
+
+-- a value, and what is behind it
+abbrev pub Read : Type 0 → Type 0
+Read A = Option (A × List ℕ)
+
+-- what a private function read
+abbrev pub read_of : {A : Type 0} → Option (A × Bor (List ℕ)) → Read A
+read_of r = option_map (λ p. (p.0, p.1.now)) r
+
+-- what is behind a byte at the front
+abbrev pub after_byte : ℕ → List ℕ → Option (List ℕ)
+after_byte byte [] = None
+after_byte byte (c ∷ cs) = if c == byte then Some cs else None
+
+-- two digits of a number below a limit
+unfoldable pub two_at : ℕ → List ℕ → Read ℕ
+two_at limit (a ∷ b ∷ rest) =
+    if is_digit a && (is_digit b && nat_lt (10 * (a - 48) + (b - 48)) limit) then Some (10 * (a - 48) + (b - 48), rest) else None
+two_at limit _ = None
+
+infixl 10 ◌>>=◌
+abbrev pub ◌>>=◌ : {A B : Type 0} → Option A → (A → Option B) → Option B
+o >>= f = option_and_then f o
+
+-- four digits
+unfoldable pub four_at : List ℕ → Read ℕ
+four_at text = do
+  century ← two_at 100 text
+  year ← two_at 100 century.1
+  Some (100 * century.0 + year.0, year.1)
+
+-- a year, which may stand behind `-`
+abbrev pub year_behind : Option (List ℕ) → List ℕ → Read ℤ
+year_behind (Some behind) text = option_map (λ y. (neg_ℤ (pos y.0), y.1)) (four_at behind)
+year_behind None text = option_map (λ y. (pos y.0, y.1)) (four_at text)
+
+unfoldable pub year_at : List ℕ → Read ℤ
+year_at text = year_behind (after_byte 45 text) text
+
+-- a reader, a byte behind it, and a reader behind that
+abbrev pub joined_at : {A B : Type 0} → (List ℕ → Read A) → ℕ → (List ℕ → Read B) → List ℕ → Read (A × B)
+joined_at r byte s text = do
+  a ← r text
+  rest ← after_byte byte a.1
+  b ← s rest
+  Some ((a.0, b.0), b.1)
+
+-- the value of a whole text
+abbrev pub whole_of : {A : Type 0} → Read A → Option A
+whole_of None = None
+whole_of (Some (a, [])) = Some a
+whole_of (Some (a, c ∷ cs)) = None
+
+-- the first of n numbers from m on that has the name
+unfoldable pub find_name : (ℕ → List ℕ) → List ℕ → ℕ → ℕ → Option ℕ
+find_name name front zero m = None
+find_name name front (suc n) m = if bytes_eq (name m) front then Some m else find_name name front n (m + 1)
+
+-- three letters that name a number
+unfoldable pub short_name_at : (ℕ → List ℕ) → ℕ → ℕ → List ℕ → Read ℕ
+short_name_at name count m (a ∷ b ∷ c ∷ rest) =
+    option_map (λ k. (k, rest)) (find_name name (a ∷ b ∷ c ∷ []) count m)
+short_name_at name count m _ = None
+
+-- what is behind a text at the front
+unfoldable pub behind_text : List ℕ → List ℕ → Option (List ℕ)
+behind_text text all = if bytes_eq (take (length text) all) text then Some (drop (length text) all) else None
+
+-- the name of a month: its first three letters, then the others
+unfoldable pub month_at : List ℕ → Read ℕ
+month_at text = do
+  month ← short_name_at short_month_name 12 1 text
+  rest ← behind_text (drop 3 (month_name month.0)) month.1
+  Some (month.0, rest)
+
+abbrev pub short_month_at : List ℕ → Read ℕ
+short_month_at = short_name_at short_month_name 12 1
+
+abbrev pub weekday_at : List ℕ → Read ℕ
+weekday_at = short_name_at short_weekday_name 7 0
+
+-- the forms of a date
+unfoldable pub dashed_at : List ℕ → Read (ℤ × (ℕ × ℕ))
+dashed_at = joined_at year_at 45 (joined_at (two_at 100) 45 (two_at 100))
+
+unfoldable pub long_at : List ℕ → Read (ℕ × (ℕ × ℤ))
+long_at = joined_at (two_at 100) 32 (joined_at month_at 32 year_at)
+
+unfoldable pub short_at : List ℕ → Read (ℕ × (ℕ × ℤ))
+short_at = joined_at (two_at 100) 32 (joined_at short_month_at 32 year_at)
+
+unfoldable pub slashed_at : List ℕ → Read (ℕ × (ℕ × ℤ))
+slashed_at = joined_at (two_at 100) 47 (joined_at (two_at 100) 47 year_at)
+
+unfoldable pub clock_at : List ℕ → Read (ℕ × (ℕ × ℕ))
+clock_at = joined_at (two_at 24) 58 (joined_at (two_at 60) 58 (two_at 60))
+
+-- the parts of a date, in the order in which a form writes them
+abbrev pub by_year : Ymd × List ℕ → (ℤ × (ℕ × ℕ)) × List ℕ
+by_year p = ((p.0.year, (p.0.month, p.0.day)), p.1)
+
+abbrev pub by_day : Ymd × List ℕ → (ℕ × (ℕ × ℤ)) × List ℕ
+by_day p = ((p.0.day, (p.0.month, p.0.year)), p.1)
+
+abbrev pub by_month : Ymd × List ℕ → (ℕ × (ℕ × ℤ)) × List ℕ
+by_month p = ((p.0.month, (p.0.day, p.0.year)), p.1)
+
+-- the whole text was read as the parts of the date
+abbrev pub IsWholeDate : Option (Ymd × Bor (List ℕ)) → CivilDate → Type 0
+IsWholeDate None d = ⊥
+IsWholeDate (Some (ymd, rest)) d =
+    (rest.now ≡ []) × (ymd.year ≡ d.year) × (ymd.month ≡ d.month) × (ymd.day ≡ d.day)
+
+-- an offset behind its sign, in seconds
+unfoldable pub hours_at : List ℕ → Read ℕ
+hours_at text = do
+  hours ← two_at 100 text
+  minutes ← two_at 60 hours.1
+  Some (hours.0 * 3600 + minutes.0 * 60, minutes.1)
+
+abbrev pub sign_behind : Option (List ℕ) → Option (List ℕ) → Read ℤ
+sign_behind (Some rest) minus = option_map (λ z. (pos z.0, z.1)) (hours_at rest)
+sign_behind None (Some rest) = option_map (λ z. (neg_ℤ (pos z.0), z.1)) (hours_at rest)
+sign_behind None None = None
+
+unfoldable pub offset_at : List ℕ → Read ℤ
+offset_at text = sign_behind (after_byte 43 text) (after_byte 45 text)
+
+-- one digit, or two
+abbrev pub one_digit_at : List ℕ → Read ℕ
+one_digit_at [] = None
+one_digit_at (c ∷ cs) = if is_digit c then Some (c - 48, cs) else None
+
+abbrev pub or_one_digit : Read ℕ → List ℕ → Read ℕ
+or_one_digit (Some x) text = Some x
+or_one_digit None text = one_digit_at text
+
+unfoldable pub short_day_at : List ℕ → Read ℕ
+short_day_at text = or_one_digit (two_at 100 text) text
+
+-- how many digits there are, up to ten, the number that they write, and what is behind them
+abbrev pub digits_from : ℕ → ℕ → List ℕ → (ℕ × ℕ) × List ℕ
+digits_from count value [] = ((count, value), [])
+digits_from count value (c ∷ cs) =
+    if is_digit c && nat_lt count 10 then digits_from (count + 1) (value * 10 + (c - 48)) cs else ((count, value), c ∷ cs)
+
+-- one to nine digits of a fraction, in nanoseconds
+abbrev pub fraction_of_digits : ℕ → ℕ → List ℕ → Read ℕ
+fraction_of_digits count value rest =
+    if nat_lt 0 count && nat_lt count 10 then Some (value * 10 ^ (9 - count), rest) else None
+
+unfoldable pub fraction_at : List ℕ → Read ℕ
+fraction_at text =
+    fraction_of_digits (digits_from 0 0 text).0.0 (digits_from 0 0 text).0.1 (digits_from 0 0 text).1
+
+-- the forms of a date with a time
+unfoldable pub timed_dashed_at : List ℕ → Read ((ℤ × (ℕ × ℕ)) × (ℕ × (ℕ × ℕ)))
+timed_dashed_at = joined_at dashed_at 32 clock_at
+
+unfoldable pub timed_fraction_at : List ℕ → Read ((ℤ × (ℕ × ℕ)) × ((ℕ × (ℕ × ℕ)) × ℕ))
+timed_fraction_at = joined_at dashed_at 32 (joined_at clock_at 46 fraction_at)
+
+unfoldable pub timed_long_at : List ℕ → Read ((ℕ × (ℕ × ℤ)) × (ℕ × (ℕ × ℕ)))
+timed_long_at = joined_at long_at 32 clock_at
+
+unfoldable pub timed_short_at : List ℕ → Read ((ℕ × (ℕ × ℤ)) × (ℕ × (ℕ × ℕ)))
+timed_short_at = joined_at short_at 32 clock_at
+
+unfoldable pub timed_slashed_at : List ℕ → Read ((ℕ × (ℕ × ℤ)) × (ℕ × (ℕ × ℕ)))
+timed_slashed_at = joined_at slashed_at 32 clock_at
+
+unfoldable pub timed_weekday_at : List ℕ → Read (ℕ × (ℕ × (ℕ × ((ℕ × (ℕ × ℕ)) × ℤ))))
+timed_weekday_at =
+    joined_at weekday_at 32 (joined_at short_month_at 32 (joined_at short_day_at 32 (joined_at clock_at 32 year_at)))
+
+-- the clock as a form writes it
+abbrev pub by_clock : Clock × List ℕ → (ℕ × (ℕ × ℕ)) × List ℕ
+by_clock p = ((p.0.hour, (p.0.minute, p.0.second)), p.1)
+
+-- a stamp as each form writes it
+abbrev pub stamp_clock : Stamp → ℕ × (ℕ × ℕ)
+stamp_clock s = (s.clock.hour, (s.clock.minute, s.clock.second))
+
+abbrev pub stamp_by_year : Stamp × List ℕ → ((ℤ × (ℕ × ℕ)) × (ℕ × (ℕ × ℕ))) × List ℕ
+stamp_by_year p = (((p.0.date.year, (p.0.date.month, p.0.date.day)), stamp_clock p.0), p.1)
+
+abbrev pub stamp_by_fraction : Stamp × List ℕ → ((ℤ × (ℕ × ℕ)) × ((ℕ × (ℕ × ℕ)) × ℕ)) × List ℕ
+stamp_by_fraction p = (((p.0.date.year, (p.0.date.month, p.0.date.day)), (stamp_clock p.0, p.0.nanosecond)), p.1)
+
+abbrev pub stamp_by_day : Stamp × List ℕ → ((ℕ × (ℕ × ℤ)) × (ℕ × (ℕ × ℕ))) × List ℕ
+stamp_by_day p = (((p.0.date.day, (p.0.date.month, p.0.date.year)), stamp_clock p.0), p.1)
+
+abbrev pub stamp_by_month : Stamp × List ℕ → ((ℕ × (ℕ × ℤ)) × (ℕ × (ℕ × ℕ))) × List ℕ
+stamp_by_month p = (((p.0.date.month, (p.0.date.day, p.0.date.year)), stamp_clock p.0), p.1)
+
+abbrev pub stamp_by_weekday : (ℕ × Stamp) × List ℕ → (ℕ × (ℕ × (ℕ × ((ℕ × (ℕ × ℕ)) × ℤ)))) × List ℕ
+stamp_by_weekday p =
+    ((p.0.0, (p.0.1.date.month, (p.0.1.date.day, (stamp_clock p.0.1, p.0.1.date.year)))), p.1)
+
+-- an offset behind a space
+abbrev pub space_offset : List ℕ → Read ℤ
+space_offset text = option_and_then offset_at (after_byte 32 text)
+
+-- the offset of what is left behind a date with a time: given there, or 0 where nothing is left
+abbrev pub offset_end : Bool → List ℕ → Option ℤ
+offset_end true rest = whole_of (space_offset rest)
+offset_end false [] = Some (pos 0)
+offset_end false (c ∷ cs) = None
+
+-- the parts of a stamp are those of the date time
+abbrev pub HasStamp : Stamp → DateTime → Type 0
+HasStamp s dt =
+    (s.date.year ≡ (civil_date dt).year) × (s.date.month ≡ (civil_date dt).month) × (s.date.day ≡ (civil_date dt).day)
+    × (s.clock.hour ≡ (civil_time dt).hour) × (s.clock.minute ≡ (civil_time dt).minute) × (s.clock.second ≡ (civil_time dt).second)
+    × (s.nanosecond ≡ nanosecond dt)
+
+-- the whole text was read as the parts of the date time
+abbrev pub IsStamped : Bool → Option (Stamp × Bor (List ℕ)) → DateTime → Type 0
+IsStamped given None dt = ⊥
+IsStamped given (Some (s, rest)) dt =
+    (offset_end given rest.now ≡ Some (offset_seconds dt)) × HasStamp s dt
+
+-- what is left of a stamp when its weekday is forgotten
+abbrev pub without_weekday : (ℕ × Stamp) × Bor (List ℕ) → Stamp × Bor (List ℕ)
+without_weekday p = (p.0.1, p.1)

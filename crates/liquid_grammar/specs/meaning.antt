@@ -1,0 +1,15 @@
+pub mod Bytes
+pub mod Rules
+pub mod Grammar
+pub mod Cover
+pub mod Elements
+pub mod Place
+pub mod Literals
+pub mod Values
+pub mod Tokens
+pub mod Faults
+pub mod Meanings
+pub mod Matches
+pub mod Kinds
+pub mod KindMeanings
+pub mod Parts

@@ -1,0 +1,4 @@
+pub mod Steps
+pub mod TokenSteps
+pub mod Heads
+pub mod BracketSteps

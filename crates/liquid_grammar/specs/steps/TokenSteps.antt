@@ -1,0 +1,154 @@
+-- Readers of literals, values, filters, chains, tokens and tags. Like those of Steps, no public clause names them.
+use Rattle.std.specs.Prelude.{ℕ, zero, suc, ◌==◌, ◌||◌, true, cond, not, List, [], ◌∷◌, length, Option, Some, None, option_map, is_some}
+use Rattle.std.specs.Char.{is_ascii_digit}
+use Rattle.liquid_grammar.specs.meaning.Bytes.{starts_name}
+use Rattle.liquid_grammar.specs.meaning.Rules.{Placed}
+use Rattle.liquid_grammar.specs.meaning.Grammar.{is_literal_word}
+use Rattle.liquid_grammar.specs.meaning.Literals.{Literal, word_literal, text_literal, integer, decimal}
+use Rattle.liquid_grammar.specs.meaning.Values.{Value, Index, named_index, placed_literal, placed_variable, placed_bracket}
+use Rattle.liquid_grammar.specs.meaning.Tokens.{Argument, positional, keyword, Filter, Chain, Tag, Token, range, chain, symbol, arguments_of, is_double, is_single}
+use Rattle.liquid_grammar.specs.steps.Steps.{Reader, one, byte, both, either, seen, only, text, right, left, run, white, opener, closer, identifier, name}
+
+abbrev pub not_ahead : {A : Type 0} → Reader A → Reader (Unit {0})
+not_ahead f s = cond (is_some (f s)) None (Some (tt, s))
+
+abbrev pub nothing : {A : Type 0} → A → Reader A
+nothing a s = Some (a, s)
+
+abbrev pub optional : {A : Type 0} → Reader A → Reader (Option A)
+optional f = either (seen Some f) (nothing None)
+
+abbrev pub placed : {A : Type 0} → List ℕ → A × List ℕ → Placed A × List ℕ
+placed s a = (record { place = s; behind = a.1; what = a.0 }, a.1)
+
+abbrev pub at : {A : Type 0} → Reader A → Reader (Placed A)
+at f s = option_map (placed s) (f s)
+
+-- one turn of a repetition: what was found first, and what the rest of it finds
+abbrev pub repeat_turn : {A : Type 0} → Option (A × List ℕ) → List ℕ → Reader (List A) → Option (List A × List ℕ)
+repeat_turn None s more_of = Some ([], s)
+repeat_turn (Some a) s more_of = option_map (λ b. (a.0 ∷ b.0, b.1)) (more_of a.1)
+
+unfoldable pub repeated_by : {A : Type 0} → ℕ → Reader A → Reader (List A)
+repeated_by zero f s = Some ([], s)
+repeated_by (suc n) f s = repeat_turn (f s) s (repeated_by n f)
+
+unfoldable pub repeated : {A : Type 0} → Reader A → Reader (List A)
+repeated f s = repeated_by (suc (length s)) f s
+
+unfoldable pub word : Reader Literal
+word = seen word_literal (only is_literal_word identifier)
+
+unfoldable pub quoted : ℕ → Reader (List ℕ)
+quoted quote = left (right (byte quote) (run (λ b. not (b == quote)))) (byte quote)
+
+abbrev pub text_of_quotes : Reader (List ℕ)
+text_of_quotes = either (quoted 39) (quoted 34)
+
+unfoldable pub digits : Reader (List ℕ)
+digits = text (both (one is_ascii_digit) (run is_ascii_digit))
+
+unfoldable pub sign : Reader (Option ℕ)
+sign = optional (one (λ b. b == 43 || b == 45))
+
+unfoldable pub whole : Reader (List ℕ)
+whole = text (both sign digits)
+
+unfoldable pub fractional : Reader (List ℕ)
+fractional = text (both whole (both (byte 46) digits))
+
+unfoldable pub number : Reader Literal
+number = left (either (seen decimal fractional) (seen integer whole)) (not_ahead (one starts_name))
+
+abbrev pub text_or_number : Reader Literal
+text_or_number = either (seen text_literal text_of_quotes) number
+
+unfoldable pub literal : Reader Literal
+literal = either word text_or_number
+
+-- the readers of a value, over that of the values in its brackets
+unfoldable pub open_bracket : Reader (List ℕ)
+open_bracket = right (byte 91) white
+
+unfoldable pub close_bracket : Reader ℕ
+close_bracket = right white (byte 93)
+
+abbrev pub bracketed_over : Reader Value → Reader Value
+bracketed_over inner = left (right open_bracket inner) close_bracket
+
+unfoldable pub named : Reader (List ℕ)
+named = right (byte 46) identifier
+
+abbrev pub index_over : Reader Value → Reader Index
+index_over inner = either (seen named_index named) (seen placed_bracket (at (bracketed_over inner)))
+
+abbrev pub variable_over : Reader Value → Reader Value
+variable_over inner = seen placed_variable (at (both name (repeated (index_over inner))))
+
+abbrev pub value_over : Reader Value → Reader Value
+value_over inner = either (seen placed_literal (at literal)) (variable_over inner)
+
+unfoldable pub value_by : ℕ → Reader Value
+value_by zero s = None
+value_by (suc n) s = value_over (value_by n) s
+
+unfoldable pub value : Reader Value
+value s = value_by (suc (length s)) s
+
+unfoldable pub keyword_start : Reader (List ℕ)
+keyword_start = left (left (left identifier white) (byte 58)) white
+
+abbrev pub keyword_argument : Reader Argument
+keyword_argument = seen (λ p. keyword p.0 p.1) (both keyword_start value)
+
+unfoldable pub argument : Reader Argument
+argument = either keyword_argument (seen positional value)
+
+abbrev pub separated : ℕ → Reader (List ℕ)
+separated separator = right (right white (byte separator)) white
+
+-- a separator between white space, and what stands behind it
+abbrev pub behind : {A : Type 0} → ℕ → Reader A → Reader A
+behind separator f = right (separated separator) f
+
+unfoldable pub arguments : Reader (List Argument)
+arguments = seen (λ p. p.0 ∷ p.1) (both (behind 58 argument) (repeated (behind 44 argument)))
+
+unfoldable pub filter : Reader Filter
+filter = at (seen (λ p. (p.0, arguments_of p.1)) (both identifier (optional arguments)))
+
+unfoldable pub chain_of : Reader Chain
+chain_of = at (both value (repeated (behind 124 filter)))
+
+unfoldable pub dots : Reader ℕ
+dots = left (right (right white (byte 46)) (byte 46)) white
+
+unfoldable pub range_start : Reader (List ℕ)
+range_start = right (byte 40) white
+
+unfoldable pub range_end : Reader ℕ
+range_end = right white (byte 41)
+
+unfoldable pub ranged : Reader (Value × Value)
+ranged = left (right range_start (both (left value dots) value)) range_end
+
+abbrev pub any : Reader ℕ
+any = one (λ b. true)
+
+unfoldable pub symbol_of : Reader (List ℕ)
+symbol_of = either (text (only is_double (both any any))) (text (one is_single))
+
+unfoldable pub token : Reader Token
+token = either (seen range (at ranged)) (either (seen chain chain_of) (seen symbol (at symbol_of)))
+
+unfoldable pub expression_start : Reader (List ℕ)
+expression_start = right (opener 123) white
+
+unfoldable pub full_expression : Reader Chain
+full_expression = left (left (right expression_start chain_of) white) (closer 125)
+
+unfoldable pub tag_start : Reader (List ℕ)
+tag_start = right (right (opener 37) white) identifier
+
+unfoldable pub tag : Reader Tag
+tag = left (left (both tag_start (at (repeated (right white token)))) white) (closer 37)

@@ -1,5 +1,0 @@
-use Rattle.liquid_parser.proofs.ReadingSteps.{found_only}
-use Rattle.liquid_parser.proofs.parser.parse.Goals as goal
-
-pub returns-clause-only : goal.returns-clause-only
-returns-clause-only g c = found_only _ _ _ c.nodes_of.result c.nodes_of.ensures

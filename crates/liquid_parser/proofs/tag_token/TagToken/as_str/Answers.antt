@@ -1,7 +1,0 @@
-use Rattle.std.proofs.Common.{◌∙◌, sym}
-use Rattle.liquid_parser.proofs.HandedLemmas.{token_text}
-use Rattle.liquid_parser.proofs.Slices.{front_is}
-use Rattle.liquid_parser.proofs.tag_token.TagToken.as_str.Goals as goal
-
-pub returns : goal.returns
-returns c t is = sym (token_text c.args.self.now t is ∙ front_is _ _ _ is.cut)

@@ -1,0 +1,11 @@
+pub mod Handed
+pub mod Lang
+pub mod NoPlugins
+pub mod Reading
+pub mod Plugins
+pub mod Cursors
+pub mod WholeTag
+pub mod Elements
+pub mod ElementReading
+pub mod BlockReading
+pub mod Variables

@@ -1,0 +1,32 @@
+-- What the cursors over a source's elements stand for.
+use Rattle.std.specs.Prelude.{◌≡◌, ℕ, List, ◌∷◌, None, option_map}
+use Rattle.liquid_grammar.specs.meaning.Cover as cover
+use Rattle.liquid_grammar.specs.meaning.Cover.{raw, tag_element, expression, invalid}
+use Rattle.liquid_grammar.specs.meaning.Faults.{chain_fault}
+use Rattle.liquid_grammar.specs.meaning.Kinds.{chain_kind, identifier_of}
+use Rattle.liquid_grammar.specs.meaning.Tokens.{Chain, ChainRule}
+use Rattle.liquid_parser.specs.declared.cursor.element.Exp.{Exp as ExpCursor}
+use Rattle.liquid_parser.specs.declared.cursor.element.InvalidLiquidToken.{InvalidLiquidToken}
+use Rattle.liquid_parser.specs.declared.cursor.element.BlockElement.{BlockElement}
+use Rattle.liquid_parser.specs.declared.cursor.element.BlockElement.TheVariants.{Raw, Tag, Expression, Invalid}
+use Rattle.liquid_parser.specs.meaning.WholeTag.{IsTag}
+
+-- an expression of the source, with its name where it is one; its literals and brackets have no fault
+pub record IsExpression (x : ExpCursor) (source : List ℕ) (chain : Chain) : Type 0 where
+  pub source_is : x.source.now ≡ source
+  pub match : ChainRule x.chain.now chain.behind chain
+  pub name_is : option_map (λ name. name.now) x.name ≡ identifier_of (chain_kind chain.what.0 chain.what.1)
+  pub fine : chain_fault chain ≡ None
+
+-- what is neither a tag nor an expression, by its brace
+pub record IsInvalid (x : InvalidLiquidToken) (source behind : List ℕ) : Type 0 where
+  pub source_is : x.source.now ≡ source
+  pub brace_is : x.brace.now ≡ 123 ∷ behind
+
+-- the cursor stands for this element of the source, which has this text behind it
+abbrev pub StandsFor : BlockElement → (source behind : List ℕ) → cover.Element → Type 0
+StandsFor (Raw x) source behind (raw text) = x.text.now ≡ text
+StandsFor (Tag x) source behind (tag_element tag text) = IsTag x source tag × (x.text.now ≡ text)
+StandsFor (Expression x) source behind (expression chain text) = IsExpression x source chain × (x.text.now ≡ text)
+StandsFor (Invalid x) source behind (invalid text) = IsInvalid x source behind × (x.text.now ≡ text)
+StandsFor _ source behind _ = ⊥

@@ -1,0 +1,58 @@
+-- What the parser's stack means to the reading.
+use Rattle.std.specs.Prelude.{◌≡◌, ℕ, List, [], map, reverse, Option, Some, None, Result, Ok, Err, IfSome}
+use Rattle.std.specs.Borrow.{Bor}
+use Rattle.liquid_error.specs.declared.error.Error.{Error}
+use Rattle.liquid_error.specs.meaning.Told.{told}
+use Rattle.liquid_error.specs.meaning.Refusal.{Refusal, ok_then}
+use Rattle.liquid_grammar.specs.meaning.Cover.{Element, Cover}
+use Rattle.liquid_plugins.specs.declared.tree.Node.{Node}
+use Rattle.liquid_parser.specs.declared.reading.stack.OpenBlock.{OpenBlock}
+use Rattle.liquid_parser.specs.declared.reading.stack.ParserState.{ParserState}
+use Rattle.liquid_parser.specs.declared.reading.stack.Next.{Next}
+use Rattle.liquid_parser.specs.declared.reading.stack.Next.TheVariants.{Among, Escaped}
+use Rattle.liquid_plugins.specs.meaning.Nodes.{NodeShape}
+use Rattle.liquid_plugins.specs.meaning.NodesOf.{shapes_of}
+use Rattle.liquid_parser.specs.meaning.Handed.{place_in}
+use Rattle.liquid_parser.specs.meaning.Lang.{Lang, Block, escaped}
+use Rattle.liquid_parser.specs.meaning.Reading.{Open, State, among, inside, step, escape, finished, unclosed_by}
+
+-- blocks of the program, over what filters, tag nodes, block nodes, plans and kinds of block mean
+module _ {X N K L W F T B P : Type 0} (filter : X → F) (tag : N → T) (block : K → B) (plan : L → P) (kind : W → Block F P B) where
+  abbrev pub open_view : OpenBlock W L (Node X N K) → Open F T P B
+  open_view o = record {
+    kind = kind o.kind.now;
+    place = place_in o.source.now o.from.now;
+    plan = plan o.plan;
+    before = shapes_of filter tag block o.before.items;
+    parts = map (λ v. shapes_of filter tag block v.items) o.parts.items;
+  }
+
+  -- the innermost block stands last in the program
+  abbrev pub blocks_view : List (OpenBlock W L (Node X N K)) → List (Open F T P B)
+  blocks_view bs = reverse (map open_view bs)
+
+  abbrev pub state_view : ParserState W L (Node X N K) → State F T P B
+  state_view s = among (blocks_view s.open.items) (shapes_of filter tag block s.nodes.items)
+
+  abbrev pub next_view : Next W L (Node X N K) → State F T P B
+  next_view (Among s) = state_view s
+  next_view (Escaped b around) = inside (open_view b) (blocks_view around.items) 0 []
+
+-- the escaped body of a block that has just begun is read to its end: how far the text is read then, and the elements that are left
+abbrev pub escaped_body : {F T P B : Type 0} → List ℕ → Open F T P B → List (Open F T P B) → Option (List ℕ × List Element) → Result (State F T P B × List Element) Refusal
+escaped_body source b blocks None = Err (unclosed_by source b.kind.names.end_name)
+escaped_body source b blocks (Some p) = ok_then (finished b (escaped p.0) []) (λ nodes. Ok (among blocks nodes, p.1))
+
+-- what follows a state: in an escaped body, its end
+abbrev pub past_escaped : {F T P B : Type 0} → List ℕ → State F T P B → List Element → Result (State F T P B × List Element) Refusal
+past_escaped source (among blocks nodes) es = Ok (among blocks nodes, es)
+past_escaped source (inside b blocks level so_far) es = escaped_body source b blocks (escape b.kind.names.end_name b.kind.names.start_name b.kind.means.nests level so_far es)
+
+-- an element of its own text is read, and the escaped body that it begins
+abbrev pub advanced : {F T P B : Type 0} → Lang F T P B → (source : List ℕ) → ℕ → State F T P B → (own behind : List ℕ) → Element → List Element → Result (State F T P B × List Element) Refusal
+advanced l source outside st own behind e es = ok_then (step l own outside st e behind) (λ next. past_escaped source next es)
+
+-- the state that a call leads to, and the elements that are left of the text behind it; want of memory says nothing
+abbrev pub LeadsTo : {A S : Type 0} → (A → S) → Result (A × Bor (List ℕ)) Error → Result (S × List Element) Refusal → Type 0
+LeadsTo of (Ok p) meant = (left : List Element) × Cover p.1.now left × (meant ≡ Ok (of p.0, left))
+LeadsTo of (Err e) meant = IfSome (told e) (λ r. meant ≡ Err r)

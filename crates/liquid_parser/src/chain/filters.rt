@@ -1,0 +1,122 @@
+//! The filters of a chain, looked up and made from left to right.
+ghost use Rattle.std.specs.Prelude.{◌≡◌, ◌≤◌, ℕ, List, None, IfOk, IfSome, length, map, ◌++◌};
+ghost use Rattle.liquid_error.specs.meaning.Told.{told, Gives, Becomes};
+ghost use Rattle.liquid_grammar.specs.meaning.Faults.{filter_fault, chain_fault, first_fault};
+ghost use Rattle.liquid_grammar.specs.meaning.Parts.{IsFilter};
+ghost use Rattle.liquid_grammar.specs.meaning.Rules.{Repeated};
+ghost use Rattle.liquid_grammar.specs.meaning.Tokens.{Behind, FilterRule, ChainRule};
+ghost use Rattle.liquid_plugins.specs.meaning.ExpressionOf.{chain_of};
+ghost use Rattle.liquid_parser.specs.steps.Built.{GivesUpTo};
+ghost use Rattle.liquid_parser.specs.meaning.Plugins.{registry_of};
+ghost use Rattle.liquid_parser.specs.meaning.Reading.{chain_read, filters_read, filter_or, unknown_filter, refusal_of_filter};
+ghost use Rattle.liquid_grammar.specs.meaning.Tokens as token;
+ghost use Rattle.liquid_parser.specs.meaning.Handed as spec;
+
+use crate::chain::arguments::build_arguments;
+use crate::chain::build::build_value;
+use crate::chain::names::listed;
+use crate::reading::place::{place_in, refused_at, slice_between};
+use liquid_error::Error;
+use liquid_grammar::{FilterStart, next_filter};
+use liquid_plugins::{FilterChain, ParseFilter, PluginRegistry};
+use std::alloc::Global;
+
+/// The chain that the text begins with. Its literals and brackets have been checked.
+///
+/// Refuses a filter that the registry doesn't have, and what a filter refuses: the first from the left.
+pub(crate) fn parse_chain<F: ParseFilter + Drop>(
+    alloc: Global,
+    source: &str,
+    s: &str,
+    registry: &PluginRegistry<F>,
+) -> Result<FilterChain<F::Filter>, Error>
+    ensures { (rest : List ℕ) (c : token.Chain) → ChainRule s.now rest c → chain_fault c ≡ None
+        → Gives (chain_of F.Filter.shape) result (chain_read (registry_of F.makes registry.now) source.now c) }
+{
+    match build_value(alloc, s, 0)? {
+        Some((entry, rest)) => match parse_filters(alloc, source, rest, registry) {
+            Ok(filters) => Ok(FilterChain { entry, filters }),
+            Err(error) => Err(error),
+        },
+        None => Err(refused_at(alloc, source, "Invalid liquid", s)),
+    }
+}
+
+/// The filters that stand here, each behind `|`.
+fn parse_filters<F: ParseFilter + Drop>(
+    alloc: Global,
+    source: &str,
+    s: &str,
+    registry: &PluginRegistry<F>,
+) -> Result<Vec<F::Filter>, Error>
+    ensures { (rest : List ℕ) (fs : List token.Filter) → Repeated (Behind 124 FilterRule) s.now rest fs → first_fault filter_fault fs ≡ None
+        → Gives (λ v. map F.Filter.shape v.items) result (filters_read (registry_of F.makes registry.now) source.now fs) }
+{
+    let mut filters = Vec::new(alloc);
+    let mut rest = s;
+    'filters: while let Some(start) = next_filter(rest) {
+        match parse_filter(alloc, source, start, registry) {
+            Ok((filter, behind)) => {
+                filters.push(filter)?;
+                rest = behind;
+            }
+            Err(error) => return Err(error),
+        }
+    }
+    Ok(filters)
+}
+
+/// The filter that begins so, and what follows it.
+fn parse_filter<'a, F: ParseFilter + Drop>(
+    alloc: Global,
+    source: &str,
+    start: FilterStart<'a>,
+    registry: &PluginRegistry<F>,
+) -> Result<(F::Filter, &'a str), Error>
+    ensures value { (rest : List ℕ) (f : token.Filter) → IsFilter start.entry rest f → FilterRule f.place f.behind f → filter_fault f ≡ None
+        → GivesUpTo F.Filter.shape result
+        (filter_or (registry_of F.makes registry.now) source.now ((registry_of F.makes registry.now).get f.what.0) f) rest }
+    ensures within { IfOk result (λ p. length p.1.now ≤ length start.entry.rest.now) }
+{
+    let plug_in = match registry.get(start.name) {
+        Some(plug_in) => plug_in,
+        None => return Err(unknown_filter(alloc, source, start, registry)),
+    };
+    match build_arguments(alloc, start.rest)? {
+        Some((arguments, rest)) => match plug_in.parse(alloc, arguments) {
+            Ok(filter) => Ok((filter, rest)),
+            Err(error) => Err(filter_refused(alloc, source, start.place, rest, error)),
+        },
+        None => Err(refused_at(alloc, source, "Invalid liquid", start.place)),
+    }
+}
+
+/// The refusal of a filter that the registry doesn't have.
+fn unknown_filter<F: ParseFilter + Drop>(
+    alloc: Global,
+    source: &str,
+    start: FilterStart<'_>,
+    registry: &PluginRegistry<F>,
+) -> Error
+    ensures { (f : token.Filter) → f.place ≡ start.entry.place.now → f.what.0 ≡ start.entry.name.now
+        → IfSome (told result) (λ r. r ≡ unknown_filter (registry_of F.makes registry.now) source.now f) }
+{
+    let filters = match listed(alloc, registry) {
+        Ok(names) => names,
+        Err(_) => return Error::Memory,
+    };
+    refused_at(alloc, source, "Unknown filter", start.place)
+        .context(alloc, "requested filter", start.name)
+        .context(alloc, "available filters", filters.as_str())
+}
+
+/// A filter's own refusal, with the filter's text, which ends where this rest begins.
+fn filter_refused(alloc: Global, source: &str, place: &str, rest: &str, error: Error) -> Error
+    ensures { (text : List ℕ) → place.now ≡ text ++ rest.now
+        → Becomes (refusal_of_filter (spec.place_in source.now place.now) text) error result }
+{
+    error
+        .or_place(place_in(source, place))
+        .trace(alloc, "Filter parsing error")
+        .context(alloc, "filter", slice_between(place, rest))
+}

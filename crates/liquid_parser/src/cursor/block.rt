@@ -1,0 +1,214 @@
+//! The cursor over the elements of a block.
+ghost use Rattle.std.specs.Prelude.{◌≡◌, ◌<◌, ℕ, false, true, List, [], Ok, None, IfOk, is_none, Result};
+ghost use Rattle.liquid_error.specs.meaning.Told.{Gives};
+ghost use Rattle.liquid_grammar.specs.meaning.Cover.{Cover};
+ghost use Rattle.liquid_parser.specs.meaning.BlockReading.{or_end, handed_out, behind_first, bytes_left, HandsOut, Passes, Escapes, end_or, next_read, AllRead, FindsAll, IsAll, ParsedNext};
+ghost use Rattle.liquid_parser.specs.meaning.Elements.{StandsFor};
+ghost use Rattle.liquid_plugins.specs.meaning.NodesOf.{node_of, shapes_of};
+ghost use Rattle.liquid_plugins.specs.meaning.Nodes.{NodeShape};
+ghost use Rattle.liquid_error.specs.meaning.Refusal.{Refusal};
+ghost use Rattle.liquid_parser.specs.meaning.Plugins.{language_of};
+ghost use Rattle.liquid_grammar.specs.meaning.Cover as cover;
+ghost use Rattle.liquid_parser.specs.meaning.Reading as spec;
+
+use crate::cursor::element::{BlockElement, handed_over};
+use crate::cursor::tag::Tag;
+use crate::plugin::block::ParseBlock;
+use crate::plugin::language::Language;
+use crate::plugin::tag::ParseTag;
+use crate::reading::escape::{escape, unclosed};
+use liquid_error::Error;
+use liquid_grammar::next_element;
+use liquid_plugins::{Node, ParseFilter};
+use std::alloc::Global;
+
+/// The elements of a block's body that are left, up to the block's end tag. It borrows the source.
+#[derive(Drop)]
+pub struct TagBlock<'a, 'n> {
+    pub(crate) source: &'a str,
+    pub(crate) rest: &'a str,
+    pub(crate) start_name: &'n str,
+    pub(crate) end_name: &'n str,
+    pub(crate) is_closed: bool,
+}
+
+impl<'a, 'n> TagBlock<'a, 'n> {
+    /// The elements of a block's body, and of what follows it. The block is open, and its start tag and end tag have
+    /// these names. Places are those in the body's text.
+    pub fn new(body_text: &'a str, start_name: &'n str, end_name: &'n str) -> TagBlock<'a, 'n>
+        ensures source { result.source.now ≡ body_text.now }
+        ensures rest { result.rest.now ≡ body_text.now }
+        ensures start_name { result.start_name.now ≡ start_name.now }
+        ensures end_name { result.end_name.now ≡ end_name.now }
+        ensures open { result.is_closed ≡ false }
+    {
+        TagBlock {
+            source: body_text,
+            rest: body_text,
+            start_name,
+            end_name,
+            is_closed: false,
+        }
+    }
+
+    /// The next element, one that is invalid too. None at the end tag, which closes the block, and behind it.
+    ///
+    /// Refuses the first literal or bracket of the element that is at fault, a token of the end tag ("Unexpected
+    /// token"), and a text that ends before the end tag ("Unclosed block."). After a refusal the block is open, and
+    /// the element is passed.
+    pub fn next(&mut self, alloc: Global) -> std::result::Result<Option<BlockElement<'a>>, Error>
+        ensures open { self.old.is_closed ≡ false → (es : List cover.Element) → Cover self.old.rest.now es
+            → HandsOut result self.new (handed_out self.old.source.now self.old.end_name.now es)
+            × Cover self.new.rest.now (behind_first es) }
+        ensures closed { self.old.is_closed ≡ true → (result ≡ Ok None) × (self.new ≡ self.old) }
+        ensures ends { IfOk result (λ found. self.new.is_closed ≡ is_none found) }
+        ensures passes { Passes self.old self.new }
+        ensures shorter { self.old.is_closed ≡ false → IfOk result (λ _. bytes_left self.new < bytes_left self.old) }
+    {
+        if self.is_closed {
+            return Ok(None);
+        }
+        let place = self.rest;
+        match next_element(place) {
+            Some((found, behind)) => {
+                self.rest = behind;
+                match handed_over(alloc, self.source, place, found) {
+                    Ok(element) => match is_end(alloc, element, self.end_name) {
+                        Ok(is_end) => {
+                            self.is_closed = is_end;
+                            if is_end { Ok(None) } else { Ok(Some(element)) }
+                        }
+                        Err(error) => Err(error),
+                    },
+                    Err(error) => Err(error),
+                }
+            }
+            None => Err(unclosed(alloc, self.source, self.end_name)),
+        }
+    }
+
+    /// The text from the first element that is not handed out yet up to the end tag, which closes the block. Nothing
+    /// in it is read: all but an end tag without tokens is content, and where nesting is allowed a start tag in it
+    /// must have an end tag of its own.
+    ///
+    /// Refuses a text that ends before that ("Unclosed block."). Then the block is open at the text's end.
+    pub fn escape_liquid(
+        &mut self,
+        alloc: Global,
+        allow_nesting: bool,
+    ) -> std::result::Result<&'a str, Error>
+        requires { self.old.is_closed ≡ false }
+        ensures value { (es : List cover.Element) → Cover self.old.rest.now es
+            → Escapes (λ t. t.now) result self.new (spec.escape self.old.end_name.now self.old.start_name.now allow_nesting 0 [] es) }
+        ensures passes { Passes self.old self.new }
+    {
+        match escape(self.rest, self.end_name, self.start_name, allow_nesting) {
+            Some((text, behind)) => {
+                self.rest = behind;
+                self.is_closed = true;
+                Ok(text)
+            }
+            None => {
+                self.rest = self.rest.split_at(self.rest.len()).1;
+                Err(unclosed(alloc, self.source, self.end_name))
+            }
+        }
+    }
+
+    /// The block must be closed.
+    pub fn assert_empty(self)
+        requires { self.is_closed ≡ true }
+    {}
+
+    /// Whether the end tag was passed.
+    pub fn is_closed(&self) -> bool
+        ensures { result ≡ self.now.is_closed }
+    {
+        self.is_closed
+    }
+
+    /// The node of the next element. None at the end tag, which closes the block, and behind it.
+    ///
+    /// Refuses what `next` refuses, and what parsing the element refuses. Then the place of the cursor is open.
+    pub fn parse_next<F: ParseFilter + Drop, T: ParseTag<F> + Drop, B: ParseBlock<F> + Drop>(
+        &mut self,
+        alloc: Global,
+        language: &Language<F, T, B>,
+    ) -> std::result::Result<Option<Node<F::Filter, T::Node, B::Node>>, Error>
+        ensures open { self.old.is_closed ≡ false → (es : List cover.Element) → Cover self.old.rest.now es
+            → ParsedNext (node_of F.Filter.shape T.Node.shape B.Node.shape) result self.new
+            (next_read (language_of F.makes T.gives B.block language.now) self.old.source.now self.old.end_name.now 1 es) }
+        ensures closed { self.old.is_closed ≡ true → (result ≡ Ok None) × (self.new ≡ self.old) }
+        ensures ends { IfOk result (λ found. self.new.is_closed ≡ is_none found) }
+        ensures passes { Passes self.old self.new }
+        ensures shorter { self.old.is_closed ≡ false → IfOk result (λ _. bytes_left self.new < bytes_left self.old) }
+    {
+        match self.next(alloc) {
+            Ok(found) => match found {
+                Some(element) => match element.parse(alloc, self, language) {
+                    Ok(node) => Ok(Some(node)),
+                    Err(error) => Err(error),
+                },
+                None => Ok(None),
+            },
+            Err(error) => Err(error),
+        }
+    }
+
+    /// The nodes of all elements up to the end tag, which closes the block. None of a block that is closed.
+    ///
+    /// Refuses the first fault, as `parse_next` does.
+    pub fn parse_all<F: ParseFilter + Drop, T: ParseTag<F> + Drop, B: ParseBlock<F> + Drop>(
+        &mut self,
+        alloc: Global,
+        language: &Language<F, T, B>,
+    ) -> std::result::Result<Vec<Node<F::Filter, T::Node, B::Node>>, Error>
+        ensures found { self.old.is_closed ≡ false → (es : List cover.Element) → Cover self.old.rest.now es
+            → FindsAll (λ v. shapes_of F.Filter.shape T.Node.shape B.Node.shape v.items)
+            (language_of F.makes T.gives B.block language.now) 1 result self.new es }
+        ensures only { self.old.is_closed ≡ false → (es : List cover.Element)
+            (a : Result (List (NodeShape F.Filter.Shape T.Node.Shape B.Node.Shape) × List cover.Element) Refusal)
+            → Cover self.old.rest.now es
+            → AllRead (language_of F.makes T.gives B.block language.now) self.old.source.now self.old.end_name.now 1 es a
+            → IsAll (λ v. shapes_of F.Filter.shape T.Node.shape B.Node.shape v.items) result self.new a }
+        ensures closed { self.old.is_closed ≡ true → IfOk result (λ v. v.items ≡ []) × (self.new ≡ self.old) }
+        ensures ends { IfOk result (λ _. self.new.is_closed ≡ true) }
+        ensures passes { Passes self.old self.new }
+    {
+        let mut nodes = Vec::new(alloc);
+        'nodes: while !self.is_closed {
+            match self.parse_next(alloc, language) {
+                Ok(found) => match found {
+                    Some(node) => nodes.push(node)?,
+                    None => {}
+                },
+                Err(error) => return Err(error),
+            }
+        }
+        Ok(nodes)
+    }
+}
+
+/// Whether the element is a tag of this end name. A token of such a tag is refused.
+fn is_end(
+    alloc: Global,
+    element: BlockElement<'_>,
+    end_name: &str,
+) -> std::result::Result<bool, Error>
+    ensures { (source behind : List ℕ) (e : cover.Element) → StandsFor element.entry source behind e
+        → Gives (end_or e) result (or_end source end_name.now e) }
+{
+    match element {
+        BlockElement::Tag(tag) => {
+            if tag.name == end_name {
+                match tag.tokens.expect_nothing(alloc) {
+                    Ok(()) => Ok(true),
+                    Err(error) => Err(error),
+                }
+            } else {
+                Ok(false)
+            }
+        }
+        BlockElement::Raw(_) | BlockElement::Expression(_) | BlockElement::Invalid(_) => Ok(false),
+    }
+}

@@ -1,0 +1,235 @@
+//! The elements of a source, each alone: their texts, and their nodes.
+ghost use Rattle.std.specs.Prelude.{◌≡◌, ◌∷◌, ℕ, List, IfOk, IfSome, codes, ◌<◌, Result, Ok};
+ghost use Rattle.liquid_error.specs.meaning.Told.{told, Gives};
+ghost use Rattle.liquid_grammar.specs.meaning.Cover.{IsElement, text_of, Cover};
+ghost use Rattle.liquid_grammar.specs.meaning.Elements.{Means};
+ghost use Rattle.liquid_grammar.specs.meaning.Tokens.{Chain};
+ghost use Rattle.liquid_plugins.specs.meaning.NodesOf.{node_of, IsText};
+ghost use Rattle.liquid_parser.specs.meaning.Elements.{IsExpression, IsInvalid, StandsFor};
+ghost use Rattle.liquid_parser.specs.meaning.ElementReading.{HandsOver, node_read};
+ghost use Rattle.liquid_parser.specs.meaning.Plugins.{registry_of, language_of};
+ghost use Rattle.liquid_parser.specs.meaning.Reading.{expression_read, refused_at};
+ghost use Rattle.liquid_parser.specs.meaning.WholeTag.{Refuses};
+ghost use Rattle.liquid_parser.specs.meaning.BlockReading.{Parsed, Passes};
+ghost use Rattle.liquid_grammar.specs.meaning.Cover as cover;
+ghost use Rattle.liquid_grammar.specs.meaning.Tokens as token;
+
+use crate::chain::filters::parse_chain;
+use crate::cursor::block::TagBlock;
+use crate::cursor::tag::Tag;
+use crate::cursor::tokens::TagTokenIter;
+use crate::plugin::block::ParseBlock;
+use crate::plugin::language::Language;
+use crate::plugin::tag::ParseTag;
+use crate::reading::place::{check, refused_at};
+use liquid_error::Error;
+use liquid_grammar::{Element, match_white, parts_are_matches};
+use liquid_plugins::{BRIEF_LIMIT, Brief, FilterChain, Node, ParseFilter};
+use std::alloc::{AllocError, Global};
+
+/// Text that is written as it stands. It borrows the source.
+#[derive(Clone, Copy)]
+pub struct Raw<'a> {
+    pub(crate) text: &'a str,
+}
+
+/// An expression whose literals and brackets are fine. It borrows the source.
+#[derive(Clone, Copy)]
+pub struct Exp<'a> {
+    pub(crate) source: &'a str,
+    pub(crate) text: &'a str,
+    /// The text from the chain on.
+    pub(crate) chain: &'a str,
+    /// The name that the chain is, where it has neither indexes nor filters.
+    pub(crate) name: Option<&'a str>,
+}
+
+/// Where an opener begins, but neither a tag nor an expression does: its white space and one `{`. It borrows the source.
+#[derive(Clone, Copy)]
+pub struct InvalidLiquidToken<'a> {
+    pub(crate) source: &'a str,
+    pub(crate) text: &'a str,
+    /// The text from the `{` on.
+    pub(crate) brace: &'a str,
+}
+
+/// An element of a source, which it borrows.
+#[derive(Clone, Copy)]
+pub enum BlockElement<'a> {
+    Raw(Raw<'a>),
+    Tag(Tag<'a>),
+    Expression(Exp<'a>),
+    Invalid(InvalidLiquidToken<'a>),
+}
+
+impl<'a> Raw<'a> {
+    /// The text.
+    pub fn as_str(&self) -> &'a str
+        ensures { result.now ≡ self.now.text.now }
+    {
+        self.text
+    }
+
+    /// The node that writes the text.
+    #[inline(always)]
+    pub fn into_renderable<X, N, K>(self, alloc: Global) -> Result<Node<X, N, K>, AllocError>
+        ensures { IfOk result (λ node. IsText node self.entry.text.now) }
+    {
+        if self.text.len() > BRIEF_LIMIT {
+            return Ok(Node::Text(String::from_str(alloc, self.text)?));
+        }
+        let mut brief = Brief::new();
+        brief.push_str(self.text);
+        Ok(Node::Brief(brief))
+    }
+}
+
+impl<'a> Exp<'a> {
+    /// The whole text of the expression.
+    pub fn as_str(&self) -> &'a str
+        ensures { result.now ≡ self.now.text.now }
+    {
+        self.text
+    }
+
+    /// The node of the expression's chain, with its filters made from left to right.
+    ///
+    /// Refuses a filter that the language doesn't have, and what a filter refuses: the first from the left.
+    #[inline(always)]
+    pub fn parse<F: ParseFilter + Drop, T: ParseTag<F> + Drop, B: ParseBlock<F> + Drop>(
+        self,
+        alloc: Global,
+        language: &Language<F, T, B>,
+    ) -> std::result::Result<Node<F::Filter, T::Node, B::Node>, Error>
+        ensures { (source : List ℕ) (chain : Chain) → IsExpression self.entry source chain
+            → Gives (node_of F.Filter.shape T.Node.shape B.Node.shape) result
+            (expression_read (registry_of F.makes language.now.filters) source chain) }
+    {
+        // Most expressions are names, whose text need not be walked again.
+        if let Some(name) = self.name {
+            if name.len() > BRIEF_LIMIT {
+                return Ok(Node::Chain(FilterChain::of_name(alloc, name)?));
+            }
+            let mut brief = Brief::new();
+            brief.push_str(name);
+            return Ok(Node::Name(brief));
+        }
+        match parse_chain(alloc, self.source, self.chain, &language.filters) {
+            Ok(chain) => Ok(Node::Chain(chain)),
+            Err(error) => Err(error),
+        }
+    }
+}
+
+impl<'a> InvalidLiquidToken<'a> {
+    /// The white space before the `{`, and the `{`.
+    pub fn as_str(&self) -> &'a str
+        ensures { result.now ≡ self.now.text.now }
+    {
+        self.text
+    }
+
+    /// The refusal "Invalid liquid", at the `{`. The block stays as it is.
+    pub fn parse<X, N, K>(
+        self,
+        alloc: Global,
+        block: &mut TagBlock<'_, '_>,
+    ) -> std::result::Result<Node<X, N, K>, Error>
+        ensures refused { (source behind : List ℕ) → IsInvalid self.entry source behind
+            → Refuses result (refused_at source (codes "Invalid liquid") (123 ∷ behind)) }
+        ensures stays { block.new ≡ block.old }
+    {
+        let _ = block;
+        Err(self.refusal(alloc))
+    }
+
+    /// The same refusal.
+    pub(crate) fn refusal(self, alloc: Global) -> Error
+        ensures { (source behind : List ℕ) → IsInvalid self.entry source behind
+            → IfSome (told result) (λ r. r ≡ refused_at source (codes "Invalid liquid") (123 ∷ behind)) }
+    {
+        refused_at(alloc, self.source, "Invalid liquid", self.brace)
+    }
+}
+
+impl<'a> BlockElement<'a> {
+    /// The text that the element takes of the source.
+    pub fn as_str(&self) -> &'a str
+        ensures { (source behind : List ℕ) (e : cover.Element) → StandsFor self.now source behind e → result.now ≡ text_of e }
+    {
+        match *self {
+            BlockElement::Raw(raw) => raw.as_str(),
+            BlockElement::Tag(tag) => tag.as_str(),
+            BlockElement::Expression(exp) => exp.as_str(),
+            BlockElement::Invalid(token) => token.as_str(),
+        }
+    }
+
+    /// The node of the element. That of a block takes its body and its end from the cursor's elements.
+    ///
+    /// Refuses an invalid element ("Invalid liquid"), and what an expression or a tag refuses. Then the place of the
+    /// cursor is open.
+    pub fn parse<F: ParseFilter + Drop, T: ParseTag<F> + Drop, B: ParseBlock<F> + Drop>(
+        self,
+        alloc: Global,
+        block: &mut TagBlock<'_, '_>,
+        language: &Language<F, T, B>,
+    ) -> std::result::Result<Node<F::Filter, T::Node, B::Node>, Error>
+        ensures value { (own behind : List ℕ) (e : cover.Element) (es : List cover.Element)
+            → StandsFor self.entry own behind e → Cover block.old.rest.now es
+            → Parsed (node_of F.Filter.shape T.Node.shape B.Node.shape) result block.new
+            (node_read (language_of F.makes T.gives B.block language.now) block.old.source.now 1 own behind e es) }
+        ensures passes { Passes block.old block.new }
+        ensures closed { block.new.is_closed ≡ block.old.is_closed }
+    {
+        match self {
+            BlockElement::Raw(raw) => Ok(raw.into_renderable(alloc)?),
+            BlockElement::Tag(tag) => tag.parse(alloc, block, language),
+            BlockElement::Expression(exp) => exp.parse(alloc, language),
+            BlockElement::Invalid(token) => token.parse(alloc, block),
+        }
+    }
+}
+
+/// An element that stands here is handed out, and before that its literals and brackets are checked.
+#[inline(always)]
+pub(crate) fn handed_over<'a>(
+    alloc: Global,
+    source: &'a str,
+    place: &'a str,
+    element: Element<'a>,
+) -> std::result::Result<BlockElement<'a>, Error>
+    ensures { (behind : List ℕ) (e : cover.Element) → IsElement place.now behind e → Means element.entry e
+        → HandsOver result source.now behind e }
+{
+    parts_are_matches();
+    match element {
+        Element::Raw(text) => Ok(BlockElement::Raw(Raw { text })),
+        Element::Tag(tag) => match check(alloc, source, tag.fault) {
+            Ok(()) => Ok(BlockElement::Tag(Tag {
+                name: tag.name,
+                from: tag.place,
+                text: tag.text,
+                tokens: TagTokenIter {
+                    source,
+                    rest: tag.tokens,
+                },
+            })),
+            Err(error) => Err(error),
+        },
+        Element::Expression(expression) => match check(alloc, source, expression.fault) {
+            Ok(()) => Ok(BlockElement::Expression(Exp {
+                source,
+                text: expression.text,
+                chain: expression.chain,
+                name: expression.kind.identifier(),
+            })),
+            Err(error) => Err(error),
+        },
+        Element::Invalid(text) => Ok(BlockElement::Invalid(InvalidLiquidToken {
+            source,
+            text,
+            brace: match_white(place).1,
+        })),
+    }
+}

@@ -1,0 +1,142 @@
+//! A tag alone: its name, its text and its tokens.
+ghost use Rattle.std.specs.Prelude.{◌≡◌, [], codes, IfSome, MatchOption, ◌<◌, ℕ, List, Result, Ok, None};
+ghost use Rattle.liquid_grammar.specs.meaning.Elements.{MeansTag};
+ghost use Rattle.liquid_grammar.specs.meaning.Tokens.{Tag as MatchedTag, TagRule};
+ghost use Rattle.liquid_parser.specs.meaning.Reading.{refused_at};
+ghost use Rattle.liquid_parser.specs.meaning.WholeTag.{GivesTag, Refuses, WholeTag, IsTag};
+ghost use Rattle.liquid_grammar.specs.meaning.Cover.{Cover};
+ghost use Rattle.liquid_plugins.specs.meaning.NodesOf.{node_of};
+ghost use Rattle.liquid_parser.specs.meaning.BlockReading.{Parsed, Passes};
+ghost use Rattle.liquid_parser.specs.meaning.ElementReading.{tag_node_read};
+ghost use Rattle.liquid_parser.specs.meaning.Plugins.{language_of};
+ghost use Rattle.liquid_grammar.specs.meaning.Cover as cover;
+ghost use Rattle.liquid_grammar.specs.meaning.Tokens as token;
+
+use crate::cursor::block::TagBlock;
+use crate::cursor::tokens::TagTokenIter;
+use crate::plugin::block::ParseBlock;
+use crate::plugin::language::Language;
+use crate::plugin::tag::ParseTag;
+use crate::reading::asked::tag_read;
+use crate::reading::closing::{AROUND, behind_tag};
+use crate::reading::place::{check, refused_at};
+use crate::reading::stack::ParserState;
+use liquid_error::Error;
+use liquid_grammar::{Element, TagText, next_element};
+use liquid_plugins::{Node, ParseFilter};
+use std::alloc::Global;
+
+/// A tag whose literals and brackets are fine. It borrows the source.
+#[derive(Clone, Copy)]
+pub struct Tag<'a> {
+    pub(crate) name: &'a str,
+    /// The text from the name on.
+    pub(crate) from: &'a str,
+    pub(crate) text: &'a str,
+    pub(crate) tokens: TagTokenIter<'a>,
+}
+
+impl<'a> Tag<'a> {
+    /// The tag that the whole text is, as `{% name token token %}`.
+    ///
+    /// Where the whole text is no tag the call refuses: `Invalid liquid`, at line 1 and column 1. Else it refuses the
+    /// first literal or bracket from the left that is at fault: `Integer out of range`, `Decimal not supported` or
+    /// `Nested too deep`.
+    pub fn new(alloc: Global, text: &'a str) -> std::result::Result<Tag<'a>, Error>
+        ensures tag { (t : MatchedTag) → TagRule text.now [] t → GivesTag result text.now t }
+        ensures none { ¬ (WholeTag text.now) → Refuses result (refused_at text.now (codes "Invalid liquid") text.now) }
+    {
+        match whole_tag(text) {
+            Some(tag) => match check(alloc, text, tag.fault) {
+                Ok(()) => Ok(Tag {
+                    name: tag.name,
+                    from: tag.place,
+                    text: tag.text,
+                    tokens: TagTokenIter {
+                        source: text,
+                        rest: tag.tokens,
+                    },
+                }),
+                Err(error) => Err(error),
+            },
+            None => Err(refused_at(alloc, text, "Invalid liquid", text)),
+        }
+    }
+
+    /// The tag's name.
+    pub fn name(&self) -> &'a str
+        ensures { result.now ≡ self.now.name.now }
+    {
+        self.name
+    }
+
+    /// The whole text of the tag.
+    pub fn as_str(&self) -> &'a str
+        ensures { result.now ≡ self.now.text.now }
+    {
+        self.text
+    }
+
+    /// A cursor over the tag's tokens, from the first one on. It is a copy: what it hands out stays in the tag.
+    pub fn tokens(&self) -> TagTokenIter<'a>
+        ensures { result ≡ self.now.tokens }
+    {
+        self.tokens
+    }
+
+    /// The cursor over the tag's tokens.
+    pub fn into_tokens(self) -> TagTokenIter<'a>
+        ensures { result ≡ self.entry.tokens }
+    {
+        self.tokens
+    }
+
+    /// The node of a tag of the language, or of a block of it, which takes its body and its end from the cursor's
+    /// elements.
+    ///
+    /// Refuses a tag that the language doesn't have ("Unknown tag."), what its plug-in refuses, and the first fault of
+    /// a block's body. Then the place of the cursor is open.
+    pub fn parse<F: ParseFilter + Drop, T: ParseTag<F> + Drop, B: ParseBlock<F> + Drop>(
+        self,
+        alloc: Global,
+        block: &mut TagBlock<'_, '_>,
+        language: &Language<F, T, B>,
+    ) -> std::result::Result<Node<F::Filter, T::Node, B::Node>, Error>
+        ensures value { (own : List ℕ) (t : token.Tag) (es : List cover.Element) → IsTag self.entry own t → Cover block.old.rest.now es
+            → Parsed (node_of F.Filter.shape T.Node.shape B.Node.shape) result block.new
+            (tag_node_read (language_of F.makes T.gives B.block language.now) block.old.source.now 1 own t es) }
+        ensures passes { Passes block.old block.new }
+        ensures closed { block.new.is_closed ≡ block.old.is_closed }
+    {
+        let state = ParserState {
+            open: Vec::new(alloc),
+            nodes: Vec::new(alloc),
+        };
+        let next = match tag_read(alloc, AROUND, state, self, language) {
+            Ok(next) => next,
+            Err(error) => return Err(error),
+        };
+        match behind_tag(alloc, block.source, block.rest, next, language) {
+            Ok((mut nodes, rest)) => {
+                block.rest = rest;
+                match nodes.pop() {
+                    Some(node) => Ok(node),
+                    None => Err(refused_at(alloc, block.source, "Invalid liquid", rest)),
+                }
+            }
+            Err(error) => Err(error),
+        }
+    }
+}
+
+/// The tag that the whole text is.
+fn whole_tag<'a>(text: &'a str) -> Option<TagText<'a>>
+    ensures only { (t : MatchedTag) → TagRule text.now [] t → MatchOption result ⊥ (λ found. MeansTag found t text.now) }
+    ensures found { IfSome result (λ _. WholeTag text.now) }
+{
+    let (element, rest) = next_element(text)?;
+    match element {
+        Element::Tag(tag) => { if rest.is_empty() { Some(tag) } else { None } }
+        Element::Raw(_) | Element::Expression(_) | Element::Invalid(_) => None,
+    }
+}

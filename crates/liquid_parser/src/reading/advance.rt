@@ -1,0 +1,115 @@
+//! The reading of one element, in the state that what came before it has left.
+ghost use Rattle.std.specs.Prelude.{◌≡◌, ◌++◌, ℕ, List, IfOk};
+ghost use Rattle.liquid_error.specs.meaning.Told.{Gives};
+ghost use Rattle.liquid_grammar.specs.meaning.Cover.{Cover};
+ghost use Rattle.liquid_grammar.specs.meaning.Tokens.{Chain};
+ghost use Rattle.liquid_plugins.specs.meaning.NodesOf.{shapes_of};
+ghost use Rattle.liquid_parser.specs.meaning.Elements.{IsExpression, StandsFor};
+ghost use Rattle.liquid_parser.specs.meaning.Plugins.{registry_of, language_of};
+ghost use Rattle.liquid_parser.specs.meaning.Reading.{expression_read, node_added, step};
+ghost use Rattle.liquid_parser.specs.steps.Views.{blocks_view, state_view, next_view, advanced, LeadsTo};
+ghost use Rattle.liquid_grammar.specs.meaning.Cover as cover;
+
+use crate::cursor::element::{BlockElement, Exp};
+use crate::plugin::block::ParseBlock;
+use crate::plugin::language::Language;
+use crate::plugin::tag::ParseTag;
+use crate::reading::asked::tag_read;
+use crate::reading::escape::escaped_read;
+use crate::reading::stack::{Next, ParserState};
+use liquid_error::Error;
+use liquid_plugins::{Node, ParseFilter};
+use std::alloc::Global;
+
+/// An element is read, and the escaped body that it begins: how far the text is read then, and what follows.
+///
+/// So many blocks are open around all that is read. What stands behind the element is text of the source.
+#[inline(always)]
+pub(crate) fn advance<
+    'a,
+    't,
+    F: ParseFilter + Drop,
+    T: ParseTag<F> + Drop,
+    B: ParseBlock<F> + Drop,
+>(
+    alloc: Global,
+    outside: usize,
+    source: &str,
+    state: ParserState<'a, B, B::Plan, Node<F::Filter, T::Node, B::Node>>,
+    element: BlockElement<'a>,
+    behind: &'t str,
+    language: &'a Language<F, T, B>,
+) -> Result<
+    (
+        ParserState<'a, B, B::Plan, Node<F::Filter, T::Node, B::Node>>,
+        &'t str,
+    ),
+    Error,
+>
+    ensures value { (own after : List ℕ) (e : cover.Element) (es : List cover.Element)
+        → StandsFor element.entry own after e → Cover behind.now es
+        → LeadsTo (state_view F.Filter.shape T.Node.shape B.Node.shape B.Plan.shape B.block) result
+        (advanced (language_of F.makes T.gives B.block language.now) source.now outside
+        (state_view F.Filter.shape T.Node.shape B.Node.shape B.Plan.shape B.block state.entry) own after e es) }
+    ensures within { IfOk result (λ p. (front : List ℕ) × (behind.now ≡ front ++ p.1.now)) }
+{
+    match element_read(alloc, outside, state, element, language) {
+        Ok(step) => match step {
+            Next::Among(next) => Ok((next, behind)),
+            Next::Escaped(block, around) => {
+                escaped_read::<F, T, B>(alloc, source, behind, block, around)
+            }
+        },
+        Err(error) => Err(error),
+    }
+}
+
+/// An element is read.
+#[inline(always)]
+fn element_read<'a, F: ParseFilter + Drop, T: ParseTag<F> + Drop, B: ParseBlock<F> + Drop>(
+    alloc: Global,
+    outside: usize,
+    state: ParserState<'a, B, B::Plan, Node<F::Filter, T::Node, B::Node>>,
+    element: BlockElement<'a>,
+    language: &'a Language<F, T, B>,
+) -> Result<Next<'a, B, B::Plan, Node<F::Filter, T::Node, B::Node>>, Error>
+    ensures { (source behind : List ℕ) (e : cover.Element) → StandsFor element.entry source behind e
+        → Gives (next_view F.Filter.shape T.Node.shape B.Node.shape B.Plan.shape B.block) result
+        (step (language_of F.makes T.gives B.block language.now) source outside
+        (state_view F.Filter.shape T.Node.shape B.Node.shape B.Plan.shape B.block state.entry) e behind) }
+{
+    match element {
+        BlockElement::Raw(raw) => {
+            let mut state = state;
+            state.nodes.push(raw.into_renderable(alloc)?)?;
+            Ok(Next::Among(state))
+        }
+        BlockElement::Expression(exp) => expression_read(alloc, state, exp, language),
+        BlockElement::Tag(tag) => tag_read(alloc, outside, state, tag, language),
+        BlockElement::Invalid(token) => Err(token.refusal(alloc)),
+    }
+}
+
+/// An expression is read.
+#[inline(always)]
+fn expression_read<'a, F: ParseFilter + Drop, T: ParseTag<F> + Drop, B: ParseBlock<F> + Drop>(
+    alloc: Global,
+    state: ParserState<'a, B, B::Plan, Node<F::Filter, T::Node, B::Node>>,
+    exp: Exp<'_>,
+    language: &Language<F, T, B>,
+) -> Result<Next<'a, B, B::Plan, Node<F::Filter, T::Node, B::Node>>, Error>
+    ensures { (source : List ℕ) (chain : Chain) → IsExpression exp.entry source chain
+        → Gives (next_view F.Filter.shape T.Node.shape B.Node.shape B.Plan.shape B.block) result
+        (node_added (blocks_view F.Filter.shape T.Node.shape B.Node.shape B.Plan.shape B.block state.entry.open.items)
+        (shapes_of F.Filter.shape T.Node.shape B.Node.shape state.entry.nodes.items)
+        (expression_read (registry_of F.makes language.now.filters) source chain)) }
+{
+    match exp.parse(alloc, language) {
+        Ok(node) => {
+            let mut state = state;
+            state.nodes.push(node)?;
+            Ok(Next::Among(state))
+        }
+        Err(error) => Err(error),
+    }
+}

@@ -1,0 +1,97 @@
+//! What follows a tag is read up to where no block is open.
+ghost use Rattle.std.specs.Prelude.{◌≡◌, ◌<◌, ◌++◌, ℕ, List, Result, Ok, None, IfOk};
+ghost use Rattle.liquid_grammar.specs.meaning.Cover.{Cover};
+ghost use Rattle.liquid_plugins.specs.meaning.NodesOf.{shapes_of};
+ghost use Rattle.liquid_parser.specs.meaning.ElementReading.{read_closed};
+ghost use Rattle.liquid_parser.specs.meaning.Plugins.{language_of};
+ghost use Rattle.liquid_parser.specs.steps.Views.{state_view, next_view, LeadsTo};
+ghost use Rattle.liquid_grammar.specs.meaning.Cover as cover;
+
+use crate::cursor::element::handed_over;
+use crate::plugin::block::ParseBlock;
+use crate::plugin::language::Language;
+use crate::plugin::tag::ParseTag;
+use crate::reading::advance::advance;
+use crate::reading::escape::escaped_read;
+use crate::reading::parse::ended;
+use crate::reading::stack::{Next, ParserState};
+use liquid_error::Error;
+use liquid_grammar::next_element;
+use liquid_plugins::{Node, ParseFilter};
+use std::alloc::Global;
+
+/// How many blocks are open around what a cursor's elements are parsed to: the cursor's own.
+pub(crate) const AROUND: usize = 1;
+
+/// What follows a tag is read up to where no block is open.
+pub(crate) fn behind_tag<
+    'a,
+    't: 'a,
+    F: ParseFilter + Drop,
+    T: ParseTag<F> + Drop,
+    B: ParseBlock<F> + Drop,
+>(
+    alloc: Global,
+    source: &'t str,
+    text: &'t str,
+    next: Next<'a, B, B::Plan, Node<F::Filter, T::Node, B::Node>>,
+    language: &'a Language<F, T, B>,
+) -> Result<(Vec<Node<F::Filter, T::Node, B::Node>>, &'t str), Error>
+    ensures value { (es : List cover.Element) → Cover text.now es
+        → LeadsTo (λ v. shapes_of F.Filter.shape T.Node.shape B.Node.shape v.items) result
+        (read_closed (language_of F.makes T.gives B.block language.now) source.now 1
+        (next_view F.Filter.shape T.Node.shape B.Node.shape B.Plan.shape B.block next.entry) es) }
+    ensures within { IfOk result (λ p. (front : List ℕ) × (text.now ≡ front ++ p.1.now)) }
+{
+    match next {
+        Next::Among(state) => closed(alloc, source, text, state, language),
+        Next::Escaped(block, around) => {
+            match escaped_read::<F, T, B>(alloc, source, text, block, around) {
+                Ok((state, after)) => closed(alloc, source, after, state, language),
+                Err(error) => Err(error),
+            }
+        }
+    }
+}
+
+/// The text is read up to where no block is open: the nodes then, and what follows.
+fn closed<'a, 't: 'a, F: ParseFilter + Drop, T: ParseTag<F> + Drop, B: ParseBlock<F> + Drop>(
+    alloc: Global,
+    source: &'t str,
+    text: &'t str,
+    state: ParserState<'a, B, B::Plan, Node<F::Filter, T::Node, B::Node>>,
+    language: &'a Language<F, T, B>,
+) -> Result<(Vec<Node<F::Filter, T::Node, B::Node>>, &'t str), Error>
+    ensures value { (es : List cover.Element) → Cover text.now es
+        → LeadsTo (λ v. shapes_of F.Filter.shape T.Node.shape B.Node.shape v.items) result
+        (read_closed (language_of F.makes T.gives B.block language.now) source.now 1
+        (state_view F.Filter.shape T.Node.shape B.Node.shape B.Plan.shape B.block state.entry) es) }
+    ensures within { IfOk result (λ p. (front : List ℕ) × (text.now ≡ front ++ p.1.now)) }
+{
+    let mut state = state;
+    let mut rest = text;
+    'elements: while !state.open.is_empty() {
+        match next_element(rest) {
+            Some((found, behind)) => {
+                let element = match handed_over(alloc, source, rest, found) {
+                    Ok(element) => element,
+                    Err(error) => return Err(error),
+                };
+                match advance(alloc, AROUND, source, state, element, behind, language) {
+                    Ok((next, after)) => {
+                        state = next;
+                        rest = after;
+                    }
+                    Err(error) => return Err(error),
+                }
+            }
+            None => {
+                return match ended::<F, T, B>(alloc, source, state) {
+                    Ok(nodes) => Ok((nodes, rest)),
+                    Err(error) => Err(error),
+                };
+            }
+        }
+    }
+    Ok((state.nodes, rest))
+}

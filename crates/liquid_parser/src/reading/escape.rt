@@ -1,0 +1,128 @@
+//! Escaped bodies: the text up to the end of a block, in which nothing is read.
+ghost use Rattle.std.specs.Prelude.{◌≡◌, ◌<◌, ◌≤◌, ◌+◌, ◌^◌, ℕ, List, [], Some, IfOk, IfSome, string_bytes, codes, ◌++◌};
+ghost use Rattle.liquid_error.specs.meaning.Told.{told};
+ghost use Rattle.liquid_grammar.specs.meaning.Cover.{Cover, IsElement};
+ghost use Rattle.liquid_grammar.specs.meaning.Elements.{Means};
+ghost use Rattle.liquid_parser.specs.steps.Escaped.{EscapesTo};
+ghost use Rattle.liquid_parser.specs.meaning.Reading.{inside, unclosed_by};
+ghost use Rattle.liquid_parser.specs.steps.Views.{open_view, blocks_view, state_view, past_escaped, LeadsTo};
+ghost use Rattle.liquid_grammar.specs.meaning.Cover as cover;
+ghost use Rattle.liquid_parser.specs.meaning.Reading as spec;
+
+use crate::plugin::block::ParseBlock;
+use crate::plugin::tag::ParseTag;
+use crate::reading::place::refused_at;
+use crate::reading::stack::{OpenBlock, ParserState};
+use crate::reading::steps::sliced;
+use liquid_error::Error;
+use liquid_grammar::{Element, next_element, next_token, parts_are_matches};
+use liquid_plugins::{Node, ParseFilter};
+use std::alloc::{AllocError, Global};
+
+/// The escaped body of a block that has just begun is read to its end: how far the text is read then, and what follows.
+pub(crate) fn escaped_read<'a, 't, F: ParseFilter, T: ParseTag<F>, B: ParseBlock<F>>(
+    alloc: Global,
+    source: &str,
+    body: &'t str,
+    block: OpenBlock<'a, B, B::Plan, Node<F::Filter, T::Node, B::Node>>,
+    around: Vec<OpenBlock<'a, B, B::Plan, Node<F::Filter, T::Node, B::Node>>>,
+) -> Result<
+    (
+        ParserState<'a, B, B::Plan, Node<F::Filter, T::Node, B::Node>>,
+        &'t str,
+    ),
+    Error,
+>
+    ensures value { (es : List cover.Element) → Cover body.now es
+        → LeadsTo (state_view F.Filter.shape T.Node.shape B.Node.shape B.Plan.shape B.block) result
+        (past_escaped source.now (inside (open_view F.Filter.shape T.Node.shape B.Node.shape B.Plan.shape B.block block.entry)
+        (blocks_view F.Filter.shape T.Node.shape B.Node.shape B.Plan.shape B.block around.entry.items) 0 []) es) }
+    ensures within { IfOk result (λ p. (front : List ℕ) × (body.now ≡ front ++ p.1.now)) }
+{
+    let kind = block.kind;
+    match escape(body, kind.end_tag(), kind.start_tag(), kind.nests()) {
+        Some((text, after)) => match sliced::<F, T, B>(alloc, block, text) {
+            Ok(nodes) => {
+                let open = around;
+                Ok((ParserState { open, nodes }, after))
+            }
+            Err(error) => Err(error),
+        },
+        None => Err(unclosed(alloc, source, kind.end_tag())),
+    }
+}
+
+/// The refusal of a text that ends inside a block with this end name.
+pub(crate) fn unclosed(alloc: Global, source: &str, end_name: &str) -> Error
+    ensures { IfSome (told result) (λ r. r ≡ unclosed_by source.now end_name.now) }
+{
+    match unclosed_message(alloc, end_name) {
+        Ok(message) => refused_at(alloc, source, message.as_str(), ""),
+        Err(_) => Error::Memory,
+    }
+}
+
+fn unclosed_message(alloc: Global, end_name: &str) -> Result<String, AllocError>
+    ensures { IfOk result (λ t. string_bytes t ≡ codes "Unclosed block. {% " ++ (end_name.now ++ codes " %} tag expected.")) }
+{
+    let mut message = String::from_str(alloc, "Unclosed block. {% ")?;
+    message.push_str(end_name)?;
+    message.push_str(" %} tag expected.")?;
+    Ok(message)
+}
+
+/// The text of an escaped body up to its end, and what follows the end. None where the end is missing.
+pub(crate) fn escape<'a>(
+    body: &'a str,
+    end_name: &str,
+    start_name: &str,
+    nests: bool,
+) -> Option<(&'a str, &'a str)>
+    ensures value { (es : List cover.Element) → Cover body.now es
+        → EscapesTo result (spec.escape end_name.now start_name.now nests 0 [] es) }
+    ensures within { IfSome result (λ p. (front : List ℕ) × (body.now ≡ front ++ p.1.now)) }
+{
+    let mut level = 0;
+    let mut rest = body;
+    'elements: while let Some((element, behind)) = next_element(rest) {
+        match level_behind(element, end_name, start_name, nests, level) {
+            Some(next) => {
+                level = next;
+                rest = behind;
+            }
+            None => {
+                let (text, _) = body.split_at(body.len() - rest.len());
+                return Some((text, behind));
+            }
+        }
+    }
+    None
+}
+
+/// How many starts wait for their ends behind the element. None at the end of the body.
+fn level_behind(
+    element: Element<'_>,
+    end_name: &str,
+    start_name: &str,
+    nests: bool,
+    level: usize,
+) -> Option<usize>
+    requires { level < 2 ^ 63 }
+    ensures value { (s rest : List ℕ) (e : cover.Element) → IsElement s rest e → Means element.entry e
+        → result ≡ spec.level_behind end_name.now start_name.now nests level e }
+    ensures within { IfSome result (λ next. next ≤ level + 1) }
+{
+    parts_are_matches();
+    match element {
+        Element::Tag(tag) => {
+            if tag.name == end_name && next_token(tag.tokens).is_none() {
+                level.checked_sub(1)
+            } else if nests && tag.name == start_name {
+                Some(level + 1)
+            } else {
+                Some(level)
+            }
+        }
+        _ => Some(level),
+    }
+}

@@ -1,0 +1,94 @@
+//! The reading of a whole text, element by element.
+ghost use Rattle.std.specs.Prelude.{List, Result};
+ghost use Rattle.liquid_error.specs.meaning.Refusal.{Refusal};
+ghost use Rattle.liquid_error.specs.meaning.Told.{Gives};
+ghost use Rattle.liquid_plugins.specs.meaning.NodesOf.{shapes_of};
+ghost use Rattle.liquid_plugins.specs.meaning.Nodes.{NodeShape};
+ghost use Rattle.liquid_parser.specs.meaning.Plugins.{language_of};
+ghost use Rattle.liquid_parser.specs.meaning.Reading.{Answers, Reads, OneReading};
+ghost use Rattle.liquid_parser.specs.steps.Views.{state_view};
+ghost use Rattle.liquid_parser.specs.meaning.Reading as spec;
+
+use crate::cursor::element::handed_over;
+use crate::plugin::block::ParseBlock;
+use crate::plugin::language::Language;
+use crate::plugin::tag::ParseTag;
+use crate::reading::advance::advance;
+use crate::reading::escape::unclosed;
+use crate::reading::stack::ParserState;
+use liquid_error::Error;
+use liquid_grammar::next_element;
+use liquid_plugins::{Node, ParseFilter};
+use std::alloc::Global;
+
+/// The nodes of a template's text, in their order.
+///
+/// Refuses the first fault of the reading, from left to right: what is neither text nor expression
+/// nor tag ("Invalid liquid"), a block without its end, an unknown tag or filter, a number that is
+/// no whole number of 64 bits, a token that nothing asked for, brackets or blocks more than a
+/// hundred deep, and what a plug-in refuses.
+pub fn parse<F: ParseFilter + Drop, T: ParseTag<F> + Drop, B: ParseBlock<F> + Drop>(
+    alloc: Global,
+    text: &str,
+    language: &Language<F, T, B>,
+) -> Result<Vec<Node<F::Filter, T::Node, B::Node>>, Error>
+    ensures found { Answers (λ v. shapes_of F.Filter.shape T.Node.shape B.Node.shape v.items)
+        (language_of F.makes T.gives B.block language.now) text.now result }
+    ensures only { (a : Result (List (NodeShape F.Filter.Shape T.Node.Shape B.Node.Shape)) Refusal)
+        → Reads (language_of F.makes T.gives B.block language.now) text.now a
+        → Gives (λ v. shapes_of F.Filter.shape T.Node.shape B.Node.shape v.items) result a }
+{
+    nodes_of(alloc, text, language)
+}
+
+/// Each text is read as exactly one answer.
+pub fn one_reading<F: ParseFilter + Drop, T: ParseTag<F> + Drop, B: ParseBlock<F> + Drop>(
+    language: &Language<F, T, B>,
+)
+    ensures { OneReading (language_of F.makes T.gives B.block language.now) }
+{}
+
+fn nodes_of<'a, F: ParseFilter + Drop, T: ParseTag<F> + Drop, B: ParseBlock<F> + Drop>(
+    alloc: Global,
+    text: &'a str,
+    language: &'a Language<F, T, B>,
+) -> Result<Vec<Node<F::Filter, T::Node, B::Node>>, Error>
+    ensures { Answers (λ v. shapes_of F.Filter.shape T.Node.shape B.Node.shape v.items)
+        (language_of F.makes T.gives B.block language.now) text.now result }
+{
+    let mut state = ParserState {
+        open: Vec::new(alloc),
+        nodes: Vec::new(alloc),
+    };
+    let mut rest = text;
+    'elements: while let Some((found, behind)) = next_element(rest) {
+        let element = match handed_over(alloc, text, rest, found) {
+            Ok(element) => element,
+            Err(error) => return Err(error),
+        };
+        match advance(alloc, 0, text, state, element, behind, language) {
+            Ok((next, after)) => {
+                state = next;
+                rest = after;
+            }
+            Err(error) => return Err(error),
+        }
+    }
+    ended::<F, T, B>(alloc, text, state)
+}
+
+/// The nodes of a text that is read to its end.
+pub(crate) fn ended<'a, F: ParseFilter + Drop, T: ParseTag<F> + Drop, B: ParseBlock<F> + Drop>(
+    alloc: Global,
+    source: &str,
+    state: ParserState<'a, B, B::Plan, Node<F::Filter, T::Node, B::Node>>,
+) -> Result<Vec<Node<F::Filter, T::Node, B::Node>>, Error>
+    ensures { Gives (λ v. shapes_of F.Filter.shape T.Node.shape B.Node.shape v.items) result
+        (spec.ended source.now (state_view F.Filter.shape T.Node.shape B.Node.shape B.Plan.shape B.block state.entry)) }
+{
+    let ParserState { mut open, nodes } = state;
+    match open.pop() {
+        None => Ok(nodes),
+        Some(block) => Err(unclosed(alloc, source, block.kind.end_tag())),
+    }
+}

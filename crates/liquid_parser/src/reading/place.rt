@@ -1,0 +1,66 @@
+//! Places in a source.
+ghost use Rattle.std.specs.Prelude.{◌≡◌, ◌++◌, ℕ, List, IfSome};
+ghost use Rattle.liquid_error.specs.meaning.Told.{told, Gives};
+ghost use Rattle.liquid_grammar.specs.meaning.Meanings.{faults_of};
+ghost use Rattle.liquid_parser.specs.meaning.Reading.{checked, refused_at};
+ghost use Rattle.liquid_parser.specs.meaning.Handed as spec;
+
+use liquid_error::{Error, Place};
+use liquid_grammar::{Fault, FaultKind};
+use std::alloc::Global;
+
+/// Line and column, both from 1, of the place in the source that has this text behind it.
+pub(crate) fn place_in(source: &str, behind: &str) -> Place
+    ensures { result ≡ spec.place_in source.now behind.now }
+{
+    let before = source.len().saturating_sub(behind.len());
+    let mut line = 1;
+    let mut column = 1;
+    for byte in &source.as_bytes()[..before] {
+        if *byte == b'\n' {
+            line += 1;
+            column = 1;
+        } else if *byte < 128 || *byte >= 192 {
+            column += 1;
+        }
+    }
+    Place { line, column }
+}
+
+/// What stands between a place and the place behind it.
+pub(crate) fn slice_between<'a>(place: &'a str, behind: &str) -> &'a str
+    ensures { (text : List ℕ) → place.now ≡ text ++ behind.now → result.now ≡ text }
+{
+    match place.split_at_checked(place.len().saturating_sub(behind.len())) {
+        Some((text, _)) => text,
+        None => place,
+    }
+}
+
+/// A refusal with this message about the place that has this text behind it.
+pub(crate) fn refused_at(alloc: Global, source: &str, message: &str, behind: &str) -> Error
+    ensures { IfSome (told result) (λ r. r ≡ refused_at source.now message.now behind.now) }
+{
+    Error::at_place(alloc, message, place_in(source, behind))
+}
+
+/// Refuses the first fault of literals and brackets, if there is one.
+pub(crate) fn check(
+    alloc: Global,
+    source: &str,
+    fault: Option<Fault<'_>>,
+) -> std::result::Result<(), Error>
+    ensures { Gives (λ u. u) result (checked source.now (faults_of fault.entry)) }
+{
+    match fault {
+        None => Ok(()),
+        Some(fault) => {
+            let message = match fault.kind {
+                FaultKind::IntegerOutOfRange => "Integer out of range",
+                FaultKind::DecimalNotSupported => "Decimal not supported",
+                FaultKind::NestedTooDeep => "Nested too deep",
+            };
+            Err(refused_at(alloc, source, message, fault.place))
+        }
+    }
+}

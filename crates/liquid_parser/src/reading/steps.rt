@@ -1,0 +1,147 @@
+//! What begins, divides and ends a block, and the node of a tag.
+ghost use Rattle.std.specs.Prelude.{ℕ, List, []};
+ghost use Rattle.liquid_error.specs.meaning.Told.{Gives};
+ghost use Rattle.liquid_parser.specs.meaning.Lang.{escaped};
+ghost use Rattle.liquid_plugins.specs.meaning.NodesOf.{node_of, shapes_of};
+ghost use Rattle.liquid_parser.specs.meaning.Plugins.{registry_of};
+ghost use Rattle.liquid_parser.specs.meaning.Reading.{begun, closed, finished, parted, tag_given};
+ghost use Rattle.liquid_parser.specs.meaning.WholeTag.{IsTag};
+ghost use Rattle.liquid_parser.specs.steps.Views.{open_view};
+ghost use Rattle.liquid_grammar.specs.meaning.Tokens as token;
+
+use crate::cursor::tag::Tag;
+use crate::plugin::block::{BlockBody, ParseBlock};
+use crate::plugin::tag::ParseTag;
+use crate::reading::place::place_in;
+use crate::reading::stack::OpenBlock;
+use liquid_error::Error;
+use liquid_plugins::{Node, ParseFilter, PluginRegistry};
+use std::alloc::Global;
+
+/// The node of a tag.
+pub(crate) fn tag_node<F: ParseFilter, T: ParseTag<F>, B: ParseBlock<F>>(
+    alloc: Global,
+    plug_in: &T,
+    tag: Tag<'_>,
+    filters: &PluginRegistry<F>,
+) -> Result<Node<F::Filter, T::Node, B::Node>, Error>
+    ensures { (source : List ℕ) (t : token.Tag) → IsTag tag.entry source t
+        → Gives (node_of F.Filter.shape T.Node.shape B.Node.shape) result
+        (tag_given source t (registry_of F.makes filters.now) (T.gives plug_in.now)) }
+{
+    match plug_in.parse(alloc, tag.tokens, filters) {
+        Ok(made) => Ok(Node::Tag(made)),
+        Err(error) => Err(error.or_place(place_in(tag.tokens.source, tag.from))),
+    }
+}
+
+/// A block begins behind these nodes.
+pub(crate) fn opened<'a, F: ParseFilter, T: ParseTag<F>, B: ParseBlock<F>>(
+    alloc: Global,
+    kind: &'a B,
+    nodes: Vec<Node<F::Filter, T::Node, B::Node>>,
+    tag: Tag<'a>,
+    filters: &PluginRegistry<F>,
+) -> Result<OpenBlock<'a, B, B::Plan, Node<F::Filter, T::Node, B::Node>>, Error>
+    ensures { (source : List ℕ) (t : token.Tag) → IsTag tag.entry source t
+        → Gives (open_view F.Filter.shape T.Node.shape B.Node.shape B.Plan.shape B.block) result
+        (begun source t (registry_of F.makes filters.now) (B.block kind.now)
+        (shapes_of F.Filter.shape T.Node.shape B.Node.shape nodes.items)) }
+{
+    match kind.begin(alloc, tag.tokens, filters) {
+        Ok(plan) => Ok(OpenBlock {
+            kind,
+            source: tag.tokens.source,
+            from: tag.from,
+            plan,
+            before: nodes,
+            parts: Vec::new(alloc),
+        }),
+        Err(error) => Err(error.or_place(place_in(tag.tokens.source, tag.from))),
+    }
+}
+
+/// A part of a block ends at a divider.
+pub(crate) fn divided<'a, F: ParseFilter, T: ParseTag<F>, B: ParseBlock<F>>(
+    alloc: Global,
+    block: &mut OpenBlock<'a, B, B::Plan, Node<F::Filter, T::Node, B::Node>>,
+    nodes: Vec<Node<F::Filter, T::Node, B::Node>>,
+    tag: Tag<'_>,
+) -> Result<(), Error>
+    ensures { (source : List ℕ) (t : token.Tag) → IsTag tag.entry source t
+        → Gives (λ _. open_view F.Filter.shape T.Node.shape B.Node.shape B.Plan.shape B.block block.new) result
+        (parted source t (open_view F.Filter.shape T.Node.shape B.Node.shape B.Plan.shape B.block block.old)
+        (shapes_of F.Filter.shape T.Node.shape B.Node.shape nodes.items)) }
+{
+    match block
+        .kind
+        .divide(alloc, &mut block.plan, tag.name, tag.tokens)
+    {
+        Ok(()) => {
+            block.parts.push(nodes)?;
+            Ok(())
+        }
+        Err(error) => Err(error.or_place(place_in(tag.tokens.source, tag.from))),
+    }
+}
+
+/// A block ends: the nodes of the list that it stands in, with it as the last.
+pub(crate) fn closed<'a, F: ParseFilter, T: ParseTag<F>, B: ParseBlock<F>>(
+    alloc: Global,
+    block: OpenBlock<'a, B, B::Plan, Node<F::Filter, T::Node, B::Node>>,
+    nodes: Vec<Node<F::Filter, T::Node, B::Node>>,
+    tag: Tag<'_>,
+) -> Result<Vec<Node<F::Filter, T::Node, B::Node>>, Error>
+    ensures { (source : List ℕ) (t : token.Tag) → IsTag tag.entry source t
+        → Gives (λ v. shapes_of F.Filter.shape T.Node.shape B.Node.shape v.items) result
+        (closed source t (open_view F.Filter.shape T.Node.shape B.Node.shape B.Plan.shape B.block block.entry)
+        (shapes_of F.Filter.shape T.Node.shape B.Node.shape nodes.items)) }
+{
+    match tag.tokens.expect_nothing(alloc) {
+        Ok(()) => {}
+        Err(error) => return Err(error),
+    }
+    let OpenBlock {
+        kind,
+        source,
+        from,
+        plan,
+        mut before,
+        mut parts,
+    } = block;
+    parts.push(nodes)?;
+    match kind.finish(alloc, plan, BlockBody::Parts(parts.len())) {
+        Ok(made) => {
+            before.push(Node::Block(made, parts))?;
+            Ok(before)
+        }
+        Err(error) => Err(error.or_place(place_in(source, from))),
+    }
+}
+
+/// A block with an escaped body of this text ends: the nodes of the list that it stands in, with it as the last.
+pub(crate) fn sliced<'a, F: ParseFilter, T: ParseTag<F>, B: ParseBlock<F>>(
+    alloc: Global,
+    block: OpenBlock<'a, B, B::Plan, Node<F::Filter, T::Node, B::Node>>,
+    text: &str,
+) -> Result<Vec<Node<F::Filter, T::Node, B::Node>>, Error>
+    ensures { Gives (λ v. shapes_of F.Filter.shape T.Node.shape B.Node.shape v.items) result
+        (finished (open_view F.Filter.shape T.Node.shape B.Node.shape B.Plan.shape B.block block.entry) (escaped text.now) []) }
+{
+    let OpenBlock {
+        kind,
+        source,
+        from,
+        plan,
+        mut before,
+        parts,
+    } = block;
+    drop(parts);
+    match kind.finish(alloc, plan, BlockBody::Escaped(text)) {
+        Ok(made) => {
+            before.push(Node::Block(made, Vec::new(alloc)))?;
+            Ok(before)
+        }
+        Err(error) => Err(error.or_place(place_in(source, from))),
+    }
+}

@@ -1,0 +1,6 @@
+pub mod Compiled
+pub mod Each
+pub mod Keeping
+pub mod Kept
+pub mod Rendered
+pub mod Sources

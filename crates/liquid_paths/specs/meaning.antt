@@ -1,0 +1,4 @@
+pub mod Step
+pub mod Walk
+pub mod PathOf
+pub mod InPlace

@@ -1,0 +1,16 @@
+-- Where the value that a path leads to stands.
+use Rattle.std.specs.Prelude.{◌≡◌, ℤ, ⊤}
+use Rattle.liquid_scalar.specs.meaning.Scalar.{integer}
+use Rattle.liquid_value.specs.declared.cow.ValueCow.{ValueCow}
+use Rattle.liquid_value.specs.declared.cow.ValueCow.TheVariants.{Owned, Borrowed}
+use Rattle.liquid_value.specs.meaning.Tree.{Tree, scalar}
+use Rattle.liquid_value.specs.meaning.View.{view}
+
+-- a whole number
+abbrev pub IsNumber : Tree → Type 0
+IsNumber t = (n : ℤ) × (t ≡ scalar (integer n))
+
+-- it is borrowed where it stands, and only a number is made: what `size` asks for
+abbrev pub InPlace : ValueCow → Type 0
+InPlace (Borrowed value) = ⊤
+InPlace (Owned value) = IsNumber (view value)

@@ -1,0 +1,26 @@
+-- One step from a value by an index.
+use Rattle.std.specs.Prelude.{ℕ, pos, negsuc, List, length, codes, Option, None, Some, bytes_eq, if◌then◌else◌, option_and_then}
+use Rattle.std.specs.Option.{option_or}
+use Rattle.liquid_scalar.specs.meaning.Scalar.{Scal, integer, render_scalar, to_integer}
+use Rattle.liquid_value.specs.meaning.Members.{get_member, item_count, member_count}
+use Rattle.liquid_value.specs.meaning.Tree.{Tree, nil, state, scalar, array, object, Items}
+use Rattle.liquid_value.specs.meaning.Place.{item_at}
+
+-- the word `size` asks for a number of parts
+abbrev pub size_asked : List ℕ → ℕ → Option Tree
+size_asked word count = if bytes_eq word (codes "size") then Some (scalar (integer (pos count))) else None
+
+-- the words `first`, `last` and `size` ask for an array's first item, its last one, and how many there are
+abbrev pub item_asked : List ℕ → Items → Option Tree
+item_asked word ts =
+    if bytes_eq word (codes "first") then item_at (pos 0) ts
+    else (if bytes_eq word (codes "last") then item_at (negsuc 0) ts else size_asked word (item_count ts))
+
+-- an array has the item at the index's number, else what the index's text asks for; an object its own key, else its
+-- size; a scalar the size of its text; nil and a state have nothing
+abbrev pub step : Tree → Scal → Option Tree
+step nil index = None
+step (state s) index = None
+step (scalar x) index = size_asked (render_scalar index) (length (render_scalar x))
+step (array ts) index = option_or (option_and_then (λ n. item_at n ts) (to_integer index)) (item_asked (render_scalar index) ts)
+step (object ms) index = option_or (get_member (render_scalar index) ms) (size_asked (render_scalar index) (member_count ms))

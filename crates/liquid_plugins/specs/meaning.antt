@@ -1,0 +1,15 @@
+pub mod Expression
+pub mod Evaluation
+pub mod Chain
+pub mod Turns
+pub mod TurnOf
+pub mod ExpressionOf
+pub mod Same
+pub mod ArgumentsOf
+pub mod NoNames
+pub mod Registry
+pub mod Discreet
+pub mod Turning
+pub mod Nodes
+pub mod NodesOf
+pub mod Size

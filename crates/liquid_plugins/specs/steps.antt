@@ -1,0 +1,2 @@
+pub mod TreeCodes
+pub mod Codes

@@ -1,0 +1,14 @@
+pub mod Maps
+pub mod View
+pub mod NamesSeen
+pub mod InPlaceOrNil
+pub mod Lookup
+pub mod Roots
+pub mod Written
+pub mod Sets
+pub mod Frames
+pub mod OpenFrames
+pub mod Erased
+pub mod Emptied
+pub mod Calls
+pub mod Built

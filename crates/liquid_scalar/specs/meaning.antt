@@ -1,0 +1,3 @@
+pub mod Scalar
+pub mod ScalarCompare
+pub mod ScalarDates

@@ -1,0 +1,4 @@
+pub mod Layers
+pub mod LinkLayers
+pub mod NamePlaces
+pub mod Standing

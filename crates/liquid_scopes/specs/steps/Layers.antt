@@ -1,0 +1,103 @@
+-- Frames over a base as plain data, the oldest first, and what they show: both forms of scopes stand on these.
+use Rattle.std.specs.Prelude.{◌≡◌, ◌++◌, ◌&&◌, ℕ, List, [], ◌∷◌, length, Option, Some, None, Bool, true, false, ⊤, is_none}
+use Rattle.std.specs.Prelude.{String}
+use Rattle.std.specs.BTreeSet.{BTreeSet}
+use Rattle.std.specs.declared.alloc.Global.{Global}
+use Rattle.liquid_runtime.specs.meaning.Roots.{NamesOf, NamesOver}
+use Rattle.std.specs.Option.{option_or}
+use Rattle.std.specs.FinMap.{get, empty}
+use Rattle.liquid_value.specs.meaning.Tree.{Tree}
+use Rattle.liquid_runtime.specs.meaning.Maps.{Names}
+use Rattle.liquid_runtime.specs.meaning.View.{View}
+use Rattle.liquid_runtime.specs.meaning.Frames.{Restore, restore_nothing, restore_sandboxed, restored_by, stack_frame, global_frame, begin_stack, begin_sandboxed}
+use Rattle.liquid_runtime.specs.steps.FrameViews.{assigned_view}
+use Rattle.liquid_runtime.specs.meaning.Calls.{registers_of, with_registers}
+use Rattle.liquid_runtime.specs.declared.registers.Registers.{Registers}
+
+-- a frame with what it holds; a sandboxed one holds the registers that its ending gives back
+pub data Layer (Reg : Type 0) : Type 0 where
+  none_layer : Layer Reg
+  stack_layer : Names → Option (List ℕ) → Layer Reg
+  global_layer : Names → Layer Reg
+  sandboxed_layer : Names → Option (List ℕ) → Registers Reg → Layer Reg
+
+module _ {Reg : Type 0} where
+  -- the view over the one below; the registers are always the base's
+  abbrev pub layer_view : Layer Reg → View Reg → View Reg
+  layer_view none_layer v = v
+  layer_view (stack_layer d n) v = begin_stack d n v
+  layer_view (global_layer g) v = assigned_view g v
+  layer_view (sandboxed_layer d n saved) v = with_registers (registers_of v) (begin_sandboxed v.register d n v)
+
+  -- what its ending restores
+  abbrev pub layer_restores : Layer Reg → View Reg → Restore Reg
+  layer_restores none_layer v = restore_nothing
+  layer_restores (stack_layer d n) v = restored_by (stack_frame d n) v
+  layer_restores (global_layer g) v = restored_by global_frame v
+  layer_restores (sandboxed_layer d n saved) v = restore_sandboxed v.locals v.base v.shown v.floor v.name saved.interrupt.current saved.value
+
+  abbrev pub shown_over : View Reg → List (Layer Reg) → View Reg
+  shown_over v [] = v
+  shown_over v (l ∷ ls) = shown_over (layer_view l v) ls
+
+  abbrev pub restoring : View Reg → List (Layer Reg) → List (Restore Reg) → List (Restore Reg)
+  restoring v [] rs = rs
+  restoring v (l ∷ ls) rs = restoring (layer_view l v) ls (layer_restores l v ∷ rs)
+
+  -- what a layer finds over what is found below it
+  abbrev pub layer_found : Layer Reg → List ℕ → Option Tree → Option Tree
+  layer_found none_layer q o = o
+  layer_found (stack_layer d n) q o = option_or (get d q) o
+  layer_found (global_layer g) q o = option_or (get g q) o
+  layer_found (sandboxed_layer d n saved) q o = get d q
+
+  abbrev pub layer_seals : Layer Reg → List ℕ → Bool → Bool
+  layer_seals none_layer q b = b
+  layer_seals (stack_layer d n) q b = is_none (get d q) && b
+  layer_seals (global_layer g) q b = is_none (get g q) && b
+  layer_seals (sandboxed_layer d n saved) q b = true
+
+  -- the name that a layer gives over the one below it
+  abbrev pub layer_name : Layer Reg → Option (List ℕ) → Option (List ℕ)
+  layer_name none_layer o = o
+  layer_name (stack_layer d n) o = option_or n o
+  layer_name (global_layer g) o = o
+  layer_name (sandboxed_layer d n saved) o = option_or n o
+
+  -- the names that are seen under a layer, from those that are seen below it
+  abbrev pub LayerNames : Layer Reg → BTreeSet (String Global) → BTreeSet (String Global) → Type 0
+  LayerNames none_layer below set = set ≡ below
+  LayerNames (stack_layer d n) below set = NamesOver d below set
+  LayerNames (global_layer g) below set = NamesOver g below set
+  LayerNames (sandboxed_layer d n saved) below set = NamesOf d set
+
+  abbrev pub is_global : Layer Reg → Bool
+  is_global none_layer = false
+  is_global (stack_layer d n) = false
+  is_global (global_layer g) = true
+  is_global (sandboxed_layer d n saved) = false
+
+  -- what a global layer holds
+  abbrev pub assigned : Layer Reg → Names
+  assigned none_layer = empty
+  assigned (stack_layer d n) = empty
+  assigned (global_layer g) = g
+  assigned (sandboxed_layer d n saved) = empty
+
+  -- no global frame among them
+  abbrev pub Plain : List (Layer Reg) → Type 0
+  Plain [] = ⊤
+  Plain (l ∷ ls) = (is_global l ≡ false) × Plain ls
+
+  pub record GlobalAt (ls : List (Layer Reg)) (i : ℕ) : Type 0 where
+    pub before : List (Layer Reg)
+    pub names : Names
+    pub after : List (Layer Reg)
+    pub is : ls ≡ before ++ global_layer names ∷ after
+    pub place : i ≡ length before
+    pub plain : Plain after
+
+  -- the place of the last global frame, if there is one
+  abbrev pub LastGlobal : List (Layer Reg) → Option ℕ → Type 0
+  LastGlobal ls None = Plain ls
+  LastGlobal ls (Some i) = GlobalAt ls i

@@ -1,0 +1,16 @@
+pub mod Asked
+pub mod Conditions
+pub mod ConditionsGiven
+pub mod Series
+pub mod Items
+pub mod Loops
+pub mod Partials
+pub mod CallsGiven
+pub mod Counters
+pub mod Tags
+pub mod TagPlugins
+pub mod Blocks
+pub mod BlockPlugins
+pub mod Languages
+pub mod Library
+pub mod Pages

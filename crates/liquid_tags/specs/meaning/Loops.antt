@@ -1,0 +1,61 @@
+-- The turns of a loop: one for each item, and one behind the last.
+use Rattle.std.specs.Prelude.{ℕ, zero, suc, ◌+◌, ◌-◌, ◌==◌, List, drop, slice_get, codes, pos, Bool, true, false, cond, Option, None, Some, Ok}
+use Rattle.std.specs.FinMap.{empty, insert}
+use Rattle.liquid_scalar.specs.meaning.Scalar.{integer, boolean}
+use Rattle.liquid_value.specs.meaning.Tree.{Tree, scalar, object, no_members, member}
+use Rattle.liquid_runtime.specs.declared.registers.Interrupt.{Interrupt}
+use Rattle.liquid_runtime.specs.declared.registers.Interrupt.TheVariants.{Break}
+use Rattle.liquid_runtime.specs.meaning.Maps.{Names}
+use Rattle.liquid_runtime.specs.meaning.View.{View}
+use Rattle.liquid_runtime.specs.meaning.Frames.{stack_frame}
+use Rattle.liquid_plugins.specs.meaning.Turns.{TurnShape, body_turn, end_turn, Answered}
+use Rattle.liquid_tags.specs.meaning.Items.{items_left}
+use Rattle.liquid_tags.specs.declared.rounds.Rounds.{Rounds}
+use Rattle.liquid_tags.specs.declared.rounds.RoundsShape.{RoundsShape}
+use Rattle.liquid_plugins.specs.meaning.Turning.{answers}
+
+-- the shape of a loop's progress
+abbrev pub rounds_of : Rounds → RoundsShape
+rounds_of r = record { left = items_left r.left; place = r.place; size = r.size; turns = r.turns }
+
+abbrev number : ℕ → Tree
+number n = scalar (integer (pos n))
+
+-- the object `forloop` of the item at a place, where places count from 0
+abbrev pub forloop : ℕ → ℕ → Tree
+forloop place size = object (
+    member (codes "first") (scalar (boolean (place == 0))) (
+    member (codes "index") (number (place + 1)) (
+    member (codes "index0") (number place) (
+    member (codes "last") (scalar (boolean (place + 1 == size))) (
+    member (codes "length") (number size) (
+    member (codes "rindex") (number (size - place)) (
+    member (codes "rindex0") (number (size - (place + 1))) no_members)))))))
+
+-- the names of the frame of an item: `forloop` and the loop's own name, which wins
+abbrev pub names_of_item : List ℕ → Tree → Tree → Names
+names_of_item name loop t = insert (insert empty (codes "forloop") loop) name t
+
+-- the turn of the item at a place, and the end where there is none
+abbrev pub item_turn : List ℕ → ℕ → ℕ → Option Tree → TurnShape
+item_turn name place size None = end_turn
+item_turn name place size (Some t) = body_turn 0 (stack_frame (names_of_item name (forloop place size) t) None) None
+
+-- whether the body before a place has left the loop
+abbrev pub is_left : ℕ → Option Interrupt → Bool
+is_left (suc place) (Some Break) = true
+is_left place interrupt = false
+
+-- behind each body, and not before the first, no interrupt stands any more
+abbrev pub rested : {Reg : Type 0} → ℕ → View Reg → View Reg
+rested zero v = v
+rested (suc place) v = record v { interrupt = None }
+
+-- the next item is taken out
+abbrev pub behind : RoundsShape → RoundsShape
+behind r = record r { left = drop 1 r.left; place = r.place + 1 }
+
+-- what a turn tells: the next item's body, and the end where there is none or `Break` stands
+abbrev pub loop_takes : {Reg : Type 0} → List ℕ → RoundsShape → View Reg → Answered TurnShape RoundsShape Reg
+loop_takes name r v =
+    answers (Ok (cond (is_left r.place v.interrupt) end_turn (item_turn name r.place r.size (slice_get r.left 0)))) (behind r) (rested r.place v)

@@ -1,0 +1,14 @@
+pub mod Actions
+pub mod FaultText
+pub mod Grows
+pub mod Nodes
+pub mod Outcome
+pub mod Partials
+pub mod Pours
+pub mod Put
+pub mod Rendering
+pub mod Run
+pub mod Runs
+pub mod Sandboxed
+pub mod Sunk
+pub mod TemplateOf

@@ -1,0 +1,49 @@
+-- What a sandboxed rendering comes to.
+use Rattle.std.specs.Prelude.{◌≡◌, map, true, is_some, option_map, Result, unwrap_or}
+use Rattle.std.specs.FinMap.{empty}
+use Rattle.liquid_error.specs.declared.error.Error.{Error}
+use Rattle.liquid_runtime.specs.meaning.Maps.{over}
+use Rattle.liquid_runtime.specs.meaning.View.{View}
+use Rattle.liquid_runtime.specs.meaning.Emptied.{emptied}
+use Rattle.liquid_template.specs.meaning.Run.{Step, Run, Action}
+use Rattle.liquid_template.specs.meaning.Sunk.{Sunk}
+use Rattle.liquid_template.specs.meaning.Outcome.{Renders}
+
+-- there is a global frame
+abbrev pub HasGlobals : {Reg : Type 0} → View Reg → Type 0
+HasGlobals v = is_some v.globals ≡ true
+
+-- a view that comes of an emptied outside, as it is over the real one: what was taken away is given back, and the globals
+-- are the outside's overlaid by those that are left
+abbrev pub over_outside : {Reg : Type 0} → View Reg → View Reg → View Reg
+over_outside outside v = record v {
+  locals = outside.locals;
+  globals = option_map (over (unwrap_or v.globals empty)) outside.globals;
+  base = outside.base;
+  shown = outside.shown;
+  floor = outside.floor;
+  interrupt = outside.interrupt;
+  register = outside.register;
+}
+
+-- the same of a step, and of a run: the pieces, the traces and the refusal stay
+abbrev pub step_over_outside : {Reg : Type 0} → View Reg → Step Reg → Step Reg
+step_over_outside outside step = record step { at = over_outside outside step.at }
+
+abbrev pub run_over_outside : {Reg : Type 0} → View Reg → Run Reg → Run Reg
+run_over_outside outside r = record {
+  steps = map (step_over_outside outside) r.steps;
+  refusal = r.refusal;
+  view = over_outside outside r.view;
+}
+
+-- a call that renders in a sandbox: the outcome of its run over the outside, which is that of its run over the outside
+-- emptied, where the outside has globals
+pub record RendersSandboxed {Reg : Type 0} (fresh : Reg) (action : Action Reg) (outside : View Reg) (before after : Sunk) (left : View Reg) (answer : Result (Unit {0}) Error) : Type 0 where
+  pub renders : Renders (action outside) outside before after left answer
+  pub isolated : HasGlobals outside → Renders (run_over_outside outside (action (emptied fresh outside))) outside before after left answer
+
+-- interrupt and register are those that were there before
+pub record Untouched {Reg : Type 0} (before after : View Reg) : Type 0 where
+  pub interrupt : after.interrupt ≡ before.interrupt
+  pub register : after.register ≡ before.register

@@ -1,0 +1,4 @@
+pub mod Bound
+pub mod PartsOf
+pub mod PieceOut
+pub mod Sought

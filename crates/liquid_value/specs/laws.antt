@@ -1,0 +1,3 @@
+pub mod LooseLaws
+pub mod StrictLaws
+pub mod Steps

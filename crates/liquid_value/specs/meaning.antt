@@ -1,0 +1,13 @@
+pub mod Tree
+pub mod View
+pub mod Kind
+pub mod Render
+pub mod Loose
+pub mod Order
+pub mod Members
+pub mod Strict
+pub mod Parts
+pub mod Rows
+pub mod Cow
+pub mod Place
+pub mod Names

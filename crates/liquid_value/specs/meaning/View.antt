@@ -1,0 +1,41 @@
+-- The tree that a value means.
+use Rattle.std.specs.Prelude.{ℕ, List, [], ◌∷◌, map, String, string_bytes}
+use Rattle.std.specs.declared.alloc.Global.{Global}
+use Rattle.liquid_scalar.specs.meaning.Scalar.{scal}
+use Rattle.liquid_value.specs.declared.value.Value.{Value, fold-Value}
+use Rattle.liquid_value.specs.declared.value.Value.TheOpen.{Value-F}
+use Rattle.liquid_value.specs.meaning.Tree.{Tree, nil, state, scalar, array, object, Items, no_items, item, Members, no_members, member}
+
+-- the items of a list
+abbrev pub items_of : List Tree → Items
+items_of [] = no_items
+items_of (t ∷ ts) = item t (items_of ts)
+
+-- the members of a list of entries
+abbrev pub members_of : List (String Global × Tree) → Members
+members_of [] = no_members
+members_of (e ∷ es) = member (string_bytes e.0) e.1 (members_of es)
+
+-- one level of a value, with each value inside already seen as its tree
+abbrev pub view_step : Value-F Tree → Tree
+view_step (Value-F.Scalar s) = scalar (scal string_bytes s)
+view_step (Value-F.Array v) = array (items_of v.items)
+view_step (Value-F.Object m) = object (members_of m.entries)
+view_step (Value-F.State s) = state s
+view_step Value-F.Nil = nil
+
+-- the tree that a value means
+abbrev pub view : Value → Tree
+view = fold-Value Tree view_step
+
+-- the items that a list of values means
+abbrev pub items_view : List Value → Items
+items_view vs = items_of (map view vs)
+
+-- the members that a map's entries mean
+abbrev pub members_view : List (String Global × Value) → Members
+members_view es = members_of (map (λ e. (e.0, view e.1)) es)
+
+-- the name and the tree of an entry
+abbrev pub entry_view : String Global × Value → List ℕ × Tree
+entry_view e = (string_bytes e.0, view e.1)

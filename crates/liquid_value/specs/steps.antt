@@ -1,0 +1,2 @@
+pub mod Conjunction
+pub mod StrictLawProofs

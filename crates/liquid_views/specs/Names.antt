@@ -1,2 +1,0 @@
--- The names of an object's members: the definition stands with the values.
-pub use Rattle.liquid_value.specs.Names.{names}

@@ -1,2 +1,0 @@
--- The place in a list that an index names: the definition stands with the values.
-pub use Rattle.liquid_value.specs.Place.{place_at, nth, item_at}

@@ -1,0 +1,4 @@
+pub mod Outline
+pub mod Pairs
+pub mod Entries
+pub mod Trees

@@ -1,0 +1,5 @@
+pub mod Filters
+pub mod Tags
+pub mod Blocks
+pub mod BlockPlugins
+pub mod Languages

@@ -1,0 +1,127 @@
+//! Every join of up to three pieces is read and rendered.
+use bench::languages::language;
+use bench::{Blocks, Filters, Tags};
+use liquid_core::model::{Object, Value};
+use liquid_core::parser::{Language, parse};
+use liquid_core::runtime::{BuiltRuntime, RuntimeBuilder, Template};
+use liquid_core::{Error, TextSink, render_source};
+use std::alloc::{AllocError, Global};
+use std::test::Fail;
+
+type TheLanguage = Language<Filters, Tags, Blocks>;
+
+const PIECES: [&str; 12] = [
+    "a",
+    " ",
+    "{{ a }}",
+    "{{- 5 -}}",
+    "{{ \"x\" | append: 1 }}",
+    "{% box %}",
+    "{% endbox %}",
+    "{% raw %}",
+    "{% endraw %}",
+    "{% set g 1 %}",
+    "{{",
+    "{{ 4.5 }}",
+];
+
+/// A runtime in which `a` is 1.
+fn around(alloc: Global) -> Result<BuiltRuntime<(), ()>, AllocError> {
+    let mut globals = Object::new(alloc);
+    globals.insert(String::from_str(alloc, "a")?, Value::scalar(1i64))?;
+    Ok(RuntimeBuilder::new(alloc).set_globals(globals).build())
+}
+
+fn is_memory<T>(answer: &Result<T, Error>) -> bool {
+    match answer {
+        Ok(_) => false,
+        Err(error) => error.is_memory(),
+    }
+}
+
+/// What a text is rendered as when it is read first, or none where it is refused.
+fn rendered(alloc: Global, language: &TheLanguage, text: &str) -> Result<Option<String>, Fail> {
+    let read = parse(alloc, text, language);
+    if is_memory(&read) {
+        return Err(Fail::from("reading a join answers want of memory"));
+    }
+    let Ok(nodes) = read else {
+        return Ok(None);
+    };
+    let mut runtime = around(alloc)?;
+    let answer = Template::new(nodes).render(alloc, &mut runtime);
+    if is_memory(&answer) {
+        return Err(Fail::from("rendering a join answers want of memory"));
+    }
+    Ok(answer.ok())
+}
+
+/// Reads and renders a text, and does so again in one call, which has to come to the same. Answers 1.
+fn tried(alloc: Global, language: &TheLanguage, text: &str) -> Result<usize, Fail> {
+    let shown = rendered(alloc, language, text)?;
+    let mut sink = TextSink::new(alloc);
+    let mut runtime = around(alloc)?;
+    let answer = render_source(alloc, text, language, &mut runtime, &mut sink);
+    if is_memory(&answer) {
+        return Err(Fail::from("a join in one call answers want of memory"));
+    }
+    let agrees = match &shown {
+        Some(shown) => answer.is_ok() && sink.as_bytes() == shown.as_bytes(),
+        None => answer.is_err(),
+    };
+    if agrees {
+        Ok(1)
+    } else {
+        Err(Fail::from("a join in one call comes to something else"))
+    }
+}
+
+/// A text with each piece behind it, and with every two.
+fn continued(alloc: Global, language: &TheLanguage, first: &str) -> Result<usize, Fail> {
+    let mut count = tried(alloc, language, first)?;
+    for second in PIECES {
+        let two = format!(in alloc; "{first}{second}")?;
+        count = count.saturating_add(tried(alloc, language, two.as_str())?);
+        for third in PIECES {
+            let three = format!(in alloc; "{two}{third}")?;
+            count = count.saturating_add(tried(alloc, language, three.as_str())?);
+        }
+    }
+    Ok(count)
+}
+
+#[test]
+fn joins_of_three_pieces_find_memory(rt: HostRuntime) -> Result<(), Fail> {
+    let alloc = rt.alloc();
+    let language = language(alloc)?;
+    let mut count = 0usize;
+    for first in PIECES {
+        count = count.saturating_add(continued(alloc, &language, first)?);
+    }
+    assert_eq!(rt; count, 12 + 12 * 12 + 12 * 12 * 12);
+    Ok(())
+}
+
+#[test]
+fn some_joins_come_to_what_they_mean(rt: HostRuntime) -> Result<(), Fail> {
+    let alloc = rt.alloc();
+    let language = language(alloc)?;
+    let rows = [
+        ("a {{ a }}", Some("a 1")),
+        ("a {{- 5 -}}", Some("a5")),
+        ("{% box %}a{% endbox %}", Some("[a]")),
+        ("{% raw %}{{{% endraw %}", Some("{{")),
+        ("{{ \"x\" | append: 1 }}{% set g 1 %}a", Some("x1a")),
+        ("{% box %}a", None),
+        ("{{ 4.5 }}", None),
+    ];
+    for (text, wanted) in rows {
+        let is_meant = match (rendered(alloc, &language, text)?, wanted) {
+            (Some(shown), Some(wanted)) => shown.as_str() == wanted,
+            (None, None) => true,
+            _ => false,
+        };
+        assert!(rt; is_meant, "{text}");
+    }
+    Ok(())
+}

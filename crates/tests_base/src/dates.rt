@@ -1,0 +1,304 @@
+//! Tables of patterns and date texts, and each public call once.
+use liquid_dates::{Date, DateError, DateFormatError, DateTime};
+use std::alloc::Global;
+use std::process::Abort;
+use std::test::Fail;
+use tests_lines::Line;
+
+// What patterns print of a moment in November: each directive by itself.
+const PLAIN: &str = r#"["%Y", "2022"]
+["%C", "20"]
+["%y", "22"]
+["%m", "11"]
+["%B", "November"]
+["%b", "Nov"]
+["%h", "Nov"]
+["%d", "03"]
+["%e", " 3"]
+["%j", "307"]
+["%H", "07"]
+["%k", " 7"]
+["%I", "07"]
+["%l", " 7"]
+["%P", "am"]
+["%p", "AM"]
+["%M", "56"]
+["%S", "37"]
+["%L", "666"]
+["%N", "666777888"]
+["%1N", "6"]
+["%12N", "666777888000"]
+["%z", "+0600"]
+["%Z", "+06:00"]
+["%:z", "+06:00"]
+["%::z", "+06:00:00"]
+["%A", "Thursday"]
+["%a", "Thu"]
+["%u", "4"]
+["%w", "4"]
+["%G-W%V", "2022-W44"]
+["%g", "22"]
+["%U", "44"]
+["%W", "44"]
+["%s", "1667440597"]
+["%n%t%%", "\n\t%"]
+["%c", "Thu Nov  3 07:56:37 2022"]
+["%D", "11/03/22"]
+["%F", "2022-11-03"]
+["%v", " 3-NOV-2022"]
+["%T", "07:56:37"]
+["%r", "07:56:37 AM"]
+["%R", "07:56"]
+["%-6R", " 07:56"]
+["%EY and %Oy", "2022 and 22"]
+["no directive", "no directive"]"#;
+
+// Flags and widths, of a moment in January.
+const FILLED: &str = r#"["%8Y", "00002022"]
+["%_11Y", "       2022"]
+["%3C", "020"]
+["%_4C", "  20"]
+["%_-5y", "22"]
+["%7B", "January"]
+["%8B", " January"]
+["%08B", "0January"]
+["%-07h", "Jan"]
+["%^b", "JAN"]
+["%#B", "JANUARY"]
+["%#a", "MON"]
+["%3d", "003"]
+["%03e", "003"]
+["%3e", "  3"]
+["%_j", "  3"]
+["%1j", "3"]
+["%0k", "07"]
+["%04l", "0007"]
+["%4P", "  am"]
+["%^P", "AM"]
+["%#P", "AM"]
+["%#p", "am"]
+["%9M", "000000056"]
+["%_20L", "66677788800000000000"]
+["%6z", "+00600"]
+["%10z", "+000000600"]
+["%10Z", "+000006:00"]
+["%_10z", "     +600"]
+["%10a", "       Mon"]
+["%05u", "00001"]
+["%_5w", "    1"]
+["%_13g", "           22"]
+["%V %U %W", "01 01 01"]
+["%20s", "00000000001641174997"]
+["%05t", "0000\t"]
+["%10%", "         %"]
+["%30c", "      Mon Jan  3 07:56:37 2022"]
+["%^c", "MON JAN  3 07:56:37 2022"]
+["%012F", "002022-01-03"]
+["%012v", "0 3-JAN-2022"]
+["%3x", "01/03/22"]
+["%11T", "   07:56:37"]
+["%010X", "0007:56:37"]
+["%12r", " 07:56:37 AM"]"#;
+
+// A year before 0, and what stands for nothing.
+const NEGATIVE: &str = r#"["%Y", "-0020"]
+["%_Y", "  -20"]
+["%4Y", "-020"]
+["%_4Y", " -20"]
+["%-Y", "-20"]
+["%C", "00"]
+["%y", "-20"]
+["%F", "-020-06-13"]
+["%D", "06/13/-20"]
+["%1z", "-0725"]
+["%6z", "-00725"]
+["%10Z", "-000007:25"]
+["%10::z", "-007:25:00"]
+["%_z", "-725"]
+["%I %l %p", "05  5 PM"]
+["%:b", "%:b"]
+["%:", "%:"]
+["%:::z", "%:::z"]
+["%-_::xX%Y", "%-_::xX-0020"]
+["%_0-^#^q", "%_0-^#^q"]
+["%é", "%é"]
+["%Eé", "%Eé"]"#;
+
+const REFUSED: &str = r#"["%9", "no format specifier following '%'"]
+["%010", "no format specifier following '%'"]
+["X%", "no format specifier following '%'"]
+["%-", "no format specifier following '%'"]
+["%18446744073709551616", "no format specifier following '%'"]
+["%E", "no format specifier following '%' with a format modifier"]
+["%9E", "no format specifier following '%' with a format modifier"]
+["%18446744073709551616d", "failed to parse padding width: number too large to fit in target type"]
+["%18446744073709551616E", "failed to parse padding width: number too large to fit in target type"]"#;
+
+// Fractions and offsets that keep their zeros, of a moment in November 2007.
+const ZEROS: &str = r#"["%L", "005"]
+["%_z", "-030"]
+["%G-W%V-%u", "2007-W47-1"]"#;
+
+// Texts, and the nanoseconds from 1970 on and the offset of the date time that each is.
+const DATE_TIMES: &str = r#"["2016-02-16 10:00:00 +0100", 1455613200000000000, 3600]
+["2016-02-16 10:00:00.0 +0100", 1455613200000000000, 3600]
+["16 February 2016 10:00:00 +0100", 1455613200000000000, 3600]
+["16 Feb 2016 10:00:00 +0100", 1455613200000000000, 3600]
+["02/16/2016 10:00:00 +0100", 1455613200000000000, 3600]
+["Tue Feb 16 10:00:00 2016 +0100", 1455613200000000000, 3600]
+["2016-02-16 09:00:00", 1455613200000000000, 0]
+["2016-02-16 10:00:00", 1455616800000000000, 0]
+["16 Feb 2016 09:00:00", 1455613200000000000, 0]
+["Tue Feb 16 09:00:00 2016", 1455613200000000000, 0]
+["1455613200", 1455613200000000000, 0]
+["-1455616800", -1455616800000000000, 0]
+["2016-02-16 02:15:00 -0645", 1455613200000000000, -24300]
+["2016-02-16 09:00:00.5", 1455613200500000000, 0]
+[" Now ", 1667440597666777888, 21600]
+["TODAY", 1667440597666777888, 21600]"#;
+
+const NO_DATE_TIME: &str = r#"[""]
+["aaaaa"]
+["2016-02-30 10:00:00"]
+["2016-02-16 24:00:00"]
+["2016-02-16 10:00:00 +2600"]
+["2016-02-16 10:00:00.1234567890"]
+["2016-02-16"]
+["99999999999999999"]"#;
+
+fn november() -> Result<DateTime, DateError> {
+    DateTime::from_parts(Date::from_ymd(2022, 11, 3)?, 7, 56, 37, 666_777_888, 21600)
+}
+
+/// Asserts what each pattern prints of the date time.
+fn prints(rt: &impl Abort, alloc: Global, date_time: DateTime, rows: &str) -> Result<(), Fail> {
+    for line in rows.lines() {
+        let row = Line::of(alloc, line)?;
+        let printed = date_time.format(alloc, row.text(0)?)?;
+        assert_eq!(rt; printed.as_str(), row.text(1)?, "of {line}");
+    }
+    Ok(())
+}
+
+#[test]
+fn patterns_are_printed(rt: HostRuntime) -> Result<(), Fail> {
+    let alloc = rt.alloc();
+    prints(&rt, alloc, november()?, PLAIN)?;
+    let january = Date::from_ymd(2022, 1, 3)?;
+    let filled = DateTime::from_parts(january, 7, 56, 37, 666_777_888, 21600)?;
+    prints(&rt, alloc, filled, FILLED)?;
+    let june = Date::from_ymd(-20, 6, 13)?;
+    let negative = DateTime::from_parts(june, 17, 56, 37, 666_777_888, -26700)?;
+    prints(&rt, alloc, negative, NEGATIVE)?;
+    let monday = Date::from_ymd(2007, 11, 19)?;
+    let zeros = DateTime::from_parts(monday, 8, 37, 48, 5_000_000, -1800)?;
+    prints(&rt, alloc, zeros, ZEROS)
+}
+
+#[test]
+fn patterns_are_refused(rt: HostRuntime) -> Result<(), Fail> {
+    let alloc = rt.alloc();
+    let date_time = november()?;
+    for line in REFUSED.lines() {
+        let row = Line::of(alloc, line)?;
+        let error = date_time
+            .format(alloc, row.text(0)?)
+            .err()
+            .ok_or("an error")?;
+        assert_eq!(rt; error.to_string(alloc)?.as_str(), row.text(1)?, "of {line}");
+    }
+    let great = date_time.format(alloc, "%18446744073709551615d");
+    assert_eq!(rt; great.err(), Some(DateFormatError::Memory));
+    Ok(())
+}
+
+#[test]
+fn date_times_are_read(rt: HostRuntime) -> Result<(), Fail> {
+    let alloc = rt.alloc();
+    for line in DATE_TIMES.lines() {
+        let row = Line::of(alloc, line)?;
+        let read = DateTime::from_str(row.text(0)?, november()?).ok_or("no date time")?;
+        assert_eq!(rt; read.instant(), i128::from(row.number(1)?), "of {line}");
+        assert_eq!(rt; i64::from(read.offset()), row.number(2)?, "of {line}");
+    }
+    for line in NO_DATE_TIME.lines() {
+        let row = Line::of(alloc, line)?;
+        let read = DateTime::from_str(row.text(0)?, november()?);
+        assert!(rt; read.is_none(), "of {line}");
+    }
+    Ok(())
+}
+
+#[test]
+fn dates_are_read(rt: HostRuntime) -> Result<(), Fail> {
+    let moment = november()?;
+    let march = Date::from_ymd(2022, 3, 1)?;
+    for text in ["01 Mar 2022", "01 March 2022", "2022-03-01"] {
+        assert_eq!(rt; Date::from_str(text, moment), Some(march));
+    }
+    assert_eq!(rt; Date::from_str("today", moment), Some(moment.date()));
+    assert_eq!(rt;
+        Date::from_str("-0020-06-13", moment),
+        Some(Date::from_ymd(-20, 6, 13)?)
+    );
+    for text in ["", "Today", "1 Mar 2022", "2022-02-29", "2022-03-01 "] {
+        assert!(rt; Date::from_str(text, moment).is_none());
+    }
+    Ok(())
+}
+
+#[test]
+fn date_times_are_printed(rt: HostRuntime) -> Result<(), Fail> {
+    let moment = november()?;
+    assert_eq!(rt;
+        moment.to_string(rt.alloc())?.as_str(),
+        "2022-11-03 07:56:37.666777888 +0600"
+    );
+    assert_eq!(rt; moment.date().to_string(rt.alloc())?.as_str(), "2022-11-03");
+    let early = DateTime::from_ymd(-20, 6, 13)?.with_offset(-1830)?;
+    assert_eq!(rt;
+        early.to_string(rt.alloc())?.as_str(),
+        "-0020-06-12 23:29:30 -0030"
+    );
+    let mail = DateTime::from_str("2016-02-16 10:00:00 +0100", moment).ok_or("no date time")?;
+    assert_eq!(rt;
+        mail.to_rfc2822(rt.alloc())?.as_str(),
+        "Tue, 16 Feb 2016 10:00:00 +0100"
+    );
+    assert_eq!(rt;
+        early.to_rfc2822(rt.alloc()).err(),
+        Some(DateError::NoRfc2822Form)
+    );
+    Ok(())
+}
+
+#[test]
+fn parts_and_changes(rt: HostRuntime) -> Result<(), Fail> {
+    let moment = november()?;
+    assert_eq!(rt; moment.year(), 2022);
+    assert_eq!(rt; (moment.month(), moment.day()), (11, 3));
+    assert_eq!(rt;
+        (moment.hour(), moment.minute(), moment.second()),
+        (7, 56, 37)
+    );
+    assert_eq!(rt; moment.nanosecond(), 666_777_888);
+    assert_eq!(rt; moment.ordinal(), 307);
+    assert_eq!(rt; moment.iso_week(), 44);
+    let new_year = Date::from_ymd(2021, 1, 3)?;
+    assert_eq!(rt; new_year.iso_week(), 53);
+    assert_eq!(rt; moment.with_date(new_year).date(), new_year);
+    assert_eq!(rt; moment.with_offset(0)?, moment);
+    assert_eq!(rt;
+        moment.with_offset(93_600).err(),
+        Some(DateError::PartOutOfRange)
+    );
+    assert_eq!(rt; DateTime::now(0)?, DateTime::default());
+    let last = DateTime::from_ymd(9999, 12, 31)?.with_offset(86_400);
+    assert_eq!(rt; last.err(), Some(DateError::OutsideYears));
+    assert_eq!(rt;
+        Date::from_ymd(2022, 2, 29).err(),
+        Some(DateError::PartOutOfRange)
+    );
+    assert!(rt; Date::from_ymd(-1, 12, 31)? < Date::from_ymd(0, 1, 1)?);
+    Ok(())
+}

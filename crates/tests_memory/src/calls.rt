@@ -1,0 +1,17 @@
+//! Calls of values, dates, paths, JSON, errors, registries, expressions, runtimes and scopes.
+//!
+//! After want of memory what was to change is as before, but for what an `extend` took, and the next call gives its
+//! answer.
+mod answers;
+mod dates;
+mod errors;
+mod given;
+mod json;
+mod paths;
+mod plugins;
+mod runtimes;
+mod scopes;
+mod trials;
+mod values;
+
+pub use trials::tried;

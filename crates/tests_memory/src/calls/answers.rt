@@ -1,0 +1,132 @@
+use crate::problem::Problem;
+use bench::filters::AnyFilter;
+use bench::{Blocks, Filters, Tags};
+use liquid_core::error::{Cause, CloneableError};
+use liquid_core::model::{Path, Value, ValueCow, ValueSource};
+use liquid_core::parser::{FilterChain, Language, PluginRegistry};
+use liquid_core::runtime::{Expression, Variable};
+use liquid_core::{DateError, DateFormatError, Error};
+use serde_json::Value as Json;
+use std::alloc::{AllocError, AllocFailed, Global};
+use std::borrow::CowStr;
+use std::collections::BTreeSet;
+
+/// What a call answers.
+#[derive(Drop)]
+pub enum Answer<'g> {
+    /// Want of memory.
+    Memory,
+    /// Nothing more than that the call did what it does.
+    Done,
+    /// Nothing is there.
+    Nothing,
+    Truth(bool),
+    Refused(Error),
+    Text(String),
+    Shown(CowStr<'g>),
+    Value(Value),
+    Found(ValueCow<'g>),
+    Path(Path<'g>),
+    Names(BTreeSet<String>),
+    Listed(Vec<&'g str>),
+    Json(Json),
+    Cause(Cause),
+    Kept(CloneableError),
+    Expression(Expression),
+    Variable(Variable),
+    Chain(FilterChain<AnyFilter>),
+    Registry(PluginRegistry<Filters>),
+    Language(Language<Filters, Tags, Blocks>),
+}
+
+impl<'g> From<Error> for Answer<'g> {
+    fn from(error: Error) -> Answer<'g> {
+        match error {
+            Error::Memory => Answer::Memory,
+            error => Answer::Refused(error),
+        }
+    }
+}
+
+impl<'g> From<AllocError> for Answer<'g> {
+    fn from(_: AllocError) -> Answer<'g> {
+        Answer::Memory
+    }
+}
+
+impl<'g, T: Drop> From<AllocFailed<T>> for Answer<'g> {
+    fn from(failed: AllocFailed<T>) -> Answer<'g> {
+        drop(failed);
+        Answer::Memory
+    }
+}
+
+impl<'g> From<DateError> for Answer<'g> {
+    fn from(error: DateError) -> Answer<'g> {
+        match error {
+            DateError::Memory => Answer::Memory,
+            _ => Answer::Nothing,
+        }
+    }
+}
+
+impl<'g> From<DateFormatError> for Answer<'g> {
+    fn from(error: DateFormatError) -> Answer<'g> {
+        match error {
+            DateFormatError::Memory => Answer::Memory,
+            _ => Answer::Nothing,
+        }
+    }
+}
+
+/// An answer on either side: the calls of a group use `?` on what they are answered.
+pub type Answered<'g> = Result<Answer<'g>, Answer<'g>>;
+
+fn listed(alloc: Global, names: &Vec<&str>) -> Result<String, AllocError> {
+    names.join(alloc, " ")
+}
+
+fn joined(alloc: Global, names: &BTreeSet<String>) -> Result<String, AllocError> {
+    let mut all = String::new(alloc);
+    for name in names {
+        all.push_str(name.as_str())?;
+        all.push_str(" ")?;
+    }
+    Ok(all)
+}
+
+fn registered(alloc: Global, registry: &PluginRegistry<Filters>) -> Result<String, AllocError> {
+    let mut all = String::new(alloc);
+    for name in registry.plugin_names() {
+        all.push_str(name)?;
+        all.push_str(" ")?;
+    }
+    Ok(all)
+}
+
+/// The answer's text, or none for want of memory.
+pub fn shown(alloc: Global, answer: Answer<'_>) -> Result<Option<String>, Problem> {
+    let text = match answer {
+        Answer::Memory => return Ok(None),
+        Answer::Done => String::from_str(alloc, "done")?,
+        Answer::Nothing => String::from_str(alloc, "nothing")?,
+        Answer::Truth(truth) => format!(in alloc; "{truth}")?,
+        Answer::Refused(error) => error.to_string(alloc)?,
+        Answer::Text(text) => text,
+        Answer::Shown(text) => String::from_str(alloc, text.as_str())?,
+        Answer::Value(value) => ValueSource::new(&value).to_string(alloc)?,
+        Answer::Found(value) => ValueSource::new(value.as_view()).to_string(alloc)?,
+        Answer::Path(path) => path.to_string(alloc)?,
+        Answer::Names(names) => joined(alloc, &names)?,
+        Answer::Listed(names) => listed(alloc, &names)?,
+        Answer::Json(json) => json.to_string(alloc)?,
+        Answer::Cause(cause) => cause.to_string(alloc)?,
+        Answer::Kept(kept) => kept.to_string(alloc)?,
+        Answer::Expression(expression) => expression.to_string(alloc)?,
+        Answer::Variable(variable) => variable.to_string(alloc)?,
+        Answer::Chain(chain) => chain.to_string(alloc)?,
+        Answer::Registry(registry) => registered(alloc, &registry)?,
+        Answer::Language(language) => registered(alloc, &language.filters)?,
+    };
+    Ok(Some(text))
+}

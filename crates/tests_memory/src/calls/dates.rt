@@ -1,0 +1,21 @@
+use crate::calls::answers::{Answer, Answered};
+use crate::calls::given::Given;
+use liquid_core::model::DateTime;
+use std::alloc::Global;
+
+/// What each call of dates answers.
+pub fn wanted(word: &str) -> &'static str {
+    match word {
+        "format" => "2016-047, Tuesday",
+        "rfc_2822" => "Tue, 16 Feb 2016 00:00:00 +0000",
+        _ => "",
+    }
+}
+
+/// Makes a call of dates.
+pub fn call<'g>(alloc: Global, word: &str, given: &'g mut Given) -> Answered<'g> {
+    match word {
+        "format" => Ok(Answer::Text(DateTime::format(&given.moment, alloc, "%Y-%j, %A")?)),
+        _ => Ok(Answer::Text(DateTime::to_rfc2822(given.moment, alloc)?)),
+    }
+}

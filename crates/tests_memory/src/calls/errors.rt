@@ -1,0 +1,78 @@
+use crate::calls::answers::{Answer, Answered};
+use crate::calls::given::Given;
+use liquid_core::error::{
+    Cause, CloneableError, Error, FnKey, Key, Place, Report, Result, ResultLiquidChainExt,
+    ResultLiquidExt, ResultLiquidReplaceExt,
+};
+use std::alloc::Global;
+
+/// What each call of errors answers.
+pub fn wanted(word: &str) -> &'static str {
+    match word {
+        "with_msg" => "liquid: m\n",
+        "with_text" => "liquid: n\n",
+        "at_place" => "liquid: m (line 1, column 2)\n",
+        "trace" | "trace_result" => "liquid: a\nfrom: t\n",
+        "context" | "key" | "made_key" => "liquid: a\n  with:\n    k=v\n",
+        "cause" | "or_place" | "clone" | "clone_report" | "clone_cause" => "liquid: a\n",
+        "clone_kept" | "kept" => "liquid: a\n\n",
+        "chain" | "lossy_chain" | "replace" => "liquid: b\n",
+        _ => "",
+    }
+}
+
+fn cloned_report<'g>(error: Error) -> Answered<'g> {
+    match error {
+        Error::Liquid(report, _) => {
+            Ok(Answer::Refused(Error::Liquid(Report::clone(&report)?, None)))
+        }
+        Error::Memory => Ok(Answer::Memory),
+    }
+}
+
+/// The calls of Results that are refused.
+fn of_results<'g>(alloc: Global, word: &str, error: Error) -> Answered<'g> {
+    let failed: Result<()> = Err(error);
+    match word {
+        "trace_result" => ResultLiquidExt::trace(failed, alloc, "t")?,
+        "key" => Key::value(ResultLiquidExt::context_key(failed, "k"), alloc, "v")?,
+        "made_key" => {
+            let made = || String::from_str(alloc, "k");
+            FnKey::value(ResultLiquidExt::context_key_with(failed, made), alloc, "v")?
+        }
+        "chain" => ResultLiquidChainExt::chain(failed, alloc, "b")?,
+        "lossy_chain" => ResultLiquidReplaceExt::lossy_chain(failed, alloc, "b")?,
+        _ => ResultLiquidReplaceExt::replace(failed, alloc, "b")?,
+    }
+    Ok(Answer::Done)
+}
+
+/// Makes a call of errors.
+pub fn call<'g>(alloc: Global, word: &str, given: &'g mut Given) -> Answered<'g> {
+    let error = std::mem::replace(&mut given.error, Error::Memory);
+    let place = Place { line: 1, column: 2 };
+    match word {
+        "with_msg" => Ok(Answer::from(Error::with_msg(alloc, "m"))),
+        "with_text" => {
+            let text = std::mem::replace(&mut given.text, String::new(alloc));
+            Ok(Answer::from(Error::with_text(alloc, text)))
+        }
+        "at_place" => Ok(Answer::from(Error::at_place(alloc, "m", place))),
+        "trace" => Ok(Answer::from(Error::trace(error, alloc, "t"))),
+        "context" => Ok(Answer::from(Error::context(error, alloc, "k", "v"))),
+        "cause" => {
+            let cause = std::mem::replace(
+                &mut given.cause,
+                Cause::Error(Box::new(alloc, Error::Memory)?),
+            );
+            Ok(Answer::from(Error::cause(error, cause)))
+        }
+        "or_place" => Ok(Answer::from(Error::or_place(error, place))),
+        "clone" => Ok(Answer::from(Error::clone(&error)?)),
+        "clone_report" => cloned_report(error),
+        "clone_cause" => Ok(Answer::Cause(Cause::clone(&given.cause)?)),
+        "clone_kept" => Ok(Answer::Kept(CloneableError::clone(&given.kept)?)),
+        "kept" => Ok(Answer::Kept(CloneableError::new(alloc, error)?)),
+        _ => of_results(alloc, word, error),
+    }
+}

@@ -1,0 +1,33 @@
+use crate::calls::answers::{Answer, Answered};
+use crate::calls::given::Given;
+use liquid_core::model::{
+    Value, from_value, into_object, into_value, to_object, to_scalar, to_value,
+};
+use serde_json::Value as Json;
+use std::alloc::Global;
+
+/// What each call of JSON answers.
+pub fn wanted(word: &str) -> &'static str {
+    match word {
+        "to_value" | "to_object" | "into_value" | "into_object" => "{\"a\": b1two, \"i\": b, }",
+        "to_scalar" => "\"b\"",
+        "from_value" => "[1,\"two\",{\"k\":\"v\"}]",
+        _ => "",
+    }
+}
+
+/// Makes a call of JSON.
+pub fn call<'g>(alloc: Global, word: &str, given: &'g mut Given) -> Answered<'g> {
+    let json = std::mem::replace(&mut given.json, Json::Null);
+    match word {
+        "to_value" => Ok(Answer::Value(to_value(alloc, &json)?)),
+        "to_object" => Ok(Answer::Value(Value::Object(to_object(alloc, &json)?))),
+        "into_value" => Ok(Answer::Value(into_value(alloc, json)?)),
+        "into_object" => Ok(Answer::Value(Value::Object(into_object(alloc, json)?))),
+        "to_scalar" => match json.get("i") {
+            Some(member) => Ok(Answer::Value(Value::Scalar(to_scalar(alloc, member)?))),
+            None => Ok(Answer::Nothing),
+        },
+        _ => Ok(Answer::Json(from_value(alloc, &given.value)?)),
+    }
+}

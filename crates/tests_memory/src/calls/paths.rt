@@ -1,0 +1,50 @@
+use crate::calls::answers::{Answer, Answered};
+use crate::calls::given::Given;
+use liquid_core::model::{Path, ScalarCow, find, find_behind, step, try_find};
+use std::alloc::Global;
+
+/// What each call of paths answers.
+pub fn wanted(word: &str) -> &'static str {
+    match word {
+        "with_index" => "a",
+        "push" | "reserve" | "extend" => "done",
+        "clone" => "a.b",
+        "step" | "try_find" => "3",
+        "find" =>
+            "liquid: Unknown index\n  with:\n    variable=2\n    requested index=x\n    available indexes=k\n",
+        "find_behind" =>
+            "liquid: Unknown index\n  with:\n    variable=l\n    requested index=x\n    available indexes=0..2, first, last\n",
+        _ => "",
+    }
+}
+
+/// Makes a call of paths.
+pub fn call<'g>(alloc: Global, word: &str, given: &'g mut Given) -> Answered<'g> {
+    let size = ScalarCow::from("size");
+    let x = ScalarCow::from("x");
+    let found = match word {
+        "with_index" => return Ok(Answer::Path(Path::with_index(alloc, "a")?)),
+        "push" => {
+            Path::push(&mut given.path, "c")?;
+            return Ok(Answer::Done);
+        }
+        "reserve" => {
+            Path::reserve(&mut given.path, 100)?;
+            return Ok(Answer::Done);
+        }
+        "extend" => {
+            let indexes = std::mem::replace(&mut given.indexes, Vec::new(alloc));
+            Path::extend(&mut given.path, indexes)?;
+            return Ok(Answer::Done);
+        }
+        "clone" => return Ok(Answer::Path(Path::clone(&given.path)?)),
+        "step" => step(alloc, &given.value, &size)?,
+        "try_find" => try_find(alloc, &given.value, &[size])?,
+        "find" => Some(find(alloc, &given.value, &[ScalarCow::from(2i64), x])?),
+        _ => Some(find_behind(alloc, 1, &given.value, &[ScalarCow::from("l"), x])?),
+    };
+    match found {
+        Some(value) => Ok(Answer::Found(value)),
+        None => Ok(Answer::Nothing),
+    }
+}

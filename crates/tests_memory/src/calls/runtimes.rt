@@ -1,0 +1,57 @@
+use crate::calls::answers::{Answer, Answered};
+use crate::calls::given::Given;
+use liquid_core::model::{ScalarCow, Value};
+use liquid_core::runtime::Runtime;
+use std::alloc::Global;
+
+/// What each call of a built runtime answers.
+pub fn wanted(word: &str) -> &'static str {
+    match word {
+        "get" | "try_get" => "1",
+        "get_refused" => "liquid: Unknown variable\n  with:\n    requested variable=none\n",
+        "roots" => "a i ",
+        "set_global" | "set_index" => "nothing",
+        _ => "",
+    }
+}
+
+/// The calls that look up a name.
+fn of_lookups<'g>(alloc: Global, word: &str, given: &'g Given) -> Answered<'g> {
+    let path = [ScalarCow::from("a"), ScalarCow::from("size")];
+    let found = match word {
+        "get" => Some(Runtime::get(&given.runtime, alloc, &path)?),
+        "get_refused" => Some(Runtime::get(&given.runtime, alloc, &[ScalarCow::from("none")])?),
+        _ => Runtime::try_get(&given.runtime, alloc, &path)?,
+    };
+    match found {
+        Some(value) => Ok(Answer::Found(value)),
+        None => Ok(Answer::Nothing),
+    }
+}
+
+/// The old value of a name that was set.
+fn old<'g>(value: Option<Value>) -> Answer<'g> {
+    match value {
+        Some(value) => Answer::Value(value),
+        None => Answer::Nothing,
+    }
+}
+
+/// The calls that set a name.
+fn of_sets<'g>(alloc: Global, word: &str, given: &'g mut Given) -> Answered<'g> {
+    let name = std::mem::replace(&mut given.text, String::new(alloc));
+    let value = std::mem::replace(&mut given.member, Value::Nil);
+    match word {
+        "set_global" => Ok(old(Runtime::set_global(&mut given.runtime, name, value)?)),
+        _ => Ok(old(Runtime::set_index(&mut given.runtime, name, value)?)),
+    }
+}
+
+/// Makes a call of a built runtime.
+pub fn call<'g>(alloc: Global, word: &str, given: &'g mut Given) -> Answered<'g> {
+    match word {
+        "roots" => Ok(Answer::Names(Runtime::roots(&given.runtime, alloc)?)),
+        "get" | "get_refused" | "try_get" => of_lookups(alloc, word, given),
+        _ => of_sets(alloc, word, given),
+    }
+}

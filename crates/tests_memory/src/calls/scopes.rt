@@ -1,0 +1,176 @@
+ghost use Rattle.std.specs.Prelude.{◌≡◌};
+
+use crate::calls::given::{Built, object, runtime, text};
+use crate::growths::{MOST, Seen, Told, taken};
+use crate::problem::Problem;
+use bench::forms::{Chained, Flat};
+use liquid_core::model::{ScalarCow, Value};
+use liquid_core::runtime::{FlatScopes, Frame, Looks, Runtime, Scopes};
+use liquid_core::{Error, ValueCow};
+use std::alloc::{AllocError, Global};
+use std::collections::BTreeSet;
+
+/// What an answer is that is of use where a condition holds, and want of memory where another does.
+fn told<T: Drop>(answer: Result<T, Error>, is_made: bool, stands: bool) -> Told {
+    match answer {
+        Ok(_) => Told::Whole.only_if(is_made),
+        Err(Error::Memory) => Told::Memory.only_if(stands),
+        Err(_) => Told::Other,
+    }
+}
+
+/// A frame of names, of which `own` is one.
+fn frame(alloc: Global) -> Result<Frame, Problem> {
+    let mut names = object(alloc)?;
+    names.insert(text(alloc, "own")?, Value::scalar(1i64))?;
+    Ok(Frame::Stack(names, None))
+}
+
+/// Begins a frame, and ends it again.
+fn pushed<S: Scopes>(scopes: &mut S, frame: Frame) -> Told
+    ensures kept { S.restores scopes.new ≡ S.restores scopes.old }
+{
+    match scopes.push(frame) {
+        Ok(()) => {
+            let is_begun = scopes.frames() == 1 && scopes.try_get_name("own").is_some();
+            scopes.pop();
+            Told::Whole.only_if(is_begun)
+        }
+        Err(error) => {
+            let stands = scopes.frames() == 0 && scopes.try_get_name("own").is_none();
+            told::<()>(Err(error), false, stands)
+        }
+    }
+}
+
+/// Begins a frame behind so many boxes, and then another.
+fn push<S>(alloc: Global, base: S::Base, boxes: usize) -> Result<Seen, Problem>
+where
+    S: Scopes<Register = (), Store = ()>,
+    S::Base: Drop,
+{
+    let (one, other) = (frame(alloc)?, frame(alloc)?);
+    let mut scopes = S::new(alloc, base);
+    let before = taken(alloc, boxes);
+    let first = pushed(&mut scopes, one);
+    let after = taken(alloc, MOST);
+    let next = pushed(&mut scopes, other);
+    let _base = scopes.into_base();
+    Ok(Seen {
+        before,
+        after,
+        first,
+        next,
+    })
+}
+
+/// Sets `n` where it has no value yet.
+fn set<S: Scopes>(scopes: &mut S, word: &str, name: String) -> Told
+    ensures kept { S.restores scopes.new ≡ S.restores scopes.old }
+{
+    let value = Value::scalar(2i64);
+    let answer = match word {
+        "global" => scopes.set_global(name, value),
+        _ => scopes.set_index(name, value),
+    };
+    let is_set = scopes.get_index("n").is_some() || scopes.try_get_name("n").is_some();
+    told(answer, is_set, !is_set)
+}
+
+/// Sets a name behind so many boxes, and then once more.
+fn sets<S>(alloc: Global, base: S::Base, word: &str, boxes: usize) -> Result<Seen, Problem>
+where
+    S: Scopes<Register = (), Store = ()>,
+    S::Base: Drop,
+{
+    let (one, other) = (text(alloc, "n")?, text(alloc, "n")?);
+    let mut scopes = S::new(alloc, base);
+    let before = taken(alloc, boxes);
+    let first = set(&mut scopes, word, one);
+    let after = taken(alloc, MOST);
+    let next = set(&mut scopes, word, other);
+    let _base = scopes.into_base();
+    Ok(Seen {
+        before,
+        after,
+        first,
+        next,
+    })
+}
+
+/// What the names are that are seen over the globals.
+fn roots_told(roots: Result<BTreeSet<String>, AllocError>) -> Told {
+    match roots {
+        Ok(names) => {
+            Told::Whole.only_if(names.len() == 2 && names.contains("a") && names.contains("i"))
+        }
+        Err(_) => Told::Memory,
+    }
+}
+
+/// Asks for the names behind so many boxes, and then once more.
+fn roots<S>(alloc: Global, base: S::Base, boxes: usize) -> Result<Seen, Problem>
+where
+    S: Scopes<Register = (), Store = ()>,
+    S::Base: Drop,
+{
+    let scopes = S::new(alloc, base);
+    let before = taken(alloc, boxes);
+    let answer = scopes.roots(alloc);
+    let after = taken(alloc, MOST);
+    let first = roots_told(answer);
+    let next = roots_told(scopes.roots(alloc));
+    let _base = scopes.into_base();
+    Ok(Seen {
+        before,
+        after,
+        first,
+        next,
+    })
+}
+
+/// What the size of the only member of `a` is.
+fn size_told(found: Result<Option<ValueCow<'_>>, AllocError>) -> Told {
+    match found {
+        Ok(Some(value)) => Told::Whole.only_if(*value.as_view() == Value::scalar(1i64)),
+        Ok(None) => Told::Other,
+        Err(_) => Told::Memory,
+    }
+}
+
+/// Looks up a path in flat scopes behind so many boxes, and then once more.
+fn seek(alloc: Global, base: Built, boxes: usize) -> Result<Seen, Problem> {
+    let path = [ScalarCow::from("a"), ScalarCow::from("size")];
+    let mut looks = Looks::new();
+    let scopes: Flat<()> = FlatScopes::new(alloc, base);
+    let before = taken(alloc, boxes);
+    let found = scopes.seek(alloc, &path, &mut looks);
+    let after = taken(alloc, MOST);
+    let first = size_told(found);
+    let mut looks = Looks::new();
+    let next = size_told(scopes.seek(alloc, &path, &mut looks));
+    let _base = scopes.into_base();
+    Ok(Seen {
+        before,
+        after,
+        first,
+        next,
+    })
+}
+
+/// Makes a call of scopes behind so many boxes, and then once more.
+pub fn tried(alloc: Global, word: &str, boxes: usize) -> Result<Seen, Problem> {
+    let base = runtime(alloc)?;
+    match word {
+        "chained_push" => push::<Chained<()>>(alloc, base, boxes),
+        "flat_push" => push::<Flat<()>>(alloc, base, boxes),
+        "chained_set_global" => sets::<Chained<()>>(alloc, base, "global", boxes),
+        "chained_set_index" => sets::<Chained<()>>(alloc, base, "index", boxes),
+        "flat_set_global" => sets::<Flat<()>>(alloc, base, "global", boxes),
+        "flat_set_index" => sets::<Flat<()>>(alloc, base, "index", boxes),
+        "chained_roots" => roots::<Chained<()>>(alloc, base, boxes),
+        "flat_roots" => roots::<Flat<()>>(alloc, base, boxes),
+        "flat_seek" => seek(alloc, base, boxes),
+        _ => Err(Problem::Case),
+    }
+}

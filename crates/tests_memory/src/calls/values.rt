@@ -1,0 +1,89 @@
+use crate::calls::answers::{Answer, Answered};
+use crate::calls::given::Given;
+use liquid_core::model::{Object, Scalar, ScalarCow, Value, ValueCow, array_of, object_of};
+use liquid_core::{ObjectView, ValueView};
+use std::alloc::Global;
+
+/// What each call of values answers.
+pub fn wanted(word: &str) -> &'static str {
+    match word {
+        "clone" | "into_owned" | "to_value" => "[1, two, kv, ]",
+        "cow_clone" | "scalar_clone" => "\"m\"",
+        "array" => "[5, 6, 7, 8, 9, 10, 11, ]",
+        "to_kstr" => "1twokv",
+        "scalar_into_owned" => "\"seven\"",
+        "scalar_to_kstr" | "into_string" | "into_cow_str" => "7",
+        "insert" | "object_extend" | "array_push" | "array_extend" => "done",
+        "array_of" => "[a, b, ]",
+        "object_of" => "{\"k\": 1, }",
+        "lookup" => "{\"b\": 1two, }",
+        "keys" => "a i",
+        _ => "",
+    }
+}
+
+/// The calls of scalars.
+fn of_scalars<'g>(alloc: Global, word: &str, member: Value) -> Answered<'g> {
+    let number = ScalarCow::from(7i64);
+    match word {
+        "scalar_clone" => match member {
+            Value::Scalar(scalar) => Ok(Answer::Value(Value::Scalar(Scalar::clone(&scalar)?))),
+            _ => Ok(Answer::Nothing),
+        },
+        "scalar_into_owned" => {
+            let owned = ScalarCow::into_owned(ScalarCow::from("seven"), alloc)?;
+            Ok(Answer::Value(Value::Scalar(owned)))
+        }
+        "scalar_to_kstr" => {
+            let text = ScalarCow::to_kstr(&number, alloc)?;
+            Ok(Answer::Text(String::from_str(alloc, text.as_str())?))
+        }
+        "into_string" => Ok(Answer::Text(ScalarCow::into_string(number, alloc)?)),
+        "into_cow_str" => Ok(Answer::Shown(ScalarCow::into_cow_str(number, alloc)?)),
+        _ => Ok(Answer::Nothing),
+    }
+}
+
+/// The calls that put a member into an array or an object.
+fn of_growing<'g>(alloc: Global, word: &str, given: &'g mut Given, member: Value) -> Answered<'g> {
+    let name = std::mem::replace(&mut given.text, String::new(alloc));
+    let pairs = std::mem::replace(&mut given.pairs, Vec::new(alloc));
+    let items = std::mem::replace(&mut given.items, Vec::new(alloc));
+    match (word, given.value.as_array_mut()) {
+        ("insert", _) => {
+            let _old = Object::insert(&mut given.object, name, member)?;
+        }
+        ("object_extend", _) => given.object.extend(pairs)?,
+        ("array_push", Some(array)) => array.push(member)?,
+        ("array_extend", Some(array)) => array.extend(items)?,
+        _ => return Ok(Answer::Nothing),
+    }
+    Ok(Answer::Done)
+}
+
+/// Makes a call of values.
+pub fn call<'g>(alloc: Global, word: &str, given: &'g mut Given) -> Answered<'g> {
+    let member = std::mem::replace(&mut given.member, Value::Nil);
+    match word {
+        "clone" => Ok(Answer::Value(Value::clone(&given.value)?)),
+        "into_owned" => Ok(Answer::Value(ValueCow::into_owned(ValueCow::Borrowed(&given.value))?)),
+        "to_value" => Ok(Answer::Value(ValueView::to_value(&given.value, alloc)?)),
+        "cow_clone" => Ok(Answer::Found(ValueCow::clone(&ValueCow::Owned(member))?)),
+        "array" => {
+            let items = std::mem::replace(&mut given.items, Vec::new(alloc));
+            Ok(Answer::Value(Value::array(alloc, items.into_iter())?))
+        }
+        "to_kstr" => Ok(Answer::Shown(Value::to_kstr(&given.value, alloc)?)),
+        "array_of" => Ok(Answer::Value(Value::Array(array_of(alloc, &["a", "b"])?))),
+        "object_of" => Ok(Answer::Value(Value::Object(object_of(alloc, &[("k", 1i64)])?))),
+        "lookup" => match ObjectView::lookup(&given.object, alloc, "a")? {
+            Some(value) => Ok(Answer::Found(value)),
+            None => Ok(Answer::Nothing),
+        },
+        "keys" => Ok(Answer::Listed(ObjectView::keys(&given.object, alloc)?)),
+        "insert" | "object_extend" | "array_push" | "array_extend" => {
+            of_growing(alloc, word, given, member)
+        }
+        _ => of_scalars(alloc, word, member),
+    }
+}

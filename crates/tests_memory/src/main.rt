@@ -1,0 +1,71 @@
+//! The command `tests_memory`, which makes one call and tells what it came to, so that each growth of the call can be
+//! refused in turn.
+//!
+//! Each argument and each line of standard input is a case: the name of a row or a group of calls, a call, and how
+//! many boxes are taken and dropped between the set-up and the call. Where one growth of the process is refused, the
+//! boxes decide which growth of the call that is. The answer tells whether the refusal came before the call, in it or
+//! behind it.
+#![tactic(auto)]
+
+mod calls;
+mod growths;
+mod problem;
+mod rows;
+
+use growths::Seen;
+use problem::Problem;
+use std::alloc::Global;
+use std::env;
+use std::process::ExitCode;
+
+/// The groups of calls; every other name is a row's.
+const GROUPS: [&str; 8] = [
+    "dates", "errors", "json", "paths", "plugins", "runtimes", "scopes", "values",
+];
+
+/// What a case comes to.
+fn tried(alloc: Global, case: &str) -> Result<Seen, Problem> {
+    let Some((name, rest)) = case.split_once(' ') else {
+        return Err(Problem::Case);
+    };
+    let Some((word, number)) = rest.split_once(' ') else {
+        return Err(Problem::Case);
+    };
+    let Ok(boxes) = number.parse::<usize>() else {
+        return Err(Problem::Case);
+    };
+    if GROUPS.contains(&name) {
+        calls::tried(alloc, name, word, boxes)
+    } else {
+        rows::tried(alloc, name, word, boxes)
+    }
+}
+
+/// Makes the call of a case, and writes what it came to.
+fn tell(rt: &HostRuntime, case: &str) -> Result<(), Problem> {
+    match tried(rt.alloc(), case) {
+        Ok(seen) => rt.print(format_args!("{case}: {seen}\n"))?,
+        Err(problem) => rt.print(format_args!("{case}: {problem}\n"))?,
+    }
+    Ok(())
+}
+
+fn serve(rt: &HostRuntime) -> Result<(), Problem> {
+    for case in env::args(rt)?.skip(1) {
+        tell(rt, case.as_str())?;
+    }
+    for line in rt.lines(rt.alloc()) {
+        tell(rt, line?.as_str())?;
+    }
+    Ok(())
+}
+
+fn main(rt: HostRuntime) -> ExitCode {
+    match serve(&rt) {
+        Ok(()) => ExitCode::SUCCESS,
+        Err(problem) => {
+            let _ = rt.eprint(format_args!("tests_memory: {problem}\n"));
+            ExitCode::FAILURE
+        }
+    }
+}

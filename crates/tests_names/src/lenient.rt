@@ -1,0 +1,319 @@
+//! What paths lead to under frames, in a strict runtime and in a lenient one, over both forms of scopes.
+ghost use Rattle.std.specs.Prelude.{◌≡◌};
+
+use crate::framed::{Base, Body};
+use crate::made;
+use crate::paths::path_of;
+use crate::values::{answer_text, numbers, text};
+use liquid_error::Error;
+use liquid_json::to_object;
+use liquid_paths::find;
+use liquid_runtime::{Frame, Runtime, RuntimeBuilder, Scopes};
+use liquid_scalar::ScalarCow;
+use liquid_scopes::{ChainedScopes, FlatScopes};
+use liquid_value::Value;
+use liquid_views::ValueView;
+use serde_json::Value as Json;
+use std::alloc::{AllocError, Global};
+use std::test::Fail;
+use tests_lines::Line;
+
+/// Frames over a runtime that gives `base` the number 5, a name that is set to 4 under them, if there
+/// is one, a path, and what `get` answers of it in a strict runtime: a value's text or that of the
+/// refusal.
+const ROWS: &str = r#"[[], "", ["base"], "5"]
+[[], "", ["base", "x"], "liquid: Unknown index\n  with:\n    variable=base\n    requested index=x\n    available indexes=\n"]
+[[], "", ["x"], "liquid: Unknown variable\n  with:\n    requested variable=x\n"]
+[[], "", ["x", "y"], "liquid: Unknown variable\n  with:\n    requested variable=x\n"]
+[[], "", [7], "liquid: Unknown variable\n  with:\n    requested variable=7\n"]
+[[], "", [], "liquid: Unknown variable\n  with:\n    requested variable=nil\n"]
+[[], "g", ["g"], "4"]
+[[["none"]], "", ["base"], "5"]
+[[["none"]], "", ["x"], "liquid: Unknown variable\n  with:\n    requested variable=x\n"]
+[[["none"]], "", [], "liquid: Unknown variable\n  with:\n    requested variable=nil\n"]
+[[["stack", {"a": [1, 2]}]], "", ["a", "size"], "2"]
+[[["stack", {"a": [1, 2]}]], "", ["a", 1], "2"]
+[[["stack", {"a": [1, 2]}]], "", ["a", 2], "liquid: Unknown index\n  with:\n    variable=a\n    requested index=2\n    available indexes=0..1, first, last\n"]
+[[["stack", {"a": null}]], "", ["a"], ""]
+[[["stack", {"a": null}]], "", ["a", "x"], "liquid: Unknown index\n  with:\n    variable=a\n    requested index=x\n    available indexes=\n"]
+[[["stack", {"a": {"c": 1, "d": 2}}]], "", ["a", "b"], "liquid: Unknown index\n  with:\n    variable=a\n    requested index=b\n    available indexes=c, d\n"]
+[[["stack", {"a": {"c": {"e": 1}}}]], "", ["a", "c", "f"], "liquid: Unknown index\n  with:\n    variable=a.c\n    requested index=f\n    available indexes=e\n"]
+[[["stack", {"a": 1}]], "", ["base"], "5"]
+[[["stack", {"a": 1}]], "", ["x"], "liquid: Unknown variable\n  with:\n    requested variable=x\n"]
+[[["stack", {"a": 1}]], "", [], "liquid: Unknown variable\n  with:\n    requested variable=nil\n"]
+[[["global"]], "g", ["g"], "4"]
+[[["global"]], "g", ["g", "x"], "liquid: Unknown index\n  with:\n    variable=g\n    requested index=x\n    available indexes=\n"]
+[[["global"]], "", ["g"], "liquid: Unknown variable\n  with:\n    requested variable=g\n"]
+[[["global"]], "", [], "liquid: Unknown variable\n  with:\n    requested variable=nil\n"]
+[[["stack", {"test": 3}]], "test", ["test"], "3"]
+[[["global"], ["stack", {"test": 3}]], "test", ["test"], "3"]
+[[["sandboxed", {"b": 2}]], "", ["b"], "2"]
+[[["sandboxed", {"b": 2}]], "", ["b", "x"], "liquid: Unknown variable\n  with:\n    requested variable=b\n"]
+[[["sandboxed", {"b": 2}]], "", ["base"], "liquid: Unknown variable\n  with:\n    requested variable=base\n"]
+[[["sandboxed", {"b": 2}]], "", ["base", "size"], "liquid: Unknown variable\n  with:\n    requested variable=base\n"]
+[[["sandboxed", {"b": 2}]], "", [], "liquid: Unknown variable\n  with:\n    requested variable=nil\n"]
+[[["sandboxed", {"b": 2}]], "b", ["b"], "2"]
+[[["sandboxed", {"b": 2}]], "g", ["g"], "liquid: Unknown variable\n  with:\n    requested variable=g\n"]
+[[["stack", {"a": 1}], ["sandboxed", {"b": 2}], ["stack", {"c": 1}]], "", ["a"], "liquid: Unknown variable\n  with:\n    requested variable=a\n"]
+[[["stack", {"a": 1}], ["sandboxed", {"b": 2}], ["stack", {"c": 1}]], "", ["b"], "2"]
+[[["stack", {"a": 1}], ["sandboxed", {"b": 2}], ["stack", {"c": 1}]], "", ["c"], "1"]
+[[["stack", {"a": 1}], ["sandboxed", {"b": 2}], ["stack", {"c": 1}]], "", ["b", "x"], "liquid: Unknown variable\n  with:\n    requested variable=b\n"]
+[[["stack", {"a": 1}], ["sandboxed", {"b": 2}], ["stack", {"c": 1}]], "", ["c", "x"], "liquid: Unknown index\n  with:\n    variable=c\n    requested index=x\n    available indexes=\n"]
+[[["sandboxed", {"b": 2}], ["stack", {"b": 3}]], "", ["b", "x"], "liquid: Unknown index\n  with:\n    variable=b\n    requested index=x\n    available indexes=\n"]
+[[["stack", {"b": 3}], ["sandboxed", {"b": 2}], ["none"]], "", ["b", "x"], "liquid: Unknown variable\n  with:\n    requested variable=b\n"]
+[[["sandboxed", {"b": 2}], ["global"]], "b", ["b"], "4"]
+[[["sandboxed", {"b": 2}], ["global"]], "b", ["b", "x"], "liquid: Unknown index\n  with:\n    variable=b\n    requested index=x\n    available indexes=\n"]
+[[["sandboxed", {"b": 2}], ["global"], ["stack", {"c": 1}]], "", ["b", "x"], "liquid: Unknown variable\n  with:\n    requested variable=b\n"]
+[[["sandboxed", {"b": 2}], ["sandboxed", {}]], "", ["b"], "liquid: Unknown variable\n  with:\n    requested variable=b\n"]"#;
+
+/// Frames over the same runtime, a name that is set under them, if there is one, and the names seen.
+const NAMES: &str = r#"[[], "", ["base"]]
+[[["none"]], "g", ["base", "g"]]
+[[["stack", {"a": 1}]], "", ["a", "base"]]
+[[["global"]], "g", ["base", "g"]]
+[[["sandboxed", {"b": 2}]], "g", ["b"]]
+[[["sandboxed", {"b": 2}], ["global"], ["stack", {"c": 1}]], "g", ["b", "c", "g"]]"#;
+
+/// A frame, as a row tells it.
+fn frame_of(alloc: Global, told: &Json) -> Result<Frame, Error> {
+    match (told.get(0).and_then(Json::as_str), told.get(1)) {
+        (Some("none"), _) => Ok(Frame::None),
+        (Some("global"), _) => Ok(Frame::Global),
+        (Some("stack"), Some(names)) => Ok(Frame::Stack(to_object(alloc, names)?, None)),
+        (Some("sandboxed"), Some(names)) => Ok(Frame::Sandboxed(to_object(alloc, names)?, None)),
+        _ => Err(Error::with_msg(alloc, "a row tells no frame")),
+    }
+}
+
+/// Runs a body under these frames, the outermost first.
+#[tactic(auto, using(crate::proofs::Pushed::pushed))]
+fn under<S: Scopes, B: Body>(
+    alloc: Global,
+    scopes: &mut S,
+    frames: &[Json],
+    body: &B,
+    log: &mut String,
+) -> Result<(), Error>
+    ensures { S.restores scopes.new ≡ S.restores scopes.old }
+{
+    match frames.split_first() {
+        None => body.run(alloc, scopes, log),
+        Some((first, rest)) => {
+            scopes.push(frame_of(alloc, first)?)?;
+            let answer = under(alloc, scopes, rest, body, log);
+            scopes.pop();
+            answer
+        }
+    }
+}
+
+/// Runs a body under these frames over scopes of one form, and answers what it wrote down.
+fn run_under<S: Scopes, B: Body>(
+    alloc: Global,
+    base: S::Base,
+    frames: &[Json],
+    body: &B,
+    log: &mut String,
+) -> Result<(), Error>
+where
+    S::Base: Drop,
+{
+    let mut scopes = S::new(alloc, base);
+    let answer = under(alloc, &mut scopes, frames, body, log);
+    let _base = scopes.into_base();
+    answer
+}
+
+/// Sets a name to 4, unless it is empty.
+fn set<S: Scopes>(alloc: Global, scopes: &mut S, name: &str) -> Result<(), Error>
+    ensures { S.restores scopes.new ≡ S.restores scopes.old }
+{
+    if name.is_empty() {
+        return Ok(());
+    }
+    made::set_global(scopes, text(alloc, name)?, Value::scalar(4i64))?;
+    Ok(())
+}
+
+/// Asks for a path, and writes it down where the answer is another than is told.
+#[derive(Drop)]
+struct Asks<'r> {
+    set: &'r str,
+    path: &'r [ScalarCow<'r>],
+    strict: &'r str,
+}
+
+impl Body for Asks<'_> {
+    fn run<S: Scopes>(&self, alloc: Global, scopes: &mut S, log: &mut String) -> Result<(), Error> {
+        set(alloc, scopes, self.set)?;
+        note_other(alloc, scopes, self, log)
+    }
+}
+
+/// Writes down what is asked for, where the answer is another than is told.
+fn note_other<S: Scopes>(
+    alloc: Global,
+    scopes: &S,
+    asks: &Asks<'_>,
+    log: &mut String,
+) -> Result<(), Error> {
+    let answer = if is_refused(asks) && scopes.is_lenient() {
+        is_nil(alloc, scopes, asks)?
+    } else {
+        is_told(alloc, scopes, asks)?
+    };
+    if !answer || !is_tried_alike(alloc, scopes, asks)? {
+        log.push_str(asks.strict)?;
+    }
+    Ok(())
+}
+
+/// Whether a strict runtime refuses the path.
+fn is_refused(asks: &Asks<'_>) -> bool {
+    asks.strict.starts_with("liquid: Unknown ")
+}
+
+/// Whether the path is answered by nil.
+fn is_nil<S: Scopes>(alloc: Global, scopes: &S, asks: &Asks<'_>) -> Result<bool, AllocError> {
+    match made::get(alloc, scopes, asks.path) {
+        Ok(value) => Ok(value.is_nil()),
+        Err(_) => Ok(false),
+    }
+}
+
+/// Whether the path is answered as in a strict runtime.
+fn is_told<S: Scopes>(alloc: Global, scopes: &S, asks: &Asks<'_>) -> Result<bool, AllocError> {
+    Ok(answer_text(alloc, made::get(alloc, scopes, asks.path))?.as_str() == asks.strict)
+}
+
+/// Whether trying the path comes to a value where a strict runtime finds one, and finding the rest of
+/// it behind the name's value does too.
+fn is_tried_alike<S: Scopes>(
+    alloc: Global,
+    scopes: &S,
+    asks: &Asks<'_>,
+) -> Result<bool, AllocError> {
+    let is_tried = made::try_get(alloc, scopes, asks.path)?.is_some();
+    Ok(is_tried != is_refused(asks) && is_tried == is_found(alloc, scopes, asks.path)?)
+}
+
+/// Whether the path's name has a value, in which the rest of the path is found.
+fn is_found<S: Scopes>(
+    alloc: Global,
+    scopes: &S,
+    path: &[ScalarCow<'_>],
+) -> Result<bool, AllocError> {
+    match path.split_first() {
+        None => Ok(false),
+        Some((first, rest)) => {
+            let name = first.to_kstr(alloc)?;
+            match scopes.try_get_name(name.as_str()) {
+                Some(value) => Ok(find(alloc, value, rest).is_ok()),
+                None => Ok(false),
+            }
+        }
+    }
+}
+
+/// Lists the names seen, and writes down that they are others than are told.
+#[derive(Drop)]
+struct Lists<'r> {
+    set: &'r str,
+    names: &'r [Json],
+}
+
+impl Body for Lists<'_> {
+    fn run<S: Scopes>(&self, alloc: Global, scopes: &mut S, log: &mut String) -> Result<(), Error> {
+        set(alloc, scopes, self.set)?;
+        note_others(alloc, scopes, self.names, log)
+    }
+}
+
+/// Writes down that the names seen are others than these.
+fn note_others<S: Scopes>(
+    alloc: Global,
+    scopes: &S,
+    names: &[Json],
+    log: &mut String,
+) -> Result<(), Error> {
+    let roots = scopes.roots(alloc)?;
+    let mut is_same = roots.len() == names.len();
+    for name in names {
+        is_same = is_same && name.as_str().is_some_and(|name| roots.contains(name));
+    }
+    if !is_same {
+        log.push_str("other names")?;
+    }
+    Ok(())
+}
+
+/// A runtime whose globals give `base` the number 5.
+fn based(alloc: Global, lenient: bool) -> Result<Base, AllocError> {
+    Ok(
+        RuntimeBuilder::new(alloc)
+            .set_globals(numbers(alloc, &[("base", 5)])?)
+            .set_lenient(lenient)
+            .build(),
+    )
+}
+
+/// What a body writes down under these frames, over scopes of both forms.
+fn noted<B: Body>(
+    alloc: Global,
+    lenient: bool,
+    frames: &[Json],
+    body: &B,
+) -> Result<String, Error> {
+    let mut log = String::new(alloc);
+    let base = based(alloc, lenient)?;
+    run_under::<ChainedScopes<Base>, B>(alloc, base, frames, body, &mut log)?;
+    let base = based(alloc, lenient)?;
+    run_under::<FlatScopes<Base>, B>(alloc, base, frames, body, &mut log)?;
+    Ok(log)
+}
+
+/// What is written down of a row of paths.
+fn asked(alloc: Global, lenient: bool, row: &Line) -> Result<String, Fail> {
+    let path = path_of(alloc, row.list(2)?)?;
+    let asks = Asks {
+        set: row.text(1)?,
+        path: path.as_slice(),
+        strict: row.text(3)?,
+    };
+    Ok(noted(alloc, lenient, row.list(0)?.as_slice(), &asks)?)
+}
+
+/// What is written down of a row of names.
+fn listed(alloc: Global, lenient: bool, row: &Line) -> Result<String, Fail> {
+    let lists = Lists {
+        set: row.text(1)?,
+        names: row.list(2)?.as_slice(),
+    };
+    Ok(noted(alloc, lenient, row.list(0)?.as_slice(), &lists)?)
+}
+
+#[test]
+fn a_path_without_a_value_is_nil_in_a_lenient_runtime(rt: HostRuntime) -> Result<(), Fail> {
+    let alloc = rt.alloc();
+    for line in ROWS.lines() {
+        let row = Line::of(alloc, line)?;
+        assert_eq!(rt; asked(alloc, false, &row)?.as_str(), "", "{line}");
+        assert_eq!(rt; asked(alloc, true, &row)?.as_str(), "", "{line}, leniently");
+    }
+    Ok(())
+}
+
+#[test]
+fn a_lenient_runtime_has_the_same_names(rt: HostRuntime) -> Result<(), Fail> {
+    let alloc = rt.alloc();
+    for line in NAMES.lines() {
+        let row = Line::of(alloc, line)?;
+        assert_eq!(rt; listed(alloc, false, &row)?.as_str(), "", "{line}");
+        assert_eq!(rt;
+            listed(alloc, true, &row)?.as_str(),
+            "",
+            "{line}, leniently"
+        );
+    }
+    Ok(())
+}

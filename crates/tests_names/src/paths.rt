@@ -1,0 +1,202 @@
+//! Paths into values.
+use crate::values::answer_text;
+use liquid_json::to_value;
+use liquid_paths::{Path, find, find_behind, try_find};
+use liquid_scalar::ScalarCow;
+use liquid_value::Value;
+use liquid_views::ArrayView;
+use serde_json::Value as Json;
+use std::alloc::{AllocError, Global};
+use std::test::Fail;
+use tests_lines::Line;
+
+/// The values that paths lead into.
+const VALUES: &str =
+    r#"{"list": [0, 1, 4, 9, 16, 25, 36, 49, 64, 81], "empty": [], "word": "häuser", "box": {"size": 7, "part": 5}, "plain": {"d": 2, "c": 1}}"#;
+
+/// Paths, and what each leads to: a value's text or that of the refusal.
+const PATHS: &str = r#"[["list", 2], "4"]
+[["list", "2"], "4"]
+[["list", -1], "81"]
+[["list", -10], "0"]
+[["list", "first"], "0"]
+[["list", "last"], "81"]
+[["list", "size"], "10"]
+[["list", "size", "size"], "2"]
+[["word", "size"], "7"]
+[["box", "size"], "7"]
+[["plain", "size"], "2"]
+[["plain", "d"], "2"]
+[["size"], "5"]
+[["list", -11], "liquid: Unknown index\n  with:\n    variable=list\n    requested index=-11\n    available indexes=0..9, first, last\n"]
+[["list", 10, "x"], "liquid: Unknown index\n  with:\n    variable=list\n    requested index=10\n    available indexes=0..9, first, last\n"]
+[["empty", "first"], "liquid: Unknown index\n  with:\n    variable=empty\n    requested index=first\n    available indexes=first, last\n"]
+[["plain", "b", "x"], "liquid: Unknown index\n  with:\n    variable=plain\n    requested index=b\n    available indexes=c, d\n"]
+[["plain", "c", "x"], "liquid: Unknown index\n  with:\n    variable=plain.c\n    requested index=x\n    available indexes=\n"]
+[["list", 3, "size", "first"], "liquid: Unknown index\n  with:\n    variable=list.3.size\n    requested index=first\n    available indexes=\n"]
+[["x", "y"], "liquid: Unknown index\n  with:\n    requested index=x\n    available indexes=box, empty, list, plain, word\n"]
+[["word", "first"], "liquid: Unknown index\n  with:\n    variable=word\n    requested index=first\n    available indexes=\n"]
+[["plain", "c", "size"], "1"]"#;
+
+/// An index of a path.
+fn index_of(member: &Json) -> Result<ScalarCow<'_>, Fail> {
+    match (member.as_str(), member.as_i64()) {
+        (Some(word), _) => Ok(ScalarCow::from(word)),
+        (None, Some(place)) => Ok(ScalarCow::from(place)),
+        (None, None) => Err(Fail::from("an index is no text and no whole number")),
+    }
+}
+
+/// The path of these indexes.
+pub(crate) fn path_of(alloc: Global, indexes: &Vec<Json>) -> Result<Vec<ScalarCow<'_>>, Fail> {
+    let mut path = Vec::new(alloc);
+    for member in indexes {
+        path.push(index_of(member)?)?;
+    }
+    Ok(path)
+}
+
+/// Whether a path leads to the answer, which is a value's text or that of the refusal.
+fn leads_to(
+    alloc: Global,
+    value: &Value,
+    path: &[ScalarCow<'_>],
+    answer: &str,
+) -> Result<bool, AllocError> {
+    Ok(answer_text(alloc, find(alloc, value, path))?.as_str() == answer)
+}
+
+/// Whether trying a path comes to a value where finding it does.
+fn is_tried_alike(
+    alloc: Global,
+    value: &Value,
+    path: &[ScalarCow<'_>],
+) -> Result<bool, AllocError> {
+    let is_tried = try_find(alloc, value, path)?.is_some();
+    Ok(is_tried == find(alloc, value, path).is_ok())
+}
+
+/// Whether the path of a row leads to what the row tells, tried or not.
+fn row_holds(alloc: Global, value: &Value, line: &str) -> Result<bool, Fail> {
+    let row = Line::of(alloc, line)?;
+    let path = path_of(alloc, row.list(0)?)?;
+    Ok(
+        leads_to(alloc, value, path.as_slice(), row.text(1)?)?
+            && is_tried_alike(alloc, value, path.as_slice())?,
+    )
+}
+
+/// Values, a path into each, and the text of its refusal.
+const REFUSED: &str =
+    r#"[{"a": 1}, ["x", "y"], "liquid: Unknown index\n  with:\n    requested index=x\n    available indexes=a\n"]
+[{"a": {"c": 1, "d": 2}}, ["a", "b"], "liquid: Unknown index\n  with:\n    variable=a\n    requested index=b\n    available indexes=c, d\n"]"#;
+
+/// Whether the rest of a path behind its first indexes is answered by a text.
+fn leads_on_to(
+    alloc: Global,
+    front: usize,
+    value: &Value,
+    path: &[ScalarCow<'_>],
+    answer: &str,
+) -> Result<bool, AllocError> {
+    Ok(answer_text(alloc, find_behind(alloc, front, value, path))?.as_str() == answer)
+}
+
+#[test]
+fn a_walk_may_begin_behind_a_path(rt: HostRuntime) -> Result<(), Fail> {
+    let alloc = rt.alloc();
+    let value = to_value(alloc, &Json::from_str(alloc, r#"{"c": 1, "d": 2}"#)?)?;
+    let known = [ScalarCow::from("a"), ScalarCow::from("d")];
+    assert!(rt; leads_on_to(alloc, 1, &value, &known, "2")?);
+    assert!(rt; leads_on_to(alloc, 2, &value, &known, "c1d2")?);
+    let unknown = [ScalarCow::from("a"), ScalarCow::from("b")];
+    let refusal =
+        "liquid: Unknown index\n  with:\n    variable=a\n    requested index=b\n    available indexes=c, d\n";
+    assert!(rt; leads_on_to(alloc, 1, &value, &unknown, refusal)?);
+    Ok(())
+}
+
+/// Whether the path of a row is refused as the row tells, tried or not.
+fn refusal_holds(alloc: Global, line: &str) -> Result<bool, Fail> {
+    let row = Line::of(alloc, line)?;
+    let value = to_value(alloc, row.member(0)?)?;
+    let path = path_of(alloc, row.list(1)?)?;
+    Ok(
+        leads_to(alloc, &value, path.as_slice(), row.text(2)?)?
+            && is_tried_alike(alloc, &value, path.as_slice())?,
+    )
+}
+
+#[test]
+fn paths_are_refused(rt: HostRuntime) -> Result<(), Fail> {
+    let alloc = rt.alloc();
+    for line in REFUSED.lines() {
+        assert!(rt; refusal_holds(alloc, line)?, "{line}");
+    }
+    Ok(())
+}
+
+#[test]
+fn paths_lead_to_values(rt: HostRuntime) -> Result<(), Fail> {
+    let alloc = rt.alloc();
+    let value = to_value(alloc, &Json::from_str(alloc, VALUES)?)?;
+    for line in PATHS.lines() {
+        assert!(rt; row_holds(alloc, &value, line)?, "{line}");
+    }
+    Ok(())
+}
+
+/// A list of the squares below a hundred.
+fn squares(alloc: Global) -> Result<Vec<Value>, AllocError> {
+    let mut list = Vec::new(alloc);
+    for square in [0i64, 1, 4, 9, 16, 25, 36, 49, 64, 81] {
+        list.push(Value::scalar(square))?;
+    }
+    Ok(list)
+}
+
+#[test]
+fn a_list_has_as_many_places_from_its_end(rt: HostRuntime) -> Result<(), Fail> {
+    let alloc = rt.alloc();
+    let list = squares(alloc)?;
+    assert!(rt; !list.contains_key(-11) && list.contains_key(-10));
+    Ok(())
+}
+
+/// The index `name`.
+fn name_index(alloc: Global) -> Result<Vec<ScalarCow<'static>>, AllocError> {
+    let mut indexes = Vec::new(alloc);
+    indexes.push(ScalarCow::from("name"))?;
+    Ok(indexes)
+}
+
+/// The path `user.-3.name`.
+fn user_path(alloc: Global) -> Result<Path<'static>, AllocError> {
+    let mut path = Path::with_index(alloc, "user")?;
+    path.reserve(2)?;
+    path.push(-3i64)?;
+    path.extend(name_index(alloc)?)?;
+    Ok(path)
+}
+
+/// Whether a path shows as a text.
+fn path_shows(alloc: Global, path: &Path<'_>, text: &str) -> Result<bool, AllocError> {
+    Ok(path.to_string(alloc)?.as_str() == text)
+}
+
+/// Whether a copy equals its path, until an index more is put behind the path.
+fn is_copied(path: &mut Path<'static>) -> Result<bool, AllocError> {
+    let copy = path.clone()?;
+    let is_equal = copy == *path;
+    path.push("x")?;
+    Ok(is_equal && copy != *path)
+}
+
+#[test]
+fn a_path_is_a_list_of_indexes(rt: HostRuntime) -> Result<(), Fail> {
+    let alloc = rt.alloc();
+    let mut path = user_path(alloc)?;
+    assert!(rt; path_shows(alloc, &path, "user.-3.name")? && path.iter().len() == 3);
+    assert!(rt; is_copied(&mut path)? && path.as_slice().len() == 4);
+    Ok(())
+}

@@ -1,0 +1,124 @@
+//! Attempts to read a token, and refusals of one and of a cursor.
+use crate::tokens::{first_token, tokens_of};
+use crate::told::told;
+use bench::{Filters, language};
+use liquid_core::Error;
+use liquid_core::parser::{PluginRegistry, TryMatchToken};
+use std::alloc::Global;
+use std::test::Fail;
+use tests_lines::Line;
+
+/// What the first token of a tag shows as a chain, or its text again where it is none.
+fn chain_or_text(
+    alloc: Global,
+    text: &str,
+    filters: &PluginRegistry<Filters>,
+) -> Result<String, Error> {
+    let token = first_token(alloc, text)?;
+    Ok(match token.expect_filter_chain(alloc, filters)? {
+        TryMatchToken::Matches(chain) => chain.to_string(alloc)?,
+        TryMatchToken::Fails(token) => format!(in alloc; "no chain: {}", token.as_str())?,
+    })
+}
+
+/// A tag, and what its first token shows as a chain, or the token where it is none.
+const CHAINS: &str = r#"["{% t a %}", "a | "]
+["{% t a.b[0] | append: 'c' | append: x %}", "a[\"b\"][0] | append | append"]
+["{% t 1 | append %}", "no chain: 1 | append"]
+["{% t 'a' | nope: 1 %}", "no chain: 'a' | nope: 1"]
+["{% t (a..b) %}", "no chain: (a..b)"]
+["{% t == %}", "no chain: =="]"#;
+
+#[test]
+fn chains_of_filters_are_tried(rt: HostRuntime) -> Result<(), Fail> {
+    let alloc = rt.alloc();
+    let language = language(alloc)?;
+    for line in CHAINS.lines() {
+        let row = Line::of(alloc, line)?;
+        let shown = chain_or_text(alloc, row.text(0)?, &language.filters)?;
+        assert_eq!(rt; shown.as_str(), row.text(1)?, "{line}");
+    }
+    Ok(())
+}
+
+/// What a tag's first token is as a name, or the first line of its refusal.
+fn name_or_refusal(alloc: Global, text: &str) -> Result<String, Error> {
+    let attempt = first_token(alloc, text)?.expect_identifier();
+    Ok(match attempt.into_result(alloc) {
+        Ok(name) => String::from_str(alloc, name)?,
+        Err(error) => told(alloc, &error)?,
+    })
+}
+
+/// The same with a message of the plug-in's own.
+fn name_or_message(alloc: Global, text: &str) -> Result<String, Error> {
+    let attempt = first_token(alloc, text)?.expect_identifier();
+    Ok(
+        match attempt.into_result_custom_msg(alloc, "A name, please") {
+            Ok(name) => String::from_str(alloc, name)?,
+            Err(error) => told(alloc, &error)?,
+        },
+    )
+}
+
+/// The first line of a refusal of a tag's first token.
+fn refused_token(alloc: Global, text: &str) -> Result<String, Error> {
+    let error = first_token(alloc, text)?.raise_custom_error(alloc, "No token at all");
+    Ok(told(alloc, &error)?)
+}
+
+/// The first line of a refusal of a tag's tokens behind the first.
+fn refused_behind(alloc: Global, text: &str) -> Result<String, Error> {
+    let mut tokens = tokens_of(alloc, text)?;
+    let _ = tokens.next();
+    Ok(told(alloc, &tokens.raise_error(alloc, "Nothing more"))?)
+}
+
+/// `nothing`, or the first line of the refusal of the token that is there.
+fn nothing_or_refusal(alloc: Global, text: &str) -> Result<String, Error> {
+    Ok(match tokens_of(alloc, text)?.expect_nothing(alloc) {
+        Ok(()) => String::from_str(alloc, "nothing")?,
+        Err(error) => told(alloc, &error)?,
+    })
+}
+
+/// Whether the attempts come to what a row tells.
+fn holds(alloc: Global, row: &Line) -> Result<bool, Fail> {
+    let text = row.text(0)?;
+    Ok(
+        name_or_refusal(alloc, text)?.as_str() == row.text(1)?
+            && name_or_message(alloc, text)?.as_str() == row.text(2)?
+            && refused_token(alloc, text)?.as_str() == row.text(3)?
+            && refused_behind(alloc, text)?.as_str() == row.text(4)?,
+    )
+}
+
+/// A tag; its first token as a name, and the same with a message; refusals of the token, and behind it.
+const ATTEMPTS: &str =
+    r#"["{% t a %}", "a", "a", "liquid: No token at all (line 1, column 6)", "liquid: Nothing more (line 1, column 7)"]
+["{% t\n a.b c %}", "liquid: Unexpected token (line 2, column 2)", "liquid: A name, please (line 2, column 2)", "liquid: No token at all (line 2, column 2)", "liquid: Nothing more (line 2, column 5)"]"#;
+
+#[test]
+fn a_token_that_does_not_match_is_refused(rt: HostRuntime) -> Result<(), Fail> {
+    let alloc = rt.alloc();
+    for line in ATTEMPTS.lines() {
+        assert!(rt; holds(alloc, &Line::of(alloc, line)?)?, "{line}");
+    }
+    Ok(())
+}
+
+/// A tag, and what is told where it should have no token.
+const NOTHING: &str = r#"["{% t %}", "nothing"]
+["{%-t-%} ", "nothing"]
+["{% t  a == %}", "liquid: Unexpected token (line 1, column 7)"]"#;
+
+#[test]
+fn a_token_is_refused_where_none_is_expected(rt: HostRuntime) -> Result<(), Fail> {
+    let alloc = rt.alloc();
+    for line in NOTHING.lines() {
+        let row = Line::of(alloc, line)?;
+        let answer = nothing_or_refusal(alloc, row.text(0)?)?;
+        assert_eq!(rt; answer.as_str(), row.text(1)?, "{line}");
+    }
+    Ok(())
+}

@@ -1,0 +1,134 @@
+//! Bodies of blocks, with the elements that are handed out, and escaped bodies.
+use crate::told::told;
+use liquid_core::parser::{BlockElement, TagBlock};
+use std::alloc::{AllocError, Global};
+use std::test::Fail;
+use tests_lines::Line;
+
+/// The kind of an element and its text.
+fn shown(alloc: Global, element: BlockElement<'_>) -> Result<String, AllocError> {
+    let (kind, text) = match element {
+        BlockElement::Raw(raw) => ("raw", raw.as_str()),
+        BlockElement::Tag(tag) => (tag.name(), tag.as_str()),
+        BlockElement::Expression(exp) => ("expression", exp.as_str()),
+        BlockElement::Invalid(token) => ("invalid", token.as_str()),
+    };
+    let same = if text == element.as_str() { "" } else { "!" };
+    format!(in alloc; "{kind} `{text}`{same}")
+}
+
+/// What is handed out of a body up to its end, and what is refused, joined by ` / `.
+fn handed_out(alloc: Global, body: &str) -> Result<String, AllocError> {
+    let mut block = TagBlock::new(body, "start", "end");
+    let mut texts = Vec::new(alloc);
+    for _ in 0..body.len() {
+        match block.next(alloc) {
+            Ok(Some(element)) => texts.push(shown(alloc, element)?)?,
+            Ok(None) => {
+                let state = if block.is_closed() { "closed" } else { "open" };
+                texts.push(String::from_str(alloc, state)?)?;
+                block.assert_empty();
+                return texts.join(alloc, " / ");
+            }
+            Err(error) => texts.push(told(alloc, &error)?)?,
+        }
+    }
+    texts.join(alloc, " / ")
+}
+
+/// Whether a text tells what is handed out of a body.
+fn hands_out(alloc: Global, body: &str, handed: &str) -> Result<bool, AllocError> {
+    Ok(handed_out(alloc, body)?.as_str() == handed)
+}
+
+/// A body, and what is handed out of it.
+const HANDED_OUT: &str = r#"["{% end %}a", "closed"]
+["a {{ b }}{% t 1 %}{{% end %}c", "raw `a ` / expression `{{ b }}` / t `{% t 1 %}` / invalid `{` / closed"]
+["a {%- end -%} \n", "raw `a` / closed"]
+["{% start %}{% end %}", "start `{% start %}` / closed"]
+["{% end 1 %}x{% end %}", "liquid: Unexpected token (line 1, column 8) / raw `x` / closed"]
+["é{{ 4.5 }}\n{{- 9223372036854775808 }}{% t 1.5 %}{% end %}", "raw `é` / liquid: Decimal not supported (line 1, column 5) / liquid: Integer out of range (line 2, column 5) / liquid: Decimal not supported (line 2, column 32) / closed"]
+["a  {{- ! }}{% end %}", "raw `a` / invalid `  {` / raw `{- ! }}` / closed"]
+["{{", "invalid `{` / raw `{`"]"#;
+
+#[test]
+fn elements_are_handed_out_in_their_order(rt: HostRuntime) -> Result<(), Fail> {
+    let alloc = rt.alloc();
+    for line in HANDED_OUT.lines() {
+        let row = Line::of(alloc, line)?;
+        assert!(rt; hands_out(alloc, row.text(0)?, row.text(1)?)?, "{line}");
+    }
+    Ok(())
+}
+
+/// Whether a body without its end is refused where it ends, and stays open.
+fn is_refused_at_its_end(alloc: Global, block: &mut TagBlock<'_, '_>) -> Result<bool, AllocError> {
+    let refusal = "liquid: Unclosed block. {% end %} tag expected. (line 2, column 3)";
+    match block.next(alloc) {
+        Ok(_) => Ok(false),
+        Err(error) => Ok(told(alloc, &error)?.as_str() == refusal && !block.is_closed()),
+    }
+}
+
+#[test]
+fn a_body_without_its_end_is_refused_at_its_end(rt: HostRuntime) -> Result<(), Fail> {
+    let alloc = rt.alloc();
+    let mut block = TagBlock::new("é\nab", "start", "end");
+    assert!(rt; block.next(alloc)?.is_some());
+    for _ in 0..2 {
+        assert!(rt; is_refused_at_its_end(alloc, &mut block)?);
+    }
+    Ok(())
+}
+
+/// The escaped body of a block, or the first line of its refusal.
+fn escaped(alloc: Global, block: &mut TagBlock<'_, '_>, nests: bool) -> Result<String, AllocError> {
+    if block.is_closed() {
+        return String::from_str(alloc, "closed before");
+    }
+    match block.escape_liquid(alloc, nests) {
+        Ok(text) => String::from_str(alloc, text),
+        Err(error) => told(alloc, &error),
+    }
+}
+
+/// A cursor over the body of a block `raw`, behind so many elements.
+fn passed_by<'a>(alloc: Global, body: &'a str, passed: i64) -> TagBlock<'a, 'static> {
+    let mut block = TagBlock::new(body, "raw", "endraw");
+    for _ in 0..passed {
+        let _ = block.next(alloc);
+    }
+    block
+}
+
+/// Whether a row tells what becomes of its body, and whether the block is closed then.
+fn is_escaped(alloc: Global, row: &Line) -> Result<bool, Fail> {
+    let mut block = passed_by(alloc, row.text(0)?, row.number(1)?);
+    let is_text = escaped(alloc, &mut block, row.truth(2)?)?.as_str() == row.text(3)?;
+    Ok(is_text && block.is_closed() == row.truth(4)?)
+}
+
+/// A body, how many elements are passed before, whether starts nest, the escaped text or the refusal, and
+/// whether the block is closed then.
+const ESCAPED: &str = r#"["{% endraw %}a", 0, false, "", true]
+["{{ a }}{{% endraw %}", 0, false, "{{ a }}{", true]
+[" x {%- endraw -%} y", 0, false, " x", true]
+["{{ 4.5 }}{% raw 1.5 %}{% endraw %}", 0, false, "{{ 4.5 }}{% raw 1.5 %}", true]
+["{% endraw 1 %}{% endraw %}", 0, false, "{% endraw 1 %}", true]
+["{% raw %}a{% endraw %}b{% endraw %}", 0, false, "{% raw %}a", true]
+["{% raw %}a{% endraw %}b{% endraw %}", 0, true, "{% raw %}a{% endraw %}b", true]
+["a{{ b }} c {% endraw %}", 1, false, "{{ b }} c ", true]
+["a{{ b }} c {% endraw %}", 2, true, " c ", true]
+["a{{ 4.5 }}c{% endraw %}", 2, false, "c", true]
+["{% endraw %}", 1, false, "closed before", true]
+["{% raw %}a\n{% endraw %}b", 0, true, "liquid: Unclosed block. {% endraw %} tag expected. (line 2, column 14)", false]
+["", 0, false, "liquid: Unclosed block. {% endraw %} tag expected. (line 1, column 1)", false]"#;
+
+#[test]
+fn escaped_bodies_are_slices(rt: HostRuntime) -> Result<(), Fail> {
+    let alloc = rt.alloc();
+    for line in ESCAPED.lines() {
+        assert!(rt; is_escaped(alloc, &Line::of(alloc, line)?)?, "{line}");
+    }
+    Ok(())
+}

@@ -1,0 +1,155 @@
+//! Expressions and paths, made by hand.
+use crate::made::{Name, Word, expression, part_of, runtime, text};
+use liquid_core::ValueView;
+use liquid_core::model::{Scalar, Value};
+use liquid_core::runtime::BuiltRuntime;
+use liquid_plugins::{Expression, Variable};
+use std::alloc::{AllocError, Global};
+use std::test::Fail;
+
+/// The path `foo[0]["bar"]`.
+fn literal_path(alloc: Global) -> Result<Variable, AllocError> {
+    Variable::with_literal(alloc, text(alloc, "foo")?)
+        .push_literal(0i64)?
+        .push_literal(text(alloc, "bar")?)
+}
+
+/// Puts the index `foo["bar"]` behind the indexes.
+fn add_path(alloc: Global, variable: &mut Variable) -> Result<(), AllocError> {
+    let mut more = Vec::new(alloc);
+    more.push(expression(alloc, Name("foo"), &[Word("bar")])?)?;
+    variable.extend(more)
+}
+
+/// Puts the indexes 7 and true behind the indexes.
+fn add_scalars(alloc: Global, variable: &mut Variable) -> Result<(), AllocError> {
+    let mut scalars = Vec::new(alloc);
+    scalars.push(Scalar::from(7i64))?;
+    scalars.push(Scalar::from(true))?;
+    variable.extend(scalars)
+}
+
+/// The path `foo[0]["bar"][foo["bar"]][7][true]`.
+fn long_path(alloc: Global) -> Result<Variable, AllocError> {
+    let mut variable = literal_path(alloc)?;
+    add_path(alloc, &mut variable)?;
+    add_scalars(alloc, &mut variable)?;
+    Ok(variable)
+}
+
+/// Whether a path shows as a text.
+fn path_shows(alloc: Global, variable: &Variable, text: &str) -> Result<bool, AllocError> {
+    Ok(variable.to_string(alloc)?.as_str() == text)
+}
+
+/// Whether a copy of a path equals it.
+fn copy_is_equal(variable: &Variable) -> Result<bool, AllocError> {
+    Ok(variable.clone()? == *variable)
+}
+
+/// A copy of a path as an expression.
+fn as_expression(variable: &Variable) -> Result<Expression, AllocError> {
+    Ok(Expression::Variable(variable.clone()?))
+}
+
+/// Whether expressions of two copies of a path are equal.
+fn expressions_are_equal(variable: &Variable) -> Result<bool, AllocError> {
+    Ok(as_expression(variable)? == as_expression(variable)?)
+}
+
+/// Whether the expression of a path differs from that of a name.
+fn differs_from_name(
+    alloc: Global,
+    variable: &Variable,
+    name: &'static str,
+) -> Result<bool, AllocError> {
+    Ok(as_expression(variable)? != part_of(alloc, Name(name))?)
+}
+
+/// Whether the expression of a path has no literal.
+fn has_no_literal(variable: &Variable) -> Result<bool, AllocError> {
+    Ok(as_expression(variable)?.into_literal().is_none())
+}
+
+/// Whether the path is taken out of its expression again.
+fn is_taken_out(variable: Variable) -> Result<bool, AllocError> {
+    Ok(as_expression(&variable)?.into_variable() == Some(variable))
+}
+
+/// Whether the expression of the text `a` shows it in quotes.
+fn literal_shows(alloc: Global) -> Result<bool, AllocError> {
+    Ok(part_of(alloc, Word("a"))?.to_string(alloc)?.as_str() == "\"a\"")
+}
+
+/// Whether the text `a` is taken out of its expression.
+fn literal_is_taken_out(alloc: Global) -> Result<bool, AllocError> {
+    let literal = part_of(alloc, Word("a"))?.into_literal();
+    Ok(literal == Some(Value::scalar(text(alloc, "a")?)))
+}
+
+/// Whether a path is copied and compared as it shows.
+fn is_copied_and_compared(alloc: Global, variable: &Variable) -> Result<bool, AllocError> {
+    Ok(
+        copy_is_equal(variable)?
+            && expressions_are_equal(variable)?
+            && differs_from_name(alloc, variable, "foo")?,
+    )
+}
+
+#[test]
+fn expressions_are_copied_compared_and_taken_apart(rt: HostRuntime) -> Result<(), Fail> {
+    let alloc = rt.alloc();
+    let variable = long_path(alloc)?;
+    let shown = "foo[0][\"bar\"][foo[\"bar\"]][7][true]";
+    assert!(rt; path_shows(alloc, &variable, shown)?);
+    assert!(rt; is_copied_and_compared(alloc, &variable)?);
+    assert!(rt; has_no_literal(&variable)?);
+    assert!(rt; is_taken_out(variable)?);
+    assert!(rt; literal_shows(alloc)?);
+    assert!(rt; literal_is_taken_out(alloc)?);
+    Ok(())
+}
+
+/// Puts a variable behind the indexes.
+fn add_index(alloc: Global, variable: &mut Variable, name: &'static str) -> Result<(), AllocError> {
+    let mut more = Vec::new(alloc);
+    more.push(part_of(alloc, Name(name))?)?;
+    variable.extend(more)
+}
+
+/// Whether a path comes to a text, and to something where it is tried.
+fn leads_to(
+    alloc: Global,
+    variable: &Variable,
+    path: &str,
+    runtime: &BuiltRuntime<(), ()>,
+) -> Result<bool, Fail> {
+    let is_path = variable
+        .evaluate(alloc, runtime)?
+        .to_string(alloc)?
+        .as_str()
+        == path;
+    Ok(is_path && variable.try_evaluate(alloc, runtime)?.is_some())
+}
+
+/// Whether a path is refused, and comes to nothing where it is tried.
+fn leads_nowhere(
+    alloc: Global,
+    variable: &Variable,
+    runtime: &BuiltRuntime<(), ()>,
+) -> Result<bool, AllocError> {
+    let is_refused = variable.evaluate(alloc, runtime).is_err();
+    Ok(is_refused && variable.try_evaluate(alloc, runtime)?.is_none())
+}
+
+#[test]
+fn a_path_is_tried_index_by_index(rt: HostRuntime) -> Result<(), Fail> {
+    let alloc = rt.alloc();
+    let runtime = runtime(alloc, false)?;
+    let mut variable = Variable::with_literal(alloc, text(alloc, "box")?);
+    add_index(alloc, &mut variable, "word")?;
+    assert!(rt; leads_to(alloc, &variable, "box.part", &runtime)?);
+    add_index(alloc, &mut variable, "one")?;
+    assert!(rt; leads_nowhere(alloc, &variable, &runtime)?);
+    Ok(())
+}

@@ -1,0 +1,73 @@
+//! What tags and blocks tell about themselves.
+use bench::{Blocks, Tags, language};
+use liquid_core::parser::{BlockReflection, TagReflection};
+use std::test::Fail;
+use tests_lines::Line;
+
+/// Whether a text that may be given is what a row has at a place: a text, or null.
+fn is_told(told: Option<&str>, row: &Line, place: usize) -> Result<bool, Fail> {
+    Ok(match told {
+        Some(text) => text == row.text(place)?,
+        None => row.member(place)?.is_null(),
+    })
+}
+
+/// Whether a block tells its tags, its description, its example and its spec as a row does.
+fn block_is_told(block: &Blocks, row: &Line) -> Result<bool, Fail> {
+    Ok(
+        block.start_tag() == row.text(0)?
+            && block.end_tag() == row.text(1)?
+            && block.description() == row.text(2)?
+            && is_told(block.example(), row, 3)?
+            && is_told(block.spec(), row, 4)?,
+    )
+}
+
+/// Start tag, end tag, description, example and spec.
+const BLOCKS: &str = r#"["box", "endbox", "Writes its body in brackets.", null, null]
+["swap", "endswap", "Renders what stands behind `mid`, and then what stands before it.", null, null]
+["raw", "endraw", "Writes its body as it stands.", null, null]"#;
+
+#[test]
+fn blocks_tell_what_they_are(rt: HostRuntime) -> Result<(), Fail> {
+    let alloc = rt.alloc();
+    let language = language(alloc)?;
+    for line in BLOCKS.lines() {
+        let row = Line::of(alloc, line)?;
+        let holds = match language.blocks.get(row.text(0)?) {
+            Some(block) => block_is_told(block, &row)?,
+            None => false,
+        };
+        assert!(rt; holds, "{line}");
+    }
+    Ok(())
+}
+
+/// Whether a tag tells its name, its description, its example and its spec as a row does.
+fn tag_is_told(tag: &Tags, row: &Line) -> Result<bool, Fail> {
+    Ok(
+        tag.tag() == row.text(0)?
+            && tag.description() == row.text(1)?
+            && is_told(tag.example(), row, 2)?
+            && is_told(tag.spec(), row, 3)?,
+    )
+}
+
+/// Name, description, example and spec.
+const TAGS: &str = r#"["set", "Sets a global to a value, and writes nothing.", null, null]
+["brk", "Leaves the loop around it.", null, null]"#;
+
+#[test]
+fn tags_tell_what_they_are(rt: HostRuntime) -> Result<(), Fail> {
+    let alloc = rt.alloc();
+    let language = language(alloc)?;
+    for line in TAGS.lines() {
+        let row = Line::of(alloc, line)?;
+        let holds = match language.tags.get(row.text(0)?) {
+            Some(tag) => tag_is_told(tag, &row)?,
+            None => false,
+        };
+        assert!(rt; holds, "{line}");
+    }
+    Ok(())
+}

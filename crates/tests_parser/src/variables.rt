@@ -1,0 +1,85 @@
+//! Texts that should be one variable.
+use crate::made::{expression, part_in, part_of, parts_in, text};
+use crate::told::told;
+use liquid_core::model::Scalar;
+use liquid_core::parser::parse_variable;
+use liquid_plugins::Expression;
+use serde_json::Value as Json;
+use std::alloc::{AllocError, Global};
+use std::test::Fail;
+use tests_lines::Line;
+
+/// The index that a row gives: a part, or a list of a name and the parts behind it.
+fn index_in(alloc: Global, given: &Json) -> Result<Expression, Fail> {
+    let Some(path) = given.as_array() else {
+        return Ok(part_of(alloc, part_in(given)?)?);
+    };
+    let parts = parts_in(alloc, path)?;
+    match parts.as_slice() {
+        [name, indexes @ ..] => Ok(expression(alloc, *name, indexes)?),
+        [] => Err(Fail::from("a path of a row has no name")),
+    }
+}
+
+/// The variable of a row's name and indexes.
+fn variable_in(alloc: Global, row: &Line) -> Result<Expression, Fail> {
+    let mut indexes = Vec::new(alloc);
+    for given in row.list(2)? {
+        indexes.push(index_in(alloc, given)?)?;
+    }
+    let name = Scalar::from(text(alloc, row.text(1)?)?);
+    Ok(Expression::of_parts(name, indexes))
+}
+
+/// Whether a row's text is parsed as the row's variable.
+fn is_parsed(alloc: Global, row: &Line) -> Result<bool, Fail> {
+    let variable = parse_variable(alloc, row.text(0)?)?;
+    Ok(Expression::Variable(variable) == variable_in(alloc, row)?)
+}
+
+/// A text, and the name and the indexes of the variable that it is.
+const VARIABLES: &str =
+    r#"["foo[0].bar.baz[foo.bar]", "foo", [0, {"text": "bar"}, {"text": "baz"}, ["foo", {"text": "bar"}]]]
+["a", "a", []]
+["a[ -1 ][b][ 'c' ]", "a", [-1, "b", {"text": "c"}]]"#;
+
+#[test]
+fn whole_texts_are_variables(rt: HostRuntime) -> Result<(), Fail> {
+    let alloc = rt.alloc();
+    for line in VARIABLES.lines() {
+        assert!(rt; is_parsed(alloc, &Line::of(alloc, line)?)?, "{line}");
+    }
+    Ok(())
+}
+
+/// The first line of the refusal of a text that is no variable.
+fn refusal(alloc: Global, text: &str) -> Result<String, AllocError> {
+    match parse_variable(alloc, text) {
+        Ok(_) => String::from_str(alloc, "a variable"),
+        Err(error) => told(alloc, &error),
+    }
+}
+
+/// A text that is no variable as a whole, and its refusal.
+const REFUSED: &str = r#"["a b", "liquid: Invalid liquid (line 1, column 1)"]
+["", "liquid: Invalid liquid (line 1, column 1)"]
+[" a", "liquid: Invalid liquid (line 1, column 1)"]
+["a ", "liquid: Invalid liquid (line 1, column 1)"]
+["'a'", "liquid: Invalid liquid (line 1, column 1)"]
+["a.", "liquid: Invalid liquid (line 1, column 1)"]
+["a[\n4.5]", "liquid: Decimal not supported (line 2, column 1)"]
+["a[9223372036854775808] b", "liquid: Invalid liquid (line 1, column 1)"]"#;
+
+#[test]
+fn other_texts_are_refused(rt: HostRuntime) -> Result<(), Fail> {
+    let alloc = rt.alloc();
+    for line in REFUSED.lines() {
+        let row = Line::of(alloc, line)?;
+        assert_eq!(rt;
+            refusal(alloc, row.text(0)?)?.as_str(),
+            row.text(1)?,
+            "{line}"
+        );
+    }
+    Ok(())
+}

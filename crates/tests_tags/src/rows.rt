@@ -1,0 +1,133 @@
+//! Rows of templates with what they come to, each a line of JSON. A table that is one text adds nothing
+//! to the proof of its test, where each row of literals stands in the test's own code.
+use liquid_core::model::{Object, to_object};
+use liquid_core::partials::InMemorySource;
+use liquid_core::runtime::{BuiltRuntime, RuntimeBuilder};
+use serde_json::Value as Json;
+use std::alloc::Global;
+use std::test::Fail;
+
+/// A template, the globals and the partials that it sees, what it writes, and the text of its error.
+/// Without `globals` and `partials` there are none, and without `error` there is no error. What the row
+/// comes to where names are lenient is its member `lenient`, or the same where it has none.
+#[derive(Drop)]
+pub(crate) struct Row {
+    json: Json,
+    lenient: bool,
+}
+
+impl Row {
+    /// The row of a line. One without a template, or without what it writes, is refused.
+    pub(crate) fn of(alloc: Global, line: &str) -> Result<Row, Fail> {
+        let json = Json::from_str(alloc, line)?;
+        if json.get("template").is_none() || json.get("written").is_none() {
+            return Err(Fail::from("a row has no template, or nothing that it writes"));
+        }
+        Ok(Row {
+            json,
+            lenient: false,
+        })
+    }
+
+    /// The same row over a runtime whose names are lenient.
+    pub(crate) fn leniently(self) -> Row {
+        Row {
+            json: self.json,
+            lenient: true,
+        }
+    }
+
+    /// What the row writes, or the text of its error.
+    fn answer(&self, name: &str) -> &str {
+        match self.json.get("lenient") {
+            Some(answer) if self.lenient => match answer.get(name) {
+                Some(member) => member.as_str().unwrap_or(""),
+                None => "",
+            },
+            _ => self.text(name),
+        }
+    }
+
+    fn text(&self, name: &str) -> &str {
+        match self.json.get(name) {
+            Some(member) => member.as_str().unwrap_or(""),
+            None => "",
+        }
+    }
+
+    pub(crate) fn template(&self) -> &str {
+        self.text("template")
+    }
+
+    pub(crate) fn written(&self) -> &str {
+        self.answer("written")
+    }
+
+    pub(crate) fn error(&self) -> &str {
+        self.answer("error")
+    }
+
+    pub(crate) fn globals(&self, alloc: Global) -> Result<Object, Fail> {
+        match self.json.get("globals") {
+            Some(globals) => Ok(to_object(alloc, globals)?),
+            None => Ok(Object::new(alloc)),
+        }
+    }
+
+    /// A runtime of the row's globals over a store.
+    pub(crate) fn over<P: Drop>(
+        &self,
+        alloc: Global,
+        store: P,
+    ) -> Result<BuiltRuntime<(), P>, Fail> {
+        let globals = self.globals(alloc)?;
+        Ok(
+            RuntimeBuilder::new(alloc)
+                .set_globals(globals)
+                .set_partials(store)
+                .set_lenient(self.lenient)
+                .build(),
+        )
+    }
+
+    /// The partials, of which a later one takes the place of an earlier one of its name.
+    pub(crate) fn source(&self, alloc: Global) -> Result<InMemorySource, Fail> {
+        let mut source = InMemorySource::new(alloc);
+        match self.json.get("partials") {
+            Some(Json::Array(partials)) => {
+                for partial in partials {
+                    add_partial(alloc, &mut source, partial)?;
+                }
+                Ok(source)
+            }
+            _ => Ok(source),
+        }
+    }
+
+    /// Whether a text is what the row writes, with its error's text behind it.
+    pub(crate) fn is_whole(&self, all: &str) -> bool {
+        all.len() == self.written().len() + self.error().len()
+            && all.starts_with(self.written())
+            && all.ends_with(self.error())
+    }
+}
+
+fn add_partial(alloc: Global, source: &mut InMemorySource, partial: &Json) -> Result<(), Fail> {
+    match (text_at(partial, 0), text_at(partial, 1)) {
+        (Some(name), Some(text)) => {
+            source.add(
+                String::from_str(alloc, name)?,
+                String::from_str(alloc, text)?,
+            )?;
+            Ok(())
+        }
+        _ => Err(Fail::from("a partial is not a name and a text")),
+    }
+}
+
+fn text_at(list: &Json, place: usize) -> Option<&str> {
+    match list.get(place) {
+        Some(member) => member.as_str(),
+        None => None,
+    }
+}

@@ -1,0 +1,127 @@
+//! JSON as values, and values as JSON.
+use crate::value::value_in;
+use liquid_error::Result;
+use liquid_json::{from_value, into_object, into_value, to_object, to_scalar, to_value};
+use liquid_scalar::Scalar;
+use liquid_value::render::ValueSource;
+use liquid_value::{Object, Value};
+use std::alloc::{AllocError, Global};
+use std::test::Fail;
+use tests_lines::Line;
+
+/// The source of the value that was made, or the text of the refusal.
+fn told(alloc: Global, made: Result<Value>) -> std::result::Result<String, AllocError> {
+    match made {
+        Ok(value) => ValueSource::new(&value).to_string(alloc),
+        Err(error) => error.to_string(alloc),
+    }
+}
+
+fn scalar_told(alloc: Global, made: Result<Scalar>) -> std::result::Result<String, AllocError> {
+    match made {
+        Ok(scalar) => told(alloc, Ok(Value::Scalar(scalar))),
+        Err(error) => error.to_string(alloc),
+    }
+}
+
+fn object_told(alloc: Global, made: Result<Object>) -> std::result::Result<String, AllocError> {
+    match made {
+        Ok(object) => told(alloc, Ok(Value::Object(object))),
+        Err(error) => error.to_string(alloc),
+    }
+}
+
+// The source text of the value that a JSON is, or the text of the refusal, and the JSON.
+const VALUES: &str = r#"["nil", null]
+["true", true]
+["\"é\"", "\u00e9"]
+["-5", -5]
+["9223372036854775807", 9223372036854775807]
+["-9223372036854775808", -9223372036854775808]
+["liquid: Cannot fit number\n", 9223372036854775808]
+["liquid: Cannot fit number\n", 18446744073709551615]
+["liquid: Fractional number\n", 18446744073709551616]
+["liquid: Fractional number\n", -9223372036854775809]
+["liquid: Fractional number\n", 1.5]
+["liquid: Fractional number\n", 1e2]
+["[1, a, , , ]", [1, "a", [], null]]
+["{\"a\": x, \"b\": 2, \"c\": , }", {"b": 2, "a": "x", "c": {}}]
+["liquid: Fractional number\n", [[1.5], 9223372036854775808]]
+["liquid: Cannot fit number\n", {"b": 1.5, "a": 9223372036854775808}]
+["{\"a\": 2, }", {"a": 1.5, "a": 2}]
+["liquid: Cannot fit number\n", [[[[[9223372036854775808]]]], 1.5]]"#;
+
+#[test]
+fn json_is_a_value(rt: HostRuntime) -> std::result::Result<(), Fail> {
+    let alloc = rt.alloc();
+    for line in VALUES.lines() {
+        let row = Line::of(alloc, line)?;
+        let copied = told(alloc, to_value(alloc, row.member(1)?))?;
+        assert_eq!(rt; copied.as_str(), row.text(0)?, "of {line}");
+        let taken = told(alloc, into_value(alloc, row.member(1)?.clone()?))?;
+        assert_eq!(rt; taken.as_str(), row.text(0)?, "of {line}, taken apart");
+    }
+    Ok(())
+}
+
+// What a JSON is as an object, what it is as a scalar, each in its source text or by the refusal, and
+// the JSON.
+const OBJECTS_AND_SCALARS: &str =
+    r#"["liquid: Object cannot be a scalar.\n", "liquid: Scalar must be a string.\n", null]
+["liquid: Object cannot be a scalar.\n", "false", false]
+["liquid: Object cannot be a scalar.\n", "\"\"", ""]
+["liquid: Object cannot be a scalar.\n", "7", 7]
+["liquid: Object cannot be a scalar.\n", "liquid: Cannot fit number\n", 9223372036854775808]
+["liquid: Object cannot be a scalar.\n", "liquid: Fractional number\n", 0.0]
+["liquid: Object cannot be an array.\n", "liquid: Scalar must be a string.\n", [1.5]]
+["{\"a\": 1, }", "liquid: Scalar must be a string.\n", {"a": [1]}]
+["liquid: Fractional number\n", "liquid: Scalar must be a string.\n", {"a": 1.5}]"#;
+
+#[test]
+fn json_is_an_object_or_a_scalar(rt: HostRuntime) -> std::result::Result<(), Fail> {
+    let alloc = rt.alloc();
+    for line in OBJECTS_AND_SCALARS.lines() {
+        let row = Line::of(alloc, line)?;
+        let scalar = scalar_told(alloc, to_scalar(alloc, row.member(2)?))?;
+        assert_eq!(rt; scalar.as_str(), row.text(1)?, "scalar of {line}");
+        let copied = object_told(alloc, to_object(alloc, row.member(2)?))?;
+        assert_eq!(rt; copied.as_str(), row.text(0)?, "object of {line}");
+        let taken = object_told(alloc, into_object(alloc, row.member(2)?.clone()?))?;
+        assert_eq!(rt;
+            taken.as_str(),
+            row.text(0)?,
+            "object of {line}, taken apart"
+        );
+    }
+    Ok(())
+}
+
+// A text as a value, and the JSON that it is shown as.
+const TEXTS: &str = r#"["42", "42"]
+["+7", "7"]
+["-9223372036854775808", "-9223372036854775808"]
+["9223372036854775808", "\"9223372036854775808\""]
+["1.5", "\"1.5\""]
+["true", "\"true\""]
+["", "\"\""]"#;
+
+fn shown(alloc: Global, value: &Value) -> std::result::Result<String, AllocError> {
+    from_value(alloc, value)?.to_string(alloc)
+}
+
+#[test]
+fn values_are_shown(rt: HostRuntime) -> std::result::Result<(), Fail> {
+    let alloc = rt.alloc();
+    for line in TEXTS.lines() {
+        let row = Line::of(alloc, line)?;
+        let value = Value::scalar(String::from_str(alloc, row.text(0)?)?);
+        assert_eq!(rt; shown(alloc, &value)?.as_str(), row.text(1)?, "of {line}");
+    }
+    let all = value_in(
+        alloc,
+        r#"[-5, null, {"state": "blank"}, {"day": 16}, {"moment": [10, 3600]}, {"t": true, "n": "a"}]"#,
+    )?;
+    let wanted = r#"[-5,null,null,"2016-02-16","2016-02-16 10:00:00 +0100",{"n":"a","t":true}]"#;
+    assert_eq!(rt; shown(alloc, &all)?.as_str(), wanted);
+    Ok(())
+}

@@ -1,0 +1,109 @@
+//! Values as the rows of the tables name them.
+mod comparisons;
+mod shown;
+mod texts;
+mod values;
+
+use liquid_dates::{Date, DateTime};
+use liquid_json::to_value;
+use liquid_value::{Array, Object, State, Value};
+use serde_json::{Map, Value as Json};
+use std::alloc::{AllocError, Global};
+use std::test::Fail;
+use tests_lines::Line;
+
+fn number(given: Option<&Json>) -> Result<i64, Fail> {
+    Ok(
+        given
+            .ok_or("a number is missing")?
+            .as_i64()
+            .ok_or("no whole number")?,
+    )
+}
+
+fn day(number: i64) -> Result<Date, Fail> {
+    Ok(Date::from_ymd(2016, 2, u8::try_from(number)?)?)
+}
+
+fn moment(given: &Json) -> Result<DateTime, Fail> {
+    let hour = u8::try_from(number(given.get(0))?)?;
+    let offset = i32::try_from(number(given.get(1))?)?;
+    Ok(DateTime::from_parts(day(16)?, hour, 0, 0, 0, offset)?)
+}
+
+fn state(name: &str) -> Result<State, Fail> {
+    match name {
+        "truthy" => Ok(State::Truthy),
+        "default" => Ok(State::DefaultValue),
+        "empty" => Ok(State::Empty),
+        "blank" => Ok(State::Blank),
+        _ => Err(Fail::from("no state has this name")),
+    }
+}
+
+/// The date, date time or state that an object of one member stands for.
+fn beyond_json(given: &Json) -> Result<Option<Value>, Fail> {
+    if let Some(json) = given.get("day") {
+        return Ok(Some(Value::scalar(day(number(Some(json))?)?)));
+    }
+    if let Some(json) = given.get("moment") {
+        return Ok(Some(Value::scalar(moment(json)?)));
+    }
+    match given.get("state") {
+        Some(Json::String(name)) => Ok(Some(Value::State(state(name.as_str())?))),
+        _ => Ok(None),
+    }
+}
+
+fn plain_or_beyond(alloc: Global, given: &Json) -> Result<Value, Fail> {
+    match beyond_json(given)? {
+        Some(value) => Ok(value),
+        None => Ok(to_value(alloc, given)?),
+    }
+}
+
+fn array_of(alloc: Global, items: &Vec<Json>) -> Result<Array, Fail> {
+    let mut array = Array::new(alloc);
+    for item in items {
+        array.push(plain_or_beyond(alloc, item)?)?;
+    }
+    Ok(array)
+}
+
+fn object_of(alloc: Global, members: &Map<String, Json>) -> Result<Object, Fail> {
+    let mut object = Object::new(alloc);
+    for (name, member) in members {
+        let value = plain_or_beyond(alloc, member)?;
+        drop(object.insert(String::from_str(alloc, name.as_str())?, value)?);
+    }
+    Ok(object)
+}
+
+/// The value that a row gives as JSON. What JSON doesn't have is an object of one member there, alone
+/// or in an array or object: a day of February 2016, as `{"day": 16}`; an hour of 16 February 2016
+/// and its offset in seconds, as `{"moment": [10, 3600]}`; and a state, as `{"state": "empty"}`.
+fn value_of(alloc: Global, given: &Json) -> Result<Value, Fail> {
+    if let Some(value) = beyond_json(given)? {
+        return Ok(value);
+    }
+    match given {
+        Json::Array(items) => Ok(Value::Array(array_of(alloc, items)?)),
+        Json::Object(members) => Ok(Value::Object(object_of(alloc, members)?)),
+        _ => Ok(to_value(alloc, given)?),
+    }
+}
+
+/// The value of a text of JSON.
+pub(crate) fn value_in(alloc: Global, text: &str) -> Result<Value, Fail> {
+    value_of(alloc, &Json::from_str(alloc, text)?)
+}
+
+/// The value at a place of a row.
+fn value_at(alloc: Global, row: &Line, place: usize) -> Result<Value, Fail> {
+    value_of(alloc, row.member(place)?)
+}
+
+/// The two values at the beginning of a row.
+fn pair_of(alloc: Global, row: &Line) -> Result<(Value, Value), Fail> {
+    Ok((value_at(alloc, row, 0)?, value_at(alloc, row, 1)?))
+}

@@ -1,0 +1,115 @@
+//! Pairs of values: their loose equality, their order, and whether they are the same.
+use super::pair_of;
+use liquid_value::{Value, ValueViewCmp};
+use std::cmp::Ordering;
+use std::hash::{DefaultHasher, Hash, Hasher};
+use std::test::Fail;
+use tests_lines::Line;
+
+// Two values, and whether they are loosely equal. A text and an array without members each equal the
+// state `empty`, but not each other, so that loose equality is not transitive; and within an object
+// the right value is asked about the left one.
+const EQUALITIES: &str = r#"[true, "", true]
+[null, false, true]
+[null, true, false]
+[true, [1], true]
+[false, [], false]
+[true, 7, true]
+[7, false, false]
+[{"state": "empty"}, [], true]
+["", {"state": "empty"}, true]
+[{"state": "empty"}, " ", false]
+[{"state": "blank"}, " ", true]
+[null, {"state": "blank"}, true]
+[{"state": "truthy"}, {"state": "empty"}, false]
+[{"state": "empty"}, {"state": "truthy"}, true]
+[{"state": "truthy"}, {"state": "truthy"}, false]
+[{"state": "default"}, false, true]
+["", [], false]
+[[1], [1, 2], false]
+[{"a": 1, "b": 2}, {"b": 2, "a": 1}, true]
+[{"a": 1, "b": 2}, {"a": 1, "c": 2}, false]
+[{"a": 1, "b": 2}, {"a": 1}, false]
+[{"a": {"state": "truthy"}}, {"a": {"state": "empty"}}, true]
+[{"a": {"state": "empty"}}, {"a": {"state": "truthy"}}, false]
+[{"day": 16}, {"moment": [10, 3600]}, true]
+[{"moment": [10, 3600]}, {"day": 16}, true]
+[{"day": 15}, {"moment": [10, 3600]}, false]
+[{"day": 16}, {"day": 17}, false]
+[{"moment": [10, 3600]}, {"moment": [9, 0]}, true]
+[{"day": 16}, true, true]"#;
+
+#[test]
+fn values_are_loosely_equal(rt: HostRuntime) -> Result<(), Fail> {
+    for line in EQUALITIES.lines() {
+        let row = Line::of(rt.alloc(), line)?;
+        let (left, right) = pair_of(rt.alloc(), &row)?;
+        let answer = ValueViewCmp::new(&left).value_eq(&ValueViewCmp::new(&right));
+        assert_eq!(rt; answer, row.truth(2)?, "{line}");
+    }
+    Ok(())
+}
+
+// Two values, and their loose order.
+const ORDERS: &str = r#"[[1], [1, 2], "less"]
+[[1, 2], [1], "greater"]
+[[1, 2], [1, 2], "equal"]
+[[1, "a", null], [1, 2], null]
+[{"a": 1}, {"b": 0}, "less"]
+[{"a": 1, "b": 2}, {"a": 1}, "greater"]
+[false, true, "less"]
+[null, null, null]
+[1, [1], null]
+[{"day": 16}, {"moment": [10, 3600]}, "equal"]
+[{"day": 17}, {"moment": [10, 3600]}, "greater"]
+[{"moment": [10, 3600]}, {"day": 17}, "less"]
+[{"day": 15}, {"day": 16}, "less"]
+[{"moment": [10, 3600]}, {"moment": [10, 0]}, "less"]"#;
+
+fn name_of(order: Option<Ordering>) -> Option<&'static str> {
+    match order {
+        Some(Ordering::Less) => Some("less"),
+        Some(Ordering::Equal) => Some("equal"),
+        Some(Ordering::Greater) => Some("greater"),
+        None => None,
+    }
+}
+
+#[test]
+fn the_first_difference_decides(rt: HostRuntime) -> Result<(), Fail> {
+    for line in ORDERS.lines() {
+        let row = Line::of(rt.alloc(), line)?;
+        let (left, right) = pair_of(rt.alloc(), &row)?;
+        let answer = ValueViewCmp::new(&left).value_cmp(&ValueViewCmp::new(&right));
+        assert_eq!(rt; name_of(answer), row.found_text(2), "{line}");
+    }
+    Ok(())
+}
+
+fn fed(value: &Value) -> u64 {
+    let mut hasher = DefaultHasher::new();
+    value.hash(&mut hasher);
+    hasher.finish()
+}
+
+// Two values, and whether they are the same.
+const SAME: &str = r#"[{"a": 1, "b": 2}, {"b": 2, "a": 1}, true]
+[[1, "a", null], [1, "a", null], true]
+[true, 1, false]
+["1", 1, false]
+[{"state": "empty"}, {"state": "blank"}, false]
+[{"state": "truthy"}, {"state": "truthy"}, true]
+[[1], [1, 2], false]
+[{"day": 16}, {"moment": [10, 3600]}, false]
+[{"moment": [10, 3600]}, {"moment": [9, 0]}, true]"#;
+
+#[test]
+fn strict_equality_wants_the_same_kind(rt: HostRuntime) -> Result<(), Fail> {
+    for line in SAME.lines() {
+        let row = Line::of(rt.alloc(), line)?;
+        let (left, right) = pair_of(rt.alloc(), &row)?;
+        assert_eq!(rt; left == right, row.truth(2)?, "{line}");
+        assert!(rt; left != right || fed(&left) == fed(&right), "{line}");
+    }
+    Ok(())
+}

@@ -1,0 +1,80 @@
+//! Values with their texts and their states.
+use super::value_at;
+use liquid_value::render::{ValueRender, ValueSource};
+use liquid_value::{State, Value};
+use std::alloc::{AllocError, Global};
+use std::test::Fail;
+use tests_lines::Line;
+
+// The text that a value renders as, its source text, the name of its type, and the value.
+const TEXTS: &str = r#"["1", "1", "whole number", 1]
+["true", "true", "boolean", true]
+["say \"a\"", "\"say \"a\"\"", "string", "say \"a\""]
+["2016-02-16", "2016-02-16", "date", {"day": 16}]
+["2016-02-16 10:00:00 +0100", "2016-02-16 10:00:00 +0100", "date time", {"moment": [10, 3600]}]
+["1a", "[1, a, , ]", "array", [1, "a", null]]
+["axb2", "{\"a\": x, \"b\": 2, }", "object", {"b": 2, "a": "x"}]
+["", "truthy", "truthy", {"state": "truthy"}]
+["", "default", "default", {"state": "default"}]
+["", "empty", "empty", {"state": "empty"}]
+["", "nil", "nil", null]"#;
+
+#[test]
+fn values_have_texts(rt: HostRuntime) -> Result<(), Fail> {
+    let alloc = rt.alloc();
+    for line in TEXTS.lines() {
+        let row = Line::of(alloc, line)?;
+        let value = value_at(alloc, &row, 3)?;
+        let render = row.text(0)?;
+        assert_eq!(rt; value.to_kstr(alloc)?.as_str(), render, "{line}");
+        let rendered = ValueRender::new(&value).to_string(alloc)?;
+        assert_eq!(rt; rendered.as_str(), render, "{line}");
+        let shown = ValueSource::new(&value).to_string(alloc)?;
+        assert_eq!(rt; shown.as_str(), row.text(1)?, "{line}");
+        assert_eq!(rt; value.type_name(), row.text(2)?, "{line}");
+    }
+    Ok(())
+}
+
+/// The names of the states that a value is in.
+fn states_of(alloc: Global, value: &Value) -> Result<String, AllocError> {
+    let mut names = String::new(alloc);
+    for (state, name) in [
+        (State::Truthy, "truthy"),
+        (State::DefaultValue, "default"),
+        (State::Empty, "empty"),
+        (State::Blank, "blank"),
+    ] {
+        if value.query_state(state) {
+            if !names.is_empty() {
+                names.push_str(" ")?;
+            }
+            names.push_str(name)?;
+        }
+    }
+    Ok(names)
+}
+
+// The states that a value is in, and the value.
+const STATES: &str = r#"["truthy", 0]
+["truthy", true]
+["default blank", false]
+["truthy default empty blank", ""]
+["truthy blank", " \n"]
+["truthy", {"day": 16}]
+["truthy", {"moment": [10, 3600]}]
+["truthy default empty blank", []]
+["truthy", {"a": 1}]
+["default empty blank", null]
+["default empty blank", {"state": "truthy"}]"#;
+
+#[test]
+fn values_are_in_states(rt: HostRuntime) -> Result<(), Fail> {
+    let alloc = rt.alloc();
+    for line in STATES.lines() {
+        let row = Line::of(alloc, line)?;
+        let value = value_at(alloc, &row, 1)?;
+        assert_eq!(rt; states_of(alloc, &value)?.as_str(), row.text(0)?, "{line}");
+    }
+    Ok(())
+}
