@@ -13,8 +13,8 @@ use Rattle.liquid_dates.specs.declared.error.DateFormatError.{DateFormatError}
 use Rattle.liquid_dates.specs.declared.error.DateFormatError.TheVariants.{NoFormatSpecifier, NoFormatSpecifierAfterModifier, InvalidWidth, Memory}
 use Rattle.liquid_dates.specs.meaning.Flags.{flags_of, width_of}
 use Rattle.liquid_dates.specs.meaning.Letters.{directive_of}
-use Rattle.liquid_dates.specs.meaning.Pattern.{Item, literal, directive, spelling, IsItem, IsFront, IsRefused, item_print, directive_print, print, answer_of, FormatsTo}
-use Rattle.liquid_dates.specs.steps.PatternReader.{ItemRead, directive_at, IsReadAs, IsPrinted, HasRest, OnRefusal, conversion_of, conversion_print}
+use Rattle.liquid_dates.specs.meaning.Pattern.{Item, literal, directive, spelling, IsItem, IsFront, IsRefused, item_print, directive_print, print, answer_of, FormatsTo, OnRefusal}
+use Rattle.liquid_dates.specs.steps.PatternReader.{ItemRead, directive_at, IsReadAs, IsPrinted, HasRest, conversion_of, conversion_print}
 use Rattle.liquid_dates.proofs.PatternLemmas.{Describes, directive_describes, front_more, one_reading, shorter}
 
 -- behind its per cent a directive has the rest at its end

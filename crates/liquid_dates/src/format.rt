@@ -1,8 +1,8 @@
 ghost use Rattle.std.specs.Prelude.{◌≡◌, ℕ, List, ◌∷◌, ◌++◌, Ok, Err, Result, IfOk, IfErr, OnOk, MatchResult, encode_utf8_all};
 ghost use Rattle.std.specs.Str.{chars, IsUtf8};
 ghost use Rattle.std.specs.String.{string_bytes};
-ghost use Rattle.liquid_dates.specs.meaning.Pattern.{FormatsTo};
-ghost use Rattle.liquid_dates.specs.steps.PatternReader.{IsPrinted, HasRest, OnRefusal, IsAnswer, conversion_print, directive_at};
+ghost use Rattle.liquid_dates.specs.meaning.Pattern.{FormatsTo, OnRefusal, IsAnswer};
+ghost use Rattle.liquid_dates.specs.steps.PatternReader.{IsPrinted, HasRest, conversion_print, directive_at};
 
 use crate::directive_text::write_directive;
 use crate::pattern::{Conversion, read_conversion};

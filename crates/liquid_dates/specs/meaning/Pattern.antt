@@ -1,5 +1,5 @@
 -- Patterns: a list of items whose spellings joined are the text, or such a list for a beginning and a rest that is refused.
-use Rattle.std.specs.Prelude.{◌≡◌, ℕ, ◌<◌, ◌^◌, ◌≤◌, Bool, true, false, ◌≢◌, ◌⊎◌, List, [], ◌∷◌, ◌++◌, Option, Some, None, Result, Ok, Err, encode_utf8, encode_utf8_all}
+use Rattle.std.specs.Prelude.{◌≡◌, ℕ, ◌<◌, ◌^◌, ◌≤◌, Bool, true, false, ◌≢◌, ◌⊎◌, List, [], ◌∷◌, ◌++◌, Option, Some, None, Result, Ok, Err, encode_utf8, encode_utf8_all, String, string_bytes}
 use Rattle.std.specs.List.{list_all}
 use Rattle.liquid_dates.specs.declared.date_time.DateTime.{DateTime}
 use Rattle.liquid_dates.specs.declared.directive.Directive.{Directive}
@@ -131,3 +131,15 @@ answer_of dt items (Some e) = Err e
 abbrev pub FormatsTo : DateTime → List ℕ → Result (List ℕ) DateFormatError → Type 0
 FormatsTo dt text answer =
     (items : List Item) × (end : Option DateFormatError) × IsReading text items end × (answer ≡ answer_of dt items end)
+
+-- a fact for a refusal that is no want of memory
+abbrev pub OnRefusal : DateFormatError → Type 0 → Type 0
+OnRefusal Memory P = Unit {0}
+OnRefusal NoFormatSpecifier P = P
+OnRefusal NoFormatSpecifierAfterModifier P = P
+OnRefusal InvalidWidth P = P
+
+-- the result is the answer, or want of memory
+abbrev pub IsAnswer : {A : Type 0} → Result (String A) DateFormatError → Result (List ℕ) DateFormatError → Type 0
+IsAnswer (Ok s) answer = answer ≡ Ok (string_bytes s)
+IsAnswer (Err e) answer = OnRefusal e (answer ≡ Err e)

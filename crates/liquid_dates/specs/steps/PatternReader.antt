@@ -1,6 +1,6 @@
 -- A reader of patterns, item by item. It is a bridge between the code and the relation of `Pattern`: what it reads is proved to be what that relation says.
 use Rattle.std.specs.Prelude.{ℕ, ◌+◌, ◌-◌, ◌*◌, ◌^◌, Bool, nat_lt, ◌==◌, if◌then◌else◌, List, [], ◌∷◌, ◌++◌, Result, Ok, Err, ◌≡◌}
-use Rattle.std.specs.Prelude.{String, string_bytes, Option, Some, None}
+use Rattle.std.specs.Prelude.{Option, Some, None}
 use Rattle.liquid_dates.specs.declared.date_time.DateTime.{DateTime}
 use Rattle.liquid_dates.specs.declared.directive.Directive.{Directive}
 use Rattle.liquid_dates.specs.meaning.DirectiveText.{directive_text}
@@ -9,7 +9,7 @@ use Rattle.liquid_dates.specs.declared.pattern.Width.{Width}
 use Rattle.liquid_dates.specs.declared.pattern.Width.TheVariants.{Unset, Given, TooGreat}
 use Rattle.liquid_dates.specs.declared.pattern.Conversion.{Conversion}
 use Rattle.liquid_dates.specs.declared.error.DateFormatError.{DateFormatError}
-use Rattle.liquid_dates.specs.declared.error.DateFormatError.TheVariants.{NoFormatSpecifier, NoFormatSpecifierAfterModifier, InvalidWidth, Memory}
+use Rattle.liquid_dates.specs.declared.error.DateFormatError.TheVariants.{NoFormatSpecifier, NoFormatSpecifierAfterModifier, InvalidWidth}
 use Rattle.liquid_dates.specs.meaning.Flags.{is_flag, with_flag, flags_of, is_digit, digits_number, width_of, is_modifier}
 use Rattle.std.specs.Str.{chars, IsUtf8}
 use Rattle.std.specs.Borrow.{Bor}
@@ -112,13 +112,6 @@ conversion_of (literal c) conversion = ⊥
 conversion_of (directive flags digits modifier letter) conversion =
     (conversion.flags ≡ flags_of flags) × (conversion.width ≡ width_of digits) × (conversion.directive ≡ directive_of letter)
 
--- a fact for a refusal that is no want of memory
-abbrev pub OnRefusal : DateFormatError → Type 0 → Type 0
-OnRefusal Memory P = Unit {0}
-OnRefusal NoFormatSpecifier P = P
-OnRefusal NoFormatSpecifierAfterModifier P = P
-OnRefusal InvalidWidth P = P
-
 -- a directive and the text behind it are what the reader says
 abbrev pub IsReadAs : Result (Conversion × Bor (List ℕ)) DateFormatError → ItemRead → Type 0
 IsReadAs (Ok (conversion, rest)) (Ok (item, more)) = conversion_of item conversion × (chars rest.now ≡ more) × IsUtf8 rest.now
@@ -138,8 +131,3 @@ HasRest text rest = (front : List ℕ) × (text ≡ front ++ rest)
 abbrev pub IsPrinted : DateTime → ItemRead → List ℕ → List ℕ → List ℕ → Type 0
 IsPrinted dt (Ok (item, more)) rest old new = (more ≡ rest) × (new ≡ old ++ item_print dt item)
 IsPrinted dt (Err e) rest old new = ⊥
-
--- the result is the answer, or want of memory
-abbrev pub IsAnswer : {A : Type 0} → Result (String A) DateFormatError → Result (List ℕ) DateFormatError → Type 0
-IsAnswer (Ok s) answer = answer ≡ Ok (string_bytes s)
-IsAnswer (Err e) answer = OnRefusal e (answer ≡ Err e)
