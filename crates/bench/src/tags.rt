@@ -149,9 +149,9 @@ fn assign<R: Runtime>(
     ensures answer { Gives (option_map tree_of) result (assigned (string_bytes name.now) (evaluate (R.view runtime.old) (expression_of expression.now)) (R.view runtime.old)).answer }
     ensures after { Leaves result (assigned (string_bytes name.now) (evaluate (R.view runtime.old) (expression_of expression.now)) (R.view runtime.old)).written (R.view runtime.old) (R.view runtime.new) }
     ensures frames { SameFrames (R.view runtime.old) (R.view runtime.new) }
-    ensures stays { R.store runtime.new ≡ R.store runtime.old }
-    ensures kept { R.restores runtime.new ≡ R.restores runtime.old }
-    ensures same { R.lent runtime.new ≡ R.lent runtime.old }
+    ensures store { R.store runtime.new ≡ R.store runtime.old }
+    ensures owes { R.restores runtime.new ≡ R.restores runtime.old }
+    ensures borrows { R.lent runtime.new ≡ R.lent runtime.old }
 {
     let value = match expression.evaluate(alloc, &*runtime) {
         Ok(value) => value.into_owned()?,

@@ -37,9 +37,9 @@ pub trait Renderable<V: Fresh>: Meant + Drop {
         ensures after { Leaves result (means.starts (Self.shape self.now) (R.view runtime.old)).written
             (R.view runtime.old) (R.view runtime.new) }
         ensures frames { SameFrames (R.view runtime.old) (R.view runtime.new) }
-        ensures stays { R.store runtime.new ≡ R.store runtime.old }
-        ensures kept { R.restores runtime.new ≡ R.restores runtime.old }
-        ensures same { R.lent runtime.new ≡ R.lent runtime.old };
+        ensures store { R.store runtime.new ≡ R.store runtime.old }
+        ensures owes { R.restores runtime.new ≡ R.restores runtime.old }
+        ensures borrows { R.lent runtime.new ≡ R.lent runtime.old };
 
     fn turns(progress: &Self::Progress) -> u64
         ensures { result ≡ means.count (Self.Progress.shape progress.now) };
@@ -56,9 +56,9 @@ pub trait Renderable<V: Fresh>: Meant + Drop {
         ensures progress { LeavesProgress result (means.takes (Self.shape self.now) (Self.Progress.shape progress.old) (R.view runtime.old)).progress
             (Self.Progress.shape progress.new) }
         ensures frames { SameFrames (R.view runtime.old) (R.view runtime.new) }
-        ensures stays { R.store runtime.new ≡ R.store runtime.old }
-        ensures kept { R.restores runtime.new ≡ R.restores runtime.old }
-        ensures same { R.lent runtime.new ≡ R.lent runtime.old };
+        ensures store { R.store runtime.new ≡ R.store runtime.old }
+        ensures owes { R.restores runtime.new ≡ R.restores runtime.old }
+        ensures borrows { R.lent runtime.new ≡ R.lent runtime.old };
 }
 
 /// A node whose meaning does not depend on hidden globals.

@@ -100,7 +100,7 @@ impl<V: Fresh, S: Drop> RuntimeBuilder<V, S> {
         ensures view { ⟦<BuiltRuntime<V, S> as Runtime>⟧.view result
             ≡ leniently (lenient_of self) (built_view V.fresh (depth_of self) (globals_of self)) }
         ensures store { ⟦<BuiltRuntime<V, S> as Runtime>⟧.store result ≡ store_of self }
-        ensures same { ⟦<BuiltRuntime<V, S> as Runtime>⟧.lent result ≡ [] }
+        ensures borrows { ⟦<BuiltRuntime<V, S> as Runtime>⟧.lent result ≡ [] }
     {
         let core = RuntimeCore::with(self.store, self.depth, self.lenient);
         let index = IndexFrame::new(self.alloc, core);

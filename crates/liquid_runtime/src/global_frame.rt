@@ -24,8 +24,8 @@ impl<P: Runtime> GlobalFrame<P> {
     pub fn new(alloc: Global, parent: P) -> Self
         ensures view { ⟦<GlobalFrame<P> as Runtime>⟧.view result ≡ begin_global (P.view parent) }
         ensures store { ⟦<GlobalFrame<P> as Runtime>⟧.store result ≡ P.store parent }
-        ensures kept { ⟦<GlobalFrame<P> as Runtime>⟧.restores result ≡ restored_by global_frame (P.view parent) ∷ P.restores parent }
-        ensures same { ⟦<GlobalFrame<P> as Runtime>⟧.lent result ≡ P.lent parent }
+        ensures owes { ⟦<GlobalFrame<P> as Runtime>⟧.restores result ≡ restored_by global_frame (P.view parent) ∷ P.restores parent }
+        ensures borrows { ⟦<GlobalFrame<P> as Runtime>⟧.lent result ≡ P.lent parent }
     {
         GlobalFrame {
             parent,

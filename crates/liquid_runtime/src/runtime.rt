@@ -137,9 +137,9 @@ pub trait Runtime {
         ensures gives { Gives (option_map tree_of) result (old_global (view self.old) (string_bytes name)) }
         ensures sets { OnOk result (view self.new ≡ put_global (view self.old) (string_bytes name) (tree_of value)) }
         ensures unchanged { OnErr result (view self.new ≡ view self.old) }
-        ensures stays { store self.new ≡ store self.old }
-        ensures kept { restores self.new ≡ restores self.old }
-        ensures same { lent self.new ≡ lent self.old };
+        ensures store { store self.new ≡ store self.old }
+        ensures owes { restores self.new ≡ restores self.old }
+        ensures borrows { lent self.new ≡ lent self.old };
 
     /// Sets an index variable, and answers its old value. Refused as "No index frame" where there is
     /// no frame for them. An `Err` changes nothing.
@@ -147,9 +147,9 @@ pub trait Runtime {
         ensures gives { Gives (option_map tree_of) result (old_index (view self.old) (string_bytes name)) }
         ensures sets { OnOk result (view self.new ≡ put_index (view self.old) (string_bytes name) (tree_of value)) }
         ensures unchanged { OnErr result (view self.new ≡ view self.old) }
-        ensures stays { store self.new ≡ store self.old }
-        ensures kept { restores self.new ≡ restores self.old }
-        ensures same { lent self.new ≡ lent self.old };
+        ensures store { store self.new ≡ store self.old }
+        ensures owes { restores self.new ≡ restores self.old }
+        ensures borrows { lent self.new ≡ lent self.old };
 
     /// The interrupt and the register, of the nearest sandboxed frame if there is one.
     fn registers(&self) -> &Registers<Self::Register>
@@ -159,9 +159,9 @@ pub trait Runtime {
     fn registers_mut(&mut self) -> &mut Registers<Self::Register>
         ensures* lends { sem 𝓛 (LendsRegisters Self.row Self.Register.row self.entry result (relent self.old)) }
         ensures after { (w : Registers Self.Register) → view (relent self.old w) ≡ with_registers w (view self.old) }
-        ensures stays { (w : Registers Self.Register) → store (relent self.old w) ≡ store self.old }
-        ensures kept { (w : Registers Self.Register) → restores (relent self.old w) ≡ restores self.old }
-        ensures same { (w : Registers Self.Register) → lent (relent self.old w) ≡ lent self.old }
+        ensures store { (w : Registers Self.Register) → store (relent self.old w) ≡ store self.old }
+        ensures owes { (w : Registers Self.Register) → restores (relent self.old w) ≡ restores self.old }
+        ensures borrows { (w : Registers Self.Register) → lent (relent self.old w) ≡ lent self.old }
         ensures value { result.now ≡ registers_of (view self.old) };
 
     /// The store of partial templates, to write to, if one was set.
@@ -169,8 +169,8 @@ pub trait Runtime {
         ensures* lends { sem 𝓛 (LendsIf Self.row Self.Store.row self.entry result (restored self.old) self.old) }
         ensures after { (w : Self.Store) → IsSome (store self.old) → store (restored self.old w) ≡ Some w }
         ensures view { (w : Self.Store) → IsSome (store self.old) → view (restored self.old w) ≡ view self.old }
-        ensures kept { (w : Self.Store) → IsSome (store self.old) → restores (restored self.old w) ≡ restores self.old }
-        ensures same { (w : Self.Store) → IsSome (store self.old) → lent (restored self.old w) ≡ lent self.old }
+        ensures owes { (w : Self.Store) → IsSome (store self.old) → restores (restored self.old w) ≡ restores self.old }
+        ensures borrows { (w : Self.Store) → IsSome (store self.old) → lent (restored self.old w) ≡ lent self.old }
         ensures value { option_map (λ r. r.now) result ≡ store self.old };
 
     /// How many partial templates may be open inside one another.

@@ -28,9 +28,9 @@ impl<P: Runtime> SandboxedStackFrame<P> {
         ensures view { ⟦<SandboxedStackFrame<P> as Runtime>⟧.view result
             ≡ begin_sandboxed P.Register.fresh (names_of «data») None (P.view parent) }
         ensures store { ⟦<SandboxedStackFrame<P> as Runtime>⟧.store result ≡ P.store parent }
-        ensures kept { ⟦<SandboxedStackFrame<P> as Runtime>⟧.restores result
+        ensures owes { ⟦<SandboxedStackFrame<P> as Runtime>⟧.restores result
             ≡ restored_by (sandboxed_frame (names_of «data») None) (P.view parent) ∷ P.restores parent }
-        ensures same { ⟦<SandboxedStackFrame<P> as Runtime>⟧.lent result ≡ P.lent parent }
+        ensures borrows { ⟦<SandboxedStackFrame<P> as Runtime>⟧.lent result ≡ P.lent parent }
     {
         SandboxedStackFrame {
             parent,
@@ -45,8 +45,8 @@ impl<P: Runtime> SandboxedStackFrame<P> {
         ensures view { ⟦<SandboxedStackFrame<P> as Runtime>⟧.view result
             ≡ named (string_bytes name) (⟦<SandboxedStackFrame<P> as Runtime>⟧.view self) }
         ensures store { ⟦<SandboxedStackFrame<P> as Runtime>⟧.store result ≡ ⟦<SandboxedStackFrame<P> as Runtime>⟧.store self }
-        ensures kept { ⟦<SandboxedStackFrame<P> as Runtime>⟧.restores result ≡ ⟦<SandboxedStackFrame<P> as Runtime>⟧.restores self }
-        ensures same { ⟦<SandboxedStackFrame<P> as Runtime>⟧.lent result ≡ ⟦<SandboxedStackFrame<P> as Runtime>⟧.lent self }
+        ensures owes { ⟦<SandboxedStackFrame<P> as Runtime>⟧.restores result ≡ ⟦<SandboxedStackFrame<P> as Runtime>⟧.restores self }
+        ensures borrows { ⟦<SandboxedStackFrame<P> as Runtime>⟧.lent result ≡ ⟦<SandboxedStackFrame<P> as Runtime>⟧.lent self }
     {
         self.name = Some(name);
         self

@@ -29,8 +29,8 @@ pub trait Scopes: Runtime {
     fn new(alloc: Global, base: Self::Base) -> Self
         ensures view { Self.view result ≡ Self.Base.view base }
         ensures store { Self.store result ≡ Self.Base.store base }
-        ensures kept { Self.restores result ≡ scope_base ∷ Self.Base.restores base }
-        ensures same { Self.lent result ≡ Self.Base.lent base };
+        ensures owes { Self.restores result ≡ scope_base ∷ Self.Base.restores base }
+        ensures borrows { Self.lent result ≡ Self.Base.lent base };
 
     /// Begins a frame. A none frame changes nothing and counts like any other. An `Err` is want of
     /// memory, and leaves everything as it was.
@@ -39,16 +39,16 @@ pub trait Scopes: Runtime {
         ensures opens { OnOk result (Self.restores self.new ≡ restored_by (frame_of frame) (Self.view self.old) ∷ Self.restores self.old) }
         ensures err { IfErr result (λ e. told e ≡ None) }
         ensures unchanged { OnErr result (Self.view self.new ≡ Self.view self.old) }
-        ensures kept { OnErr result (Self.restores self.new ≡ Self.restores self.old) }
-        ensures stays { Self.store self.new ≡ Self.store self.old }
-        ensures same { Self.lent self.new ≡ Self.lent self.old };
+        ensures owes { OnErr result (Self.restores self.new ≡ Self.restores self.old) }
+        ensures store { Self.store self.new ≡ Self.store self.old }
+        ensures borrows { Self.lent self.new ≡ Self.lent self.old };
 
     /// Ends the frame that was begun last; the caller has pushed one that it has not popped.
     fn pop(&mut self)
         requires { 0 < length (opened (Self.restores self.old)) }
         ensures ends { EndsFirst (Self.restores self.old) (Self.view self.old) (Self.restores self.new) (Self.view self.new) }
-        ensures stays { Self.store self.new ≡ Self.store self.old }
-        ensures same { Self.lent self.new ≡ Self.lent self.old };
+        ensures store { Self.store self.new ≡ Self.store self.old }
+        ensures borrows { Self.lent self.new ≡ Self.lent self.old };
 
     /// How many frames are open.
     fn frames(&self) -> usize
@@ -59,6 +59,6 @@ pub trait Scopes: Runtime {
         requires { opened (Self.restores self) ≡ [] }
         ensures view { Self.Base.view result ≡ Self.view self }
         ensures store { Self.Base.store result ≡ Self.store self }
-        ensures kept { scope_base ∷ Self.Base.restores result ≡ Self.restores self }
-        ensures same { Self.Base.lent result ≡ Self.lent self };
+        ensures owes { scope_base ∷ Self.Base.restores result ≡ Self.restores self }
+        ensures borrows { Self.Base.lent result ≡ Self.lent self };
 }

@@ -24,9 +24,9 @@ impl<P: Runtime> StackFrame<P> {
     pub fn new(parent: P, data: Object) -> Self
         ensures view { ⟦<StackFrame<P> as Runtime>⟧.view result ≡ begin_stack (names_of «data») None (P.view parent) }
         ensures store { ⟦<StackFrame<P> as Runtime>⟧.store result ≡ P.store parent }
-        ensures kept { ⟦<StackFrame<P> as Runtime>⟧.restores result
+        ensures owes { ⟦<StackFrame<P> as Runtime>⟧.restores result
             ≡ restored_by (stack_frame (names_of «data») None) (P.view parent) ∷ P.restores parent }
-        ensures same { ⟦<StackFrame<P> as Runtime>⟧.lent result ≡ P.lent parent }
+        ensures borrows { ⟦<StackFrame<P> as Runtime>⟧.lent result ≡ P.lent parent }
     {
         StackFrame {
             parent,
@@ -39,8 +39,8 @@ impl<P: Runtime> StackFrame<P> {
     pub fn with_name(mut self, name: String) -> Self
         ensures view { ⟦<StackFrame<P> as Runtime>⟧.view result ≡ named (string_bytes name) (⟦<StackFrame<P> as Runtime>⟧.view self) }
         ensures store { ⟦<StackFrame<P> as Runtime>⟧.store result ≡ ⟦<StackFrame<P> as Runtime>⟧.store self }
-        ensures kept { ⟦<StackFrame<P> as Runtime>⟧.restores result ≡ ⟦<StackFrame<P> as Runtime>⟧.restores self }
-        ensures same { ⟦<StackFrame<P> as Runtime>⟧.lent result ≡ ⟦<StackFrame<P> as Runtime>⟧.lent self }
+        ensures owes { ⟦<StackFrame<P> as Runtime>⟧.restores result ≡ ⟦<StackFrame<P> as Runtime>⟧.restores self }
+        ensures borrows { ⟦<StackFrame<P> as Runtime>⟧.lent result ≡ ⟦<StackFrame<P> as Runtime>⟧.lent self }
     {
         self.name = Some(name);
         self

@@ -190,9 +190,9 @@ pub(crate) fn opening<R: Runtime>(alloc: Global, base: &mut R, frame: Frame) -> 
         → layer_view (layer_of result) (with_registers (registers_of (R.view base.new)) v) ≡ beginning R.Register.fresh (frame_of frame) v }
     ensures restores { (v : View R.Register) → registers_of v ≡ registers_of (R.view base.old)
         → layer_restores (layer_of result) (with_registers (registers_of (R.view base.new)) v) ≡ restored_by (frame_of frame) v }
-    ensures stays { R.store base.new ≡ R.store base.old }
-    ensures kept { R.restores base.new ≡ R.restores base.old }
-    ensures same { R.lent base.new ≡ R.lent base.old }
+    ensures store { R.store base.new ≡ R.store base.old }
+    ensures owes { R.restores base.new ≡ R.restores base.old }
+    ensures borrows { R.lent base.new ≡ R.lent base.old }
 {
     match frame {
         Frame::None => Link::None,
@@ -211,9 +211,9 @@ pub(crate) fn closing<R: Runtime>(base: &mut R, link: Link<R::Register>)
     ensures registers { R.view base.new ≡ with_registers (registers_of (R.view base.new)) (R.view base.old) }
     ensures ends { (v : View R.Register) → registers_of v ≡ registers_of (R.view base.old)
         → with_registers (registers_of (R.view base.new)) v ≡ ending (layer_restores (layer_of link) v) (layer_view (layer_of link) v) }
-    ensures stays { R.store base.new ≡ R.store base.old }
-    ensures kept { R.restores base.new ≡ R.restores base.old }
-    ensures same { R.lent base.new ≡ R.lent base.old }
+    ensures store { R.store base.new ≡ R.store base.old }
+    ensures owes { R.restores base.new ≡ R.restores base.old }
+    ensures borrows { R.lent base.new ≡ R.lent base.old }
 {
     match link {
         Link::None => {}

@@ -285,7 +285,7 @@ impl<V> Table<V> {
         ensures gives { (v : View V) → Gives (option_map tree_of) result (old_global (view_over v self.old.links.items) (string_bytes name)) }
         ensures sets { (v : View V) → OnOk result (view_over v self.new.links.items
             ≡ put_global (view_over v self.old.links.items) (string_bytes name) (tree_of value)) }
-        ensures kept { (v : View V) (rs : List (Restore V)) → restoring v (layers_of self.new.links.items) rs
+        ensures owes { (v : View V) (rs : List (Restore V)) → restoring v (layers_of self.new.links.items) rs
             ≡ restoring v (layers_of self.old.links.items) rs }
         ensures unchanged { (v : View V) → OnErr result (view_over v self.new.links.items ≡ view_over v self.old.links.items) }
     {
@@ -381,7 +381,7 @@ fn put<V>(
     ensures gives { (v : View V) → Gives (option_map tree_of) result (old_global (view_over v links.old.items) (string_bytes name)) }
     ensures sets { (v : View V) → OnOk result (view_over v links.new.items
         ≡ put_global (view_over v links.old.items) (string_bytes name) (tree_of value)) }
-    ensures kept { (v : View V) (rs : List (Restore V)) → restoring v (layers_of links.new.items) rs
+    ensures owes { (v : View V) (rs : List (Restore V)) → restoring v (layers_of links.new.items) rs
         ≡ restoring v (layers_of links.old.items) rs }
     ensures names { OnOk result ((q : List ℕ) (j : ℕ) → has_at (layers_of links.new.items) q j
         ≡ (has_at (layers_of links.old.items) q j || (bytes_eq (string_bytes name) q && nat_eq j place))) }

@@ -31,9 +31,9 @@ pub(crate) fn loop_turn<R: Runtime>(
     ensures after { Leaves result (loop_takes (string_bytes name.now) (rounds_of rounds.old) (R.view runtime.old)).written (R.view runtime.old) (R.view runtime.new) }
     ensures progress { LeavesProgress result (loop_takes (string_bytes name.now) (rounds_of rounds.old) (R.view runtime.old)).progress (rounds_of rounds.new) }
     ensures frames { SameFrames (R.view runtime.old) (R.view runtime.new) }
-    ensures stays { R.store runtime.new ≡ R.store runtime.old }
-    ensures kept { R.restores runtime.new ≡ R.restores runtime.old }
-    ensures same { R.lent runtime.new ≡ R.lent runtime.old }
+    ensures store { R.store runtime.new ≡ R.store runtime.old }
+    ensures owes { R.restores runtime.new ≡ R.restores runtime.old }
+    ensures borrows { R.lent runtime.new ≡ R.lent runtime.old }
 {
     let (place, size) = (rounds.place, rounds.size);
     let item = next_item(rounds)?;

@@ -17,7 +17,7 @@ use std::alloc::{AllocError, Global};
 pub(crate) fn push<S: Scopes>(scopes: &mut S, frame: Frame) -> Result<(), Error>
     ensures ok { OnOk result (Makes S.Register.fresh (pushing (frame_of frame)) (S.view scopes.old) (S.restores scopes.old) nothing (S.view scopes.new) (S.restores scopes.new)) }
     ensures unchanged { OnErr result (S.view scopes.new ≡ S.view scopes.old) }
-    ensures kept { OnErr result (S.restores scopes.new ≡ S.restores scopes.old) }
+    ensures owes { OnErr result (S.restores scopes.new ≡ S.restores scopes.old) }
 {
     scopes.push(frame)
 }
@@ -37,7 +37,7 @@ pub(crate) fn set_global<S: Scopes>(
     ensures ok { IfOk result (λ given. Makes S.Register.fresh (setting_global (string_bytes name) (tree_of value)) (S.view scopes.old) (S.restores scopes.old) (old_value (Ok (option_map tree_of given))) (S.view scopes.new) (S.restores scopes.new)) }
     ensures err { IfErr result (λ e. IfSome (told e) (λ refusal. Makes S.Register.fresh (setting_global (string_bytes name) (tree_of value)) (S.view scopes.old) (S.restores scopes.old) (old_value (Err refusal)) (S.view scopes.new) (S.restores scopes.new))) }
     ensures unchanged { OnErr result (S.view scopes.new ≡ S.view scopes.old) }
-    ensures kept { OnErr result (S.restores scopes.new ≡ S.restores scopes.old) }
+    ensures owes { OnErr result (S.restores scopes.new ≡ S.restores scopes.old) }
 {
     match scopes.set_global(name, value) {
         Ok(old) => Ok(old),
@@ -53,7 +53,7 @@ pub(crate) fn set_index<S: Scopes>(
     ensures ok { IfOk result (λ given. Makes S.Register.fresh (setting_index (string_bytes name) (tree_of value)) (S.view scopes.old) (S.restores scopes.old) (old_value (Ok (option_map tree_of given))) (S.view scopes.new) (S.restores scopes.new)) }
     ensures err { IfErr result (λ e. IfSome (told e) (λ refusal. Makes S.Register.fresh (setting_index (string_bytes name) (tree_of value)) (S.view scopes.old) (S.restores scopes.old) (old_value (Err refusal)) (S.view scopes.new) (S.restores scopes.new))) }
     ensures unchanged { OnErr result (S.view scopes.new ≡ S.view scopes.old) }
-    ensures kept { OnErr result (S.restores scopes.new ≡ S.restores scopes.old) }
+    ensures owes { OnErr result (S.restores scopes.new ≡ S.restores scopes.old) }
 {
     match scopes.set_index(name, value) {
         Ok(old) => Ok(old),

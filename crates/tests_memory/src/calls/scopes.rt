@@ -28,7 +28,7 @@ fn frame(alloc: Global) -> Result<Frame, Problem> {
 
 /// Begins a frame, and ends it again.
 fn pushed<S: Scopes>(scopes: &mut S, frame: Frame) -> Told
-    ensures kept { S.restores scopes.new ≡ S.restores scopes.old }
+    ensures owes { S.restores scopes.new ≡ S.restores scopes.old }
 {
     match scopes.push(frame) {
         Ok(()) => {
@@ -66,7 +66,7 @@ where
 
 /// Sets `n` where it has no value yet.
 fn set<S: Scopes>(scopes: &mut S, word: &str, name: String) -> Told
-    ensures kept { S.restores scopes.new ≡ S.restores scopes.old }
+    ensures owes { S.restores scopes.new ≡ S.restores scopes.old }
 {
     let value = Value::scalar(2i64);
     let answer = match word {

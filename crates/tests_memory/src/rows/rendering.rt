@@ -126,7 +126,7 @@ fn over<S>(
 ) -> Result<Seen, Problem>
 where
     S: Scopes<Register = (), Store = Lazy>,
-    ensures kept { S.restores scopes.new ≡ S.restores scopes.old }
+    ensures owes { S.restores scopes.new ≡ S.restores scopes.old }
 {
     let mut sink = TextSink::new(alloc);
     let before = taken(alloc, boxes);

@@ -35,8 +35,8 @@ returns-in-Ok-clause-sets g c = λ v.
     let set = c.in-Ok.ensures.sets ∙ ap (λ k. insert (assigned (layer_of k)) q t) c.index_mut.ensures.value ∙ ap (λ k. insert (assigned k) q t) here in
     set_shown layer_of v xs i x q t c.requires c.in-Ok.ensures.global set
 
-pub returns-in-Ok-clause-kept : goal.returns-in-Ok-clause-kept
-returns-in-Ok-clause-kept g c = λ v rs.
+pub returns-in-Ok-clause-owes : goal.returns-in-Ok-clause-owes
+returns-in-Ok-clause-owes g c = λ v rs.
     let q = string_bytes c.args.name in
     let xs = c.args.links.now.items in
     let i = c.args.place in
@@ -79,8 +79,8 @@ returns-in-Ok-clause-globals g c =
     let set = c.in-Ok.ensures.sets ∙ ap (λ k. insert (assigned (layer_of k)) q t) c.index_mut.ensures.value ∙ ap (λ k. insert (assigned k) q t) here in
     put_places is_global layer_of (λ m n. refl) xs i x q t c.requires c.in-Ok.ensures.global set
 
-pub returns-in-Err-clause-kept : goal.returns-in-Err-clause-kept
-returns-in-Err-clause-kept g c = λ v rs.
+pub returns-in-Err-clause-owes : goal.returns-in-Err-clause-owes
+returns-in-Err-clause-owes g c = λ v rs.
     let q = string_bytes c.args.name in
     let xs = c.args.links.now.items in
     let i = c.args.place in

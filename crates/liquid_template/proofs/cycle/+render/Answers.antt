@@ -84,31 +84,31 @@ render_tag-returns-in-Err-clause-renders g t c =
 
 pub render_tag-loop-init : goal.render_tag-loop-init
 render_tag-loop-init g t c =
-    record { owes = c.start.ensures.kept; store = ap (option_map g.S.Store.PartialStore.finds) c.start.ensures.stays; bound = ap (λ store. partials_size (option_map g.S.Store.PartialStore.finds store)) c.start.ensures.stays; borrows = c.start.ensures.same; none = c.new-none.ensures.items; renders = λ after left answer h. start_goes_at _ _ _ _ _ _ _ _ _ _ _ _ _ (none_yet c.turns-end.result _ c.turns-end.ensures) c.in-Ok.ensures.answer c.in-Ok.ensures.after c.start.ensures.frames h }
+    record { owes = c.start.ensures.owes; store = ap (option_map g.S.Store.PartialStore.finds) c.start.ensures.store; bound = ap (λ store. partials_size (option_map g.S.Store.PartialStore.finds store)) c.start.ensures.store; borrows = c.start.ensures.borrows; none = c.new-none.ensures.items; renders = λ after left answer h. start_goes_at _ _ _ _ _ _ _ _ _ _ _ _ _ (none_yet c.turns-end.result _ c.turns-end.ensures) c.in-Ok.ensures.answer c.in-Ok.ensures.after c.start.ensures.frames h }
 
 pub render_tag-returns-in-Err-turn : goal.render_tag-returns-in-Err-turn
 render_tag-returns-in-Err-turn g t c =
-    record { renders = c.loop.invariant.renders _ _ _ (turn_refused_at _ _ _ _ _ _ _ _ _ _ _ _ (left_more c.loop.counter c.turns-end.result c.loop-test.true) c.in-Err-turn.ensures.answer c.in-Err-turn.ensures.after c.turn.ensures.frames); owes = c.turn.ensures.kept ∙ c.loop.invariant.owes; store = ap (option_map g.S.Store.PartialStore.finds) c.turn.ensures.stays ∙ c.loop.invariant.store; bound = ap (λ store. partials_size (option_map g.S.Store.PartialStore.finds store)) c.turn.ensures.stays ∙ c.loop.invariant.bound; borrows = c.turn.ensures.same ∙ c.loop.invariant.borrows }
+    record { renders = c.loop.invariant.renders _ _ _ (turn_refused_at _ _ _ _ _ _ _ _ _ _ _ _ (left_more c.loop.counter c.turns-end.result c.loop-test.true) c.in-Err-turn.ensures.answer c.in-Err-turn.ensures.after c.turn.ensures.frames); owes = c.turn.ensures.owes ∙ c.loop.invariant.owes; store = ap (option_map g.S.Store.PartialStore.finds) c.turn.ensures.store ∙ c.loop.invariant.store; bound = ap (λ store. partials_size (option_map g.S.Store.PartialStore.finds store)) c.turn.ensures.store ∙ c.loop.invariant.bound; borrows = c.turn.ensures.borrows ∙ c.loop.invariant.borrows }
 
 pub render_tag-returns-in-End : goal.render_tag-returns-in-End
 render_tag-returns-in-End g t c =
-    record { renders = c.loop.invariant.renders _ _ _ (turn_ends_at _ _ _ _ _ _ _ _ _ _ _ _ (left_more c.loop.counter c.turns-end.result c.loop-test.true) (c.in-Ok-turn.ensures.answer ∙ ap (λ x. Ok (turn_of x)) c.in-End.is) c.in-Ok-turn.ensures.after c.turn.ensures.frames); owes = c.turn.ensures.kept ∙ c.loop.invariant.owes; store = ap (option_map g.S.Store.PartialStore.finds) c.turn.ensures.stays ∙ c.loop.invariant.store; bound = ap (λ store. partials_size (option_map g.S.Store.PartialStore.finds store)) c.turn.ensures.stays ∙ c.loop.invariant.bound; borrows = c.turn.ensures.same ∙ c.loop.invariant.borrows }
+    record { renders = c.loop.invariant.renders _ _ _ (turn_ends_at _ _ _ _ _ _ _ _ _ _ _ _ (left_more c.loop.counter c.turns-end.result c.loop-test.true) (c.in-Ok-turn.ensures.answer ∙ ap (λ x. Ok (turn_of x)) c.in-End.is) c.in-Ok-turn.ensures.after c.turn.ensures.frames); owes = c.turn.ensures.owes ∙ c.loop.invariant.owes; store = ap (option_map g.S.Store.PartialStore.finds) c.turn.ensures.store ∙ c.loop.invariant.store; bound = ap (λ store. partials_size (option_map g.S.Store.PartialStore.finds store)) c.turn.ensures.store ∙ c.loop.invariant.bound; borrows = c.turn.ensures.borrows ∙ c.loop.invariant.borrows }
 
 pub render_tag-returns-in-Err-perform : goal.render_tag-returns-in-Err-perform
 render_tag-returns-in-Err-perform g t c =
     let s : Setting _ _ _ _ _ _ = (setting g.S.Register.Fresh.fresh g.X.Filter.means g.T.Renderable.means g.B.Renderable.means (option_map g.S.Store.PartialStore.finds (g.S.Runtime.store c.args.scopes.now))) in
-    let fs = ap (option_map g.S.Store.PartialStore.finds) c.in-Ok-turn.ensures.stays ∙ c.loop.invariant.store in
+    let fs = ap (option_map g.S.Store.PartialStore.finds) c.in-Ok-turn.ensures.store ∙ c.loop.invariant.store in
     let x0 = rw fs at c.in-Err-perform.ensures.renders in
     let x = without_parts s (partials_at s c.args.depth) g.X.Meant.shape g.T.Meant.shape g.B.Meant.shape c.deref.result.now _ _ _ _ _ _ (c.deref.ensures.value ∙ c.loop.invariant.none) x0 in
-    record { renders = c.loop.invariant.renders _ _ _ (turn_fails_at _ _ _ _ _ _ _ _ _ _ _ _ _ _ _ _ (left_more c.loop.counter c.turns-end.result c.loop-test.true) (not_end c.in-Ok-turn.turn c.in_default.not-End) c.in-Ok-turn.ensures.answer c.in-Ok-turn.ensures.after c.in-Ok-turn.ensures.progress c.turn.ensures.frames x); owes = c.perform.ensures.owes ∙ c.turn.ensures.kept ∙ c.loop.invariant.owes; store = c.perform.ensures.store ∙ fs; bound = c.perform.ensures.bound ∙ ap (λ store. partials_size (option_map g.S.Store.PartialStore.finds store)) c.turn.ensures.stays ∙ c.loop.invariant.bound; borrows = c.perform.ensures.borrows ∙ c.turn.ensures.same ∙ c.loop.invariant.borrows }
+    record { renders = c.loop.invariant.renders _ _ _ (turn_fails_at _ _ _ _ _ _ _ _ _ _ _ _ _ _ _ _ (left_more c.loop.counter c.turns-end.result c.loop-test.true) (not_end c.in-Ok-turn.turn c.in_default.not-End) c.in-Ok-turn.ensures.answer c.in-Ok-turn.ensures.after c.in-Ok-turn.ensures.progress c.turn.ensures.frames x); owes = c.perform.ensures.owes ∙ c.turn.ensures.owes ∙ c.loop.invariant.owes; store = c.perform.ensures.store ∙ fs; bound = c.perform.ensures.bound ∙ ap (λ store. partials_size (option_map g.S.Store.PartialStore.finds store)) c.turn.ensures.store ∙ c.loop.invariant.bound; borrows = c.perform.ensures.borrows ∙ c.turn.ensures.borrows ∙ c.loop.invariant.borrows }
 
 pub render_tag-loop-preserved : goal.render_tag-loop-preserved
 render_tag-loop-preserved g t c =
     let s : Setting _ _ _ _ _ _ = (setting g.S.Register.Fresh.fresh g.X.Filter.means g.T.Renderable.means g.B.Renderable.means (option_map g.S.Store.PartialStore.finds (g.S.Runtime.store c.args.scopes.now))) in
-    let fs = ap (option_map g.S.Store.PartialStore.finds) c.in-Ok-turn.ensures.stays ∙ c.loop.invariant.store in
+    let fs = ap (option_map g.S.Store.PartialStore.finds) c.in-Ok-turn.ensures.store ∙ c.loop.invariant.store in
     let x0 = rw fs at c.in-Ok-perform.ensures.renders in
     let x = without_parts s (partials_at s c.args.depth) g.X.Meant.shape g.T.Meant.shape g.B.Meant.shape c.deref.result.now _ _ _ _ _ _ (c.deref.ensures.value ∙ c.loop.invariant.none) x0 in
-    record { owes = c.perform.ensures.owes ∙ c.turn.ensures.kept ∙ c.loop.invariant.owes; store = c.perform.ensures.store ∙ fs; bound = c.perform.ensures.bound ∙ ap (λ store. partials_size (option_map g.S.Store.PartialStore.finds store)) c.turn.ensures.stays ∙ c.loop.invariant.bound; borrows = c.perform.ensures.borrows ∙ c.turn.ensures.same ∙ c.loop.invariant.borrows; none = c.loop.invariant.none; renders = λ after left answer h. c.loop.invariant.renders after left answer (turn_more_at _ _ _ _ _ _ _ _ _ _ _ _ _ _ _ _ _ _ _ (left_more c.loop.counter c.turns-end.result c.loop-test.true) (not_end c.in-Ok-turn.turn c.in_default.not-End) c.in-Ok-turn.ensures.answer c.in-Ok-turn.ensures.after c.in-Ok-turn.ensures.progress c.turn.ensures.frames x h) }
+    record { owes = c.perform.ensures.owes ∙ c.turn.ensures.owes ∙ c.loop.invariant.owes; store = c.perform.ensures.store ∙ fs; bound = c.perform.ensures.bound ∙ ap (λ store. partials_size (option_map g.S.Store.PartialStore.finds store)) c.turn.ensures.store ∙ c.loop.invariant.bound; borrows = c.perform.ensures.borrows ∙ c.turn.ensures.borrows ∙ c.loop.invariant.borrows; none = c.loop.invariant.none; renders = λ after left answer h. c.loop.invariant.renders after left answer (turn_more_at _ _ _ _ _ _ _ _ _ _ _ _ _ _ _ _ _ _ _ (left_more c.loop.counter c.turns-end.result c.loop-test.true) (not_end c.in-Ok-turn.turn c.in_default.not-End) c.in-Ok-turn.ensures.answer c.in-Ok-turn.ensures.after c.in-Ok-turn.ensures.progress c.turn.ensures.frames x h) }
 
 pub render_tag-returns : goal.render_tag-returns
 render_tag-returns g t c =
@@ -120,31 +120,31 @@ render_block-returns-in-Err-clause-renders g t c =
 
 pub render_block-loop-init : goal.render_block-loop-init
 render_block-loop-init g t c =
-    record { owes = c.start.ensures.kept; store = ap (option_map g.S.Store.PartialStore.finds) c.start.ensures.stays; bound = ap (λ store. partials_size (option_map g.S.Store.PartialStore.finds store)) c.start.ensures.stays; borrows = c.start.ensures.same; renders = λ after left answer h. start_goes_at _ _ _ _ _ _ _ _ _ _ _ _ _ (none_yet c.turns-end.result _ c.turns-end.ensures) c.in-Ok.ensures.answer c.in-Ok.ensures.after c.start.ensures.frames h }
+    record { owes = c.start.ensures.owes; store = ap (option_map g.S.Store.PartialStore.finds) c.start.ensures.store; bound = ap (λ store. partials_size (option_map g.S.Store.PartialStore.finds store)) c.start.ensures.store; borrows = c.start.ensures.borrows; renders = λ after left answer h. start_goes_at _ _ _ _ _ _ _ _ _ _ _ _ _ (none_yet c.turns-end.result _ c.turns-end.ensures) c.in-Ok.ensures.answer c.in-Ok.ensures.after c.start.ensures.frames h }
 
 pub render_block-returns-in-Err-turn : goal.render_block-returns-in-Err-turn
 render_block-returns-in-Err-turn g t c =
-    record { renders = c.loop.invariant.renders _ _ _ (turn_refused_at _ _ _ _ _ _ _ _ _ _ _ _ (left_more c.loop.counter c.turns-end.result c.loop-test.true) c.in-Err-turn.ensures.answer c.in-Err-turn.ensures.after c.turn.ensures.frames); owes = c.turn.ensures.kept ∙ c.loop.invariant.owes; store = ap (option_map g.S.Store.PartialStore.finds) c.turn.ensures.stays ∙ c.loop.invariant.store; bound = ap (λ store. partials_size (option_map g.S.Store.PartialStore.finds store)) c.turn.ensures.stays ∙ c.loop.invariant.bound; borrows = c.turn.ensures.same ∙ c.loop.invariant.borrows }
+    record { renders = c.loop.invariant.renders _ _ _ (turn_refused_at _ _ _ _ _ _ _ _ _ _ _ _ (left_more c.loop.counter c.turns-end.result c.loop-test.true) c.in-Err-turn.ensures.answer c.in-Err-turn.ensures.after c.turn.ensures.frames); owes = c.turn.ensures.owes ∙ c.loop.invariant.owes; store = ap (option_map g.S.Store.PartialStore.finds) c.turn.ensures.store ∙ c.loop.invariant.store; bound = ap (λ store. partials_size (option_map g.S.Store.PartialStore.finds store)) c.turn.ensures.store ∙ c.loop.invariant.bound; borrows = c.turn.ensures.borrows ∙ c.loop.invariant.borrows }
 
 pub render_block-returns-in-End : goal.render_block-returns-in-End
 render_block-returns-in-End g t c =
-    record { renders = c.loop.invariant.renders _ _ _ (turn_ends_at _ _ _ _ _ _ _ _ _ _ _ _ (left_more c.loop.counter c.turns-end.result c.loop-test.true) (c.in-Ok-turn.ensures.answer ∙ ap (λ x. Ok (turn_of x)) c.in-End.is) c.in-Ok-turn.ensures.after c.turn.ensures.frames); owes = c.turn.ensures.kept ∙ c.loop.invariant.owes; store = ap (option_map g.S.Store.PartialStore.finds) c.turn.ensures.stays ∙ c.loop.invariant.store; bound = ap (λ store. partials_size (option_map g.S.Store.PartialStore.finds store)) c.turn.ensures.stays ∙ c.loop.invariant.bound; borrows = c.turn.ensures.same ∙ c.loop.invariant.borrows }
+    record { renders = c.loop.invariant.renders _ _ _ (turn_ends_at _ _ _ _ _ _ _ _ _ _ _ _ (left_more c.loop.counter c.turns-end.result c.loop-test.true) (c.in-Ok-turn.ensures.answer ∙ ap (λ x. Ok (turn_of x)) c.in-End.is) c.in-Ok-turn.ensures.after c.turn.ensures.frames); owes = c.turn.ensures.owes ∙ c.loop.invariant.owes; store = ap (option_map g.S.Store.PartialStore.finds) c.turn.ensures.store ∙ c.loop.invariant.store; bound = ap (λ store. partials_size (option_map g.S.Store.PartialStore.finds store)) c.turn.ensures.store ∙ c.loop.invariant.bound; borrows = c.turn.ensures.borrows ∙ c.loop.invariant.borrows }
 
 pub render_block-returns-in-Err-perform : goal.render_block-returns-in-Err-perform
 render_block-returns-in-Err-perform g t c =
     let s : Setting _ _ _ _ _ _ = (setting g.S.Register.Fresh.fresh g.X.Filter.means g.T.Renderable.means g.B.Renderable.means (option_map g.S.Store.PartialStore.finds (g.S.Runtime.store c.args.scopes.now))) in
-    let fs = ap (option_map g.S.Store.PartialStore.finds) c.in-Ok-turn.ensures.stays ∙ c.loop.invariant.store in
+    let fs = ap (option_map g.S.Store.PartialStore.finds) c.in-Ok-turn.ensures.store ∙ c.loop.invariant.store in
     let x0 = rw fs at c.in-Err-perform.ensures.renders in
     let x = x0 in
-    record { renders = c.loop.invariant.renders _ _ _ (turn_fails_at _ _ _ _ _ _ _ _ _ _ _ _ _ _ _ _ (left_more c.loop.counter c.turns-end.result c.loop-test.true) (not_end c.in-Ok-turn.turn c.in_default.not-End) c.in-Ok-turn.ensures.answer c.in-Ok-turn.ensures.after c.in-Ok-turn.ensures.progress c.turn.ensures.frames x); owes = c.perform.ensures.owes ∙ c.turn.ensures.kept ∙ c.loop.invariant.owes; store = c.perform.ensures.store ∙ fs; bound = c.perform.ensures.bound ∙ ap (λ store. partials_size (option_map g.S.Store.PartialStore.finds store)) c.turn.ensures.stays ∙ c.loop.invariant.bound; borrows = c.perform.ensures.borrows ∙ c.turn.ensures.same ∙ c.loop.invariant.borrows }
+    record { renders = c.loop.invariant.renders _ _ _ (turn_fails_at _ _ _ _ _ _ _ _ _ _ _ _ _ _ _ _ (left_more c.loop.counter c.turns-end.result c.loop-test.true) (not_end c.in-Ok-turn.turn c.in_default.not-End) c.in-Ok-turn.ensures.answer c.in-Ok-turn.ensures.after c.in-Ok-turn.ensures.progress c.turn.ensures.frames x); owes = c.perform.ensures.owes ∙ c.turn.ensures.owes ∙ c.loop.invariant.owes; store = c.perform.ensures.store ∙ fs; bound = c.perform.ensures.bound ∙ ap (λ store. partials_size (option_map g.S.Store.PartialStore.finds store)) c.turn.ensures.store ∙ c.loop.invariant.bound; borrows = c.perform.ensures.borrows ∙ c.turn.ensures.borrows ∙ c.loop.invariant.borrows }
 
 pub render_block-loop-preserved : goal.render_block-loop-preserved
 render_block-loop-preserved g t c =
     let s : Setting _ _ _ _ _ _ = (setting g.S.Register.Fresh.fresh g.X.Filter.means g.T.Renderable.means g.B.Renderable.means (option_map g.S.Store.PartialStore.finds (g.S.Runtime.store c.args.scopes.now))) in
-    let fs = ap (option_map g.S.Store.PartialStore.finds) c.in-Ok-turn.ensures.stays ∙ c.loop.invariant.store in
+    let fs = ap (option_map g.S.Store.PartialStore.finds) c.in-Ok-turn.ensures.store ∙ c.loop.invariant.store in
     let x0 = rw fs at c.in-Ok-perform.ensures.renders in
     let x = x0 in
-    record { owes = c.perform.ensures.owes ∙ c.turn.ensures.kept ∙ c.loop.invariant.owes; store = c.perform.ensures.store ∙ fs; bound = c.perform.ensures.bound ∙ ap (λ store. partials_size (option_map g.S.Store.PartialStore.finds store)) c.turn.ensures.stays ∙ c.loop.invariant.bound; borrows = c.perform.ensures.borrows ∙ c.turn.ensures.same ∙ c.loop.invariant.borrows; renders = λ after left answer h. c.loop.invariant.renders after left answer (turn_more_at _ _ _ _ _ _ _ _ _ _ _ _ _ _ _ _ _ _ _ (left_more c.loop.counter c.turns-end.result c.loop-test.true) (not_end c.in-Ok-turn.turn c.in_default.not-End) c.in-Ok-turn.ensures.answer c.in-Ok-turn.ensures.after c.in-Ok-turn.ensures.progress c.turn.ensures.frames x h) }
+    record { owes = c.perform.ensures.owes ∙ c.turn.ensures.owes ∙ c.loop.invariant.owes; store = c.perform.ensures.store ∙ fs; bound = c.perform.ensures.bound ∙ ap (λ store. partials_size (option_map g.S.Store.PartialStore.finds store)) c.turn.ensures.store ∙ c.loop.invariant.bound; borrows = c.perform.ensures.borrows ∙ c.turn.ensures.borrows ∙ c.loop.invariant.borrows; renders = λ after left answer h. c.loop.invariant.renders after left answer (turn_more_at _ _ _ _ _ _ _ _ _ _ _ _ _ _ _ _ _ _ _ (left_more c.loop.counter c.turns-end.result c.loop-test.true) (not_end c.in-Ok-turn.turn c.in_default.not-End) c.in-Ok-turn.ensures.answer c.in-Ok-turn.ensures.after c.in-Ok-turn.ensures.progress c.turn.ensures.frames x h) }
 
 pub render_block-returns : goal.render_block-returns
 render_block-returns g t c =
@@ -172,7 +172,7 @@ render_body-returns-in-Err-clause-renders g t c =
 
 pub render_body-returns-clause-renders : goal.render_body-returns-clause-renders
 render_body-returns-clause-renders g t c =
-    let x = rw (ap (option_map g.S.Store.PartialStore.finds) c.in-Ok.ensures.stays) at c.render_part-answer.ensures.renders in
+    let x = rw (ap (option_map g.S.Store.PartialStore.finds) c.in-Ok.ensures.store) at c.render_part-answer.ensures.renders in
     renders_framed _ _ _ _ _ _ _ _ _ _ _ _ _ _ _ _ c.in-Ok.ensures.ok c.in-Ok.ensures.opens c.render_part-answer.ensures.owes c.pop.ensures.ends c.with_own_trace.ensures x
 
 pub render_partial-returns-in-Err-clause-renders : goal.render_partial-returns-in-Err-clause-renders
@@ -181,7 +181,7 @@ render_partial-returns-in-Err-clause-renders g t c =
 
 pub render_partial-returns-clause-renders : goal.render_partial-returns-clause-renders
 render_partial-returns-clause-renders g t c =
-    let x = rw (ap (option_map g.S.Store.PartialStore.finds) c.in-Ok.ensures.stays) at c.render_found-answer.ensures.renders in
+    let x = rw (ap (option_map g.S.Store.PartialStore.finds) c.in-Ok.ensures.store) at c.render_found-answer.ensures.renders in
     renders_framed _ _ _ _ _ _ _ _ _ _ _ _ _ _ _ _ c.in-Ok.ensures.ok c.in-Ok.ensures.opens c.render_found-answer.ensures.owes c.pop.ensures.ends c.with_own_trace.ensures x
 
 pub render_part-render_list-requires : goal.render_part-render_list-requires

@@ -13,11 +13,11 @@ returns g c =
       record {
         lends = tt;
         after = λ w. ap (λ v. shown_over v ls) (c.registers_mut.ensures.after w) ∙ shown_with_registers (g.R.Runtime.view s.base) ls w;
-        stays = c.registers_mut.ensures.stays;
-        kept = λ w. ap (λ v. restoring v ls (scope_base ∷ g.R.Runtime.restores (g.R.Runtime.relent s.base w))) (c.registers_mut.ensures.after w)
+        store = c.registers_mut.ensures.store;
+        owes = λ w. ap (λ v. restoring v ls (scope_base ∷ g.R.Runtime.restores (g.R.Runtime.relent s.base w))) (c.registers_mut.ensures.after w)
             ∙ restoring_with_registers (g.R.Runtime.view s.base) ls w (scope_base ∷ g.R.Runtime.restores (g.R.Runtime.relent s.base w))
-            ∙ ap (λ rs. restoring (g.R.Runtime.view s.base) ls (scope_base ∷ rs)) (c.registers_mut.ensures.kept w);
-        same = c.registers_mut.ensures.same;
+            ∙ ap (λ rs. restoring (g.R.Runtime.view s.base) ls (scope_base ∷ rs)) (c.registers_mut.ensures.owes w);
+        borrows = c.registers_mut.ensures.borrows;
         value = c.registers_mut.ensures.value ∙ sym (shown_registers (g.R.Runtime.view s.base) ls);
       },
     )

@@ -15,8 +15,8 @@ returns-in-Ok-clause-gives g c = c.in-Ok.ensures.gives (g.R.Runtime.view c.args.
 pub returns-in-Ok-clause-sets : goal.returns-in-Ok-clause-sets
 returns-in-Ok-clause-sets g c = c.in-Ok.ensures.sets (g.R.Runtime.view c.args.self.now.base)
 
-pub returns-in-Ok-clause-kept : goal.returns-in-Ok-clause-kept
-returns-in-Ok-clause-kept g c = c.in-Ok.ensures.kept (g.R.Runtime.view c.args.self.now.base) (scope_base ∷ g.R.Runtime.restores c.args.self.now.base)
+pub returns-in-Ok-clause-owes : goal.returns-in-Ok-clause-owes
+returns-in-Ok-clause-owes g c = c.in-Ok.ensures.owes (g.R.Runtime.view c.args.self.now.base) (scope_base ∷ g.R.Runtime.restores c.args.self.now.base)
 
 pub returns-in-Err-clause-gives : goal.returns-in-Err-clause-gives
 returns-in-Err-clause-gives g c = c.in-Err.ensures.gives (g.R.Runtime.view c.args.self.now.base)
@@ -24,8 +24,8 @@ returns-in-Err-clause-gives g c = c.in-Err.ensures.gives (g.R.Runtime.view c.arg
 pub returns-in-Err-clause-unchanged : goal.returns-in-Err-clause-unchanged
 returns-in-Err-clause-unchanged g c = c.in-Err.ensures.unchanged (g.R.Runtime.view c.args.self.now.base)
 
-pub returns-in-Err-clause-kept : goal.returns-in-Err-clause-kept
-returns-in-Err-clause-kept g c = c.in-Err.ensures.kept (g.R.Runtime.view c.args.self.now.base) (scope_base ∷ g.R.Runtime.restores c.args.self.now.base)
+pub returns-in-Err-clause-owes : goal.returns-in-Err-clause-owes
+returns-in-Err-clause-owes g c = c.in-Err.ensures.owes (g.R.Runtime.view c.args.self.now.base) (scope_base ∷ g.R.Runtime.restores c.args.self.now.base)
 
 pub returns-in-Ok-set_global-clause-gives : goal.returns-in-Ok-set_global-clause-gives
 returns-in-Ok-set_global-clause-gives g c = ap (λ o. old_value no_global_frame o (string_bytes c.args.name)) (shown_globals_are (g.R.Runtime.view c.args.self.now.base) (map layer_of c.args.self.now.table.links.items) c.in-None.ensures) ∙ c.in-Ok-set_global.ensures.gives
@@ -35,13 +35,13 @@ returns-in-Ok-set_global-clause-sets g c =
     let ls = map layer_of c.args.self.now.table.links.items in
     ap (λ v. shown_over v ls) c.in-Ok-set_global.ensures.sets ∙ shown_put_global (g.R.Runtime.view c.args.self.now.base) ls (string_bytes c.args.name) (tree_of c.args.value) c.in-None.ensures
 
-pub returns-in-Ok-set_global-clause-kept : goal.returns-in-Ok-set_global-clause-kept
-returns-in-Ok-set_global-clause-kept g c =
+pub returns-in-Ok-set_global-clause-owes : goal.returns-in-Ok-set_global-clause-owes
+returns-in-Ok-set_global-clause-owes g c =
     let v = g.R.Runtime.view c.args.self.now.base in
     let ls = map layer_of c.args.self.now.table.links.items in
     let rs = scope_base ∷ g.R.Runtime.restores c.set_global.new.self in
     ap (λ u. restoring u ls rs) c.in-Ok-set_global.ensures.sets ∙ restoring_put_global v ls (string_bytes c.args.name) (tree_of c.args.value) rs c.in-None.ensures
-    ∙ ap (λ xs. restoring v ls (scope_base ∷ xs)) c.in-Ok-set_global.ensures.kept
+    ∙ ap (λ xs. restoring v ls (scope_base ∷ xs)) c.in-Ok-set_global.ensures.owes
 
 pub returns-in-Err-set_global-clause-gives : goal.returns-in-Err-set_global-clause-gives
 returns-in-Err-set_global-clause-gives g c = subst (λ o. IfSome (told c.in-Err-set_global.e) (λ r. old_value no_global_frame o (string_bytes c.args.name) ≡ Err r)) (sym (shown_globals_are (g.R.Runtime.view c.args.self.now.base) (map layer_of c.args.self.now.table.links.items) c.in-None.ensures)) c.in-Err-set_global.ensures.gives

@@ -27,7 +27,7 @@ returns-in-Ok-clause-opens g c =
     ap (λ ys. restoring w (map layer_of ys) rs) c.in-Ok.ensures.added ∙ ap (λ ys. restoring w ys rs) (map_append layer_of xs (l ∷ []))
     ∙ restores_over v w ls (layer_of l) rs c.opening-link.ensures.registers
     ∙ ap (λ r. r ∷ restoring v ls rs) (c.opening-link.ensures.restores (shown_over v ls) (shown_registers v ls))
-    ∙ ap (λ ys. restored_by (frame_of c.args.frame) (shown_over v ls) ∷ restoring v ls (scope_base ∷ ys)) c.opening-link.ensures.kept
+    ∙ ap (λ ys. restored_by (frame_of c.args.frame) (shown_over v ls) ∷ restoring v ls (scope_base ∷ ys)) c.opening-link.ensures.owes
 
 pub returns-in-Err-clause-unchanged : goal.returns-in-Err-clause-unchanged
 returns-in-Err-clause-unchanged g c =
@@ -38,8 +38,8 @@ returns-in-Err-clause-unchanged g c =
     let back = given_back v w u (layer_of c.opening-link.result) (layer_of c.in-Err.link) _ (frame_of c.args.frame) c.opening-link.ensures.registers c.closing.ensures.registers c.opening-link.ensures.begins c.opening-link.ensures.restores c.closing.ensures.ends (ap layer_of c.in-Err.ensures.back) in
     ap (λ ys. shown_over u (map layer_of ys)) c.in-Err.ensures.unchanged ∙ ap (λ y. shown_over y ls) back
 
-pub returns-in-Err-clause-kept : goal.returns-in-Err-clause-kept
-returns-in-Err-clause-kept g c =
+pub returns-in-Err-clause-owes : goal.returns-in-Err-clause-owes
+returns-in-Err-clause-owes g c =
     let v = g.R.Runtime.view c.args.self.now.base in
     let w = g.R.Runtime.view c.opening-link.new.base in
     let u = g.R.Runtime.view c.closing.new.base in
@@ -47,4 +47,4 @@ returns-in-Err-clause-kept g c =
     let back = given_back v w u (layer_of c.opening-link.result) (layer_of c.in-Err.link) _ (frame_of c.args.frame) c.opening-link.ensures.registers c.closing.ensures.registers c.opening-link.ensures.begins c.opening-link.ensures.restores c.closing.ensures.ends (ap layer_of c.in-Err.ensures.back) in
     let rs = scope_base ∷ g.R.Runtime.restores c.closing.new.base in
     ap (λ ys. restoring u (map layer_of ys) rs) c.in-Err.ensures.unchanged ∙ ap (λ y. restoring y ls rs) back
-    ∙ ap (λ ys. restoring v ls (scope_base ∷ ys)) (c.closing.ensures.kept ∙ c.opening-link.ensures.kept)
+    ∙ ap (λ ys. restoring v ls (scope_base ∷ ys)) (c.closing.ensures.owes ∙ c.opening-link.ensures.owes)

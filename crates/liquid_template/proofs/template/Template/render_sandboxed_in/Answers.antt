@@ -14,7 +14,7 @@ returns-in-Err-push-clause-sandboxed g c =
 pub returns-clause-sandboxed : goal.returns-clause-sandboxed
 returns-clause-sandboxed g c =
     sandboxed_renders _ g.met.T.Discreet.hides g.met.B.Discreet.hides _ _ _ _ _ _ _ _ _ _ _ _ _ _ _
-    c.in-Ok.ensures c.in-Ok-push.ensures.ok c.in-Ok-push.ensures.opens c.render_in-answer.ensures.owes c.pop.ensures.ends (rw c.in-Ok-push.ensures.stays at c.render_in-answer.ensures.renders)
+    c.in-Ok.ensures c.in-Ok-push.ensures.ok c.in-Ok-push.ensures.opens c.render_in-answer.ensures.owes c.pop.ensures.ends (rw c.in-Ok-push.ensures.store at c.render_in-answer.ensures.renders)
 
 pub returns-in-Err-clause-untouched : goal.returns-in-Err-clause-untouched
 returns-in-Err-clause-untouched g c = untouched_still _ _ refl
