@@ -4,13 +4,13 @@ use bench::filters::AnyFilter;
 use bench::languages::language;
 use bench::partial::OnePartial;
 use bench::tags::TagNode;
-use tests_lines::Line;
 use liquid_core::model::{Object, Value, ValueRender};
 use liquid_core::parser::parse;
 use liquid_core::runtime::{BuiltRuntime, Runtime, RuntimeBuilder, Template};
 use std::alloc::{AllocError, Global};
 use std::rc::Rc;
 use std::test::Fail;
+use tests_lines::Line;
 
 pub(crate) type Page = Template<AnyFilter, TagNode, BlockNode>;
 

@@ -2,10 +2,10 @@
 use crate::calls::{CALLS, Call, rendered};
 use crate::given::{Page, ROWS, is_left, page, refusal};
 use bench::dripping::Dripping;
-use tests_lines::Line;
 use liquid_core::Error;
 use std::alloc::Global;
 use std::test::Fail;
+use tests_lines::Line;
 
 /// Whether a call is refused by this text, which is empty where it is not refused.
 pub(crate) fn is_refused(

@@ -2,11 +2,11 @@
 use crate::calls::{CALLS, Call, rendered};
 use crate::given::{Page, ROWS, is_left, page, refusal};
 use crate::sink_rows::is_refused;
-use tests_lines::Line;
 use liquid_core::{Sink, SinkFault, WriterSink};
 use std::alloc::Global;
 use std::io::{self, ErrorKind, Write};
 use std::test::Fail;
+use tests_lines::Line;
 
 /// How a write fails.
 #[derive(Clone, Copy, Debug)]
