@@ -32,28 +32,33 @@ fn around(alloc: Global) -> Result<BuiltRuntime<(), ()>, AllocError> {
     Ok(RuntimeBuilder::new(alloc).set_globals(globals).build())
 }
 
-fn is_memory<T>(answer: &Result<T, Error>) -> bool {
-    match answer {
-        Ok(_) => false,
-        Err(error) => error.is_memory(),
+/// Sees that a join is refused for another reason than want of memory.
+fn refused(error: &Error) -> Result<(), Fail> {
+    if error.is_memory() {
+        Err(Fail::from("a join answers want of memory"))
+    } else {
+        Ok(())
     }
 }
 
 /// What a text is rendered as when it is read first, or none where it is refused.
 fn rendered(alloc: Global, language: &TheLanguage, text: &str) -> Result<Option<String>, Fail> {
-    let read = parse(alloc, text, language);
-    if is_memory(&read) {
-        return Err(Fail::from("reading a join answers want of memory"));
+    match parse(alloc, text, language) {
+        Ok(nodes) => {
+            let mut runtime = around(alloc)?;
+            match Template::new(nodes).render(alloc, &mut runtime) {
+                Ok(shown) => Ok(Some(shown)),
+                Err(error) => {
+                    refused(&error)?;
+                    Ok(None)
+                }
+            }
+        }
+        Err(error) => {
+            refused(&error)?;
+            Ok(None)
+        }
     }
-    let Ok(nodes) = read else {
-        return Ok(None);
-    };
-    let mut runtime = around(alloc)?;
-    let answer = Template::new(nodes).render(alloc, &mut runtime);
-    if is_memory(&answer) {
-        return Err(Fail::from("rendering a join answers want of memory"));
-    }
-    Ok(answer.ok())
 }
 
 /// Reads and renders a text, and does so again in one call, which has to come to the same. Answers 1.
@@ -61,13 +66,15 @@ fn tried(alloc: Global, language: &TheLanguage, text: &str) -> Result<usize, Fai
     let shown = rendered(alloc, language, text)?;
     let mut sink = TextSink::new(alloc);
     let mut runtime = around(alloc)?;
-    let answer = render_source(alloc, text, language, &mut runtime, &mut sink);
-    if is_memory(&answer) {
-        return Err(Fail::from("a join in one call answers want of memory"));
-    }
-    let agrees = match &shown {
-        Some(shown) => answer.is_ok() && sink.as_bytes() == shown.as_bytes(),
-        None => answer.is_err(),
+    let agrees = match render_source(alloc, text, language, &mut runtime, &mut sink) {
+        Ok(()) => match &shown {
+            Some(shown) => sink.as_bytes() == shown.as_bytes(),
+            None => false,
+        },
+        Err(error) => {
+            refused(&error)?;
+            shown.is_none()
+        }
     };
     if agrees {
         Ok(1)
