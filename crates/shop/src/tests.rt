@@ -48,12 +48,12 @@ const ROWS: &str = r#"["{{ 'rain' | upcase }}", 1, "RAIN"]
 #[test]
 fn rows_of_the_language(rt: HostRuntime) -> Result<(), Fail> {
     let alloc = rt.alloc();
-    let mut rows = 0;
+    let mut rows: usize = 0;
     for line in ROWS.lines() {
         let row = Line::of(alloc, line)?;
         let written = written(alloc, row.text(0)?, row.number(1)?)?;
         assert_eq!(rt; written.as_str(), row.text(2)?);
-        rows += 1;
+        rows = rows.saturating_add(1);
     }
     assert_eq!(rt; rows, 18);
     Ok(())
