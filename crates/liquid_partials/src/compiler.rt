@@ -25,5 +25,7 @@ pub trait PartialCompiler<F: ParseFilter, T: ParseTag<F>, B: ParseBlock<F>> {
         alloc: Global,
         language: Rc<Language<F, T, B>>,
     ) -> Result<Self::Store, AllocError>
-        ensures { IfOk result (λ store. Compiled (language_of F.makes T.gives B.block language.value) (texts self) (Self.Store.finds store)) };
+        ensures { IfOk result
+            (λ store. Compiled (language_of F.makes T.gives B.block language.value) (texts self)
+            (Self.Store.finds store)) };
 }

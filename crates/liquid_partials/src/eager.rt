@@ -6,9 +6,8 @@ ghost use Rattle.liquid_error.specs.meaning.Told.{Gives};
 ghost use Rattle.liquid_parser.specs.meaning.Plugins.{language_of};
 ghost use Rattle.liquid_partials.specs.meaning.Compiled.{Compiled};
 ghost use Rattle.liquid_partials.specs.contracts.eager.EagerCompiler.{the_row};
-ghost use Rattle.liquid_partials.specs.meaning.Kept.{kept_or_read, HasAll};
+ghost use Rattle.liquid_partials.specs.meaning.Kept.{kept_or_read, shared_nodes, HasAll};
 ghost use Rattle.liquid_template.specs.meaning.Partials.{partial_in, tree_in};
-ghost use Rattle.liquid_template.specs.meaning.TemplateOf.{template_nodes};
 
 use crate::compiler::PartialCompiler;
 use crate::lazy::{LazyCompiler, LazyStore};
@@ -81,7 +80,9 @@ where
         language: Rc<Language<F, T, B>>,
     ) -> Result<EagerStore<S, F, T, B>, AllocError>
         ensures compiled { IfOk result (λ store. Compiled (language_of F.makes T.gives B.block language.value) (S.texts self.source)
-            (kept_or_read (λ template. template_nodes F.Filter.shape T.Node.shape B.Node.shape template.value) (language_of F.makes T.gives B.block store.lazy.texts.language.value) store.lazy.kept (S.texts store.lazy.texts.source))) }
+            (kept_or_read (shared_nodes F.Filter.shape T.Node.shape B.Node.shape)
+            (language_of F.makes T.gives B.block store.lazy.texts.language.value) store.lazy.kept
+            (S.texts store.lazy.texts.source))) }
         ensures count { IfOk result (λ store. store.lazy.texts.readings.count ≡ len (S.texts self.source)) }
     {
         let mut lazy = LazyCompiler::new(self.source).compile(alloc, language)?;
@@ -132,7 +133,9 @@ where
     T: ParseTag<F> + Drop,
     B: ParseBlock<F> + Drop,
 {
-    ghost finds = { λ store. kept_or_read (λ template. template_nodes F.Filter.shape T.Node.shape B.Node.shape template.value) (language_of F.makes T.gives B.block store.lazy.texts.language.value) store.lazy.kept (S.texts store.lazy.texts.source) };
+    ghost finds = { λ store. kept_or_read (shared_nodes F.Filter.shape T.Node.shape B.Node.shape)
+        (language_of F.makes T.gives B.block store.lazy.texts.language.value) store.lazy.kept
+        (S.texts store.lazy.texts.source) };
 
     fn contains(&self, name: &str) -> bool {
         self.lazy.contains(name)
@@ -147,8 +150,17 @@ where
         alloc: Global,
         name: &str,
     ) -> Result<Option<Rc<Template<F::Filter, T::Node, B::Node>>>, AllocError>
-        ensures gives { IfOk result (λ found. option_map (λ template. template_nodes F.Filter.shape T.Node.shape B.Node.shape template.value) found ≡ tree_in (kept_or_read (λ template. template_nodes F.Filter.shape T.Node.shape B.Node.shape template.value) (language_of F.makes T.gives B.block self.old.lazy.texts.language.value) self.old.lazy.kept (S.texts self.old.lazy.texts.source)) name.now) }
-        ensures kept { (kept_or_read (λ template. template_nodes F.Filter.shape T.Node.shape B.Node.shape template.value) (language_of F.makes T.gives B.block self.new.lazy.texts.language.value) self.new.lazy.kept (S.texts self.new.lazy.texts.source)) ≡ (kept_or_read (λ template. template_nodes F.Filter.shape T.Node.shape B.Node.shape template.value) (language_of F.makes T.gives B.block self.old.lazy.texts.language.value) self.old.lazy.kept (S.texts self.old.lazy.texts.source)) }
+        ensures gives { IfOk result
+            (λ found. option_map (shared_nodes F.Filter.shape T.Node.shape B.Node.shape) found
+            ≡ tree_in (kept_or_read (shared_nodes F.Filter.shape T.Node.shape B.Node.shape)
+            (language_of F.makes T.gives B.block self.old.lazy.texts.language.value) self.old.lazy.kept
+            (S.texts self.old.lazy.texts.source)) name.now) }
+        ensures kept { (kept_or_read (shared_nodes F.Filter.shape T.Node.shape B.Node.shape)
+            (language_of F.makes T.gives B.block self.new.lazy.texts.language.value) self.new.lazy.kept
+            (S.texts self.new.lazy.texts.source))
+            ≡ (kept_or_read (shared_nodes F.Filter.shape T.Node.shape B.Node.shape)
+            (language_of F.makes T.gives B.block self.old.lazy.texts.language.value) self.old.lazy.kept
+            (S.texts self.old.lazy.texts.source)) }
         ensures count { self.new.lazy.texts.readings.count ≡ self.old.lazy.texts.readings.count }
     {
         self.lazy.try_get(alloc, name)
@@ -159,8 +171,16 @@ where
         alloc: Global,
         name: &str,
     ) -> Result<Rc<Template<F::Filter, T::Node, B::Node>>, Error>
-        ensures gives { Gives (λ template. template_nodes F.Filter.shape T.Node.shape B.Node.shape template.value) result (partial_in (kept_or_read (λ template. template_nodes F.Filter.shape T.Node.shape B.Node.shape template.value) (language_of F.makes T.gives B.block self.old.lazy.texts.language.value) self.old.lazy.kept (S.texts self.old.lazy.texts.source)) name.now) }
-        ensures kept { (kept_or_read (λ template. template_nodes F.Filter.shape T.Node.shape B.Node.shape template.value) (language_of F.makes T.gives B.block self.new.lazy.texts.language.value) self.new.lazy.kept (S.texts self.new.lazy.texts.source)) ≡ (kept_or_read (λ template. template_nodes F.Filter.shape T.Node.shape B.Node.shape template.value) (language_of F.makes T.gives B.block self.old.lazy.texts.language.value) self.old.lazy.kept (S.texts self.old.lazy.texts.source)) }
+        ensures gives { Gives (shared_nodes F.Filter.shape T.Node.shape B.Node.shape) result
+            (partial_in (kept_or_read (shared_nodes F.Filter.shape T.Node.shape B.Node.shape)
+            (language_of F.makes T.gives B.block self.old.lazy.texts.language.value) self.old.lazy.kept
+            (S.texts self.old.lazy.texts.source)) name.now) }
+        ensures kept { (kept_or_read (shared_nodes F.Filter.shape T.Node.shape B.Node.shape)
+            (language_of F.makes T.gives B.block self.new.lazy.texts.language.value) self.new.lazy.kept
+            (S.texts self.new.lazy.texts.source))
+            ≡ (kept_or_read (shared_nodes F.Filter.shape T.Node.shape B.Node.shape)
+            (language_of F.makes T.gives B.block self.old.lazy.texts.language.value) self.old.lazy.kept
+            (S.texts self.old.lazy.texts.source)) }
         ensures count { self.new.lazy.texts.readings.count ≡ self.old.lazy.texts.readings.count }
     {
         self.lazy.get(alloc, name)

@@ -7,9 +7,8 @@ ghost use Rattle.liquid_parser.specs.meaning.Plugins.{language_of};
 ghost use Rattle.liquid_partials.specs.meaning.Compiled.{Compiled, once};
 ghost use Rattle.liquid_partials.specs.contracts.lazy.LazyCompiler.{the_row};
 ghost use Rattle.liquid_partials.specs.meaning.Keeping.{is_answer, is_read, kept_after};
-ghost use Rattle.liquid_partials.specs.meaning.Kept.{all_kept, kept_as, kept_or_read, readings, Known};
+ghost use Rattle.liquid_partials.specs.meaning.Kept.{all_kept, kept_as, kept_or_read, readings, shared_nodes, Known};
 ghost use Rattle.liquid_template.specs.meaning.Partials.{partial_in, read_tree, tree_in};
-ghost use Rattle.liquid_template.specs.meaning.TemplateOf.{template_nodes};
 
 use crate::compiler::PartialCompiler;
 use crate::source::PartialSource;
@@ -82,9 +81,11 @@ where
         language: Rc<Language<F, T, B>>,
     ) -> Result<LazyStore<S, F, T, B>, AllocError>
         ensures compiled { IfOk result (λ store. Compiled (language_of F.makes T.gives B.block language.value) (S.texts self.source)
-            (kept_or_read (λ template. template_nodes F.Filter.shape T.Node.shape B.Node.shape template.value) (language_of F.makes T.gives B.block store.texts.language.value) store.kept (S.texts store.texts.source))) }
+            (kept_or_read (shared_nodes F.Filter.shape T.Node.shape B.Node.shape)
+            (language_of F.makes T.gives B.block store.texts.language.value) store.kept
+            (S.texts store.texts.source))) }
         ensures source { IfOk result (λ store. store.texts.source ≡ self.source) }
-        ensures kept { IfOk result (λ store. (all_kept (λ template. template_nodes F.Filter.shape T.Node.shape B.Node.shape template.value) store.kept) ≡ empty) }
+        ensures kept { IfOk result (λ store. (all_kept (shared_nodes F.Filter.shape T.Node.shape B.Node.shape) store.kept) ≡ empty) }
         ensures count { IfOk result (λ store. store.texts.readings.count ≡ 0) }
     {
         let texts = Texts::new(self.source, language);
@@ -121,7 +122,7 @@ where
     /// Whether the answer for this name is kept. Takes no memory.
     #[tactic(auto, using(crate::proofs::EachLemmas::sources))]
     pub fn is_kept(&self, name: &str) -> bool
-        ensures { result ≡ contains_key (all_kept (λ template. template_nodes F.Filter.shape T.Node.shape B.Node.shape template.value) self.now.kept) name.now }
+        ensures { result ≡ contains_key (all_kept (shared_nodes F.Filter.shape T.Node.shape B.Node.shape) self.now.kept) name.now }
     {
         self.kept.contains_key(name)
     }
@@ -136,7 +137,8 @@ where
     /// What is kept under a name.
     #[tactic(auto, using(crate::proofs::EachLemmas::sources))]
     fn under(&self, name: &str) -> Option<&Kept<F::Filter, T::Node, B::Node>>
-        ensures { option_map (λ kept. kept_as (λ template. template_nodes F.Filter.shape T.Node.shape B.Node.shape template.value) kept.now) result ≡ get (all_kept (λ template. template_nodes F.Filter.shape T.Node.shape B.Node.shape template.value) self.now.kept) name.now }
+        ensures { option_map (λ kept. kept_as (shared_nodes F.Filter.shape T.Node.shape B.Node.shape) kept.now) result
+            ≡ get (all_kept (shared_nodes F.Filter.shape T.Node.shape B.Node.shape) self.now.kept) name.now }
     {
         self.kept.get(name)
     }
@@ -148,13 +150,30 @@ where
         alloc: Global,
         name: &str,
     ) -> Result<Option<Kept<F::Filter, T::Node, B::Node>>, AllocError>
-        requires { contains_key (all_kept (λ template. template_nodes F.Filter.shape T.Node.shape B.Node.shape template.value) self.old.kept) name.now ≡ false }
-        ensures gives { IfOk result (λ answer. option_map (kept_as (λ template. template_nodes F.Filter.shape T.Node.shape B.Node.shape template.value)) answer ≡ get (kept_or_read (λ template. template_nodes F.Filter.shape T.Node.shape B.Node.shape template.value) (language_of F.makes T.gives B.block self.old.texts.language.value) self.old.kept (S.texts self.old.texts.source)) name.now) }
+        requires { contains_key (all_kept (shared_nodes F.Filter.shape T.Node.shape B.Node.shape) self.old.kept) name.now ≡ false }
+        ensures gives { IfOk result
+            (λ answer. option_map (kept_as (shared_nodes F.Filter.shape T.Node.shape B.Node.shape)) answer
+            ≡ get (kept_or_read (shared_nodes F.Filter.shape T.Node.shape B.Node.shape)
+            (language_of F.makes T.gives B.block self.old.texts.language.value) self.old.kept
+            (S.texts self.old.texts.source)) name.now) }
         ensures told { IfOk result (λ answer. IfSome answer (λ kept. is_answer kept ≡ true)) }
-        ensures same { (kept_or_read (λ template. template_nodes F.Filter.shape T.Node.shape B.Node.shape template.value) (language_of F.makes T.gives B.block self.new.texts.language.value) self.new.kept (S.texts self.new.texts.source)) ≡ (kept_or_read (λ template. template_nodes F.Filter.shape T.Node.shape B.Node.shape template.value) (language_of F.makes T.gives B.block self.old.texts.language.value) self.old.kept (S.texts self.old.texts.source)) }
-        ensures keeps { (all_kept (λ template. template_nodes F.Filter.shape T.Node.shape B.Node.shape template.value) self.new.kept) ≡ kept_after (is_ok result) (kept_or_read (λ template. template_nodes F.Filter.shape T.Node.shape B.Node.shape template.value) (language_of F.makes T.gives B.block self.old.texts.language.value) self.old.kept (S.texts self.old.texts.source)) name.now (all_kept (λ template. template_nodes F.Filter.shape T.Node.shape B.Node.shape template.value) self.old.kept) }
+        ensures same { (kept_or_read (shared_nodes F.Filter.shape T.Node.shape B.Node.shape)
+            (language_of F.makes T.gives B.block self.new.texts.language.value) self.new.kept
+            (S.texts self.new.texts.source))
+            ≡ (kept_or_read (shared_nodes F.Filter.shape T.Node.shape B.Node.shape)
+            (language_of F.makes T.gives B.block self.old.texts.language.value) self.old.kept
+            (S.texts self.old.texts.source)) }
+        ensures keeps { (all_kept (shared_nodes F.Filter.shape T.Node.shape B.Node.shape) self.new.kept)
+            ≡ kept_after (is_ok result) (kept_or_read (shared_nodes F.Filter.shape T.Node.shape B.Node.shape)
+            (language_of F.makes T.gives B.block self.old.texts.language.value) self.old.kept
+            (S.texts self.old.texts.source)) name.now
+            (all_kept (shared_nodes F.Filter.shape T.Node.shape B.Node.shape) self.old.kept) }
         ensures source { self.new.texts.source ≡ self.old.texts.source }
-        ensures count { self.new.texts.readings.count ≡ self.old.texts.readings.count + once (is_read (kept_or_read (λ template. template_nodes F.Filter.shape T.Node.shape B.Node.shape template.value) (language_of F.makes T.gives B.block self.old.texts.language.value) self.old.kept (S.texts self.old.texts.source)) (all_kept (λ template. template_nodes F.Filter.shape T.Node.shape B.Node.shape template.value) self.old.kept) name.now) }
+        ensures count { self.new.texts.readings.count ≡ self.old.texts.readings.count
+            + once (is_read (kept_or_read (shared_nodes F.Filter.shape T.Node.shape B.Node.shape)
+            (language_of F.makes T.gives B.block self.old.texts.language.value) self.old.kept
+            (S.texts self.old.texts.source))
+            (all_kept (shared_nodes F.Filter.shape T.Node.shape B.Node.shape) self.old.kept) name.now) }
     {
         match kept_of(alloc, &mut self.texts, name)? {
             Some(answer) => {
@@ -174,7 +193,8 @@ where
     T: ParseTag<F> + Drop,
     B: ParseBlock<F> + Drop,
 {
-    ghost finds = { λ store. kept_or_read (λ template. template_nodes F.Filter.shape T.Node.shape B.Node.shape template.value) (language_of F.makes T.gives B.block store.texts.language.value) store.kept (S.texts store.texts.source) };
+    ghost finds = { λ store. kept_or_read (shared_nodes F.Filter.shape T.Node.shape B.Node.shape)
+        (language_of F.makes T.gives B.block store.texts.language.value) store.kept (S.texts store.texts.source) };
 
     fn contains(&self, name: &str) -> bool {
         self.texts.contains(name)
@@ -190,11 +210,28 @@ where
         alloc: Global,
         name: &str,
     ) -> Result<Option<Rc<Template<F::Filter, T::Node, B::Node>>>, AllocError>
-        ensures gives { IfOk result (λ found. option_map (λ template. template_nodes F.Filter.shape T.Node.shape B.Node.shape template.value) found ≡ tree_in (kept_or_read (λ template. template_nodes F.Filter.shape T.Node.shape B.Node.shape template.value) (language_of F.makes T.gives B.block self.old.texts.language.value) self.old.kept (S.texts self.old.texts.source)) name.now) }
-        ensures kept { (kept_or_read (λ template. template_nodes F.Filter.shape T.Node.shape B.Node.shape template.value) (language_of F.makes T.gives B.block self.new.texts.language.value) self.new.kept (S.texts self.new.texts.source)) ≡ (kept_or_read (λ template. template_nodes F.Filter.shape T.Node.shape B.Node.shape template.value) (language_of F.makes T.gives B.block self.old.texts.language.value) self.old.kept (S.texts self.old.texts.source)) }
-        ensures keeps { (all_kept (λ template. template_nodes F.Filter.shape T.Node.shape B.Node.shape template.value) self.new.kept) ≡ kept_after (is_ok result) (kept_or_read (λ template. template_nodes F.Filter.shape T.Node.shape B.Node.shape template.value) (language_of F.makes T.gives B.block self.old.texts.language.value) self.old.kept (S.texts self.old.texts.source)) name.now (all_kept (λ template. template_nodes F.Filter.shape T.Node.shape B.Node.shape template.value) self.old.kept) }
+        ensures gives { IfOk result
+            (λ found. option_map (shared_nodes F.Filter.shape T.Node.shape B.Node.shape) found
+            ≡ tree_in (kept_or_read (shared_nodes F.Filter.shape T.Node.shape B.Node.shape)
+            (language_of F.makes T.gives B.block self.old.texts.language.value) self.old.kept
+            (S.texts self.old.texts.source)) name.now) }
+        ensures kept { (kept_or_read (shared_nodes F.Filter.shape T.Node.shape B.Node.shape)
+            (language_of F.makes T.gives B.block self.new.texts.language.value) self.new.kept
+            (S.texts self.new.texts.source))
+            ≡ (kept_or_read (shared_nodes F.Filter.shape T.Node.shape B.Node.shape)
+            (language_of F.makes T.gives B.block self.old.texts.language.value) self.old.kept
+            (S.texts self.old.texts.source)) }
+        ensures keeps { (all_kept (shared_nodes F.Filter.shape T.Node.shape B.Node.shape) self.new.kept)
+            ≡ kept_after (is_ok result) (kept_or_read (shared_nodes F.Filter.shape T.Node.shape B.Node.shape)
+            (language_of F.makes T.gives B.block self.old.texts.language.value) self.old.kept
+            (S.texts self.old.texts.source)) name.now
+            (all_kept (shared_nodes F.Filter.shape T.Node.shape B.Node.shape) self.old.kept) }
         ensures source { self.new.texts.source ≡ self.old.texts.source }
-        ensures count { self.new.texts.readings.count ≡ self.old.texts.readings.count + once (is_read (kept_or_read (λ template. template_nodes F.Filter.shape T.Node.shape B.Node.shape template.value) (language_of F.makes T.gives B.block self.old.texts.language.value) self.old.kept (S.texts self.old.texts.source)) (all_kept (λ template. template_nodes F.Filter.shape T.Node.shape B.Node.shape template.value) self.old.kept) name.now) }
+        ensures count { self.new.texts.readings.count ≡ self.old.texts.readings.count
+            + once (is_read (kept_or_read (shared_nodes F.Filter.shape T.Node.shape B.Node.shape)
+            (language_of F.makes T.gives B.block self.old.texts.language.value) self.old.kept
+            (S.texts self.old.texts.source))
+            (all_kept (shared_nodes F.Filter.shape T.Node.shape B.Node.shape) self.old.kept) name.now) }
     {
         match self.under(name) {
             Some(answer) => kept_tree(answer),
@@ -212,11 +249,28 @@ where
         alloc: Global,
         name: &str,
     ) -> Result<Rc<Template<F::Filter, T::Node, B::Node>>, Error>
-        ensures gives { Gives (λ template. template_nodes F.Filter.shape T.Node.shape B.Node.shape template.value) result (partial_in (kept_or_read (λ template. template_nodes F.Filter.shape T.Node.shape B.Node.shape template.value) (language_of F.makes T.gives B.block self.old.texts.language.value) self.old.kept (S.texts self.old.texts.source)) name.now) }
-        ensures kept { (kept_or_read (λ template. template_nodes F.Filter.shape T.Node.shape B.Node.shape template.value) (language_of F.makes T.gives B.block self.new.texts.language.value) self.new.kept (S.texts self.new.texts.source)) ≡ (kept_or_read (λ template. template_nodes F.Filter.shape T.Node.shape B.Node.shape template.value) (language_of F.makes T.gives B.block self.old.texts.language.value) self.old.kept (S.texts self.old.texts.source)) }
-        ensures keeps { (all_kept (λ template. template_nodes F.Filter.shape T.Node.shape B.Node.shape template.value) self.new.kept) ≡ kept_after (is_answer result) (kept_or_read (λ template. template_nodes F.Filter.shape T.Node.shape B.Node.shape template.value) (language_of F.makes T.gives B.block self.old.texts.language.value) self.old.kept (S.texts self.old.texts.source)) name.now (all_kept (λ template. template_nodes F.Filter.shape T.Node.shape B.Node.shape template.value) self.old.kept) }
+        ensures gives { Gives (shared_nodes F.Filter.shape T.Node.shape B.Node.shape) result
+            (partial_in (kept_or_read (shared_nodes F.Filter.shape T.Node.shape B.Node.shape)
+            (language_of F.makes T.gives B.block self.old.texts.language.value) self.old.kept
+            (S.texts self.old.texts.source)) name.now) }
+        ensures kept { (kept_or_read (shared_nodes F.Filter.shape T.Node.shape B.Node.shape)
+            (language_of F.makes T.gives B.block self.new.texts.language.value) self.new.kept
+            (S.texts self.new.texts.source))
+            ≡ (kept_or_read (shared_nodes F.Filter.shape T.Node.shape B.Node.shape)
+            (language_of F.makes T.gives B.block self.old.texts.language.value) self.old.kept
+            (S.texts self.old.texts.source)) }
+        ensures keeps { (all_kept (shared_nodes F.Filter.shape T.Node.shape B.Node.shape) self.new.kept)
+            ≡ kept_after (is_answer result)
+            (kept_or_read (shared_nodes F.Filter.shape T.Node.shape B.Node.shape)
+            (language_of F.makes T.gives B.block self.old.texts.language.value) self.old.kept
+            (S.texts self.old.texts.source)) name.now
+            (all_kept (shared_nodes F.Filter.shape T.Node.shape B.Node.shape) self.old.kept) }
         ensures source { self.new.texts.source ≡ self.old.texts.source }
-        ensures count { self.new.texts.readings.count ≡ self.old.texts.readings.count + once (is_read (kept_or_read (λ template. template_nodes F.Filter.shape T.Node.shape B.Node.shape template.value) (language_of F.makes T.gives B.block self.old.texts.language.value) self.old.kept (S.texts self.old.texts.source)) (all_kept (λ template. template_nodes F.Filter.shape T.Node.shape B.Node.shape template.value) self.old.kept) name.now) }
+        ensures count { self.new.texts.readings.count ≡ self.old.texts.readings.count
+            + once (is_read (kept_or_read (shared_nodes F.Filter.shape T.Node.shape B.Node.shape)
+            (language_of F.makes T.gives B.block self.old.texts.language.value) self.old.kept
+            (S.texts self.old.texts.source))
+            (all_kept (shared_nodes F.Filter.shape T.Node.shape B.Node.shape) self.old.kept) name.now) }
     {
         match self.under(name) {
             Some(answer) => kept_answer(answer),
@@ -241,7 +295,7 @@ where
     F: ParseFilter + Drop,
     T: ParseTag<F> + Drop,
     B: ParseBlock<F> + Drop,
-    ensures gives { IfOk result (λ kept. option_map (kept_as (λ template. template_nodes F.Filter.shape T.Node.shape B.Node.shape template.value)) kept
+    ensures gives { IfOk result (λ kept. option_map (kept_as (shared_nodes F.Filter.shape T.Node.shape B.Node.shape)) kept
         ≡ get (readings (language_of F.makes T.gives B.block texts.old.language.value) (S.texts texts.old.source)) name.now) }
     ensures told { IfOk result (λ kept. IfSome kept (λ answer. is_answer answer ≡ true)) }
     ensures source { texts.new.source ≡ texts.old.source }
@@ -268,9 +322,12 @@ fn keep<X: Filter, T: Meant + Drop, B: Meant + Drop>(
     name: String,
     answer: Kept<X, T, B>,
 ) -> Result<(), AllocError>
-    ensures ok { OnOk result (all_kept (λ template. template_nodes X.shape T.shape B.shape template.value) kept.new
-        ≡ insert (all_kept (λ template. template_nodes X.shape T.shape B.shape template.value) kept.old) (string_bytes name) (kept_as (λ template. template_nodes X.shape T.shape B.shape template.value) answer)) }
-    ensures err { OnErr result (all_kept (λ template. template_nodes X.shape T.shape B.shape template.value) kept.new ≡ all_kept (λ template. template_nodes X.shape T.shape B.shape template.value) kept.old) }
+    ensures ok { OnOk result (all_kept (shared_nodes X.shape T.shape B.shape) kept.new
+        ≡ insert (all_kept (shared_nodes X.shape T.shape B.shape) kept.old) (string_bytes name)
+        (kept_as (shared_nodes X.shape T.shape B.shape) answer)) }
+    ensures err { OnErr result
+        (all_kept (shared_nodes X.shape T.shape B.shape) kept.new ≡ all_kept
+        (shared_nodes X.shape T.shape B.shape) kept.old) }
 {
     match kept.insert(name, answer) {
         Ok(_) => Ok(()),
@@ -282,7 +339,7 @@ fn keep<X: Filter, T: Meant + Drop, B: Meant + Drop>(
 fn kept_answer<X: Filter, T: Meant + Drop, B: Meant + Drop>(
     kept: &Kept<X, T, B>,
 ) -> Result<Rc<Template<X, T, B>>, Error>
-    ensures { Gives (λ template. template_nodes X.shape T.shape B.shape template.value) result (kept_as (λ template. template_nodes X.shape T.shape B.shape template.value) kept.now) }
+    ensures { Gives (shared_nodes X.shape T.shape B.shape) result (kept_as (shared_nodes X.shape T.shape B.shape) kept.now) }
 {
     match kept {
         Ok(template) => Ok(template.clone()?),
@@ -294,7 +351,9 @@ fn kept_answer<X: Filter, T: Meant + Drop, B: Meant + Drop>(
 fn kept_tree<X: Filter, T: Meant + Drop, B: Meant + Drop>(
     kept: &Kept<X, T, B>,
 ) -> Result<Option<Rc<Template<X, T, B>>>, AllocError>
-    ensures { IfOk result (λ found. option_map (λ template. template_nodes X.shape T.shape B.shape template.value) found ≡ read_tree (kept_as (λ template. template_nodes X.shape T.shape B.shape template.value) kept.now)) }
+    ensures { IfOk result
+        (λ found. option_map (shared_nodes X.shape T.shape B.shape) found ≡ read_tree
+        (kept_as (shared_nodes X.shape T.shape B.shape) kept.now)) }
 {
     match kept {
         Ok(template) => Ok(Some(template.clone()?)),
@@ -306,7 +365,9 @@ fn kept_tree<X: Filter, T: Meant + Drop, B: Meant + Drop>(
 fn copied<X: Filter, T: Meant + Drop, B: Meant + Drop>(
     kept: &Kept<X, T, B>,
 ) -> Result<Kept<X, T, B>, AllocError>
-    ensures { IfOk result (λ copy. kept_as (λ template. template_nodes X.shape T.shape B.shape template.value) copy ≡ kept_as (λ template. template_nodes X.shape T.shape B.shape template.value) kept.now) }
+    ensures { IfOk result
+        (λ copy. kept_as (shared_nodes X.shape T.shape B.shape) copy ≡ kept_as
+        (shared_nodes X.shape T.shape B.shape) kept.now) }
 {
     match kept {
         Ok(template) => Ok(Ok(template.clone()?)),

@@ -6,9 +6,8 @@ ghost use Rattle.liquid_error.specs.meaning.Told.{Gives};
 ghost use Rattle.liquid_parser.specs.meaning.Plugins.{language_of};
 ghost use Rattle.liquid_partials.specs.meaning.Compiled.{Compiled, once};
 ghost use Rattle.liquid_partials.specs.contracts.on_demand.OnDemandCompiler.{the_row};
-ghost use Rattle.liquid_partials.specs.meaning.Kept.{readings};
+ghost use Rattle.liquid_partials.specs.meaning.Kept.{readings, shared_nodes};
 ghost use Rattle.liquid_template.specs.meaning.Partials.{partial_in, tree_in};
-ghost use Rattle.liquid_template.specs.meaning.TemplateOf.{template_nodes};
 
 use crate::compiler::PartialCompiler;
 use crate::source::PartialSource;
@@ -117,9 +116,15 @@ where
         alloc: Global,
         name: &str,
     ) -> Result<Option<Rc<Template<F::Filter, T::Node, B::Node>>>, AllocError>
-        ensures gives { IfOk result (λ found. option_map (λ template. template_nodes F.Filter.shape T.Node.shape B.Node.shape template.value) found ≡ tree_in (readings (language_of F.makes T.gives B.block self.old.texts.language.value) (S.texts self.old.texts.source)) name.now) }
-        ensures kept { readings (language_of F.makes T.gives B.block self.new.texts.language.value) (S.texts self.new.texts.source) ≡ readings (language_of F.makes T.gives B.block self.old.texts.language.value) (S.texts self.old.texts.source) }
-        ensures count { self.new.texts.readings.count ≡ self.old.texts.readings.count + once (contains_key (S.texts self.old.texts.source) name.now) }
+        ensures gives { IfOk result
+            (λ found. option_map (shared_nodes F.Filter.shape T.Node.shape B.Node.shape) found
+            ≡ tree_in (readings (language_of F.makes T.gives B.block self.old.texts.language.value)
+            (S.texts self.old.texts.source)) name.now) }
+        ensures kept { readings (language_of F.makes T.gives B.block self.new.texts.language.value)
+            (S.texts self.new.texts.source) ≡ readings
+            (language_of F.makes T.gives B.block self.old.texts.language.value) (S.texts self.old.texts.source) }
+        ensures count { self.new.texts.readings.count ≡ self.old.texts.readings.count
+            + once (contains_key (S.texts self.old.texts.source) name.now) }
     {
         match self.texts.read(alloc, name) {
             Ok(Some(template)) => Ok(Some(Rc::new(alloc, template)?)),
@@ -139,9 +144,14 @@ where
         alloc: Global,
         name: &str,
     ) -> Result<Rc<Template<F::Filter, T::Node, B::Node>>, Error>
-        ensures gives { Gives (λ template. template_nodes F.Filter.shape T.Node.shape B.Node.shape template.value) result (partial_in (readings (language_of F.makes T.gives B.block self.old.texts.language.value) (S.texts self.old.texts.source)) name.now) }
-        ensures kept { readings (language_of F.makes T.gives B.block self.new.texts.language.value) (S.texts self.new.texts.source) ≡ readings (language_of F.makes T.gives B.block self.old.texts.language.value) (S.texts self.old.texts.source) }
-        ensures count { self.new.texts.readings.count ≡ self.old.texts.readings.count + once (contains_key (S.texts self.old.texts.source) name.now) }
+        ensures gives { Gives (shared_nodes F.Filter.shape T.Node.shape B.Node.shape) result
+            (partial_in (readings (language_of F.makes T.gives B.block self.old.texts.language.value)
+            (S.texts self.old.texts.source)) name.now) }
+        ensures kept { readings (language_of F.makes T.gives B.block self.new.texts.language.value)
+            (S.texts self.new.texts.source) ≡ readings
+            (language_of F.makes T.gives B.block self.old.texts.language.value) (S.texts self.old.texts.source) }
+        ensures count { self.new.texts.readings.count ≡ self.old.texts.readings.count
+            + once (contains_key (S.texts self.old.texts.source) name.now) }
     {
         match self.texts.read(alloc, name) {
             Ok(Some(template)) => Ok(Rc::new(alloc, template)?),

@@ -3,6 +3,7 @@ use Rattle.std.specs.Prelude.{◌≡◌, ℕ, true, List, [], unwrap_or, String,
 use Rattle.std.specs.BTreeMap.{BTreeMap}
 use Rattle.std.specs.FinMap.{contains_key, get}
 use Rattle.std.specs.declared.alloc.Global.{Global}
+use Rattle.std.specs.declared.rc.Rc.{Rc}
 use Rattle.liquid_error.specs.declared.error.Error.{Error}
 use Rattle.liquid_error.specs.meaning.Refusal.{Refusal, plain, ok_then}
 use Rattle.liquid_error.specs.meaning.Told.{told}
@@ -12,7 +13,9 @@ use Rattle.liquid_plugins.specs.meaning.Registry.{by_name}
 use Rattle.liquid_plugins.specs.meaning.Nodes.{NodeShape, Nodes}
 use Rattle.liquid_parser.specs.meaning.Lang.{Lang}
 use Rattle.liquid_parser.specs.meaning.Reading.{answer}
+use Rattle.liquid_template.specs.declared.template.Template.{Template}
 use Rattle.liquid_template.specs.meaning.Partials.{Found}
+use Rattle.liquid_template.specs.meaning.TemplateOf.{template_nodes}
 use Rattle.liquid_partials.specs.meaning.Each.{each}
 use Rattle.liquid_partials.specs.meaning.Sources.{Texts}
 use Rattle.liquid_partials.specs.meaning.Compiled.{as_tree}
@@ -25,6 +28,10 @@ module _ {F T P B : Type 0} (l : Lang F T P B) where
   -- all texts of a source, each read
   abbrev pub readings : Texts → Found F T B
   readings texts = each (λ text. as_tree (reading text)) texts
+
+-- the shapes of the nodes of a template that is shared
+abbrev pub shared_nodes : {X N K Z F T B : Type 0} → (X → F) → (N → T) → (K → B) → Rc (Template X N K) Z → Nodes F T B
+shared_nodes filter tag block template = template_nodes filter tag block template.value
 
 module _ {A F T B : Type 0} (of : A → Nodes F T B) where
   -- what is kept of a text: its tree or its fault; want of memory is never kept
