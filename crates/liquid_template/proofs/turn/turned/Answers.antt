@@ -1,0 +1,27 @@
+use Rattle.std.proofs.Common.{◌≡◌, ◌∷◌, Ok, rules, refl, sym, ap, ◌∙◌, option_map}
+use Rattle.liquid_plugins.specs.meaning.TurnOf.{turn_of}
+use Rattle.liquid_template.proofs.Goings.{ends_refused, ends_over, text_ends, text_goes, body_opens, body_ends, partial_opens, partial_ends}
+use Rattle.liquid_template.proofs.turn.turned.Goals as goal
+
+pub returns-in-Err-clause-turned : goal.returns-in-Err-clause-turned
+returns-in-Err-clause-turned g c = rw c.refuse.ensures (ends_refused _ _ _ _ _ _ _ _ c.turn.ensures.frames _ _ c.in-Err.ensures.answer c.in-Err.ensures.after, c.turn.ensures.owes)
+
+pub returns-in-Ok-write_piece-clause-turned : goal.returns-in-Ok-write_piece-clause-turned
+returns-in-Ok-write_piece-clause-turned g c =
+    (text_goes _ _ _ _ _ _ _ _ c.turn.ensures.frames c.in-Ok.ensures.after c.in-Ok.ensures.progress _ _ _ _ (c.in-Ok.ensures.answer ∙ ap (λ x. Ok (turn_of x)) c.in-Text.is) (rw c.as_str.ensures.value at c.in-Ok-write_piece.ensures), search rules, c.turn.ensures.owes)
+
+pub returns-in-Err-write_piece-clause-turned : goal.returns-in-Err-write_piece-clause-turned
+returns-in-Err-write_piece-clause-turned g c =
+    rw c.refuse-in-Err-write_piece.ensures (text_ends _ _ _ _ _ _ _ _ c.turn.ensures.frames c.in-Ok.ensures.after c.in-Ok.ensures.progress _ _ _ _ (c.in-Ok.ensures.answer ∙ ap (λ x. Ok (turn_of x)) c.in-Text.is) (rw c.as_str.ensures.value at c.in-Err-write_piece.ensures), c.turn.ensures.owes)
+
+pub returns-in-Ok-push-clause-turned : goal.returns-in-Ok-push-clause-turned
+returns-in-Ok-push-clause-turned g c =
+    (body_opens _ _ _ _ _ _ _ _ c.turn.ensures.frames c.in-Ok.ensures.after c.in-Ok.ensures.progress _ _ _ _ _ _ _ (c.in-Ok.ensures.answer ∙ ap (λ x. Ok (turn_of x)) c.in-Body.is) c.in-Ok-push.ensures.ok (c.in-Ok-push.ensures.opens ∙ ap (λ rs. _ ∷ rs) c.turn.ensures.owes), search rules)
+
+pub returns-in-Err-push-clause-turned : goal.returns-in-Err-push-clause-turned
+returns-in-Err-push-clause-turned g c =
+    rw c.refuse-in-Err-push.ensures (body_ends _ _ _ _ _ _ _ _ c.turn.ensures.frames c.in-Ok.ensures.after c.in-Ok.ensures.progress _ _ _ _ _ _ (c.in-Ok.ensures.answer ∙ ap (λ x. Ok (turn_of x)) c.in-Body.is) c.in-Err-push.ensures.err c.in-Err-push.ensures.unchanged, c.in-Err-push.ensures.owes ∙ c.turn.ensures.owes)
+
+pub returns-in-End-clause-turned : goal.returns-in-End-clause-turned
+returns-in-End-clause-turned g c =
+    (ends_over _ _ _ _ _ _ _ _ c.turn.ensures.frames c.in-Ok.ensures.after _ _ (search rules) (c.in-Ok.ensures.answer ∙ ap (λ x. Ok (turn_of x)) c.in-End.is), c.turn.ensures.owes)
