@@ -11,8 +11,8 @@ use Rattle.liquid_runtime.specs.meaning.Frames.{FrameShape, Restore, beginning, 
 use Rattle.liquid_runtime.specs.meaning.OpenFrames.{opened, EndsFirst}
 use Rattle.liquid_plugins.specs.meaning.Turns.{TurnShape, text_turn, body_turn, partial_turn, end_turn, NodeMeaning}
 use Rattle.liquid_plugins.specs.meaning.Nodes.{NodeShape, Nodes, no_nodes, node}
-use Rattle.liquid_template.specs.meaning.Run.{Action}
-use Rattle.liquid_template.specs.meaning.Actions.{refuses, under, part_at, refused_through}
+use Rattle.liquid_template.specs.meaning.Run.{Run, Action}
+use Rattle.liquid_template.specs.meaning.Actions.{done, refuses, under, part_at, refused_through}
 use Rattle.liquid_template.specs.meaning.Nodes.{Setting, turns, played, run_node, run_nodes}
 use Rattle.liquid_template.specs.meaning.Partials.{partials_at, too_deep, read_as}
 use Rattle.liquid_template.specs.meaning.Rendering.{nodes_run}
@@ -23,7 +23,7 @@ use Rattle.liquid_template.specs.steps.NodeTurns.{Answer, Begins}
 use Rattle.liquid_template.specs.steps.Going.{Ends, Goes, Opens, Finds, Takes}
 use Rattle.liquid_template.specs.steps.Sought.{store_answer}
 use Rattle.liquid_template.proofs.Framing.{renders_framed, framed_kept, renders_memory, opened_restored}
-use Rattle.liquid_template.proofs.Joins.{renders_refused}
+use Rattle.liquid_template.proofs.Joins.{renders_done, renders_refused}
 use Rattle.liquid_template.proofs.Steps.{start_refused, turn_refused, turn_ends, turn_more, turn_fails}
 use Rattle.liquid_template.proofs.Renderings.{turns_done_at, list_fails_at, list_stops_at, list_goes_at, list_done_at, turn_puts, turn_bodies, turn_includes, if_then, deep_is, more_is}
 
@@ -36,7 +36,30 @@ true-not-false e = cc
 -- an answer that is done, or a refusal
 pub ok_is : (answer : Answer) → IsOk answer → answer ≡ Ok tt
 ok_is (Ok u) h = refl
-ok_is (Err e) h = absurd h
+ok_is (Err e) h = absurd (false-not-true h)
+
+-- the same of what is rendered
+pub renders_ok : {Reg : Type 0} (r : Run Reg) (v w : View Reg) (b a : Sunk) (answer : Answer) → IsOk answer → Renders r v b a w (Ok tt) → Renders r v b a w answer
+renders_ok r v w b a answer h x = subst (λ y. Renders r v b a w y) (sym (ok_is answer h)) x
+
+-- nothing was written
+pub done_ok : {Reg : Type 0} (v : View Reg) (b : Sunk) (answer : Answer) → IsOk answer → Renders (done v) v b b v answer
+done_ok v b answer h = renders_ok (done v) v v b b answer h (renders_done v b tt)
+
+-- want of memory before a frame is open
+pub frame_lost : {Reg : Type 0} (fresh : Reg) (frame : FrameShape) (trace : Option (List ℕ)) (inner : Action Reg) (v w : View Reg) (e : Error) → told e ≡ None → w ≡ v → (b : Sunk) → Renders (under fresh frame trace inner v) v b b w (Err e)
+frame_lost fresh frame trace inner v w e h i b = subst (λ x. Renders (under fresh frame trace inner v) v b b x (Err e)) (sym i) (renders_memory (under fresh frame trace inner v) v b e h)
+
+-- a refusal under a frame, which ends with it
+pub partial_fails : {Reg : Type 0} (fresh : Reg) (frame : FrameShape) (trace : Option (List ℕ)) (inner : Action Reg) (v v1 w x : View Reg) (rs rs1 rs2 rs3 : List (Restore Reg)) (e : Error) (answer : Answer) → v1 ≡ beginning fresh frame v → rs1 ≡ restored_by frame v ∷ rs → rs2 ≡ rs1 → w ≡ v1 → EndsFirst rs2 w rs3 x → ErrBecomes (refused_through trace) (Err e) answer
+    → IfSome (told e) (λ r. inner ≡ refuses r) → IsErrAnd answer (λ f. (b : Sunk) → Renders (under fresh frame trace inner v) v b b x (Err f))
+partial_fails fresh frame trace inner v v1 w x rs rs1 rs2 rs3 e (Ok u) h i j l k t r = absurd t
+partial_fails fresh frame trace inner v v1 w x rs rs1 rs2 rs3 e (Err f) h i j l k t r = λ b. renders_framed fresh frame trace inner v v1 w x rs rs1 rs2 rs3 b b (Err e) (Err f) h i j k t
+    (renders_refused (inner v1) v1 w b e (if_then (told e) (λ y z. ap (λ o. o v1) z ∙ ap (refuses y) (sym l)) r) (subst (λ y. SameFrames v1 y) (sym l) refl))
+
+-- what is owed above what is owed
+pub owed_above : {A : Type 0} (x : A) (xs ys zs : List A) → xs ≡ x ∷ ys → ys ≡ zs → xs ≡ x ∷ zs
+owed_above x xs ys zs e i = e ∙ ap (λ l. x ∷ l) i
 
 module _ {Reg F T P B Q : Type 0} (s : Setting Reg F T P B Q) (depth : ℕ) where
   module _ {N R : Type 0} (m : NodeMeaning N R Reg) (n : N) where
@@ -44,16 +67,16 @@ module _ {Reg F T P B Q : Type 0} (s : Setting Reg F T P B Q) (depth : ℕ) wher
     start_none parts v w b (Ok u) h same = absurd h
     start_none parts v w b (Err e) h same = start_refused s (partials_at s depth) m n parts v w b e h.0 h.1 same
 
-    module _ (p q : R) (v v1 : View Reg) (same : SameFrames v v1) where
-      pub ends_refused : (b : Sunk) (e : Error) → IfSome (told e) (λ r. (m.takes n p v).answer ≡ Err r) → OnSome (told e) (v1 ≡ with_written (m.takes n p v).written v) → Ends s depth m n p q v v1 b b (Err e)
+    module _ (p : R) (v v1 : View Reg) (same : SameFrames v v1) where
+      pub ends_refused : (b : Sunk) (e : Error) → IfSome (told e) (λ r. (m.takes n p v).answer ≡ Err r) → OnSome (told e) (v1 ≡ with_written (m.takes n p v).written v) → Ends s depth m n p p v v1 b b (Err e)
       ends_refused b e a h = λ parts k. turn_refused s (partials_at s depth) m n parts k p v v1 b e a h same
 
       module _ (written : v1 ≡ with_written (m.takes n p v).written v) where
-        pub ends_over : (b : Sunk) (answer : Answer) → IsOk answer → (m.takes n p v).answer ≡ Ok end_turn → Ends s depth m n p q v v1 b b answer
+        pub ends_over : (b : Sunk) (answer : Answer) → IsOk answer → (m.takes n p v).answer ≡ Ok end_turn → Ends s depth m n p p v v1 b b answer
         ends_over b (Ok u) ok a = λ parts k. turn_ends s (partials_at s depth) m n parts k p v v1 b u a written same
-        ends_over b (Err e) ok a = absurd ok
+        ends_over b (Err e) ok a = absurd (false-not-true ok)
 
-        module _ (progress : q ≡ (m.takes n p v).progress) where
+        module _ (q : R) (progress : q ≡ (m.takes n p v).progress) where
           pub text_ends : (piece : List ℕ) (b c : Sunk) (e : Error) → (m.takes n p v).answer ≡ Ok (text_turn piece) → PieceOut piece b c (Err e) → Ends s depth m n p q v v1 b c (Err e)
           text_ends piece b c e a h = λ parts k. turn_fails s (partials_at s depth) m n parts k p q v v1 v1 b c (text_turn piece) e (λ i. cc) a written progress same (turn_puts s (partials_at s depth) parts piece v1 b c (Err e) h)
 
@@ -92,8 +115,8 @@ module _ {Reg F T P B Q : Type 0} (s : Setting Reg F T P B Q) (depth : ℕ) wher
             partial_ends name (Err e) a h = λ parts k. turn_fails s (partials_at s depth) m n parts k p q v v1 w b b (partial_turn name frame trace) e (λ j. cc) a written progress same (turn_includes s (partials_at s depth) parts name frame trace v1 w b b (Err e) (h b))
 
   -- what a name comes to
-  pub finds_none : {A : Type 0} (of : A → Nodes F T B) (name : List ℕ) (e : Error) → depth ≡ 0 → IfSome (told e) (λ r. r ≡ too_deep) → Finds s depth of name (Err e)
-  finds_none of name e h i = if_then (told e) (λ r j. deep_is s depth name h ∙ ap refuses (sym j)) i
+  pub finds_none : (name : List ℕ) (e : Error) → depth ≡ 0 → IfSome (told e) (λ r. r ≡ too_deep) → IfSome (told e) (λ r. partials_at s depth name ≡ refuses r)
+  finds_none name e h i = if_then (told e) (λ r j. deep_is s depth name h ∙ ap refuses (sym j)) i
 
   pub finds_one : {A : Type 0} (of : A → Nodes F T B) (name : List ℕ) (x : A) → 0 < depth → store_answer s.finds name ≡ Ok (of x) → Finds s depth of name (Ok x)
   finds_one of name x h i = (h, more_is s depth name h ∙ ap (λ y. read_as y (nodes_run s (depth - 1))) i)
@@ -105,28 +128,18 @@ module _ {Reg F T P B Q : Type 0} (s : Setting Reg F T P B Q) (depth : ℕ) wher
   finds_given of name (Ok x) h i = finds_one of name x h i
   finds_given of name (Err e) h i = finds_refusal of name e h i
 
-  -- want of memory before a frame is open
-  pub frame_lost : (frame : FrameShape) (trace : Option (List ℕ)) (inner : Action Reg) (v w : View Reg) (e : Error) → told e ≡ None → w ≡ v → (b : Sunk) → Renders (under s.fresh frame trace inner v) v b b w (Err e)
-  frame_lost frame trace inner v w e h i b = subst (λ x. Renders (under s.fresh frame trace inner v) v b b x (Err e)) (sym i) (renders_memory (under s.fresh frame trace inner v) v b e h)
-
-  -- a refusal under a frame, which ends with it
-  pub partial_fails : (frame : FrameShape) (trace : Option (List ℕ)) (inner : Action Reg) (v v1 w x : View Reg) (rs rs1 rs2 rs3 : List (Restore Reg)) (e : Error) (answer : Answer) → v1 ≡ beginning s.fresh frame v → rs1 ≡ restored_by frame v ∷ rs → rs2 ≡ rs1 → w ≡ v1 → EndsFirst rs2 w rs3 x → ErrBecomes (refused_through trace) (Err e) answer
-      → IfSome (told e) (λ r. inner ≡ refuses r) → IsErrAnd answer (λ f. (b : Sunk) → Renders (under s.fresh frame trace inner v) v b b x (Err f))
-  partial_fails frame trace inner v v1 w x rs rs1 rs2 rs3 e (Ok u) h i j l k t r = absurd t
-  partial_fails frame trace inner v v1 w x rs rs1 rs2 rs3 e (Err f) h i j l k t r = λ b. renders_framed s.fresh frame trace inner v v1 w x rs rs1 rs2 rs3 b b (Err e) (Err f) h i j k t
-      (renders_refused (inner v1) v1 w b e (if_then (told e) (λ y z. ap (λ o. o v1) z ∙ ap (refuses y) (sym l)) r) (subst (λ y. SameFrames v1 y) (sym l) refl))
-
   -- a turn's frame is open until it is ended
   pub opens_open : {N R : Type 0} (m : NodeMeaning N R Reg) (n : N) (p q : R) (v w : View Reg) (b c : Sunk) (trace : Option (List ℕ)) (inner : List (Action Reg) → Action Reg) (rs rs1 rs2 : List (Restore Reg)) → Opens s depth m n p q v w b c trace inner rs rs1 → rs2 ≡ rs1 → 0 < length (opened rs2)
   opens_open m n p q v w b c trace inner rs rs1 rs2 o same = subst (λ z. 0 < length (opened z)) (sym (same ∙ o.owes)) (opened_restored o.frame o.from rs)
 
+  -- what was owed before a turn is owed when its frame has ended
+  pub opens_kept : {N R : Type 0} (m : NodeMeaning N R Reg) (n : N) (p q : R) (v w x y : View Reg) (b c : Sunk) (trace : Option (List ℕ)) (inner : List (Action Reg) → Action Reg) (rs rs1 rs2 rs3 : List (Restore Reg)) → Opens s depth m n p q v w b c trace inner rs rs1 → rs2 ≡ rs1 → EndsFirst rs2 x rs3 y → rs3 ≡ rs
+  opens_kept m n p q v w x y b c trace inner rs rs1 rs2 rs3 o same ends = framed_kept o.frame o.from x y rs rs1 rs2 rs3 o.owes same ends
+
   -- what was rendered under a turn's frame, when it has ended
   module _ {N R : Type 0} (m : NodeMeaning N R Reg) (n : N) (parts : List (Action Reg)) (p q : R) (v w x y : View Reg) (b c d : Sunk) (trace : Option (List ℕ)) (inner : List (Action Reg) → Action Reg) (rs rs1 rs2 rs3 : List (Restore Reg)) (o : Opens s depth m n p q v w b c trace inner rs rs1) (same : rs2 ≡ rs1) (ends : EndsFirst rs2 x rs3 y) where
-    pub opens_kept : rs3 ≡ rs
-    opens_kept = framed_kept o.frame o.from x y rs rs1 rs2 rs3 o.owes same ends
-
     pub opens_taken : (answer answer' : Answer) (result : Bool) → result ≡ is_ok answer' → ErrBecomes (refused_through trace) answer answer' → Renders (inner parts w) w c d x answer → Takes s depth m n parts p q v y b d answer' result
-    opens_taken answer (Ok u) true e t h = (tt, λ k a z later rest. o.goes parts k d a y z u later (renders_framed s.fresh o.frame trace (inner parts) o.from w x y rs rs1 rs2 rs3 c d answer (Ok u) o.opens o.owes same ends t h) rest)
+    opens_taken answer (Ok u) true e t h = (refl, λ k a z later rest. o.goes parts k d a y z u later (renders_framed s.fresh o.frame trace (inner parts) o.from w x y rs rs1 rs2 rs3 c d answer (Ok u) o.opens o.owes same ends t h) rest)
     opens_taken answer (Ok u) false e t h = absurd (false-not-true e)
     opens_taken answer (Err f) true e t h = absurd (true-not-false e)
     opens_taken answer (Err f) false e t h = λ k. o.fails parts k d y f (renders_framed s.fresh o.frame trace (inner parts) o.from w x y rs rs1 rs2 rs3 c d answer (Err f) o.opens o.owes same ends t h)
@@ -148,7 +161,7 @@ module _ {Reg F T P B Q : Type 0} (s : Setting Reg F T P B Q) (depth : ℕ) wher
 
     pub turns_over : (j : ℕ) (p : R) (v : View Reg) (b : Sunk) (answer : Answer) → j ≡ 0 → IsOk answer → Renders (turns s (partials_at s depth) m n parts j p v) v b b v answer
     turns_over j p v b (Ok u) i h = turns_done_at s (partials_at s depth) m n parts j p v b u i
-    turns_over j p v b (Err e) i h = absurd h
+    turns_over j p v b (Err e) i h = absurd (false-not-true h)
 
   -- nodes of a list, by what each answers
   module _ (ms : Nodes F T B) (n : NodeShape F T B) (ns : Nodes F T B) (is : ms ≡ node n ns) (v w : View Reg) (b a : Sunk) (answer : Answer) (h : Renders (run_node s (partials_at s depth) n v) v b a w answer) where
@@ -163,4 +176,4 @@ module _ {Reg F T P B Q : Type 0} (s : Setting Reg F T P B Q) (depth : ℕ) wher
 
   pub nodes_over : (ms : Nodes F T B) (v : View Reg) (b : Sunk) (answer : Answer) → ms ≡ no_nodes → IsOk answer → Renders (run_nodes s (partials_at s depth) ms v) v b b v answer
   nodes_over ms v b (Ok u) i h = list_done_at s (partials_at s depth) ms v b u i
-  nodes_over ms v b (Err e) i h = absurd h
+  nodes_over ms v b (Err e) i h = absurd (false-not-true h)

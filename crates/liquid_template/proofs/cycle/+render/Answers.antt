@@ -1,12 +1,11 @@
-use Rattle.std.proofs.Common.{◌≡◌, ◌+◌, ◌<◌, ◌≤◌, rules, arith, refl, sym, ap, subst, ◌∙◌, is_some, option_map}
+use Rattle.std.proofs.Common.{[], ◌≡◌, ◌+◌, ◌<◌, ◌≤◌, rules, arith, refl, sym, ap, subst, ◌∙◌, is_some, option_map}
 use Rattle.liquid_plugins.specs.meaning.NodesOf.{node_of, nodes_of}
 use Rattle.liquid_plugins.specs.meaning.Size.{size_node, size_nodes, size_parts}
 use Rattle.liquid_template.specs.steps.PartsOf.{parts_of}
 use Rattle.liquid_template.specs.steps.Bound.{partials_size}
-use Rattle.liquid_template.proofs.Joins.{renders_done}
 use Rattle.liquid_template.proofs.Shapes.{nodes_drop, nodes_end, size_member, size_part, node_text, node_brief, node_name, node_chain, node_tag, node_block}
 use Rattle.liquid_template.proofs.Renderings.{stands, stands_not, left_more, left_none, none_yet, start_goes_at, node_puts, node_chains, node_tags, node_blocks, part_renders, no_part_renders}
-use Rattle.liquid_template.proofs.Goings.{start_none, takes_more, takes_ok, takes_last, turns_over, node_fails, node_stops, node_goes, nodes_over, opens_kept, opens_taken}
+use Rattle.liquid_template.proofs.Goings.{renders_ok, done_ok, start_none, takes_more, takes_ok, takes_last, turns_over, node_fails, node_stops, node_goes, nodes_over, opens_open, opens_kept, opens_taken}
 use Rattle.liquid_template.proofs.cycle.+render.Goals as goal
 
 pub render_list-render_node-requires : goal.render_list-render_node-requires
@@ -110,8 +109,7 @@ take_tag-closed-requires g t c =
 
 pub take_tag-returns-in-Part : goal.take_tag-returns-in-Part
 take_tag-returns-in-Part g t c =
-    let x = opens_taken _ _ _ _ _ _ _ _ _ _ _ _ _ _ _ _ _ _ _ c.in-Part.ensures.turned.0 refl c.closed.ensures.ends _ _ _ c.closed.ensures.goes_on c.closed.ensures.traced (renders_done _ _ _) in
-    record { takes = rw c.closed.ensures.progress x; owes = opens_kept _ _ _ _ _ _ _ _ _ _ _ _ _ _ _ _ _ _ _ c.in-Part.ensures.turned.0 refl c.closed.ensures.ends; store = ap (option_map g.S.Store.PartialStore.finds) c.closed.ensures.store ∙ c.in-Part.ensures.store; bound = ap (λ store. partials_size (option_map g.S.Store.PartialStore.finds store)) c.closed.ensures.store ∙ c.in-Part.ensures.bound; borrows = c.closed.ensures.borrows ∙ c.in-Part.ensures.borrows }
+    record { takes = rw c.closed.ensures.progress (opens_taken _ _ _ _ _ _ _ _ _ _ _ _ _ _ _ _ _ _ _ _ c.in-Part.ensures.turned.0 refl c.closed.ensures.ends _ _ _ c.closed.ensures.goes_on c.closed.ensures.traced (done_ok _ _ _ c.in-Part.ensures.turned.1)); owes = opens_kept _ _ _ _ _ _ _ _ _ _ _ _ _ _ _ _ _ _ c.in-Part.ensures.turned.0 refl c.closed.ensures.ends; store = ap (option_map g.S.Store.PartialStore.finds) c.closed.ensures.store ∙ c.in-Part.ensures.store; bound = ap (λ store. partials_size (option_map g.S.Store.PartialStore.finds store)) c.closed.ensures.store ∙ c.in-Part.ensures.bound; borrows = c.closed.ensures.borrows ∙ c.in-Part.ensures.borrows }
 
 pub take_tag-closed-in-Partial-requires : goal.take_tag-closed-in-Partial-requires
 take_tag-closed-in-Partial-requires g t c =
@@ -119,8 +117,7 @@ take_tag-closed-in-Partial-requires g t c =
 
 pub take_tag-returns-in-Partial : goal.take_tag-returns-in-Partial
 take_tag-returns-in-Partial g t c =
-    let x = opens_taken _ _ _ _ _ _ _ _ _ _ _ _ _ _ _ _ _ _ _ c.in-Partial.ensures.turned.0 c.render_partial.ensures.owes c.closed-in-Partial.ensures.ends _ _ _ c.closed-in-Partial.ensures.goes_on c.closed-in-Partial.ensures.traced (rw c.in-Partial.ensures.store at c.render_partial.ensures.renders) in
-    record { takes = rw c.closed-in-Partial.ensures.progress x; owes = opens_kept _ _ _ _ _ _ _ _ _ _ _ _ _ _ _ _ _ _ _ c.in-Partial.ensures.turned.0 c.render_partial.ensures.owes c.closed-in-Partial.ensures.ends; store = ap (option_map g.S.Store.PartialStore.finds) c.closed-in-Partial.ensures.store ∙ c.render_partial.ensures.store ∙ c.in-Partial.ensures.store; bound = ap (λ store. partials_size (option_map g.S.Store.PartialStore.finds store)) c.closed-in-Partial.ensures.store ∙ c.render_partial.ensures.bound ∙ c.in-Partial.ensures.bound; borrows = c.closed-in-Partial.ensures.borrows ∙ c.render_partial.ensures.borrows ∙ c.in-Partial.ensures.borrows }
+    record { takes = rw c.closed-in-Partial.ensures.progress (opens_taken _ _ _ _ _ _ _ _ _ _ _ _ _ _ _ _ _ _ _ _ c.in-Partial.ensures.turned.0 c.render_partial.ensures.owes c.closed-in-Partial.ensures.ends _ _ _ c.closed-in-Partial.ensures.goes_on c.closed-in-Partial.ensures.traced (rw c.in-Partial.ensures.store at c.render_partial.ensures.renders)); owes = opens_kept _ _ _ _ _ _ _ _ _ _ _ _ _ _ _ _ _ _ c.in-Partial.ensures.turned.0 c.render_partial.ensures.owes c.closed-in-Partial.ensures.ends; store = ap (option_map g.S.Store.PartialStore.finds) c.closed-in-Partial.ensures.store ∙ c.render_partial.ensures.store ∙ c.in-Partial.ensures.store; bound = ap (λ store. partials_size (option_map g.S.Store.PartialStore.finds store)) c.closed-in-Partial.ensures.store ∙ c.render_partial.ensures.bound ∙ c.in-Partial.ensures.bound; borrows = c.closed-in-Partial.ensures.borrows ∙ c.render_partial.ensures.borrows ∙ c.in-Partial.ensures.borrows }
 
 pub render_block-returns-in-None-clause-renders : goal.render_block-returns-in-None-clause-renders
 render_block-returns-in-None-clause-renders g t c =
@@ -158,8 +155,7 @@ take_block-closed-requires g t c =
 
 pub take_block-returns-in-Part : goal.take_block-returns-in-Part
 take_block-returns-in-Part g t c =
-    let x = opens_taken _ _ _ _ _ _ _ _ _ _ _ _ _ _ _ _ _ _ _ c.in-Part.ensures.turned.0 c.render_part.ensures.owes c.closed.ensures.ends _ _ _ c.closed.ensures.goes_on c.closed.ensures.traced (rw c.in-Part.ensures.store at c.render_part.ensures.renders) in
-    record { takes = rw c.closed.ensures.progress x; owes = opens_kept _ _ _ _ _ _ _ _ _ _ _ _ _ _ _ _ _ _ _ c.in-Part.ensures.turned.0 c.render_part.ensures.owes c.closed.ensures.ends; store = ap (option_map g.S.Store.PartialStore.finds) c.closed.ensures.store ∙ c.render_part.ensures.store ∙ c.in-Part.ensures.store; bound = ap (λ store. partials_size (option_map g.S.Store.PartialStore.finds store)) c.closed.ensures.store ∙ c.render_part.ensures.bound ∙ c.in-Part.ensures.bound; borrows = c.closed.ensures.borrows ∙ c.render_part.ensures.borrows ∙ c.in-Part.ensures.borrows }
+    record { takes = rw c.closed.ensures.progress (opens_taken _ _ _ _ _ _ _ _ _ _ _ _ _ _ _ _ _ _ _ _ c.in-Part.ensures.turned.0 c.render_part.ensures.owes c.closed.ensures.ends _ _ _ c.closed.ensures.goes_on c.closed.ensures.traced (rw c.in-Part.ensures.store at c.render_part.ensures.renders)); owes = opens_kept _ _ _ _ _ _ _ _ _ _ _ _ _ _ _ _ _ _ c.in-Part.ensures.turned.0 c.render_part.ensures.owes c.closed.ensures.ends; store = ap (option_map g.S.Store.PartialStore.finds) c.closed.ensures.store ∙ c.render_part.ensures.store ∙ c.in-Part.ensures.store; bound = ap (λ store. partials_size (option_map g.S.Store.PartialStore.finds store)) c.closed.ensures.store ∙ c.render_part.ensures.bound ∙ c.in-Part.ensures.bound; borrows = c.closed.ensures.borrows ∙ c.render_part.ensures.borrows ∙ c.in-Part.ensures.borrows }
 
 pub take_block-closed-in-Partial-requires : goal.take_block-closed-in-Partial-requires
 take_block-closed-in-Partial-requires g t c =
@@ -167,8 +163,7 @@ take_block-closed-in-Partial-requires g t c =
 
 pub take_block-returns-in-Partial : goal.take_block-returns-in-Partial
 take_block-returns-in-Partial g t c =
-    let x = opens_taken _ _ _ _ _ _ _ _ _ _ _ _ _ _ _ _ _ _ _ c.in-Partial.ensures.turned.0 c.render_partial.ensures.owes c.closed-in-Partial.ensures.ends _ _ _ c.closed-in-Partial.ensures.goes_on c.closed-in-Partial.ensures.traced (rw c.in-Partial.ensures.store at c.render_partial.ensures.renders) in
-    record { takes = rw c.closed-in-Partial.ensures.progress x; owes = opens_kept _ _ _ _ _ _ _ _ _ _ _ _ _ _ _ _ _ _ _ c.in-Partial.ensures.turned.0 c.render_partial.ensures.owes c.closed-in-Partial.ensures.ends; store = ap (option_map g.S.Store.PartialStore.finds) c.closed-in-Partial.ensures.store ∙ c.render_partial.ensures.store ∙ c.in-Partial.ensures.store; bound = ap (λ store. partials_size (option_map g.S.Store.PartialStore.finds store)) c.closed-in-Partial.ensures.store ∙ c.render_partial.ensures.bound ∙ c.in-Partial.ensures.bound; borrows = c.closed-in-Partial.ensures.borrows ∙ c.render_partial.ensures.borrows ∙ c.in-Partial.ensures.borrows }
+    record { takes = rw c.closed-in-Partial.ensures.progress (opens_taken _ _ _ _ _ _ _ _ _ _ _ _ _ _ _ _ _ _ _ _ c.in-Partial.ensures.turned.0 c.render_partial.ensures.owes c.closed-in-Partial.ensures.ends _ _ _ c.closed-in-Partial.ensures.goes_on c.closed-in-Partial.ensures.traced (rw c.in-Partial.ensures.store at c.render_partial.ensures.renders)); owes = opens_kept _ _ _ _ _ _ _ _ _ _ _ _ _ _ _ _ _ _ c.in-Partial.ensures.turned.0 c.render_partial.ensures.owes c.closed-in-Partial.ensures.ends; store = ap (option_map g.S.Store.PartialStore.finds) c.closed-in-Partial.ensures.store ∙ c.render_partial.ensures.store ∙ c.in-Partial.ensures.store; bound = ap (λ store. partials_size (option_map g.S.Store.PartialStore.finds store)) c.closed-in-Partial.ensures.store ∙ c.render_partial.ensures.bound ∙ c.in-Partial.ensures.bound; borrows = c.closed-in-Partial.ensures.borrows ∙ c.render_partial.ensures.borrows ∙ c.in-Partial.ensures.borrows }
 
 pub render_part-render_list-requires : goal.render_part-render_list-requires
 render_part-render_list-requires g t c =
@@ -181,7 +176,7 @@ render_part-returns-in-Some-clause-renders g t c =
 
 pub render_part-returns-in-None-clause-renders : goal.render_part-returns-in-None-clause-renders
 render_part-returns-in-None-clause-renders g t c =
-    no_part_renders _ _ g.X.Meant.shape g.T.Meant.shape g.B.Meant.shape c.args.parts.now c.args.place _ _ _ c.in-None.ensures.lookup.3
+    renders_ok _ _ _ _ _ _ c.requires (no_part_renders _ _ g.X.Meant.shape g.T.Meant.shape g.B.Meant.shape c.args.parts.now c.args.place _ _ _ c.in-None.ensures.lookup.3)
 
 pub render_partial-returns-clause-renders : goal.render_partial-returns-clause-renders
 render_partial-returns-clause-renders g t c =
