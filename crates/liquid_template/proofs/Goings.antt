@@ -146,18 +146,20 @@ module _ {Reg F T P B Q : Type 0} (s : Setting Reg F T P B Q) (depth : ℕ) wher
 
   -- a turn among those that are left
   module _ {N R : Type 0} (m : NodeMeaning N R Reg) (n : N) (parts : List (Action Reg)) where
-    pub takes_more : (j k : ℕ) (p q : R) (v w x : View Reg) (b c a : Sunk) (answer later : Answer) (result : Bool) → j ≡ suc k → result ≡ true → Takes s depth m n parts p q v w b c answer result
-        → Renders (turns s (partials_at s depth) m n parts k q w) w c a x later → Renders (turns s (partials_at s depth) m n parts j p v) v b a x later
-    takes_more j k p q v w x b c a answer later true i e h rest = subst (λ z. Renders (turns s (partials_at s depth) m n parts z p v) v b a x later) (sym i) (h.1 k a x later rest)
-    takes_more j k p q v w x b c a answer later false i e h rest = absurd (false-not-true e)
+    pub takes_more : (j k : ℕ) (o p q : R) (v w x : View Reg) (b c a : Sunk) (answer later : Answer) (result : Bool) → j ≡ suc k → p ≡ o → result ≡ true → Takes s depth m n parts p q v w b c answer result
+        → Renders (turns s (partials_at s depth) m n parts k q w) w c a x later → Renders (turns s (partials_at s depth) m n parts j o v) v b a x later
+    takes_more j k o p q v w x b c a answer later true i l e h rest = subst (λ z. Renders (turns s (partials_at s depth) m n parts z o v) v b a x later) (sym i)
+        (subst (λ z. Renders (turns s (partials_at s depth) m n parts (suc k) z v) v b a x later) l (h.1 k a x later rest))
+    takes_more j k o p q v w x b c a answer later false i l e h rest = absurd (false-not-true e)
 
     pub takes_ok : (p q : R) (v w : View Reg) (b c : Sunk) (answer : Answer) (result : Bool) → result ≡ true → Takes s depth m n parts p q v w b c answer result → IsOk answer
     takes_ok p q v w b c answer true e h = h.0
     takes_ok p q v w b c answer false e h = absurd (false-not-true e)
 
-    pub takes_last : (j k : ℕ) (p q : R) (v w : View Reg) (b c : Sunk) (answer : Answer) (result : Bool) → j ≡ suc k → result ≡ false → Takes s depth m n parts p q v w b c answer result → Renders (turns s (partials_at s depth) m n parts j p v) v b c w answer
-    takes_last j k p q v w b c answer true i e h = absurd (true-not-false e)
-    takes_last j k p q v w b c answer false i e h = subst (λ z. Renders (turns s (partials_at s depth) m n parts z p v) v b c w answer) (sym i) (h k)
+    pub takes_last : (j k : ℕ) (o p q : R) (v w : View Reg) (b c : Sunk) (answer : Answer) (result : Bool) → j ≡ suc k → p ≡ o → result ≡ false → Takes s depth m n parts p q v w b c answer result → Renders (turns s (partials_at s depth) m n parts j o v) v b c w answer
+    takes_last j k o p q v w b c answer true i l e h = absurd (true-not-false e)
+    takes_last j k o p q v w b c answer false i l e h = subst (λ z. Renders (turns s (partials_at s depth) m n parts z o v) v b c w answer) (sym i)
+        (subst (λ z. Renders (turns s (partials_at s depth) m n parts (suc k) z v) v b c w answer) l (h k))
 
     pub turns_over : (j : ℕ) (p : R) (v : View Reg) (b : Sunk) (answer : Answer) → j ≡ 0 → IsOk answer → Renders (turns s (partials_at s depth) m n parts j p v) v b b v answer
     turns_over j p v b (Ok u) i h = turns_done_at s (partials_at s depth) m n parts j p v b u i

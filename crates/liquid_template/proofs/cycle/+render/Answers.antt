@@ -33,7 +33,7 @@ pub render_list-loop-node-preserved : goal.render_list-loop-node-preserved
 render_list-loop-node-preserved g t c =
     let q = nodes_drop g.X.Meant.shape g.T.Meant.shape g.B.Meant.shape c.args.nodes.now c.loop-node.node-index c.node-item.result c.loop-node-test.true c.node-item.is in
     let i : is_some (g.S.Runtime.view c.render_node.new.scopes).interrupt ≡ _ = ap (λ x. is_some x.interrupt.current) (sym c.registers.ensures) ∙ stands_not _ _ c.interrupted.ensures c.if-interrupted.false in
-    record { owes = c.render_node.ensures.owes ∙ c.loop-node.invariant.owes; store = c.render_node.ensures.store ∙ c.loop-node.invariant.store; bound = c.render_node.ensures.bound ∙ c.loop-node.invariant.bound; borrows = c.render_node.ensures.borrows ∙ c.loop-node.invariant.borrows; answer = rw c.in-Ok.is tt; renders = λ after left answer h. c.loop-node.invariant.renders after left answer (node_goes _ _ _ _ _ q _ _ _ _ _ (rw c.loop-node.invariant.store at c.render_node.ensures.renders) _ _ _ _ c.in-Ok.is i h) }
+    record { owes = c.render_node.ensures.owes ∙ c.loop-node.invariant.owes; store = c.render_node.ensures.store ∙ c.loop-node.invariant.store; bound = c.render_node.ensures.bound ∙ c.loop-node.invariant.bound; borrows = c.render_node.ensures.borrows ∙ c.loop-node.invariant.borrows; answer = rw c.in-Ok.is refl; renders = λ after left answer h. c.loop-node.invariant.renders after left answer (node_goes _ _ _ _ _ q _ _ _ _ _ (rw c.loop-node.invariant.store at c.render_node.ensures.renders) _ _ _ _ c.in-Ok.is i h) }
 
 pub render_list-returns : goal.render_list-returns
 render_list-returns g t c =
@@ -79,17 +79,17 @@ render_tag-returns-in-None-clause-renders g t c =
 
 pub render_tag-loop-init : goal.render_tag-loop-init
 render_tag-loop-init g t c =
-    record { owes = c.begun.ensures.owes; store = ap (option_map g.S.Store.PartialStore.finds) c.begun.ensures.store; bound = ap (λ store. partials_size (option_map g.S.Store.PartialStore.finds store)) c.begun.ensures.store; answer = c.in-Some.ensures.begins.0; borrows = c.begun.ensures.borrows; renders = λ after left answer h. start_goes_at _ _ _ _ _ _ _ _ _ _ _ _ _ (none_yet c.turns-end.result _ c.turns-end.ensures) c.in-Some.ensures.begins.1 c.in-Some.ensures.begins.2 c.begun.ensures.frames h }
+    record { owes = c.begun.ensures.owes; store = ap (option_map g.S.Store.PartialStore.finds) c.begun.ensures.store; bound = ap (λ store. partials_size (option_map g.S.Store.PartialStore.finds store)) c.begun.ensures.store; answer = c.in-Some.ensures.begins.0; borrows = c.begun.ensures.borrows; renders = λ after left answer h. start_goes_at _ _ _ _ _ _ _ _ _ _ _ _ _ (none_yet c.turns-end.result _ (c.turns-end.ensures ∙ ap (λ x. g.T.Renderable.means.count (g.T.Progress.Meant.shape x.progress)) c.deref.ensures)) c.in-Some.ensures.begins.1 c.in-Some.ensures.begins.2 c.begun.ensures.frames h }
 
-pub render_tag-returns-then-not : goal.render_tag-returns-then-not
-render_tag-returns-then-not g t c =
+pub render_tag-returns-then-not-take_tag : goal.render_tag-returns-then-not-take_tag
+render_tag-returns-then-not-take_tag g t c =
     let x = rw c.loop.invariant.store at c.take_tag.ensures.takes in
-    record { renders = c.loop.invariant.renders _ _ _ (takes_last _ _ _ _ _ _ _ _ _ _ _ _ _ _ _ (left_more c.loop.counter c.turns-end.result c.loop-test.true) c.if-take_tag.false x); owes = c.take_tag.ensures.owes ∙ c.loop.invariant.owes; store = c.take_tag.ensures.store ∙ c.loop.invariant.store; bound = c.take_tag.ensures.bound ∙ c.loop.invariant.bound; borrows = c.take_tag.ensures.borrows ∙ c.loop.invariant.borrows }
+    record { renders = c.loop.invariant.renders _ _ _ (takes_last _ _ _ _ _ _ _ _ _ _ _ _ _ _ _ _ (left_more c.loop.counter c.turns-end.result c.loop-test.true) (ap (λ x. g.T.Progress.Meant.shape x.progress) c.deref_mut.ensures.value) c.if-not-take_tag.true x); owes = c.take_tag.ensures.owes ∙ c.loop.invariant.owes; store = c.take_tag.ensures.store ∙ c.loop.invariant.store; bound = c.take_tag.ensures.bound ∙ c.loop.invariant.bound; borrows = c.take_tag.ensures.borrows ∙ c.loop.invariant.borrows }
 
 pub render_tag-loop-preserved : goal.render_tag-loop-preserved
 render_tag-loop-preserved g t c =
     let x = rw c.loop.invariant.store at c.take_tag.ensures.takes in
-    record { owes = c.take_tag.ensures.owes ∙ c.loop.invariant.owes; store = c.take_tag.ensures.store ∙ c.loop.invariant.store; bound = c.take_tag.ensures.bound ∙ c.loop.invariant.bound; answer = takes_ok _ _ _ _ _ _ _ _ _ _ _ _ _ c.if-take_tag.true x; borrows = c.take_tag.ensures.borrows ∙ c.loop.invariant.borrows; renders = λ after left answer h. c.loop.invariant.renders after left answer (takes_more _ _ _ _ _ _ _ _ _ _ _ _ _ _ _ _ _ _ (left_more c.loop.counter c.turns-end.result c.loop-test.true) c.if-take_tag.true x h) }
+    record { owes = c.take_tag.ensures.owes ∙ c.loop.invariant.owes; store = c.take_tag.ensures.store ∙ c.loop.invariant.store; bound = c.take_tag.ensures.bound ∙ c.loop.invariant.bound; answer = takes_ok _ _ _ _ _ _ _ _ _ _ _ _ _ c.if-not-take_tag.false x; borrows = c.take_tag.ensures.borrows ∙ c.loop.invariant.borrows; renders = λ after left answer h. c.loop.invariant.renders after left answer (takes_more _ _ _ _ _ _ _ _ _ _ _ _ _ _ _ _ _ _ _ (left_more c.loop.counter c.turns-end.result c.loop-test.true) (ap (λ x. g.T.Progress.Meant.shape x.progress) c.deref_mut.ensures.value) c.if-not-take_tag.false x h) }
 
 pub render_tag-returns : goal.render_tag-returns
 render_tag-returns g t c =
@@ -111,8 +111,8 @@ pub take_tag-returns-in-Part : goal.take_tag-returns-in-Part
 take_tag-returns-in-Part g t c =
     record { takes = rw c.closed.ensures.progress (opens_taken _ _ _ _ _ _ _ _ _ _ _ _ _ _ _ _ _ _ _ _ c.in-Part.ensures.turned.0 refl c.closed.ensures.ends _ _ _ c.closed.ensures.goes_on c.closed.ensures.traced (done_ok _ _ _ c.in-Part.ensures.turned.1)); owes = opens_kept _ _ _ _ _ _ _ _ _ _ _ _ _ _ _ _ _ _ c.in-Part.ensures.turned.0 refl c.closed.ensures.ends; store = ap (option_map g.S.Store.PartialStore.finds) c.closed.ensures.store ∙ c.in-Part.ensures.store; bound = ap (λ store. partials_size (option_map g.S.Store.PartialStore.finds store)) c.closed.ensures.store ∙ c.in-Part.ensures.bound; borrows = c.closed.ensures.borrows ∙ c.in-Part.ensures.borrows }
 
-pub take_tag-closed-in-Partial-requires : goal.take_tag-closed-in-Partial-requires
-take_tag-closed-in-Partial-requires g t c =
+pub take_tag-closed-requires-in-Partial : goal.take_tag-closed-requires-in-Partial
+take_tag-closed-requires-in-Partial g t c =
     opens_open _ _ _ _ _ _ _ _ _ _ _ _ _ _ _ c.in-Partial.ensures.turned.0 c.render_partial.ensures.owes
 
 pub take_tag-returns-in-Partial : goal.take_tag-returns-in-Partial
@@ -125,17 +125,17 @@ render_block-returns-in-None-clause-renders g t c =
 
 pub render_block-loop-init : goal.render_block-loop-init
 render_block-loop-init g t c =
-    record { owes = c.begun.ensures.owes; store = ap (option_map g.S.Store.PartialStore.finds) c.begun.ensures.store; bound = ap (λ store. partials_size (option_map g.S.Store.PartialStore.finds store)) c.begun.ensures.store; answer = c.in-Some.ensures.begins.0; borrows = c.begun.ensures.borrows; renders = λ after left answer h. start_goes_at _ _ _ _ _ _ _ _ _ _ _ _ _ (none_yet c.turns-end.result _ c.turns-end.ensures) c.in-Some.ensures.begins.1 c.in-Some.ensures.begins.2 c.begun.ensures.frames h }
+    record { owes = c.begun.ensures.owes; store = ap (option_map g.S.Store.PartialStore.finds) c.begun.ensures.store; bound = ap (λ store. partials_size (option_map g.S.Store.PartialStore.finds store)) c.begun.ensures.store; answer = c.in-Some.ensures.begins.0; borrows = c.begun.ensures.borrows; renders = λ after left answer h. start_goes_at _ _ _ _ _ _ _ _ _ _ _ _ _ (none_yet c.turns-end.result _ (c.turns-end.ensures ∙ ap (λ x. g.B.Renderable.means.count (g.B.Progress.Meant.shape x.progress)) c.deref.ensures)) c.in-Some.ensures.begins.1 c.in-Some.ensures.begins.2 c.begun.ensures.frames h }
 
-pub render_block-returns-then-not : goal.render_block-returns-then-not
-render_block-returns-then-not g t c =
+pub render_block-returns-then-not-take_block : goal.render_block-returns-then-not-take_block
+render_block-returns-then-not-take_block g t c =
     let x = rw c.loop.invariant.store at c.take_block.ensures.takes in
-    record { renders = c.loop.invariant.renders _ _ _ (takes_last _ _ _ _ _ _ _ _ _ _ _ _ _ _ _ (left_more c.loop.counter c.turns-end.result c.loop-test.true) c.if-take_block.false x); owes = c.take_block.ensures.owes ∙ c.loop.invariant.owes; store = c.take_block.ensures.store ∙ c.loop.invariant.store; bound = c.take_block.ensures.bound ∙ c.loop.invariant.bound; borrows = c.take_block.ensures.borrows ∙ c.loop.invariant.borrows }
+    record { renders = c.loop.invariant.renders _ _ _ (takes_last _ _ _ _ _ _ _ _ _ _ _ _ _ _ _ _ (left_more c.loop.counter c.turns-end.result c.loop-test.true) (ap (λ x. g.B.Progress.Meant.shape x.progress) c.deref_mut.ensures.value) c.if-not-take_block.true x); owes = c.take_block.ensures.owes ∙ c.loop.invariant.owes; store = c.take_block.ensures.store ∙ c.loop.invariant.store; bound = c.take_block.ensures.bound ∙ c.loop.invariant.bound; borrows = c.take_block.ensures.borrows ∙ c.loop.invariant.borrows }
 
 pub render_block-loop-preserved : goal.render_block-loop-preserved
 render_block-loop-preserved g t c =
     let x = rw c.loop.invariant.store at c.take_block.ensures.takes in
-    record { owes = c.take_block.ensures.owes ∙ c.loop.invariant.owes; store = c.take_block.ensures.store ∙ c.loop.invariant.store; bound = c.take_block.ensures.bound ∙ c.loop.invariant.bound; answer = takes_ok _ _ _ _ _ _ _ _ _ _ _ _ _ c.if-take_block.true x; borrows = c.take_block.ensures.borrows ∙ c.loop.invariant.borrows; renders = λ after left answer h. c.loop.invariant.renders after left answer (takes_more _ _ _ _ _ _ _ _ _ _ _ _ _ _ _ _ _ _ (left_more c.loop.counter c.turns-end.result c.loop-test.true) c.if-take_block.true x h) }
+    record { owes = c.take_block.ensures.owes ∙ c.loop.invariant.owes; store = c.take_block.ensures.store ∙ c.loop.invariant.store; bound = c.take_block.ensures.bound ∙ c.loop.invariant.bound; answer = takes_ok _ _ _ _ _ _ _ _ _ _ _ _ _ c.if-not-take_block.false x; borrows = c.take_block.ensures.borrows ∙ c.loop.invariant.borrows; renders = λ after left answer h. c.loop.invariant.renders after left answer (takes_more _ _ _ _ _ _ _ _ _ _ _ _ _ _ _ _ _ _ _ (left_more c.loop.counter c.turns-end.result c.loop-test.true) (ap (λ x. g.B.Progress.Meant.shape x.progress) c.deref_mut.ensures.value) c.if-not-take_block.false x h) }
 
 pub render_block-returns : goal.render_block-returns
 render_block-returns g t c =
@@ -157,8 +157,8 @@ pub take_block-returns-in-Part : goal.take_block-returns-in-Part
 take_block-returns-in-Part g t c =
     record { takes = rw c.closed.ensures.progress (opens_taken _ _ _ _ _ _ _ _ _ _ _ _ _ _ _ _ _ _ _ _ c.in-Part.ensures.turned.0 c.render_part.ensures.owes c.closed.ensures.ends _ _ _ c.closed.ensures.goes_on c.closed.ensures.traced (rw c.in-Part.ensures.store at c.render_part.ensures.renders)); owes = opens_kept _ _ _ _ _ _ _ _ _ _ _ _ _ _ _ _ _ _ c.in-Part.ensures.turned.0 c.render_part.ensures.owes c.closed.ensures.ends; store = ap (option_map g.S.Store.PartialStore.finds) c.closed.ensures.store ∙ c.render_part.ensures.store ∙ c.in-Part.ensures.store; bound = ap (λ store. partials_size (option_map g.S.Store.PartialStore.finds store)) c.closed.ensures.store ∙ c.render_part.ensures.bound ∙ c.in-Part.ensures.bound; borrows = c.closed.ensures.borrows ∙ c.render_part.ensures.borrows ∙ c.in-Part.ensures.borrows }
 
-pub take_block-closed-in-Partial-requires : goal.take_block-closed-in-Partial-requires
-take_block-closed-in-Partial-requires g t c =
+pub take_block-closed-requires-in-Partial : goal.take_block-closed-requires-in-Partial
+take_block-closed-requires-in-Partial g t c =
     opens_open _ _ _ _ _ _ _ _ _ _ _ _ _ _ _ c.in-Partial.ensures.turned.0 c.render_partial.ensures.owes
 
 pub take_block-returns-in-Partial : goal.take_block-returns-in-Partial
