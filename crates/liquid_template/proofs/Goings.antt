@@ -1,15 +1,14 @@
 -- What each turn of a node comes to, as the cycle goes on with it.
-use Rattle.std.proofs.Common.{Bool, true, false, is_ok, is_some, ◌≡◌, ℕ, zero, suc, ◌-◌, ◌<◌, List, ◌∷◌, length, Option, Some, None, Result, Ok, Err, refl, sym, ap, subst, ◌∙◌, arith}
+use Rattle.std.proofs.Common.{Bool, true, false, is_ok, is_some, ◌≡◌, ℕ, suc, ◌-◌, ◌<◌, List, ◌∷◌, length, Option, None, Result, Ok, Err, refl, sym, ap, subst, ◌∙◌}
 use Rattle.std.specs.Prelude.{IfSome, OnSome, IsOk, IsErrAnd}
 use Rattle.liquid_error.specs.declared.error.Error.{Error}
-use Rattle.liquid_error.specs.meaning.Refusal.{Refusal}
 use Rattle.liquid_error.specs.meaning.Told.{told, Gives}
 use Rattle.liquid_error.specs.meaning.Helpers.{ErrBecomes}
 use Rattle.liquid_runtime.specs.meaning.View.{View}
 use Rattle.liquid_runtime.specs.meaning.Written.{with_written, SameFrames}
 use Rattle.liquid_runtime.specs.meaning.Frames.{FrameShape, Restore, beginning, restored_by}
 use Rattle.liquid_runtime.specs.meaning.OpenFrames.{opened, EndsFirst}
-use Rattle.liquid_plugins.specs.meaning.Turns.{TurnShape, text_turn, body_turn, partial_turn, end_turn, NodeMeaning}
+use Rattle.liquid_plugins.specs.meaning.Turns.{text_turn, body_turn, partial_turn, end_turn, NodeMeaning}
 use Rattle.liquid_plugins.specs.meaning.Nodes.{NodeShape, Nodes, no_nodes, node}
 use Rattle.liquid_template.specs.meaning.Run.{Run, Action}
 use Rattle.liquid_template.specs.meaning.Actions.{done, refuses, under, part_at, refused_through}

@@ -1,5 +1,5 @@
 -- What the start and the turns of one node come to.
-use Rattle.std.specs.Prelude.{◌≡◌, ℕ, suc, ◌-◌, ◌<◌, ◌≤◌, List, ◌∷◌, Option, None, Some, Result, Ok, Err, IsOk, IsErrAnd, IfSome, OnSome}
+use Rattle.std.specs.Prelude.{◌≡◌, Option, None, Some, Result, Ok, Err, IsOk, IsErrAnd, IfSome, OnSome}
 use Rattle.liquid_error.specs.declared.error.Error.{Error}
 use Rattle.liquid_error.specs.meaning.Told.{told}
 use Rattle.liquid_runtime.specs.meaning.View.{View}

@@ -1,4 +1,4 @@
-use Rattle.std.proofs.Common.{[], ◌≡◌, ◌+◌, ◌<◌, ◌≤◌, rules, arith, refl, sym, ap, subst, ◌∙◌, is_some, option_map}
+use Rattle.std.proofs.Common.{[], ◌≡◌, ◌+◌, ◌≤◌, rules, refl, sym, ap, subst, ◌∙◌, is_some, option_map}
 use Rattle.liquid_plugins.specs.meaning.NodesOf.{node_of, nodes_of}
 use Rattle.liquid_plugins.specs.meaning.Size.{size_node, size_nodes, size_parts}
 use Rattle.liquid_template.specs.steps.PartsOf.{parts_of}

@@ -1,4 +1,4 @@
-use Rattle.std.proofs.Common.{◌≡◌, ◌∷◌, Ok, rules, ap, ◌∙◌, option_map, string_bytes}
+use Rattle.std.proofs.Common.{Ok, rules, ap, ◌∙◌, option_map, string_bytes}
 use Rattle.liquid_plugins.specs.meaning.TurnOf.{turn_of}
 use Rattle.liquid_template.proofs.Goings.{owed_above, ends_refused, ends_over, text_ends, text_goes, body_opens, body_ends, partial_opens, partial_ends}
 use Rattle.liquid_template.proofs.turn.turned.Goals as goal
