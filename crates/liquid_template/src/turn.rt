@@ -89,16 +89,8 @@ where
             }
         },
         Turn::Partial(name, frame, trace) => {
-            match partial_opened(
-                alloc,
-                &name,
-                frame,
-                trace,
-                &mut going.trace,
-                depth,
-                scopes,
-                answer,
-            ) {
+            let kept = &mut going.trace;
+            match partial_opened(alloc, &name, frame, trace, kept, depth, scopes, answer) {
                 Some(template) => Step::Partial(template),
                 None => Step::Stop,
             }
