@@ -1,6 +1,6 @@
 -- What is found where there are no partials, and the names that a refusal lists.
-use Rattle.std.proofs.Common.{◌≡◌, ℕ, List, [], ◌∷◌, ◌++◌, map, length, Option, None, Some, Result, Ok, Err, refl, sym, ap, ◌∙◌, append_assoc, arith}
-use Rattle.std.specs.Prelude.{codes, option_and_then, IfSome}
+use Rattle.std.proofs.Common.{◌≡◌, ℕ, List, [], ◌∷◌, ◌++◌, map, length, None, Some, Result, Err, refl, sym, ap, ◌∙◌, arith}
+use Rattle.std.specs.Prelude.{codes, option_and_then}
 use Rattle.std.specs.Borrow.{Bor}
 use Rattle.std.specs.List.{join_by, flat_map}
 use Rattle.std.specs.Ordering.{nat_cmp}

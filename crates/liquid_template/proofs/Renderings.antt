@@ -184,11 +184,11 @@ module _ {Reg F T P B Q : Type 0} (s : Setting Reg F T P B Q) where
   sought_is None name run = refl
   sought_is (Some finds) name run = refl
 
-  deep_is : (depth : ℕ) (name : List ℕ) → depth ≡ 0 → partials_at s depth name ≡ refuses too_deep
+  pub deep_is : (depth : ℕ) (name : List ℕ) → depth ≡ 0 → partials_at s depth name ≡ refuses too_deep
   unfolding partials_at
   deep_is depth name e = rw e refl
 
-  more_is : (depth : ℕ) (name : List ℕ) → 0 < depth → partials_at s depth name ≡ read_as (store_answer s.finds name) (nodes_run s (depth - 1))
+  pub more_is : (depth : ℕ) (name : List ℕ) → 0 < depth → partials_at s depth name ≡ read_as (store_answer s.finds name) (nodes_run s (depth - 1))
   unfolding partials_at
   more_is zero name h = absurd (omega arith)
   more_is (suc depth) name h = rw sub-one (sought_is s.finds name (nodes_run s depth))

@@ -1,25 +1,28 @@
-//! The renderer's cycle.
-ghost use Rattle.std.specs.Prelude.{◌≡◌, string_bytes, option_map};
-ghost use Rattle.liquid_runtime.specs.meaning.Calls.{frame_of};
-ghost use Rattle.liquid_plugins.specs.meaning.TurnOf.{turn_of};
+//! The renderer's cycle. It keeps no more across a call than the next turn needs: a value of a turn, an error or a
+//! frame is made, taken and let go in functions that have returned before the cycle goes on, so that a level of nesting
+//! takes little native stack.
+ghost use Rattle.std.specs.Prelude.{◌≡◌, ◌-◌, ◌<◌, [], IsOk};
 ghost use Rattle.liquid_plugins.specs.meaning.NodesOf.{node_of, nodes_of};
+ghost use Rattle.liquid_template.specs.meaning.Nodes.{run_parts};
 ghost use Rattle.liquid_template.specs.meaning.Partials.{partials_at, partials_of};
 ghost use Rattle.liquid_template.specs.meaning.Rendering.{nodes_run};
 ghost use Rattle.liquid_template.specs.meaning.Outcome.{Renders};
-ghost use Rattle.liquid_template.specs.meaning.Runs.{setting, node_run, tag_run, block_run, turn_run, part_run, body_run, partial_run};
+ghost use Rattle.liquid_template.specs.meaning.Runs.{setting, node_run, tag_run, block_run, part_run};
+ghost use Rattle.liquid_template.specs.meaning.TemplateOf.{template_nodes};
 ghost use Rattle.liquid_template.specs.steps.PartsOf.{parts_of};
 ghost use Rattle.liquid_template.specs.steps.Bound.{partials_size};
+ghost use Rattle.liquid_template.specs.steps.Going.{Takes};
 
-use crate::chain::{render_chain, render_name};
-use crate::partial::{find, too_deep_error};
-use crate::piece::write_piece;
+use crate::begun::{Going, begun, let_go};
+use crate::leaf::{put_chain, put_name, put_text};
+use crate::opened::{closed, let_partial_go};
 use crate::sink::Sink;
 use crate::store::PartialStore;
 use crate::template::Template;
-use crate::trace::with_own_trace;
+use crate::turn::{Step, turned};
 use liquid_error::Error;
-use liquid_plugins::{Filter, Node, Renderable, Turn};
-use liquid_runtime::{Frame, Scopes};
+use liquid_plugins::{Filter, Node, Renderable};
+use liquid_runtime::Scopes;
 use std::alloc::Global;
 use std::rc::Rc;
 
@@ -31,7 +34,8 @@ pub(crate) fn render_list<X, T, B, S, K>(
     depth: u32,
     sink: &mut K,
     scopes: &mut S,
-) -> Result<(), Error>
+    answer: &mut Result<(), Error>,
+)
 where
     X: Filter,
     S: Scopes,
@@ -39,10 +43,12 @@ where
     B: Renderable<S::Register>,
     S::Store: PartialStore<X, T, B>,
     K: Sink,
+    requires { IsOk answer.old }
     ensures renders { Renders (nodes_run
         (setting S.Register.fresh X.means T.means B.means (partials_of S.Store.finds (S.store scopes.old)))
-        depth (nodes_of X.shape T.shape B.shape nodes.now) (S.view scopes.old))
-        (S.view scopes.old) (K.sunk sink.old) (K.sunk sink.new) (S.view scopes.new) result }
+        depth (nodes_of X.shape T.shape B.shape nodes.now)
+        (S.view scopes.old))
+        (S.view scopes.old) (K.sunk sink.old) (K.sunk sink.new) (S.view scopes.new) answer.new }
     ensures owes { S.restores scopes.new ≡ S.restores scopes.old }
     ensures store { partials_of S.Store.finds (S.store scopes.new) ≡ partials_of S.Store.finds (S.store scopes.old) }
     ensures bound { partials_size (partials_of S.Store.finds (S.store scopes.new))
@@ -50,15 +56,15 @@ where
     ensures borrows { S.lent scopes.new ≡ S.lent scopes.old }
 {
     for node in nodes {
-        match render_node(alloc, node, depth, sink, scopes) {
+        render_node(alloc, node, depth, sink, scopes, answer);
+        match answer {
             Ok(()) => {}
-            Err(error) => return Err(error),
+            Err(_) => return,
         }
         if scopes.registers().interrupt.interrupted() {
-            return Ok(());
+            return;
         }
     }
-    Ok(())
 }
 /// Renders a node.
 #[cycle(render)]
@@ -68,7 +74,8 @@ fn render_node<X, T, B, S, K>(
     depth: u32,
     sink: &mut K,
     scopes: &mut S,
-) -> Result<(), Error>
+    answer: &mut Result<(), Error>,
+)
 where
     X: Filter,
     S: Scopes,
@@ -76,10 +83,12 @@ where
     B: Renderable<S::Register>,
     S::Store: PartialStore<X, T, B>,
     K: Sink,
+    requires { IsOk answer.old }
     ensures renders { Renders (node_run
         (setting S.Register.fresh X.means T.means B.means (partials_of S.Store.finds (S.store scopes.old)))
-        depth (node_of X.shape T.shape B.shape node.now) (S.view scopes.old))
-        (S.view scopes.old) (K.sunk sink.old) (K.sunk sink.new) (S.view scopes.new) result }
+        depth (node_of X.shape T.shape B.shape node.now)
+        (S.view scopes.old))
+        (S.view scopes.old) (K.sunk sink.old) (K.sunk sink.new) (S.view scopes.new) answer.new }
     ensures owes { S.restores scopes.new ≡ S.restores scopes.old }
     ensures store { partials_of S.Store.finds (S.store scopes.new) ≡ partials_of S.Store.finds (S.store scopes.old) }
     ensures bound { partials_size (partials_of S.Store.finds (S.store scopes.new))
@@ -87,12 +96,12 @@ where
     ensures borrows { S.lent scopes.new ≡ S.lent scopes.old }
 {
     match node {
-        Node::Text(text) => write_piece(alloc, sink, text.as_str()),
-        Node::Brief(text) => write_piece(alloc, sink, text.as_str()),
-        Node::Name(name) => render_name::<X, S, K>(alloc, name.as_str(), sink, scopes),
-        Node::Chain(chain) => render_chain(alloc, chain, sink, scopes),
-        Node::Tag(tag) => render_tag(alloc, tag, depth, sink, scopes),
-        Node::Block(block, parts) => render_block(alloc, block, parts, depth, sink, scopes),
+        Node::Text(text) => put_text(alloc, text.as_str(), sink, answer),
+        Node::Brief(text) => put_text(alloc, text.as_str(), sink, answer),
+        Node::Name(name) => put_name::<X, S, K>(alloc, name.as_str(), sink, scopes, answer),
+        Node::Chain(chain) => put_chain(alloc, chain, sink, scopes, answer),
+        Node::Tag(tag) => render_tag(alloc, tag, depth, sink, scopes, answer),
+        Node::Block(block, parts) => render_block(alloc, block, parts, depth, sink, scopes, answer),
     }
 }
 /// Renders a tag's node, which has no parts.
@@ -103,7 +112,8 @@ fn render_tag<X, T, B, S, K>(
     depth: u32,
     sink: &mut K,
     scopes: &mut S,
-) -> Result<(), Error>
+    answer: &mut Result<(), Error>,
+)
 where
     X: Filter,
     S: Scopes,
@@ -111,35 +121,68 @@ where
     B: Renderable<S::Register>,
     S::Store: PartialStore<X, T, B>,
     K: Sink,
+    requires { IsOk answer.old }
     ensures renders { Renders (tag_run
         (setting S.Register.fresh X.means T.means B.means (partials_of S.Store.finds (S.store scopes.old)))
-        depth (T.shape tag.now) (S.view scopes.old))
-        (S.view scopes.old) (K.sunk sink.old) (K.sunk sink.new) (S.view scopes.new) result }
+        depth (T.shape tag.now)
+        (S.view scopes.old))
+        (S.view scopes.old) (K.sunk sink.old) (K.sunk sink.new) (S.view scopes.new) answer.new }
     ensures owes { S.restores scopes.new ≡ S.restores scopes.old }
     ensures store { partials_of S.Store.finds (S.store scopes.new) ≡ partials_of S.Store.finds (S.store scopes.old) }
     ensures bound { partials_size (partials_of S.Store.finds (S.store scopes.new))
         ≡ partials_size (partials_of S.Store.finds (S.store scopes.old)) }
     ensures borrows { S.lent scopes.new ≡ S.lent scopes.old }
 {
-    let none = Vec::new(alloc);
-    let mut progress = match tag.start(alloc, scopes) {
-        Ok(progress) => progress,
-        Err(error) => return Err(error),
+    let mut going = match begun(alloc, tag, scopes, answer) {
+        Some(going) => going,
+        None => return,
     };
-    for _ in 0..T::turns(&progress) {
-        let turn = match tag.turn(alloc, &mut progress, scopes) {
-            Ok(turn) => turn,
-            Err(error) => return Err(error),
-        };
-        if let Turn::End = &turn {
-            return Ok(());
-        }
-        match perform(alloc, &none, turn, depth, sink, scopes) {
-            Ok(()) => {}
-            Err(error) => return Err(error),
+    for _ in 0..T::turns(&going.progress) {
+        if !take_tag(alloc, tag, &mut going, depth, sink, scopes, answer) {
+            let_go(going);
+            return;
         }
     }
-    Ok(())
+    let_go(going);
+}
+/// Takes a tag's turn, and tells whether the others come.
+#[cycle(render)]
+fn take_tag<X, T, B, S, K>(
+    alloc: Global,
+    tag: &T,
+    going: &mut Going<T::Progress>,
+    depth: u32,
+    sink: &mut K,
+    scopes: &mut S,
+    answer: &mut Result<(), Error>,
+) -> bool
+where
+    X: Filter,
+    S: Scopes,
+    T: Renderable<S::Register>,
+    B: Renderable<S::Register>,
+    S::Store: PartialStore<X, T, B>,
+    K: Sink,
+    requires { IsOk answer.old }
+    ensures takes { Takes (setting S.Register.fresh X.means T.means B.means (partials_of S.Store.finds (S.store scopes.old)))
+        depth T.means (T.shape tag.now) []
+        (T.Progress.shape going.old.progress) (T.Progress.shape going.new.progress)
+        (S.view scopes.old) (S.view scopes.new) (K.sunk sink.old) (K.sunk sink.new) answer.new result }
+    ensures owes { S.restores scopes.new ≡ S.restores scopes.old }
+    ensures store { partials_of S.Store.finds (S.store scopes.new) ≡ partials_of S.Store.finds (S.store scopes.old) }
+    ensures bound { partials_size (partials_of S.Store.finds (S.store scopes.new))
+        ≡ partials_size (partials_of S.Store.finds (S.store scopes.old)) }
+    ensures borrows { S.lent scopes.new ≡ S.lent scopes.old }
+{
+    match turned(alloc, tag, going, depth, sink, scopes, answer) {
+        Step::Stop => false,
+        Step::Next => true,
+        Step::Part(_) => closed(alloc, going, scopes, answer),
+        Step::Partial(template) => {
+            render_partial(alloc, template, depth, sink, scopes, answer);
+            closed(alloc, going, scopes, answer)
+        }
+    }
 }
 /// Renders a block's node.
 #[cycle(render)]
@@ -150,7 +193,8 @@ fn render_block<X, T, B, S, K>(
     depth: u32,
     sink: &mut K,
     scopes: &mut S,
-) -> Result<(), Error>
+    answer: &mut Result<(), Error>,
+)
 where
     X: Filter,
     S: Scopes,
@@ -158,45 +202,42 @@ where
     B: Renderable<S::Register>,
     S::Store: PartialStore<X, T, B>,
     K: Sink,
+    requires { IsOk answer.old }
     ensures renders { Renders (block_run
         (setting S.Register.fresh X.means T.means B.means (partials_of S.Store.finds (S.store scopes.old)))
-        depth (B.shape block.now) (parts_of X.shape T.shape B.shape parts.now) (S.view scopes.old))
-        (S.view scopes.old) (K.sunk sink.old) (K.sunk sink.new) (S.view scopes.new) result }
+        depth (B.shape block.now) (parts_of X.shape T.shape B.shape parts.now)
+        (S.view scopes.old))
+        (S.view scopes.old) (K.sunk sink.old) (K.sunk sink.new) (S.view scopes.new) answer.new }
     ensures owes { S.restores scopes.new ≡ S.restores scopes.old }
     ensures store { partials_of S.Store.finds (S.store scopes.new) ≡ partials_of S.Store.finds (S.store scopes.old) }
     ensures bound { partials_size (partials_of S.Store.finds (S.store scopes.new))
         ≡ partials_size (partials_of S.Store.finds (S.store scopes.old)) }
     ensures borrows { S.lent scopes.new ≡ S.lent scopes.old }
 {
-    let mut progress = match block.start(alloc, scopes) {
-        Ok(progress) => progress,
-        Err(error) => return Err(error),
+    let mut going = match begun(alloc, block, scopes, answer) {
+        Some(going) => going,
+        None => return,
     };
-    for _ in 0..B::turns(&progress) {
-        let turn = match block.turn(alloc, &mut progress, scopes) {
-            Ok(turn) => turn,
-            Err(error) => return Err(error),
-        };
-        if let Turn::End = &turn {
-            return Ok(());
-        }
-        match perform(alloc, parts, turn, depth, sink, scopes) {
-            Ok(()) => {}
-            Err(error) => return Err(error),
+    for _ in 0..B::turns(&going.progress) {
+        if !take_block(alloc, block, parts, &mut going, depth, sink, scopes, answer) {
+            let_go(going);
+            return;
         }
     }
-    Ok(())
+    let_go(going);
 }
-/// Renders what a turn asks for.
+/// Takes a block's turn, and tells whether the others come.
 #[cycle(render)]
-fn perform<X, T, B, S, K>(
+fn take_block<X, T, B, S, K>(
     alloc: Global,
+    block: &B,
     parts: &[Vec<Node<X, T, B>>],
-    turn: Turn,
+    going: &mut Going<B::Progress>,
     depth: u32,
     sink: &mut K,
     scopes: &mut S,
-) -> Result<(), Error>
+    answer: &mut Result<(), Error>,
+) -> bool
 where
     X: Filter,
     S: Scopes,
@@ -204,63 +245,32 @@ where
     B: Renderable<S::Register>,
     S::Store: PartialStore<X, T, B>,
     K: Sink,
-    ensures renders { Renders (turn_run
+    requires { IsOk answer.old }
+    ensures takes { Takes (setting S.Register.fresh X.means T.means B.means (partials_of S.Store.finds (S.store scopes.old)))
+        depth B.means (B.shape block.now) (run_parts
         (setting S.Register.fresh X.means T.means B.means (partials_of S.Store.finds (S.store scopes.old)))
-        depth (parts_of X.shape T.shape B.shape parts.now) (turn_of turn) (S.view scopes.old))
-        (S.view scopes.old) (K.sunk sink.old) (K.sunk sink.new) (S.view scopes.new) result }
+        (partials_at (setting S.Register.fresh X.means T.means B.means (partials_of S.Store.finds (S.store scopes.old))) depth)
+        (parts_of X.shape T.shape B.shape parts.now))
+        (B.Progress.shape going.old.progress) (B.Progress.shape going.new.progress)
+        (S.view scopes.old) (S.view scopes.new) (K.sunk sink.old) (K.sunk sink.new) answer.new result }
     ensures owes { S.restores scopes.new ≡ S.restores scopes.old }
     ensures store { partials_of S.Store.finds (S.store scopes.new) ≡ partials_of S.Store.finds (S.store scopes.old) }
     ensures bound { partials_size (partials_of S.Store.finds (S.store scopes.new))
         ≡ partials_size (partials_of S.Store.finds (S.store scopes.old)) }
     ensures borrows { S.lent scopes.new ≡ S.lent scopes.old }
 {
-    match turn {
-        Turn::Text(text) => write_piece(alloc, sink, text.as_str()),
-        Turn::Body(place, frame, trace) => render_body(
-            alloc, parts, place, frame, trace, depth, sink, scopes,
-        ),
-        Turn::Partial(name, frame, trace) => render_partial(
-            alloc, &name, frame, trace, depth, sink, scopes,
-        ),
-        Turn::End => Ok(()),
+    match turned(alloc, block, going, depth, sink, scopes, answer) {
+        Step::Stop => false,
+        Step::Next => true,
+        Step::Part(place) => {
+            render_part(alloc, parts, place, depth, sink, scopes, answer);
+            closed(alloc, going, scopes, answer)
+        }
+        Step::Partial(template) => {
+            render_partial(alloc, template, depth, sink, scopes, answer);
+            closed(alloc, going, scopes, answer)
+        }
     }
-}
-/// Renders a part under its frame and its trace.
-#[cycle(render)]
-fn render_body<X, T, B, S, K>(
-    alloc: Global,
-    parts: &[Vec<Node<X, T, B>>],
-    place: u64,
-    frame: Frame,
-    trace: Option<String>,
-    depth: u32,
-    sink: &mut K,
-    scopes: &mut S,
-) -> Result<(), Error>
-where
-    X: Filter,
-    S: Scopes,
-    T: Renderable<S::Register>,
-    B: Renderable<S::Register>,
-    S::Store: PartialStore<X, T, B>,
-    K: Sink,
-    ensures renders { Renders (body_run
-        (setting S.Register.fresh X.means T.means B.means (partials_of S.Store.finds (S.store scopes.old)))
-        depth (parts_of X.shape T.shape B.shape parts.now) place (frame_of frame) (option_map (λ s. string_bytes s) trace) (S.view scopes.old))
-        (S.view scopes.old) (K.sunk sink.old) (K.sunk sink.new) (S.view scopes.new) result }
-    ensures owes { S.restores scopes.new ≡ S.restores scopes.old }
-    ensures store { partials_of S.Store.finds (S.store scopes.new) ≡ partials_of S.Store.finds (S.store scopes.old) }
-    ensures bound { partials_size (partials_of S.Store.finds (S.store scopes.new))
-        ≡ partials_size (partials_of S.Store.finds (S.store scopes.old)) }
-    ensures borrows { S.lent scopes.new ≡ S.lent scopes.old }
-{
-    match scopes.push(frame) {
-        Ok(()) => {}
-        Err(error) => return Err(error),
-    }
-    let answer = render_part(alloc, parts, place, depth, sink, scopes);
-    scopes.pop();
-    with_own_trace(alloc, answer, trace)
 }
 /// Renders a part, if there is one at that place.
 #[cycle(render)]
@@ -271,7 +281,8 @@ fn render_part<X, T, B, S, K>(
     depth: u32,
     sink: &mut K,
     scopes: &mut S,
-) -> Result<(), Error>
+    answer: &mut Result<(), Error>,
+)
 where
     X: Filter,
     S: Scopes,
@@ -279,10 +290,12 @@ where
     B: Renderable<S::Register>,
     S::Store: PartialStore<X, T, B>,
     K: Sink,
+    requires { IsOk answer.old }
     ensures renders { Renders (part_run
         (setting S.Register.fresh X.means T.means B.means (partials_of S.Store.finds (S.store scopes.old)))
-        depth (parts_of X.shape T.shape B.shape parts.now) place (S.view scopes.old))
-        (S.view scopes.old) (K.sunk sink.old) (K.sunk sink.new) (S.view scopes.new) result }
+        depth (parts_of X.shape T.shape B.shape parts.now) place
+        (S.view scopes.old))
+        (S.view scopes.old) (K.sunk sink.old) (K.sunk sink.new) (S.view scopes.new) answer.new }
     ensures owes { S.restores scopes.new ≡ S.restores scopes.old }
     ensures store { partials_of S.Store.finds (S.store scopes.new) ≡ partials_of S.Store.finds (S.store scopes.old) }
     ensures bound { partials_size (partials_of S.Store.finds (S.store scopes.new))
@@ -290,21 +303,20 @@ where
     ensures borrows { S.lent scopes.new ≡ S.lent scopes.old }
 {
     match parts.get(place as usize) {
-        Some(nodes) => render_list(alloc, nodes, depth, sink, scopes),
-        None => Ok(()),
+        Some(nodes) => render_list(alloc, nodes, depth, sink, scopes, answer),
+        None => {}
     }
 }
-/// Renders a partial under its frame and its trace.
+/// Renders a partial, with one less that may be open inside it.
 #[cycle(render)]
 fn render_partial<X, T, B, S, K>(
     alloc: Global,
-    name: &str,
-    frame: Frame,
-    trace: Option<String>,
+    template: Rc<Template<X, T, B>>,
     depth: u32,
     sink: &mut K,
     scopes: &mut S,
-) -> Result<(), Error>
+    answer: &mut Result<(), Error>,
+)
 where
     X: Filter,
     S: Scopes,
@@ -312,56 +324,19 @@ where
     B: Renderable<S::Register>,
     S::Store: PartialStore<X, T, B>,
     K: Sink,
-    ensures renders { Renders (partial_run
+    requires more { 0 < depth }
+    requires no_error { IsOk answer.old }
+    ensures renders { Renders (nodes_run
         (setting S.Register.fresh X.means T.means B.means (partials_of S.Store.finds (S.store scopes.old)))
-        depth name.now (frame_of frame) (option_map (λ s. string_bytes s) trace) (S.view scopes.old))
-        (S.view scopes.old) (K.sunk sink.old) (K.sunk sink.new) (S.view scopes.new) result }
+        (depth - 1) (template_nodes X.shape T.shape B.shape template.value)
+        (S.view scopes.old))
+        (S.view scopes.old) (K.sunk sink.old) (K.sunk sink.new) (S.view scopes.new) answer.new }
     ensures owes { S.restores scopes.new ≡ S.restores scopes.old }
     ensures store { partials_of S.Store.finds (S.store scopes.new) ≡ partials_of S.Store.finds (S.store scopes.old) }
     ensures bound { partials_size (partials_of S.Store.finds (S.store scopes.new))
         ≡ partials_size (partials_of S.Store.finds (S.store scopes.old)) }
     ensures borrows { S.lent scopes.new ≡ S.lent scopes.old }
 {
-    match scopes.push(frame) {
-        Ok(()) => {}
-        Err(error) => return Err(error),
-    }
-    let answer = render_found(alloc, name, depth, sink, scopes);
-    scopes.pop();
-    with_own_trace(alloc, answer, trace)
-}
-/// Renders a partial, if one more may be open.
-#[cycle(render)]
-fn render_found<X, T, B, S, K>(
-    alloc: Global,
-    name: &str,
-    depth: u32,
-    sink: &mut K,
-    scopes: &mut S,
-) -> Result<(), Error>
-where
-    X: Filter,
-    S: Scopes,
-    T: Renderable<S::Register>,
-    B: Renderable<S::Register>,
-    S::Store: PartialStore<X, T, B>,
-    K: Sink,
-    ensures renders { Renders (partials_at
-        (setting S.Register.fresh X.means T.means B.means (partials_of S.Store.finds (S.store scopes.old)))
-        depth name.now (S.view scopes.old))
-        (S.view scopes.old) (K.sunk sink.old) (K.sunk sink.new) (S.view scopes.new) result }
-    ensures owes { S.restores scopes.new ≡ S.restores scopes.old }
-    ensures store { partials_of S.Store.finds (S.store scopes.new) ≡ partials_of S.Store.finds (S.store scopes.old) }
-    ensures bound { partials_size (partials_of S.Store.finds (S.store scopes.new))
-        ≡ partials_size (partials_of S.Store.finds (S.store scopes.old)) }
-    ensures borrows { S.lent scopes.new ≡ S.lent scopes.old }
-{
-    if depth == 0 {
-        return Err(too_deep_error(alloc));
-    }
-    let found: Result<Rc<Template<X, T, B>>, Error> = find(alloc, name, scopes);
-    match found {
-        Ok(template) => render_list(alloc, template.nodes(), depth - 1, sink, scopes),
-        Err(error) => Err(error),
-    }
+    render_list(alloc, template.nodes(), depth - 1, sink, scopes, answer);
+    let_partial_go(template);
 }

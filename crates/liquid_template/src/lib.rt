@@ -1,10 +1,13 @@
 //! Sinks, and the rendering of parsed templates.
 #![tactic(auto)]
 
+mod begun;
 mod chain;
 mod cycle;
 mod history;
 mod laws;
+mod leaf;
+mod opened;
 mod partial;
 mod piece;
 mod render;
@@ -14,6 +17,7 @@ mod store;
 mod template;
 mod text_sink;
 mod trace;
+mod turn;
 mod writer_sink;
 
 pub use crate::history::History;

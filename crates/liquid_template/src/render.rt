@@ -44,7 +44,9 @@ impl<X: Filter, T, B> Template<X, T, B> {
         ensures borrows { S.lent scopes.new ≡ S.lent scopes.old }
     {
         let depth = scopes.depth();
-        render_list(alloc, self.nodes(), depth, sink, scopes)
+        let mut answer = Ok(());
+        render_list(alloc, self.nodes(), depth, sink, scopes, &mut answer);
+        answer
     }
 
     /// Writes what the template comes to in the runtime's view, piece by piece, as `render_in` does

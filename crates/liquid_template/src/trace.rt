@@ -1,5 +1,5 @@
 //! The trace of a node on an error out of it.
-ghost use Rattle.std.specs.Prelude.{option_map, string_bytes};
+ghost use Rattle.std.specs.Prelude.{◌≡◌, Err, option_map, string_bytes};
 ghost use Rattle.liquid_error.specs.meaning.Helpers.{ErrBecomes};
 ghost use Rattle.liquid_template.specs.meaning.Actions.{refused_through};
 
@@ -22,4 +22,19 @@ pub(crate) fn with_own_trace(
             None => Err(error),
         },
     }
+}
+
+/// Makes an error the answer.
+#[inline(never)]
+pub(crate) fn refuse(answer: &mut Result<(), Error>, error: Error)
+    ensures { answer.new ≡ Err error }
+{
+    *answer = Err(error);
+}
+
+/// Keeps the trace of a turn in the place of the last one's.
+pub(crate) fn keep_trace(kept: &mut Option<String>, trace: Option<String>)
+    ensures { kept.new ≡ trace }
+{
+    *kept = trace;
 }

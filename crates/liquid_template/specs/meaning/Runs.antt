@@ -3,7 +3,7 @@ use Rattle.std.specs.Prelude.{ℕ, List, [], Option, option_map}
 use Rattle.liquid_runtime.specs.meaning.Frames.{FrameShape}
 use Rattle.liquid_plugins.specs.meaning.Chain.{FilterMeaning}
 use Rattle.liquid_plugins.specs.meaning.Turns.{NodeMeaning, TurnShape}
-use Rattle.liquid_plugins.specs.meaning.Nodes.{NodeShape, Nodes, Parts}
+use Rattle.liquid_plugins.specs.meaning.Nodes.{NodeShape, Parts}
 use Rattle.liquid_template.specs.meaning.Run.{Action}
 use Rattle.liquid_template.specs.meaning.Actions.{under, part_at}
 use Rattle.liquid_template.specs.meaning.Nodes.{Setting, performed, played, run_node, run_parts}

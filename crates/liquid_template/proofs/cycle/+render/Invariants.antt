@@ -1,4 +1,5 @@
 use Rattle.std.proofs.Common.{◌≡◌, ◌+◌, ◌*◌, ◌-◌, [], drop, Result, option_map}
+use Rattle.std.specs.Prelude.{IsOk}
 use Rattle.liquid_error.specs.declared.error.Error.{Error}
 use Rattle.liquid_runtime.specs.meaning.View.{View}
 use Rattle.liquid_plugins.specs.meaning.NodesOf.{node_of, nodes_of}
@@ -9,6 +10,7 @@ use Rattle.liquid_template.specs.meaning.Rendering.{nodes_run}
 use Rattle.liquid_template.specs.meaning.Sunk.{Sunk}
 use Rattle.liquid_template.specs.meaning.Outcome.{Renders}
 use Rattle.liquid_template.specs.meaning.Runs.{setting, tag_run, block_run}
+use Rattle.liquid_template.specs.meaning.TemplateOf.{template_nodes}
 use Rattle.liquid_template.specs.steps.PartsOf.{parts_of}
 use Rattle.liquid_template.specs.steps.Bound.{partials_size, work}
 use Rattle.liquid_template.proofs.cycle.+render.Given as goal
@@ -25,26 +27,24 @@ decreases-render_tag g l = 8 * work l.depth (partials_size (option_map g.S.Store
 abbrev pub decreases-render_block : goal.decreases-render_block
 decreases-render_block g l = 8 * work l.depth (partials_size (option_map g.S.Store.PartialStore.finds (g.S.Runtime.store l.scopes.now))) (size_parts (parts_of g.X.Meant.shape g.T.Meant.shape g.B.Meant.shape l.parts.now)) + 7
 
-abbrev pub decreases-perform : goal.decreases-perform
-decreases-perform g l = 8 * work l.depth (partials_size (option_map g.S.Store.PartialStore.finds (g.S.Runtime.store l.scopes.now))) (size_parts (parts_of g.X.Meant.shape g.T.Meant.shape g.B.Meant.shape l.parts.now)) + 6
-
-abbrev pub decreases-render_body : goal.decreases-render_body
-decreases-render_body g l = 8 * work l.depth (partials_size (option_map g.S.Store.PartialStore.finds (g.S.Runtime.store l.scopes.now))) (size_parts (parts_of g.X.Meant.shape g.T.Meant.shape g.B.Meant.shape l.parts.now)) + 5
-
 abbrev pub decreases-render_part : goal.decreases-render_part
 decreases-render_part g l = 8 * work l.depth (partials_size (option_map g.S.Store.PartialStore.finds (g.S.Runtime.store l.scopes.now))) (size_parts (parts_of g.X.Meant.shape g.T.Meant.shape g.B.Meant.shape l.parts.now)) + 4
 
 abbrev pub decreases-render_partial : goal.decreases-render_partial
-decreases-render_partial g l = 8 * work l.depth (partials_size (option_map g.S.Store.PartialStore.finds (g.S.Runtime.store l.scopes.now))) 0 + 5
+decreases-render_partial g l = 8 * work (l.depth - 1) (partials_size (option_map g.S.Store.PartialStore.finds (g.S.Runtime.store l.scopes.now))) (size_nodes (template_nodes g.X.Meant.shape g.T.Meant.shape g.B.Meant.shape l.template.value)) + 4
 
-abbrev pub decreases-render_found : goal.decreases-render_found
-decreases-render_found g l = 8 * work l.depth (partials_size (option_map g.S.Store.PartialStore.finds (g.S.Runtime.store l.scopes.now))) 0 + 4
+abbrev pub decreases-take_tag : goal.decreases-take_tag
+decreases-take_tag g l = 8 * work l.depth (partials_size (option_map g.S.Store.PartialStore.finds (g.S.Runtime.store l.scopes.now))) 0 + 6
+
+abbrev pub decreases-take_block : goal.decreases-take_block
+decreases-take_block g l = 8 * work l.depth (partials_size (option_map g.S.Store.PartialStore.finds (g.S.Runtime.store l.scopes.now))) (size_parts (parts_of g.X.Meant.shape g.T.Meant.shape g.B.Meant.shape l.parts.now)) + 6
 
 abbrev pub invariant-render_list-loop-node : goal.invariant-render_list-loop-node
 invariant-render_list-loop-node g l = record {
   owes : g.S.Runtime.restores l.scopes ≡ g.S.Runtime.restores l.fn.scopes;
   store : option_map g.S.Store.PartialStore.finds (g.S.Runtime.store l.scopes) ≡ option_map g.S.Store.PartialStore.finds (g.S.Runtime.store l.fn.scopes);
   bound : partials_size (option_map g.S.Store.PartialStore.finds (g.S.Runtime.store l.scopes)) ≡ partials_size (option_map g.S.Store.PartialStore.finds (g.S.Runtime.store l.fn.scopes));
+  answer : IsOk l.answer;
   borrows : g.S.Runtime.lent l.scopes ≡ g.S.Runtime.lent l.fn.scopes;
   renders : (after : Sunk) (left : View g.row.S-Register.Denot) (answer : Result (Unit {0}) Error)
       → Renders (nodes_run (setting g.S.Register.Fresh.fresh g.X.Filter.means g.T.Renderable.means g.B.Renderable.means (option_map g.S.Store.PartialStore.finds (g.S.Runtime.store l.fn.scopes))) l.depth (nodes_of g.X.Meant.shape g.T.Meant.shape g.B.Meant.shape (drop l.node-index l.nodes)) (g.S.Runtime.view l.scopes)) (g.S.Runtime.view l.scopes) (g.K.Sink.sunk l.sink) after left answer
@@ -56,10 +56,10 @@ invariant-render_tag-loop g l = record {
   owes : g.S.Runtime.restores l.scopes ≡ g.S.Runtime.restores l.fn.scopes;
   store : option_map g.S.Store.PartialStore.finds (g.S.Runtime.store l.scopes) ≡ option_map g.S.Store.PartialStore.finds (g.S.Runtime.store l.fn.scopes);
   bound : partials_size (option_map g.S.Store.PartialStore.finds (g.S.Runtime.store l.scopes)) ≡ partials_size (option_map g.S.Store.PartialStore.finds (g.S.Runtime.store l.fn.scopes));
+  answer : IsOk l.answer;
   borrows : g.S.Runtime.lent l.scopes ≡ g.S.Runtime.lent l.fn.scopes;
-  none : l.none.items ≡ [];
   renders : (after : Sunk) (left : View g.row.S-Register.Denot) (answer : Result (Unit {0}) Error)
-      → Renders (turns (setting g.S.Register.Fresh.fresh g.X.Filter.means g.T.Renderable.means g.B.Renderable.means (option_map g.S.Store.PartialStore.finds (g.S.Runtime.store l.fn.scopes))) (partials_at (setting g.S.Register.Fresh.fresh g.X.Filter.means g.T.Renderable.means g.B.Renderable.means (option_map g.S.Store.PartialStore.finds (g.S.Runtime.store l.fn.scopes))) l.depth) g.T.Renderable.means (g.T.Meant.shape l.tag) [] (l.end - l.counter) (g.T.Progress.Meant.shape l.progress) (g.S.Runtime.view l.scopes)) (g.S.Runtime.view l.scopes) (g.K.Sink.sunk l.sink) after left answer
+      → Renders (turns (setting g.S.Register.Fresh.fresh g.X.Filter.means g.T.Renderable.means g.B.Renderable.means (option_map g.S.Store.PartialStore.finds (g.S.Runtime.store l.fn.scopes))) (partials_at (setting g.S.Register.Fresh.fresh g.X.Filter.means g.T.Renderable.means g.B.Renderable.means (option_map g.S.Store.PartialStore.finds (g.S.Runtime.store l.fn.scopes))) l.depth) g.T.Renderable.means (g.T.Meant.shape l.tag) [] (l.end - l.counter) (g.T.Progress.Meant.shape l.going.value.progress) (g.S.Runtime.view l.scopes)) (g.S.Runtime.view l.scopes) (g.K.Sink.sunk l.sink) after left answer
       → Renders (tag_run (setting g.S.Register.Fresh.fresh g.X.Filter.means g.T.Renderable.means g.B.Renderable.means (option_map g.S.Store.PartialStore.finds (g.S.Runtime.store l.fn.scopes))) l.depth (g.T.Meant.shape l.tag) (g.S.Runtime.view l.fn.scopes)) (g.S.Runtime.view l.fn.scopes) (g.K.Sink.sunk l.fn.sink) after left answer;
 }
 
@@ -68,8 +68,9 @@ invariant-render_block-loop g l = record {
   owes : g.S.Runtime.restores l.scopes ≡ g.S.Runtime.restores l.fn.scopes;
   store : option_map g.S.Store.PartialStore.finds (g.S.Runtime.store l.scopes) ≡ option_map g.S.Store.PartialStore.finds (g.S.Runtime.store l.fn.scopes);
   bound : partials_size (option_map g.S.Store.PartialStore.finds (g.S.Runtime.store l.scopes)) ≡ partials_size (option_map g.S.Store.PartialStore.finds (g.S.Runtime.store l.fn.scopes));
+  answer : IsOk l.answer;
   borrows : g.S.Runtime.lent l.scopes ≡ g.S.Runtime.lent l.fn.scopes;
   renders : (after : Sunk) (left : View g.row.S-Register.Denot) (answer : Result (Unit {0}) Error)
-      → Renders (turns (setting g.S.Register.Fresh.fresh g.X.Filter.means g.T.Renderable.means g.B.Renderable.means (option_map g.S.Store.PartialStore.finds (g.S.Runtime.store l.fn.scopes))) (partials_at (setting g.S.Register.Fresh.fresh g.X.Filter.means g.T.Renderable.means g.B.Renderable.means (option_map g.S.Store.PartialStore.finds (g.S.Runtime.store l.fn.scopes))) l.depth) g.B.Renderable.means (g.B.Meant.shape l.block) (run_parts (setting g.S.Register.Fresh.fresh g.X.Filter.means g.T.Renderable.means g.B.Renderable.means (option_map g.S.Store.PartialStore.finds (g.S.Runtime.store l.fn.scopes))) (partials_at (setting g.S.Register.Fresh.fresh g.X.Filter.means g.T.Renderable.means g.B.Renderable.means (option_map g.S.Store.PartialStore.finds (g.S.Runtime.store l.fn.scopes))) l.depth) (parts_of g.X.Meant.shape g.T.Meant.shape g.B.Meant.shape l.parts)) (l.end - l.counter) (g.B.Progress.Meant.shape l.progress) (g.S.Runtime.view l.scopes)) (g.S.Runtime.view l.scopes) (g.K.Sink.sunk l.sink) after left answer
+      → Renders (turns (setting g.S.Register.Fresh.fresh g.X.Filter.means g.T.Renderable.means g.B.Renderable.means (option_map g.S.Store.PartialStore.finds (g.S.Runtime.store l.fn.scopes))) (partials_at (setting g.S.Register.Fresh.fresh g.X.Filter.means g.T.Renderable.means g.B.Renderable.means (option_map g.S.Store.PartialStore.finds (g.S.Runtime.store l.fn.scopes))) l.depth) g.B.Renderable.means (g.B.Meant.shape l.block) (run_parts (setting g.S.Register.Fresh.fresh g.X.Filter.means g.T.Renderable.means g.B.Renderable.means (option_map g.S.Store.PartialStore.finds (g.S.Runtime.store l.fn.scopes))) (partials_at (setting g.S.Register.Fresh.fresh g.X.Filter.means g.T.Renderable.means g.B.Renderable.means (option_map g.S.Store.PartialStore.finds (g.S.Runtime.store l.fn.scopes))) l.depth) (parts_of g.X.Meant.shape g.T.Meant.shape g.B.Meant.shape l.parts)) (l.end - l.counter) (g.B.Progress.Meant.shape l.going.value.progress) (g.S.Runtime.view l.scopes)) (g.S.Runtime.view l.scopes) (g.K.Sink.sunk l.sink) after left answer
       → Renders (block_run (setting g.S.Register.Fresh.fresh g.X.Filter.means g.T.Renderable.means g.B.Renderable.means (option_map g.S.Store.PartialStore.finds (g.S.Runtime.store l.fn.scopes))) l.depth (g.B.Meant.shape l.block) (parts_of g.X.Meant.shape g.T.Meant.shape g.B.Meant.shape l.parts) (g.S.Runtime.view l.fn.scopes)) (g.S.Runtime.view l.fn.scopes) (g.K.Sink.sunk l.fn.sink) after left answer;
 }

@@ -1,0 +1,11 @@
+use Rattle.std.proofs.Common.{◌<◌, arith}
+use Rattle.liquid_template.proofs.Goings.{finds_none, finds_given}
+use Rattle.liquid_template.proofs.turn.found.Goals as goal
+
+pub returns-then-depth-eq0-clause-finds : goal.returns-then-depth-eq0-clause-finds
+returns-then-depth-eq0-clause-finds g c = finds_none _ _ _ _ c.if-depth-eq0.true c.too_deep_error.ensures
+
+pub returns-clause-finds : goal.returns-clause-finds
+returns-clause-finds g c =
+    let h : 0 < c.args.depth = omega arith in
+    finds_given _ _ _ _ _ h c.find.ensures.gives

@@ -1,0 +1,15 @@
+use Rattle.std.proofs.Common.{ap, option_map}
+use Rattle.liquid_template.proofs.Framing.{framed_kept}
+use Rattle.liquid_template.proofs.Goings.{frame_lost, partial_fails}
+use Rattle.liquid_template.proofs.turn.partial_opened.Goals as goal
+
+pub returns-in-Err-clause-opens : goal.returns-in-Err-clause-opens
+returns-in-Err-clause-opens g c =
+    rw c.refuse.ensures (c.in-Err.ensures.owes, λ b. frame_lost _ _ _ _ _ _ _ c.in-Err.ensures.err c.in-Err.ensures.unchanged b)
+
+pub returns-in-Err-found-clause-opens : goal.returns-in-Err-found-clause-opens
+returns-in-Err-found-clause-opens g c =
+    let x = rw (ap (option_map g.S.Store.PartialStore.finds) c.in-Ok.ensures.store) at c.in-Err-found.ensures.finds in (
+      framed_kept _ _ _ _ _ _ _ _ c.in-Ok.ensures.opens c.in-Err-found.ensures.owes c.pop.ensures.ends,
+      partial_fails _ _ _ _ _ _ _ _ _ _ _ _ _ _ c.in-Ok.ensures.ok c.in-Ok.ensures.opens c.in-Err-found.ensures.owes c.in-Err-found.ensures.view c.pop.ensures.ends c.with_own_trace.ensures x,
+    )

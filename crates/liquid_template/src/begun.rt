@@ -1,0 +1,63 @@
+//! Beginning a node.
+ghost use Rattle.std.specs.Prelude.{◌≡◌, IsOk, option_map};
+ghost use Rattle.liquid_runtime.specs.meaning.Written.{SameFrames};
+ghost use Rattle.liquid_template.specs.steps.NodeTurns.{Begins};
+
+use liquid_error::Error;
+use liquid_plugins::Renderable;
+use liquid_runtime::Scopes;
+use std::alloc::Global;
+
+/// What is kept of a node while it takes its turns: its progress, and the trace of the turn that is rendered.
+#[derive(Drop)]
+pub(crate) struct Going<P> {
+    pub(crate) progress: P,
+    pub(crate) trace: Option<String>,
+}
+
+/// Starts a node. Where it is refused, the answer says so and nothing is kept.
+#[inline(never)]
+pub(crate) fn begun<N, S>(
+    alloc: Global,
+    node: &N,
+    scopes: &mut S,
+    answer: &mut Result<(), Error>,
+) -> Option<Box<Going<N::Progress>>>
+where
+    S: Scopes,
+    N: Renderable<S::Register>,
+    requires { IsOk answer.old }
+    ensures begins { Begins N.means (N.shape node.now) (S.view scopes.old) (S.view scopes.new) answer.new
+        (option_map (λ going. N.Progress.shape going.value.progress) result) }
+    ensures frames { SameFrames (S.view scopes.old) (S.view scopes.new) }
+    ensures owes { S.restores scopes.new ≡ S.restores scopes.old }
+    ensures store { S.store scopes.new ≡ S.store scopes.old }
+    ensures borrows { S.lent scopes.new ≡ S.lent scopes.old }
+{
+    let progress = match node.start(alloc, scopes) {
+        Ok(progress) => progress,
+        Err(error) => {
+            *answer = Err(error);
+            return None;
+        }
+    };
+    match Box::new(
+        alloc,
+        Going {
+            progress,
+            trace: None,
+        },
+    ) {
+        Ok(going) => Some(going),
+        Err(_) => {
+            *answer = Err(Error::Memory);
+            None
+        }
+    }
+}
+
+/// Lets go of what was kept of a node.
+#[inline(never)]
+pub(crate) fn let_go<P: Drop>(going: Box<Going<P>>) {
+    drop(going);
+}
