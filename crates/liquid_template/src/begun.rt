@@ -22,6 +22,37 @@ pub(crate) fn begun<N, S>(
     node: &N,
     scopes: &mut S,
     answer: &mut Result<(), Error>,
+) -> Option<Going<N::Progress>>
+where
+    S: Scopes,
+    N: Renderable<S::Register>,
+    requires { IsOk answer.old }
+    ensures begins { Begins N.means (N.shape node.now) (S.view scopes.old) (S.view scopes.new) answer.new
+        (option_map (λ going. N.Progress.shape going.progress) result) }
+    ensures frames { SameFrames (S.view scopes.old) (S.view scopes.new) }
+    ensures owes { S.restores scopes.new ≡ S.restores scopes.old }
+    ensures store { S.store scopes.new ≡ S.store scopes.old }
+    ensures borrows { S.lent scopes.new ≡ S.lent scopes.old }
+{
+    match node.start(alloc, scopes) {
+        Ok(progress) => Some(Going {
+            progress,
+            trace: None,
+        }),
+        Err(error) => {
+            *answer = Err(error);
+            None
+        }
+    }
+}
+
+/// Starts a node, and keeps what is kept of it in a box, so that the caller's stack holds no more than its place.
+#[inline(never)]
+pub(crate) fn begun_apart<N, S>(
+    alloc: Global,
+    node: &N,
+    scopes: &mut S,
+    answer: &mut Result<(), Error>,
 ) -> Option<Box<Going<N::Progress>>>
 where
     S: Scopes,
@@ -34,20 +65,8 @@ where
     ensures store { S.store scopes.new ≡ S.store scopes.old }
     ensures borrows { S.lent scopes.new ≡ S.lent scopes.old }
 {
-    let progress = match node.start(alloc, scopes) {
-        Ok(progress) => progress,
-        Err(error) => {
-            *answer = Err(error);
-            return None;
-        }
-    };
-    match Box::new(
-        alloc,
-        Going {
-            progress,
-            trace: None,
-        },
-    ) {
+    let going = begun(alloc, node, scopes, answer)?;
+    match Box::new(alloc, going) {
         Ok(going) => Some(going),
         Err(_) => {
             *answer = Err(Error::Memory);

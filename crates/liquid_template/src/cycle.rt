@@ -13,7 +13,7 @@ ghost use Rattle.liquid_template.specs.steps.PartsOf.{parts_of};
 ghost use Rattle.liquid_template.specs.steps.Bound.{partials_size};
 ghost use Rattle.liquid_template.specs.steps.Going.{Takes};
 
-use crate::begun::{Going, begun, let_go};
+use crate::begun::{Going, begun, begun_apart, let_go};
 use crate::leaf::{put_chain, put_name, put_text};
 use crate::opened::{closed, let_partial_go};
 use crate::sink::Sink;
@@ -66,6 +66,7 @@ where
         }
     }
 }
+
 /// Renders a node.
 #[cycle(render)]
 fn render_node<X, T, B, S, K>(
@@ -104,8 +105,10 @@ where
         Node::Block(block, parts) => render_block(alloc, block, parts, depth, sink, scopes, answer),
     }
 }
-/// Renders a tag's node, which has no parts.
+
+/// Renders a tag's node, which has no parts. Tags open partials alone, so what they keep needs no box.
 #[cycle(render)]
+#[inline(never)]
 fn render_tag<X, T, B, S, K>(
     alloc: Global,
     tag: &T,
@@ -139,12 +142,11 @@ where
     };
     for _ in 0..T::turns(&going.progress) {
         if !take_tag(alloc, tag, &mut going, depth, sink, scopes, answer) {
-            let_go(going);
             return;
         }
     }
-    let_go(going);
 }
+
 /// Takes a tag's turn, and tells whether the others come.
 #[cycle(render)]
 fn take_tag<X, T, B, S, K>(
@@ -184,6 +186,7 @@ where
         }
     }
 }
+
 /// Renders a block's node.
 #[cycle(render)]
 fn render_block<X, T, B, S, K>(
@@ -214,7 +217,7 @@ where
         ≡ partials_size (partials_of S.Store.finds (S.store scopes.old)) }
     ensures borrows { S.lent scopes.new ≡ S.lent scopes.old }
 {
-    let mut going = match begun(alloc, block, scopes, answer) {
+    let mut going = match begun_apart(alloc, block, scopes, answer) {
         Some(going) => going,
         None => return,
     };
@@ -226,6 +229,7 @@ where
     }
     let_go(going);
 }
+
 /// Takes a block's turn, and tells whether the others come.
 #[cycle(render)]
 fn take_block<X, T, B, S, K>(
@@ -272,6 +276,7 @@ where
         }
     }
 }
+
 /// Renders a part, if there is one at that place.
 #[cycle(render)]
 fn render_part<X, T, B, S, K>(
@@ -307,6 +312,7 @@ where
         None => {}
     }
 }
+
 /// Renders a partial, with one less that may be open inside it.
 #[cycle(render)]
 fn render_partial<X, T, B, S, K>(

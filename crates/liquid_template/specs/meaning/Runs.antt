@@ -23,14 +23,5 @@ module _ {Reg F T P B Q : Type 0} (s : Setting Reg F T P B Q) (depth : ℕ) wher
   abbrev pub block_run : B → Parts F T B → Action Reg
   block_run n ps = played s (partials_at s depth) s.blocks n (run_parts s (partials_at s depth) ps)
 
-  abbrev pub turn_run : Parts F T B → TurnShape → Action Reg
-  turn_run ps turn = performed s (partials_at s depth) (run_parts s (partials_at s depth) ps) turn
-
   abbrev pub part_run : Parts F T B → ℕ → Action Reg
   part_run ps place = part_at (run_parts s (partials_at s depth) ps) place
-
-  abbrev pub body_run : Parts F T B → ℕ → FrameShape → Option (List ℕ) → Action Reg
-  body_run ps place frame trace = under s.fresh frame trace (part_run ps place)
-
-  abbrev pub partial_run : List ℕ → FrameShape → Option (List ℕ) → Action Reg
-  partial_run name frame trace = under s.fresh frame trace (partials_at s depth name)

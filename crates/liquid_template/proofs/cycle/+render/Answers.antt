@@ -79,17 +79,17 @@ render_tag-returns-in-None-clause-renders g t c =
 
 pub render_tag-loop-init : goal.render_tag-loop-init
 render_tag-loop-init g t c =
-    record { owes = c.begun.ensures.owes; store = ap (option_map g.S.Store.PartialStore.finds) c.begun.ensures.store; bound = ap (λ store. partials_size (option_map g.S.Store.PartialStore.finds store)) c.begun.ensures.store; answer = c.in-Some.ensures.begins.0; borrows = c.begun.ensures.borrows; renders = λ after left answer h. start_goes_at _ _ _ _ _ _ _ _ _ _ _ _ _ (none_yet c.turns-end.result _ (c.turns-end.ensures ∙ ap (λ x. g.T.Renderable.means.count (g.T.Progress.Meant.shape x.progress)) c.deref.ensures)) c.in-Some.ensures.begins.1 c.in-Some.ensures.begins.2 c.begun.ensures.frames h }
+    record { owes = c.begun.ensures.owes; store = ap (option_map g.S.Store.PartialStore.finds) c.begun.ensures.store; bound = ap (λ store. partials_size (option_map g.S.Store.PartialStore.finds store)) c.begun.ensures.store; answer = c.in-Some.ensures.begins.0; borrows = c.begun.ensures.borrows; renders = λ after left answer h. start_goes_at _ _ _ _ _ _ _ _ _ _ _ _ _ (none_yet c.turns-end.result _ c.turns-end.ensures) c.in-Some.ensures.begins.1 c.in-Some.ensures.begins.2 c.begun.ensures.frames h }
 
 pub render_tag-returns-then-not-take_tag : goal.render_tag-returns-then-not-take_tag
 render_tag-returns-then-not-take_tag g t c =
     let x = rw c.loop.invariant.store at c.take_tag.ensures.takes in
-    record { renders = c.loop.invariant.renders _ _ _ (takes_last _ _ _ _ _ _ _ _ _ _ _ _ _ _ _ _ (left_more c.loop.counter c.turns-end.result c.loop-test.true) (ap (λ x. g.T.Progress.Meant.shape x.progress) c.deref_mut.ensures.value) c.if-not-take_tag.true x); owes = c.take_tag.ensures.owes ∙ c.loop.invariant.owes; store = c.take_tag.ensures.store ∙ c.loop.invariant.store; bound = c.take_tag.ensures.bound ∙ c.loop.invariant.bound; borrows = c.take_tag.ensures.borrows ∙ c.loop.invariant.borrows }
+    record { renders = c.loop.invariant.renders _ _ _ (takes_last _ _ _ _ _ _ _ _ _ _ _ _ _ _ _ _ (left_more c.loop.counter c.turns-end.result c.loop-test.true) refl c.if-not-take_tag.true x); owes = c.take_tag.ensures.owes ∙ c.loop.invariant.owes; store = c.take_tag.ensures.store ∙ c.loop.invariant.store; bound = c.take_tag.ensures.bound ∙ c.loop.invariant.bound; borrows = c.take_tag.ensures.borrows ∙ c.loop.invariant.borrows }
 
 pub render_tag-loop-preserved : goal.render_tag-loop-preserved
 render_tag-loop-preserved g t c =
     let x = rw c.loop.invariant.store at c.take_tag.ensures.takes in
-    record { owes = c.take_tag.ensures.owes ∙ c.loop.invariant.owes; store = c.take_tag.ensures.store ∙ c.loop.invariant.store; bound = c.take_tag.ensures.bound ∙ c.loop.invariant.bound; answer = takes_ok _ _ _ _ _ _ _ _ _ _ _ _ _ c.if-not-take_tag.false x; borrows = c.take_tag.ensures.borrows ∙ c.loop.invariant.borrows; renders = λ after left answer h. c.loop.invariant.renders after left answer (takes_more _ _ _ _ _ _ _ _ _ _ _ _ _ _ _ _ _ _ _ (left_more c.loop.counter c.turns-end.result c.loop-test.true) (ap (λ x. g.T.Progress.Meant.shape x.progress) c.deref_mut.ensures.value) c.if-not-take_tag.false x h) }
+    record { owes = c.take_tag.ensures.owes ∙ c.loop.invariant.owes; store = c.take_tag.ensures.store ∙ c.loop.invariant.store; bound = c.take_tag.ensures.bound ∙ c.loop.invariant.bound; answer = takes_ok _ _ _ _ _ _ _ _ _ _ _ _ _ c.if-not-take_tag.false x; borrows = c.take_tag.ensures.borrows ∙ c.loop.invariant.borrows; renders = λ after left answer h. c.loop.invariant.renders after left answer (takes_more _ _ _ _ _ _ _ _ _ _ _ _ _ _ _ _ _ _ _ (left_more c.loop.counter c.turns-end.result c.loop-test.true) refl c.if-not-take_tag.false x h) }
 
 pub render_tag-returns : goal.render_tag-returns
 render_tag-returns g t c =
@@ -121,11 +121,11 @@ take_tag-returns-in-Partial g t c =
 
 pub render_block-returns-in-None-clause-renders : goal.render_block-returns-in-None-clause-renders
 render_block-returns-in-None-clause-renders g t c =
-    start_none _ _ _ _ _ _ _ _ _ c.in-None.ensures.begins c.begun.ensures.frames
+    start_none _ _ _ _ _ _ _ _ _ c.in-None.ensures.begins c.begun_apart.ensures.frames
 
 pub render_block-loop-init : goal.render_block-loop-init
 render_block-loop-init g t c =
-    record { owes = c.begun.ensures.owes; store = ap (option_map g.S.Store.PartialStore.finds) c.begun.ensures.store; bound = ap (λ store. partials_size (option_map g.S.Store.PartialStore.finds store)) c.begun.ensures.store; answer = c.in-Some.ensures.begins.0; borrows = c.begun.ensures.borrows; renders = λ after left answer h. start_goes_at _ _ _ _ _ _ _ _ _ _ _ _ _ (none_yet c.turns-end.result _ (c.turns-end.ensures ∙ ap (λ x. g.B.Renderable.means.count (g.B.Progress.Meant.shape x.progress)) c.deref.ensures)) c.in-Some.ensures.begins.1 c.in-Some.ensures.begins.2 c.begun.ensures.frames h }
+    record { owes = c.begun_apart.ensures.owes; store = ap (option_map g.S.Store.PartialStore.finds) c.begun_apart.ensures.store; bound = ap (λ store. partials_size (option_map g.S.Store.PartialStore.finds store)) c.begun_apart.ensures.store; answer = c.in-Some.ensures.begins.0; borrows = c.begun_apart.ensures.borrows; renders = λ after left answer h. start_goes_at _ _ _ _ _ _ _ _ _ _ _ _ _ (none_yet c.turns-end.result _ (c.turns-end.ensures ∙ ap (λ x. g.B.Renderable.means.count (g.B.Progress.Meant.shape x.progress)) c.deref.ensures)) c.in-Some.ensures.begins.1 c.in-Some.ensures.begins.2 c.begun_apart.ensures.frames h }
 
 pub render_block-returns-then-not-take_block : goal.render_block-returns-then-not-take_block
 render_block-returns-then-not-take_block g t c =

@@ -59,7 +59,7 @@ invariant-render_tag-loop g l = record {
   answer : IsOk l.answer;
   borrows : g.S.Runtime.lent l.scopes ≡ g.S.Runtime.lent l.fn.scopes;
   renders : (after : Sunk) (left : View g.row.S-Register.Denot) (answer : Result (Unit {0}) Error)
-      → Renders (turns (setting g.S.Register.Fresh.fresh g.X.Filter.means g.T.Renderable.means g.B.Renderable.means (option_map g.S.Store.PartialStore.finds (g.S.Runtime.store l.fn.scopes))) (partials_at (setting g.S.Register.Fresh.fresh g.X.Filter.means g.T.Renderable.means g.B.Renderable.means (option_map g.S.Store.PartialStore.finds (g.S.Runtime.store l.fn.scopes))) l.depth) g.T.Renderable.means (g.T.Meant.shape l.tag) [] (l.end - l.counter) (g.T.Progress.Meant.shape l.going.value.progress) (g.S.Runtime.view l.scopes)) (g.S.Runtime.view l.scopes) (g.K.Sink.sunk l.sink) after left answer
+      → Renders (turns (setting g.S.Register.Fresh.fresh g.X.Filter.means g.T.Renderable.means g.B.Renderable.means (option_map g.S.Store.PartialStore.finds (g.S.Runtime.store l.fn.scopes))) (partials_at (setting g.S.Register.Fresh.fresh g.X.Filter.means g.T.Renderable.means g.B.Renderable.means (option_map g.S.Store.PartialStore.finds (g.S.Runtime.store l.fn.scopes))) l.depth) g.T.Renderable.means (g.T.Meant.shape l.tag) [] (l.end - l.counter) (g.T.Progress.Meant.shape l.going.progress) (g.S.Runtime.view l.scopes)) (g.S.Runtime.view l.scopes) (g.K.Sink.sunk l.sink) after left answer
       → Renders (tag_run (setting g.S.Register.Fresh.fresh g.X.Filter.means g.T.Renderable.means g.B.Renderable.means (option_map g.S.Store.PartialStore.finds (g.S.Runtime.store l.fn.scopes))) l.depth (g.T.Meant.shape l.tag) (g.S.Runtime.view l.fn.scopes)) (g.S.Runtime.view l.fn.scopes) (g.K.Sink.sunk l.fn.sink) after left answer;
 }
 
