@@ -1,0 +1,42 @@
+//! What a test asks of what it found. A test that asks by these calls, and has no assert of its own, is proved in a
+//! fraction of the time.
+ghost use Rattle.std.specs.Prelude.{◌≡◌, ◌↔◌, IsOk, true};
+
+use crate::line::Line;
+use std::alloc::Global;
+use std::test::Fail;
+
+/// Refuses a text that isn't the one wanted, and shows both.
+pub fn same(found: &str, wanted: &str) -> Result<(), Fail>
+    ensures { IsOk result ↔ (found.now ≡ wanted.now) }
+{
+    if found == wanted {
+        Ok(())
+    } else {
+        Err(Fail::new(format_args!("{found:?} was found in place of {wanted:?}")))
+    }
+}
+
+/// Refuses what doesn't hold, by its name.
+pub fn holds(is_so: bool, what: &str) -> Result<(), Fail>
+    ensures { IsOk result ↔ (is_so ≡ true) }
+{
+    if is_so { Ok(()) } else { Err(Fail::new(what)) }
+}
+
+/// Refuses the first row of a table of which the test doesn't hold, and shows its line.
+pub fn rows_hold<F: Fn(Global, &Line) -> Result<bool, Fail>>(
+    alloc: Global,
+    rows: &str,
+    holds: F,
+) -> Result<(), Fail>
+    requires { F.IsAlwaysCallable holds }
+{
+    for line in rows.lines() {
+        let row = Line::of(alloc, line)?;
+        if !holds(alloc, &row)? {
+            return Err(Fail::new(format_args!("this row doesn't hold: {line}")));
+        }
+    }
+    Ok(())
+}
