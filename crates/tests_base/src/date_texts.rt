@@ -1,9 +1,9 @@
 //! Texts of dates that no contract tells to be there: errors, long outputs, mail's form over its
 //! years.
 use liquid_dates::{Date, DateError, DateFormatError, DateTime};
-use std::alloc::AllocGlobal;
+use std::alloc::Global;
 use std::test::Fail;
-use tests_lines::Line;
+use tests_lines::{Line, holds, rows_hold, same};
 
 const DATE_ERRORS: [(DateError, &str); 4] = [
     (DateError::PartOutOfRange, "part out of range"),
@@ -48,62 +48,74 @@ fn november() -> Result<DateTime, DateError> {
 
 #[test]
 fn errors_have_their_texts(rt: HostRuntime) -> Result<(), Fail> {
-    for case in DATE_ERRORS {
-        assert_eq!(rt; case.0.to_string(rt.alloc())?.as_str(), case.1);
-    }
-    for case in FORMAT_ERRORS {
-        assert_eq!(rt; case.0.to_string(rt.alloc())?.as_str(), case.1);
+    for (error, text) in DATE_ERRORS {
+        same(error.to_string(rt.alloc())?.as_str(), text)?;
     }
     Ok(())
 }
 
-fn repeated(rt: &impl AllocGlobal, text: &str, count: u32) -> Result<String, Fail> {
-    let mut all = String::new(rt.alloc());
+#[test]
+fn errors_of_patterns_have_their_texts(rt: HostRuntime) -> Result<(), Fail> {
+    for (error, text) in FORMAT_ERRORS {
+        same(error.to_string(rt.alloc())?.as_str(), text)?;
+    }
+    Ok(())
+}
+
+fn repeated(alloc: Global, text: &str, count: u32) -> Result<String, Fail> {
+    let mut all = String::new(alloc);
     for _ in 0..count {
         all.push_str(text)?;
     }
     Ok(all)
 }
 
-#[test]
-fn long_texts_are_printed(rt: HostRuntime) -> Result<(), Fail> {
-    let moment = november()?;
-
-    // Many directives and much literal text: 780 bytes.
-    let pattern = repeated(&rt, PART.0, 12)?;
-    let text = repeated(&rt, PART.1, 12)?;
-    let printed = moment.format(rt.alloc(), pattern.as_str())?;
-    assert_eq!(rt; printed.as_str(), text.as_str());
-
-    // Literal text alone: 600 bytes, with characters past ASCII.
-    let literal = repeated(&rt, "a day é ", 66)?;
-    let printed = moment.format(rt.alloc(), literal.as_str())?;
-    assert_eq!(rt; printed.as_str(), literal.as_str());
-
-    // One directive filled to 500 bytes.
-    let mut filled = repeated(&rt, "0", 496)?;
-    filled.push_str("2022")?;
-    assert_eq!(rt;
-        moment.format(rt.alloc(), "%500Y")?.as_str(),
-        filled.as_str()
-    );
-    Ok(())
+/// Refuses a pattern that prints another text in November.
+fn prints(alloc: Global, pattern: &str, text: &str) -> Result<(), Fail> {
+    same(november()?.format(alloc, pattern)?.as_str(), text)
 }
 
-fn mail(rt: &impl AllocGlobal, text: &str) -> Result<Result<String, DateError>, Fail> {
+#[test]
+fn long_texts_are_printed(rt: HostRuntime) -> Result<(), Fail> {
+    let alloc = rt.alloc();
+
+    // Many directives and much literal text: 780 bytes.
+    let pattern = repeated(alloc, PART.0, 12)?;
+    prints(
+        alloc,
+        pattern.as_str(),
+        repeated(alloc, PART.1, 12)?.as_str(),
+    )?;
+
+    // Literal text alone: 600 bytes, with characters past ASCII.
+    let literal = repeated(alloc, "a day é ", 66)?;
+    prints(alloc, literal.as_str(), literal.as_str())?;
+
+    // One directive filled to 500 bytes.
+    let mut filled = repeated(alloc, "0", 496)?;
+    filled.push_str("2022")?;
+    prints(alloc, "%500Y", filled.as_str())
+}
+
+fn mail(alloc: Global, text: &str) -> Result<Result<String, DateError>, Fail> {
     let moment = DateTime::from_str(text, november()?).ok_or("no date time")?;
-    Ok(moment.to_rfc2822(rt.alloc()))
+    Ok(moment.to_rfc2822(alloc))
+}
+
+fn is_mailed(alloc: Global, row: &Line) -> Result<bool, Fail> {
+    Ok(mail(alloc, row.text(0)?)??.as_str() == row.text(1)?)
 }
 
 #[test]
 fn mail_dates_of_all_years(rt: HostRuntime) -> Result<(), Fail> {
-    for line in MAILED.lines() {
-        let row = Line::of(rt.alloc(), line)?;
-        assert_eq!(rt; mail(&rt, row.text(0)?)??.as_str(), row.text(1)?);
-    }
+    let alloc = rt.alloc();
+    rows_hold(alloc, MAILED, is_mailed)?;
     let refused = Some(DateError::NoRfc2822Form);
-    assert_eq!(rt; mail(&rt, "1899-12-31 23:59:59 +0000")?.err(), refused);
+    let early = mail(alloc, "1899-12-31 23:59:59 +0000")?;
+    holds(early.err() == refused, "a year before 1900")?;
     let seconds = november()?.with_offset(19_801)?;
-    assert_eq!(rt; seconds.to_rfc2822(rt.alloc()).err(), refused);
-    Ok(())
+    holds(
+        seconds.to_rfc2822(alloc).err() == refused,
+        "an offset with seconds",
+    )
 }

@@ -1,9 +1,8 @@
 //! Tables of patterns and date texts, and each public call once.
 use liquid_dates::{Date, DateError, DateFormatError, DateTime};
 use std::alloc::Global;
-use std::process::Abort;
 use std::test::Fail;
-use tests_lines::Line;
+use tests_lines::{Line, holds, rows_hold, same};
 
 // What patterns print of a moment in November: each directive by itself.
 const PLAIN: &str = r#"["%Y", "2022"]
@@ -170,135 +169,183 @@ fn november() -> Result<DateTime, DateError> {
     DateTime::from_parts(Date::from_ymd(2022, 11, 3)?, 7, 56, 37, 666_777_888, 21600)
 }
 
-/// Asserts what each pattern prints of the date time.
-fn prints(rt: &impl Abort, alloc: Global, date_time: DateTime, rows: &str) -> Result<(), Fail> {
-    for line in rows.lines() {
-        let row = Line::of(alloc, line)?;
-        let printed = date_time.format(alloc, row.text(0)?)?;
-        assert_eq!(rt; printed.as_str(), row.text(1)?, "of {line}");
-    }
-    Ok(())
+fn is_printed(alloc: Global, row: &Line, date_time: DateTime) -> Result<bool, Fail> {
+    let printed = date_time.format(alloc, row.text(0)?)?;
+    Ok(printed.as_str() == row.text(1)?)
+}
+
+/// Refuses a table of which a row's pattern doesn't print the row's text.
+fn prints(alloc: Global, date_time: DateTime, rows: &str) -> Result<(), Fail> {
+    rows_hold(alloc, rows, |alloc, row| is_printed(alloc, row, date_time))
 }
 
 #[test]
 fn patterns_are_printed(rt: HostRuntime) -> Result<(), Fail> {
     let alloc = rt.alloc();
-    prints(&rt, alloc, november()?, PLAIN)?;
+    prints(alloc, november()?, PLAIN)?;
     let january = Date::from_ymd(2022, 1, 3)?;
     let filled = DateTime::from_parts(january, 7, 56, 37, 666_777_888, 21600)?;
-    prints(&rt, alloc, filled, FILLED)?;
+    prints(alloc, filled, FILLED)?;
     let june = Date::from_ymd(-20, 6, 13)?;
     let negative = DateTime::from_parts(june, 17, 56, 37, 666_777_888, -26700)?;
-    prints(&rt, alloc, negative, NEGATIVE)?;
+    prints(alloc, negative, NEGATIVE)?;
     let monday = Date::from_ymd(2007, 11, 19)?;
     let zeros = DateTime::from_parts(monday, 8, 37, 48, 5_000_000, -1800)?;
-    prints(&rt, alloc, zeros, ZEROS)
+    prints(alloc, zeros, ZEROS)
+}
+
+/// Whether the row's pattern is refused with the row's text.
+fn is_refused(alloc: Global, row: &Line, date_time: DateTime) -> Result<bool, Fail> {
+    let error = date_time
+        .format(alloc, row.text(0)?)
+        .err()
+        .ok_or("an error")?;
+    Ok(error.to_string(alloc)?.as_str() == row.text(1)?)
 }
 
 #[test]
 fn patterns_are_refused(rt: HostRuntime) -> Result<(), Fail> {
     let alloc = rt.alloc();
     let date_time = november()?;
-    for line in REFUSED.lines() {
-        let row = Line::of(alloc, line)?;
-        let error = date_time
-            .format(alloc, row.text(0)?)
-            .err()
-            .ok_or("an error")?;
-        assert_eq!(rt; error.to_string(alloc)?.as_str(), row.text(1)?, "of {line}");
-    }
+    rows_hold(
+        alloc,
+        REFUSED,
+        |alloc, row| is_refused(alloc, row, date_time),
+    )?;
     let great = date_time.format(alloc, "%18446744073709551615d");
-    assert_eq!(rt; great.err(), Some(DateFormatError::Memory));
-    Ok(())
+    holds(
+        great.err() == Some(DateFormatError::Memory),
+        "the greatest width",
+    )
+}
+
+fn is_read(row: &Line) -> Result<bool, Fail> {
+    let read = DateTime::from_str(row.text(0)?, november()?).ok_or("no date time")?;
+    let is_instant = read.instant() == i128::from(row.number(1)?);
+    Ok(is_instant && i64::from(read.offset()) == row.number(2)?)
+}
+
+fn is_no_date_time(row: &Line) -> Result<bool, Fail> {
+    Ok(DateTime::from_str(row.text(0)?, november()?).is_none())
 }
 
 #[test]
 fn date_times_are_read(rt: HostRuntime) -> Result<(), Fail> {
-    let alloc = rt.alloc();
-    for line in DATE_TIMES.lines() {
-        let row = Line::of(alloc, line)?;
-        let read = DateTime::from_str(row.text(0)?, november()?).ok_or("no date time")?;
-        assert_eq!(rt; read.instant(), i128::from(row.number(1)?), "of {line}");
-        assert_eq!(rt; i64::from(read.offset()), row.number(2)?, "of {line}");
-    }
-    for line in NO_DATE_TIME.lines() {
-        let row = Line::of(alloc, line)?;
-        let read = DateTime::from_str(row.text(0)?, november()?);
-        assert!(rt; read.is_none(), "of {line}");
-    }
-    Ok(())
+    rows_hold(rt.alloc(), DATE_TIMES, |_, row| is_read(row))?;
+    rows_hold(rt.alloc(), NO_DATE_TIME, |_, row| is_no_date_time(row))
+}
+
+/// Whether a text is this date, where it is November now.
+fn is_date(text: &str, date: Date) -> Result<bool, DateError> {
+    Ok(Date::from_str(text, november()?) == Some(date))
 }
 
 #[test]
-fn dates_are_read(rt: HostRuntime) -> Result<(), Fail> {
-    let moment = november()?;
+fn dates_are_read(_rt: HostRuntime) -> Result<(), Fail> {
     let march = Date::from_ymd(2022, 3, 1)?;
     for text in ["01 Mar 2022", "01 March 2022", "2022-03-01"] {
-        assert_eq!(rt; Date::from_str(text, moment), Some(march));
+        holds(is_date(text, march)?, text)?;
     }
-    assert_eq!(rt; Date::from_str("today", moment), Some(moment.date()));
-    assert_eq!(rt;
-        Date::from_str("-0020-06-13", moment),
-        Some(Date::from_ymd(-20, 6, 13)?)
-    );
+    holds(is_date("today", november()?.date())?, "today")?;
+    holds(
+        is_date("-0020-06-13", Date::from_ymd(-20, 6, 13)?)?,
+        "a year before 0",
+    )
+}
+
+#[test]
+fn other_texts_are_no_dates(_rt: HostRuntime) -> Result<(), Fail> {
     for text in ["", "Today", "1 Mar 2022", "2022-02-29", "2022-03-01 "] {
-        assert!(rt; Date::from_str(text, moment).is_none());
+        holds(Date::from_str(text, november()?).is_none(), text)?;
     }
     Ok(())
 }
 
 #[test]
 fn date_times_are_printed(rt: HostRuntime) -> Result<(), Fail> {
+    let alloc = rt.alloc();
     let moment = november()?;
-    assert_eq!(rt;
-        moment.to_string(rt.alloc())?.as_str(),
-        "2022-11-03 07:56:37.666777888 +0600"
-    );
-    assert_eq!(rt; moment.date().to_string(rt.alloc())?.as_str(), "2022-11-03");
+    let text = "2022-11-03 07:56:37.666777888 +0600";
+    same(moment.to_string(alloc)?.as_str(), text)?;
+    same(moment.date().to_string(alloc)?.as_str(), "2022-11-03")?;
     let early = DateTime::from_ymd(-20, 6, 13)?.with_offset(-1830)?;
-    assert_eq!(rt;
-        early.to_string(rt.alloc())?.as_str(),
-        "-0020-06-12 23:29:30 -0030"
-    );
-    let mail = DateTime::from_str("2016-02-16 10:00:00 +0100", moment).ok_or("no date time")?;
-    assert_eq!(rt;
-        mail.to_rfc2822(rt.alloc())?.as_str(),
-        "Tue, 16 Feb 2016 10:00:00 +0100"
-    );
-    assert_eq!(rt;
-        early.to_rfc2822(rt.alloc()).err(),
-        Some(DateError::NoRfc2822Form)
-    );
-    Ok(())
+    same(
+        early.to_string(alloc)?.as_str(),
+        "-0020-06-12 23:29:30 -0030",
+    )
 }
 
 #[test]
-fn parts_and_changes(rt: HostRuntime) -> Result<(), Fail> {
+fn mail_has_a_form_of_its_own(rt: HostRuntime) -> Result<(), Fail> {
+    let alloc = rt.alloc();
+    let mail = DateTime::from_str("2016-02-16 10:00:00 +0100", november()?).ok_or("no date time")?;
+    same(
+        mail.to_rfc2822(alloc)?.as_str(),
+        "Tue, 16 Feb 2016 10:00:00 +0100",
+    )?;
+    let early = DateTime::from_ymd(-20, 6, 13)?.with_offset(-1830)?;
+    holds(
+        early.to_rfc2822(alloc).err() == Some(DateError::NoRfc2822Form),
+        "a year before 0",
+    )
+}
+
+#[test]
+fn moments_have_parts(_rt: HostRuntime) -> Result<(), Fail> {
     let moment = november()?;
-    assert_eq!(rt; moment.year(), 2022);
-    assert_eq!(rt; (moment.month(), moment.day()), (11, 3));
-    assert_eq!(rt;
-        (moment.hour(), moment.minute(), moment.second()),
-        (7, 56, 37)
-    );
-    assert_eq!(rt; moment.nanosecond(), 666_777_888);
-    assert_eq!(rt; moment.ordinal(), 307);
-    assert_eq!(rt; moment.iso_week(), 44);
+    holds(
+        moment.year() == 2022 && moment.month() == 11 && moment.day() == 3,
+        "the date",
+    )?;
+    holds(
+        moment.hour() == 7 && moment.minute() == 56 && moment.second() == 37,
+        "the time",
+    )?;
+    holds(moment.nanosecond() == 666_777_888, "the fraction")?;
+    holds(
+        moment.ordinal() == 307 && moment.iso_week() == 44,
+        "day and week of the year",
+    )?;
+    holds(
+        Date::from_ymd(2021, 1, 3)?.iso_week() == 53,
+        "the last week of the year before",
+    )
+}
+
+#[test]
+fn moments_are_changed(_rt: HostRuntime) -> Result<(), Fail> {
+    let moment = november()?;
     let new_year = Date::from_ymd(2021, 1, 3)?;
-    assert_eq!(rt; new_year.iso_week(), 53);
-    assert_eq!(rt; moment.with_date(new_year).date(), new_year);
-    assert_eq!(rt; moment.with_offset(0)?, moment);
-    assert_eq!(rt;
-        moment.with_offset(93_600).err(),
-        Some(DateError::PartOutOfRange)
-    );
-    assert_eq!(rt; DateTime::now(0)?, DateTime::default());
+    holds(
+        moment.with_date(new_year).date() == new_year,
+        "another date",
+    )?;
+    holds(moment.with_offset(0)? == moment, "another offset")?;
+    holds(
+        DateTime::now(0)? == DateTime::default(),
+        "now, without a clock",
+    )
+}
+
+#[test]
+fn parts_out_of_range_are_refused(_rt: HostRuntime) -> Result<(), Fail> {
+    let far = november()?.with_offset(93_600);
+    holds(
+        far.err() == Some(DateError::PartOutOfRange),
+        "an offset of 26 hours",
+    )?;
     let last = DateTime::from_ymd(9999, 12, 31)?.with_offset(86_400);
-    assert_eq!(rt; last.err(), Some(DateError::OutsideYears));
-    assert_eq!(rt;
-        Date::from_ymd(2022, 2, 29).err(),
-        Some(DateError::PartOutOfRange)
-    );
-    assert!(rt; Date::from_ymd(-1, 12, 31)? < Date::from_ymd(0, 1, 1)?);
-    Ok(())
+    holds(
+        last.err() == Some(DateError::OutsideYears),
+        "behind the last year",
+    )?;
+    let absent = Date::from_ymd(2022, 2, 29);
+    holds(
+        absent.err() == Some(DateError::PartOutOfRange),
+        "29 February 2022",
+    )?;
+    holds(
+        Date::from_ymd(-1, 12, 31)? < Date::from_ymd(0, 1, 1)?,
+        "the order of dates",
+    )
 }

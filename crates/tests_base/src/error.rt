@@ -4,8 +4,8 @@ use liquid_error::{
     ResultLiquidReplaceExt,
 };
 use std::alloc::{AllocError, Global};
-use std::process::Abort;
 use std::test::Fail;
+use tests_lines::{holds, same};
 
 #[test]
 fn errors_have_texts(rt: HostRuntime) -> Result<(), Fail> {
@@ -16,31 +16,40 @@ fn errors_have_texts(rt: HostRuntime) -> Result<(), Fail> {
         .context(alloc, "l", "w")
         .context(alloc, "m", "x")
         .trace(alloc, "c");
-    assert_eq!(rt;
-        error.to_string(alloc)?.as_str(),
-        "liquid: a\n  with:\n    k=v\nfrom: b\n  with:\n    l=w\n    m=x\nfrom: c\n"
-    );
-    assert!(rt; !error.is_memory());
-    assert_eq!(rt; error.place(), None);
-    assert!(rt; error.source().is_none());
-    assert!(rt; error.into_err::<u8>().is_err());
+    let text = "liquid: a\n  with:\n    k=v\nfrom: b\n  with:\n    l=w\n    m=x\nfrom: c\n";
+    same(error.to_string(alloc)?.as_str(), text)?;
+    holds(
+        !error.is_memory() && error.place().is_none(),
+        "no memory and no place",
+    )?;
+    holds(error.source().is_none(), "no cause")?;
+    holds(error.into_err::<u8>().is_err(), "as a result")
+}
+
+#[test]
+fn errors_have_places(rt: HostRuntime) -> Result<(), Fail> {
+    let alloc = rt.alloc();
     let place = Place {
         line: 2,
         column: 13,
     };
     let placed = Error::at_place(alloc, "Invalid liquid", place);
-    assert_eq!(rt;
+    same(
         placed.to_string(alloc)?.as_str(),
-        "liquid: Invalid liquid (line 2, column 13)\n"
-    );
-    assert_eq!(rt; placed.place(), Some(place));
+        "liquid: Invalid liquid (line 2, column 13)\n",
+    )?;
+    holds(placed.place() == Some(place), "its place")
+}
+
+#[test]
+fn want_of_memory_stays_so(rt: HostRuntime) -> Result<(), Fail> {
+    let alloc = rt.alloc();
     let starved = Error::Memory.trace(alloc, "a").context(alloc, "k", "v");
-    assert!(rt; starved.is_memory());
-    assert_eq!(rt;
+    holds(starved.is_memory(), "want of memory")?;
+    same(
         starved.to_string(alloc)?.as_str(),
-        "liquid: out of memory\n"
-    );
-    Ok(())
+        "liquid: out of memory\n",
+    )
 }
 
 #[test]
@@ -52,10 +61,12 @@ fn an_error_is_placed_once(rt: HostRuntime) -> Result<(), Fail> {
     };
     let later = Place { line: 3, column: 1 };
     let placed = Error::with_msg(alloc, "a").or_place(first).or_place(later);
-    assert_eq!(rt; placed.place(), Some(first));
-    assert_eq!(rt; placed.to_string(alloc)?.as_str(), "liquid: a\n");
-    assert!(rt; Error::Memory.or_place(first).is_memory());
-    Ok(())
+    holds(placed.place() == Some(first), "the first place")?;
+    same(placed.to_string(alloc)?.as_str(), "liquid: a\n")?;
+    holds(
+        Error::Memory.or_place(first).is_memory(),
+        "want of memory has none",
+    )
 }
 
 /// An error with two causes, one behind the other.
@@ -77,35 +88,31 @@ fn behind(error: &Error) -> Option<&Error> {
 fn a_clone_has_the_same_causes(rt: HostRuntime) -> Result<(), Fail> {
     let alloc = rt.alloc();
     let copy = caused(alloc)?.clone()?;
-    assert_eq!(rt; copy.to_string(alloc)?.as_str(), "liquid: c\n");
+    same(copy.to_string(alloc)?.as_str(), "liquid: c\n")?;
     let middle = behind(&copy).ok_or("an error")?;
-    assert_eq!(rt; middle.to_string(alloc)?.as_str(), "liquid: b\n");
+    same(middle.to_string(alloc)?.as_str(), "liquid: b\n")?;
     let last = middle.source().ok_or("a cause")?.clone()?;
-    assert_eq!(rt; last.to_string(alloc)?.as_str(), "liquid: a\n\n");
-    Ok(())
+    same(last.to_string(alloc)?.as_str(), "liquid: a\n\n")
 }
 
 fn refused(alloc: Global) -> liquid_error::Result<u8> {
     Error::with_msg(alloc, "a").into_err()
 }
 
-/// Asserts that the error of the answer prints this text, and its cause that one.
+/// Refuses an answer whose error doesn't print this text, and its cause that one.
 fn shows(
-    rt: &impl Abort,
     alloc: Global,
     answer: liquid_error::Result<u8>,
     text: &str,
     cause: &str,
 ) -> Result<(), Fail> {
     let error = answer.err().ok_or("an error")?;
-    let shown = error.to_string(alloc)?;
-    assert_eq!(rt; shown.as_str(), text);
+    same(error.to_string(alloc)?.as_str(), text)?;
     let source = match error.source() {
         Some(source) => source.to_string(alloc)?,
         None => String::new(alloc),
     };
-    assert_eq!(rt; source.as_str(), cause);
-    Ok(())
+    same(source.as_str(), cause)
 }
 
 fn made(alloc: Global) -> Result<String, AllocError> {
@@ -118,40 +125,21 @@ fn errors_are_chained_and_replaced(rt: HostRuntime) -> Result<(), Fail> {
     let new = "liquid: b\n";
     let kept = "liquid: a\n";
     let text = || made(alloc);
-    shows(&rt, alloc, refused(alloc).chain(alloc, "b"), new, kept)?;
-    shows(
-        &rt,
-        alloc,
-        refused(alloc).chain_with(alloc, text),
-        new,
-        kept,
-    )?;
+    shows(alloc, refused(alloc).chain(alloc, "b"), new, kept)?;
+    shows(alloc, refused(alloc).chain_with(alloc, text), new, kept)?;
     let lossy = "liquid: a\n\n";
+    shows(alloc, refused(alloc).lossy_chain(alloc, "b"), new, lossy)?;
     shows(
-        &rt,
-        alloc,
-        refused(alloc).lossy_chain(alloc, "b"),
-        new,
-        lossy,
-    )?;
-    shows(
-        &rt,
         alloc,
         refused(alloc).lossy_chain_with(alloc, text),
         new,
         lossy,
     )?;
-    shows(&rt, alloc, refused(alloc).replace(alloc, "b"), new, "")?;
-    shows(
-        &rt,
-        alloc,
-        refused(alloc).replace_with(alloc, text),
-        new,
-        "",
-    )?;
+    shows(alloc, refused(alloc).replace(alloc, "b"), new, "")?;
+    shows(alloc, refused(alloc).replace_with(alloc, text), new, "")?;
     let starved: liquid_error::Result<u8> = Err(Error::Memory);
     let memory = "liquid: out of memory\n";
-    shows(&rt, alloc, starved.replace(alloc, "b"), memory, "")
+    shows(alloc, starved.replace(alloc, "b"), memory, "")
 }
 
 #[test]
@@ -160,28 +148,24 @@ fn contexts_are_added(rt: HostRuntime) -> Result<(), Fail> {
     let made = || made(alloc);
     let with = "liquid: a\n  with:\n    b=b\n";
     shows(
-        &rt,
         alloc,
         refused(alloc).context_key("k").value(alloc, "v"),
         "liquid: a\n  with:\n    k=v\n",
         "",
     )?;
     shows(
-        &rt,
         alloc,
         refused(alloc).context_key("b").value_with(alloc, made),
         with,
         "",
     )?;
     shows(
-        &rt,
         alloc,
         refused(alloc).context_key_with(made).value(alloc, "b"),
         with,
         "",
     )?;
     shows(
-        &rt,
         alloc,
         refused(alloc).context_key_with(made).value_with(made),
         with,
@@ -193,21 +177,17 @@ fn contexts_are_added(rt: HostRuntime) -> Result<(), Fail> {
 fn traces_are_added_to_an_error_alone(rt: HostRuntime) -> Result<(), Fail> {
     let alloc = rt.alloc();
     let traced = "liquid: a\nfrom: b\n";
-    shows(&rt, alloc, refused(alloc).trace(alloc, "b"), traced, "")?;
-    shows(
-        &rt,
-        alloc,
-        refused(alloc).trace_with(alloc, || made(alloc)),
-        traced,
-        "",
-    )?;
+    shows(alloc, refused(alloc).trace(alloc, "b"), traced, "")?;
+    let later = refused(alloc).trace_with(alloc, || made(alloc));
+    shows(alloc, later, traced, "")?;
     let mut calls = 0u8;
     let fine: liquid_error::Result<u8> = Ok(7);
-    let same = fine.trace_with(alloc, || {
+    let traced = fine.trace_with(alloc, || {
         calls = 1;
         made(alloc)
     });
-    assert!(rt; matches!(same, Ok(7)));
-    assert_eq!(rt; calls, 0);
-    Ok(())
+    holds(
+        matches!(traced, Ok(7)) && calls == 0,
+        "an answer is not traced",
+    )
 }

@@ -1,6 +1,7 @@
 //! Texts with what the written rules match at their beginning: what is left, and the first fault.
 mod elements;
 mod parts;
+mod symbols;
 
 use liquid_grammar::{
     Element, Fault, FaultKind, Literal, TokenKind, chain_kind, integer_of, match_argument,
@@ -8,9 +9,8 @@ use liquid_grammar::{
     match_tag, match_token, match_value, match_variable, match_white, next_element, token_kind,
 };
 use std::alloc::{AllocError, Global};
-use std::process::Abort;
 use std::test::Fail;
-use tests_lines::Line;
+use tests_lines::{Line, holds, rows_hold};
 
 /// What a rule finds at the beginning of a text: its first fault, and what is left of the text.
 type Match<'a> = Option<(Option<Fault<'a>>, &'a str)>;
@@ -30,18 +30,13 @@ fn matched<'a>(rule: &str, text: &'a str) -> Result<Match<'a>, Fail> {
     }
 }
 
-/// Asserts what is left of the text behind a match without a fault, or that none begins.
-fn leaves(rt: &impl Abort, rule: &str, text: &str, rest: Option<&str>) -> Result<(), Fail> {
+/// Whether a match without a fault leaves this of the text, or none begins it where nothing is wanted.
+fn leaves(rule: &str, text: &str, rest: Option<&str>) -> Result<bool, Fail> {
     match (matched(rule, text)?, rest) {
-        (None, None) => {}
-        (Some((fault, after)), Some(rest)) => {
-            assert!(rt; fault.is_none(), "a fault of {text:?}");
-            assert!(rt; after == rest, "{after:?} is left of {text:?}");
-        }
-        (None, Some(_)) => panic!(rt; "no match begins {text:?}"),
-        (Some((_, after)), None) => panic!(rt; "a match begins {text:?} and leaves {after:?}"),
+        (None, None) => Ok(true),
+        (Some((fault, after)), Some(rest)) => Ok(fault.is_none() && after == rest),
+        _ => Ok(false),
     }
-    Ok(())
 }
 
 // Rules, texts, and what is left of each behind the rule's match, if it begins with one.
@@ -113,56 +108,46 @@ const ELEMENTS: &str = r#"["tag", "{% if a<=b %}c", "c"]
 ["tag", "{% a (1..) %}"]"#;
 
 // A rule, a text, the kind of its first fault, and the text from there on.
-const FAULTS: [(&str, &str, FaultKind, &str); 4] = [
-    (
-        "value",
-        "9223372036854775808",
-        FaultKind::IntegerOutOfRange,
-        "9223372036854775808",
-    ),
-    (
-        "chain",
-        "a[1.5] | f: 2.5",
-        FaultKind::DecimalNotSupported,
-        "1.5] | f: 2.5",
-    ),
-    (
-        "tag",
-        "{% a 1 (2..3.0) %}",
-        FaultKind::DecimalNotSupported,
-        "3.0) %}",
-    ),
-    (
-        "expression",
-        "{{ a | f: b, c: 99999999999999999999 }}",
-        FaultKind::IntegerOutOfRange,
-        "99999999999999999999 }}",
-    ),
-];
+const FAULTS: &str =
+    r#"["value", "9223372036854775808", "integer out of range", "9223372036854775808"]
+["chain", "a[1.5] | f: 2.5", "decimal not supported", "1.5] | f: 2.5"]
+["tag", "{% a 1 (2..3.0) %}", "decimal not supported", "3.0) %}"]
+["expression", "{{ a | f: b, c: 99999999999999999999 }}", "integer out of range", "99999999999999999999 }}"]"#;
+
+/// Whether the row's rule leaves the row's rest of its text without a fault, or begins no match where it has none.
+fn is_left(row: &Line) -> Result<bool, Fail> {
+    leaves(row.text(0)?, row.text(1)?, row.found_text(2))
+}
 
 #[test]
 fn rules_leave_what_is_behind_them(rt: HostRuntime) -> Result<(), Fail> {
     for rows in [VALUES, FILTERS, TOKENS, ELEMENTS] {
-        for line in rows.lines() {
-            let row = Line::of(rt.alloc(), line)?;
-            leaves(&rt, row.text(0)?, row.text(1)?, row.found_text(2))?;
-        }
+        rows_hold(rt.alloc(), rows, |_, row| is_left(row))?;
     }
     Ok(())
 }
 
+/// The name of a fault's kind, as the table has it.
+fn fault_name(kind: FaultKind) -> &'static str {
+    match kind {
+        FaultKind::IntegerOutOfRange => "integer out of range",
+        FaultKind::DecimalNotSupported => "decimal not supported",
+        _ => "another fault",
+    }
+}
+
+fn is_fault(row: &Line) -> Result<bool, Fail> {
+    match matched(row.text(0)?, row.text(1)?)? {
+        Some((Some(fault), _)) => {
+            Ok(fault_name(fault.kind) == row.text(2)? && fault.place == row.text(3)?)
+        }
+        _ => Ok(false),
+    }
+}
+
 #[test]
 fn the_first_fault_is_found(rt: HostRuntime) -> Result<(), Fail> {
-    for (rule, text, kind, place) in FAULTS {
-        match matched(rule, text)? {
-            Some((Some(fault), _)) => {
-                assert!(rt; fault.kind == kind, "of {text:?}");
-                assert!(rt; fault.place == place, "of {text:?}");
-            }
-            _ => panic!(rt; "no fault is found in {text:?}"),
-        }
-    }
-    Ok(())
+    rows_hold(rt.alloc(), FAULTS, |_, row| is_fault(row))
 }
 
 // A text with the identifier that it begins with, and what is left.
@@ -240,98 +225,62 @@ fn pair(row: &Line) -> Option<(&str, &str)> {
     Some((row.found_text(1)?, row.found_text(2)?))
 }
 
+fn is_identifier(row: &Line) -> Result<bool, Fail> {
+    Ok(match_identifier(row.text(0)?) == pair(row))
+}
+
+fn is_literal(row: &Line) -> Result<bool, Fail> {
+    match match_literal(row.text(0)?) {
+        Some((literal, rest)) => {
+            Ok(pair(row) == Some(told(literal)) && row.found_text(3) == Some(rest))
+        }
+        None => Ok(row.found(1).is_none()),
+    }
+}
+
 #[test]
 fn identifiers_and_literals_are_found(rt: HostRuntime) -> Result<(), Fail> {
-    let alloc = rt.alloc();
-    for line in IDENTIFIERS.lines() {
-        let row = Line::of(alloc, line)?;
-        assert!(rt; match_identifier(row.text(0)?) == pair(&row), "{line}");
-    }
-    for line in LITERALS.lines() {
-        let row = Line::of(alloc, line)?;
-        match match_literal(row.text(0)?) {
-            Some((literal, rest)) => {
-                assert!(rt; pair(&row) == Some(told(literal)), "{line}");
-                assert!(rt; row.found_text(3) == Some(rest), "{line}");
-            }
-            None => assert!(rt; row.found(1).is_none(), "{line}"),
-        }
-    }
-    Ok(())
+    rows_hold(rt.alloc(), IDENTIFIERS, |_, row| is_identifier(row))?;
+    rows_hold(rt.alloc(), LITERALS, |_, row| is_literal(row))
+}
+
+fn is_token_kind(row: &Line) -> Result<bool, Fail> {
+    Ok(token_kind(row.text(0)?).map(kind_told) == pair(row))
+}
+
+fn is_chain_kind(row: &Line) -> Result<bool, Fail> {
+    Ok(chain_kind(row.text(0)?).map(kind_told) == pair(row))
 }
 
 #[test]
 fn tokens_and_chains_have_kinds(rt: HostRuntime) -> Result<(), Fail> {
-    let alloc = rt.alloc();
-    for line in TOKEN_KINDS.lines() {
-        let row = Line::of(alloc, line)?;
-        assert!(rt;
-            token_kind(row.text(0)?).map(kind_told) == pair(&row),
-            "{line}"
-        );
-    }
-    for line in CHAIN_KINDS.lines() {
-        let row = Line::of(alloc, line)?;
-        assert!(rt;
-            chain_kind(row.text(0)?).map(kind_told) == pair(&row),
-            "{line}"
-        );
-    }
-    Ok(())
+    rows_hold(rt.alloc(), TOKEN_KINDS, |_, row| is_token_kind(row))?;
+    rows_hold(rt.alloc(), CHAIN_KINDS, |_, row| is_chain_kind(row))
 }
 
 #[test]
-fn small_rules_tell_what_they_found(rt: HostRuntime) {
-    assert!(rt; TokenKind::Identifier("a").identifier() == Some("a"));
-    assert!(rt; TokenKind::Variable.identifier().is_none());
-    assert!(rt; match_white(" \t\r\n é") == (" \t\r\n ", "é"));
-    assert!(rt; match_white("a ") == ("", "a "));
-    for (text, number) in [
-        ("-7", Some(-7)),
-        ("+7", Some(7)),
-        ("9223372036854775808", None),
-        ("7a", None),
-    ] {
-        assert!(rt; integer_of(text) == number, "of {text:?}");
-    }
-}
-
-const SYMBOLS: [&str; 10] = ["<=", ">=", "==", "!=", "<>", "<", ">", "=", ",", ":"];
-
-// What `<`, `>` and `=` leave of each symbol behind them: the longest symbol is taken.
-const SHORT_FIRST: [(&str, [&str; 10]); 3] = [
-    ("<", ["<=", "=", "=", "!=", "<>", "<", "", "", ",", ":"]),
-    (">", ["<=", ">=", "=", "!=", "<>", "<", ">", "", ",", ":"]),
-    ("=", ["<=", ">=", "=", "!=", "<>", "<", ">", "", ",", ":"]),
-];
-
-/// Asserts what a token leaves of two symbols side by side.
-fn behind_symbol(
-    rt: &impl Abort,
-    alloc: Global,
-    first: &str,
-    second: &str,
-    rest: &str,
-) -> Result<(), Fail> {
-    let mut text = String::from_str(alloc, first)?;
-    text.push_str(second)?;
-    leaves(rt, "token", text.as_str(), Some(rest))?;
-    Ok(())
+fn kinds_tell_their_names(_rt: HostRuntime) -> Result<(), Fail> {
+    holds(
+        TokenKind::Identifier("a").identifier() == Some("a"),
+        "a name",
+    )?;
+    holds(TokenKind::Variable.identifier().is_none(), "a path")
 }
 
 #[test]
-fn symbols_side_by_side(rt: HostRuntime) -> Result<(), Fail> {
-    for (first, rests) in SHORT_FIRST {
-        for (second, rest) in SYMBOLS.iter().zip(rests.iter()) {
-            behind_symbol(&rt, rt.alloc(), first, *second, *rest)?;
-        }
-    }
-    for first in ["<=", ">=", "==", "!=", "<>", ",", ":"] {
-        for second in SYMBOLS {
-            behind_symbol(&rt, rt.alloc(), first, second, second)?;
-        }
-    }
-    Ok(())
+fn white_space_is_matched(_rt: HostRuntime) -> Result<(), Fail> {
+    holds(match_white(" \t\r\n é") == (" \t\r\n ", "é"), "blanks")?;
+    holds(match_white("a ") == ("", "a "), "no blanks")
+}
+
+#[test]
+fn whole_numbers_of_64_bits_are_numbers(_rt: HostRuntime) -> Result<(), Fail> {
+    holds(
+        integer_of("-7") == Some(-7) && integer_of("+7") == Some(7),
+        "signs",
+    )?;
+    holds(integer_of("9223372036854775808").is_none(), "past 64 bits")?;
+    holds(integer_of("7a").is_none(), "no number")
 }
 
 /// This text so often, and then the other.
@@ -348,42 +297,56 @@ fn repeated(alloc: Global, text: &str, times: usize, end: &str) -> Result<String
 fn a_hundred_brackets(rt: HostRuntime) -> Result<(), Fail> {
     let closed = repeated(rt.alloc(), "]", 100, "")?;
     let text = repeated(rt.alloc(), "a[", 100, "a")?;
-    let mut whole = repeated(rt.alloc(), "", 0, text.as_str())?;
-    whole.push_str(closed.as_str())?;
-    leaves(&rt, "value", whole.as_str(), Some(""))?;
-    let mut deeper = repeated(rt.alloc(), "b[", 1, whole.as_str())?;
-    deeper.push_str("]")?;
+    let whole = repeated(rt.alloc(), text.as_str(), 1, closed.as_str())?;
+    holds(
+        leaves("value", whole.as_str(), Some(""))?,
+        "a hundred brackets",
+    )?;
+    let inner = repeated(rt.alloc(), "b[", 1, whole.as_str())?;
+    let deeper = repeated(rt.alloc(), inner.as_str(), 1, "]")?;
     match match_value(deeper.as_str()) {
         Some((Some(fault), "")) => {
-            assert!(rt; fault.kind == FaultKind::NestedTooDeep);
-            assert_eq!(rt; fault.place.len(), 103);
+            let is_too_deep = fault.kind == FaultKind::NestedTooDeep;
+            holds(is_too_deep && fault.place.len() == 103, "one bracket more")
         }
-        _ => panic!(rt; "no bracket is too deep"),
+        _ => Err(Fail::new("no bracket is too deep")),
     }
-    Ok(())
 }
 
 #[test]
-fn hostile_sizes(rt: HostRuntime) -> Result<(), Fail> {
+fn a_million_brackets_are_left(rt: HostRuntime) -> Result<(), Fail> {
     let brackets = repeated(rt.alloc(), "[", 1_000_000, "")?;
     let text = repeated(rt.alloc(), "a", 1, brackets.as_str())?;
-    leaves(&rt, "value", text.as_str(), Some(brackets.as_str()))?;
+    let is_left = leaves("value", text.as_str(), Some(brackets.as_str()))?;
+    holds(is_left, "a million brackets")
+}
+
+#[test]
+fn a_million_blanks_are_raw_text(rt: HostRuntime) -> Result<(), Fail> {
     let blanks = repeated(rt.alloc(), " ", 1_000_000, "")?;
     match next_element(blanks.as_str()) {
         Some((Element::Raw(raw), rest)) => {
-            assert_eq!(rt; raw.len(), 1_000_000);
-            assert!(rt; rest.is_empty());
+            holds(
+                raw.len() == 1_000_000 && rest.is_empty(),
+                "a million blanks",
+            )
         }
-        _ => panic!(rt; "blanks are no raw text"),
+        _ => Err(Fail::new("blanks are no raw text")),
     }
+}
+
+#[test]
+fn a_hundred_thousand_braces_are_invalid(rt: HostRuntime) -> Result<(), Fail> {
     let braces = repeated(rt.alloc(), "{", 100_000, "")?;
     let mut rest = braces.as_str();
     for _ in 0..99_999 {
         match next_element(rest) {
             Some((Element::Invalid("{"), after)) => rest = after,
-            _ => panic!(rt; "a brace is no invalid element"),
+            _ => return Err(Fail::new("a brace is no invalid element")),
         }
     }
-    assert!(rt; next_element(rest) == Some((Element::Raw("{"), "")));
-    Ok(())
+    holds(
+        next_element(rest) == Some((Element::Raw("{"), "")),
+        "the last brace",
+    )
 }

@@ -7,7 +7,7 @@ use liquid_value::render::ValueSource;
 use liquid_value::{Object, Value};
 use std::alloc::{AllocError, Global};
 use std::test::Fail;
-use tests_lines::Line;
+use tests_lines::{Line, rows_hold, same};
 
 /// The source of the value that was made, or the text of the refusal.
 fn told(alloc: Global, made: Result<Value>) -> std::result::Result<String, AllocError> {
@@ -51,17 +51,17 @@ const VALUES: &str = r#"["nil", null]
 ["{\"a\": 2, }", {"a": 1.5, "a": 2}]
 ["liquid: Cannot fit number\n", [[[[[9223372036854775808]]]], 1.5]]"#;
 
+/// Whether the JSON of a row is the row's value, copied and taken apart.
+fn is_value(alloc: Global, row: &Line) -> std::result::Result<bool, Fail> {
+    let copied = told(alloc, to_value(alloc, row.member(1)?))?;
+    let taken = told(alloc, into_value(alloc, row.member(1)?.clone()?))?;
+    let wanted = row.text(0)?;
+    Ok(copied.as_str() == wanted && taken.as_str() == wanted)
+}
+
 #[test]
 fn json_is_a_value(rt: HostRuntime) -> std::result::Result<(), Fail> {
-    let alloc = rt.alloc();
-    for line in VALUES.lines() {
-        let row = Line::of(alloc, line)?;
-        let copied = told(alloc, to_value(alloc, row.member(1)?))?;
-        assert_eq!(rt; copied.as_str(), row.text(0)?, "of {line}");
-        let taken = told(alloc, into_value(alloc, row.member(1)?.clone()?))?;
-        assert_eq!(rt; taken.as_str(), row.text(0)?, "of {line}, taken apart");
-    }
-    Ok(())
+    rows_hold(rt.alloc(), VALUES, is_value)
 }
 
 // What a JSON is as an object, what it is as a scalar, each in its source text or by the refusal, and
@@ -77,23 +77,23 @@ const OBJECTS_AND_SCALARS: &str =
 ["{\"a\": 1, }", "liquid: Scalar must be a string.\n", {"a": [1]}]
 ["liquid: Fractional number\n", "liquid: Scalar must be a string.\n", {"a": 1.5}]"#;
 
+/// Whether the JSON of a row is the row's object, copied and taken apart.
+fn is_object(alloc: Global, row: &Line) -> std::result::Result<bool, Fail> {
+    let copied = object_told(alloc, to_object(alloc, row.member(2)?))?;
+    let taken = object_told(alloc, into_object(alloc, row.member(2)?.clone()?))?;
+    let wanted = row.text(0)?;
+    Ok(copied.as_str() == wanted && taken.as_str() == wanted)
+}
+
+fn is_scalar(alloc: Global, row: &Line) -> std::result::Result<bool, Fail> {
+    let scalar = scalar_told(alloc, to_scalar(alloc, row.member(2)?))?;
+    Ok(scalar.as_str() == row.text(1)?)
+}
+
 #[test]
 fn json_is_an_object_or_a_scalar(rt: HostRuntime) -> std::result::Result<(), Fail> {
-    let alloc = rt.alloc();
-    for line in OBJECTS_AND_SCALARS.lines() {
-        let row = Line::of(alloc, line)?;
-        let scalar = scalar_told(alloc, to_scalar(alloc, row.member(2)?))?;
-        assert_eq!(rt; scalar.as_str(), row.text(1)?, "scalar of {line}");
-        let copied = object_told(alloc, to_object(alloc, row.member(2)?))?;
-        assert_eq!(rt; copied.as_str(), row.text(0)?, "object of {line}");
-        let taken = object_told(alloc, into_object(alloc, row.member(2)?.clone()?))?;
-        assert_eq!(rt;
-            taken.as_str(),
-            row.text(0)?,
-            "object of {line}, taken apart"
-        );
-    }
-    Ok(())
+    rows_hold(rt.alloc(), OBJECTS_AND_SCALARS, is_object)?;
+    rows_hold(rt.alloc(), OBJECTS_AND_SCALARS, is_scalar)
 }
 
 // A text as a value, and the JSON that it is shown as.
@@ -109,19 +109,19 @@ fn shown(alloc: Global, value: &Value) -> std::result::Result<String, AllocError
     from_value(alloc, value)?.to_string(alloc)
 }
 
+fn text_is_shown(alloc: Global, row: &Line) -> std::result::Result<bool, Fail> {
+    let value = Value::scalar(String::from_str(alloc, row.text(0)?)?);
+    Ok(shown(alloc, &value)?.as_str() == row.text(1)?)
+}
+
 #[test]
 fn values_are_shown(rt: HostRuntime) -> std::result::Result<(), Fail> {
     let alloc = rt.alloc();
-    for line in TEXTS.lines() {
-        let row = Line::of(alloc, line)?;
-        let value = Value::scalar(String::from_str(alloc, row.text(0)?)?);
-        assert_eq!(rt; shown(alloc, &value)?.as_str(), row.text(1)?, "of {line}");
-    }
+    rows_hold(alloc, TEXTS, text_is_shown)?;
     let all = value_in(
         alloc,
         r#"[-5, null, {"state": "blank"}, {"day": 16}, {"moment": [10, 3600]}, {"t": true, "n": "a"}]"#,
     )?;
     let wanted = r#"[-5,null,null,"2016-02-16","2016-02-16 10:00:00 +0100",{"n":"a","t":true}]"#;
-    assert_eq!(rt; shown(alloc, &all)?.as_str(), wanted);
-    Ok(())
+    same(shown(alloc, &all)?.as_str(), wanted)
 }

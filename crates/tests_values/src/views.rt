@@ -10,6 +10,7 @@ use std::alloc::{AllocError, Global};
 use std::borrow::CowStr;
 use std::collections::{BTreeMap, HashMap};
 use std::test::Fail;
+use tests_lines::{holds, same};
 
 /// Whether the view renders, shows its source, and is the value, all as the value itself.
 fn shows<V: ValueView>(
@@ -31,174 +32,251 @@ fn shows<V: ValueView>(
 #[test]
 fn numbers_are_whole_numbers(rt: HostRuntime) -> Result<(), Fail> {
     let alloc = rt.alloc();
-    assert!(rt; shows(alloc, &-8i8, "-8", "-8", "whole number")?);
-    assert!(rt; shows(alloc, &-300i16, "-300", "-300", "whole number")?);
-    assert!(rt; shows(alloc, &70000i32, "70000", "70000", "whole number")?);
-    assert!(rt;
-        shows(
-            alloc,
-            &i64::MIN,
-            "-9223372036854775808",
-            "-9223372036854775808",
-            "whole number"
-        )?
-    );
-    assert!(rt; shows(alloc, &8u8, "8", "8", "whole number")?);
-    assert!(rt; shows(alloc, &300u16, "300", "300", "whole number")?);
-    assert!(rt; shows(alloc, &u32::MAX, "4294967295", "4294967295", "whole number")?);
-    assert!(rt; 1i64.is_scalar());
-    assert!(rt; !1i64.is_nil());
-    Ok(())
+    let number = "whole number";
+    let least = "-9223372036854775808";
+    holds(shows(alloc, &-8i8, "-8", "-8", number)?, "i8")?;
+    holds(shows(alloc, &-300i16, "-300", "-300", number)?, "i16")?;
+    holds(shows(alloc, &70000i32, "70000", "70000", number)?, "i32")?;
+    holds(shows(alloc, &i64::MIN, least, least, number)?, "i64")?;
+    holds(shows(alloc, &8u8, "8", "8", number)?, "u8")?;
+    holds(shows(alloc, &300u16, "300", "300", number)?, "u16")?;
+    holds(
+        shows(alloc, &u32::MAX, "4294967295", "4294967295", number)?,
+        "u32",
+    )?;
+    holds(1i64.is_scalar() && !1i64.is_nil(), "a number is a scalar")
 }
 
 #[test]
 fn texts_and_truth_values(rt: HostRuntime) -> Result<(), Fail> {
     let alloc = rt.alloc();
-    assert!(rt; shows(alloc, &true, "true", "true", "boolean")?);
-    assert!(rt; shows(alloc, &"a", "a", "\"a\"", "string")?);
-    assert!(rt;
-        shows(
-            alloc,
-            &String::from_str(alloc, "a")?,
-            "a",
-            "\"a\"",
-            "string"
-        )?
-    );
+    holds(
+        shows(alloc, &true, "true", "true", "boolean")?,
+        "a truth value",
+    )?;
+    holds(shows(alloc, &"a", "a", "\"a\"", "string")?, "a text")?;
+    let owned = String::from_str(alloc, "a")?;
+    holds(
+        shows(alloc, &owned, "a", "\"a\"", "string")?,
+        "an owned text",
+    )?;
     let borrowed: ScalarCow<'_> = ScalarCow::Str(CowStr::Borrowed("b"));
-    assert!(rt; shows(alloc, &borrowed, "b", "\"b\"", "string")?);
-    assert!(rt; false.query_state(State::Blank));
-    assert!(rt; " ".query_state(State::Blank));
-    assert!(rt; !" ".query_state(State::Empty));
-    assert!(rt; "a".as_scalar().is_some());
-    assert!(rt; "a".as_state().is_none());
-    assert!(rt; scalar_of(4i64) == Scalar::Integer(4));
-    assert_eq!(rt; String::from_str(alloc, "key")?.as_index(), "key");
-    Ok(())
+    holds(
+        shows(alloc, &borrowed, "b", "\"b\"", "string")?,
+        "a borrowed text",
+    )
 }
 
 #[test]
-fn states_and_what_may_be_absent(rt: HostRuntime) -> Result<(), Fail> {
+fn texts_and_truth_values_are_in_states(rt: HostRuntime) -> Result<(), Fail> {
+    holds(false.query_state(State::Blank), "false is blank")?;
+    holds(
+        " ".query_state(State::Blank) && !" ".query_state(State::Empty),
+        "a space is blank",
+    )?;
+    holds(
+        "a".as_scalar().is_some() && "a".as_state().is_none(),
+        "a text is a scalar",
+    )?;
+    holds(
+        scalar_of(4i64) == Scalar::Integer(4),
+        "the scalar of a number",
+    )?;
+    same(String::from_str(rt.alloc(), "key")?.as_index(), "key")
+}
+
+#[test]
+fn states_are_shown(rt: HostRuntime) -> Result<(), Fail> {
+    holds(
+        shows(rt.alloc(), &State::Empty, "", "empty", "empty")?,
+        "a state",
+    )?;
+    holds(State::Empty.is_state(), "it is a state")?;
+    holds(
+        State::Blank.as_state() == Some(State::Blank),
+        "it is that state",
+    )
+}
+
+#[test]
+fn what_may_be_absent_is_shown(rt: HostRuntime) -> Result<(), Fail> {
     let alloc = rt.alloc();
-    assert!(rt; shows(alloc, &State::Empty, "", "empty", "empty")?);
-    assert!(rt; State::Empty.is_state());
-    assert_eq!(rt; State::Blank.as_state(), Some(State::Blank));
-    assert!(rt; shows(alloc, &Some(5i64), "5", "5", "whole number")?);
+    holds(
+        shows(alloc, &Some(5i64), "5", "5", "whole number")?,
+        "a number",
+    )?;
     let absent: Option<i64> = None;
-    assert!(rt; shows(alloc, &absent, "", "nil", "nil")?);
-    assert!(rt; absent.is_nil());
+    holds(shows(alloc, &absent, "", "nil", "nil")?, "no number")?;
+    holds(absent.is_nil(), "no number is nil")?;
     let value = Value::Nil;
-    assert!(rt; shows(alloc, &value, "", "nil", "nil")?);
-    assert!(rt; shows(alloc, &ValueCow::Borrowed(&value), "", "nil", "nil")?);
-    assert!(rt; shows(alloc, &&5i64, "5", "5", "whole number")?);
-    Ok(())
+    holds(shows(alloc, &value, "", "nil", "nil")?, "nil")?;
+    holds(
+        shows(alloc, &ValueCow::Borrowed(&value), "", "nil", "nil")?,
+        "borrowed nil",
+    )?;
+    holds(
+        shows(alloc, &&5i64, "5", "5", "whole number")?,
+        "a reference",
+    )
 }
 
 #[test]
 fn dates_and_date_times(rt: HostRuntime) -> Result<(), Fail> {
     let alloc = rt.alloc();
     let day = Date::from_ymd(2016, 2, 16)?;
-    assert!(rt; shows(alloc, &day, "2016-02-16", "2016-02-16", "date")?);
+    holds(
+        shows(alloc, &day, "2016-02-16", "2016-02-16", "date")?,
+        "a date",
+    )?;
     let moment = DateTime::from_parts(day, 10, 0, 0, 0, 3600)?;
     let text = "2016-02-16 10:00:00 +0100";
-    assert!(rt; shows(alloc, &moment, text, text, "date time")?);
-    Ok(())
+    holds(
+        shows(alloc, &moment, text, text, "date time")?,
+        "a date time",
+    )
 }
 
 #[test]
 fn lists_are_arrays(rt: HostRuntime) -> Result<(), Fail> {
     let alloc = rt.alloc();
     let list: Vec<i64> = vec![in alloc; 1, 2]?;
-    assert!(rt; shows(alloc, &list, "12", "[1, 2, ]", "array")?);
-    assert!(rt; list.is_array());
-    assert!(rt; !list.is_object());
+    holds(shows(alloc, &list, "12", "[1, 2, ]", "array")?, "its texts")?;
+    holds(list.is_array() && !list.is_object(), "it is an array")?;
     let nothing: Vec<i64> = Vec::new(alloc);
-    assert!(rt; nothing.query_state(State::Empty));
-    assert!(rt; array_of(alloc, &list)?.to_value(alloc)? == list.to_value(alloc)?);
-    Ok(())
+    holds(nothing.query_state(State::Empty), "an empty list")?;
+    let is_copied = array_of(alloc, &list)?.to_value(alloc)? == list.to_value(alloc)?;
+    holds(is_copied, "an array of its items")
 }
 
-#[test]
-fn indexes_count_from_both_ends(rt: HostRuntime) -> Result<(), Fail> {
-    let alloc = rt.alloc();
+fn first_ten(alloc: Global) -> Result<Vec<i64>, AllocError> {
     let mut ten: Vec<i64> = Vec::new(alloc);
     for n in 0..10i64 {
         ten.push(n)?;
     }
-    assert_eq!(rt; ten.size(), 10);
-    assert_eq!(rt; ArrayView::values(&ten).len(), 10);
-    assert!(rt; ten.contains_key(-10));
-    assert!(rt; !ten.contains_key(-11));
-    assert!(rt; ten.contains_key(9));
-    assert!(rt; !ten.contains_key(10));
-    assert!(rt; !ten.contains_key(i64::MIN));
-    assert_eq!(rt; ArrayView::get(&ten, -1).copied(), Some(9));
-    assert_eq!(rt; ArrayView::get(&ten, -11).copied(), None);
-    assert_eq!(rt; ArrayView::get(&ten, 3).copied(), Some(3));
-    assert_eq!(rt; ArrayView::first(&ten).copied(), Some(0));
-    assert_eq!(rt; ArrayView::last(&ten).copied(), Some(9));
-    assert_eq!(rt; ArrayView::last(&&ten).copied(), Some(9));
-    Ok(())
+    Ok(ten)
+}
+
+#[test]
+fn indexes_count_from_both_ends(rt: HostRuntime) -> Result<(), Fail> {
+    let ten = first_ten(rt.alloc())?;
+    holds(
+        ten.size() == 10 && ArrayView::values(&ten).len() == 10,
+        "ten items",
+    )?;
+    holds(
+        ten.contains_key(-10) && !ten.contains_key(-11),
+        "the lowest index",
+    )?;
+    holds(
+        ten.contains_key(9) && !ten.contains_key(10),
+        "the highest index",
+    )?;
+    holds(!ten.contains_key(i64::MIN), "the least number is no index")?;
+    holds(ArrayView::get(&ten, -1).copied() == Some(9), "from the end")?;
+    holds(
+        ArrayView::get(&ten, -11).copied().is_none(),
+        "before the first",
+    )?;
+    holds(
+        ArrayView::get(&ten, 3).copied() == Some(3),
+        "from the beginning",
+    )
+}
+
+#[test]
+fn arrays_have_a_first_and_a_last_item(rt: HostRuntime) -> Result<(), Fail> {
+    let ten = first_ten(rt.alloc())?;
+    holds(ArrayView::first(&ten).copied() == Some(0), "the first")?;
+    holds(ArrayView::last(&ten).copied() == Some(9), "the last")?;
+    holds(
+        ArrayView::last(&&ten).copied() == Some(9),
+        "the last of a reference",
+    )
+}
+
+fn two_names(alloc: Global) -> Result<BTreeMap<String, i64>, AllocError> {
+    let mut map: BTreeMap<String, i64> = BTreeMap::new(alloc);
+    drop(map.insert(String::from_str(alloc, "b")?, 2)?);
+    drop(map.insert(String::from_str(alloc, "a")?, 1)?);
+    Ok(map)
 }
 
 #[test]
 fn maps_are_objects(rt: HostRuntime) -> Result<(), Fail> {
     let alloc = rt.alloc();
-    let mut map: BTreeMap<String, i64> = BTreeMap::new(alloc);
-    drop(map.insert(String::from_str(alloc, "b")?, 2)?);
-    drop(map.insert(String::from_str(alloc, "a")?, 1)?);
-    assert!(rt; shows(alloc, &map, "a1b2", "{\"a\": 1, \"b\": 2, }", "object")?);
-    assert_eq!(rt; ObjectRender::new(&map).to_string(alloc)?.as_str(), "a1b2");
-    assert_eq!(rt;
-        ObjectSource::new(&map).to_string(alloc)?.as_str(),
-        "{\"a\": 1, \"b\": 2, }"
-    );
-    assert_eq!(rt; map.size(), 2);
-    assert!(rt; ObjectView::contains_key(&map, "a"));
-    assert!(rt; !ObjectView::contains_key(&map, "c"));
-    assert!(rt; map.lookup(alloc, "c")?.is_none());
-    let found = map.lookup(alloc, "b")?.ok_or("no value")?;
-    assert!(rt; *found.as_view() == Value::scalar(2i64));
+    let map = two_names(alloc)?;
+    let source = "{\"a\": 1, \"b\": 2, }";
+    holds(shows(alloc, &map, "a1b2", source, "object")?, "its texts")?;
+    same(ObjectRender::new(&map).to_string(alloc)?.as_str(), "a1b2")?;
+    same(ObjectSource::new(&map).to_string(alloc)?.as_str(), source)
+}
+
+/// Whether the object finds this number under a name, and nothing under another.
+fn finds<O: ObjectView>(
+    alloc: Global,
+    object: &O,
+    name: &str,
+    number: i64,
+    other: &str,
+) -> Result<bool, Fail> {
+    let has_names = ObjectView::contains_key(object, name)
+        && !ObjectView::contains_key(object, other);
+    let is_absent = object.lookup(alloc, other)?.is_none();
+    let found = object.lookup(alloc, name)?.ok_or("no value")?;
+    Ok(has_names && is_absent && *found.as_view() == Value::scalar(number))
+}
+
+#[test]
+fn maps_find_their_names(rt: HostRuntime) -> Result<(), Fail> {
+    let alloc = rt.alloc();
+    let map = two_names(alloc)?;
+    holds(map.size() == 2, "two names")?;
+    holds(finds(alloc, &map, "b", 2, "c")?, "one of them")?;
     let names = ObjectView::keys(&map, alloc)?;
-    assert_eq!(rt; names.len(), 2);
-    assert_eq!(rt; names[0], "a");
-    assert_eq!(rt; names[1], "b");
-    Ok(())
+    holds(names.as_slice() == ["a", "b"].as_slice(), "in their order")
 }
 
 #[test]
 fn later_pairs_win(rt: HostRuntime) -> Result<(), Fail> {
     let alloc = rt.alloc();
     let object = object_of(alloc, &[("a", 1i64), ("b", 2), ("a", 3)])?;
-    assert!(rt; shows(alloc, &object, "a3b2", "{\"a\": 3, \"b\": 2, }", "object")?);
-    assert!(rt; ObjectView::contains_key(&&object, "b"));
-    Ok(())
+    holds(
+        shows(alloc, &object, "a3b2", "{\"a\": 3, \"b\": 2, }", "object")?,
+        "its texts",
+    )?;
+    holds(
+        ObjectView::contains_key(&&object, "b"),
+        "a reference finds its names",
+    )
+}
+
+fn three_names(alloc: Global) -> Result<HashMap<String, i64>, AllocError> {
+    let mut map: HashMap<String, i64> = HashMap::new(alloc);
+    drop(map.insert(String::from_str(alloc, "b")?, 2)?);
+    drop(map.insert(String::from_str(alloc, "c")?, 3)?);
+    drop(map.insert(String::from_str(alloc, "a")?, 1)?);
+    Ok(map)
 }
 
 #[test]
 fn maps_without_order_are_told_by_name(rt: HostRuntime) -> Result<(), Fail> {
     let alloc = rt.alloc();
-    let mut map: HashMap<String, i64> = HashMap::new(alloc);
-    drop(map.insert(String::from_str(alloc, "b")?, 2)?);
-    drop(map.insert(String::from_str(alloc, "c")?, 3)?);
-    drop(map.insert(String::from_str(alloc, "a")?, 1)?);
-    assert!(rt;
-        shows(
-            alloc,
-            &map,
-            "a1b2c3",
-            "{\"a\": 1, \"b\": 2, \"c\": 3, }",
-            "object"
-        )?
-    );
-    assert_eq!(rt; map.size(), 3);
-    assert!(rt; ObjectView::contains_key(&map, "b"));
-    assert!(rt; !ObjectView::contains_key(&map, "d"));
-    let found = map.lookup(alloc, "c")?.ok_or("no value")?;
-    assert!(rt; *found.as_view() == Value::scalar(3i64));
-    let names = ObjectView::keys(&map, alloc)?;
-    assert_eq!(rt; names.as_slice(), ["a", "b", "c"].as_slice());
+    let map = three_names(alloc)?;
+    let source = "{\"a\": 1, \"b\": 2, \"c\": 3, }";
+    holds(shows(alloc, &map, "a1b2c3", source, "object")?, "its texts")?;
     let nothing: HashMap<String, i64> = HashMap::new(alloc);
-    assert!(rt; shows(alloc, &nothing, "", "{}", "object")?);
-    Ok(())
+    holds(shows(alloc, &nothing, "", "{}", "object")?, "no names")
+}
+
+#[test]
+fn maps_without_order_find_their_names(rt: HostRuntime) -> Result<(), Fail> {
+    let alloc = rt.alloc();
+    let map = three_names(alloc)?;
+    holds(map.size() == 3, "three names")?;
+    holds(finds(alloc, &map, "c", 3, "d")?, "one of them")?;
+    let names = ObjectView::keys(&map, alloc)?;
+    holds(
+        names.as_slice() == ["a", "b", "c"].as_slice(),
+        "in their order",
+    )
 }

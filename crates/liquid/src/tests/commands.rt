@@ -1,5 +1,5 @@
 //! The words of the command line.
-use super::{USAGE, ran};
+use super::{USAGE, answers, ran};
 use std::test::Fail;
 
 /// The words, the status, and what both streams say.
@@ -130,10 +130,7 @@ const COMMANDS: [Command; 35] = [
 #[test]
 fn words_are_a_command(rt: HostRuntime) -> Result<(), Fail> {
     for (words, status, out, err) in &COMMANDS {
-        let ran = ran(rt.alloc(), b"x", b"{}", words)?;
-        assert_eq!(rt; ran.status, *status, "status of {words:?}");
-        assert_eq!(rt; ran.out.as_slice(), out.as_bytes());
-        assert_eq!(rt; ran.err.as_slice(), err.as_bytes());
+        answers(&ran(rt.alloc(), b"x", b"{}", words)?, *status, out, err)?;
     }
     Ok(())
 }

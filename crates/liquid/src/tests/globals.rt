@@ -1,5 +1,5 @@
 //! What may stand in the file of globals.
-use super::{RENDER, Row, ran, rows_answer};
+use super::{RENDER, Row, answers, ran, rows_answer};
 use std::alloc::{AllocError, Global};
 use std::test::Fail;
 
@@ -59,8 +59,7 @@ const GLOBALS: [Row; 17] = [
 
 #[test]
 fn globals_are_an_object_of_values(rt: HostRuntime) -> Result<(), Fail> {
-    rows_answer(&rt, rt.alloc(), &GLOBALS)?;
-    Ok(())
+    rows_answer(rt.alloc(), &GLOBALS)
 }
 
 /// An array in arrays, so many of them, under the name `x`.
@@ -77,9 +76,12 @@ fn globals_nest_to_a_depth(rt: HostRuntime) -> Result<(), Fail> {
     let alloc = rt.alloc();
     for (depth, status, err) in [(126, 0, ""), (127, 3, BAD_JSON), (1_000_000, 3, BAD_JSON)] {
         let globals = nested(alloc, depth)?;
-        let ran = ran(alloc, b"", globals.as_bytes(), RENDER)?;
-        assert_eq!(rt; ran.status, status, "status at {depth}");
-        assert_eq!(rt; ran.err.as_slice(), err.as_bytes());
+        answers(
+            &ran(alloc, b"", globals.as_bytes(), RENDER)?,
+            status,
+            "",
+            err,
+        )?;
     }
     Ok(())
 }

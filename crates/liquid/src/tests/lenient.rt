@@ -1,5 +1,5 @@
 //! Names without a value, refused and as nil.
-use super::ran;
+use super::{answers, ran};
 use std::test::Fail;
 
 const LENIENT: &[&str] = &["render", "--lenient", "t", "g.json"];
@@ -43,10 +43,12 @@ const ROWS: [Row; 7] = [
 fn unknown_names_are_nil(rt: HostRuntime) -> Result<(), Fail> {
     for (template, globals, status, out, err) in &ROWS {
         for words in [LENIENT, BOTH] {
-            let ran = ran(rt.alloc(), template, globals, words)?;
-            assert_eq!(rt; ran.status, *status);
-            assert_eq!(rt; ran.out.as_slice(), out.as_bytes());
-            assert_eq!(rt; ran.err.as_slice(), err.as_bytes());
+            answers(
+                &ran(rt.alloc(), template, globals, words)?,
+                *status,
+                out,
+                err,
+            )?;
         }
     }
     Ok(())

@@ -1,5 +1,5 @@
 //! The globals as the data of a sandbox, and as the runtime's own.
-use super::{RENDER, UNKNOWN, ran};
+use super::{RENDER, UNKNOWN, answers, ran};
 use std::test::Fail;
 
 const SANDBOXED: &[&str] = &["render", "--sandboxed", "t", "g.json"];
@@ -73,10 +73,12 @@ const ROWS: [Row; 8] = [
 #[test]
 fn globals_are_data_of_a_sandbox(rt: HostRuntime) -> Result<(), Fail> {
     for (words, template, globals, status, out, err) in &ROWS {
-        let ran = ran(rt.alloc(), template, globals, words)?;
-        assert_eq!(rt; ran.status, *status);
-        assert_eq!(rt; ran.out.as_slice(), out.as_bytes());
-        assert_eq!(rt; ran.err.as_slice(), err.as_bytes());
+        answers(
+            &ran(rt.alloc(), template, globals, words)?,
+            *status,
+            out,
+            err,
+        )?;
     }
     Ok(())
 }

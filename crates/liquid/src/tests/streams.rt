@@ -47,54 +47,87 @@ fn told<W: Write>(
     Ok((status, err))
 }
 
+const FAILED: &str = "liquid: Failed to render\n";
+
+// Templates and words, with the status and what the error stream says where no output is flushed. A failed flush is
+// told in place of a refusal, so the output was flushed before it is told.
+const UNFLUSHED: [(&str, &[&str], u8, &str); 4] = [
+    ("a", RENDER, 1, FAILED),
+    ("a{{ x }}b", RENDER, 1, FAILED),
+    (
+        "a",
+        &["render", "v", "g.json"],
+        3,
+        "liquid: cannot read v\n",
+    ),
+    ("a", &["render"], 2, USAGE),
+];
+
+/// Refuses an output over which the program has another status, or says something else.
+fn tells<W: Write>(
+    alloc: Global,
+    template: &str,
+    words: &[&str],
+    out: &mut W,
+    status: u8,
+    text: &str,
+) -> Result<(), Fail> {
+    let (answered, err) = told(alloc, template, words, out)?;
+    if answered == status && err.as_slice() == text.as_bytes() {
+        Ok(())
+    } else {
+        Err(Fail::new(format_args!("another answer than {status}, {text:?}")))
+    }
+}
+
 #[test]
 fn streams_may_fail(rt: HostRuntime) -> Result<(), Fail> {
-    let alloc = rt.alloc();
-    let failed = "liquid: Failed to render\n";
-    let (status, err) = told(alloc, "a", RENDER, &mut Full)?;
-    assert_eq!(rt; status, 1);
-    assert_eq!(rt; err.as_slice(), failed.as_bytes());
-    // A failed flush is told in place of a refusal, so the output was flushed before it is told.
-    let rows: [(&str, &[&str], u8, &str); 4] = [
-        ("a", RENDER, 1, failed),
-        ("a{{ x }}b", RENDER, 1, failed),
-        (
-            "a",
-            &["render", "v", "g.json"],
-            3,
-            "liquid: cannot read v\n",
-        ),
-        ("a", &["render"], 2, USAGE),
-    ];
-    for (template, words, status, text) in &rows {
-        let (answered, err) = told(alloc, template, words, &mut Unflushed)?;
-        assert_eq!(rt; answered, *status, "status of {words:?}");
-        assert_eq!(rt; err.as_slice(), text.as_bytes());
-    }
-    // A fault of the error stream changes no status.
-    for (template, words, status, _) in &rows {
-        let words = words_of(alloc, words)?;
-        let mut files = folder(alloc, template.as_bytes(), b"{}")?;
-        let mut out = Unflushed;
-        let answered = run(alloc, words.as_slice(), &mut files, &mut out, &mut Full);
-        assert_eq!(rt; answered, *status, "status of {words:?}");
+    tells(rt.alloc(), "a", RENDER, &mut Full, 1, FAILED)?;
+    for (template, words, status, text) in &UNFLUSHED {
+        tells(rt.alloc(), template, words, &mut Unflushed, *status, text)?;
     }
     Ok(())
 }
 
+/// The status where neither stream works.
+fn status_unheard(alloc: Global, template: &str, words: &[&str]) -> Result<u8, AllocError> {
+    let words = words_of(alloc, words)?;
+    let mut files = folder(alloc, template.as_bytes(), b"{}")?;
+    Ok(run(
+        alloc,
+        words.as_slice(),
+        &mut files,
+        &mut Unflushed,
+        &mut Full,
+    ))
+}
+
+#[test]
+fn a_fault_of_the_error_stream_changes_no_status(rt: HostRuntime) -> Result<(), Fail> {
+    for (template, words, status, _) in &UNFLUSHED {
+        if status_unheard(rt.alloc(), template, words)? != *status {
+            return Err(Fail::new(*template));
+        }
+    }
+    Ok(())
+}
+
+/// Whether a page of this length, and a refusal behind it, pass a buffer whole.
+fn passes(alloc: Global, length: usize) -> Result<bool, Fail> {
+    let page = "0123456789 ".repeat(alloc, length)?;
+    let mut template = page.clone()?;
+    template.push_str("{{ x }}")?;
+    let mut out = BufWriter::new(alloc, Vec::new(alloc))?;
+    tells(alloc, template.as_str(), RENDER, &mut out, 1, UNKNOWN)?;
+    Ok(out.buffer().is_empty() && out.get_ref().as_slice() == page.as_bytes())
+}
+
 #[test]
 fn long_output_passes_a_buffer(rt: HostRuntime) -> Result<(), Fail> {
-    let alloc = rt.alloc();
     for length in [1, 8191, 8192, 8193, 100_000] {
-        let page = "0123456789 ".repeat(alloc, length)?;
-        let mut template = page.clone()?;
-        template.push_str("{{ x }}")?;
-        let mut out = BufWriter::new(alloc, Vec::new(alloc))?;
-        let (status, err) = told(alloc, template.as_str(), RENDER, &mut out)?;
-        assert_eq!(rt; status, 1);
-        assert_eq!(rt; err.as_slice(), UNKNOWN.as_bytes());
-        assert_eq!(rt; out.buffer().len(), 0);
-        assert_eq!(rt; out.get_ref().as_slice(), page.as_bytes());
+        if !passes(rt.alloc(), length)? {
+            return Err(Fail::new(length));
+        }
     }
     Ok(())
 }

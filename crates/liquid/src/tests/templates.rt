@@ -60,6 +60,5 @@ const RENDERED: [Row; 11] = [
 
 #[test]
 fn templates_are_rendered(rt: HostRuntime) -> Result<(), Fail> {
-    rows_answer(&rt, rt.alloc(), &RENDERED)?;
-    Ok(())
+    rows_answer(rt.alloc(), &RENDERED)
 }

@@ -1,10 +1,9 @@
 //! Texts with the elements that the written rules give them, and places.
 use liquid_grammar::{
-    ChainText, Element, FaultKind, TagText, TokenKind, line_and_column, next_element,
+    ChainText, Element, Fault, FaultKind, TagText, TokenKind, line_and_column, next_element,
 };
-use std::process::Abort;
 use std::test::Fail;
-use tests_lines::Line;
+use tests_lines::{Line, holds, rows_hold, same};
 
 // A text and the texts of its elements, in order. A tag's text stands behind `tag:`, an
 // expression's behind `exp:`, an invalid element's behind `bad:`: such as text alone, elements, dashes
@@ -28,23 +27,21 @@ const COVERS: &str = r#"["", []]
 ["{{ \"a\" | append, \"b\" }}", ["bad:{", "{ \"a\" | append, \"b\" }}"]]
 ["é{{ 'é漢' }}漢😀{{ é }}", ["é", "exp:{{ 'é漢' }}", "漢😀", "bad:{", "{ é }}"]]"#;
 
-/// Asserts that the row's text has the row's elements, in order, and no others.
-fn covers(rt: &impl Abort, row: &Line, line: &str) -> Result<(), Fail> {
+/// Whether the row's text has the row's elements, in order, and no others.
+fn covers(row: &Line) -> Result<bool, Fail> {
     let mut rest = row.text(0)?;
     for element in row.list(1)? {
         match next_element(rest) {
             Some((found, after)) => {
-                assert!(rt;
-                    element.as_str().is_some_and(|text| is_element(found, text)),
-                    "in {line}"
-                );
+                if !element.as_str().is_some_and(|text| is_element(found, text)) {
+                    return Ok(false);
+                }
                 rest = after;
             }
-            None => panic!(rt; "an element is missing in {line}"),
+            None => return Ok(false),
         }
     }
-    assert!(rt; rest.is_empty(), "text is left of {line}");
-    Ok(())
+    Ok(rest.is_empty())
 }
 
 fn is_element(found: Element, element: &str) -> bool {
@@ -58,44 +55,56 @@ fn is_element(found: Element, element: &str) -> bool {
 
 #[test]
 fn texts_have_these_elements(rt: HostRuntime) -> Result<(), Fail> {
-    for line in COVERS.lines() {
-        covers(&rt, &Line::of(rt.alloc(), line)?, line)?;
-    }
-    Ok(())
+    rows_hold(rt.alloc(), COVERS, |_, row| covers(row))
 }
 
 #[test]
-fn elements_have_parts(rt: HostRuntime) {
+fn tags_have_parts(_rt: HostRuntime) -> Result<(), Fail> {
     match next_element(" {%- if a %} b") {
         Some((Element::Tag(tag), rest)) => {
-            assert!(rt; tag.name == "if");
-            assert!(rt; tag.tokens == " a %} b");
-            assert!(rt; rest == " b");
-            assert!(rt; tag.fault.is_none());
+            same(tag.name, "if")?;
+            same(tag.tokens, " a %} b")?;
+            same(rest, " b")?;
+            holds(tag.fault.is_none(), "no fault")
         }
-        _ => panic!(rt; "no tag is found"),
+        _ => Err(Fail::new("no tag is found")),
     }
-    match next_element("{{ a[1.5] }}b") {
-        Some((Element::Expression(found), "b")) => {
-            assert!(rt; found.chain == "a[1.5] }}b");
-            assert!(rt; found.kind == TokenKind::Variable);
-            match found.fault {
-                Some(fault) => assert!(rt; fault.kind == FaultKind::DecimalNotSupported),
-                None => panic!(rt; "a decimal has no fault"),
-            }
-        }
-        _ => panic!(rt; "no expression is found"),
+}
+
+/// The kind of the first fault.
+fn kind_of(fault: Option<Fault<'_>>) -> Option<FaultKind> {
+    match fault {
+        Some(fault) => Some(fault.kind),
+        None => None,
     }
 }
 
 #[test]
-fn places(rt: HostRuntime) {
-    for (text, place) in [
-        ("", (1, 1)),
-        ("ab", (1, 3)),
-        ("a\n", (2, 1)),
-        ("a\r\n\né漢\u{1F600}b", (3, 5)),
-    ] {
-        assert_eq!(rt; line_and_column(text), place, "of {text:?}");
+fn expressions_have_parts(_rt: HostRuntime) -> Result<(), Fail> {
+    match next_element("{{ a[1.5] }}b") {
+        Some((Element::Expression(found), rest)) => {
+            same(rest, "b")?;
+            same(found.chain, "a[1.5] }}b")?;
+            holds(found.kind == TokenKind::Variable, "a variable")?;
+            let decimal = Some(FaultKind::DecimalNotSupported);
+            holds(kind_of(found.fault) == decimal, "a decimal is a fault")
+        }
+        _ => Err(Fail::new("no expression is found")),
     }
+}
+
+// A text, and the line and the column of its end.
+const PLACES: &str = r#"["", 1, 1]
+["ab", 1, 3]
+["a\n", 2, 1]
+["a\r\n\né漢\ud83d\ude00b", 3, 5]"#;
+
+fn is_place(row: &Line) -> Result<bool, Fail> {
+    let (line, column) = line_and_column(row.text(0)?);
+    Ok(i64::try_from(line)? == row.number(1)? && i64::try_from(column)? == row.number(2)?)
+}
+
+#[test]
+fn places(rt: HostRuntime) -> Result<(), Fail> {
+    rows_hold(rt.alloc(), PLACES, |_, row| is_place(row))
 }

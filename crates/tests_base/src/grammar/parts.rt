@@ -4,67 +4,77 @@ use liquid_grammar::{
     next_argument, next_filter, next_index, next_token, value_head,
 };
 use std::test::Fail;
+use tests_lines::{holds, same};
 
 #[test]
-fn values_have_heads(rt: HostRuntime) -> Result<(), Fail> {
-    assert_eq!(rt; value_head("a.b"), Some((Head::Name("a"), ".b")));
-    assert_eq!(rt;
-        value_head("12 b"),
-        Some((Head::Literal(Literal::Integer("12")), " b"))
-    );
-    assert_eq!(rt; value_head("| a"), None);
-    Ok(())
+fn values_have_heads(_rt: HostRuntime) -> Result<(), Fail> {
+    holds(value_head("a.b") == Some((Head::Name("a"), ".b")), "a name")?;
+    let number = Head::Literal(Literal::Integer("12"));
+    holds(value_head("12 b") == Some((number, " b")), "a literal")?;
+    holds(value_head("| a").is_none(), "no value")
 }
 
 #[test]
-fn indexes_begin_by_a_dot_or_a_bracket(rt: HostRuntime) -> Result<(), Fail> {
-    assert_eq!(rt;
-        next_index(".b[0]", 0),
-        Some((IndexStart::Named("b"), "[0]"))
-    );
-    assert_eq!(rt; next_index("[0]", 0), Some((IndexStart::Bracket, "0]")));
-    assert_eq!(rt; next_index(" b", 0), None);
-    assert_eq!(rt; close_bracket(" ].c"), Some(".c"));
-    assert_eq!(rt; close_bracket(".c"), None);
-    Ok(())
+fn indexes_begin_by_a_dot_or_a_bracket(_rt: HostRuntime) -> Result<(), Fail> {
+    let named = Some((IndexStart::Named("b"), "[0]"));
+    holds(next_index(".b[0]", 0) == named, "a dot")?;
+    let bracket = Some((IndexStart::Bracket, "0]"));
+    holds(next_index("[0]", 0) == bracket, "a bracket")?;
+    holds(next_index(" b", 0).is_none(), "no index")?;
+    holds(close_bracket(" ].c") == Some(".c"), "a bracket's end")?;
+    holds(close_bracket(".c").is_none(), "no end")
 }
 
 #[test]
-fn filters_begin_by_a_bar(rt: HostRuntime) -> Result<(), Fail> {
+fn filters_begin_by_a_bar(_rt: HostRuntime) -> Result<(), Fail> {
     let filter = FilterStart {
         place: "cut: 1, to: b",
         name: "cut",
         rest: ": 1, to: b",
     };
-    assert_eq!(rt; next_filter(" | cut: 1, to: b"), Some(filter));
+    holds(next_filter(" | cut: 1, to: b") == Some(filter), "a filter")
+}
+
+#[test]
+fn arguments_begin_by_a_colon_or_a_comma(_rt: HostRuntime) -> Result<(), Fail> {
     let first = ArgumentStart {
         name: None,
         value: "1, to: b",
     };
-    assert_eq!(rt; next_argument(": 1, to: b", true), Some(first));
+    holds(
+        next_argument(": 1, to: b", true) == Some(first),
+        "the first",
+    )?;
     let second = ArgumentStart {
         name: Some("to"),
         value: "b",
     };
-    assert_eq!(rt; next_argument(", to: b", false), Some(second));
-    assert_eq!(rt; next_argument("", false), None);
-    Ok(())
+    holds(
+        next_argument(", to: b", false) == Some(second),
+        "a named one",
+    )?;
+    holds(next_argument("", false).is_none(), "none")
 }
 
 #[test]
-fn tokens_stand_behind_white_space(rt: HostRuntime) -> Result<(), Fail> {
+fn tokens_stand_behind_white_space(_rt: HostRuntime) -> Result<(), Fail> {
     let range = next_token(" (1..a) b").ok_or("a token")?;
-    assert_eq!(rt; (range.text, range.rest), ("(1..a)", " b"));
-    assert_eq!(rt;
-        range.parts,
-        TokenParts::Range {
-            start: "1..a) b",
-            stop: "a) b",
-        }
-    );
+    same(range.text, "(1..a)")?;
+    same(range.rest, " b")?;
+    let parts = TokenParts::Range {
+        start: "1..a) b",
+        stop: "a) b",
+    };
+    holds(range.parts == parts, "a range")?;
+    holds(next_token(" ").is_none(), "no token")
+}
+
+#[test]
+fn tokens_stand_side_by_side(_rt: HostRuntime) -> Result<(), Fail> {
+    let range = next_token(" (1..a) b").ok_or("a token")?;
     let name = next_token(range.rest).ok_or("a token")?;
-    assert_eq!(rt; (name.place, name.text), ("b", "b"));
-    assert_eq!(rt; name.parts, TokenParts::Chain(TokenKind::Identifier("b")));
-    assert_eq!(rt; next_token(" "), None);
-    Ok(())
+    same(name.place, "b")?;
+    same(name.text, "b")?;
+    let parts = TokenParts::Chain(TokenKind::Identifier("b"));
+    holds(name.parts == parts, "a name")
 }

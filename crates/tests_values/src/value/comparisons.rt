@@ -1,10 +1,11 @@
 //! Pairs of values: their loose equality, their order, and whether they are the same.
 use super::pair_of;
 use liquid_value::{Value, ValueViewCmp};
+use std::alloc::Global;
 use std::cmp::Ordering;
 use std::hash::{DefaultHasher, Hash, Hasher};
 use std::test::Fail;
-use tests_lines::Line;
+use tests_lines::{Line, rows_hold};
 
 // Two values, and whether they are loosely equal. A text and an array without members each equal the
 // state `empty`, but not each other, so that loose equality is not transitive; and within an object
@@ -39,15 +40,15 @@ const EQUALITIES: &str = r#"[true, "", true]
 [{"moment": [10, 3600]}, {"moment": [9, 0]}, true]
 [{"day": 16}, true, true]"#;
 
+fn is_equality(alloc: Global, row: &Line) -> Result<bool, Fail> {
+    let (left, right) = pair_of(alloc, row)?;
+    let answer = ValueViewCmp::new(&left).value_eq(&ValueViewCmp::new(&right));
+    Ok(answer == row.truth(2)?)
+}
+
 #[test]
 fn values_are_loosely_equal(rt: HostRuntime) -> Result<(), Fail> {
-    for line in EQUALITIES.lines() {
-        let row = Line::of(rt.alloc(), line)?;
-        let (left, right) = pair_of(rt.alloc(), &row)?;
-        let answer = ValueViewCmp::new(&left).value_eq(&ValueViewCmp::new(&right));
-        assert_eq!(rt; answer, row.truth(2)?, "{line}");
-    }
-    Ok(())
+    rows_hold(rt.alloc(), EQUALITIES, is_equality)
 }
 
 // Two values, and their loose order.
@@ -75,15 +76,15 @@ fn name_of(order: Option<Ordering>) -> Option<&'static str> {
     }
 }
 
+fn is_order(alloc: Global, row: &Line) -> Result<bool, Fail> {
+    let (left, right) = pair_of(alloc, row)?;
+    let answer = ValueViewCmp::new(&left).value_cmp(&ValueViewCmp::new(&right));
+    Ok(name_of(answer) == row.found_text(2))
+}
+
 #[test]
 fn the_first_difference_decides(rt: HostRuntime) -> Result<(), Fail> {
-    for line in ORDERS.lines() {
-        let row = Line::of(rt.alloc(), line)?;
-        let (left, right) = pair_of(rt.alloc(), &row)?;
-        let answer = ValueViewCmp::new(&left).value_cmp(&ValueViewCmp::new(&right));
-        assert_eq!(rt; name_of(answer), row.found_text(2), "{line}");
-    }
-    Ok(())
+    rows_hold(rt.alloc(), ORDERS, is_order)
 }
 
 fn fed(value: &Value) -> u64 {
@@ -103,13 +104,14 @@ const SAME: &str = r#"[{"a": 1, "b": 2}, {"b": 2, "a": 1}, true]
 [{"day": 16}, {"moment": [10, 3600]}, false]
 [{"moment": [10, 3600]}, {"moment": [9, 0]}, true]"#;
 
+/// Whether two values are the same as the row says, and have one hash where they are.
+fn is_sameness(alloc: Global, row: &Line) -> Result<bool, Fail> {
+    let (left, right) = pair_of(alloc, row)?;
+    let is_same = left == right;
+    Ok(is_same == row.truth(2)? && (!is_same || fed(&left) == fed(&right)))
+}
+
 #[test]
 fn strict_equality_wants_the_same_kind(rt: HostRuntime) -> Result<(), Fail> {
-    for line in SAME.lines() {
-        let row = Line::of(rt.alloc(), line)?;
-        let (left, right) = pair_of(rt.alloc(), &row)?;
-        assert_eq!(rt; left == right, row.truth(2)?, "{line}");
-        assert!(rt; left != right || fed(&left) == fed(&right), "{line}");
-    }
-    Ok(())
+    rows_hold(rt.alloc(), SAME, is_sameness)
 }

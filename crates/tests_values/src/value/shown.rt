@@ -8,7 +8,7 @@ use liquid_views::{ObjectIndex, ObjectRender, ObjectSource, ObjectView, ValueVie
 use std::alloc::{AllocError, Global};
 use std::collections::{BTreeMap, HashMap};
 use std::test::Fail;
-use tests_lines::Line;
+use tests_lines::{Line, holds, rows_hold};
 
 // The text that a value renders as, its source text, and the value.
 const TEXTS: &str = r#"["", "nil", null]
@@ -136,24 +136,30 @@ fn held_object_shows(
     }
 }
 
+/// Whether the value of a row displays the row's texts, by itself and behind a reference.
+fn is_shown(alloc: Global, row: &Line) -> Result<bool, Fail> {
+    let value = value_at(alloc, row, 2)?;
+    let (render, source) = (row.text(0)?, row.text(1)?);
+    Ok(
+        value_shows(alloc, &value, render, source)?
+            && lent_value_shows(alloc, &value, render, source)?,
+    )
+}
+
+/// Whether the types that display a value or the object that it is write the row's texts.
+fn is_displayed(alloc: Global, row: &Line) -> Result<bool, Fail> {
+    let value = value_at(alloc, row, 2)?;
+    let (render, source) = (row.text(0)?, row.text(1)?);
+    Ok(
+        value_is_displayed(alloc, &value, render, source)?
+            && held_object_shows(alloc, value, render, source)?,
+    )
+}
+
 #[test]
 fn nil_and_states_are_shown(rt: HostRuntime) -> Result<(), Fail> {
-    let alloc = rt.alloc();
-    for line in TEXTS.lines() {
-        let row = Line::of(alloc, line)?;
-        let value = value_at(alloc, &row, 2)?;
-        let render = row.text(0)?;
-        let source = row.text(1)?;
-        assert!(rt;
-            value_is_displayed(alloc, &value, render, source)?,
-            "{line}"
-        );
-        assert!(rt; value_shows(alloc, &value, render, source)?, "{line}");
-        let copy = value.clone()?;
-        assert!(rt; lent_value_shows(alloc, &copy, render, source)?, "{line}");
-        assert!(rt; held_object_shows(alloc, value, render, source)?, "{line}");
-    }
-    Ok(())
+    rows_hold(rt.alloc(), TEXTS, is_shown)?;
+    rows_hold(rt.alloc(), TEXTS, is_displayed)
 }
 
 /// A name of a program's own type.
@@ -174,28 +180,60 @@ impl ObjectIndex for Name {
     }
 }
 
-#[test]
-fn views_show_what_is_absent(rt: HostRuntime) -> Result<(), Fail> {
-    let alloc = rt.alloc();
+fn listed(alloc: Global) -> Result<Vec<Option<&'static str>>, AllocError> {
     let mut list: Vec<Option<&str>> = Vec::new(alloc);
     list.push(Some("a"))?;
     list.push(None)?;
-    assert!(rt; shows(alloc, &list, "a", "[a, , ]")?);
-    assert!(rt; shows(alloc, &Some(State::Empty), "", "empty")?);
+    Ok(list)
+}
+
+#[test]
+fn views_show_what_is_absent(rt: HostRuntime) -> Result<(), Fail> {
+    let alloc = rt.alloc();
     let absent: Option<State> = None;
-    assert!(rt; shows(alloc, &absent, "", "nil")?);
+    holds(shows(alloc, &listed(alloc)?, "a", "[a, , ]")?, "a list")?;
+    holds(shows(alloc, &Some(State::Empty), "", "empty")?, "a state")?;
+    holds(shows(alloc, &absent, "", "nil")?, "no state")
+}
+
+const NAMES: [(&str, Option<i64>); 3] = [("b", Some(2)), ("c", None), ("a", None)];
+
+const NAMES_SOURCE: &str = "{\"a\": , \"b\": 2, \"c\": , }";
+
+fn named(alloc: Global) -> Result<BTreeMap<Name, Option<i64>>, AllocError> {
     let mut names: BTreeMap<Name, Option<i64>> = BTreeMap::new(alloc);
-    let mut hashed: HashMap<String, Option<i64>> = HashMap::new(alloc);
-    for (name, number) in [("b", Some(2i64)), ("c", None), ("a", None)] {
+    for (name, number) in NAMES {
         drop(names.insert(Name(String::from_str(alloc, name)?), number)?);
+    }
+    Ok(names)
+}
+
+#[test]
+fn maps_show_what_is_absent(rt: HostRuntime) -> Result<(), Fail> {
+    let alloc = rt.alloc();
+    let names = named(alloc)?;
+    holds(
+        object_shows(alloc, &names, "ab2c", NAMES_SOURCE)?,
+        "its texts",
+    )?;
+    holds(
+        ObjectView::contains_key(&names, "c"),
+        "a name without a number",
+    )?;
+    holds(!ObjectView::contains_key(&names, "d"), "no such name")?;
+    let found = names.lookup(alloc, "b")?.ok_or("no value")?;
+    holds(*found.as_view() == Value::scalar(2i64), "a name's number")
+}
+
+#[test]
+fn maps_without_order_show_what_is_absent(rt: HostRuntime) -> Result<(), Fail> {
+    let alloc = rt.alloc();
+    let mut hashed: HashMap<String, Option<i64>> = HashMap::new(alloc);
+    for (name, number) in NAMES {
         drop(hashed.insert(String::from_str(alloc, name)?, number)?);
     }
-    let source = "{\"a\": , \"b\": 2, \"c\": , }";
-    assert!(rt; object_shows(alloc, &names, "ab2c", source)?);
-    assert!(rt; object_shows(alloc, &hashed, "ab2c", source)?);
-    assert!(rt; ObjectView::contains_key(&names, "c"));
-    assert!(rt; !ObjectView::contains_key(&names, "d"));
-    let found = names.lookup(alloc, "b")?.ok_or("no value")?;
-    assert!(rt; *found.as_view() == Value::scalar(2i64));
-    Ok(())
+    holds(
+        object_shows(alloc, &hashed, "ab2c", NAMES_SOURCE)?,
+        "its texts",
+    )
 }

@@ -4,7 +4,7 @@ use liquid_value::render::{ValueRender, ValueSource};
 use liquid_value::{State, Value};
 use std::alloc::{AllocError, Global};
 use std::test::Fail;
-use tests_lines::Line;
+use tests_lines::{Line, rows_hold};
 
 // The text that a value renders as, its source text, the name of its type, and the value.
 const TEXTS: &str = r#"["1", "1", "whole number", 1]
@@ -19,21 +19,24 @@ const TEXTS: &str = r#"["1", "1", "whole number", 1]
 ["", "empty", "empty", {"state": "empty"}]
 ["", "nil", "nil", null]"#;
 
+/// Whether the types that display a value write the row's texts.
+fn is_displayed(alloc: Global, row: &Line) -> Result<bool, Fail> {
+    let value = value_at(alloc, row, 3)?;
+    let rendered = ValueRender::new(&value).to_string(alloc)?;
+    let shown = ValueSource::new(&value).to_string(alloc)?;
+    Ok(rendered.as_str() == row.text(0)? && shown.as_str() == row.text(1)?)
+}
+
+/// Whether the value's own text and the name of its type are the row's.
+fn has_text(alloc: Global, row: &Line) -> Result<bool, Fail> {
+    let value = value_at(alloc, row, 3)?;
+    Ok(value.to_kstr(alloc)?.as_str() == row.text(0)? && value.type_name() == row.text(2)?)
+}
+
 #[test]
 fn values_have_texts(rt: HostRuntime) -> Result<(), Fail> {
-    let alloc = rt.alloc();
-    for line in TEXTS.lines() {
-        let row = Line::of(alloc, line)?;
-        let value = value_at(alloc, &row, 3)?;
-        let render = row.text(0)?;
-        assert_eq!(rt; value.to_kstr(alloc)?.as_str(), render, "{line}");
-        let rendered = ValueRender::new(&value).to_string(alloc)?;
-        assert_eq!(rt; rendered.as_str(), render, "{line}");
-        let shown = ValueSource::new(&value).to_string(alloc)?;
-        assert_eq!(rt; shown.as_str(), row.text(1)?, "{line}");
-        assert_eq!(rt; value.type_name(), row.text(2)?, "{line}");
-    }
-    Ok(())
+    rows_hold(rt.alloc(), TEXTS, is_displayed)?;
+    rows_hold(rt.alloc(), TEXTS, has_text)
 }
 
 /// The names of the states that a value is in.
@@ -68,13 +71,12 @@ const STATES: &str = r#"["truthy", 0]
 ["default empty blank", null]
 ["default empty blank", {"state": "truthy"}]"#;
 
+fn is_in_states(alloc: Global, row: &Line) -> Result<bool, Fail> {
+    let value = value_at(alloc, row, 1)?;
+    Ok(states_of(alloc, &value)?.as_str() == row.text(0)?)
+}
+
 #[test]
 fn values_are_in_states(rt: HostRuntime) -> Result<(), Fail> {
-    let alloc = rt.alloc();
-    for line in STATES.lines() {
-        let row = Line::of(alloc, line)?;
-        let value = value_at(alloc, &row, 1)?;
-        assert_eq!(rt; states_of(alloc, &value)?.as_str(), row.text(0)?, "{line}");
-    }
-    Ok(())
+    rows_hold(rt.alloc(), STATES, is_in_states)
 }
