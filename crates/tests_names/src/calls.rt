@@ -11,6 +11,7 @@ use liquid_scopes::{ChainedScopes, FlatScopes};
 use liquid_value::Value;
 use std::alloc::{AllocError, Global};
 use std::test::Fail;
+use tests_lines::holds;
 
 /// Writes down what the calls answer, under a stack frame with a name.
 struct Calls;
@@ -133,8 +134,16 @@ fn borrowed_has_no_partials(alloc: Global) -> bool {
 #[test]
 fn each_call_answers_alike(rt: HostRuntime) -> Result<(), Fail> {
     let alloc = rt.alloc();
-    assert!(rt; answers_alike::<ChainedScopes<Base>>(alloc, nothing_known(alloc))?);
-    assert!(rt; answers_alike::<FlatScopes<Base>>(alloc, nothing_known(alloc))?);
-    assert!(rt; borrowed_has_no_partials(alloc));
-    Ok(())
+    holds(
+        answers_alike::<ChainedScopes<Base>>(alloc, nothing_known(alloc))?,
+        "chained scopes answer as told",
+    )?;
+    holds(
+        answers_alike::<FlatScopes<Base>>(alloc, nothing_known(alloc))?,
+        "flat scopes answer as told",
+    )?;
+    holds(
+        borrowed_has_no_partials(alloc),
+        "a borrowed runtime has no partials",
+    )
 }

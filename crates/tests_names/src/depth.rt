@@ -9,6 +9,7 @@ use liquid_scalar::ScalarCow;
 use liquid_scopes::{FlatScopes, Looks};
 use std::alloc::{AllocError, Global};
 use std::test::Fail;
+use tests_lines::same;
 
 /// Scopes that count their looks.
 trait Seeks: Scopes {
@@ -117,11 +118,7 @@ fn a_name_takes_at_most_two_looks_under_a_thousand_frames(rt: HostRuntime) -> Re
     let shown = " deep=1/1 base=5/2 own=none/2 deep=none/1 base=none/1 own=6/1 \
         deep=none/1 base=none/1 own=6/2";
     for frames in [1, 1000] {
-        assert_eq!(rt;
-            noted(alloc, frames)?.as_str(),
-            shown,
-            "under {frames} frames"
-        );
+        same(noted(alloc, frames)?.as_str(), shown)?;
     }
     Ok(())
 }

@@ -6,6 +6,7 @@ use liquid_scopes::{ChainedScopes, FlatScopes};
 use liquid_value::Value;
 use std::alloc::Global;
 use std::test::Fail;
+use tests_lines::holds;
 
 /// A stack frame with `a`, under it first a sandboxed and then a global frame.
 struct Frames;
@@ -72,7 +73,12 @@ where
 #[test]
 fn a_name_that_was_hidden_is_seen_again(rt: HostRuntime) -> Result<(), Fail> {
     let alloc = rt.alloc();
-    assert!(rt; shows_alike::<ChainedScopes<Base>>(alloc, nothing_known(alloc))?);
-    assert!(rt; shows_alike::<FlatScopes<Base>>(alloc, nothing_known(alloc))?);
-    Ok(())
+    holds(
+        shows_alike::<ChainedScopes<Base>>(alloc, nothing_known(alloc))?,
+        "chained scopes show as told",
+    )?;
+    holds(
+        shows_alike::<FlatScopes<Base>>(alloc, nothing_known(alloc))?,
+        "flat scopes show as told",
+    )
 }

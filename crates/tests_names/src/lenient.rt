@@ -16,7 +16,7 @@ use liquid_views::ValueView;
 use serde_json::Value as Json;
 use std::alloc::{AllocError, Global};
 use std::test::Fail;
-use tests_lines::Line;
+use tests_lines::{Line, rows_hold};
 
 /// Frames over a runtime that gives `base` the number 5, a name that is set to 4 under them, if there
 /// is one, a path, and what `get` answers of it in a strict runtime: a value's text or that of the
@@ -292,28 +292,22 @@ fn listed(alloc: Global, lenient: bool, row: &Line) -> Result<String, Fail> {
     Ok(noted(alloc, lenient, row.list(0)?.as_slice(), &lists)?)
 }
 
+/// Whether the path of a row is answered as told, in a strict runtime and in a lenient one.
+fn is_answered(alloc: Global, row: &Line) -> Result<bool, Fail> {
+    Ok(asked(alloc, false, row)?.is_empty() && asked(alloc, true, row)?.is_empty())
+}
+
 #[test]
 fn a_path_without_a_value_is_nil_in_a_lenient_runtime(rt: HostRuntime) -> Result<(), Fail> {
-    let alloc = rt.alloc();
-    for line in ROWS.lines() {
-        let row = Line::of(alloc, line)?;
-        assert_eq!(rt; asked(alloc, false, &row)?.as_str(), "", "{line}");
-        assert_eq!(rt; asked(alloc, true, &row)?.as_str(), "", "{line}, leniently");
-    }
-    Ok(())
+    rows_hold(rt.alloc(), ROWS, is_answered)
+}
+
+/// Whether the names seen are those of a row, in a strict runtime and in a lenient one.
+fn is_listed(alloc: Global, row: &Line) -> Result<bool, Fail> {
+    Ok(listed(alloc, false, row)?.is_empty() && listed(alloc, true, row)?.is_empty())
 }
 
 #[test]
 fn a_lenient_runtime_has_the_same_names(rt: HostRuntime) -> Result<(), Fail> {
-    let alloc = rt.alloc();
-    for line in NAMES.lines() {
-        let row = Line::of(alloc, line)?;
-        assert_eq!(rt; listed(alloc, false, &row)?.as_str(), "", "{line}");
-        assert_eq!(rt;
-            listed(alloc, true, &row)?.as_str(),
-            "",
-            "{line}, leniently"
-        );
-    }
-    Ok(())
+    rows_hold(rt.alloc(), NAMES, is_listed)
 }

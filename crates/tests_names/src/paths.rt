@@ -8,7 +8,7 @@ use liquid_views::ArrayView;
 use serde_json::Value as Json;
 use std::alloc::{AllocError, Global};
 use std::test::Fail;
-use tests_lines::Line;
+use tests_lines::{Line, holds, rows_hold};
 
 /// The values that paths lead into.
 const VALUES: &str =
@@ -77,8 +77,7 @@ fn is_tried_alike(
 }
 
 /// Whether the path of a row leads to what the row tells, tried or not.
-fn row_holds(alloc: Global, value: &Value, line: &str) -> Result<bool, Fail> {
-    let row = Line::of(alloc, line)?;
+fn row_holds(alloc: Global, value: &Value, row: &Line) -> Result<bool, Fail> {
     let path = path_of(alloc, row.list(0)?)?;
     Ok(
         leads_to(alloc, value, path.as_slice(), row.text(1)?)?
@@ -107,18 +106,25 @@ fn a_walk_may_begin_behind_a_path(rt: HostRuntime) -> Result<(), Fail> {
     let alloc = rt.alloc();
     let value = to_value(alloc, &Json::from_str(alloc, r#"{"c": 1, "d": 2}"#)?)?;
     let known = [ScalarCow::from("a"), ScalarCow::from("d")];
-    assert!(rt; leads_on_to(alloc, 1, &value, &known, "2")?);
-    assert!(rt; leads_on_to(alloc, 2, &value, &known, "c1d2")?);
+    holds(
+        leads_on_to(alloc, 1, &value, &known, "2")?,
+        "a walk may begin behind one index",
+    )?;
+    holds(
+        leads_on_to(alloc, 2, &value, &known, "c1d2")?,
+        "a walk may begin behind all",
+    )?;
     let unknown = [ScalarCow::from("a"), ScalarCow::from("b")];
     let refusal =
         "liquid: Unknown index\n  with:\n    variable=a\n    requested index=b\n    available indexes=c, d\n";
-    assert!(rt; leads_on_to(alloc, 1, &value, &unknown, refusal)?);
-    Ok(())
+    holds(
+        leads_on_to(alloc, 1, &value, &unknown, refusal)?,
+        "a refusal tells the whole path",
+    )
 }
 
 /// Whether the path of a row is refused as the row tells, tried or not.
-fn refusal_holds(alloc: Global, line: &str) -> Result<bool, Fail> {
-    let row = Line::of(alloc, line)?;
+fn refusal_holds(alloc: Global, row: &Line) -> Result<bool, Fail> {
     let value = to_value(alloc, row.member(0)?)?;
     let path = path_of(alloc, row.list(1)?)?;
     Ok(
@@ -129,21 +135,14 @@ fn refusal_holds(alloc: Global, line: &str) -> Result<bool, Fail> {
 
 #[test]
 fn paths_are_refused(rt: HostRuntime) -> Result<(), Fail> {
-    let alloc = rt.alloc();
-    for line in REFUSED.lines() {
-        assert!(rt; refusal_holds(alloc, line)?, "{line}");
-    }
-    Ok(())
+    rows_hold(rt.alloc(), REFUSED, refusal_holds)
 }
 
 #[test]
 fn paths_lead_to_values(rt: HostRuntime) -> Result<(), Fail> {
     let alloc = rt.alloc();
     let value = to_value(alloc, &Json::from_str(alloc, VALUES)?)?;
-    for line in PATHS.lines() {
-        assert!(rt; row_holds(alloc, &value, line)?, "{line}");
-    }
-    Ok(())
+    rows_hold(alloc, PATHS, |alloc, row| row_holds(alloc, &value, row))
 }
 
 /// A list of the squares below a hundred.
@@ -157,10 +156,9 @@ fn squares(alloc: Global) -> Result<Vec<Value>, AllocError> {
 
 #[test]
 fn a_list_has_as_many_places_from_its_end(rt: HostRuntime) -> Result<(), Fail> {
-    let alloc = rt.alloc();
-    let list = squares(alloc)?;
-    assert!(rt; !list.contains_key(-11) && list.contains_key(-10));
-    Ok(())
+    let list = squares(rt.alloc())?;
+    let is_bounded = !list.contains_key(-11) && list.contains_key(-10);
+    holds(is_bounded, "the first place of ten is -10")
 }
 
 /// The index `name`.
@@ -196,7 +194,14 @@ fn is_copied(path: &mut Path<'static>) -> Result<bool, AllocError> {
 fn a_path_is_a_list_of_indexes(rt: HostRuntime) -> Result<(), Fail> {
     let alloc = rt.alloc();
     let mut path = user_path(alloc)?;
-    assert!(rt; path_shows(alloc, &path, "user.-3.name")? && path.iter().len() == 3);
-    assert!(rt; is_copied(&mut path)? && path.as_slice().len() == 4);
-    Ok(())
+    holds(
+        path_shows(alloc, &path, "user.-3.name")?,
+        "the path shows its indexes",
+    )?;
+    holds(path.iter().len() == 3, "the path has three indexes")?;
+    holds(
+        is_copied(&mut path)?,
+        "the copy equals the path until an index more is there",
+    )?;
+    holds(path.as_slice().len() == 4, "the path has four indexes")
 }

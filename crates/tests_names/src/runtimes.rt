@@ -10,6 +10,7 @@ use liquid_value::{Object, Value};
 use liquid_views::ValueView;
 use std::alloc::{AllocError, Global};
 use std::test::Fail;
+use tests_lines::holds;
 
 /// A register of a user's own.
 #[derive(Drop)]
@@ -158,8 +159,11 @@ fn frames_show_and_hide_names(rt: HostRuntime) -> Result<(), Fail> {
     let alloc = rt.alloc();
     for lenient in [false, true] {
         let mut runtime = built(alloc, &[("a", 1)], lenient)?;
-        assert!(rt; frames_hold(alloc, &mut runtime)?);
-        assert!(rt; is_name(alloc, &runtime, "a", "1")?);
+        holds(
+            frames_hold(alloc, &mut runtime)?,
+            "frames show and hide names",
+        )?;
+        holds(is_name(alloc, &runtime, "a", "1")?, "`a` is seen again")?;
     }
     Ok(())
 }
@@ -194,10 +198,18 @@ fn is_hidden(alloc: Global, runtime: &mut BuiltRuntime<Marks, ()>) -> Result<boo
 fn a_frame_hides_a_global_while_it_is_open(rt: HostRuntime) -> Result<(), Fail> {
     let alloc = rt.alloc();
     let mut runtime = built(alloc, &[], false)?;
-    assert!(rt; is_new(alloc, &mut runtime, "test", 42)?);
-    assert!(rt; is_hidden(alloc, &mut runtime)?);
-    assert!(rt; is_name(alloc, &runtime, "test", "42")?);
-    Ok(())
+    holds(
+        is_new(alloc, &mut runtime, "test", 42)?,
+        "the global is new",
+    )?;
+    holds(
+        is_hidden(alloc, &mut runtime)?,
+        "the frame hides the global",
+    )?;
+    holds(
+        is_name(alloc, &runtime, "test", "42")?,
+        "the global is seen again",
+    )
 }
 
 /// Sets `test` to 43, and answers whether it was 42.
@@ -232,11 +244,22 @@ fn has_globals<R: Runtime>(alloc: Global, runtime: &R) -> Result<bool, AllocErro
 fn a_global_is_set_below_a_frame(rt: HostRuntime) -> Result<(), Fail> {
     let alloc = rt.alloc();
     let mut runtime = built(alloc, &[], false)?;
-    assert!(rt; is_new(alloc, &mut runtime, "test", 42)?);
-    assert!(rt; sets_below_page(alloc, &mut runtime)?);
-    assert!(rt; has_globals(alloc, &runtime)?);
-    assert!(rt; runtime.name().is_none() && runtime.depth() == 32);
-    Ok(())
+    holds(
+        is_new(alloc, &mut runtime, "test", 42)?,
+        "the global is new",
+    )?;
+    holds(
+        sets_below_page(alloc, &mut runtime)?,
+        "globals are set below the frame",
+    )?;
+    holds(
+        has_globals(alloc, &runtime)?,
+        "the globals are what was set",
+    )?;
+    holds(
+        runtime.name().is_none() && runtime.depth() == 32,
+        "the runtime has no name, and its depth",
+    )
 }
 
 type Sandbox<'r> = SandboxedStackFrame<&'r mut BuiltRuntime<Marks, u8>>;
@@ -279,10 +302,20 @@ fn registers_and_index_variables(rt: HostRuntime) -> Result<(), Fail> {
         .set_partials(9)
         .build();
     runtime.registers_mut().interrupt.set(Interrupt::Break);
-    assert!(rt; sandbox_holds(alloc, &mut runtime)?);
-    assert!(rt; runtime.try_get_name("i").is_some() && keeps_registers(&mut runtime));
-    assert!(rt; runtime.depth() == 3 && runtime.partials() == Some(&mut 9));
-    Ok(())
+    holds(
+        sandbox_holds(alloc, &mut runtime)?,
+        "a sandbox has registers of its own",
+    )?;
+    holds(
+        runtime.try_get_name("i").is_some(),
+        "the index variable is set below",
+    )?;
+    holds(keeps_registers(&mut runtime), "the registers are kept")?;
+    holds(runtime.depth() == 3, "the depth is the one that was set")?;
+    holds(
+        runtime.partials() == Some(&mut 9),
+        "the partials are those that were set",
+    )
 }
 
 /// Whether a name was not set, and its refusal has a text.
@@ -314,7 +347,6 @@ fn core_sets_no_index(alloc: Global) -> Result<bool, AllocError> {
 #[test]
 fn a_core_sets_no_name(rt: HostRuntime) -> Result<(), Fail> {
     let alloc = rt.alloc();
-    assert!(rt; core_sets_no_global(alloc)?);
-    assert!(rt; core_sets_no_index(alloc)?);
-    Ok(())
+    holds(core_sets_no_global(alloc)?, "a core sets no global")?;
+    holds(core_sets_no_index(alloc)?, "a core sets no index variable")
 }

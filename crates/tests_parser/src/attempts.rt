@@ -1,12 +1,18 @@
 //! Attempts to read a token, and refusals of one and of a cursor.
+use crate::taken::chain_text;
 use crate::tokens::{first_token, tokens_of};
 use crate::told::told;
 use bench::{Filters, language};
 use liquid_core::Error;
-use liquid_core::parser::{PluginRegistry, TryMatchToken};
-use std::alloc::Global;
+use liquid_core::parser::{PluginRegistry, TagToken, TryMatchToken};
+use std::alloc::{AllocError, Global};
 use std::test::Fail;
-use tests_lines::Line;
+use tests_lines::{Line, rows_hold};
+
+/// The text of a token that is no chain.
+fn no_chain(alloc: Global, token: TagToken<'_>) -> Result<String, AllocError> {
+    format!(in alloc; "no chain: {}", token.as_str())
+}
 
 /// What the first token of a tag shows as a chain, or its text again where it is none.
 fn chain_or_text(
@@ -14,11 +20,15 @@ fn chain_or_text(
     text: &str,
     filters: &PluginRegistry<Filters>,
 ) -> Result<String, Error> {
-    let token = first_token(alloc, text)?;
-    Ok(match token.expect_filter_chain(alloc, filters)? {
-        TryMatchToken::Matches(chain) => chain.to_string(alloc)?,
-        TryMatchToken::Fails(token) => format!(in alloc; "no chain: {}", token.as_str())?,
-    })
+    match first_token(alloc, text)?.expect_filter_chain(alloc, filters)? {
+        TryMatchToken::Matches(chain) => chain_text(alloc, &chain),
+        TryMatchToken::Fails(token) => Ok(no_chain(alloc, token)?),
+    }
+}
+
+/// Whether a row's tag shows the chain or the text that the row tells.
+fn is_tried(alloc: Global, row: &Line, filters: &PluginRegistry<Filters>) -> Result<bool, Fail> {
+    Ok(chain_or_text(alloc, row.text(0)?, filters)?.as_str() == row.text(1)?)
 }
 
 /// A tag, and what its first token shows as a chain, or the token where it is none.
@@ -33,12 +43,11 @@ const CHAINS: &str = r#"["{% t a %}", "a | "]
 fn chains_of_filters_are_tried(rt: HostRuntime) -> Result<(), Fail> {
     let alloc = rt.alloc();
     let language = language(alloc)?;
-    for line in CHAINS.lines() {
-        let row = Line::of(alloc, line)?;
-        let shown = chain_or_text(alloc, row.text(0)?, &language.filters)?;
-        assert_eq!(rt; shown.as_str(), row.text(1)?, "{line}");
-    }
-    Ok(())
+    rows_hold(
+        alloc,
+        CHAINS,
+        |alloc, row| is_tried(alloc, row, &language.filters),
+    )
 }
 
 /// What a tag's first token is as a name, or the first line of its refusal.
@@ -83,7 +92,7 @@ fn nothing_or_refusal(alloc: Global, text: &str) -> Result<String, Error> {
 }
 
 /// Whether the attempts come to what a row tells.
-fn holds(alloc: Global, row: &Line) -> Result<bool, Fail> {
+fn is_attempted(alloc: Global, row: &Line) -> Result<bool, Fail> {
     let text = row.text(0)?;
     Ok(
         name_or_refusal(alloc, text)?.as_str() == row.text(1)?
@@ -100,11 +109,12 @@ const ATTEMPTS: &str =
 
 #[test]
 fn a_token_that_does_not_match_is_refused(rt: HostRuntime) -> Result<(), Fail> {
-    let alloc = rt.alloc();
-    for line in ATTEMPTS.lines() {
-        assert!(rt; holds(alloc, &Line::of(alloc, line)?)?, "{line}");
-    }
-    Ok(())
+    rows_hold(rt.alloc(), ATTEMPTS, is_attempted)
+}
+
+/// Whether a row tells what is told of its tag where it should have no token.
+fn is_nothing_or_refused(alloc: Global, row: &Line) -> Result<bool, Fail> {
+    Ok(nothing_or_refusal(alloc, row.text(0)?)?.as_str() == row.text(1)?)
 }
 
 /// A tag, and what is told where it should have no token.
@@ -114,11 +124,5 @@ const NOTHING: &str = r#"["{% t %}", "nothing"]
 
 #[test]
 fn a_token_is_refused_where_none_is_expected(rt: HostRuntime) -> Result<(), Fail> {
-    let alloc = rt.alloc();
-    for line in NOTHING.lines() {
-        let row = Line::of(alloc, line)?;
-        let answer = nothing_or_refusal(alloc, row.text(0)?)?;
-        assert_eq!(rt; answer.as_str(), row.text(1)?, "{line}");
-    }
-    Ok(())
+    rows_hold(rt.alloc(), NOTHING, is_nothing_or_refused)
 }

@@ -9,7 +9,7 @@ use liquid_core::parser::{
 use liquid_core::runtime::{BuiltRuntime, RuntimeBuilder, Template};
 use std::alloc::{AllocError, Global};
 use std::test::Fail;
-use tests_lines::Line;
+use tests_lines::{Line, holds, rows_hold, same};
 
 type BodyNode = Node<<Filters as ParseFilter>::Filter, TagNode, BlockNode>;
 
@@ -58,6 +58,15 @@ fn comes_to(
     Ok(parsed(alloc, body, language)?.as_str() == text)
 }
 
+/// Whether a row tells what comes of its body.
+fn is_parsed(
+    alloc: Global,
+    row: &Line,
+    language: &Language<Filters, Tags, Blocks>,
+) -> Result<bool, Fail> {
+    Ok(comes_to(alloc, row.text(0)?, row.text(1)?, language)?)
+}
+
 /// A body, and what comes of it.
 const BODIES: &str = r#"["{% end %}a", ""]
 ["a{{ 5 }}{% box %}b{% endbox %}c{% end %}d", "a5[b]c"]
@@ -78,14 +87,7 @@ const BODIES: &str = r#"["{% end %}a", ""]
 fn bodies_are_parsed_up_to_their_ends(rt: HostRuntime) -> Result<(), Fail> {
     let alloc = rt.alloc();
     let language = language(alloc)?.clone()?;
-    for line in BODIES.lines() {
-        let row = Line::of(alloc, line)?;
-        assert!(rt;
-            comes_to(alloc, row.text(0)?, row.text(1)?, &language)?,
-            "{line}"
-        );
-    }
-    Ok(())
+    rows_hold(alloc, BODIES, |alloc, row| is_parsed(alloc, row, &language))
 }
 
 /// A body of so many boxes in each other.
@@ -126,10 +128,15 @@ fn boxed_comes_to(
 fn a_cursor_counts_as_one_open_block(rt: HostRuntime) -> Result<(), Fail> {
     let alloc = rt.alloc();
     let language = language(alloc)?;
-    assert_eq!(rt; boxed_length(alloc, 99, &language)?, 198);
+    holds(
+        boxed_length(alloc, 99, &language)? == 198,
+        "99 boxes in each other are parsed",
+    )?;
     let refusal = "liquid: Nested too deep (line 1, column 895)";
-    assert!(rt; boxed_comes_to(alloc, 100, refusal, &language)?);
-    Ok(())
+    holds(
+        boxed_comes_to(alloc, 100, refusal, &language)?,
+        "100 boxes in each other are refused",
+    )
 }
 
 /// Puts a node behind others, where there is one.
@@ -214,8 +221,10 @@ fn elements_are_parsed_one_by_one(rt: HostRuntime) -> Result<(), Fail> {
     let alloc = rt.alloc();
     let language = language(alloc)?;
     let body = "a{{ 5 }}{% box %}b{% endbox %}{{ 6 }}{% end %}";
-    assert!(rt; is_parsed_one_by_one(alloc, body, "a5[b]6", &language)?);
-    Ok(())
+    holds(
+        is_parsed_one_by_one(alloc, body, "a5[b]6", &language)?,
+        body,
+    )
 }
 
 /// The first line of the refusal of a token that begins nothing.
@@ -277,8 +286,10 @@ fn a_tag_alone_takes_its_body_from_a_cursor(rt: HostRuntime) -> Result<(), Fail>
     let language = language(alloc)?;
     let mut block = TagBlock::new("a{% endbox %}{{% end %}", "start", "end");
     let text = with_text(alloc, box_node(alloc, &mut block, &language)?)?;
-    assert_eq!(rt; text.as_str(), "[a]b");
+    same(text.as_str(), "[a]b")?;
     let refusal = "liquid: Invalid liquid (line 1, column 14)";
-    assert!(rt; brace_is_refused(alloc, &mut block, refusal)?);
-    Ok(())
+    holds(
+        brace_is_refused(alloc, &mut block, refusal)?,
+        "the brace behind the box is refused",
+    )
 }

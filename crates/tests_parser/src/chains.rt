@@ -8,7 +8,7 @@ use liquid_plugins::{Expression, FilterChain, ParseFilter};
 use serde_json::Value as Json;
 use std::alloc::{AllocError, Global};
 use std::test::Fail;
-use tests_lines::Line;
+use tests_lines::{Line, rows_hold};
 
 fn answer_text(alloc: Global, answer: Result<ValueCow<'_>, Error>) -> Result<String, AllocError> {
     match answer {
@@ -33,7 +33,7 @@ const ROWS: &str =
 [5, [], [["append", ["x"]], ["fail", []]], "5 | append | fail", "liquid: Unknown variable\n  with:\n    requested variable=x\nfrom: Filter error\n  with:\n    filter=append\n    input=5\n", "liquid: bad\nfrom: Filter error\n  with:\n    filter=fail\n    input=\"5\"\n"]
 ["x", [], [["fail", []]], "x | fail", "liquid: Unknown variable\n  with:\n    requested variable=x\n", "liquid: bad\nfrom: Filter error\n  with:\n    filter=fail\n    input=nil\n"]"#;
 
-fn filter_named(name: Option<&Json>) -> Result<Filters, Fail> {
+pub(crate) fn filter_named(name: Option<&Json>) -> Result<Filters, Fail> {
     match name {
         Some(Json::String(name)) if name.as_str() == "append" => Ok(Filters::Append),
         Some(Json::String(name)) if name.as_str() == "fail" => Ok(Filters::Fail),
@@ -84,7 +84,7 @@ fn is_answered(
 }
 
 /// Whether the chain of a row shows and answers as the row tells.
-fn holds(alloc: Global, row: &Line, runtime: &BuiltRuntime<(), ()>) -> Result<bool, Fail> {
+fn is_as_told(alloc: Global, row: &Line, runtime: &BuiltRuntime<(), ()>) -> Result<bool, Fail> {
     let chain = chain_of(alloc, row)?;
     Ok(is_shown(alloc, &chain, row)? && is_answered(alloc, &chain, row, runtime)?)
 }
@@ -94,11 +94,18 @@ fn chains_come_to_their_values(rt: HostRuntime) -> Result<(), Fail> {
     let alloc = rt.alloc();
     for lenient in [false, true] {
         let runtime = runtime(alloc, lenient)?;
-        for line in ROWS.lines() {
-            assert!(rt; holds(alloc, &Line::of(alloc, line)?, &runtime)?, "{line}");
-        }
+        rows_hold(alloc, ROWS, |alloc, row| is_as_told(alloc, row, &runtime))?;
     }
     Ok(())
+}
+
+/// Whether trying comes to the value that evaluating comes to, or to nothing where that is nil since names
+/// are lenient.
+fn is_same(tried: &Option<ValueCow<'_>>, value: &ValueCow<'_>, is_lenient: bool) -> bool {
+    match tried {
+        Some(tried) => *tried == *value,
+        None => is_lenient && value.is_nil(),
+    }
 }
 
 /// Whether trying an entry comes to what evaluating it does, or to nothing where that is refused, or is
@@ -110,10 +117,7 @@ fn is_tried(
 ) -> Result<bool, AllocError> {
     let tried = entry.try_evaluate(alloc, runtime)?;
     Ok(match entry.evaluate(alloc, runtime) {
-        Ok(value) => match tried {
-            Some(tried) => tried == value,
-            None => runtime.is_lenient() && value.is_nil(),
-        },
+        Ok(value) => is_same(&tried, &value, runtime.is_lenient()),
         Err(_) => tried.is_none(),
     })
 }
@@ -128,12 +132,11 @@ fn what_is_tried_is_not_refused(rt: HostRuntime) -> Result<(), Fail> {
     let alloc = rt.alloc();
     for lenient in [false, true] {
         let runtime = runtime(alloc, lenient)?;
-        for line in ROWS.lines() {
-            assert!(rt;
-                entry_is_tried(alloc, &Line::of(alloc, line)?, &runtime)?,
-                "{line}"
-            );
-        }
+        rows_hold(
+            alloc,
+            ROWS,
+            |alloc, row| entry_is_tried(alloc, row, &runtime),
+        )?;
     }
     Ok(())
 }

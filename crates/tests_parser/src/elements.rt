@@ -3,7 +3,7 @@ use crate::told::told;
 use liquid_core::parser::{BlockElement, TagBlock};
 use std::alloc::{AllocError, Global};
 use std::test::Fail;
-use tests_lines::Line;
+use tests_lines::{Line, holds, rows_hold};
 
 /// The kind of an element and its text.
 fn shown(alloc: Global, element: BlockElement<'_>) -> Result<String, AllocError> {
@@ -36,9 +36,9 @@ fn handed_out(alloc: Global, body: &str) -> Result<String, AllocError> {
     texts.join(alloc, " / ")
 }
 
-/// Whether a text tells what is handed out of a body.
-fn hands_out(alloc: Global, body: &str, handed: &str) -> Result<bool, AllocError> {
-    Ok(handed_out(alloc, body)?.as_str() == handed)
+/// Whether a row tells what is handed out of its body.
+fn hands_out(alloc: Global, row: &Line) -> Result<bool, Fail> {
+    Ok(handed_out(alloc, row.text(0)?)?.as_str() == row.text(1)?)
 }
 
 /// A body, and what is handed out of it.
@@ -53,12 +53,7 @@ const HANDED_OUT: &str = r#"["{% end %}a", "closed"]
 
 #[test]
 fn elements_are_handed_out_in_their_order(rt: HostRuntime) -> Result<(), Fail> {
-    let alloc = rt.alloc();
-    for line in HANDED_OUT.lines() {
-        let row = Line::of(alloc, line)?;
-        assert!(rt; hands_out(alloc, row.text(0)?, row.text(1)?)?, "{line}");
-    }
-    Ok(())
+    rows_hold(rt.alloc(), HANDED_OUT, hands_out)
 }
 
 /// Whether a body without its end is refused where it ends, and stays open.
@@ -74,9 +69,12 @@ fn is_refused_at_its_end(alloc: Global, block: &mut TagBlock<'_, '_>) -> Result<
 fn a_body_without_its_end_is_refused_at_its_end(rt: HostRuntime) -> Result<(), Fail> {
     let alloc = rt.alloc();
     let mut block = TagBlock::new("é\nab", "start", "end");
-    assert!(rt; block.next(alloc)?.is_some());
+    holds(block.next(alloc)?.is_some(), "the text is handed out")?;
     for _ in 0..2 {
-        assert!(rt; is_refused_at_its_end(alloc, &mut block)?);
+        holds(
+            is_refused_at_its_end(alloc, &mut block)?,
+            "the body is refused at its end",
+        )?;
     }
     Ok(())
 }
@@ -126,9 +124,5 @@ const ESCAPED: &str = r#"["{% endraw %}a", 0, false, "", true]
 
 #[test]
 fn escaped_bodies_are_slices(rt: HostRuntime) -> Result<(), Fail> {
-    let alloc = rt.alloc();
-    for line in ESCAPED.lines() {
-        assert!(rt; is_escaped(alloc, &Line::of(alloc, line)?)?, "{line}");
-    }
-    Ok(())
+    rows_hold(rt.alloc(), ESCAPED, is_escaped)
 }

@@ -6,6 +6,7 @@ use liquid_core::runtime::BuiltRuntime;
 use liquid_plugins::{Expression, Variable};
 use std::alloc::{AllocError, Global};
 use std::test::Fail;
+use tests_lines::holds;
 
 /// The path `foo[0]["bar"]`.
 fn literal_path(alloc: Global) -> Result<Variable, AllocError> {
@@ -101,13 +102,29 @@ fn expressions_are_copied_compared_and_taken_apart(rt: HostRuntime) -> Result<()
     let alloc = rt.alloc();
     let variable = long_path(alloc)?;
     let shown = "foo[0][\"bar\"][foo[\"bar\"]][7][true]";
-    assert!(rt; path_shows(alloc, &variable, shown)?);
-    assert!(rt; is_copied_and_compared(alloc, &variable)?);
-    assert!(rt; has_no_literal(&variable)?);
-    assert!(rt; is_taken_out(variable)?);
-    assert!(rt; literal_shows(alloc)?);
-    assert!(rt; literal_is_taken_out(alloc)?);
-    Ok(())
+    holds(
+        path_shows(alloc, &variable, shown)?,
+        "the path shows its indexes",
+    )?;
+    holds(
+        is_copied_and_compared(alloc, &variable)?,
+        "the path is copied and compared",
+    )?;
+    holds(has_no_literal(&variable)?, "the path has no literal")?;
+    holds(
+        is_taken_out(variable)?,
+        "the path is taken out of its expression",
+    )
+}
+
+#[test]
+fn a_literal_shows_in_quotes_and_is_taken_out(rt: HostRuntime) -> Result<(), Fail> {
+    let alloc = rt.alloc();
+    holds(literal_shows(alloc)?, "the text shows in quotes")?;
+    holds(
+        literal_is_taken_out(alloc)?,
+        "the text is taken out of its expression",
+    )
 }
 
 /// Puts a variable behind the indexes.
@@ -148,8 +165,13 @@ fn a_path_is_tried_index_by_index(rt: HostRuntime) -> Result<(), Fail> {
     let runtime = runtime(alloc, false)?;
     let mut variable = Variable::with_literal(alloc, text(alloc, "box")?);
     add_index(alloc, &mut variable, "word")?;
-    assert!(rt; leads_to(alloc, &variable, "box.part", &runtime)?);
+    holds(
+        leads_to(alloc, &variable, "box.part", &runtime)?,
+        "box[word] leads to box.part",
+    )?;
     add_index(alloc, &mut variable, "one")?;
-    assert!(rt; leads_nowhere(alloc, &variable, &runtime)?);
-    Ok(())
+    holds(
+        leads_nowhere(alloc, &variable, &runtime)?,
+        "box[word][one] leads nowhere",
+    )
 }

@@ -1,11 +1,13 @@
 //! Filters without a template, and registries.
-use crate::made::{Name, Number, Part, Word, arguments, part_of};
+use crate::chains::filter_named;
+use crate::made::{Number, arguments, part_of, parts_in};
 use bench::filters::Filters;
 use liquid_core::ValueView;
 use liquid_core::model::{Value, ValueCow};
 use liquid_plugins::{FilterArguments, FilterReflection, PluginRegistry, call_filter};
 use std::alloc::{AllocError, Global};
 use std::test::Fail;
+use tests_lines::{Line, holds, rows_hold};
 
 /// What a filter makes of an input, or the text of its refusal.
 fn called(
@@ -20,52 +22,21 @@ fn called(
     }
 }
 
-/// Arguments of a filter whose input is 5, and what it makes of them.
-struct Call {
-    filter: Filters,
-    given: &'static [Part<'static>],
-    answer: &'static str,
-}
-
 const UNEXPECTED: &str = "liquid: Unexpected arguments\n";
 
-const CALLS: [Call; 6] = [
-    Call {
-        filter: Filters::Append,
-        given: &[Word("%")],
-        answer: "5%",
-    },
-    Call {
-        filter: Filters::Append,
-        given: &[],
-        answer: UNEXPECTED,
-    },
-    Call {
-        filter: Filters::Append,
-        given: &[Number(1), Number(2)],
-        answer: UNEXPECTED,
-    },
-    Call {
-        filter: Filters::Append,
-        given: &[Name("y")],
-        answer: "liquid: Unknown variable\n  with:\n    requested variable=y\n",
-    },
-    Call {
-        filter: Filters::Fail,
-        given: &[],
-        answer: "liquid: bad\n",
-    },
-    Call {
-        filter: Filters::Fail,
-        given: &[Number(1)],
-        answer: UNEXPECTED,
-    },
-];
+/// A filter whose input is 5, its arguments, and what it makes of them.
+const CALLS: &str = r#"["append", [{"text": "%"}], "5%"]
+["append", [], "liquid: Unexpected arguments\n"]
+["append", [1, 2], "liquid: Unexpected arguments\n"]
+["append", ["y"], "liquid: Unknown variable\n  with:\n    requested variable=y\n"]
+["fail", [], "liquid: bad\n"]
+["fail", [1], "liquid: Unexpected arguments\n"]"#;
 
 /// Whether a filter makes of its arguments what the row tells.
-fn is_called(alloc: Global, call: &Call) -> Result<bool, AllocError> {
-    let given = arguments(alloc, call.given)?;
-    Ok(called(alloc, call.filter, given)?.as_str() == call.answer)
+fn is_called(alloc: Global, row: &Line) -> Result<bool, Fail> {
+    let filter = filter_named(row.found(0))?;
+    let given = arguments(alloc, parts_in(alloc, row.list(1)?)?.as_slice())?;
+    Ok(called(alloc, filter, given)?.as_str() == row.text(2)?)
 }
 
 /// The argument 1, and the argument 2 by a keyword.
@@ -92,12 +63,15 @@ fn filters_are_reflected() -> bool {
 #[test]
 fn filters_are_called_without_a_template(rt: HostRuntime) -> Result<(), Fail> {
     let alloc = rt.alloc();
-    for call in &CALLS {
-        assert!(rt; is_called(alloc, call)?, "{}", call.answer);
-    }
-    assert!(rt; keyword_is_refused(alloc)?);
-    assert!(rt; filters_are_reflected());
-    Ok(())
+    rows_hold(alloc, CALLS, is_called)?;
+    holds(
+        keyword_is_refused(alloc)?,
+        "a keyword that is not known is refused",
+    )?;
+    holds(
+        filters_are_reflected(),
+        "the filters tell their names and parameters",
+    )
 }
 
 type Registry = PluginRegistry<Filters>;
@@ -144,8 +118,17 @@ fn plugins_are_listed(registry: &Registry) -> bool {
 #[test]
 fn a_registry_has_plug_ins_by_name(rt: HostRuntime) -> Result<(), Fail> {
     let mut registry = PluginRegistry::new(rt.alloc());
-    assert!(rt; registers_two(&mut registry)?);
-    assert!(rt; replaces_one(&mut registry)?);
-    assert!(rt; names_are_listed(&registry) && plugins_are_listed(&registry));
-    Ok(())
+    holds(registers_two(&mut registry)?, "two names are new")?;
+    holds(
+        replaces_one(&mut registry)?,
+        "a filter takes the place of another",
+    )?;
+    holds(
+        names_are_listed(&registry),
+        "the names are listed in their order",
+    )?;
+    holds(
+        plugins_are_listed(&registry),
+        "the filters are listed in their names' order",
+    )
 }

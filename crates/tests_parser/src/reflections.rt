@@ -1,8 +1,8 @@
 //! What tags and blocks tell about themselves.
 use bench::{Blocks, Tags, language};
-use liquid_core::parser::{BlockReflection, TagReflection};
+use liquid_core::parser::{BlockReflection, PluginRegistry, TagReflection};
 use std::test::Fail;
-use tests_lines::Line;
+use tests_lines::{Line, rows_hold};
 
 /// Whether a text that may be given is what a row has at a place: a text, or null.
 fn is_told(told: Option<&str>, row: &Line, place: usize) -> Result<bool, Fail> {
@@ -23,6 +23,14 @@ fn block_is_told(block: &Blocks, row: &Line) -> Result<bool, Fail> {
     )
 }
 
+/// Whether the block that a row names is registered, and tells what the row does.
+fn has_block(blocks: &PluginRegistry<Blocks>, row: &Line) -> Result<bool, Fail> {
+    match blocks.get(row.text(0)?) {
+        Some(block) => block_is_told(block, row),
+        None => Ok(false),
+    }
+}
+
 /// Start tag, end tag, description, example and spec.
 const BLOCKS: &str = r#"["box", "endbox", "Writes its body in brackets.", null, null]
 ["swap", "endswap", "Renders what stands behind `mid`, and then what stands before it.", null, null]
@@ -32,15 +40,7 @@ const BLOCKS: &str = r#"["box", "endbox", "Writes its body in brackets.", null, 
 fn blocks_tell_what_they_are(rt: HostRuntime) -> Result<(), Fail> {
     let alloc = rt.alloc();
     let language = language(alloc)?;
-    for line in BLOCKS.lines() {
-        let row = Line::of(alloc, line)?;
-        let holds = match language.blocks.get(row.text(0)?) {
-            Some(block) => block_is_told(block, &row)?,
-            None => false,
-        };
-        assert!(rt; holds, "{line}");
-    }
-    Ok(())
+    rows_hold(alloc, BLOCKS, |_, row| has_block(&language.blocks, row))
 }
 
 /// Whether a tag tells its name, its description, its example and its spec as a row does.
@@ -53,6 +53,14 @@ fn tag_is_told(tag: &Tags, row: &Line) -> Result<bool, Fail> {
     )
 }
 
+/// Whether the tag that a row names is registered, and tells what the row does.
+fn has_tag(tags: &PluginRegistry<Tags>, row: &Line) -> Result<bool, Fail> {
+    match tags.get(row.text(0)?) {
+        Some(tag) => tag_is_told(tag, row),
+        None => Ok(false),
+    }
+}
+
 /// Name, description, example and spec.
 const TAGS: &str = r#"["set", "Sets a global to a value, and writes nothing.", null, null]
 ["brk", "Leaves the loop around it.", null, null]"#;
@@ -61,13 +69,5 @@ const TAGS: &str = r#"["set", "Sets a global to a value, and writes nothing.", n
 fn tags_tell_what_they_are(rt: HostRuntime) -> Result<(), Fail> {
     let alloc = rt.alloc();
     let language = language(alloc)?;
-    for line in TAGS.lines() {
-        let row = Line::of(alloc, line)?;
-        let holds = match language.tags.get(row.text(0)?) {
-            Some(tag) => tag_is_told(tag, &row)?,
-            None => false,
-        };
-        assert!(rt; holds, "{line}");
-    }
-    Ok(())
+    rows_hold(alloc, TAGS, |_, row| has_tag(&language.tags, row))
 }

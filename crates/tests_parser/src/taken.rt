@@ -6,13 +6,14 @@ use liquid_core::Error;
 use liquid_core::parser::{FilterChain, ParseFilter, PluginRegistry, TagTokenIter};
 use std::alloc::Global;
 use std::test::Fail;
-use tests_lines::Line;
+use tests_lines::{Line, rows_hold};
 
 const MISSING: &str = "Token expected";
 
 type Registry = PluginRegistry<Filters>;
 
-fn chain_text(
+/// The text that a chain shows.
+pub(crate) fn chain_text(
     alloc: Global,
     chain: &FilterChain<<Filters as ParseFilter>::Filter>,
 ) -> Result<String, Error> {
@@ -40,7 +41,7 @@ fn next_text(
 }
 
 /// Whether the next token of a row's tag is what the row tells, or is refused so, and the same tokens are left.
-fn holds(alloc: Global, row: &Line, filters: &Registry) -> Result<bool, Fail> {
+fn is_taken(alloc: Global, row: &Line, filters: &Registry) -> Result<bool, Fail> {
     let text = row.text(1)?;
     let mut tokens = tokens_of(alloc, text)?;
     let answer = match next_text(alloc, row.text(0)?, &mut tokens, filters) {
@@ -79,11 +80,9 @@ const ROWS: &str = r#"["identifier", "{% t a b %}", "a", "b"]
 fn the_next_token_is_taken_as_what_is_expected(rt: HostRuntime) -> Result<(), Fail> {
     let alloc = rt.alloc();
     let language = language(alloc)?;
-    for line in ROWS.lines() {
-        assert!(rt;
-            holds(alloc, &Line::of(alloc, line)?, &language.filters)?,
-            "{line}"
-        );
-    }
-    Ok(())
+    rows_hold(
+        alloc,
+        ROWS,
+        |alloc, row| is_taken(alloc, row, &language.filters),
+    )
 }

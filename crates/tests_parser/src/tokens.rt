@@ -4,6 +4,7 @@ use liquid_core::Error;
 use liquid_core::parser::{Tag, TagToken, TagTokenIter, TryMatchToken};
 use std::alloc::{AllocError, Global};
 use std::test::Fail;
+use tests_lines::{Line, rows_hold};
 
 /// The texts of the tokens of a tag, joined by ` / `, or the refusal of the tag.
 fn texts(alloc: Global, text: &str) -> Result<String, AllocError> {
@@ -93,38 +94,25 @@ fn kinds(alloc: Global, token: TagToken<'_>) -> Result<String, AllocError> {
     format!(in alloc; "{identifier}{variable}{literal}{value}{range}{equality}")
 }
 
-/// Whether the tokens of a tag, or its refusal, are a text.
-fn has_tokens(alloc: Global, text: &str, tokens: &str) -> Result<bool, AllocError> {
-    Ok(texts(alloc, text)?.as_str() == tokens)
+/// Whether a row tells the tokens of its tag, or its refusal.
+fn has_tokens(alloc: Global, row: &Line) -> Result<bool, Fail> {
+    Ok(texts(alloc, row.text(0)?)?.as_str() == row.text(1)?)
 }
+
+/// A tag, and its tokens, or its refusal.
+const TOKENS: &str = r#"["{% t (1..3) a | append: 1 == b %}", "(1..3) / a | append: 1 / == / b"]
+["{%-t-%} \n", ""]
+["{% t a.b[0],'c' %}", "a.b[0] / , / 'c'"]
+["", "liquid: Invalid liquid (line 1, column 1)"]
+["{% t %} ", "liquid: Invalid liquid (line 1, column 1)"]
+["a{% t %}", "liquid: Invalid liquid (line 1, column 1)"]
+["{{ t }}", "liquid: Invalid liquid (line 1, column 1)"]
+["{% t\n4.5 %}", "liquid: Decimal not supported (line 2, column 1)"]
+["{% t a 9223372036854775808 %}", "liquid: Integer out of range (line 1, column 8)"]"#;
 
 #[test]
 fn tags_have_tokens(rt: HostRuntime) -> Result<(), Fail> {
-    let alloc = rt.alloc();
-    let rows = [
-        (
-            "{% t (1..3) a | append: 1 == b %}",
-            "(1..3) / a | append: 1 / == / b",
-        ),
-        ("{%-t-%} \n", ""),
-        ("{% t a.b[0],'c' %}", "a.b[0] / , / 'c'"),
-        ("", "liquid: Invalid liquid (line 1, column 1)"),
-        ("{% t %} ", "liquid: Invalid liquid (line 1, column 1)"),
-        ("a{% t %}", "liquid: Invalid liquid (line 1, column 1)"),
-        ("{{ t }}", "liquid: Invalid liquid (line 1, column 1)"),
-        (
-            "{% t\n4.5 %}",
-            "liquid: Decimal not supported (line 2, column 1)",
-        ),
-        (
-            "{% t a 9223372036854775808 %}",
-            "liquid: Integer out of range (line 1, column 8)",
-        ),
-    ];
-    for (text, tokens) in rows {
-        assert!(rt; has_tokens(alloc, text, tokens)?, "{text}");
-    }
-    Ok(())
+    rows_hold(rt.alloc(), TOKENS, has_tokens)
 }
 
 /// The tokens of a tag.
@@ -166,24 +154,27 @@ fn has_one_token(alloc: Global, text: &str) -> Result<bool, Error> {
     Ok(second_token(alloc, text)? == refusal)
 }
 
+/// Whether a row tells the kinds of the only token of its tag, which can be raised as a refusal.
+fn is_of_kinds(alloc: Global, row: &Line) -> Result<bool, Fail> {
+    let text = row.text(0)?;
+    let refusal = "liquid: Unexpected token (line 1, column 6)";
+    Ok(
+        has_kinds(alloc, text, row.text(1)?)?
+            && is_raised(alloc, text, refusal)?
+            && has_one_token(alloc, text)?,
+    )
+}
+
+/// A tag, and the letters of the kinds of its token.
+const KINDS: &str = r#"["{% t a %}", "ive"]
+["{% t a.b %}", "ve"]
+["{% t a | b %}", ""]
+["{% t 'a' %}", "le"]
+["{% t 1 %}", "le"]
+["{% t (a..2) %}", "r"]
+["{% t == %}", "s"]"#;
+
 #[test]
 fn tokens_are_what_they_look_like(rt: HostRuntime) -> Result<(), Fail> {
-    let alloc = rt.alloc();
-    let rows = [
-        ("{% t a %}", "ive"),
-        ("{% t a.b %}", "ve"),
-        ("{% t a | b %}", ""),
-        ("{% t 'a' %}", "le"),
-        ("{% t 1 %}", "le"),
-        ("{% t (a..2) %}", "r"),
-        ("{% t == %}", "s"),
-    ];
-    let refusal = "liquid: Unexpected token (line 1, column 6)";
-    for (text, letters) in rows {
-        let holds = has_kinds(alloc, text, letters)?
-            && is_raised(alloc, text, refusal)?
-            && has_one_token(alloc, text)?;
-        assert!(rt; holds, "{text}");
-    }
-    Ok(())
+    rows_hold(rt.alloc(), KINDS, is_of_kinds)
 }

@@ -7,7 +7,7 @@ use liquid_plugins::Expression;
 use serde_json::Value as Json;
 use std::alloc::{AllocError, Global};
 use std::test::Fail;
-use tests_lines::Line;
+use tests_lines::{Line, rows_hold};
 
 /// The index that a row gives: a part, or a list of a name and the parts behind it.
 fn index_in(alloc: Global, given: &Json) -> Result<Expression, Fail> {
@@ -45,11 +45,7 @@ const VARIABLES: &str =
 
 #[test]
 fn whole_texts_are_variables(rt: HostRuntime) -> Result<(), Fail> {
-    let alloc = rt.alloc();
-    for line in VARIABLES.lines() {
-        assert!(rt; is_parsed(alloc, &Line::of(alloc, line)?)?, "{line}");
-    }
-    Ok(())
+    rows_hold(rt.alloc(), VARIABLES, is_parsed)
 }
 
 /// The first line of the refusal of a text that is no variable.
@@ -58,6 +54,11 @@ fn refusal(alloc: Global, text: &str) -> Result<String, AllocError> {
         Ok(_) => String::from_str(alloc, "a variable"),
         Err(error) => told(alloc, &error),
     }
+}
+
+/// Whether a row's text is refused as the row tells.
+fn is_refused(alloc: Global, row: &Line) -> Result<bool, Fail> {
+    Ok(refusal(alloc, row.text(0)?)?.as_str() == row.text(1)?)
 }
 
 /// A text that is no variable as a whole, and its refusal.
@@ -72,14 +73,5 @@ const REFUSED: &str = r#"["a b", "liquid: Invalid liquid (line 1, column 1)"]
 
 #[test]
 fn other_texts_are_refused(rt: HostRuntime) -> Result<(), Fail> {
-    let alloc = rt.alloc();
-    for line in REFUSED.lines() {
-        let row = Line::of(alloc, line)?;
-        assert_eq!(rt;
-            refusal(alloc, row.text(0)?)?.as_str(),
-            row.text(1)?,
-            "{line}"
-        );
-    }
-    Ok(())
+    rows_hold(rt.alloc(), REFUSED, is_refused)
 }
