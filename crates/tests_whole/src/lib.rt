@@ -2,7 +2,7 @@
 #![tactic(auto)]
 
 #[cfg(test)]
-mod both_scopes;
+mod calls;
 #[cfg(test)]
 mod counting_source;
 #[cfg(test)]

@@ -1,8 +1,8 @@
 //! Templates with partials, and requests to stores, over all three stores.
-use crate::both_scopes::rendered_in;
+use crate::calls::{holds_at_once, holds_in};
 use crate::counting_source::CountingSource;
-use crate::given::error_text;
-use crate::rows::Row;
+use crate::given::{error_text, runtime_of};
+use crate::rows::{Row, lines_hold, source_of};
 use bench::blocks::BlockNode;
 use bench::filters::AnyFilter;
 use bench::forms::{Chained, Flat};
@@ -10,95 +10,73 @@ use bench::languages::language;
 use bench::tags::TagNode;
 use bench::{Blocks, Filters, Tags};
 use liquid_core::partials::{
-    EagerCompiler, EagerStore, InMemorySource, LazyCompiler, LazyStore, OnDemandCompiler,
-    OnDemandStore, PartialCompiler, PartialSource,
+    EagerCompiler, InMemorySource, LazyCompiler, OnDemandCompiler, PartialCompiler, PartialSource,
 };
 use liquid_core::runtime::{BuiltRuntime, RuntimeBuilder, Template};
 use liquid_core::{Error, Language, PartialStore, TextSink, render_source};
+use serde_json::Value as Json;
 use std::alloc::{AllocError, Global};
 use std::cell::Cell;
 use std::rc::Rc;
 use std::test::Fail;
-use tests_lines::Line;
+use tests_lines::{Line, holds, same};
 
 type TheLanguage = Language<Filters, Tags, Blocks>;
 
-type Sources = &'static [(&'static str, &'static str)];
-
-fn source(alloc: Global, texts: Sources) -> Result<InMemorySource, AllocError> {
-    let mut source = InMemorySource::new(alloc);
-    for (name, text) in texts {
-        source.add(
-            String::from_str(alloc, name)?,
-            String::from_str(alloc, text)?,
-        )?;
-    }
-    Ok(source)
-}
-
-fn eager(
+fn compiled<C>(
     alloc: Global,
     language: &Rc<TheLanguage>,
-    source: InMemorySource,
-) -> Result<EagerStore<InMemorySource, Filters, Tags, Blocks>, AllocError> {
-    EagerCompiler::new(source).compile(alloc, language.clone()?)
-}
-
-fn lazy(
-    alloc: Global,
-    language: &Rc<TheLanguage>,
-    source: InMemorySource,
-) -> Result<LazyStore<InMemorySource, Filters, Tags, Blocks>, AllocError> {
-    LazyCompiler::new(source).compile(alloc, language.clone()?)
-}
-
-fn on_demand(
-    alloc: Global,
-    language: &Rc<TheLanguage>,
-    source: InMemorySource,
-) -> Result<OnDemandStore<InMemorySource, Filters, Tags, Blocks>, AllocError> {
-    OnDemandCompiler::new(source).compile(alloc, language.clone()?)
-}
-
-/// Whether a row holds of `render_source` over a store.
-fn is_rendered<S>(alloc: Global, language: &TheLanguage, row: &Row, store: S) -> Result<bool, Fail>
+    compiler: C,
+) -> Result<C::Store, AllocError>
 where
-    S: PartialStore<AnyFilter, TagNode, BlockNode> + Drop,
+    C: PartialCompiler<Filters, Tags, Blocks> + Drop,
 {
-    let mut runtime = row.over(alloc, store)?;
-    let mut sink = TextSink::new(alloc);
-    let answer = render_source(alloc, row.template(), language, &mut runtime, &mut sink);
-    let error = error_text(alloc, &answer)?;
-    Ok(sink.as_bytes() == row.written().as_bytes() && error.as_str() == row.error())
+    compiler.compile(alloc, language.clone()?)
+}
+
+/// A runtime over the store of a row's partials.
+fn runtime_from<C>(
+    alloc: Global,
+    row: &Row,
+    language: &Rc<TheLanguage>,
+    compiler: C,
+) -> Result<BuiltRuntime<(), C::Store>, Fail>
+where
+    C: PartialCompiler<Filters, Tags, Blocks> + Drop,
+    C::Store: Drop,
+{
+    let store = compiled(alloc, language, compiler)?;
+    row.over(alloc, store)
 }
 
 fn from_eager(alloc: Global, row: &Row, language: &Rc<TheLanguage>) -> Result<bool, Fail> {
-    let store = eager(alloc, language, row.source(alloc)?)?;
-    is_rendered(alloc, language, row, store)
+    let compiler = EagerCompiler::new(row.source(alloc)?);
+    let runtime = runtime_from(alloc, row, language, compiler)?;
+    holds_at_once(alloc, row, language, runtime)
 }
 
 fn from_on_demand(alloc: Global, row: &Row, language: &Rc<TheLanguage>) -> Result<bool, Fail> {
-    let store = on_demand(alloc, language, row.source(alloc)?)?;
-    is_rendered(alloc, language, row, store)
+    let compiler = OnDemandCompiler::new(row.source(alloc)?);
+    let runtime = runtime_from(alloc, row, language, compiler)?;
+    holds_at_once(alloc, row, language, runtime)
 }
 
 fn from_lazy(alloc: Global, row: &Row, language: &Rc<TheLanguage>) -> Result<bool, Fail> {
-    let store = lazy(alloc, language, row.source(alloc)?)?;
-    is_rendered(alloc, language, row, store)
+    let compiler = LazyCompiler::new(row.source(alloc)?);
+    let runtime = runtime_from(alloc, row, language, compiler)?;
+    holds_at_once(alloc, row, language, runtime)
 }
 
 fn over_chained(alloc: Global, row: &Row, language: &Rc<TheLanguage>) -> Result<bool, Fail> {
-    let store = eager(alloc, language, row.source(alloc)?)?;
-    let base = row.over(alloc, store)?;
-    let all = rendered_in::<Chained<_>, _, _, _>(alloc, row.template(), language, base)?;
-    Ok(row.is_whole(all.as_str()))
+    let compiler = EagerCompiler::new(row.source(alloc)?);
+    let base = runtime_from(alloc, row, language, compiler)?;
+    holds_in::<Chained<_>, _, _, _>(alloc, row, language, base)
 }
 
 fn over_flat(alloc: Global, row: &Row, language: &Rc<TheLanguage>) -> Result<bool, Fail> {
-    let store = lazy(alloc, language, row.source(alloc)?)?;
-    let base = row.over(alloc, store)?;
-    let all = rendered_in::<Flat<_>, _, _, _>(alloc, row.template(), language, base)?;
-    Ok(row.is_whole(all.as_str()))
+    let compiler = LazyCompiler::new(row.source(alloc)?);
+    let base = runtime_from(alloc, row, language, compiler)?;
+    holds_in::<Flat<_>, _, _, _>(alloc, row, language, base)
 }
 
 const ROWS: &str =
@@ -119,31 +97,26 @@ const ROWS: &str =
 
 /// Whether a row holds of all three stores, and of both forms of scopes.
 fn holds_over_each(alloc: Global, row: &Row, language: &Rc<TheLanguage>) -> Result<bool, Fail> {
-    Ok(
-        from_eager(alloc, row, language)?
-            && from_on_demand(alloc, row, language)?
-            && from_lazy(alloc, row, language)?
-            && over_chained(alloc, row, language)?
-            && over_flat(alloc, row, language)?,
-    )
+    let from_eager = from_eager(alloc, row, language)?;
+    let from_on_demand = from_on_demand(alloc, row, language)?;
+    let from_lazy = from_lazy(alloc, row, language)?;
+    let over_chained = over_chained(alloc, row, language)?;
+    let over_flat = over_flat(alloc, row, language)?;
+    Ok(from_eager && from_on_demand && from_lazy && over_chained && over_flat)
 }
 
 /// Whether the row of a line holds so where names are strict and where they are lenient.
-fn holds(alloc: Global, line: &str, language: &Rc<TheLanguage>) -> Result<bool, Fail> {
+fn holds_of_all(alloc: Global, line: &str) -> Result<bool, Fail> {
+    let language = shared_language(alloc)?;
     let row = Row::of(alloc, line)?;
-    let is_strict = holds_over_each(alloc, &row, language)?;
+    let is_strict = holds_over_each(alloc, &row, &language)?;
     let row = row.leniently();
-    Ok(is_strict && holds_over_each(alloc, &row, language)?)
+    Ok(is_strict && holds_over_each(alloc, &row, &language)?)
 }
 
 #[test]
 fn partials_are_rendered_from_all_stores(rt: HostRuntime) -> Result<(), Fail> {
-    let alloc = rt.alloc();
-    let language = Rc::new(alloc, language(alloc)?)?;
-    for line in ROWS.lines() {
-        assert!(rt; holds(alloc, line, &language)?, "{line}");
-    }
-    Ok(())
+    lines_hold(rt.alloc(), ROWS, holds_of_all)
 }
 
 /// What a partial is by itself: its text over a runtime without globals.
@@ -161,7 +134,16 @@ fn shown(
     }
 }
 
-const SOURCES: Sources = &[("p", "P"), ("q", "Q"), ("bad", "{% nope %}")];
+/// The partials that are requested.
+const SOURCES: &str = r#"[["p", "P"], ["q", "Q"], ["bad", "{% nope %}"]]"#;
+
+fn source(alloc: Global) -> Result<InMemorySource, Fail> {
+    source_of(alloc, &Json::from_str(alloc, SOURCES)?)
+}
+
+fn shared_language(alloc: Global) -> Result<Rc<TheLanguage>, Fail> {
+    Ok(Rc::new(alloc, language(alloc)?)?)
+}
 
 /// Names that are requested one after the other, with what `get` answers.
 const REQUESTS: &str = r#"["p", "P"]
@@ -189,27 +171,13 @@ where
     Ok((text, agrees))
 }
 
-#[test]
-fn requests_have_the_same_answers_from_all_stores(rt: HostRuntime) -> Result<(), Fail> {
-    let alloc = rt.alloc();
-    let language = Rc::new(alloc, language(alloc)?)?;
-    let mut eager = eager(alloc, &language, source(alloc, SOURCES)?)?;
-    let mut lazy = lazy(alloc, &language, source(alloc, SOURCES)?)?;
-    let mut on_demand = on_demand(alloc, &language, source(alloc, SOURCES)?)?;
-    for line in REQUESTS.lines() {
-        let row = Line::of(alloc, line)?;
-        let first = answered(alloc, &mut eager, row.text(0)?)?;
-        let second = answered(alloc, &mut lazy, row.text(0)?)?;
-        let third = answered(alloc, &mut on_demand, row.text(0)?)?;
-        assert_eq!(rt; first.0.as_str(), row.text(1)?);
-        assert_eq!(rt; second.0.as_str(), row.text(1)?);
-        assert_eq!(rt; third.0.as_str(), row.text(1)?);
-        assert!(rt; first.1 && second.1 && third.1, "{line}");
-    }
-    assert!(rt; lists_its_names(alloc, &eager)?);
-    assert!(rt; lists_its_names(alloc, &lazy)?);
-    assert!(rt; lists_its_names(alloc, &on_demand)?);
-    Ok(())
+/// Whether a store answers a request as its row tells.
+fn is_answered<S>(alloc: Global, store: &mut S, row: &Line) -> Result<bool, Fail>
+where
+    S: PartialStore<AnyFilter, TagNode, BlockNode>,
+{
+    let (text, agrees) = answered(alloc, store, row.text(0)?)?;
+    Ok(agrees && text.as_str() == row.text(1)?)
 }
 
 /// Whether the store of the sources has their names and no other.
@@ -221,103 +189,155 @@ where
     Ok(names.as_str() == "bad p q" && store.contains("bad") && !store.contains("none"))
 }
 
+/// Refuses a store of the sources that answers otherwise than the rows tell.
+fn answers_all<S>(alloc: Global, mut store: S) -> Result<(), Fail>
+where
+    S: PartialStore<AnyFilter, TagNode, BlockNode> + Drop,
+{
+    for line in REQUESTS.lines() {
+        let row = Line::of(alloc, line)?;
+        if !is_answered(alloc, &mut store, &row)? {
+            return Err(Fail::new(format_args!("this request has another answer: {line}")));
+        }
+    }
+    holds(lists_its_names(alloc, &store)?, "a store has its names")
+}
+
+#[test]
+fn requests_have_the_same_answers_from_all_stores(rt: HostRuntime) -> Result<(), Fail> {
+    let alloc = rt.alloc();
+    let language = shared_language(alloc)?;
+    let (first, second, third) = (source(alloc)?, source(alloc)?, source(alloc)?);
+    answers_all(
+        alloc,
+        compiled(alloc, &language, EagerCompiler::new(first))?,
+    )?;
+    answers_all(
+        alloc,
+        compiled(alloc, &language, LazyCompiler::new(second))?,
+    )?;
+    answers_all(
+        alloc,
+        compiled(alloc, &language, OnDemandCompiler::new(third))?,
+    )
+}
+
 #[test]
 fn a_lazy_store_keeps_trees_and_faults(rt: HostRuntime) -> Result<(), Fail> {
     let alloc = rt.alloc();
-    let language = Rc::new(alloc, language(alloc)?)?;
-    let mut store = lazy(alloc, &language, source(alloc, SOURCES)?)?;
-    assert!(rt; !store.is_kept("p") && !store.is_kept("bad"));
+    let language = shared_language(alloc)?;
+    let mut store = compiled(alloc, &language, LazyCompiler::new(source(alloc)?))?;
+    holds(
+        !store.is_kept("p") && !store.is_kept("bad"),
+        "nothing is kept yet",
+    )?;
     let _fault = store.get(alloc, "bad");
-    assert!(rt; store.is_kept("bad"));
+    holds(store.is_kept("bad"), "a fault is kept")?;
     let _absent = store.get(alloc, "none");
-    assert!(rt; !store.is_kept("none"));
+    holds(!store.is_kept("none"), "a name without a text is not kept")?;
     let _tree = store.try_get(alloc, "p")?;
-    assert!(rt; store.is_kept("p") && !store.is_kept("q"));
-    Ok(())
+    holds(store.is_kept("p") && !store.is_kept("q"), "a tree is kept")
+}
+
+/// Whether a text takes the place of another.
+fn is_replaced(alloc: Global, texts: &mut InMemorySource, text: &str) -> Result<bool, Fail> {
+    let name = String::from_str(alloc, "p")?;
+    Ok(texts.add(name, String::from_str(alloc, text)?)?)
+}
+
+/// Refuses a source that has more than `p`, or another text for it.
+fn has_the_new_text(alloc: Global, source: &InMemorySource) -> Result<(), Fail> {
+    holds(source.contains("p"), "p has a text")?;
+    holds(!source.contains("q"), "q has no text")?;
+    same(source.get(alloc, "p")?.as_str(), "new")?;
+    holds(
+        source.try_get(alloc, "q")?.is_none(),
+        "no text is found for q",
+    )?;
+    match source.get(alloc, "q") {
+        Ok(_) => Err(Fail::from("q has a text")),
+        Err(error) => same(
+            error.to_string(alloc)?.as_str(),
+            "liquid: Unknown partial-template\n  with:\n    requested partial=q\n    available partials=p\n",
+        ),
+    }
 }
 
 #[test]
 fn a_source_is_a_map_of_texts(rt: HostRuntime) -> Result<(), Fail> {
     let alloc = rt.alloc();
     let mut compiler: EagerCompiler<InMemorySource> = EagerCompiler::empty(alloc);
-    assert_eq!(rt; compiler.source().names(alloc)?.len(), 0);
+    let count = compiler.source().names(alloc)?.len();
+    holds(count == 0, "an empty source has no names")?;
     let texts = compiler.source_mut();
-    let name = String::from_str(alloc, "p")?;
-    assert!(rt; !texts.add(name, String::from_str(alloc, "old")?)?);
-    let name = String::from_str(alloc, "p")?;
-    assert!(rt; texts.add(name, String::from_str(alloc, "new")?)?);
+    holds(!is_replaced(alloc, texts, "old")?, "p had no text")?;
+    holds(is_replaced(alloc, texts, "new")?, "p had a text")?;
     let copy = compiler.source().clone()?;
-    assert!(rt; copy.contains("p"));
-    assert!(rt; !copy.contains("q"));
-    assert_eq!(rt; copy.get(alloc, "p")?.as_str(), "new");
-    assert!(rt; copy.try_get(alloc, "q")?.is_none());
-    match copy.get(alloc, "q") {
-        Ok(_) => Err(Fail::from("q has a text")),
-        Err(error) => {
-            assert_eq!(rt;
-                error.to_string(alloc)?.as_str(),
-                "liquid: Unknown partial-template\n  with:\n    requested partial=q\n    available partials=p\n"
-            );
-            Ok(())
-        }
-    }
+    has_the_new_text(alloc, &copy)
 }
 
 #[test]
 fn a_partial_is_asked_for_where_there_is_no_store(rt: HostRuntime) -> Result<(), Fail> {
     let alloc = rt.alloc();
     let language = language(alloc)?;
-    let mut runtime: BuiltRuntime<(), ()> = RuntimeBuilder::new(alloc).build();
+    let mut runtime = runtime_of(alloc, "{}")?;
     let mut sink = TextSink::new(alloc);
-    match render_source(alloc, "a{% inc p %}", &language, &mut runtime, &mut sink) {
-        Ok(()) => Err(Fail::from("a partial was found")),
-        Err(error) => {
-            assert_eq!(rt; sink.as_bytes(), "a".as_bytes());
-            assert_eq!(rt;
-                error.to_string(alloc)?.as_str(),
-                "liquid: Partial does not exist\n  with:\n    name=p\n"
-            );
-            Ok(())
-        }
-    }
+    let answer = render_source(alloc, "a{% inc p %}", &language, &mut runtime, &mut sink);
+    same(
+        error_text(alloc, &answer)?.as_str(),
+        "liquid: Partial does not exist\n  with:\n    name=p\n",
+    )?;
+    same(sink.into_string()?.as_str(), "a")
+}
+
+/// The sources, which count how often they are asked.
+fn counting(alloc: Global, asked: &Rc<Cell<u64>>) -> Result<CountingSource<InMemorySource>, Fail> {
+    Ok(CountingSource {
+        source: source(alloc)?,
+        asked: asked.clone()?,
+    })
+}
+
+/// A store on demand reads a text for each request of a name that has one.
+fn is_read_on_demand(alloc: Global, asked: &Rc<Cell<u64>>) -> Result<(), Fail> {
+    let compiler = OnDemandCompiler::new(counting(alloc, asked)?);
+    let mut store = compiled(alloc, &shared_language(alloc)?, compiler)?;
+    holds(asked.get() == 0, "no text is read beforehand")?;
+    let _first = store.try_get(alloc, "p")?;
+    let _second = store.try_get(alloc, "p")?;
+    let _absent = store.try_get(alloc, "none")?;
+    holds(asked.get() == 2, "each request reads its text")
+}
+
+/// An eager store reads each text when it is made, and none later.
+fn is_read_eagerly(alloc: Global, asked: &Rc<Cell<u64>>) -> Result<(), Fail> {
+    let compiler = EagerCompiler::new(counting(alloc, asked)?);
+    let mut store = compiled(alloc, &shared_language(alloc)?, compiler)?;
+    holds(asked.get() == 5, "each text is read beforehand")?;
+    let _first = store.try_get(alloc, "p")?;
+    let _absent = store.try_get(alloc, "none")?;
+    holds(asked.get() == 5, "no text is read later")
+}
+
+/// A lazy store reads a text for the first request of its name.
+fn is_read_lazily(alloc: Global, asked: &Rc<Cell<u64>>) -> Result<(), Fail> {
+    let compiler = LazyCompiler::new(counting(alloc, asked)?);
+    let mut store = compiled(alloc, &shared_language(alloc)?, compiler)?;
+    holds(asked.get() == 5, "no text is read beforehand")?;
+    let _first = store.get(alloc, "p")?;
+    let _second = store.get(alloc, "p")?;
+    let _absent = store.try_get(alloc, "none")?;
+    holds(asked.get() == 6, "a text is read once")?;
+    let _fault = store.get(alloc, "bad");
+    let _again = store.try_get(alloc, "bad")?;
+    holds(asked.get() == 7, "a text that is refused is read once")
 }
 
 #[test]
 fn each_store_reads_its_source_when_it_says(rt: HostRuntime) -> Result<(), Fail> {
     let alloc = rt.alloc();
-    let language = Rc::new(alloc, language(alloc)?)?;
     let asked = Rc::new(alloc, Cell::new(0))?;
-    let counting = CountingSource {
-        source: source(alloc, SOURCES)?,
-        asked: asked.clone()?,
-    };
-    let mut store = OnDemandCompiler::new(counting).compile(alloc, language.clone()?)?;
-    assert_eq!(rt; asked.get(), 0);
-    let _first = store.try_get(alloc, "p")?;
-    let _second = store.try_get(alloc, "p")?;
-    let _absent = store.try_get(alloc, "none")?;
-    assert_eq!(rt; asked.get(), 2);
-    let counting = CountingSource {
-        source: source(alloc, SOURCES)?,
-        asked: asked.clone()?,
-    };
-    let mut store = EagerCompiler::new(counting).compile(alloc, language.clone()?)?;
-    assert_eq!(rt; asked.get(), 5);
-    let _first = store.try_get(alloc, "p")?;
-    let _absent = store.try_get(alloc, "none")?;
-    assert_eq!(rt; asked.get(), 5);
-    let counting = CountingSource {
-        source: source(alloc, SOURCES)?,
-        asked: asked.clone()?,
-    };
-    let mut store = LazyCompiler::new(counting).compile(alloc, language.clone()?)?;
-    assert_eq!(rt; asked.get(), 5);
-    let _first = store.get(alloc, "p")?;
-    let _second = store.get(alloc, "p")?;
-    let _absent = store.try_get(alloc, "none")?;
-    assert_eq!(rt; asked.get(), 6);
-    let _fault = store.get(alloc, "bad");
-    let _again = store.try_get(alloc, "bad")?;
-    assert_eq!(rt; asked.get(), 7);
-    Ok(())
+    is_read_on_demand(alloc, &asked)?;
+    is_read_eagerly(alloc, &asked)?;
+    is_read_lazily(alloc, &asked)
 }

@@ -125,15 +125,18 @@ impl Row {
 
     /// The partials, of which a later one takes the place of an earlier one of its name.
     pub(crate) fn source(&self, alloc: Global) -> Result<InMemorySource, Fail> {
-        let mut source = InMemorySource::new(alloc);
         match self.json.get("partials") {
-            Some(Json::Array(partials)) => {
-                for partial in partials {
-                    add_partial(alloc, &mut source, partial)?;
-                }
-                Ok(source)
-            }
-            _ => Err(Fail::from("a row has no partials")),
+            Some(partials) => source_of(alloc, partials),
+            None => Err(Fail::from("a row has no partials")),
+        }
+    }
+
+    /// Whether a text is the row's answer: what it writes, where it has no error, and else the error's text.
+    pub(crate) fn is_answer(&self, text: &str, is_refused: bool) -> bool {
+        if is_refused {
+            text == self.error()
+        } else {
+            text == self.written() && self.error().is_empty()
         }
     }
 
@@ -142,6 +145,20 @@ impl Row {
         all.len() == self.written().len() + self.error().len()
             && all.starts_with(self.written())
             && all.ends_with(self.error())
+    }
+}
+
+/// The source of a list of partials, each a name and a text.
+pub(crate) fn source_of(alloc: Global, partials: &Json) -> Result<InMemorySource, Fail> {
+    let mut source = InMemorySource::new(alloc);
+    match partials.as_array() {
+        Some(partials) => {
+            for partial in partials {
+                add_partial(alloc, &mut source, partial)?;
+            }
+            Ok(source)
+        }
+        None => Err(Fail::from("partials are no list")),
     }
 }
 
@@ -163,4 +180,20 @@ fn text_at(list: &Json, place: usize) -> Option<&str> {
         Some(member) => member.as_str(),
         None => None,
     }
+}
+
+/// Refuses the first line of a table of which the test doesn't hold, and shows it.
+pub(crate) fn lines_hold<F: Fn(Global, &str) -> Result<bool, Fail>>(
+    alloc: Global,
+    rows: &str,
+    holds: F,
+) -> Result<(), Fail>
+    requires { F.IsAlwaysCallable holds }
+{
+    for line in rows.lines() {
+        if !holds(alloc, line)? {
+            return Err(Fail::new(format_args!("this row doesn't hold: {line}")));
+        }
+    }
+    Ok(())
 }

@@ -1,13 +1,13 @@
 //! Templates in a sandbox: what they write, and what they leave of the runtime around it.
-use crate::given::{Given, error_text, object_of};
-use crate::rows::Row;
+use crate::given::{self, error_text, object_of};
+use crate::rows::{Row, lines_hold};
 use bench::blocks::BlockNode;
 use bench::dripping::Dripping;
 use bench::filters::AnyFilter;
 use bench::languages::language;
 use bench::partial::OnePartial;
 use bench::tags::TagNode;
-use liquid_core::model::{Object, Value, ValueRender};
+use liquid_core::model::{Object, Value, ValueRender, to_object};
 use liquid_core::parser::parse;
 use liquid_core::runtime::{
     BuiltRuntime, ChainedScopes, Frame, Interrupt, Runtime, RuntimeBuilder, Scopes,
@@ -16,14 +16,13 @@ use liquid_core::{Error, Template, TextSink};
 use std::alloc::{AllocError, Global};
 use std::rc::Rc;
 use std::test::Fail;
+use tests_lines::{Line, rows_hold, same};
 
 type Page = Template<AnyFilter, TagNode, BlockNode>;
 
 type Store = OnePartial<AnyFilter, TagNode, BlockNode>;
 
 type Around = BuiltRuntime<(), Store>;
-
-type Names = &'static [(&'static str, Given)];
 
 const ROWS: &str =
     r#"{"template": "{{ b }}{% set g 5 %}", "globals": {"b": 2}, "written": "2", "left": {"g": "5"}}
@@ -43,30 +42,10 @@ const ROWS: &str =
 {"template": "{% inc q %}", "written": "", "error": "liquid: Unknown partial-template\n  with:\n    requested partial=q\n    available partials=p\n"}
 {"template": "{{ 5 | fail }}", "written": "", "error": "liquid: bad\nfrom: Filter error\n  with:\n    filter=fail\n    input=5\n"}"#;
 
-/// What stands in the runtime around the sandbox: globals, and what was assigned.
-struct Parent {
-    globals: Names,
-    assigned: Names,
-    interrupt: bool,
-}
-
-const PARENTS: [Parent; 3] = [
-    Parent {
-        globals: &[],
-        assigned: &[],
-        interrupt: false,
-    },
-    Parent {
-        globals: &[("x", Given::Number(10)), ("t", Given::Text("T"))],
-        assigned: &[("s", Given::Text("S")), ("g", Given::Number(11))],
-        interrupt: true,
-    },
-    Parent {
-        globals: &[("b", Given::Number(12)), ("n", Given::Number(13))],
-        assigned: &[("t", Given::Number(14)), ("x", Given::Nil)],
-        interrupt: false,
-    },
-];
+/// What stands in the runtime around the sandbox: globals, what was assigned, and whether it is interrupted.
+const PARENTS: &str = r#"[{}, {}, false]
+[{"x": 10, "t": "T"}, {"s": "S", "g": 11}, true]
+[{"b": 12, "n": 13}, {"t": 14, "x": null}, false]"#;
 
 fn text(alloc: Global, text: &str) -> Result<String, AllocError> {
     String::from_str(alloc, text)
@@ -78,20 +57,20 @@ fn page(alloc: Global, text: &str) -> Result<Page, Fail> {
 }
 
 /// A runtime with these names, the index variable `n`, and the partial `p`.
-fn runtime_of(alloc: Global, parent: &Parent) -> Result<Around, Fail> {
+fn runtime_of(alloc: Global, parent: &Line) -> Result<Around, Fail> {
     let store = OnePartial {
         name: text(alloc, "p")?,
         template: Rc::new(alloc, page(alloc, "p{{ b }}{% set x 7 %}")?)?,
     };
     let mut runtime: Around = RuntimeBuilder::new(alloc)
-        .set_globals(object_of(alloc, parent.globals)?)
+        .set_globals(to_object(alloc, parent.member(0)?)?)
         .set_partials(store)
         .build();
-    for (name, value) in object_of(alloc, parent.assigned)? {
+    for (name, value) in to_object(alloc, parent.member(1)?)? {
         runtime.set_global(name, value)?;
     }
     runtime.set_index(text(alloc, "n")?, Value::scalar(3i64))?;
-    if parent.interrupt {
+    if parent.truth(2)? {
         runtime.registers_mut().interrupt.set(Interrupt::Continue);
     }
     Ok(runtime)
@@ -137,13 +116,14 @@ fn is_told(
 }
 
 /// Whether a row holds of `render_sandboxed`.
-fn is_rendered(alloc: Global, row: &Row, page: &Page, parent: &Parent) -> Result<bool, Fail> {
+fn is_rendered(alloc: Global, row: &Row, page: &Page, parent: &Line) -> Result<bool, Fail> {
     let before = runtime_of(alloc, parent)?;
     let mut runtime = runtime_of(alloc, parent)?;
     let mut sink = TextSink::new(alloc);
     let data = row.globals(alloc)?;
     let answer = page.render_sandboxed(alloc, &mut sink, &mut runtime, data, None);
-    Ok(is_told(alloc, row, &sink, &answer)? && stays(alloc, row, &before, &runtime)?)
+    let is_told = is_told(alloc, row, &sink, &answer)?;
+    Ok(is_told && stays(alloc, row, &before, &runtime)?)
 }
 
 /// Renders in a sandbox over a frame that is open, and answers the base again.
@@ -172,7 +152,7 @@ where
 
 /// The names of a frame around the sandbox.
 fn outer(alloc: Global) -> Result<Object, Fail> {
-    object_of(alloc, &[("b", Given::Number(20)), ("s", Given::Number(21))])
+    object_of(alloc, r#"{"b": 20, "s": 21}"#)
 }
 
 /// Whether a row holds of `render_sandboxed_in` over a frame that is open, whose base has no name after it.
@@ -180,7 +160,7 @@ fn is_rendered_over_a_frame(
     alloc: Global,
     row: &Row,
     page: &Page,
-    parent: &Parent,
+    parent: &Line,
 ) -> Result<bool, Fail> {
     let before = runtime_of(alloc, parent)?;
     let base = runtime_of(alloc, parent)?;
@@ -189,21 +169,19 @@ fn is_rendered_over_a_frame(
     let (answer, after) = rendered_over_a_frame::<ChainedScopes<Around>>(
         alloc, page, data, outer, &mut sink, base,
     );
-    Ok(
-        is_told(alloc, row, &sink, &answer)?
-            && stays(alloc, row, &before, &after)?
-            && after.name().is_none(),
-    )
+    let is_told = is_told(alloc, row, &sink, &answer)?;
+    let stays = stays(alloc, row, &before, &after)?;
+    Ok(is_told && stays && after.name().is_none())
 }
 
 /// Whether the row of a line holds of both calls, whatever stands around the sandbox.
 fn holds(alloc: Global, line: &str) -> Result<bool, Fail> {
     let row = Row::of(alloc, line)?;
     let page = page(alloc, row.template())?;
-    for parent in &PARENTS {
-        if !is_rendered(alloc, &row, &page, parent)?
-            || !is_rendered_over_a_frame(alloc, &row, &page, parent)?
-        {
+    for parent in PARENTS.lines() {
+        let parent = Line::of(alloc, parent)?;
+        let is_rendered = is_rendered(alloc, &row, &page, &parent)?;
+        if !is_rendered || !is_rendered_over_a_frame(alloc, &row, &page, &parent)? {
             return Ok(false);
         }
     }
@@ -212,29 +190,40 @@ fn holds(alloc: Global, line: &str) -> Result<bool, Fail> {
 
 #[test]
 fn a_sandbox_shows_its_data_alone(rt: HostRuntime) -> Result<(), Fail> {
-    let alloc = rt.alloc();
-    for line in ROWS.lines() {
-        assert!(rt; holds(alloc, line)?, "{line}");
+    lines_hold(rt.alloc(), ROWS, holds)
+}
+
+/// How many puts a sink takes, what it took, what the name `g` is left as, and whether the call is not refused.
+const DRIPS: &str = r#"[0, "", "1", false]
+[1, "a", "1", false]
+[2, "a2", "2", true]"#;
+
+/// Whether a row of a sink holds within what stands around the sandbox.
+fn drips_within(alloc: Global, drip: &Line, page: &Page, parent: &Line) -> Result<bool, Fail> {
+    let mut runtime = runtime_of(alloc, parent)?;
+    let mut sink = Dripping::new(alloc, u64::try_from(drip.number(0)?)?);
+    let data = object_of(alloc, r#"{"b": 2}"#)?;
+    let answer = page.render_sandboxed(alloc, &mut sink, &mut runtime, data, None);
+    let left = shown(alloc, &runtime, "g")?;
+    let (took, wanted, is_whole) = (drip.text(1)?, drip.text(2)?, drip.truth(3)?);
+    Ok(sink.as_bytes() == took.as_bytes() && left.as_str() == wanted && answer.is_ok() == is_whole)
+}
+
+/// Whether a row of a sink holds, whatever stands around the sandbox.
+fn drips(alloc: Global, drip: &Line) -> Result<bool, Fail> {
+    let page = page(alloc, "{% set g 1 %}a{{ b }}{% set g 2 %}")?;
+    for parent in PARENTS.lines() {
+        let parent = Line::of(alloc, parent)?;
+        if !drips_within(alloc, drip, &page, &parent)? {
+            return Ok(false);
+        }
     }
-    Ok(())
+    Ok(true)
 }
 
 #[test]
 fn a_sink_that_fails_in_a_sandbox_keeps_what_was_assigned(rt: HostRuntime) -> Result<(), Fail> {
-    let alloc = rt.alloc();
-    let page = page(alloc, "{% set g 1 %}a{{ b }}{% set g 2 %}")?;
-    for (puts, written, left) in [(0, "", "1"), (1, "a", "1"), (2, "a2", "2")] {
-        for parent in &PARENTS {
-            let mut runtime = runtime_of(alloc, parent)?;
-            let mut sink = Dripping::new(alloc, puts);
-            let data = object_of(alloc, &[("b", Given::Number(2))])?;
-            let answer = page.render_sandboxed(alloc, &mut sink, &mut runtime, data, None);
-            assert_eq!(rt; sink.as_bytes(), written.as_bytes());
-            assert_eq!(rt; answer.is_ok(), puts == 2);
-            assert_eq!(rt; shown(alloc, &runtime, "g")?.as_str(), left);
-        }
-    }
-    Ok(())
+    rows_hold(rt.alloc(), DRIPS, drips)
 }
 
 /// Writes a stranger's template, which sees the visitor's name and nothing of the host's.
@@ -254,17 +243,15 @@ fn greeting<R: Runtime<Register = (), Store = ()>>(
 #[test]
 fn a_stranger_sees_the_visitor_and_no_secret(rt: HostRuntime) -> Result<(), Fail> {
     let alloc = rt.alloc();
-    let globals = object_of(alloc, &[("secret", Given::Number(42))])?;
-    let mut host: BuiltRuntime<(), ()> = RuntimeBuilder::new(alloc).set_globals(globals).build();
+    let mut host = given::runtime_of(alloc, r#"{"secret": 42}"#)?;
     let mut sink = TextSink::new(alloc);
     let stranger = "Hello {{ name }}!{% set visits 1 %}{{ secret }}";
     let answer = greeting(alloc, stranger, &mut host, &mut sink);
-    assert_eq!(rt; sink.as_bytes(), "Hello World!".as_bytes());
-    assert_eq!(rt;
+    same(
         error_text(alloc, &answer)?.as_str(),
-        "liquid: Unknown variable\n  with:\n    requested variable=secret\n"
-    );
-    assert_eq!(rt; shown(alloc, &host, "visits")?.as_str(), "1");
-    assert_eq!(rt; shown(alloc, &host, "secret")?.as_str(), "42");
-    Ok(())
+        "liquid: Unknown variable\n  with:\n    requested variable=secret\n",
+    )?;
+    same(sink.into_string()?.as_str(), "Hello World!")?;
+    same(shown(alloc, &host, "visits")?.as_str(), "1")?;
+    same(shown(alloc, &host, "secret")?.as_str(), "42")
 }

@@ -8,7 +8,7 @@ use liquid_core::{TextSink, render_source};
 use liquid_plugins::PluginRegistry;
 use std::alloc::{AllocError, Global};
 use std::test::Fail;
-use tests_lines::Line;
+use tests_lines::{Line, rows_hold};
 
 /// Templates, and what each comes to. A tag is asked before a block of its name, so the end of that
 /// block ends nothing, and is the tag that has its name; an end is asked before a tag of its name;
@@ -41,17 +41,17 @@ fn shared_names(
     })
 }
 
+/// Whether a template writes what its row tells, and is not refused.
+fn is_written(alloc: Global, row: &Line) -> Result<bool, Fail> {
+    let language = shared_names(alloc)?;
+    let mut runtime = runtime_of(alloc, "{}")?;
+    let mut sink = TextSink::new(alloc);
+    let answer = render_source(alloc, row.text(0)?, &language, &mut runtime, &mut sink);
+    let error = error_text(alloc, &answer)?;
+    Ok(error.is_empty() && sink.as_bytes() == row.text(1)?.as_bytes())
+}
+
 #[test]
 fn the_first_of_two_meanings_is_taken(rt: HostRuntime) -> Result<(), Fail> {
-    let alloc = rt.alloc();
-    let language = shared_names(alloc)?;
-    for line in ROWS.lines() {
-        let row = Line::of(alloc, line)?;
-        let mut runtime = runtime_of(alloc, &[])?;
-        let mut sink = TextSink::new(alloc);
-        let answer = render_source(alloc, row.text(0)?, &language, &mut runtime, &mut sink);
-        assert_eq!(rt; error_text(alloc, &answer)?.as_str(), "");
-        assert_eq!(rt; sink.as_bytes(), row.text(1)?.as_bytes(), "{line}");
-    }
-    Ok(())
+    rows_hold(rt.alloc(), ROWS, is_written)
 }

@@ -1,16 +1,14 @@
 //! Sinks: texts of any length through a writer, and the faults of sinks.
-use crate::given::{Given, error_text, runtime_of};
+use crate::given::{error_text, runtime_of};
 use bench::dripping::Dripping;
 use bench::languages::language;
-use bench::{Blocks, Filters, Tags};
 use liquid_core::model::ScalarCow;
-use liquid_core::parser::Language;
 use liquid_core::runtime::{BuiltRuntime, Runtime};
 use liquid_core::{Sink, SinkFault, TextSink, WriterSink, render_source};
 use std::alloc::Global;
 use std::io::{self, BufWriter, Write};
 use std::test::Fail;
-use tests_lines::Line;
+use tests_lines::{Line, holds, rows_hold, same};
 
 /// Takes at most a thousand bytes a write.
 #[derive(Drop)]
@@ -37,49 +35,56 @@ fn render_twice<W: Write>(alloc: Global, text: &str, writer: &mut W) -> Result<(
     source.push_str(text)?;
     let mut sink = WriterSink::new(writer);
     let language = language(alloc)?;
-    let mut runtime = runtime_of(alloc, &[("name", Given::Text("World"))])?;
+    let mut runtime = runtime_of(alloc, r#"{"name": "World"}"#)?;
     render_source(alloc, source.as_str(), &language, &mut runtime, &mut sink)?;
     let _ = sink.into_inner();
     Ok(())
 }
 
+/// Whether a list takes a text, a name's value and the text again, behind what it has.
+fn are_taken_by_a_list(alloc: Global, text: &str, wanted: &str) -> Result<bool, Fail> {
+    let mut bytes = b"> ".to_vec(alloc)?;
+    render_twice(alloc, text, &mut bytes)?;
+    let quoted = format!(in alloc; "> {wanted}")?;
+    Ok(bytes.as_slice() == quoted.as_bytes())
+}
+
+/// Whether a writer with a buffer takes them.
+fn are_taken_by_a_buffer(alloc: Global, text: &str, wanted: &str) -> Result<bool, Fail> {
+    let mut buffered = BufWriter::new(alloc, Vec::new(alloc))?;
+    render_twice(alloc, text, &mut buffered)?;
+    buffered.flush()?;
+    Ok(buffered.get_ref().as_slice() == wanted.as_bytes())
+}
+
+/// Whether a writer takes them that takes a part each time.
+fn are_taken_by_parts(alloc: Global, text: &str, wanted: &str) -> Result<bool, Fail> {
+    let mut narrow = Narrow {
+        bytes: Vec::new(alloc),
+    };
+    render_twice(alloc, text, &mut narrow)?;
+    Ok(narrow.bytes.as_slice() == wanted.as_bytes())
+}
+
+/// Lengths of texts, a row each.
+const LENGTHS: &str =
+    "[0]\n[1]\n[999]\n[1000]\n[1001]\n[4095]\n[4096]\n[4097]\n[8191]\n[8192]\n[8193]\n[100000]";
+
+/// Whether each writer takes a text of the row's length, a name's value and the text again.
+fn are_taken(alloc: Global, row: &Line) -> Result<bool, Fail> {
+    let length = usize::try_from(row.number(0)?)?;
+    let text = "0123456789abc\n".repeat(alloc, length / 14 + 1)?;
+    let text = text.as_str().get(..length).unwrap_or("");
+    let wanted = format!(in alloc; "{text}World{text}")?;
+    let by_a_list = are_taken_by_a_list(alloc, text, wanted.as_str())?;
+    let by_a_buffer = are_taken_by_a_buffer(alloc, text, wanted.as_str())?;
+    let by_parts = are_taken_by_parts(alloc, text, wanted.as_str())?;
+    Ok(by_a_list && by_a_buffer && by_parts)
+}
+
 #[test]
 fn a_writer_takes_texts_of_any_length(rt: HostRuntime) -> Result<(), Fail> {
-    let alloc = rt.alloc();
-    for length in [
-        0, 1, 999, 1000, 1001, 4095, 4096, 4097, 8191, 8192, 8193, 100_000,
-    ] {
-        let text = "0123456789abc\n".repeat(alloc, length / 14 + 1)?;
-        let text = text.as_str().get(..length).unwrap_or("");
-        let mut wanted = text.to_string(alloc)?;
-        wanted.push_str("World")?;
-        wanted.push_str(text)?;
-
-        let mut bytes = b"> ".to_vec(alloc)?;
-        render_twice(alloc, text, &mut bytes)?;
-        let quoted = format!(in alloc; "> {wanted}")?;
-        assert_eq!(rt; bytes.as_slice(), quoted.as_bytes(), "length {length}");
-
-        let mut buffered = BufWriter::new(alloc, Vec::new(alloc))?;
-        render_twice(alloc, text, &mut buffered)?;
-        buffered.flush()?;
-        assert_eq!(rt;
-            buffered.get_ref().as_slice(),
-            wanted.as_bytes(),
-            "length {length}"
-        );
-
-        let mut narrow = Narrow {
-            bytes: Vec::new(alloc),
-        };
-        render_twice(alloc, text, &mut narrow)?;
-        assert_eq!(rt;
-            narrow.bytes.as_slice(),
-            wanted.as_bytes(),
-            "length {length}"
-        );
-    }
-    Ok(())
+    rows_hold(rt.alloc(), LENGTHS, are_taken)
 }
 
 #[test]
@@ -88,34 +93,31 @@ fn a_writer_that_takes_nothing_fails(rt: HostRuntime) -> Result<(), Fail> {
     let mut room = [0; 2];
     let mut writer = &mut room[..];
     let mut sink = WriterSink::new(&mut writer);
-    assert_eq!(rt; sink.put(b"ab!"), Ok(2));
-    assert_eq!(rt; sink.put(b"!"), Err(SinkFault::Failed));
-    assert_eq!(rt; SinkFault::Failed.to_string(alloc)?.as_str(), "sink failed");
-    assert_eq!(rt;
+    holds(sink.put(b"ab!") == Ok(2), "there is room for two bytes")?;
+    holds(
+        sink.put(b"!") == Err(SinkFault::Failed),
+        "there is no room left",
+    )?;
+    same(SinkFault::Failed.to_string(alloc)?.as_str(), "sink failed")?;
+    same(
         SinkFault::Memory.to_string(alloc)?.as_str(),
-        "out of memory"
-    );
-    Ok(())
+        "out of memory",
+    )
 }
 
 #[test]
-fn bytes_that_are_no_text_are_refused(rt: HostRuntime) {
-    let alloc = rt.alloc();
-    let mut sink = TextSink::new(alloc);
-    assert_eq!(rt; sink.put(b"\xff"), Ok(1));
-    assert_eq!(rt; sink.as_bytes(), b"\xff".as_slice());
-    assert!(rt; sink.into_string().is_err());
+fn bytes_that_are_no_text_are_refused(rt: HostRuntime) -> Result<(), Fail> {
+    let mut sink = TextSink::new(rt.alloc());
+    holds(sink.put(b"\xff") == Ok(1), "any byte is taken")?;
+    holds(sink.as_bytes() == b"\xff".as_slice(), "the byte is kept")?;
+    holds(sink.into_string().is_err(), "the byte is no text")
 }
 
 /// Whether the sink takes just that of the template, and the call is refused so.
-fn drips(
-    alloc: Global,
-    drip: &Line,
-    language: &Language<Filters, Tags, Blocks>,
-    runtime: &mut BuiltRuntime<(), ()>,
-) -> Result<bool, Fail> {
+fn drips(alloc: Global, drip: &Line, runtime: &mut BuiltRuntime<(), ()>) -> Result<bool, Fail> {
+    let language = language(alloc)?;
     let mut sink = Dripping::new(alloc, u64::try_from(drip.number(0)?)?);
-    let answer = render_source(alloc, drip.text(1)?, language, runtime, &mut sink);
+    let answer = render_source(alloc, drip.text(1)?, &language, runtime, &mut sink);
     let refusal = error_text(alloc, &answer)?;
     Ok(sink.as_bytes() == drip.text(2)?.as_bytes() && refusal.as_str() == drip.text(3)?)
 }
@@ -131,16 +133,15 @@ const DRIPS: &str = r#"[0, "Hello", "", "liquid: Failed to render\n"]
 [0, "{{ x }}{{ y }}", "", ""]
 [2, "{% box %}ab{% endbox %}", "[a", "liquid: Failed to render\n"]"#;
 
+/// Whether a row holds over names whose values are empty.
+fn keeps_the_beginning(alloc: Global, drip: &Line) -> Result<bool, Fail> {
+    let mut runtime = runtime_of(alloc, r#"{"x": "", "y": null}"#)?;
+    drips(alloc, drip, &mut runtime)
+}
+
 #[test]
 fn a_sink_that_fails_keeps_the_beginning(rt: HostRuntime) -> Result<(), Fail> {
-    let alloc = rt.alloc();
-    let language = language(alloc)?;
-    for line in DRIPS.lines() {
-        let drip = Line::of(alloc, line)?;
-        let mut runtime = runtime_of(alloc, &[("x", Given::Text("")), ("y", Given::Nil)])?;
-        assert!(rt; drips(alloc, &drip, &language, &mut runtime)?, "{line}");
-    }
-    Ok(())
+    rows_hold(rt.alloc(), DRIPS, keeps_the_beginning)
 }
 
 /// The text of a name's value.
@@ -154,13 +155,14 @@ fn text_of(alloc: Global, runtime: &BuiltRuntime<(), ()>, name: &str) -> Result<
 #[test]
 fn a_sink_that_fails_keeps_what_was_assigned(rt: HostRuntime) -> Result<(), Fail> {
     let alloc = rt.alloc();
-    let language = language(alloc)?;
-    let mut runtime = runtime_of(alloc, &[])?;
+    let mut runtime = runtime_of(alloc, "{}")?;
     let drip = Line::of(
         alloc,
         r#"[1, "{% set g 1 %}ab{% set g 2 %}", "a", "liquid: Failed to render\n"]"#,
     )?;
-    assert!(rt; drips(alloc, &drip, &language, &mut runtime)?);
-    assert_eq!(rt; text_of(alloc, &runtime, "g")?.as_str(), "1");
-    Ok(())
+    holds(
+        drips(alloc, &drip, &mut runtime)?,
+        "the sink has the first byte",
+    )?;
+    same(text_of(alloc, &runtime, "g")?.as_str(), "1")
 }

@@ -1,12 +1,10 @@
 //! Templates of the program's language with what they come to, by each of the calls that render them.
-use crate::both_scopes::rendered_in;
-use crate::given::error_text;
-use crate::rows::Row;
+use crate::calls::{holds_at_once, holds_in};
+use crate::rows::{Row, lines_hold};
 use bench::forms::{Chained, Flat};
 use bench::languages::language;
 use liquid_core::parser::{Language, ParseBlock, ParseFilter, ParseTag, parse};
 use liquid_core::runtime::{Renderable, Template};
-use liquid_core::{TextSink, render_source};
 use std::alloc::Global;
 use std::test::Fail;
 
@@ -75,22 +73,6 @@ const FRAMES: &str =
 {"template": "{% sbox %}{% set x 2 %}{% endsbox %}{{ x }}", "globals": {"x": 1}, "written": "2"}
 {"template": "{% set %}", "written": "", "error": "liquid: Token expected (line 1, column 7)\n"}"#;
 
-/// Whether a row holds of `render_source`.
-fn at_once<F, T, B>(alloc: Global, row: &Row, language: &Language<F, T, B>) -> Result<bool, Fail>
-where
-    F: ParseFilter + Drop,
-    T: ParseTag<F> + Drop,
-    B: ParseBlock<F> + Drop,
-    T::Node: Renderable<()>,
-    B::Node: Renderable<()>,
-{
-    let mut runtime = row.runtime(alloc)?;
-    let mut sink = TextSink::new(alloc);
-    let answer = render_source(alloc, row.template(), language, &mut runtime, &mut sink);
-    let error = error_text(alloc, &answer)?;
-    Ok(sink.as_bytes() == row.written().as_bytes() && error.as_str() == row.error())
-}
-
 /// Whether a row holds of `parse` and `render`, which answers no text with a refusal.
 fn in_two_steps<F, T, B>(
     alloc: Global,
@@ -109,10 +91,11 @@ where
         Ok(nodes) => Template::new(nodes).render(alloc, &mut runtime),
         Err(error) => Err(error),
     };
-    match rendered {
-        Ok(text) => Ok(text.as_str() == row.written() && row.error().is_empty()),
-        Err(error) => Ok(error.to_string(alloc)?.as_str() == row.error()),
-    }
+    let (text, is_refused) = match rendered {
+        Ok(text) => (text, false),
+        Err(error) => (error.to_string(alloc)?, true),
+    };
+    Ok(row.is_answer(text.as_str(), is_refused))
 }
 
 /// Whether a row holds of `render_in` over chained scopes.
@@ -128,9 +111,7 @@ where
     T::Node: Renderable<()>,
     B::Node: Renderable<()>,
 {
-    let base = row.runtime(alloc)?;
-    let all = rendered_in::<Chained<()>, F, T, B>(alloc, row.template(), language, base)?;
-    Ok(row.is_whole(all.as_str()))
+    holds_in::<Chained<()>, F, T, B>(alloc, row, language, row.runtime(alloc)?)
 }
 
 /// Whether a row holds of `render_in` over flat scopes.
@@ -142,9 +123,7 @@ where
     T::Node: Renderable<()>,
     B::Node: Renderable<()>,
 {
-    let base = row.runtime(alloc)?;
-    let all = rendered_in::<Flat<()>, F, T, B>(alloc, row.template(), language, base)?;
-    Ok(row.is_whole(all.as_str()))
+    holds_in::<Flat<()>, F, T, B>(alloc, row, language, row.runtime(alloc)?)
 }
 
 /// Whether a row holds of each of the calls.
@@ -160,12 +139,11 @@ where
     T::Node: Renderable<()>,
     B::Node: Renderable<()>,
 {
-    Ok(
-        at_once(alloc, row, language)?
-            && in_two_steps(alloc, row, language)?
-            && over_chained(alloc, row, language)?
-            && over_flat(alloc, row, language)?,
-    )
+    let at_once = holds_at_once(alloc, row, language, row.runtime(alloc)?)?;
+    let in_two_steps = in_two_steps(alloc, row, language)?;
+    let over_chained = over_chained(alloc, row, language)?;
+    let over_flat = over_flat(alloc, row, language)?;
+    Ok(at_once && in_two_steps && over_chained && over_flat)
 }
 
 /// Whether the row of a line holds of each of the calls, where names are strict and where they are
@@ -188,14 +166,16 @@ where
     Ok(is_strict && holds_by_each(alloc, &row, language)?)
 }
 
+/// Whether the row of a line holds so of the program's language.
+fn holds_of_it(alloc: Global, line: &str) -> Result<bool, Fail> {
+    holds(alloc, line, &language(alloc)?)
+}
+
 #[test]
 fn templates_come_to_what_they_mean(rt: HostRuntime) -> Result<(), Fail> {
     let alloc = rt.alloc();
-    let language = language(alloc)?;
-    for rows in [NAMES, EXPRESSIONS, BLOCKS, FRAMES] {
-        for line in rows.lines() {
-            assert!(rt; holds(alloc, line, &language)?, "{line}");
-        }
-    }
-    Ok(())
+    lines_hold(alloc, NAMES, holds_of_it)?;
+    lines_hold(alloc, EXPRESSIONS, holds_of_it)?;
+    lines_hold(alloc, BLOCKS, holds_of_it)?;
+    lines_hold(alloc, FRAMES, holds_of_it)
 }
