@@ -87,16 +87,17 @@ fn forloop(alloc: Global, place: u64, size: u64) -> Result<Value, AllocError>
     let Some(index) = place.checked_add(1) else {
         return Err(AllocError);
     };
+    // From the last name to the first: a map is searched from its first name on, so each of these finds its place at once.
     let members = object_of(
         alloc,
         &[
-            ("first", Value::scalar(place == 0)),
-            ("index", number(index)?),
-            ("index0", number(place)?),
-            ("last", Value::scalar(index == size)),
-            ("length", number(size)?),
-            ("rindex", number(size.saturating_sub(place))?),
             ("rindex0", number(size.saturating_sub(index))?),
+            ("rindex", number(size.saturating_sub(place))?),
+            ("length", number(size)?),
+            ("last", Value::scalar(index == size)),
+            ("index0", number(place)?),
+            ("index", number(index)?),
+            ("first", Value::scalar(place == 0)),
         ],
     )?;
     Ok(Value::Object(members))

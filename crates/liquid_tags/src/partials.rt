@@ -107,7 +107,9 @@ fn trace(alloc: Global, inclusion: Inclusion, name: &str) -> Result<String, Allo
         Inclusion::Include => "include",
         Inclusion::Render => "render",
     };
-    let mut trace = String::from_str(alloc, word)?;
+    let size = word.len().saturating_add(1).saturating_add(name.len());
+    let mut trace = String::with_capacity(alloc, size)?;
+    trace.push_str(word)?;
     trace.push_str(" ")?;
     trace.push_str(name)?;
     Ok(trace)

@@ -104,6 +104,23 @@ fn registered(alloc: Global, registry: &PluginRegistry<Filters>) -> Result<Strin
     Ok(all)
 }
 
+/// The text of an answer that is a part of a template or of a language, or an error.
+fn part_shown(alloc: Global, answer: Answer<'_>) -> Result<String, AllocError> {
+    match answer {
+        Answer::Cause(cause) => cause.to_string(alloc),
+        Answer::Kept(kept) => kept.to_string(alloc),
+        Answer::Expression(expression) => expression.to_string(alloc),
+        Answer::Variable(variable) => variable.to_string(alloc),
+        Answer::Chain(chain) => chain.to_string(alloc),
+        Answer::Registry(registry) => registered(alloc, &registry),
+        Answer::Language(language) => registered(alloc, &language.filters),
+        Answer::Refused(error) => error.to_string(alloc),
+        Answer::Names(names) => joined(alloc, &names),
+        Answer::Listed(names) => listed(alloc, &names),
+        _ => Ok(String::new(alloc)),
+    }
+}
+
 /// The answer's text, or none for want of memory.
 pub fn shown(alloc: Global, answer: Answer<'_>) -> Result<Option<String>, Problem> {
     let text = match answer {
@@ -111,22 +128,13 @@ pub fn shown(alloc: Global, answer: Answer<'_>) -> Result<Option<String>, Proble
         Answer::Done => String::from_str(alloc, "done")?,
         Answer::Nothing => String::from_str(alloc, "nothing")?,
         Answer::Truth(truth) => format!(in alloc; "{truth}")?,
-        Answer::Refused(error) => error.to_string(alloc)?,
         Answer::Text(text) => text,
         Answer::Shown(text) => String::from_str(alloc, text.as_str())?,
         Answer::Value(value) => ValueSource::new(&value).to_string(alloc)?,
         Answer::Found(value) => ValueSource::new(value.as_view()).to_string(alloc)?,
         Answer::Path(path) => path.to_string(alloc)?,
-        Answer::Names(names) => joined(alloc, &names)?,
-        Answer::Listed(names) => listed(alloc, &names)?,
         Answer::Json(json) => json.to_string(alloc)?,
-        Answer::Cause(cause) => cause.to_string(alloc)?,
-        Answer::Kept(kept) => kept.to_string(alloc)?,
-        Answer::Expression(expression) => expression.to_string(alloc)?,
-        Answer::Variable(variable) => variable.to_string(alloc)?,
-        Answer::Chain(chain) => chain.to_string(alloc)?,
-        Answer::Registry(registry) => registered(alloc, &registry)?,
-        Answer::Language(language) => registered(alloc, &language.filters)?,
+        part => part_shown(alloc, part)?,
     };
     Ok(Some(text))
 }

@@ -105,34 +105,89 @@ fn expressions(alloc: Global) -> Result<Vec<Expression>, Problem> {
     Ok(expressions)
 }
 
+/// An error, a cause and an error that is kept.
+fn errors(alloc: Global) -> Result<(Error, Cause, CloneableError), Problem> {
+    let cause = CauseOf::Error(Box::new(alloc, error(alloc)?)?);
+    let kept = CloneableError::new(alloc, error(alloc)?)?;
+    Ok((error(alloc)?, cause, kept))
+}
+
+/// A list as a value.
+fn value(alloc: Global) -> Result<Value, Problem> {
+    let array = Json::from_str(alloc, r#"[1, "two", {"k": "v"}]"#)?;
+    Ok(liquid_core::to_value(alloc, &array)?)
+}
+
+/// The globals as JSON and as an object, and a list.
+fn values(alloc: Global) -> Result<(Json, Object, Value), Problem> {
+    let json = Json::from_str(alloc, GLOBALS)?;
+    Ok((json, object(alloc)?, value(alloc)?))
+}
+
+fn path(alloc: Global) -> Result<Path<'static>, Problem> {
+    let mut path = Path::with_index(alloc, "a")?;
+    path.push("b")?;
+    Ok(path)
+}
+
+/// A variable, by itself and as an expression.
+fn variables(alloc: Global) -> Result<(Variable, Expression), Problem> {
+    let variable = parse_variable(alloc, "a[i]")?;
+    let expression = Expression::Variable(parse_variable(alloc, "a[i]")?);
+    Ok((variable, expression))
+}
+
+/// A name, a member and a date time.
+fn alone(alloc: Global) -> Result<(String, Value, DateTime), Problem> {
+    let moment = DateTime::from_ymd(2016, 2, 16)?;
+    Ok((text(alloc, "n")?, Value::scalar(text(alloc, "m")?), moment))
+}
+
+/// What calls put into an object and an array.
+fn members(alloc: Global) -> Result<(Vec<(String, Value)>, Vec<Value>), Problem> {
+    let pairs = pairs(alloc)?;
+    Ok((pairs, items(alloc)?))
+}
+
+/// What calls put into a path and a variable.
+fn steps(alloc: Global) -> Result<(Vec<ScalarCow<'static>>, Vec<Expression>), Problem> {
+    let indexes = indexes(alloc)?;
+    Ok((indexes, expressions(alloc)?))
+}
+
 impl Given {
+    /// Each part is made by a function of its own: a check costs with what is held where a call may be refused.
     pub fn new(alloc: Global) -> Result<Given, Problem> {
-        let cause = CauseOf::Error(Box::new(alloc, error(alloc)?)?);
-        let kept = CloneableError::new(alloc, error(alloc)?)?;
-        let array = Json::from_str(alloc, r#"[1, "two", {"k": "v"}]"#)?;
-        let value = liquid_core::to_value(alloc, &array)?;
-        let mut path = Path::with_index(alloc, "a")?;
-        path.push("b")?;
+        let errors = errors(alloc)?;
+        let values = values(alloc)?;
+        let path = path(alloc)?;
+        let variables = variables(alloc)?;
+        let alone = alone(alloc)?;
+        let members = members(alloc)?;
+        let steps = steps(alloc)?;
+        let chain = chain(alloc)?;
+        let language = language(alloc)?;
+        let runtime = runtime(alloc)?;
         Ok(Given {
-            error: error(alloc)?,
-            cause,
-            kept,
-            text: text(alloc, "n")?,
-            member: Value::scalar(text(alloc, "m")?),
-            json: Json::from_str(alloc, GLOBALS)?,
-            object: object(alloc)?,
-            value,
-            moment: DateTime::from_ymd(2016, 2, 16)?,
+            error: errors.0,
+            cause: errors.1,
+            kept: errors.2,
+            text: alone.0,
+            member: alone.1,
+            json: values.0,
+            object: values.1,
+            value: values.2,
+            moment: alone.2,
             path,
-            variable: parse_variable(alloc, "a[i]")?,
-            expression: Expression::Variable(parse_variable(alloc, "a[i]")?),
-            pairs: pairs(alloc)?,
-            items: items(alloc)?,
-            indexes: indexes(alloc)?,
-            expressions: expressions(alloc)?,
-            chain: chain(alloc)?,
-            language: language(alloc)?,
-            runtime: runtime(alloc)?,
+            variable: variables.0,
+            expression: variables.1,
+            pairs: members.0,
+            items: members.1,
+            indexes: steps.0,
+            expressions: steps.1,
+            chain,
+            language,
+            runtime,
         })
     }
 

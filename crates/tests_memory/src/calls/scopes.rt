@@ -158,19 +158,35 @@ fn seek(alloc: Global, base: Built, boxes: usize) -> Result<Seen, Problem> {
     })
 }
 
-/// Makes a call of scopes behind so many boxes, and then once more.
-pub fn tried(alloc: Global, word: &str, boxes: usize) -> Result<Seen, Problem> {
-    let base = runtime(alloc)?;
+/// Makes a call of chained scopes behind so many boxes, and then once more.
+fn chained(alloc: Global, base: Built, word: &str, boxes: usize) -> Result<Seen, Problem> {
     match word {
         "chained_push" => push::<Chained<()>>(alloc, base, boxes),
-        "flat_push" => push::<Flat<()>>(alloc, base, boxes),
         "chained_set_global" => sets::<Chained<()>>(alloc, base, "global", boxes),
         "chained_set_index" => sets::<Chained<()>>(alloc, base, "index", boxes),
+        "chained_roots" => roots::<Chained<()>>(alloc, base, boxes),
+        _ => Err(Problem::Case),
+    }
+}
+
+/// Makes a call of flat scopes behind so many boxes, and then once more.
+fn flat(alloc: Global, base: Built, word: &str, boxes: usize) -> Result<Seen, Problem> {
+    match word {
+        "flat_push" => push::<Flat<()>>(alloc, base, boxes),
         "flat_set_global" => sets::<Flat<()>>(alloc, base, "global", boxes),
         "flat_set_index" => sets::<Flat<()>>(alloc, base, "index", boxes),
-        "chained_roots" => roots::<Chained<()>>(alloc, base, boxes),
         "flat_roots" => roots::<Flat<()>>(alloc, base, boxes),
         "flat_seek" => seek(alloc, base, boxes),
         _ => Err(Problem::Case),
+    }
+}
+
+/// Makes a call of scopes behind so many boxes, and then once more.
+pub fn tried(alloc: Global, word: &str, boxes: usize) -> Result<Seen, Problem> {
+    let base = runtime(alloc)?;
+    if word.starts_with("chained") {
+        chained(alloc, base, word, boxes)
+    } else {
+        flat(alloc, base, word, boxes)
     }
 }

@@ -61,29 +61,50 @@ fn of_growing<'g>(alloc: Global, word: &str, given: &'g mut Given, member: Value
     Ok(Answer::Done)
 }
 
-/// Makes a call of values.
-pub fn call<'g>(alloc: Global, word: &str, given: &'g mut Given) -> Answered<'g> {
-    let member = std::mem::replace(&mut given.member, Value::Nil);
+/// The calls that look into an object, or make one.
+fn of_objects<'g>(alloc: Global, word: &str, given: &'g Given) -> Answered<'g> {
     match word {
-        "clone" => Ok(Answer::Value(Value::clone(&given.value)?)),
-        "into_owned" => Ok(Answer::Value(ValueCow::into_owned(ValueCow::Borrowed(&given.value))?)),
-        "to_value" => Ok(Answer::Value(ValueView::to_value(&given.value, alloc)?)),
-        "cow_clone" => Ok(Answer::Found(ValueCow::clone(&ValueCow::Owned(member))?)),
+        "object_of" => Ok(Answer::Value(Value::Object(object_of(alloc, &[("k", 1i64)])?))),
+        "keys" => Ok(Answer::Listed(ObjectView::keys(&given.object, alloc)?)),
+        _ => match ObjectView::lookup(&given.object, alloc, "a")? {
+            Some(value) => Ok(Answer::Found(value)),
+            None => Ok(Answer::Nothing),
+        },
+    }
+}
+
+/// The calls that make an array.
+fn of_arrays<'g>(alloc: Global, word: &str, given: &'g mut Given) -> Answered<'g> {
+    match word {
         "array" => {
             let items = std::mem::replace(&mut given.items, Vec::new(alloc));
             Ok(Answer::Value(Value::array(alloc, items.into_iter())?))
         }
-        "to_kstr" => Ok(Answer::Shown(Value::to_kstr(&given.value, alloc)?)),
-        "array_of" => Ok(Answer::Value(Value::Array(array_of(alloc, &["a", "b"])?))),
-        "object_of" => Ok(Answer::Value(Value::Object(object_of(alloc, &[("k", 1i64)])?))),
-        "lookup" => match ObjectView::lookup(&given.object, alloc, "a")? {
-            Some(value) => Ok(Answer::Found(value)),
-            None => Ok(Answer::Nothing),
-        },
-        "keys" => Ok(Answer::Listed(ObjectView::keys(&given.object, alloc)?)),
+        _ => Ok(Answer::Value(Value::Array(array_of(alloc, &["a", "b"])?))),
+    }
+}
+
+/// The calls that copy a value, or show its text.
+fn of_copies<'g>(alloc: Global, word: &str, given: &'g Given) -> Answered<'g> {
+    match word {
+        "clone" => Ok(Answer::Value(Value::clone(&given.value)?)),
+        "into_owned" => Ok(Answer::Value(ValueCow::into_owned(ValueCow::Borrowed(&given.value))?)),
+        "to_value" => Ok(Answer::Value(ValueView::to_value(&given.value, alloc)?)),
+        _ => Ok(Answer::Shown(Value::to_kstr(&given.value, alloc)?)),
+    }
+}
+
+/// Makes a call of values.
+pub fn call<'g>(alloc: Global, word: &str, given: &'g mut Given) -> Answered<'g> {
+    let member = std::mem::replace(&mut given.member, Value::Nil);
+    match word {
+        "clone" | "into_owned" | "to_value" | "to_kstr" => of_copies(alloc, word, given),
+        "array" | "array_of" => of_arrays(alloc, word, given),
+        "object_of" | "lookup" | "keys" => of_objects(alloc, word, given),
         "insert" | "object_extend" | "array_push" | "array_extend" => {
             of_growing(alloc, word, given, member)
         }
+        "cow_clone" => Ok(Answer::Found(ValueCow::clone(&ValueCow::Owned(member))?)),
         _ => of_scalars(alloc, word, member),
     }
 }
