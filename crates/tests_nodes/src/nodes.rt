@@ -75,28 +75,39 @@ fn number(step: &Json, place: usize) -> Result<i64, Fail> {
     }
 }
 
+/// The tag of a step, if it is one.
+fn tag(alloc: Global, step: &Json) -> Result<Option<TagNode>, Fail> {
+    match word(step, 0)? {
+        "set" => {
+            let name = text(alloc, word(step, 1)?)?;
+            Ok(Some(TagNode::Set(name, literal(alloc, number(step, 2)?)?)))
+        }
+        "inc" => Ok(Some(TagNode::Inc(text(alloc, word(step, 1)?)?))),
+        "brk" => Ok(Some(TagNode::Brk)),
+        _ => Ok(None),
+    }
+}
+
+/// The tag that writes what a sandbox hides.
+fn leak(alloc: Global, step: &Json) -> Result<LeakyTagNode, Fail> {
+    let name = text(alloc, word(step, 1)?)?;
+    Ok(LeakyTagNode::Leak(name, literal(alloc, number(step, 2)?)?))
+}
+
 /// A node without parts, or none for a step that has to do with parts.
 fn leaf(alloc: Global, step: &Json) -> Result<Option<Element>, Fail> {
-    let tag = match word(step, 0)? {
-        "text" => return Ok(Some(written(alloc, word(step, 1)?)?)),
+    match word(step, 0)? {
+        "text" => Ok(Some(written(alloc, word(step, 1)?)?)),
         "shown" => {
-            let chain = FilterChain::new(variable(alloc, word(step, 1)?)?, Vec::new(alloc));
-            return Ok(Some(Node::Chain(chain)));
+            let name = variable(alloc, word(step, 1)?)?;
+            Ok(Some(Node::Chain(FilterChain::new(name, Vec::new(alloc)))))
         }
-        "leak" => {
-            let name = text(alloc, word(step, 1)?)?;
-            let leak = LeakyTagNode::Leak(name, literal(alloc, number(step, 2)?)?);
-            return Ok(Some(Node::Tag(leak)));
-        }
-        "set" => TagNode::Set(
-            text(alloc, word(step, 1)?)?,
-            literal(alloc, number(step, 2)?)?,
-        ),
-        "inc" => TagNode::Inc(text(alloc, word(step, 1)?)?),
-        "brk" => TagNode::Brk,
-        _ => return Ok(None),
-    };
-    Ok(Some(Node::Tag(LeakyTagNode::Plain(tag))))
+        "leak" => Ok(Some(Node::Tag(leak(alloc, step)?))),
+        _ => match tag(alloc, step)? {
+            Some(tag) => Ok(Some(Node::Tag(LeakyTagNode::Plain(tag)))),
+            None => Ok(None),
+        },
+    }
 }
 
 /// What a `with` binds: the number of its step, or the value of the name that stands there.

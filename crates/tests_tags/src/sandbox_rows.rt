@@ -15,7 +15,7 @@ use liquid_tags::{BlockNode, Blocks, TagNode, Tags};
 use std::alloc::{AllocError, Global};
 use std::rc::Rc;
 use std::test::Fail;
-use tests_lines::Line;
+use tests_lines::{Line, rows_hold};
 
 /// The page of each row. It is given `s`, which is 3.
 const PAGE: &str = r#"{% for i in (1..2) %}{% include "b" %}{% endfor %}{% assign g = s %}"#;
@@ -125,18 +125,19 @@ where
 }
 
 /// Whether a row holds of both calls and both forms of scopes, over either parent, each with a store of its own.
-fn holds_over<P>(alloc: Global, row: &Line, page: &Page, stores: [P; 6]) -> Result<bool, Fail>
+fn holds_over<P, M>(alloc: Global, row: &Line, page: &Page, store: M) -> Result<bool, Fail>
 where
     P: PartialStore<AnyFilter, TagNode<AnyFilter>, BlockNode> + Drop,
+    M: Fn(Global) -> Result<P, AllocError>,
+    requires { M.IsAlwaysCallable store }
 {
-    let [first, second, third, fourth, fifth, sixth] = stores;
-    let at_once = holds_at_once(alloc, row, page, first, true)?;
-    let at_once_empty = holds_at_once(alloc, row, page, second, false)?;
-    let chained = holds_in::<ChainedScopes<Over<P>>, P>(alloc, row, page, third, true)?;
-    let chained_empty = holds_in::<ChainedScopes<Over<P>>, P>(alloc, row, page, fourth, false)?;
-    let flat = holds_in::<FlatScopes<Over<P>>, P>(alloc, row, page, fifth, true)?;
-    let flat_empty = holds_in::<FlatScopes<Over<P>>, P>(alloc, row, page, sixth, false)?;
-    Ok(at_once && at_once_empty && chained && chained_empty && flat && flat_empty)
+    let at_once = holds_at_once(alloc, row, page, store(alloc)?, true)?
+        && holds_at_once(alloc, row, page, store(alloc)?, false)?;
+    let chained = holds_in::<ChainedScopes<Over<P>>, P>(alloc, row, page, store(alloc)?, true)?
+        && holds_in::<ChainedScopes<Over<P>>, P>(alloc, row, page, store(alloc)?, false)?;
+    let flat = holds_in::<FlatScopes<Over<P>>, P>(alloc, row, page, store(alloc)?, true)?
+        && holds_in::<FlatScopes<Over<P>>, P>(alloc, row, page, store(alloc)?, false)?;
+    Ok(at_once && chained && flat)
 }
 
 fn lazy(
@@ -163,41 +164,24 @@ fn on_demand(
     OnDemandCompiler::new(source(alloc, partial)?).compile(alloc, language.clone()?)
 }
 
+/// Whether a row holds of each kind of store.
+fn holds(alloc: Global, row: &Line) -> Result<bool, Fail> {
+    let language = the_language(alloc)?;
+    let page = page(alloc, &language)?;
+    let partial = row.text(0)?;
+    Ok(
+        holds_over(alloc, row, &page, |alloc| lazy(alloc, &language, partial))?
+            && holds_over(alloc, row, &page, |alloc| eager(alloc, &language, partial))?
+            && holds_over(
+                alloc,
+                row,
+                &page,
+                |alloc| on_demand(alloc, &language, partial),
+            )?,
+    )
+}
+
 #[test]
 fn a_sandbox_is_isolated(rt: HostRuntime) -> Result<(), Fail> {
-    let alloc = rt.alloc();
-    let l = the_language(alloc)?;
-    let page = page(alloc, &l)?;
-    for line in ROWS.lines() {
-        let row = Line::of(alloc, line)?;
-        let p = row.text(0)?;
-        let stores = [
-            lazy(alloc, &l, p)?,
-            lazy(alloc, &l, p)?,
-            lazy(alloc, &l, p)?,
-            lazy(alloc, &l, p)?,
-            lazy(alloc, &l, p)?,
-            lazy(alloc, &l, p)?,
-        ];
-        assert!(rt; holds_over(alloc, &row, &page, stores)?, "{line}");
-        let stores = [
-            eager(alloc, &l, p)?,
-            eager(alloc, &l, p)?,
-            eager(alloc, &l, p)?,
-            eager(alloc, &l, p)?,
-            eager(alloc, &l, p)?,
-            eager(alloc, &l, p)?,
-        ];
-        assert!(rt; holds_over(alloc, &row, &page, stores)?, "{line}");
-        let stores = [
-            on_demand(alloc, &l, p)?,
-            on_demand(alloc, &l, p)?,
-            on_demand(alloc, &l, p)?,
-            on_demand(alloc, &l, p)?,
-            on_demand(alloc, &l, p)?,
-            on_demand(alloc, &l, p)?,
-        ];
-        assert!(rt; holds_over(alloc, &row, &page, stores)?, "{line}");
-    }
-    Ok(())
+    rows_hold(rt.alloc(), ROWS, |alloc, row| holds(alloc, row))
 }

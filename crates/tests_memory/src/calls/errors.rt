@@ -47,17 +47,24 @@ fn of_results<'g>(alloc: Global, word: &str, error: Error) -> Answered<'g> {
     Ok(Answer::Done)
 }
 
-/// Makes a call of errors.
-pub fn call<'g>(alloc: Global, word: &str, given: &'g mut Given) -> Answered<'g> {
-    let error = std::mem::replace(&mut given.error, Error::Memory);
-    let place = Place { line: 1, column: 2 };
+/// The calls that make an error.
+fn of_new<'g>(alloc: Global, word: &str, given: &'g mut Given) -> Answered<'g> {
     match word {
         "with_msg" => Ok(Answer::from(Error::with_msg(alloc, "m"))),
         "with_text" => {
             let text = std::mem::replace(&mut given.text, String::new(alloc));
             Ok(Answer::from(Error::with_text(alloc, text)))
         }
-        "at_place" => Ok(Answer::from(Error::at_place(alloc, "m", place))),
+        _ => {
+            let place = Place { line: 1, column: 2 };
+            Ok(Answer::from(Error::at_place(alloc, "m", place)))
+        }
+    }
+}
+
+/// The calls that add to an error.
+fn of_changes<'g>(alloc: Global, word: &str, given: &'g mut Given, error: Error) -> Answered<'g> {
+    match word {
         "trace" => Ok(Answer::from(Error::trace(error, alloc, "t"))),
         "context" => Ok(Answer::from(Error::context(error, alloc, "k", "v"))),
         "cause" => {
@@ -67,12 +74,33 @@ pub fn call<'g>(alloc: Global, word: &str, given: &'g mut Given) -> Answered<'g>
             );
             Ok(Answer::from(Error::cause(error, cause)))
         }
-        "or_place" => Ok(Answer::from(Error::or_place(error, place))),
+        _ => {
+            let place = Place { line: 1, column: 2 };
+            Ok(Answer::from(Error::or_place(error, place)))
+        }
+    }
+}
+
+/// The calls that copy an error, or keep it.
+fn of_copies<'g>(alloc: Global, word: &str, given: &'g Given, error: Error) -> Answered<'g> {
+    match word {
         "clone" => Ok(Answer::from(Error::clone(&error)?)),
         "clone_report" => cloned_report(error),
         "clone_cause" => Ok(Answer::Cause(Cause::clone(&given.cause)?)),
         "clone_kept" => Ok(Answer::Kept(CloneableError::clone(&given.kept)?)),
-        "kept" => Ok(Answer::Kept(CloneableError::new(alloc, error)?)),
+        _ => Ok(Answer::Kept(CloneableError::new(alloc, error)?)),
+    }
+}
+
+/// Makes a call of errors.
+pub fn call<'g>(alloc: Global, word: &str, given: &'g mut Given) -> Answered<'g> {
+    let error = std::mem::replace(&mut given.error, Error::Memory);
+    match word {
+        "with_msg" | "with_text" | "at_place" => of_new(alloc, word, given),
+        "trace" | "context" | "cause" | "or_place" => of_changes(alloc, word, given, error),
+        "clone" | "clone_report" | "clone_cause" | "clone_kept" | "kept" => {
+            of_copies(alloc, word, given, error)
+        }
         _ => of_results(alloc, word, error),
     }
 }

@@ -18,26 +18,32 @@ pub fn wanted(word: &str) -> &'static str {
     }
 }
 
-/// Makes a call of paths.
-pub fn call<'g>(alloc: Global, word: &str, given: &'g mut Given) -> Answered<'g> {
-    let size = ScalarCow::from("size");
-    let x = ScalarCow::from("x");
-    let found = match word {
-        "with_index" => return Ok(Answer::Path(Path::with_index(alloc, "a")?)),
+/// The calls that make a path, or add to it.
+fn of_paths<'g>(alloc: Global, word: &str, given: &'g mut Given) -> Answered<'g> {
+    match word {
+        "with_index" => Ok(Answer::Path(Path::with_index(alloc, "a")?)),
         "push" => {
             Path::push(&mut given.path, "c")?;
-            return Ok(Answer::Done);
+            Ok(Answer::Done)
         }
         "reserve" => {
             Path::reserve(&mut given.path, 100)?;
-            return Ok(Answer::Done);
+            Ok(Answer::Done)
         }
         "extend" => {
             let indexes = std::mem::replace(&mut given.indexes, Vec::new(alloc));
             Path::extend(&mut given.path, indexes)?;
-            return Ok(Answer::Done);
+            Ok(Answer::Done)
         }
-        "clone" => return Ok(Answer::Path(Path::clone(&given.path)?)),
+        _ => Ok(Answer::Path(Path::clone(&given.path)?)),
+    }
+}
+
+/// The calls that go along a path.
+fn of_walks<'g>(alloc: Global, word: &str, given: &'g Given) -> Answered<'g> {
+    let size = ScalarCow::from("size");
+    let x = ScalarCow::from("x");
+    let found = match word {
         "step" => step(alloc, &given.value, &size)?,
         "try_find" => try_find(alloc, &given.value, &[size])?,
         "find" => Some(find(alloc, &given.value, &[ScalarCow::from(2i64), x])?),
@@ -46,5 +52,13 @@ pub fn call<'g>(alloc: Global, word: &str, given: &'g mut Given) -> Answered<'g>
     match found {
         Some(value) => Ok(Answer::Found(value)),
         None => Ok(Answer::Nothing),
+    }
+}
+
+/// Makes a call of paths.
+pub fn call<'g>(alloc: Global, word: &str, given: &'g mut Given) -> Answered<'g> {
+    match word {
+        "step" | "try_find" | "find" | "find_behind" => of_walks(alloc, word, given),
+        _ => of_paths(alloc, word, given),
     }
 }

@@ -53,23 +53,31 @@ fn stands<R: Runtime>(
     Ok(frames && left)
 }
 
+/// What a call over a built runtime came to, which was given these globals.
+fn came_to<R: Runtime>(
+    alloc: Global,
+    row: &Row,
+    runtime: &R,
+    globals: &Object,
+    sink: &TextSink,
+    answer: &Result<(), Error>,
+) -> Result<Told, Problem> {
+    let stands = stands(alloc, row, runtime, globals, answer.is_ok())?;
+    rendered(alloc, row, sink, answer, stands)
+}
+
 /// Renders over the row's globals, and then once more.
 pub fn plainly(alloc: Global, row: &Row, boxes: usize) -> Result<Seen, Problem> {
-    let language = shared_language(alloc)?;
-    let page = page(alloc, row, &language)?;
-    let store = lazy_store(alloc, row, &language)?;
-    let mut runtime = row.runtime(alloc, row.globals(alloc)?, store);
+    let (page, mut runtime) = made(alloc, row, row.globals(alloc)?)?;
     let mut sink = TextSink::new(alloc);
     let before = taken(alloc, boxes);
     let answer = page.render_to(alloc, &mut sink, &mut runtime);
     let after = taken(alloc, MOST);
     let globals = row.globals(alloc)?;
-    let stands_first = stands(alloc, row, &runtime, &globals, answer.is_ok())?;
-    let first = rendered(alloc, row, &sink, &answer, stands_first)?;
+    let first = came_to(alloc, row, &runtime, &globals, &sink, &answer)?;
     let mut sink = TextSink::new(alloc);
     let answer = page.render_to(alloc, &mut sink, &mut runtime);
-    let stands_next = stands(alloc, row, &runtime, &globals, answer.is_ok())?;
-    let next = rendered(alloc, row, &sink, &answer, stands_next)?;
+    let next = came_to(alloc, row, &runtime, &globals, &sink, &answer)?;
     Ok(Seen {
         before,
         after,
@@ -80,22 +88,17 @@ pub fn plainly(alloc: Global, row: &Row, boxes: usize) -> Result<Seen, Problem> 
 
 /// Renders in a sandbox that sees the row's globals, within other globals, and then once more.
 pub fn in_a_sandbox(alloc: Global, row: &Row, boxes: usize) -> Result<Seen, Problem> {
-    let language = shared_language(alloc)?;
-    let page = page(alloc, row, &language)?;
-    let store = lazy_store(alloc, row, &language)?;
-    let mut parent = row.runtime(alloc, row.parent(alloc)?, store);
+    let (page, mut parent) = made(alloc, row, row.parent(alloc)?)?;
     let (data, more) = (row.globals(alloc)?, row.globals(alloc)?);
     let mut sink = TextSink::new(alloc);
     let before = taken(alloc, boxes);
     let answer = page.render_sandboxed(alloc, &mut sink, &mut parent, data, Some("page"));
     let after = taken(alloc, MOST);
     let around = row.parent(alloc)?;
-    let stands_first = stands(alloc, row, &parent, &around, answer.is_ok())?;
-    let first = rendered(alloc, row, &sink, &answer, stands_first)?;
+    let first = came_to(alloc, row, &parent, &around, &sink, &answer)?;
     let mut sink = TextSink::new(alloc);
     let answer = page.render_sandboxed(alloc, &mut sink, &mut parent, more, Some("page"));
-    let stands_next = stands(alloc, row, &parent, &around, answer.is_ok())?;
-    let next = rendered(alloc, row, &sink, &answer, stands_next)?;
+    let next = came_to(alloc, row, &parent, &around, &sink, &answer)?;
     Ok(Seen {
         before,
         after,
@@ -173,20 +176,24 @@ where
     answer
 }
 
-/// The row's template, and a runtime of its globals over a lazy store.
-fn made(alloc: Global, row: &Row) -> Result<(Page, BuiltRuntime<(), Lazy>), Problem> {
+/// The row's template, and a runtime of globals over a lazy store.
+fn made(
+    alloc: Global,
+    row: &Row,
+    globals: Object,
+) -> Result<(Page, BuiltRuntime<(), Lazy>), Problem> {
     let language = shared_language(alloc)?;
     let page = page(alloc, row, &language)?;
     let store = lazy_store(alloc, row, &language)?;
-    Ok((page, row.runtime(alloc, row.globals(alloc)?, store)))
+    Ok((page, row.runtime(alloc, globals, store)))
 }
 
 pub fn over_chained(alloc: Global, row: &Row, boxes: usize) -> Result<Seen, Problem> {
-    let (page, base) = made(alloc, row)?;
+    let (page, base) = made(alloc, row, row.globals(alloc)?)?;
     framed::<Chained<Lazy>>(alloc, row, &page, base, boxes)
 }
 
 pub fn over_flat(alloc: Global, row: &Row, boxes: usize) -> Result<Seen, Problem> {
-    let (page, base) = made(alloc, row)?;
+    let (page, base) = made(alloc, row, row.globals(alloc)?)?;
     framed::<Flat<Lazy>>(alloc, row, &page, base, boxes)
 }
