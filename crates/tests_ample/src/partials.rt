@@ -69,17 +69,29 @@ where
     Ok(format!(in alloc; "{names} {shown} {is_there}")?)
 }
 
+fn asked_eagerly(alloc: Global) -> Result<String, Fail> {
+    let compiler = EagerCompiler::new(source(alloc)?);
+    let mut store: Eager = PartialCompiler::compile(compiler, alloc, shared(alloc)?)?;
+    asked(alloc, &mut store)
+}
+
+fn asked_lazily(alloc: Global) -> Result<String, Fail> {
+    let compiler = LazyCompiler::new(source(alloc)?);
+    let mut store: Lazy = PartialCompiler::compile(compiler, alloc, shared(alloc)?)?;
+    asked(alloc, &mut store)
+}
+
+fn asked_on_demand(alloc: Global) -> Result<String, Fail> {
+    let compiler = OnDemandCompiler::new(source(alloc)?);
+    let mut store: OnDemand = PartialCompiler::compile(compiler, alloc, shared(alloc)?)?;
+    asked(alloc, &mut store)
+}
+
 #[test]
 fn each_store_answers(rt: HostRuntime) -> Result<(), Fail> {
     let alloc = rt.alloc();
-    let compiler = EagerCompiler::new(source(alloc)?);
-    let mut eager: Eager = PartialCompiler::compile(compiler, alloc, shared(alloc)?)?;
-    let compiler = LazyCompiler::new(source(alloc)?);
-    let mut lazy: Lazy = PartialCompiler::compile(compiler, alloc, shared(alloc)?)?;
-    let compiler = OnDemandCompiler::new(source(alloc)?);
-    let mut on_demand: OnDemand = PartialCompiler::compile(compiler, alloc, shared(alloc)?)?;
-    assert_eq!(rt; asked(alloc, &mut eager)?.as_str(), "p P false");
-    assert_eq!(rt; asked(alloc, &mut lazy)?.as_str(), "p P false");
-    assert_eq!(rt; asked(alloc, &mut on_demand)?.as_str(), "p P false");
+    assert_eq!(rt; asked_eagerly(alloc)?.as_str(), "p P false");
+    assert_eq!(rt; asked_lazily(alloc)?.as_str(), "p P false");
+    assert_eq!(rt; asked_on_demand(alloc)?.as_str(), "p P false");
     Ok(())
 }

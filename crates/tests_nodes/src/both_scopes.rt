@@ -8,7 +8,7 @@ use liquid_runtime::{BuiltRuntime, RuntimeBuilder, Scopes};
 use liquid_template::PartialStore;
 use std::alloc::Global;
 use std::test::Fail;
-use tests_lines::Line;
+use tests_lines::{Line, rows_hold};
 
 /// What nodes write over scopes of one form, with the error's text behind it.
 fn whole<S>(alloc: Global, nodes: Vec<Element>, base: S::Base) -> Result<String, Fail>
@@ -54,17 +54,19 @@ fn holds_with_partial(alloc: Global, row: &Line, lenient: bool) -> Result<bool, 
     Ok(chained.as_str() == expected && flat.as_str() == expected)
 }
 
+/// Whether a row holds where names are strict and where they are lenient.
+fn holds_always(alloc: Global, row: &Line) -> Result<bool, Fail> {
+    Ok(holds(alloc, row, false)? && holds(alloc, row, true)?)
+}
+
+/// The same of a row with a partial.
+fn holds_always_with_partial(alloc: Global, row: &Line) -> Result<bool, Fail> {
+    Ok(holds_with_partial(alloc, row, false)? && holds_with_partial(alloc, row, true)?)
+}
+
 #[test]
 fn nodes_are_the_same_over_both_forms(rt: HostRuntime) -> Result<(), Fail> {
     let alloc = rt.alloc();
-    for lenient in [false, true] {
-        for line in ROWS.lines() {
-            assert!(rt; holds(alloc, &Line::of(alloc, line)?, lenient)?, "{line}");
-        }
-        for line in PARTIAL_ROWS.lines() {
-            let row = Line::of(alloc, line)?;
-            assert!(rt; holds_with_partial(alloc, &row, lenient)?, "{line}");
-        }
-    }
-    Ok(())
+    rows_hold(alloc, ROWS, holds_always)?;
+    rows_hold(alloc, PARTIAL_ROWS, holds_always_with_partial)
 }

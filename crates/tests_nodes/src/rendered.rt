@@ -13,7 +13,7 @@ use serde_json::Value as Json;
 use std::alloc::{AllocError, Global};
 use std::rc::Rc;
 use std::test::Fail;
-use tests_lines::Line;
+use tests_lines::{Line, holds as holds_so, rows_hold, same};
 
 /// A runtime without globals and without partials.
 fn runtime(alloc: Global) -> BuiltRuntime<(), ()> {
@@ -71,18 +71,21 @@ pub(crate) fn expected(row: &Line, lenient: bool) -> Result<&str, Fail> {
     }
 }
 
+/// Whether a row holds where names are strict, or where they are lenient.
+fn is_rendered(alloc: Global, row: &Line, lenient: bool) -> Result<bool, Fail> {
+    let mut runtime = runtime_of(alloc, lenient);
+    let all = rendered(alloc, nodes(alloc, row.list(0)?)?, &mut runtime)?;
+    Ok(all.as_str() == expected(row, lenient)?)
+}
+
+/// Whether a row holds of both.
+fn holds(alloc: Global, row: &Line) -> Result<bool, Fail> {
+    Ok(is_rendered(alloc, row, false)? && is_rendered(alloc, row, true)?)
+}
+
 #[test]
 fn tags_and_blocks_are_rendered(rt: HostRuntime) -> Result<(), Fail> {
-    let alloc = rt.alloc();
-    for line in ROWS.lines() {
-        let row = Line::of(alloc, line)?;
-        for lenient in [false, true] {
-            let mut runtime = runtime_of(alloc, lenient);
-            let all = rendered(alloc, nodes(alloc, row.list(0)?)?, &mut runtime)?;
-            assert_eq!(rt; all.as_str(), expected(&row, lenient)?, "{line}");
-        }
-    }
-    Ok(())
+    rows_hold(rt.alloc(), ROWS, holds)
 }
 
 type Store = OnePartial<Same, LeakyTagNode, BlockNode>;
@@ -103,70 +106,106 @@ pub(crate) const PARTIAL_ROWS: &str =
 [[["text", "x"], ["inc", "p"]], [["inc", "q"]], 0, "liquid: Partials nest too deep\n"]
 [[["shown", "x"], ["set", "x", 2]], [["set", "x", 1], ["inc", "p"], ["shown", "x"]], 3, "12"]"#;
 
+/// A runtime over the partial of a row, which may be open as often inside itself as the row says.
+fn runtime_over(alloc: Global, row: &Line, lenient: bool) -> Result<BuiltRuntime<(), Store>, Fail> {
+    let depth = u32::try_from(row.number(2)?)?;
+    Ok(
+        RuntimeBuilder::new(alloc)
+            .set_partials(store(alloc, row.list(0)?)?)
+            .set_depth(depth)
+            .set_lenient(lenient)
+            .build(),
+    )
+}
+
+/// Whether a row with a partial holds where names are strict, or where they are lenient.
+fn is_rendered_with_partial(alloc: Global, row: &Line, lenient: bool) -> Result<bool, Fail> {
+    let mut runtime = runtime_over(alloc, row, lenient)?;
+    let all = rendered(alloc, nodes(alloc, row.list(1)?)?, &mut runtime)?;
+    Ok(all.as_str() == row.text(3)?)
+}
+
+/// Whether a row with a partial holds of both.
+fn holds_with_partial(alloc: Global, row: &Line) -> Result<bool, Fail> {
+    Ok(is_rendered_with_partial(alloc, row, false)? && is_rendered_with_partial(alloc, row, true)?)
+}
+
 #[test]
 fn partials_are_rendered_without_a_frame(rt: HostRuntime) -> Result<(), Fail> {
-    let alloc = rt.alloc();
-    for line in PARTIAL_ROWS.lines() {
-        let row = Line::of(alloc, line)?;
-        for lenient in [false, true] {
-            let mut runtime: BuiltRuntime<(), Store> = RuntimeBuilder::new(alloc)
-                .set_partials(store(alloc, row.list(0)?)?)
-                .set_depth(u32::try_from(row.number(2)?)?)
-                .set_lenient(lenient)
-                .build();
-            let all = rendered(alloc, nodes(alloc, row.list(1)?)?, &mut runtime)?;
-            assert_eq!(rt; all.as_str(), row.text(3)?, "{line}");
-        }
-    }
-    Ok(())
+    rows_hold(rt.alloc(), PARTIAL_ROWS, holds_with_partial)
 }
 
 #[test]
 fn no_partial_is_found_where_there_are_none(rt: HostRuntime) -> Result<(), Fail> {
     let alloc = rt.alloc();
-    let without = rendered(
+    writes(
         alloc,
-        nodes_in(alloc, r#"[["inc", "p"]]"#)?,
+        r#"[["inc", "p"]]"#,
         &mut runtime(alloc),
+        "liquid: Partial does not exist\n  with:\n    name=p\n",
     )?;
-    assert_eq!(rt;
-        without.as_str(),
-        "liquid: Partial does not exist\n  with:\n    name=p\n"
-    );
     let mut empty: BuiltRuntime<(), ()> = RuntimeBuilder::new(alloc).set_partials(()).build();
-    let unknown = rendered(alloc, nodes_in(alloc, r#"[["inc", "p"]]"#)?, &mut empty)?;
-    assert_eq!(rt;
-        unknown.as_str(),
-        "liquid: Unknown partial-template\n  with:\n    requested partial=p\n    available partials=\n"
-    );
-    Ok(())
+    writes(
+        alloc,
+        r#"[["inc", "p"]]"#,
+        &mut empty,
+        "liquid: Unknown partial-template\n  with:\n    requested partial=p\n    available partials=\n",
+    )
+}
+
+/// Refuses steps that write something else over a runtime, with the text of their refusal behind it.
+fn writes<R: Runtime<Register = (), Store = ()>>(
+    alloc: Global,
+    steps: &str,
+    runtime: &mut R,
+    wanted: &str,
+) -> Result<(), Fail> {
+    let all = rendered(alloc, nodes_in(alloc, steps)?, runtime)?;
+    same(all.as_str(), wanted)
+}
+
+/// A sandbox over a runtime in which `s` is assigned, or nothing is.
+fn sandbox(alloc: Global, given: bool) -> Result<SandboxedStackFrame<BuiltRuntime<(), ()>>, Fail> {
+    let mut outside = runtime(alloc);
+    if given {
+        outside.set_global(text(alloc, "s")?, Value::scalar(text(alloc, "S")?))?;
+    }
+    Ok(SandboxedStackFrame::new(outside, Object::new(alloc)))
 }
 
 #[test]
 fn leak_writes_what_a_sandbox_hides(rt: HostRuntime) -> Result<(), Fail> {
     let alloc = rt.alloc();
-    for (given, expected) in [(true, "S"), (false, "")] {
-        let mut outside = runtime(alloc);
-        if given {
-            outside.set_global(text(alloc, "s")?, Value::scalar(text(alloc, "S")?))?;
-        }
-        let mut sandbox = SandboxedStackFrame::new(outside, Object::new(alloc));
-        let leaked = rendered(
-            alloc,
-            nodes_in(alloc, r#"[["leak", "s", 1]]"#)?,
-            &mut sandbox,
-        )?;
-        assert_eq!(rt; leaked.as_str(), expected);
-    }
+    let leak = r#"[["leak", "s", 1]]"#;
+    writes(alloc, leak, &mut sandbox(alloc, true)?, "S")?;
+    writes(alloc, leak, &mut sandbox(alloc, false)?, "")?;
     let mut core: RuntimeCore<(), ()> = RuntimeCore::new();
-    let refused = rendered(alloc, nodes_in(alloc, r#"[["set", "s", 1]]"#)?, &mut core)?;
-    assert_eq!(rt; refused.as_str(), "liquid: No global frame\n");
-    Ok(())
+    writes(
+        alloc,
+        r#"[["set", "s", 1]]"#,
+        &mut core,
+        "liquid: No global frame\n",
+    )
 }
 
 /// A template, how many puts its sink takes, and what is written.
 const SINK_ROWS: &str = r#"[[["begin"], ["text", "ab"], ["end", "box"]], 2, "[a"]
 [[["set", "g", 1], ["text", "ab"], ["set", "g", 2]], 1, "a"]"#;
+
+/// Refuses a row whose sink takes something else, or whose call is not refused.
+fn breaks_off(alloc: Global, row: &Line, runtime: &mut BuiltRuntime<(), ()>) -> Result<(), Fail> {
+    let mut sink = Dripping::new(alloc, u64::try_from(row.number(1)?)?);
+    let template = Template::new(nodes(alloc, row.list(0)?)?);
+    let answer = template.render_to(alloc, &mut sink, runtime);
+    holds_so(sink.as_bytes() == row.text(2)?.as_bytes(), "a beginning")?;
+    match answer {
+        Ok(()) => Err(Fail::from("the sink did not fail")),
+        Err(error) => same(
+            error.to_string(alloc)?.as_str(),
+            "liquid: Failed to render\n",
+        ),
+    }
+}
 
 #[test]
 fn a_sink_that_fails_leaves_what_was_set_before(rt: HostRuntime) -> Result<(), Fail> {
@@ -174,22 +213,9 @@ fn a_sink_that_fails_leaves_what_was_set_before(rt: HostRuntime) -> Result<(), F
     let mut runtime = runtime(alloc);
     for line in SINK_ROWS.lines() {
         let row = Line::of(alloc, line)?;
-        let mut sink = Dripping::new(alloc, u64::try_from(row.number(1)?)?);
-        let template = Template::new(nodes(alloc, row.list(0)?)?);
-        match template.render_to(alloc, &mut sink, &mut runtime) {
-            Ok(()) => return Err(Fail::from("the sink did not fail")),
-            Err(error) => {
-                assert_eq!(rt;
-                    error.to_string(alloc)?.as_str(),
-                    "liquid: Failed to render\n"
-                );
-            }
-        }
-        assert_eq!(rt; sink.as_bytes(), row.text(2)?.as_bytes());
+        breaks_off(alloc, &row, &mut runtime)?;
     }
-    let left = rendered(alloc, nodes_in(alloc, r#"[["shown", "g"]]"#)?, &mut runtime)?;
-    assert_eq!(rt; left.as_str(), "1");
-    Ok(())
+    writes(alloc, r#"[["shown", "g"]]"#, &mut runtime, "1")
 }
 
 /// The nodes, with `.` behind them.
@@ -207,20 +233,19 @@ fn around(
     Ok(Node::Block(block, vec![in alloc; part]?))
 }
 
+/// Refuses a node that writes something else, with `.` behind it.
+fn ends(alloc: Global, node: HostileElement, wanted: &str) -> Result<(), Fail> {
+    let all = rendered(alloc, before_a_point(alloc, node)?, &mut runtime(alloc))?;
+    same(all.as_str(), wanted)
+}
+
 #[test]
 fn bad_will_is_rendered_to_its_end(rt: HostRuntime) -> Result<(), Fail> {
     let alloc = rt.alloc();
     let boxed = HostileBlockNode::Plain(BlockNode::Box);
-    let rows: [(HostileElement, &str); 5] = [
-        (Node::Tag(HostileTagNode::Spin), "sss."),
-        (Node::Tag(HostileTagNode::Mute), "."),
-        (Node::Tag(HostileTagNode::Plain(TagNode::Brk)), ""),
-        (around(alloc, HostileBlockNode::Far, "a")?, "."),
-        (around(alloc, boxed, "x")?, "[x]."),
-    ];
-    for (node, expected) in rows {
-        let all = rendered(alloc, before_a_point(alloc, node)?, &mut runtime(alloc))?;
-        assert_eq!(rt; all.as_str(), expected);
-    }
-    Ok(())
+    ends(alloc, Node::Tag(HostileTagNode::Spin), "sss.")?;
+    ends(alloc, Node::Tag(HostileTagNode::Mute), ".")?;
+    ends(alloc, Node::Tag(HostileTagNode::Plain(TagNode::Brk)), "")?;
+    ends(alloc, around(alloc, HostileBlockNode::Far, "a")?, ".")?;
+    ends(alloc, around(alloc, boxed, "x")?, "[x].")
 }
