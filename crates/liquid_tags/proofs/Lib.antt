@@ -6,3 +6,4 @@ pub mod SeriesTokens
 pub mod ConditionLemmas
 pub mod SandboxLemmas
 pub mod PageLemmas
+pub mod MemberLemmas

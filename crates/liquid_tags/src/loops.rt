@@ -9,14 +9,13 @@ ghost use Rattle.liquid_runtime.specs.meaning.Written.{SameFrames};
 ghost use Rattle.liquid_plugins.specs.meaning.TurnOf.{turn_of, Leaves, LeavesProgress};
 ghost use Rattle.liquid_tags.specs.meaning.Loops.{behind, forloop, item_turn, loop_takes, names_of_item, rounds_of};
 
-use crate::names::bind;
+use crate::names::{bind, object_of};
 use crate::rounds::Rounds;
 use liquid_error::Error;
 use liquid_plugins::Turn;
 use liquid_runtime::names::no_names;
 use liquid_runtime::{Frame, Interrupt, Runtime};
 use liquid_value::{Object, Value};
-use liquid_views::object_of;
 use std::alloc::{AllocError, Global};
 
 /// A turn of the loop with this name.
@@ -87,17 +86,16 @@ fn forloop(alloc: Global, place: u64, size: u64) -> Result<Value, AllocError>
     let Some(index) = place.checked_add(1) else {
         return Err(AllocError);
     };
-    // From the last name to the first: a map is searched from its first name on, so each of these finds its place at once.
     let members = object_of(
         alloc,
-        &[
-            ("rindex0", number(size.saturating_sub(index))?),
-            ("rindex", number(size.saturating_sub(place))?),
-            ("length", number(size)?),
-            ("last", Value::scalar(index == size)),
-            ("index0", number(place)?),
-            ("index", number(index)?),
+        [
             ("first", Value::scalar(place == 0)),
+            ("index", number(index)?),
+            ("index0", number(place)?),
+            ("last", Value::scalar(index == size)),
+            ("length", number(size)?),
+            ("rindex", number(size.saturating_sub(place))?),
+            ("rindex0", number(size.saturating_sub(index))?),
         ],
     )?;
     Ok(Value::Object(members))
