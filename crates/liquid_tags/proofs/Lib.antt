@@ -6,4 +6,3 @@ pub mod SeriesTokens
 pub mod ConditionLemmas
 pub mod SandboxLemmas
 pub mod PageLemmas
-pub mod MemberLemmas

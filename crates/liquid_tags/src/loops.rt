@@ -9,13 +9,14 @@ ghost use Rattle.liquid_runtime.specs.meaning.Written.{SameFrames};
 ghost use Rattle.liquid_plugins.specs.meaning.TurnOf.{turn_of, Leaves, LeavesProgress};
 ghost use Rattle.liquid_tags.specs.meaning.Loops.{behind, forloop, item_turn, loop_takes, names_of_item, rounds_of};
 
-use crate::names::{bind, object_of};
+use crate::names::bind;
 use crate::rounds::Rounds;
 use liquid_error::Error;
 use liquid_plugins::Turn;
 use liquid_runtime::names::no_names;
 use liquid_runtime::{Frame, Interrupt, Runtime};
 use liquid_value::{Object, Value};
+use liquid_views::object_of;
 use std::alloc::{AllocError, Global};
 
 /// A turn of the loop with this name.
@@ -88,7 +89,7 @@ fn forloop(alloc: Global, place: u64, size: u64) -> Result<Value, AllocError>
     };
     let members = object_of(
         alloc,
-        [
+        &[
             ("first", Value::scalar(place == 0)),
             ("index", number(index)?),
             ("index0", number(place)?),
