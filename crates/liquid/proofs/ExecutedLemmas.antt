@@ -9,7 +9,7 @@ use Rattle.liquid_partials.specs.meaning.Sources.{Texts}
 use Rattle.liquid.specs.declared.fault.Fault.{Fault}
 use Rattle.liquid.specs.meaning.Command.{path_words, option_words}
 use Rattle.liquid.specs.meaning.Gathered.{WithText, WithGlobals, WithPartials}
-use Rattle.liquid.specs.meaning.Globals.{object_read}
+use Rattle.liquid_json.specs.meaning.Given.{object_read}
 use Rattle.liquid.specs.meaning.Program.{Renders, Fails, Finishes, Executes, status_of}
 use Rattle.liquid.specs.meaning.Status.{exit_status, fault_status}
 use Rattle.liquid.specs.steps.Steps.{Stops, Brings}

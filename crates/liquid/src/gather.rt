@@ -1,10 +1,9 @@
 //! Reading what a command names.
 ghost use Rattle.std.specs.Prelude.{◌≡◌, ◌≢◌, Some, IfOk, IfErr, map, option_map, string_bytes};
 ghost use Rattle.std.specs.FinMap.{empty, keys};
-ghost use Rattle.serde_json.specs.View.{view as json_view};
 ghost use Rattle.liquid_runtime.specs.meaning.Maps.{names_of};
 ghost use Rattle.liquid_plugins.specs.meaning.Registry.{by_name};
-ghost use Rattle.liquid_json.specs.meaning.Given.{object_given};
+ghost use Rattle.liquid_json.specs.meaning.Given.{object_read};
 ghost use Rattle.liquid.specs.meaning.Command.{option_words};
 ghost use Rattle.liquid.specs.meaning.Gathered.{
   names_into,
@@ -16,16 +15,15 @@ ghost use Rattle.liquid.specs.meaning.Gathered.{
   WithPartials,
   WithText,
 };
-ghost use Rattle.liquid.specs.meaning.Globals.{object_read};
 ghost use Rattle.liquid.specs.meaning.Status.{fault_status};
 ghost use Rattle.liquid.specs.steps.Steps.{Brings, BringsText, Stops, StopsUnread};
 
 use crate::fault::Fault;
 use crate::folder::{Folder, Unread};
-use liquid_core::model::into_object;
+use liquid_core::model::object_from_str;
 use liquid_core::partials::InMemorySource;
 use liquid_core::{Error, Object};
-use serde_json::{Category, Value as Json};
+use serde_json::Category;
 use std::alloc::{AllocError, Global};
 use std::collections::BTreeMap;
 
@@ -171,26 +169,16 @@ pub(crate) fn globals_of<'w>(alloc: Global, text: &str, path: &'w str) -> Result
     ensures globals { WithGlobals (object_read text.now) (Stops result) (λ names. Brings names_of names result) }
     ensures command { IfErr result (λ fault. fault_status fault ≢ 2) }
 {
-    match Json::from_str(alloc, text) {
-        Ok(json) => object_of(alloc, json),
-        Err(error) => match error.classify() {
-            Category::Memory => Err(Fault::Refused(Error::Memory)),
-            _ => Err(Fault::BadJson(path)),
-        },
-    }
-}
-
-/// The object that JSON is.
-fn object_of<'w>(alloc: Global, json: Json) -> Result<Object, Fault<'w>>
-    ensures globals { WithGlobals (Some (object_given (json_view json))) (Stops result) (λ names. Brings names_of names result) }
-    ensures command { IfErr result (λ fault. fault_status fault ≢ 2) }
-{
-    match into_object(alloc, json) {
-        Ok(object) => Ok(object),
-        Err(error) => if error.is_memory() {
+    match object_from_str(alloc, text) {
+        Ok(Ok(object)) => Ok(object),
+        Ok(Err(error)) => if error.is_memory() {
             Err(Fault::Refused(error))
         } else {
             Err(Fault::NoGlobals(error))
+        },
+        Err(error) => match error.classify() {
+            Category::Memory => Err(Fault::Refused(Error::Memory)),
+            _ => Err(Fault::BadJson(path)),
         },
     }
 }

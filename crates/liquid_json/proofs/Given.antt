@@ -18,7 +18,7 @@ abbrev Entry : Type 0
 Entry = String Global × Value
 
 -- the items with others before them
-joined : List Tree → Items → Items
+pub joined : List Tree → Items → Items
 joined [] ts = ts
 joined (x ∷ xs) ts = item x (joined xs ts)
 
@@ -31,7 +31,11 @@ unfolding after_items joined
 no_item_yet (Ok ts) = refl
 no_item_yet (Err r) = refl
 
-joined_last : (xs : List Tree) (x : Tree) (ts : Items) → joined xs (item x ts) ≡ joined (xs ++ x ∷ []) ts
+pub joined_none : (ts : Items) → joined [] ts ≡ ts
+unfolding joined
+joined_none ts = refl
+
+pub joined_last : (xs : List Tree) (x : Tree) (ts : Items) → joined xs (item x ts) ≡ joined (xs ++ x ∷ []) ts
 unfolding joined
 joined_last [] x ts = refl
 joined_last (y ∷ xs) x ts = ap (item y) (joined_last xs x ts)
@@ -56,7 +60,7 @@ pub item_refusal : (all : Result Items Refusal) (done : List Tree) (d : json.Dat
 item_refusal all done d ds None so_far refused = tt
 item_refusal all done d ds (Some r) so_far refused = item_refused all done d ds r so_far refused
 
-joined_all : (xs : List Tree) → joined xs no_items ≡ items_of xs
+pub joined_all : (xs : List Tree) → joined xs no_items ≡ items_of xs
 unfolding joined
 joined_all [] = refl
 joined_all (x ∷ xs) = ap (item x) (joined_all xs)

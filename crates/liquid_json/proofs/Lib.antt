@@ -1,4 +1,5 @@
 pub mod Collected
 pub mod Names
 pub mod Given
+pub mod TokensRead
 pub mod Shown

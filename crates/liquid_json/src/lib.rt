@@ -3,9 +3,11 @@
 
 mod build;
 mod convert;
+mod read;
 mod scalar;
 mod write;
 
 pub use convert::{into_object, into_value, to_object, to_value};
+pub use read::object_from_str;
 pub use scalar::to_scalar;
 pub use write::from_value;

@@ -3,12 +3,11 @@ use crate::block_plugins::ShopBlocks;
 use crate::filters::Upcase;
 use crate::languages::{ShopLanguage, language};
 use crate::tag_plugins::ShopTags;
-use liquid_core::model::{Object, Value, into_object};
+use liquid_core::model::{Object, Value, object_from_str};
 use liquid_core::parser::parse;
 use liquid_core::partials::{InMemorySource, LazyCompiler, LazyStore, PartialCompiler};
 use liquid_core::runtime::{BuiltRuntime, RuntimeBuilder, Template};
 use liquid_core::{Error, Sink, render_source};
-use serde_json::Value as Json;
 use std::alloc::{AllocError, Global};
 use std::rc::Rc;
 
@@ -106,8 +105,8 @@ fn visit(alloc: Global) -> Result<Object, AllocError> {
 }
 
 fn goods(alloc: Global) -> Result<Object, Error> {
-    match Json::from_str(alloc, GOODS) {
-        Ok(json) => into_object(alloc, json),
+    match object_from_str(alloc, GOODS) {
+        Ok(goods) => goods,
         Err(_) => Err(Error::with_msg(alloc, "The goods are no JSON")),
     }
 }

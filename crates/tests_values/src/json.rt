@@ -1,7 +1,9 @@
 //! JSON as values, and values as JSON.
 use crate::value::value_in;
 use liquid_error::Result;
-use liquid_json::{from_value, into_object, into_value, to_object, to_scalar, to_value};
+use liquid_json::{
+    from_value, into_object, into_value, object_from_str, to_object, to_scalar, to_value,
+};
 use liquid_scalar::Scalar;
 use liquid_value::render::ValueSource;
 use liquid_value::{Object, Value};
@@ -94,6 +96,62 @@ fn is_scalar(alloc: Global, row: &Line) -> std::result::Result<bool, Fail> {
 fn json_is_an_object_or_a_scalar(rt: HostRuntime) -> std::result::Result<(), Fail> {
     rows_hold(rt.alloc(), OBJECTS_AND_SCALARS, is_object)?;
     rows_hold(rt.alloc(), OBJECTS_AND_SCALARS, is_scalar)
+}
+
+// What a text is as an object, in its source text or by the refusal, and the text.
+const READ: &str = r#"["{\"a\": 1, \"é\": x-2true, }", "{\"\\u00e9\": [\"x\", -2, true, null, []], \"a\": 1}"]
+["{}", "  { } "]
+["{\"a\": 9223372036854775807, \"b\": -9223372036854775808, }", "{\"b\": -9223372036854775808, \"a\": 9223372036854775807}"]
+["{\"a\": 2, }", "{\"a\": 1, \"a\": 2}"]
+["{\"a\": 2, }", "{\"a\": 1.5, \"a\": 2}"]
+["liquid: Cannot fit number\n", "{\"a\": 9223372036854775808}"]
+["liquid: Fractional number\n", "{\"a\": -9223372036854775809}"]
+["liquid: Fractional number\n", "{\"a\": -0}"]
+["liquid: Fractional number\n", "{\"a\": 1e2}"]
+["liquid: Fractional number\n", "{\"a\": {\"b\": [0.5]}}"]
+["liquid: Cannot fit number\n", "{\"b\": 1.5, \"a\": 9223372036854775808}"]
+["liquid: Object cannot be an array.\n", "[1.5]"]
+["liquid: Object cannot be a scalar.\n", "\"a\""]
+["liquid: Object cannot be a scalar.\n", "null"]
+["no JSON", ""]
+["no JSON", "{"]
+["no JSON", "{\"a\": }"]
+["no JSON", "{\"a\": 1,}"]
+["no JSON", "{\"a\" 1}"]
+["no JSON", "{\"a\": 1} {}"]
+["no JSON", "{\"a\": 1.5, \"b\"}"]
+["no JSON", "{a: 1}"]
+["no JSON", "{\"a\": 01}"]
+["no JSON", "{\"a\": +1}"]
+["no JSON", "[\"a\""]
+["no JSON", "{\"a\": \"\\ud800\"}"]"#;
+
+/// The source of the object that the text is, or the text of the refusal.
+fn read_told(alloc: Global, text: &str) -> std::result::Result<String, AllocError> {
+    match object_from_str(alloc, text) {
+        Ok(object) => object_told(alloc, object),
+        Err(error) => String::from_str(alloc, if error.is_memory() { "memory" } else { "no JSON" }),
+    }
+}
+
+fn is_read(alloc: Global, row: &Line) -> std::result::Result<bool, Fail> {
+    Ok(read_told(alloc, row.text(1)?)?.as_str() == row.text(0)?)
+}
+
+/// As many arrays in one another as the name of an object.
+fn nested(alloc: Global, arrays: usize) -> std::result::Result<String, AllocError> {
+    let opened = "[".repeat(alloc, arrays)?;
+    let closed = "]".repeat(alloc, arrays)?;
+    format!(in alloc; "{{\"a\": {opened}{closed}}}")
+}
+
+// With 126 arrays in an object, 127 nest; `serde_json` reads no more.
+#[test]
+fn texts_are_objects(rt: HostRuntime) -> std::result::Result<(), Fail> {
+    let alloc = rt.alloc();
+    rows_hold(alloc, READ, is_read)?;
+    same(read_told(alloc, nested(alloc, 126)?.as_str())?.as_str(), "{\"a\": , }")?;
+    same(read_told(alloc, nested(alloc, 127)?.as_str())?.as_str(), "no JSON")
 }
 
 // A text as a value, and the JSON that it is shown as.

@@ -1,6 +1,7 @@
 -- The value that JSON is, by recursion over the JSON: items in order, members in the order of their keys, and the first refusal ends it.
-use Rattle.std.specs.Prelude.{ℕ, ℤ, List, pos, ◌^◌, nat_lt, codes, Result, Ok, Err, if◌then◌else◌}
+use Rattle.std.specs.Prelude.{ℕ, ℤ, List, pos, ◌^◌, nat_lt, codes, Option, Result, Ok, Err, option_map, if◌then◌else◌}
 use Rattle.serde_json.specs.Data as json
+use Rattle.serde_json.specs.Read.{read}
 use Rattle.liquid_error.specs.meaning.Refusal.{Refusal, plain, ok_then}
 use Rattle.liquid_scalar.specs.meaning.Scalar.{Scal, integer, boolean, text}
 use Rattle.liquid_value.specs.meaning.Tree.{Tree, nil, scalar, array, object, Items, no_items, item, Members, no_members, member}
@@ -46,3 +47,7 @@ scalar_given (json.number n) = ok_then (number_given n) (λ z. Ok (integer z))
 scalar_given (json.string s) = Ok (text s)
 scalar_given (json.array ds) = refused (codes "Scalar must be a string.")
 scalar_given (json.object ms) = refused (codes "Scalar must be a string.")
+
+-- what a text comes to as an object, and none where it is no JSON
+abbrev pub object_read : List ℕ → Option (Result Members Refusal)
+object_read source = option_map object_given (read source)

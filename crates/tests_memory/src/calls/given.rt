@@ -37,7 +37,7 @@ pub struct Given {
 }
 
 /// The object of all globals.
-const GLOBALS: &str = r#"{"a": {"b": [1, "two"]}, "i": "b"}"#;
+pub const GLOBALS: &str = r#"{"a": {"b": [1, "two"]}, "i": "b"}"#;
 
 pub fn text(alloc: Global, text: &str) -> Result<String, Problem> {
     Ok(String::from_str(alloc, text)?)

@@ -1,7 +1,7 @@
 use crate::calls::answers::{Answer, Answered};
-use crate::calls::given::Given;
+use crate::calls::given::{GLOBALS, Given};
 use liquid_core::model::{
-    Value, from_value, into_object, into_value, to_object, to_scalar, to_value,
+    Value, from_value, into_object, into_value, object_from_str, to_object, to_scalar, to_value,
 };
 use serde_json::Value as Json;
 use std::alloc::Global;
@@ -9,7 +9,7 @@ use std::alloc::Global;
 /// What each call of JSON answers.
 pub fn wanted(word: &str) -> &'static str {
     match word {
-        "to_value" | "to_object" | "into_value" | "into_object" => "{\"a\": b1two, \"i\": b, }",
+        "to_value" | "to_object" | "into_value" | "into_object" | "object_from_str" => "{\"a\": b1two, \"i\": b, }",
         "to_scalar" => "\"b\"",
         "from_value" => "[1,\"two\",{\"k\":\"v\"}]",
         _ => "",
@@ -24,6 +24,14 @@ pub fn call<'g>(alloc: Global, word: &str, given: &'g mut Given) -> Answered<'g>
         "to_object" => Ok(Answer::Value(Value::Object(to_object(alloc, &json)?))),
         "into_value" => Ok(Answer::Value(into_value(alloc, json)?)),
         "into_object" => Ok(Answer::Value(Value::Object(into_object(alloc, json)?))),
+        "object_from_str" => match object_from_str(alloc, GLOBALS) {
+            Ok(object) => Ok(Answer::Value(Value::Object(object?))),
+            Err(error) => Ok(if error.is_memory() {
+                Answer::Memory
+            } else {
+                Answer::Nothing
+            }),
+        },
         "to_scalar" => match json.get("i") {
             Some(member) => Ok(Answer::Value(Value::Scalar(to_scalar(alloc, member)?))),
             None => Ok(Answer::Nothing),
