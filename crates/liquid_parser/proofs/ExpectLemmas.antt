@@ -16,7 +16,10 @@ use Rattle.liquid_grammar.specs.meaning.Tokens as token
 use Rattle.liquid_grammar.specs.meaning.Values.{Value, literal_value, variable_value, no_index, more_indexes}
 use Rattle.liquid_parser.specs.declared.cursor.token.TagToken.{TagToken}
 use Rattle.liquid_parser.specs.meaning.Cursors.{IsToken, IsValue}
-use Rattle.liquid_plugins.specs.meaning.Expression.{as_literal}
+use Rattle.liquid_grammar.specs.meaning.Meanings.{literal_of}
+use Rattle.liquid_scalar.specs.meaning.Scalar.{integer, boolean, text, date, date_time}
+use Rattle.liquid_value.specs.meaning.Tree.{Tree}
+use Rattle.liquid_plugins.specs.meaning.Expression.{ExpressionShape, literal, variable, no_indexes, index, as_literal}
 use Rattle.liquid_parser.specs.meaning.Handed.{Token, chain, call_of, handed_token, expression_meant, literal_tree, value_of, as_identifier, expect_value, expect_identifier, expect_literal}
 use Rattle.liquid_parser.proofs.Indexes.{first_none}
 
@@ -117,3 +120,37 @@ unfolding is_value_kind
 values_of_kinds k (inl e) = ap (λ x. is_value_kind (token_kind_of x)) e.1
 values_of_kinds k (inr (inl e)) = ap (λ x. is_value_kind (token_kind_of x)) e
 values_of_kinds k (inr (inr e)) = ap (λ x. is_value_kind (token_kind_of x)) e.1
+
+-- ---- a literal, and a name alone
+
+inside : {A : Type 0} → A → Option A → A
+inside other None = other
+inside other (Some a) = a
+
+some_is : {A : Type 0} (a b : A) → Some a ≡ Some b → a ≡ b
+unfolding inside
+some_is a b h = ap (inside a) h
+
+literal_meant : (e : ExpressionShape) (t : Tree) → as_literal e ≡ Some t → e ≡ literal t
+literal_meant (literal u) t h = ap literal (some_is u t h)
+literal_meant (variable name is) t h = absurd (cc)
+
+name_meant : (e : ExpressionShape) (name : List ℕ) → as_identifier e ≡ Some name → e ≡ variable (text name) no_indexes
+name_meant (literal t) name h = absurd (cc)
+name_meant (variable (text bytes) no_indexes) name h = ap (λ n. variable (text n) no_indexes) (some_is bytes name h)
+name_meant (variable (text bytes) (index e es)) name h = absurd (cc)
+name_meant (variable (integer n) is) name h = absurd (cc)
+name_meant (variable (boolean b) is) name h = absurd (cc)
+name_meant (variable (date d) is) name h = absurd (cc)
+name_meant (variable (date_time d) is) name h = absurd (cc)
+
+pub literal_shape : (t : TagToken) (handed : Token) (l : CodeLiteral) → IsToken t handed → t.text.parts ≡ parts.Chain (kind.Literal l) → handed.shape ≡ chain (literal (literal_tree (literal_of l))) []
+unfolding literal_of_kind
+literal_shape t handed l is e =
+    let found = chain_value t handed (kind.Literal l) is e (values_of_kinds (kind.Literal l) (inl (l, refl))) in
+    found.is ∙ ap (λ x. chain x []) (literal_meant _ _ (value_literal found.value ∙ ap (λ k. option_map literal_tree (literal_of_kind k)) (sym found.kind_is)))
+
+pub name_shape : (t : TagToken) (handed : Token) (name : Bor (List ℕ)) → IsToken t handed → t.text.parts ≡ parts.Chain (kind.Identifier name) → handed.shape ≡ chain (variable (text name.now) no_indexes) []
+name_shape t handed name is e =
+    let found = chain_value t handed (kind.Identifier name) is e (values_of_kinds (kind.Identifier name) (inr (inr (name, refl)))) in
+    found.is ∙ ap (λ x. chain x []) (name_meant _ _ (value_identifier found.value ∙ ap identifier_of (sym found.kind_is)))

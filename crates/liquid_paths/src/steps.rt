@@ -1,7 +1,7 @@
-ghost use Rattle.std.specs.Prelude.{◌≡◌, ◌<◌, ◌^◌, IfOk, IfSome, option_map, pos, string_bytes};
+ghost use Rattle.std.specs.Prelude.{◌≡◌, ◌<◌, ◌^◌, IfOk, IfSome, length, option_map, pos, string_bytes};
 ghost use Rattle.std.specs.Option.{option_or};
 ghost use Rattle.liquid_value.specs.meaning.Cow.{cow_view};
-ghost use Rattle.liquid_scalar.specs.meaning.Scalar.{scal, integer};
+ghost use Rattle.liquid_scalar.specs.meaning.Scalar.{scal, integer, render_scalar};
 ghost use Rattle.liquid_value.specs.meaning.Members.{get_member, member_count};
 ghost use Rattle.liquid_value.specs.meaning.Tree.{scalar, array, object};
 ghost use Rattle.liquid_value.specs.meaning.View.{view, items_view, members_view};
@@ -148,8 +148,23 @@ fn step_scalar<'v>(
     ensures in_place { IfOk result (λ found. IfSome found InPlace) }
 {
     let word = index.to_kstr(alloc)?;
-    let text = subject.to_kstr(alloc)?;
-    Ok(size_asked(word.as_str(), text.as_str().len()))
+    Ok(size_asked(word.as_str(), text_size(alloc, subject)?))
+}
+
+/// The size of a scalar's text. That of a number takes no memory.
+fn text_size(alloc: Global, scalar: &Scalar) -> Result<usize, AllocError>
+    ensures { IfOk result (λ size. (size ≡ length (render_scalar (scal string_bytes scalar.now))) × (size < 2 ^ 63)) }
+{
+    match scalar {
+        ScalarOf::Integer(number) => {
+            let mut buffer = itoa::Buffer::new();
+            Ok(buffer.format(*number).len())
+        }
+        other => {
+            let text = other.to_kstr(alloc)?;
+            Ok(text.as_str().len())
+        }
+    }
 }
 
 #[tactic(auto, using(crate::proofs::Values::made_in_place))]

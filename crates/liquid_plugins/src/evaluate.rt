@@ -35,7 +35,7 @@ impl Expression {
         ensures in_place { IfOk result InPlaceOrNil }
     {
         match standing(alloc, self, runtime) {
-            Some(value) => Ok(ValueCow::Borrowed(value)),
+            Some(value) => Ok(value),
             None => evaluate(alloc, self, runtime),
         }
     }
@@ -50,7 +50,7 @@ impl Expression {
         ensures in_place { IfOk result (λ value. IfSome value InPlace) }
     {
         match standing(alloc, self, runtime) {
-            Some(value) => Ok(Some(ValueCow::Borrowed(value))),
+            Some(value) => Ok(Some(value)),
             None => try_evaluate(alloc, self, runtime),
         }
     }

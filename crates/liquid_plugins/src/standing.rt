@@ -1,18 +1,22 @@
 //! Values that stand where an expression leads.
-ghost use Rattle.std.specs.Prelude.{◌≡◌, IfSome, Ok, Some, string_bytes};
+ghost use Rattle.std.specs.Prelude.{◌≡◌, IfSome, Ok, Some, option_and_then, string_bytes};
 ghost use Rattle.liquid_scalar.specs.meaning.Scalar.{Scal, render_scalar, scal, text};
 ghost use Rattle.liquid_value.specs.meaning.Tree.{scalar};
+ghost use Rattle.liquid_value.specs.meaning.Cow.{cow_view};
 ghost use Rattle.liquid_value.specs.meaning.View.{view as tree_of};
+ghost use Rattle.liquid_paths.specs.meaning.InPlace.{InPlace};
+ghost use Rattle.liquid_paths.specs.meaning.PathOf.{index_of};
 ghost use Rattle.liquid_paths.specs.meaning.Step.{step};
+ghost use Rattle.liquid_paths.specs.meaning.Walk.{walk};
 ghost use Rattle.liquid_runtime.specs.meaning.NamesSeen.{lookup};
-ghost use Rattle.liquid_plugins.specs.meaning.Evaluation.{evaluate, try_evaluate};
+ghost use Rattle.liquid_plugins.specs.meaning.Evaluation.{evaluate, try_evaluate, try_path_of};
 ghost use Rattle.liquid_plugins.specs.meaning.Expression.{variable, no_indexes};
 ghost use Rattle.liquid_plugins.specs.meaning.ExpressionOf.{expression_of, expressions_of};
 
 use crate::expression::Expression;
 use liquid_paths::step;
 use liquid_runtime::Runtime;
-use liquid_scalar::{Scalar, ScalarOf};
+use liquid_scalar::{Scalar, ScalarCow, ScalarOf};
 use liquid_value::{Value, ValueCow};
 use std::alloc::Global;
 
@@ -24,39 +28,48 @@ pub fn named_value<'c, R: Runtime>(name: &str, runtime: &'c R) -> Option<&'c Val
     runtime.try_get_name(name)
 }
 
-/// The value that the expression comes to, if it stands, and each index on the way stands too. No
+/// The value that the expression comes to, if it and each index on the way stand, or are sizes. No
 /// list is made for the path. `None` tells nothing of what the expression comes to.
 #[cycle(standing)]
+#[inline(always)]
 pub(crate) fn standing<'c, R: Runtime>(
     alloc: Global,
     expression: &'c Expression,
     runtime: &'c R,
-) -> Option<&'c Value>
-    ensures { IfSome result (λ value. try_evaluate (R.view runtime.now) (expression_of expression.now) ≡ Some (tree_of value.now)) }
+) -> Option<ValueCow<'c>>
+    ensures gives { IfSome result (λ value. try_evaluate (R.view runtime.now) (expression_of expression.now) ≡ Some (cow_view value)) }
+    ensures in_place { IfSome result InPlace }
 {
     match expression {
-        Expression::Literal(value) => Some(value),
+        Expression::Literal(value) => Some(ValueCow::Borrowed(value)),
         Expression::Variable(variable) => {
-            standing_at(alloc, &variable.variable, &variable.indexes, runtime)
+            let value = value_of(&variable.variable, runtime)?;
+            if variable.indexes.is_empty() {
+                return Some(ValueCow::Borrowed(value));
+            }
+            standing_behind(alloc, &variable.indexes, value, runtime)
         }
     }
 }
 
-/// The value that a name and its indexes come to, if all of them stand.
+/// The value that these indexes lead to from a value that stands, if each index and each value on the way stands, or
+/// is a size.
 #[cycle(standing)]
-fn standing_at<'c, R: Runtime>(
+fn standing_behind<'c, R: Runtime>(
     alloc: Global,
-    name: &'c Scalar,
     indexes: &'c Vec<Expression>,
+    value: &'c Value,
     runtime: &'c R,
-) -> Option<&'c Value>
-    ensures { IfSome result (λ value.
-        try_evaluate (R.view runtime.now) (variable (scal string_bytes name.now) (expressions_of indexes.now.items)) ≡ Some (tree_of value.now)) }
+) -> Option<ValueCow<'c>>
+    ensures gives { IfSome result (λ found.
+        option_and_then (λ path. walk (tree_of value.now) path) (try_path_of (R.view runtime.now) (expressions_of indexes.now.items))
+        ≡ Some (cow_view found)) }
+    ensures in_place { IfSome result InPlace }
 {
-    let mut at = value_of(name, runtime)?;
+    let mut at = ValueCow::Borrowed(value);
     for index in indexes {
         let scalar = standing(alloc, index, runtime)?;
-        at = part_of(alloc, at, scalar)?;
+        at = part_of(alloc, &at, scalar.as_view())?;
     }
     Some(at)
 }
@@ -71,15 +84,31 @@ fn value_of<'c, R: Runtime>(name: &Scalar, runtime: &'c R) -> Option<&'c Value>
     }
 }
 
-/// The part of a value at an index, if it stands and the index is a scalar.
-fn part_of<'v>(alloc: Global, value: &'v Value, index: &Value) -> Option<&'v Value>
-    ensures { IfSome result (λ part. (x : Scal) × (tree_of index.now ≡ scalar x) × (step (tree_of value.now) x ≡ Some (tree_of part.now))) }
+/// The part of a value at an index that is a scalar. The part of a value that stands stands, or is a size.
+fn part_of<'v>(alloc: Global, value: &ValueCow<'v>, index: &Value) -> Option<ValueCow<'v>>
+    ensures gives { IfSome result (λ part.
+        (x : Scal) × (tree_of index.now ≡ scalar x) × (step (cow_view value.now) x ≡ Some (cow_view part))) }
+    ensures in_place { InPlace value.now → IfSome result InPlace }
 {
     let Value::Scalar(scalar) = index else {
         return None;
     };
-    match step(alloc, value, &scalar.as_ref()) {
-        Ok(Some(ValueCow::Borrowed(part))) => Some(part),
-        _ => None,
+    stepped(alloc, value, &scalar.as_ref())
+}
+
+/// The part of a value at an index.
+fn stepped<'v>(alloc: Global, value: &ValueCow<'v>, index: &ScalarCow<'_>) -> Option<ValueCow<'v>>
+    ensures gives { IfSome result (λ part. step (cow_view value.now) (index_of index.now) ≡ Some (cow_view part)) }
+    ensures in_place { InPlace value.now → IfSome result InPlace }
+{
+    match value {
+        ValueCow::Borrowed(value) => match step(alloc, *value, index) {
+            Ok(Some(part)) => Some(part),
+            _ => None,
+        },
+        ValueCow::Owned(value) => match step(alloc, value, index) {
+            Ok(Some(ValueCow::Owned(part))) => Some(ValueCow::Owned(part)),
+            _ => None,
+        },
     }
 }

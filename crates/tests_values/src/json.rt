@@ -99,7 +99,8 @@ fn json_is_an_object_or_a_scalar(rt: HostRuntime) -> std::result::Result<(), Fai
 }
 
 // What a text is as an object, in its source text or by the refusal, and the text.
-const READ: &str = r#"["{\"a\": 1, \"é\": x-2true, }", "{\"\\u00e9\": [\"x\", -2, true, null, []], \"a\": 1}"]
+const READ: &str =
+    r#"["{\"a\": 1, \"é\": x-2true, }", "{\"\\u00e9\": [\"x\", -2, true, null, []], \"a\": 1}"]
 ["{}", "  { } "]
 ["{\"a\": 9223372036854775807, \"b\": -9223372036854775808, }", "{\"b\": -9223372036854775808, \"a\": 9223372036854775807}"]
 ["{\"a\": 2, }", "{\"a\": 1, \"a\": 2}"]
@@ -130,7 +131,14 @@ const READ: &str = r#"["{\"a\": 1, \"é\": x-2true, }", "{\"\\u00e9\": [\"x\", -
 fn read_told(alloc: Global, text: &str) -> std::result::Result<String, AllocError> {
     match object_from_str(alloc, text) {
         Ok(object) => object_told(alloc, object),
-        Err(error) => String::from_str(alloc, if error.is_memory() { "memory" } else { "no JSON" }),
+        Err(error) => String::from_str(
+            alloc,
+            if error.is_memory() {
+                "memory"
+            } else {
+                "no JSON"
+            },
+        ),
     }
 }
 
@@ -150,8 +158,14 @@ fn nested(alloc: Global, arrays: usize) -> std::result::Result<String, AllocErro
 fn texts_are_objects(rt: HostRuntime) -> std::result::Result<(), Fail> {
     let alloc = rt.alloc();
     rows_hold(alloc, READ, is_read)?;
-    same(read_told(alloc, nested(alloc, 126)?.as_str())?.as_str(), "{\"a\": , }")?;
-    same(read_told(alloc, nested(alloc, 127)?.as_str())?.as_str(), "no JSON")
+    same(
+        read_told(alloc, nested(alloc, 126)?.as_str())?.as_str(),
+        "{\"a\": , }",
+    )?;
+    same(
+        read_told(alloc, nested(alloc, 127)?.as_str())?.as_str(),
+        "no JSON",
+    )
 }
 
 // A text as a value, and the JSON that it is shown as.

@@ -107,6 +107,7 @@ fn build_index<'a>(
 }
 
 /// What a literal stands for.
+#[inline(always)]
 pub(crate) fn literal_value(alloc: Global, literal: Literal<'_>) -> Result<Value, AllocError>
     ensures { IfOk result (λ v. tree_of v ≡ literal_tree (literal_of literal.entry)) }
 {

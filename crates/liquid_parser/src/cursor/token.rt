@@ -1,8 +1,8 @@
 //! A token of a tag, and attempts to read it.
-ghost use Rattle.std.specs.Prelude.{◌≡◌, IfSome, None, Some, IfOk, MatchOption, ok_or};
+ghost use Rattle.std.specs.Prelude.{◌≡◌, [], IfSome, None, Some, IfOk, MatchOption, ok_or};
 ghost use Rattle.liquid_error.specs.meaning.Told.{told, Gives};
 ghost use Rattle.liquid_parser.specs.meaning.Cursors.{IsToken, IsValue, Tries, expect_str, expect_filter_chain, FailedToken, matched_of};
-ghost use Rattle.liquid_parser.specs.meaning.Handed.{Token, token_error, unexpected, expect_identifier, expect_literal, expect_range, expect_value, expect_variable, or_unexpected};
+ghost use Rattle.liquid_parser.specs.meaning.Handed.{Token, chain, token_error, unexpected, expect_identifier, expect_literal, expect_range, expect_value, expect_variable, or_unexpected};
 ghost use Rattle.liquid_grammar.specs.meaning.KindMeanings.{token_kind_of};
 ghost use Rattle.liquid_value.specs.meaning.View.{view as tree_of};
 ghost use Rattle.liquid_plugins.specs.meaning.ExpressionOf.{expression_of, variable_of, chain_of};
@@ -14,6 +14,7 @@ use crate::reading::place::refused_at;
 use liquid_error::Error;
 use liquid_grammar::{TokenKind, TokenParts, TokenText};
 use liquid_plugins::{Expression, FilterChain, ParseFilter, PluginRegistry, Variable};
+use liquid_scalar::ScalarOf;
 use liquid_value::Value;
 use std::alloc::{AllocError, Global};
 
@@ -143,12 +144,33 @@ impl<'a> TagToken<'a> {
         ensures { (t : Token) → IsToken self.entry t
             → IfOk result (λ v. MatchOption v (expect_value t ≡ None) (λ e. expect_value t ≡ Some (expression_of e))) }
     {
+        if let Some(value) = self.plain_value(alloc)? {
+            return Ok(Some(value));
+        }
         match self.value_kind() {
             Some(_) => match build_value(alloc, self.text.place, 0)? {
                 Some((value, _)) => Ok(Some(value)),
                 None => Ok(None),
             },
             None => Ok(None),
+        }
+    }
+
+    /// The literal or the name alone that the token is, whose text need not be walked again. None tells nothing of a
+    /// token.
+    fn plain_value(self, alloc: Global) -> Result<Option<Expression>, AllocError>
+        ensures { (t : Token) → IsToken self.entry t
+            → IfOk result (λ found. IfSome found (λ value. t.shape ≡ chain (expression_of value) [])) }
+    {
+        match self.text.parts {
+            TokenParts::Chain(TokenKind::Literal(literal)) => {
+                Ok(Some(Expression::Literal(literal_value(alloc, literal)?)))
+            }
+            TokenParts::Chain(TokenKind::Identifier(name)) => {
+                let name = ScalarOf::Str(String::from_str(alloc, name)?);
+                Ok(Some(Expression::of_parts(name, Vec::new(alloc))))
+            }
+            _ => Ok(None),
         }
     }
 
@@ -179,6 +201,9 @@ impl<'a> TagToken<'a> {
         ensures { (t : Token) → IsToken self.entry t
             → IfOk result (λ m. Tries (chain_of F.Filter.shape) self.entry m (expect_filter_chain (registry_of F.makes filters.now) t)) }
     {
+        if let Some(entry) = self.plain_value(alloc)? {
+            return Ok(TryMatchToken::Matches(FilterChain::new(entry, Vec::new(alloc))));
+        }
         match self.text.parts {
             TokenParts::Chain(_) => {
                 match parse_chain(alloc, self.source, self.text.place, filters) {

@@ -9,7 +9,8 @@ use std::alloc::Global;
 /// What each call of JSON answers.
 pub fn wanted(word: &str) -> &'static str {
     match word {
-        "to_value" | "to_object" | "into_value" | "into_object" | "object_from_str" => "{\"a\": b1two, \"i\": b, }",
+        "to_value" | "to_object" | "into_value" | "into_object" | "object_from_str" =>
+            "{\"a\": b1two, \"i\": b, }",
         "to_scalar" => "\"b\"",
         "from_value" => "[1,\"two\",{\"k\":\"v\"}]",
         _ => "",
