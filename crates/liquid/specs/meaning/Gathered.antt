@@ -7,6 +7,7 @@ use Rattle.liquid_error.specs.meaning.Refusal.{Refusal}
 use Rattle.liquid_value.specs.meaning.Tree.{Members}
 use Rattle.liquid_runtime.specs.meaning.Maps.{NameMap, Names}
 use Rattle.liquid_partials.specs.meaning.Sources.{Texts}
+use Rattle.liquid_json.specs.meaning.Given.{object_read}
 use Rattle.liquid.specs.meaning.Globals.{global_names}
 
 -- a file that is there and is UTF-8 is its text
