@@ -9,6 +9,7 @@ use Rattle.liquid_grammar.specs.meaning.Values.{ValueRule}
 use Rattle.liquid_grammar.specs.meaning.Tokens.{Argument, positional, keyword, Filter, Behind, KeywordStart, KeywordRule, ArgumentRule, Arguments, arguments_of, FilterRule}
 use Rattle.liquid_grammar.specs.declared.head.Head.{Head}
 use Rattle.liquid_grammar.specs.meaning.Parts.{HasHead, NoneLeft, First, IsFilter, IsArgument, ArgumentsFrom, separator}
+use Rattle.liquid_grammar.specs.steps.Heads.{HasKeyword}
 use Rattle.liquid_grammar.specs.steps.Steps.{Reader, identifier}
 use Rattle.liquid_grammar.specs.steps.TokenSteps.{optional, separated, behind, argument, arguments, keyword_start}
 use Rattle.liquid_grammar.proofs.Exact.{Exact, same_match, none_begins, exact-right, exact-byte}
@@ -119,31 +120,32 @@ no_keyword_value s value name e none b =
     let moved : Begins ValueRule then.middle = record { rest = b.rest; shape = b.match.from.1; match = then.after } in
     none (subst (λ t. Begins ValueRule t) (ap (λ (p : List ℕ × List ℕ). p.1) same) moved)
 
-pub keyword_found : (s value name after : List ℕ) (h : Head) → Some (name, value) ≡ keyword_start s → HasHead value h after → KeywordStart s value name × Begins ValueRule value
-keyword_found s value name after h e has = (exact-keyword_start.sound s value name (sym e), record { rest = has.rest; shape = has.value; match = has.match })
+pub keyword_found : (s value name after : List ℕ) (h : Head) → Some (name, value) ≡ keyword_start s → HasHead value h after → HasKeyword s name h after
+keyword_found s value name after h e has = record { place = value; start = exact-keyword_start.sound s value name (sym e); head = has }
 
 -- the separator, as the program has it
 pub at_separator : (byte wanted : ℕ) (s : List ℕ) (o : Option (List ℕ)) → byte ≡ wanted → o ≡ option_map (λ p. p.1) (separated byte s) → o ≡ option_map (λ p. p.1) (separated wanted s)
 at_separator byte wanted s o is e = subst (λ b. o ≡ option_map (λ p. p.1) (separated b s)) is e
 
 -- the next argument, with a name and without
-pub keyword_first : (name value : Bor (List ℕ)) (is_first : Bool) (s place rest : List ℕ) (found : List Argument) → Some place ≡ option_map (λ p. p.1) (separated (separator is_first) s)
-    → KeywordStart place value.now name.now → Begins ValueRule value.now → ArgumentsFrom is_first s rest found
-    → let a : ArgumentStart = record { name = Some name; value = value } in First (IsArgument a) (ArgumentsFrom false) rest found
-keyword_first name value is_first s place rest found e start b m =
-    let a : ArgumentStart = record { name = Some name; value = value } in
-    let part = keyword name.now b.shape in
-    let here_is : ArgumentRule place b.rest part = here (record { from = (name.now, b.shape); match = record { middle = value.now; before = start; after = b.match }; is = refl }) in
-    argument_first a is_first s b.rest rest part found (behind_begins (separator is_first) s place b.rest part e here_is) (record { value = b.shape; is = refl; match = b.match }) m
+pub keyword_first : (name after : Bor (List ℕ)) (h : Head) (is_first : Bool) (s place rest : List ℕ) (found : List Argument) → Some place ≡ option_map (λ p. p.1) (separated (separator is_first) s)
+    → HasKeyword place name.now h after.now → ArgumentsFrom is_first s rest found
+    → let a : ArgumentStart = record { name = Some name; head = h; rest = after } in First (IsArgument a) (ArgumentsFrom false) rest found
+keyword_first name after h is_first s place rest found e has m =
+    let a : ArgumentStart = record { name = Some name; head = h; rest = after } in
+    let v = has.head in
+    let part = keyword name.now v.value in
+    let here_is : ArgumentRule place v.rest part = here (record { from = (name.now, v.value); match = record { middle = has.place; before = has.start; after = v.match }; is = refl }) in
+    argument_first a is_first s v.rest rest part found (behind_begins (separator is_first) s place v.rest part e here_is) (record { place = has.place; value = v.value; is = refl; head = v.head }) m
 
-pub positional_first : (place : Bor (List ℕ)) (after : List ℕ) (h : Head) (is_first : Bool) (s rest : List ℕ) (found : List Argument) → Some place.now ≡ option_map (λ p. p.1) (separated (separator is_first) s)
-    → ¬ (Begins KeywordRule place.now) → HasHead place.now h after → ArgumentsFrom is_first s rest found
-    → let a : ArgumentStart = record { name = None; value = place } in First (IsArgument a) (ArgumentsFrom false) rest found
-positional_first place after h is_first s rest found e none has m =
-    let a : ArgumentStart = record { name = None; value = place } in
+pub positional_first : (after : Bor (List ℕ)) (h : Head) (is_first : Bool) (s place rest : List ℕ) (found : List Argument) → Some place ≡ option_map (λ p. p.1) (separated (separator is_first) s)
+    → ¬ (Begins KeywordRule place) → HasHead place h after.now → ArgumentsFrom is_first s rest found
+    → let a : ArgumentStart = record { name = None; head = h; rest = after } in First (IsArgument a) (ArgumentsFrom false) rest found
+positional_first after h is_first s place rest found e none has m =
+    let a : ArgumentStart = record { name = None; head = h; rest = after } in
     let part = positional has.value in
-    let stands : ArgumentRule place.now has.rest part = instead none (record { from = has.value; match = has.match; is = refl }) in
-    argument_first a is_first s has.rest rest part found (behind_begins (separator is_first) s place.now has.rest part e stands) (record { value = has.value; is = refl; match = has.match }) m
+    let stands : ArgumentRule place has.rest part = instead none (record { from = has.value; match = has.match; is = refl }) in
+    argument_first a is_first s has.rest rest part found (behind_begins (separator is_first) s place has.rest part e stands) (record { place = place; value = has.value; is = refl; head = has.head }) m
 
 pub no_argument_value : (place : List ℕ) → ¬ (Begins KeywordRule place) → ¬ (Begins ValueRule place) → ¬ (Begins ArgumentRule place)
 no_argument_value place none valueless b = go b.match

@@ -27,7 +27,7 @@ pub some_left : {A : Type 0} {R : Rule A} (s rest : List ℕ) (parts : List A) �
 some_left s rest parts b (ends none) left = none b
 some_left s rest parts b (more m ms) left = let e = left.none in cc
 
-same_byte : (s r t : List ℕ) (a b : ℕ) → s ≡ a ∷ r → s ≡ b ∷ t → a ≡ b
+pub same_byte : (s r t : List ℕ) (a b : ℕ) → s ≡ a ∷ r → s ≡ b ∷ t → a ≡ b
 same_byte s r t a b e f = cc
 
 -- no close bracket begins with another byte

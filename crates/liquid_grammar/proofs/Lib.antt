@@ -19,3 +19,4 @@ pub mod PartLemmas
 pub mod IndexPartLemmas
 pub mod FilterPartLemmas
 pub mod TokenPartLemmas
+pub mod ExpressionPartLemmas

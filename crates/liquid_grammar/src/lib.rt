@@ -36,7 +36,7 @@ pub use matching::{
     match_literal, match_tag, match_token, match_value, match_variable, match_white,
 };
 pub use parts::{
-    ArgumentStart, FilterStart, IndexStart, TokenParts, TokenText, close_bracket, next_argument,
-    next_filter, next_index, next_token, value_head,
+    ArgumentStart, FilterStart, IndexStart, TokenParts, TokenText, close_bracket, expression_end,
+    expression_start, next_argument, next_filter, next_index, next_token, value_head,
 };
 pub use place::line_and_column;

@@ -3,16 +3,19 @@ ghost use Rattle.std.specs.Prelude.{◌≡◌, ℕ, false, List, ◌<◌, ◌++�
 ghost use Rattle.liquid_grammar.specs.meaning.Rules.{Begins, Repeated, ◌▷◌};
 ghost use Rattle.liquid_grammar.specs.meaning.Grammar.{White};
 ghost use Rattle.liquid_grammar.specs.meaning.Values.{Value, Index, CloseBracket, ValueRule, IndexRule};
-ghost use Rattle.liquid_grammar.specs.meaning.Tokens.{Argument, Filter, Token, Behind, FilterRule, KeywordStart, KeywordRule, TokenRule};
+ghost use Rattle.liquid_grammar.specs.meaning.Tokens.{Argument, Filter, Token, Behind, FilterRule, KeywordRule, TokenRule};
 ghost use Rattle.liquid_grammar.specs.meaning.Parts as part;
-ghost use Rattle.liquid_grammar.specs.meaning.Parts.{NoneLeft, First, IsHead, HasHead, IsIndex, IsFilter, ArgumentsFrom, IsArgument, HasParts, IsToken};
+ghost use Rattle.liquid_grammar.specs.meaning.Parts.{NoneLeft, First, IsHead, HasHead, IsIndex, IsFilter, ArgumentsFrom, IsArgument};
+ghost use Rattle.liquid_grammar.specs.meaning.Parts.{HasParts, IsToken, OpensExpression, ClosesExpression};
+ghost use Rattle.liquid_grammar.specs.steps.Heads.{HasKeyword};
 
 use crate::bracket::{self, bracketed};
 use crate::filter::{behind, chain_and_kind, keyword_start};
 use crate::head::{Head, read_head};
 use crate::kind::TokenKind;
 use crate::name::identifier;
-use crate::text::{before, skip_white};
+use crate::opener::{braces, closer};
+use crate::text::{before, eat, skip_white};
 use crate::token::{range_parts, symbol};
 use crate::value::named_index;
 
@@ -40,8 +43,10 @@ pub struct FilterStart<'a> {
 pub struct ArgumentStart<'a> {
     /// The name of a keyword argument.
     pub name: Option<&'a str>,
-    /// The text from the argument's value on.
-    pub value: &'a str,
+    /// What the argument's value begins with.
+    pub head: Head<'a>,
+    /// What follows that.
+    pub rest: &'a str,
 }
 
 /// What a token is made of.
@@ -65,6 +70,26 @@ pub struct TokenText<'a> {
     pub parts: TokenParts<'a>,
     /// What follows the token.
     pub rest: &'a str,
+}
+
+/// What follows `{{`, the dash behind it if there is one, and white space. None where the text doesn't begin with `{{`.
+pub fn expression_start(s: &str) -> Option<&str>
+    ensures opens { IfSome result (λ start. OpensExpression s.now start.now) }
+    ensures shorter { IfSome result (λ start. length start.now < length s.now) }
+{
+    let inside = braces(s, b'{')?;
+    match eat(inside, b'-') {
+        Some(behind) => Some(skip_white(behind)),
+        None => Some(skip_white(inside)),
+    }
+}
+
+/// What follows an expression's end and the white space before it. None where none stands here.
+pub fn expression_end(s: &str) -> Option<&str>
+    ensures closes { IfSome result (λ rest. ClosesExpression s.now rest.now) }
+    ensures shorter { IfSome result (λ rest. length rest.now < length s.now) }
+{
+    closer(skip_white(s), b'}')
 }
 
 /// The literal or the name that a value begins with, and what follows it. None where no value begins.
@@ -124,19 +149,21 @@ pub fn next_argument(s: &str, is_first: bool) -> Option<ArgumentStart<'_>>
     ensures only { (rest : List ℕ) (arguments : List Argument) → ArgumentsFrom is_first s.now rest arguments
         → MatchOption result (NoneLeft s.now rest arguments)
         (λ a. First (IsArgument a) (ArgumentsFrom false) rest arguments) }
-    ensures shorter { IfSome result (λ a. length a.value.now < length s.now) }
+    ensures shorter { IfSome result (λ a. length a.rest.now < length s.now) }
 {
     let place = behind(s, separator(is_first))?;
-    match keyword_name(place) {
-        Some((name, value)) => Some(ArgumentStart {
+    match keyword_head(place) {
+        Some((name, head, rest)) => Some(ArgumentStart {
             name: Some(name),
-            value,
+            head,
+            rest,
         }),
         None => {
-            value_head(place)?;
+            let (head, rest) = value_head(place)?;
             Some(ArgumentStart {
                 name: None,
-                value: place,
+                head,
+                rest,
             })
         }
     }
@@ -149,15 +176,14 @@ fn separator(is_first: bool) -> u8
     if is_first { b':' } else { b',' }
 }
 
-/// The name of the keyword argument that the text begins with, and the text from its value on.
-fn keyword_name(s: &str) -> Option<(&str, &str)>
-    ensures value { MatchOption result (¬ (Begins KeywordRule s.now))
-        (λ p. KeywordStart s.now p.1.now p.0.now × Begins ValueRule p.1.now) }
-    ensures shorter { IfSome result (λ p. length p.1.now < length s.now) }
+/// The name of the keyword argument that the text begins with, what its value begins with, and what follows that.
+fn keyword_head(s: &str) -> Option<(&str, Head<'_>, &str)>
+    ensures value { MatchOption result (¬ (Begins KeywordRule s.now)) (λ p. HasKeyword s.now p.0.now p.1 p.2.now) }
+    ensures shorter { IfSome result (λ p. length p.2.now < length s.now) }
 {
     let (name, value) = keyword_start(s)?;
-    value_head(value)?;
-    Some((name, value))
+    let (head, rest) = value_head(value)?;
+    Some((name, head, rest))
 }
 
 /// The next token of a tag. None where no token is left.

@@ -1,17 +1,18 @@
 -- What is left of the arguments of a filter, behind those that were built.
 use Rattle.std.proofs.Common.{◌≡◌, ℕ, Bool, false, List, [], ◌∷◌, ◌++◌, Option, None, Some, Bor, refl, sym, ap, ◌∙◌, subst}
 use Rattle.std.specs.Prelude.{option_map}
+use Rattle.std.specs.Option.{option_or}
 use Rattle.liquid_grammar.specs.declared.parts.ArgumentStart.{ArgumentStart}
-use Rattle.liquid_grammar.specs.meaning.Faults.{argument_fault, first_fault, value_fault}
-use Rattle.liquid_grammar.specs.meaning.Parts.{NoneLeft, First, IsArgument, ArgumentsFrom, argument_by}
+use Rattle.liquid_grammar.specs.meaning.Faults.{Fault, argument_fault, first_fault, value_fault}
+use Rattle.liquid_grammar.specs.meaning.Parts.{NoneLeft, First, IsHead, IsArgument, ArgumentsFrom, argument_by}
 use Rattle.liquid_grammar.specs.meaning.Tokens.{Argument}
-use Rattle.liquid_grammar.specs.meaning.Values.{Value, ValueRule}
+use Rattle.liquid_grammar.specs.meaning.Values.{Value}
 use Rattle.liquid_plugins.specs.meaning.ArgumentsOf.{Arguments}
 use Rattle.liquid_plugins.specs.meaning.Expression.{ExpressionShape}
 use Rattle.liquid_plugins.specs.meaning.ExpressionOf.{expression_of}
 use Rattle.liquid_plugins.specs.declared.expression.Expression.{Expression}
 use Rattle.liquid_parser.specs.meaning.Handed.{arguments_meant, with_argument, expression_meant}
-use Rattle.liquid_parser.proofs.Indexes.{first_none, second_none}
+use Rattle.liquid_parser.proofs.Indexes.{first_none}
 
 -- arguments in front of others
 abbrev pub join : Arguments → Arguments → Arguments
@@ -34,10 +35,10 @@ append_none : {A : Type 0} (xs : List A) → xs ++ [] ≡ xs
 append_none [] = refl
 append_none (x ∷ xs) = ap (λ ys. x ∷ ys) (append_none xs)
 
-pub record Left (first : Bool) (s rest : List ℕ) (built meant : Arguments) : Type 0 where
+pub record Left (first : Bool) (s rest : List ℕ) (built meant : Arguments) (whole : Option Fault) : Type 0 where
   pub arguments : List Argument
   pub match : ArgumentsFrom first s rest arguments
-  pub fine : first_fault argument_fault arguments ≡ None
+  pub fault : whole ≡ first_fault argument_fault arguments
   pub joined : meant ≡ join built (arguments_meant arguments)
 
 argument_fine : (name : Option (List ℕ)) (v : Value) → argument_fault (argument_by name v) ≡ value_fault v
@@ -47,26 +48,29 @@ argument_fine None v = refl
 abbrev pub name_of : ArgumentStart → Option (List ℕ)
 name_of a = option_map (λ name. name.now) a.name
 
-pub record Next (s : List ℕ) (start : ArgumentStart) (rest : List ℕ) (built meant : Arguments) : Type 0 where
+pub record Next (s : List ℕ) (start : ArgumentStart) (rest : List ℕ) (built meant : Arguments) (whole : Option Fault) : Type 0 where
   pub middle : List ℕ
+  pub place : List ℕ
   pub value : Value
-  pub match : ValueRule start.value.now middle value
-  pub fine : value_fault value ≡ None
-  pub then : Left false middle rest (with_last (name_of start) (expression_meant value) built) meant
+  pub head : IsHead place middle start.head start.rest.now value
+  pub fine : whole ≡ None → value_fault value ≡ None
+  pub then : value_fault value ≡ None → Left false middle rest (with_last (name_of start) (expression_meant value) built) meant whole
 
-pub left_next : (first : Bool) (s rest : List ℕ) (built meant : Arguments) (start : ArgumentStart)
-    → (left : Left first s rest built meant) → First (IsArgument start) (ArgumentsFrom false) rest left.arguments → Next s start rest built meant
-left_next first s rest built meant start left f =
-    let fine : first_fault argument_fault (f.part ∷ f.others) ≡ None = ap (first_fault argument_fault) (sym f.joined) ∙ left.fine in
+pub left_next : (first : Bool) (s rest : List ℕ) (built meant : Arguments) (whole : Option Fault) (start : ArgumentStart)
+    → (left : Left first s rest built meant whole) → First (IsArgument start) (ArgumentsFrom false) rest left.arguments → Next s start rest built meant whole
+left_next first s rest built meant whole start left f =
+    let fault : whole ≡ first_fault argument_fault (f.part ∷ f.others) = left.fault ∙ ap (first_fault argument_fault) f.joined in
+    let part : argument_fault f.part ≡ value_fault f.found.value = ap argument_fault f.found.is ∙ argument_fine (name_of start) f.found.value in
     record {
       middle = f.middle;
+      place = f.found.place;
       value = f.found.value;
-      match = f.found.match;
-      fine = sym (argument_fine (name_of start) f.found.value) ∙ (ap argument_fault (sym f.found.is) ∙ first_none _ _ fine);
-      then = record {
+      head = f.found.head;
+      fine = λ none. sym part ∙ first_none _ _ (sym fault ∙ none);
+      then = λ fine. record {
         arguments = f.others;
         match = f.then;
-        fine = second_none _ _ fine;
+        fault = fault ∙ ap (λ o. option_or o (first_fault argument_fault f.others)) (part ∙ fine);
         joined =
             left.joined ∙ (ap (λ given. join built (arguments_meant given)) f.joined
             ∙ (ap (λ a. join built (with_argument a (arguments_meant f.others))) f.found.is
@@ -74,25 +78,28 @@ left_next first s rest built meant start left f =
       };
     }
 
-pub left_none : (first : Bool) (s rest : List ℕ) (built meant : Arguments) → (left : Left first s rest built meant) → NoneLeft s rest left.arguments → built ≡ meant
-left_none first s rest built meant left n =
-    sym (left.joined ∙ (ap (λ given. join built (arguments_meant given)) n.none
-    ∙ (ap (λ p. record { positional = p; keyword = built.keyword ++ [] }) (append_none built.positional) ∙ ap (λ k. record { positional = built.positional; keyword = k }) (append_none built.keyword))))
+pub left_none : (first : Bool) (s rest : List ℕ) (built meant : Arguments) (whole : Option Fault) → (left : Left first s rest built meant whole) → NoneLeft s rest left.arguments
+    → (whole ≡ None) × (built ≡ meant)
+left_none first s rest built meant whole left n = (
+  left.fault ∙ ap (first_fault argument_fault) n.none,
+  sym (left.joined ∙ (ap (λ given. join built (arguments_meant given)) n.none
+      ∙ (ap (λ p. record { positional = p; keyword = built.keyword ++ [] }) (append_none built.positional) ∙ ap (λ k. record { positional = built.positional; keyword = k }) (append_none built.keyword)))),
+)
 
 -- a keyword argument in the program
 abbrev pub key_of : Bor (List ℕ) × Expression → List ℕ × ExpressionShape
 key_of k = (k.0.now, expression_of k.1)
 
-pub keyword_then : (rest middle end : List ℕ) (built meant : Arguments) (o : Option (List ℕ)) (name : List ℕ) (e e' : ExpressionShape) (ks : List (List ℕ × ExpressionShape))
-    → Left false middle end (with_last o e built) meant → o ≡ Some name → e' ≡ e → rest ≡ middle → ks ≡ built.keyword ++ (name, e') ∷ [] → Left false rest end (record built { keyword = ks }) meant
-keyword_then rest middle end built meant o name e e' ks left named same behind is =
-    subst (λ r. Left false r end (record built { keyword = ks }) meant) (sym behind)
-    (subst (λ k. Left false middle end (record built { keyword = k }) meant) (sym (is ∙ ap (λ x. built.keyword ++ (name, x) ∷ []) same))
-    (subst (λ o'. Left false middle end (with_last o' e built) meant) named left))
+pub keyword_then : (rest middle end : List ℕ) (built meant : Arguments) (whole : Option Fault) (o : Option (List ℕ)) (name : List ℕ) (e e' : ExpressionShape) (ks : List (List ℕ × ExpressionShape))
+    → Left false middle end (with_last o e built) meant whole → o ≡ Some name → e' ≡ e → rest ≡ middle → ks ≡ built.keyword ++ (name, e') ∷ [] → Left false rest end (record built { keyword = ks }) meant whole
+keyword_then rest middle end built meant whole o name e e' ks left named same behind is =
+    subst (λ r. Left false r end (record built { keyword = ks }) meant whole) (sym behind)
+    (subst (λ k. Left false middle end (record built { keyword = k }) meant whole) (sym (is ∙ ap (λ x. built.keyword ++ (name, x) ∷ []) same))
+    (subst (λ o'. Left false middle end (with_last o' e built) meant whole) named left))
 
-pub positional_then : (rest middle end : List ℕ) (built meant : Arguments) (o : Option (List ℕ)) (e e' : ExpressionShape) (es : List ExpressionShape)
-    → Left false middle end (with_last o e built) meant → o ≡ None → e' ≡ e → rest ≡ middle → es ≡ built.positional ++ e' ∷ [] → Left false rest end (record built { positional = es }) meant
-positional_then rest middle end built meant o e e' es left named same behind is =
-    subst (λ r. Left false r end (record built { positional = es }) meant) (sym behind)
-    (subst (λ k. Left false middle end (record built { positional = k }) meant) (sym (is ∙ ap (λ x. built.positional ++ x ∷ []) same))
-    (subst (λ o'. Left false middle end (with_last o' e built) meant) named left))
+pub positional_then : (rest middle end : List ℕ) (built meant : Arguments) (whole : Option Fault) (o : Option (List ℕ)) (e e' : ExpressionShape) (es : List ExpressionShape)
+    → Left false middle end (with_last o e built) meant whole → o ≡ None → e' ≡ e → rest ≡ middle → es ≡ built.positional ++ e' ∷ [] → Left false rest end (record built { positional = es }) meant whole
+positional_then rest middle end built meant whole o e e' es left named same behind is =
+    subst (λ r. Left false r end (record built { positional = es }) meant whole) (sym behind)
+    (subst (λ k. Left false middle end (record built { positional = k }) meant whole) (sym (is ∙ ap (λ x. built.positional ++ x ∷ []) same))
+    (subst (λ o'. Left false middle end (with_last o' e built) meant whole) named left))

@@ -114,6 +114,10 @@ identifier_expected place handed k is = ap (λ s. option_and_then as_identifier 
 pub literal_expected : (place : List ℕ) (handed : Token) (k : Kind) → IsValue place handed k → expect_literal handed ≡ option_map literal_tree (literal_of_kind k)
 literal_expected place handed k is = ap (λ s. option_and_then as_literal (value_of s)) is.is ∙ (value_literal is.value ∙ ap (λ x. option_map literal_tree (literal_of_kind x)) (sym is.kind_is))
 
+pub literal_is : (place : List ℕ) (handed : Token) (l : Literal) → IsValue place handed (literal_kind l) → expect_literal handed ≡ Some (literal_tree l)
+unfolding literal_of_kind
+literal_is place handed l is = literal_expected place handed (literal_kind l) is
+
 -- literals, variables and identifiers are values
 pub values_of_kinds : (k : TokenKind) → ((l : CodeLiteral) × k ≡ kind.Literal l) ⊎ ((k ≡ kind.Variable) ⊎ ((name : Bor (List ℕ)) × k ≡ kind.Identifier name)) → is_value_kind (token_kind_of k) ≡ true
 unfolding is_value_kind

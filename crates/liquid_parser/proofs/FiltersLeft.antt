@@ -1,10 +1,11 @@
 -- What is left of the filters of a chain, behind those that were made.
 use Rattle.std.proofs.Common.{◌≡◌, ℕ, List, [], ◌∷◌, ◌++◌, Option, Some, None, Result, Ok, Err, refl, sym, ap, ◌∙◌, subst}
 use Rattle.std.specs.Prelude.{IfSome, option_map}
+use Rattle.std.specs.Option.{option_or}
 use Rattle.std.proofs.lemmas.Option.{same_Some}
 use Rattle.liquid_error.specs.meaning.Refusal.{Refusal, ok_then}
 use Rattle.liquid_grammar.specs.declared.parts.FilterStart.{FilterStart}
-use Rattle.liquid_grammar.specs.meaning.Faults.{filter_fault, first_fault}
+use Rattle.liquid_grammar.specs.meaning.Faults.{Fault, filter_fault, first_fault}
 use Rattle.liquid_grammar.specs.meaning.Parts.{NoneLeft, First, IsFilter}
 use Rattle.liquid_grammar.specs.meaning.Rules.{Repeated, more}
 use Rattle.liquid_grammar.specs.meaning.Tokens as token
@@ -15,7 +16,7 @@ use Rattle.liquid_plugins.specs.meaning.ArgumentsOf.{Arguments}
 use Rattle.liquid_parser.specs.meaning.Handed.{arguments_meant, place_in, slice_between}
 use Rattle.liquid_parser.specs.meaning.Reading.{filters_read, filter_or, filter_refused, refusal_of_filter}
 use Rattle.liquid_parser.proofs.Slices.{front_ends}
-use Rattle.liquid_parser.proofs.Indexes.{first_none, second_none}
+use Rattle.liquid_parser.proofs.Indexes.{first_none}
 
 -- filters behind others
 abbrev pub behind_all : {F : Type 0} → List F → Result (List F) Refusal → Result (List F) Refusal
@@ -45,47 +46,50 @@ filter_here s rest f fs (more {middle = middle} m ms) =
     (subst (λ p. FilterRule p m.from.1.behind m.from.1) (sym inner.begins) (subst (λ p. FilterRule m.match.middle p m.from.1) (sym inner.ends) inner))
 
 module _ {F : Type 0} (filters : Filters F) (source : List ℕ) where
-  pub record Left (s rest : List ℕ) (made : List F) (meant : Result (List F) Refusal) : Type 0 where
+  pub record Left (s rest : List ℕ) (made : List F) (meant : Result (List F) Refusal) (whole : Option Fault) : Type 0 where
     pub filters_left : List token.Filter
     pub match : Repeated (Behind 124 FilterRule) s rest filters_left
-    pub fine : first_fault filter_fault filters_left ≡ None
+    pub fault : whole ≡ first_fault filter_fault filters_left
     pub joined : meant ≡ behind_all made (filters_read filters source filters_left)
 
-  pub left_all : (s rest : List ℕ) (fs : List token.Filter) → Repeated (Behind 124 FilterRule) s rest fs → first_fault filter_fault fs ≡ None → Left s rest [] (filters_read filters source fs)
-  left_all s rest fs m fine = record { filters_left = fs; match = m; fine = fine; joined = sym (behind_none _) }
+  pub left_all : (s rest : List ℕ) (fs : List token.Filter) → Repeated (Behind 124 FilterRule) s rest fs → Left s rest [] (filters_read filters source fs) (first_fault filter_fault fs)
+  left_all s rest fs m = record { filters_left = fs; match = m; fault = refl; joined = sym (behind_none _) }
 
-  -- one more filter, and what is left behind it
-  pub record Next (s : List ℕ) (start : FilterStart) (rest : List ℕ) (made : List F) (meant : Result (List F) Refusal) : Type 0 where
+  -- one more filter, and what is left behind it where it has no fault
+  pub record Next (s : List ℕ) (start : FilterStart) (rest : List ℕ) (made : List F) (meant : Result (List F) Refusal) (whole : Option Fault) : Type 0 where
     pub middle : List ℕ
     pub filter : token.Filter
     pub found : IsFilter start middle filter
     pub here : FilterRule filter.place filter.behind filter
-    pub fine : filter_fault filter ≡ None
-    pub made_next : (x : F) → filter_or filters source (filters.get filter.what.0) filter ≡ Ok x → Left middle rest (made ++ x ∷ []) meant
+    pub fine : whole ≡ None → filter_fault filter ≡ None
+    pub made_next : filter_fault filter ≡ None → (x : F) → filter_or filters source (filters.get filter.what.0) filter ≡ Ok x → Left middle rest (made ++ x ∷ []) meant whole
     pub refused : (r : Refusal) → filter_or filters source (filters.get filter.what.0) filter ≡ Err r → meant ≡ Err r
 
-  pub left_next : (s rest : List ℕ) (made : List F) (meant : Result (List F) Refusal) (start : FilterStart)
-      → (left : Left s rest made meant) → First (IsFilter start) (Repeated (Behind 124 FilterRule)) rest left.filters_left → Next s start rest made meant
-  left_next s rest made meant start left f =
-      let fine : first_fault filter_fault (f.part ∷ f.others) ≡ None = ap (first_fault filter_fault) (sym f.joined) ∙ left.fine in
+  pub left_next : (s rest : List ℕ) (made : List F) (meant : Result (List F) Refusal) (whole : Option Fault) (start : FilterStart)
+      → (left : Left s rest made meant whole) → First (IsFilter start) (Repeated (Behind 124 FilterRule)) rest left.filters_left → Next s start rest made meant whole
+  left_next s rest made meant full start left f =
+      let fault : full ≡ first_fault filter_fault (f.part ∷ f.others) = left.fault ∙ ap (first_fault filter_fault) f.joined in
       let whole = left.joined ∙ ap (λ fs. behind_all made (filters_read filters source fs)) f.joined in
       record {
         middle = f.middle;
         filter = f.part;
         found = f.found;
         here = filter_here s rest f.part f.others (subst (λ fs. Repeated (Behind 124 FilterRule) s rest fs) f.joined left.match);
-        fine = first_none _ _ fine;
-        made_next = λ x is. record {
+        fine = λ none. first_none _ _ (sym fault ∙ none);
+        made_next = λ fine x is. record {
           filters_left = f.others;
           match = f.then;
-          fine = second_none _ _ fine;
+          fault = fault ∙ ap (λ o. option_or o (first_fault filter_fault f.others)) fine;
           joined = whole ∙ (ap (λ o. behind_all made (ok_then o (λ y. ok_then (filters_read filters source f.others) (λ ys. Ok (y ∷ ys))))) is ∙ behind_push made x (filters_read filters source f.others));
         };
         refused = λ r is. whole ∙ ap (λ o. behind_all made (ok_then o (λ y. ok_then (filters_read filters source f.others) (λ ys. Ok (y ∷ ys))))) is;
       }
 
-  pub left_none : (s rest : List ℕ) (made : List F) (meant : Result (List F) Refusal) → (left : Left s rest made meant) → NoneLeft s rest left.filters_left → meant ≡ Ok made
-  left_none s rest made meant left n = left.joined ∙ (ap (λ fs. behind_all made (filters_read filters source fs)) n.none ∙ ap (λ xs. Ok xs) (append_none made))
+  pub left_none : (s rest : List ℕ) (made : List F) (meant : Result (List F) Refusal) (whole : Option Fault) → (left : Left s rest made meant whole) → NoneLeft s rest left.filters_left → (whole ≡ None) × (meant ≡ Ok made)
+  left_none s rest made meant whole left n = (
+    left.fault ∙ ap (first_fault filter_fault) n.none,
+    left.joined ∙ (ap (λ fs. behind_all made (filters_read filters source fs)) n.none ∙ ap (λ xs. Ok xs) (append_none made)),
+  )
 
   -- what a filter makes of its arguments
   pub made_ok : (make : Arguments → Result F Refusal) (f : token.Filter) (a : Arguments) (x : F) → filters.get f.what.0 ≡ Some make → a ≡ arguments_meant f.what.1 → make a ≡ Ok x

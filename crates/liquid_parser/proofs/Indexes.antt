@@ -2,7 +2,7 @@
 use Rattle.std.proofs.Common.{◌≡◌, ℕ, List, [], ◌∷◌, ◌++◌, Option, None, Some, refl, sym, ap, ◌∙◌}
 use Rattle.std.specs.Option.{option_or}
 use Rattle.liquid_grammar.specs.declared.parts.IndexStart.{IndexStart}
-use Rattle.liquid_grammar.specs.meaning.Faults.{indexes_fault, index_fault}
+use Rattle.liquid_grammar.specs.meaning.Faults.{Fault, indexes_fault, index_fault}
 use Rattle.liquid_grammar.specs.meaning.Parts.{NoneLeft, First, IsIndex}
 use Rattle.liquid_grammar.specs.meaning.Rules.{Repeated}
 use Rattle.liquid_grammar.specs.meaning.Values.{Index, gather, IndexRule}
@@ -31,39 +31,43 @@ pub second_none : {A : Type 0} (a b : Option A) → option_or a b ≡ None → b
 second_none None b e = e
 second_none (Some x) b e = cc
 
-pub record Left (depth : ℕ) (s rest : List ℕ) (built : List ExpressionShape) (meant : Indexes) : Type 0 where
+pub record Left (depth : ℕ) (s rest : List ℕ) (built : List ExpressionShape) (meant : Indexes) (whole : Option Fault) : Type 0 where
   pub indexes : List Index
   pub match : Repeated IndexRule s rest indexes
-  pub fine : indexes_fault depth (gather indexes) ≡ None
+  pub fault : whole ≡ indexes_fault depth (gather indexes)
   pub joined : meant ≡ join built (indexes_meant (gather indexes))
 
-pub left_all : (depth : ℕ) (s rest : List ℕ) (is : List Index) → Repeated IndexRule s rest is → indexes_fault depth (gather is) ≡ None → Left depth s rest [] (indexes_meant (gather is))
-left_all depth s rest is m fine = record { indexes = is; match = m; fine = fine; joined = refl }
+pub left_all : (depth : ℕ) (s rest : List ℕ) (is : List Index) → Repeated IndexRule s rest is → Left depth s rest [] (indexes_meant (gather is)) (indexes_fault depth (gather is))
+left_all depth s rest is m = record { indexes = is; match = m; fault = refl; joined = refl }
 
--- one more index, and what is left behind it
-pub record Next (depth : ℕ) (s : List ℕ) (start : IndexStart) (after rest : List ℕ) (built : List ExpressionShape) (meant : Indexes) : Type 0 where
+-- one more index, and what is left behind it where it has no fault
+pub record Next (depth : ℕ) (s : List ℕ) (start : IndexStart) (after rest : List ℕ) (built : List ExpressionShape) (meant : Indexes) (whole : Option Fault) : Type 0 where
   pub middle : List ℕ
   pub index_here : Index
   pub found : IsIndex s start after middle index_here
-  pub fine : index_fault depth index_here ≡ None
-  pub then : Left depth middle rest (built ++ index_meant index_here ∷ []) meant
+  pub fine : whole ≡ None → index_fault depth index_here ≡ None
+  pub then : index_fault depth index_here ≡ None → Left depth middle rest (built ++ index_meant index_here ∷ []) meant whole
 
-pub left_next : (depth : ℕ) (s rest : List ℕ) (built : List ExpressionShape) (meant : Indexes) (start : IndexStart) (after : List ℕ)
-    → (left : Left depth s rest built meant) → First (IsIndex s start after) (Repeated IndexRule) rest left.indexes → Next depth s start after rest built meant
-left_next depth s rest built meant start after left f =
-    let fine : indexes_fault depth (gather (f.part ∷ f.others)) ≡ None = ap (λ is. indexes_fault depth (gather is)) (sym f.joined) ∙ left.fine in
+pub left_next : (depth : ℕ) (s rest : List ℕ) (built : List ExpressionShape) (meant : Indexes) (whole : Option Fault) (start : IndexStart) (after : List ℕ)
+    → (left : Left depth s rest built meant whole) → First (IsIndex s start after) (Repeated IndexRule) rest left.indexes → Next depth s start after rest built meant whole
+left_next depth s rest built meant whole start after left f =
+    let fault : whole ≡ indexes_fault depth (gather (f.part ∷ f.others)) = left.fault ∙ ap (λ is. indexes_fault depth (gather is)) f.joined in
     record {
       middle = f.middle;
       index_here = f.part;
       found = f.found;
-      fine = first_none _ _ fine;
-      then = record {
+      fine = λ none. first_none _ _ (sym fault ∙ none);
+      then = λ fine. record {
         indexes = f.others;
         match = f.then;
-        fine = second_none _ _ fine;
+        fault = fault ∙ ap (λ o. option_or o (indexes_fault depth (gather f.others))) fine;
         joined = left.joined ∙ (ap (λ is. join built (indexes_meant (gather is))) f.joined ∙ sym (join_last built (index_meant f.part) (indexes_meant (gather f.others))));
       };
     }
 
-pub left_none : (depth : ℕ) (s rest : List ℕ) (built : List ExpressionShape) (meant : Indexes) → (left : Left depth s rest built meant) → NoneLeft s rest left.indexes → indexes_of built ≡ meant
-left_none depth s rest built meant left n = sym (left.joined ∙ (ap (λ is. join built (indexes_meant (gather is))) n.none ∙ join_all built))
+pub left_none : (depth : ℕ) (s rest : List ℕ) (built : List ExpressionShape) (meant : Indexes) (whole : Option Fault) → (left : Left depth s rest built meant whole) → NoneLeft s rest left.indexes
+    → (whole ≡ None) × (indexes_of built ≡ meant)
+left_none depth s rest built meant whole left n = (
+  left.fault ∙ ap (λ is. indexes_fault depth (gather is)) n.none,
+  sym (left.joined ∙ (ap (λ is. join built (indexes_meant (gather is))) n.none ∙ join_all built)),
+)

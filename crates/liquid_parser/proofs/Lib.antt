@@ -21,3 +21,5 @@ pub mod BlockLemmas
 pub mod AllLemmas
 pub mod ParsedLemmas
 pub mod NameLemmas
+pub mod LiteralLemmas
+pub mod FineLemmas

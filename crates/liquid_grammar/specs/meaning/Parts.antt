@@ -9,9 +9,10 @@ use Rattle.liquid_grammar.specs.declared.parts.ArgumentStart.{ArgumentStart}
 use Rattle.liquid_grammar.specs.declared.parts.TokenText.{TokenText}
 use Rattle.liquid_grammar.specs.declared.parts.TokenParts.{TokenParts}
 use Rattle.liquid_grammar.specs.declared.parts.TokenParts.TheVariants as parts
-use Rattle.liquid_grammar.specs.meaning.Rules.{Rule, Repeated, Seen, Optional}
+use Rattle.liquid_grammar.specs.meaning.Rules.{Rule, Begins, Repeated, Seen, Optional, ◌▷◌}
+use Rattle.liquid_grammar.specs.meaning.Grammar.{White, Closer}
 use Rattle.liquid_grammar.specs.meaning.Values.{Value, literal_value, variable_value, Index, named_index, bracketed_index, gather, CloseBracket, ValueRule, IndexRule}
-use Rattle.liquid_grammar.specs.meaning.Tokens.{Argument, positional, keyword, Filter, Chain, Token, range, chain, symbol, Behind, ArgumentRule, Arguments, arguments_of, FilterRule, ChainRule, RangeRule}
+use Rattle.liquid_grammar.specs.meaning.Tokens.{Argument, positional, keyword, Filter, Chain, Token, range, chain, symbol, Behind, ArgumentRule, Arguments, arguments_of, FilterRule, ChainRule, RangeRule, ExpressionStart, TagRule}
 use Rattle.liquid_grammar.specs.meaning.Kinds.{Kind, chain_kind}
 use Rattle.liquid_grammar.specs.meaning.KindMeanings.{token_kind_of}
 use Rattle.liquid_grammar.specs.meaning.Literals.{Literal}
@@ -94,11 +95,12 @@ abbrev pub argument_by : Option (List ℕ) → Value → Argument
 argument_by (Some name) value = keyword name value
 argument_by None value = positional value
 
--- the name of an argument, and its value
+-- the name of an argument, and its value by its beginning
 pub record IsArgument (a : ArgumentStart) (rest : List ℕ) (argument : Argument) : Type 0 where
+  pub place : List ℕ
   pub value : Value
   pub is : argument ≡ argument_by (option_map (λ name. name.now) a.name) value
-  pub match : ValueRule a.value.now rest value
+  pub head : IsHead place rest a.head a.rest.now value
 
 -- the places of a chain, and its value and filters between them
 pub record IsChain (s rest : List ℕ) (c : Chain) : Type 0 where
@@ -145,3 +147,14 @@ HasParts (parts.Symbol text) place rest token = token ≡ symbol (record { place
 pub record IsToken (t : TokenText) (rest : List ℕ) (token : Token) : Type 0 where
   pub ends : t.rest.now ≡ rest
   pub has : HasParts t.parts t.place.now rest token
+
+-- what stands before the chain of an expression, where no tag begins
+pub record OpensExpression (s start : List ℕ) : Type 0 where
+  pub white : List ℕ
+  pub match : ExpressionStart s start white
+  pub no_tag : ¬ (Begins TagRule s)
+
+-- what stands behind the chain of an expression
+pub record ClosesExpression (s rest : List ℕ) : Type 0 where
+  pub byte : ℕ
+  pub match : (White ▷ Closer 125) s rest byte

@@ -4,11 +4,29 @@ use Rattle.std.specs.Borrow.{Bor}
 use Rattle.liquid_error.specs.declared.error.Error.{Error}
 use Rattle.liquid_error.specs.meaning.Refusal.{Refusal}
 use Rattle.liquid_error.specs.meaning.Told.{told}
+use Rattle.liquid_grammar.specs.meaning.Cover.{IsElement, expression}
+use Rattle.liquid_grammar.specs.meaning.Faults.{Fault, chain_fault}
+use Rattle.liquid_grammar.specs.meaning.Tokens.{Chain}
+use Rattle.liquid_plugins.specs.meaning.Nodes.{NodeShape}
+use Rattle.liquid_parser.specs.meaning.Lang.{Filters}
+use Rattle.liquid_parser.specs.meaning.Reading.{expression_read}
 
--- what was built is this, and it leaves this rest
-abbrev pub Built : {A M : Type 0} → (A → M) → Option (A × Bor (List ℕ)) → M → List ℕ → Type 0
-Built of None meant rest = ⊥
-Built of (Some found) meant rest = (of found.0 ≡ meant) × (found.1.now ≡ rest)
+-- nothing was built where there is a fault; else what was built is this, and it leaves this rest
+abbrev pub BuiltUnless : {A M : Type 0} → Option Fault → (A → M) → Option (A × Bor (List ℕ)) → M → List ℕ → Type 0
+BuiltUnless fault of None meant rest = ¬ (fault ≡ None)
+BuiltUnless fault of (Some found) meant rest = (fault ≡ None) × (of found.0 ≡ meant) × (found.1.now ≡ rest)
+
+-- there is no fault, what was made is what the reading makes, and it leaves this rest
+abbrev pub Made : {A M : Type 0} → Option Fault → (A → M) → A × Bor (List ℕ) → Result M Refusal → List ℕ → Type 0
+Made fault of found read rest = (fault ≡ None) × (read ≡ Ok (of found.0)) × (found.1.now ≡ rest)
+
+-- an expression stands here that has no fault, and is read as this node
+pub record MakesNode {F T B : Type 0} (filters : Filters F) (source s rest : List ℕ) (node : NodeShape F T B) : Type 0 where
+  pub chain : Chain
+  pub text : List ℕ
+  pub stands : IsElement s rest (expression chain text)
+  pub fine : chain_fault chain ≡ None
+  pub read : expression_read filters source chain ≡ Ok node
 
 -- the call answers what is meant, and leaves this rest; want of memory says nothing
 abbrev pub GivesUpTo : {A M : Type 0} → (A → M) → Result (A × Bor (List ℕ)) Error → Result M Refusal → List ℕ → Type 0

@@ -1,26 +1,26 @@
-//! The arguments of a filter, built from a text that was matched before.
-ghost use Rattle.std.specs.Prelude.{◌≡◌, ◌≤◌, ℕ, List, None, IfOk, IfSome, length, true};
+//! The arguments of a filter, built from the text behind its name.
+ghost use Rattle.std.specs.Prelude.{◌≤◌, ℕ, List, IfOk, IfSome, length, true};
 ghost use Rattle.liquid_grammar.specs.meaning.Faults.{argument_fault, first_fault};
 ghost use Rattle.liquid_grammar.specs.meaning.Parts.{ArgumentsFrom};
 ghost use Rattle.liquid_grammar.specs.meaning.Tokens.{Argument};
 ghost use Rattle.liquid_plugins.specs.meaning.ArgumentsOf.{arguments_of};
-ghost use Rattle.liquid_parser.specs.steps.Built.{Built};
+ghost use Rattle.liquid_parser.specs.steps.Built.{BuiltUnless};
 ghost use Rattle.liquid_parser.specs.meaning.Handed.{arguments_meant};
 
-use crate::chain::build::build_value;
+use crate::chain::build::build_from;
 use liquid_grammar::next_argument;
 use liquid_plugins::FilterArguments;
 use std::alloc::{AllocError, Global};
 
 /// The arguments that stand behind a filter's name, and what follows them.
 ///
-/// Their literals and brackets have been checked. None where a value is missing.
+/// None where a literal or a bracket of them is at fault.
 pub(crate) fn build_arguments<'a>(
     alloc: Global,
     s: &'a str,
 ) -> Result<Option<(FilterArguments<'a>, &'a str)>, AllocError>
-    ensures value { (rest : List ℕ) (given : List Argument) → ArgumentsFrom true s.now rest given → first_fault argument_fault given ≡ None
-        → IfOk result (λ found. Built arguments_of found (arguments_meant given) rest) }
+    ensures value { (rest : List ℕ) (given : List Argument) → ArgumentsFrom true s.now rest given
+        → IfOk result (λ found. BuiltUnless (first_fault argument_fault given) arguments_of found (arguments_meant given) rest) }
     ensures within { IfOk result (λ found. IfSome found (λ p. length p.1.now ≤ length s.now)) }
 {
     let mut positional = Vec::new(alloc);
@@ -28,7 +28,7 @@ pub(crate) fn build_arguments<'a>(
     let mut rest = s;
     let mut is_first = true;
     'arguments: while let Some(start) = next_argument(rest, is_first) {
-        match build_value(alloc, start.value, 0)? {
+        match build_from(alloc, start.head, start.rest, 0)? {
             Some((value, behind)) => {
                 match start.name {
                     Some(name) => keyword.push((name, value))?,

@@ -1,15 +1,15 @@
-//! Expressions, built from a text that was matched before. Each part of the text is walked once.
-ghost use Rattle.std.specs.Prelude.{◌≡◌, ◌<◌, ◌≤◌, ℕ, List, None, Some, IfOk, IfSome, length};
-ghost use Rattle.liquid_grammar.specs.meaning.Faults.{fault_within, index_fault, indexes_fault};
+//! Expressions, built from a text that begins with one. Each part of the text is walked once.
+ghost use Rattle.std.specs.Prelude.{◌≡◌, ◌<◌, ◌≤◌, ℕ, List, None, Some, IfOk, IfSome, MatchOption, length};
+ghost use Rattle.liquid_grammar.specs.meaning.Faults.{fault_within, index_fault, indexes_fault, literal_fault};
 ghost use Rattle.liquid_grammar.specs.meaning.Meanings.{literal_of};
-ghost use Rattle.liquid_grammar.specs.meaning.Parts.{IsIndex};
+ghost use Rattle.liquid_grammar.specs.meaning.Parts.{IsHead, IsIndex};
 ghost use Rattle.liquid_grammar.specs.meaning.Rules.{Begins, Repeated};
 ghost use Rattle.liquid_grammar.specs.meaning.Values.{Value as MatchedValue, ValueRule, Index, IndexRule, CloseBracket, gather};
 ghost use Rattle.liquid_scalar.specs.meaning.Scalar.{text};
 ghost use Rattle.liquid_value.specs.meaning.View.{view as tree_of};
 ghost use Rattle.liquid_plugins.specs.meaning.Expression.{variable};
 ghost use Rattle.liquid_plugins.specs.meaning.ExpressionOf.{expression_of};
-ghost use Rattle.liquid_parser.specs.steps.Built.{Built};
+ghost use Rattle.liquid_parser.specs.steps.Built.{BuiltUnless};
 ghost use Rattle.liquid_parser.specs.meaning.Handed.{literal_tree, expression_meant, indexes_meant, index_meant};
 
 use liquid_grammar::{
@@ -22,7 +22,7 @@ use std::alloc::{AllocError, Global};
 
 /// The expression of the value that the text begins with, inside as many open brackets, and what follows it.
 ///
-/// The value's literals and brackets have been checked. None where no value begins.
+/// None where a literal or a bracket of it is at fault, and where no value begins.
 #[cycle(build)]
 pub(crate) fn build_value<'a>(
     alloc: Global,
@@ -31,16 +31,34 @@ pub(crate) fn build_value<'a>(
 ) -> Result<Option<(Expression, &'a str)>, AllocError>
     requires { depth ≤ 100 }
     ensures value { (rest : List ℕ) (v : MatchedValue) → ValueRule s.now rest v → (0 < depth → Begins CloseBracket rest)
-        → fault_within depth v ≡ None
-        → IfOk result (λ found. Built expression_of found (expression_meant v) rest) }
+        → IfOk result (λ found. BuiltUnless (fault_within depth v) expression_of found (expression_meant v) rest) }
     ensures within { IfOk result (λ found. IfSome found (λ p. length p.1.now ≤ length s.now)) }
 {
     match value_head(s) {
-        Some((Head::Literal(literal), rest)) => {
-            Ok(Some((Expression::Literal(literal_value(alloc, literal)?), rest)))
-        }
-        Some((Head::Name(name), rest)) => build_variable(alloc, name, rest, depth),
+        Some((head, behind)) => build_from(alloc, head, behind, depth),
         None => Ok(None),
+    }
+}
+
+/// The same of a value that begins so, with what stands behind its beginning.
+#[cycle(build)]
+pub(crate) fn build_from<'a>(
+    alloc: Global,
+    head: Head<'_>,
+    s: &'a str,
+    depth: usize,
+) -> Result<Option<(Expression, &'a str)>, AllocError>
+    requires { depth ≤ 100 }
+    ensures value { (place rest : List ℕ) (v : MatchedValue) → IsHead place rest head.entry s.now v → (0 < depth → Begins CloseBracket rest)
+        → IfOk result (λ found. BuiltUnless (fault_within depth v) expression_of found (expression_meant v) rest) }
+    ensures within { IfOk result (λ found. IfSome found (λ p. length p.1.now ≤ length s.now)) }
+{
+    match head {
+        Head::Literal(literal) => match literal_value(alloc, literal)? {
+            Some(value) => Ok(Some((Expression::Literal(value), s))),
+            None => Ok(None),
+        },
+        Head::Name(name) => build_variable(alloc, name, s, depth),
     }
 }
 
@@ -54,8 +72,8 @@ pub(crate) fn build_variable<'a>(
 ) -> Result<Option<(Expression, &'a str)>, AllocError>
     requires { depth ≤ 100 }
     ensures value { (rest : List ℕ) (is : List Index) → Repeated IndexRule s.now rest is → (0 < depth → Begins CloseBracket rest)
-        → indexes_fault depth (gather is) ≡ None
-        → IfOk result (λ found. Built expression_of found (variable (text name.now) (indexes_meant (gather is))) rest) }
+        → IfOk result (λ found. BuiltUnless (indexes_fault depth (gather is)) expression_of found
+        (variable (text name.now) (indexes_meant (gather is))) rest) }
     ensures within { IfOk result (λ found. IfSome found (λ p. length p.1.now ≤ length s.now)) }
 {
     let mut indexes = Vec::new(alloc);
@@ -82,8 +100,8 @@ fn build_index<'a>(
     depth: usize,
 ) -> Result<Option<(Expression, &'a str)>, AllocError>
     requires { depth ≤ 100 }
-    ensures value { (place rest : List ℕ) (i : Index) → IsIndex place start.entry s.now rest i → index_fault depth i ≡ None
-        → IfOk result (λ found. Built expression_of found (index_meant i) rest) }
+    ensures value { (place rest : List ℕ) (i : Index) → IsIndex place start.entry s.now rest i
+        → IfOk result (λ found. BuiltUnless (index_fault depth i) expression_of found (index_meant i) rest) }
     ensures within { IfOk result (λ found. IfSome found (λ p. length p.1.now ≤ length s.now)) }
 {
     match start {
@@ -106,19 +124,28 @@ fn build_index<'a>(
     }
 }
 
-/// What a literal stands for.
+/// What a literal stands for. None where it is at fault.
 #[inline(always)]
-pub(crate) fn literal_value(alloc: Global, literal: Literal<'_>) -> Result<Value, AllocError>
-    ensures { IfOk result (λ v. tree_of v ≡ literal_tree (literal_of literal.entry)) }
+pub(crate) fn literal_value(
+    alloc: Global,
+    literal: Literal<'_>,
+) -> Result<Option<Value>, AllocError>
+    ensures { (place : List ℕ) → IfOk result (λ found. MatchOption found (¬ (literal_fault place (literal_of literal.entry) ≡ None))
+        (λ v. (literal_fault place (literal_of literal.entry) ≡ None) × (tree_of v ≡ literal_tree (literal_of literal.entry)))) }
 {
     match literal {
-        Literal::Nil | Literal::Decimal(_) => Ok(Value::Nil),
-        Literal::Empty => Ok(Value::State(State::Empty)),
-        Literal::Blank => Ok(Value::State(State::Blank)),
-        Literal::Truth(truth) => Ok(Value::Scalar(ScalarOf::Bool(truth))),
-        Literal::Text(text) => Ok(Value::Scalar(ScalarOf::Str(String::from_str(alloc, text)?))),
-        Literal::Integer(digits) => Ok(Value::Scalar(ScalarOf::Integer(integer_of(digits).unwrap_or(
-            0,
-        )))),
+        Literal::Nil => Ok(Some(Value::Nil)),
+        Literal::Empty => Ok(Some(Value::State(State::Empty))),
+        Literal::Blank => Ok(Some(Value::State(State::Blank))),
+        Literal::Truth(truth) => Ok(Some(Value::Scalar(ScalarOf::Bool(truth)))),
+        Literal::Text(text) => {
+            let text = ScalarOf::Str(String::from_str(alloc, text)?);
+            Ok(Some(Value::Scalar(text)))
+        }
+        Literal::Integer(digits) => match integer_of(digits) {
+            Some(number) => Ok(Some(Value::Scalar(ScalarOf::Integer(number)))),
+            None => Ok(None),
+        },
+        Literal::Decimal(_) => Ok(None),
     }
 }

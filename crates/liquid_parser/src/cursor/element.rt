@@ -15,6 +15,7 @@ ghost use Rattle.liquid_grammar.specs.meaning.Cover as cover;
 ghost use Rattle.liquid_grammar.specs.meaning.Tokens as token;
 
 use crate::chain::filters::parse_chain;
+use crate::chain::fine::name_node;
 use crate::cursor::block::TagBlock;
 use crate::cursor::tag::Tag;
 use crate::cursor::tokens::TagTokenIter;
@@ -24,7 +25,7 @@ use crate::plugin::tag::ParseTag;
 use crate::reading::place::{check, refused_at};
 use liquid_error::Error;
 use liquid_grammar::{Element, match_white, parts_are_matches};
-use liquid_plugins::{BRIEF_LIMIT, Brief, FilterChain, Node, ParseFilter};
+use liquid_plugins::{BRIEF_LIMIT, Brief, Node, ParseFilter};
 use std::alloc::{AllocError, Global};
 
 /// Text that is written as it stands. It borrows the source.
@@ -107,12 +108,7 @@ impl<'a> Exp<'a> {
     {
         // Most expressions are names, whose text need not be walked again.
         if let Some(name) = self.name {
-            if name.len() > BRIEF_LIMIT {
-                return Ok(Node::Chain(FilterChain::of_name(alloc, name)?));
-            }
-            let mut brief = Brief::new();
-            brief.push_str(name);
-            return Ok(Node::Name(brief));
+            return Ok(name_node::<F, T, B>(alloc, name)?);
         }
         match parse_chain(alloc, self.source, self.chain, &language.filters) {
             Ok(chain) => Ok(Node::Chain(chain)),

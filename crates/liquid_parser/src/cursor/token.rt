@@ -2,7 +2,8 @@
 ghost use Rattle.std.specs.Prelude.{◌≡◌, [], IfSome, None, Some, IfOk, MatchOption, ok_or};
 ghost use Rattle.liquid_error.specs.meaning.Told.{told, Gives};
 ghost use Rattle.liquid_parser.specs.meaning.Cursors.{IsToken, IsValue, Tries, expect_str, expect_filter_chain, FailedToken, matched_of};
-ghost use Rattle.liquid_parser.specs.meaning.Handed.{Token, chain, token_error, unexpected, expect_identifier, expect_literal, expect_range, expect_value, expect_variable, or_unexpected};
+ghost use Rattle.liquid_parser.specs.meaning.Handed.{Token, chain, token_error, unexpected, or_unexpected};
+ghost use Rattle.liquid_parser.specs.meaning.Handed.{expect_identifier, expect_literal, expect_range, expect_value, expect_variable};
 ghost use Rattle.liquid_grammar.specs.meaning.KindMeanings.{token_kind_of};
 ghost use Rattle.liquid_value.specs.meaning.View.{view as tree_of};
 ghost use Rattle.liquid_plugins.specs.meaning.ExpressionOf.{expression_of, variable_of, chain_of};
@@ -85,9 +86,10 @@ impl<'a> TagToken<'a> {
         ensures { (t : Token) → IsToken self.entry t → IfOk result (λ m. Tries tree_of self.entry m (expect_literal t)) }
     {
         match self.value_kind() {
-            Some(TokenKind::Literal(literal)) => {
-                Ok(TryMatchToken::Matches(literal_value(alloc, literal)?))
-            }
+            Some(TokenKind::Literal(literal)) => match literal_value(alloc, literal)? {
+                Some(value) => Ok(TryMatchToken::Matches(value)),
+                None => Ok(TryMatchToken::Fails(self)),
+            },
             Some(
                 TokenKind::Range
                 | TokenKind::Symbol
@@ -163,14 +165,18 @@ impl<'a> TagToken<'a> {
             → IfOk result (λ found. IfSome found (λ value. t.shape ≡ chain (expression_of value) [])) }
     {
         match self.text.parts {
-            TokenParts::Chain(TokenKind::Literal(literal)) => {
-                Ok(Some(Expression::Literal(literal_value(alloc, literal)?)))
-            }
-            TokenParts::Chain(TokenKind::Identifier(name)) => {
-                let name = ScalarOf::Str(String::from_str(alloc, name)?);
-                Ok(Some(Expression::of_parts(name, Vec::new(alloc))))
-            }
-            _ => Ok(None),
+            TokenParts::Chain(kind) => match kind {
+                TokenKind::Literal(literal) => match literal_value(alloc, literal)? {
+                    Some(value) => Ok(Some(Expression::Literal(value))),
+                    None => Ok(None),
+                },
+                TokenKind::Identifier(name) => {
+                    let name = ScalarOf::Str(String::from_str(alloc, name)?);
+                    Ok(Some(Expression::of_parts(name, Vec::new(alloc))))
+                }
+                _ => Ok(None),
+            },
+            TokenParts::Range { .. } | TokenParts::Symbol(_) => Ok(None),
         }
     }
 

@@ -9,6 +9,7 @@ ghost use Rattle.liquid_parser.specs.meaning.Reading.{Answers, Reads, OneReading
 ghost use Rattle.liquid_parser.specs.steps.Views.{state_view};
 ghost use Rattle.liquid_parser.specs.meaning.Reading as spec;
 
+use crate::chain::fine::fine_expression;
 use crate::cursor::element::handed_over;
 use crate::plugin::block::ParseBlock;
 use crate::plugin::language::Language;
@@ -61,20 +62,30 @@ fn nodes_of<'a, F: ParseFilter + Drop, T: ParseTag<F> + Drop, B: ParseBlock<F> +
         nodes: Vec::new(alloc),
     };
     let mut rest = text;
-    'elements: while let Some((found, behind)) = next_element(rest) {
-        let element = match handed_over(alloc, text, rest, found) {
-            Ok(element) => element,
-            Err(error) => return Err(error),
-        };
-        match advance(alloc, 0, text, state, element, behind, language) {
-            Ok((next, after)) => {
-                state = next;
-                rest = after;
+    'elements: loop {
+        match fine_expression(alloc, rest, language)? {
+            Some((node, behind)) => {
+                state.nodes.push(node)?;
+                rest = behind;
             }
-            Err(error) => return Err(error),
+            None => match next_element(rest) {
+                Some((found, behind)) => {
+                    let element = match handed_over(alloc, text, rest, found) {
+                        Ok(element) => element,
+                        Err(error) => return Err(error),
+                    };
+                    match advance(alloc, 0, text, state, element, behind, language) {
+                        Ok((next, after)) => {
+                            state = next;
+                            rest = after;
+                        }
+                        Err(error) => return Err(error),
+                    }
+                }
+                None => return ended::<F, T, B>(alloc, text, state),
+            },
         }
     }
-    ended::<F, T, B>(alloc, text, state)
 }
 
 /// The nodes of a text that is read to its end.

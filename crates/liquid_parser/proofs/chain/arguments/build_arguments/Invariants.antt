@@ -1,6 +1,6 @@
 use denote.Text.{Utf8}
 use denote.Shadow.{shadow}
-use Rattle.std.proofs.Common.{◌≡◌, ◌≤◌, ℕ, List, None, length, map, true}
+use Rattle.std.proofs.Common.{◌≡◌, ◌≤◌, ℕ, List, length, map, true}
 use Rattle.liquid_grammar.specs.meaning.Faults.{argument_fault, first_fault}
 use Rattle.liquid_grammar.specs.meaning.Parts.{ArgumentsFrom}
 use Rattle.liquid_grammar.specs.meaning.Tokens.{Argument}
@@ -17,5 +17,5 @@ abbrev pub invariant-arguments : goal.invariant-arguments
 invariant-arguments l =
     shadow (Utf8 l.rest)
     × (length l.rest ≤ length l.s)
-    × ((end : List ℕ) (given : List Argument) → ArgumentsFrom true l.s end given → first_fault argument_fault given ≡ None
-    → Left l.is_first l.rest end (record { positional = map expression_of l.positional.items; keyword = map (λ k. (k.0.now, expression_of k.1)) l.keyword.items }) (arguments_meant given))
+    × ((end : List ℕ) (given : List Argument) → ArgumentsFrom true l.s end given
+    → Left l.is_first l.rest end (record { positional = map expression_of l.positional.items; keyword = map (λ k. (k.0.now, expression_of k.1)) l.keyword.items }) (arguments_meant given) (first_fault argument_fault given))

@@ -1,10 +1,9 @@
-use Rattle.std.proofs.Common.{◌≡◌, ◌++◌, Ok, sym, ap, ◌∙◌}
+use Rattle.std.proofs.Common.{Ok, sym, ap, ◌∙◌}
 use Rattle.liquid_error.specs.meaning.Refusal.{ok_then}
-use Rattle.liquid_plugins.specs.meaning.NodesOf.{name_chain}
 use Rattle.liquid_plugins.specs.meaning.Nodes.{chain_node}
 use Rattle.liquid_parser.specs.meaning.Plugins.{registry_of}
 use Rattle.liquid_parser.proofs.NameLemmas.{name_read}
-use Rattle.liquid_parser.proofs.StepLemmas.{chain_shape, name_shape, then_refused}
+use Rattle.liquid_parser.proofs.StepLemmas.{chain_shape, then_refused}
 use Rattle.liquid_parser.proofs.cursor.element.Exp.parse.Goals as goal
 
 pub returns-in-Ok : goal.returns-in-Ok
@@ -16,15 +15,7 @@ pub returns-in-Err : goal.returns-in-Err
 returns-in-Err g c source chain is =
     then_refused _ _ (λ made. Ok (chain_node made)) (rw is.source_is at c.in-Err.ensures chain.behind chain is.match is.fine)
 
-pub returns-then-name-gt-BRIEF_LIMIT : goal.returns-then-name-gt-BRIEF_LIMIT
-returns-then-name-gt-BRIEF_LIMIT g c source chain is =
-    ap (λ r. ok_then r (λ made. Ok (chain_node made))) (name_read (registry_of g.F.ParseFilter.makes c.args.language.now.filters) source _ chain (rw c.in-Some.is at is.name_is))
-    ∙ (ap (λ made. Ok (chain_node made)) (sym c.in_ok-of_name.ensures)
-    ∙ ap (λ n. Ok n) (sym (chain_shape g.F.Filter.Meant.shape g.T.Node.Meant.shape g.B.Node.Meant.shape c.in_ok-of_name.field-0)))
-
 pub returns-in-Some : goal.returns-in-Some
 returns-in-Some g c source chain is =
-    let e : c.push_str.new.self.bytes ≡ c.in-Some.name.now = c.push_str.ensures.bytes ∙ ap (λ bytes. bytes ++ c.in-Some.name.now) c.new-brief.ensures in
     ap (λ r. ok_then r (λ made. Ok (chain_node made))) (name_read (registry_of g.F.ParseFilter.makes c.args.language.now.filters) source _ chain (rw c.in-Some.is at is.name_is))
-    ∙ (ap (λ bytes. Ok (chain_node (name_chain bytes))) (sym e)
-    ∙ ap (λ n. Ok n) (sym (name_shape g.F.Filter.Meant.shape g.T.Node.Meant.shape g.B.Node.Meant.shape c.push_str.new.self)))
+    ∙ ap (λ n. Ok n) (sym c.in_ok-name_node.ensures)

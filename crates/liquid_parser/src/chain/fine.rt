@@ -1,0 +1,158 @@
+//! Expressions in which nothing is refused, read in one walk.
+//!
+//! Each call answers None where something may be refused. What then is, another reading tells.
+ghost use Rattle.std.specs.Prelude.{◌≡◌, ◌<◌, ◌≤◌, ℕ, List, IfOk, IfSome, length, map};
+ghost use Rattle.liquid_grammar.specs.meaning.Faults.{filter_fault, chain_fault, first_fault};
+ghost use Rattle.liquid_grammar.specs.meaning.Parts.{IsFilter, IsHead};
+ghost use Rattle.liquid_grammar.specs.meaning.Rules.{Repeated};
+ghost use Rattle.liquid_grammar.specs.meaning.Tokens as token;
+ghost use Rattle.liquid_grammar.specs.meaning.Tokens.{Behind, FilterRule};
+ghost use Rattle.liquid_plugins.specs.meaning.ExpressionOf.{chain_of};
+ghost use Rattle.liquid_plugins.specs.meaning.Nodes.{chain_node};
+ghost use Rattle.liquid_plugins.specs.meaning.NodesOf.{node_of, name_chain};
+ghost use Rattle.liquid_parser.specs.meaning.Plugins.{registry_of};
+ghost use Rattle.liquid_parser.specs.meaning.Reading.{chain_read, filters_read, filter_or};
+ghost use Rattle.liquid_parser.specs.steps.Built.{Made, MakesNode};
+
+use crate::chain::arguments::build_arguments;
+use crate::chain::build::build_from;
+use crate::plugin::block::ParseBlock;
+use crate::plugin::language::Language;
+use crate::plugin::tag::ParseTag;
+use liquid_grammar::{
+    FilterStart, Head, expression_end, expression_start, next_filter, value_head,
+};
+use liquid_plugins::{BRIEF_LIMIT, Brief, FilterChain, Node, ParseFilter, PluginRegistry};
+use std::alloc::{AllocError, Global};
+
+/// The node of the expression that the text begins with, and what follows it. None where something in it may be
+/// refused, and where a dash has white space before it or no expression stands here.
+#[inline(always)]
+pub(crate) fn fine_expression<
+    'a,
+    F: ParseFilter + Drop,
+    T: ParseTag<F> + Drop,
+    B: ParseBlock<F> + Drop,
+>(
+    alloc: Global,
+    s: &'a str,
+    language: &Language<F, T, B>,
+) -> Result<Option<(Node<F::Filter, T::Node, B::Node>, &'a str)>, AllocError>
+    ensures value { (source : List ℕ) → IfOk result (λ found. IfSome found (λ p. MakesNode (registry_of F.makes language.now.filters)
+        source s.now p.1.now (node_of F.Filter.shape T.Node.shape B.Node.shape p.0))) }
+    ensures shorter { IfOk result (λ found. IfSome found (λ p. length p.1.now < length s.now)) }
+{
+    let start = match expression_start(s) {
+        Some(start) => start,
+        None => return Ok(None),
+    };
+    let (head, behind) = match value_head(start) {
+        Some(begun) => begun,
+        None => return Ok(None),
+    };
+    // Most expressions are names.
+    if let Head::Name(name) = head {
+        if let Some(rest) = expression_end(behind) {
+            return Ok(Some((name_node::<F, T, B>(alloc, name)?, rest)));
+        }
+    }
+    match fine_chain(alloc, head, behind, &language.filters)? {
+        Some((chain, end)) => match expression_end(end) {
+            Some(rest) => Ok(Some((Node::Chain(chain), rest))),
+            None => Ok(None),
+        },
+        None => Ok(None),
+    }
+}
+
+/// The node of a name alone.
+pub(crate) fn name_node<F: ParseFilter, T: ParseTag<F>, B: ParseBlock<F>>(
+    alloc: Global,
+    name: &str,
+) -> Result<Node<F::Filter, T::Node, B::Node>, AllocError>
+    ensures { IfOk result (λ node. node_of F.Filter.shape T.Node.shape B.Node.shape node ≡ chain_node (name_chain name.now)) }
+{
+    if name.len() > BRIEF_LIMIT {
+        return Ok(Node::Chain(FilterChain::of_name(alloc, name)?));
+    }
+    let mut brief = Brief::new();
+    brief.push_str(name);
+    Ok(Node::Name(brief))
+}
+
+/// The chain whose value begins so, with what stands behind that beginning, and what follows the chain.
+fn fine_chain<'a, F: ParseFilter + Drop>(
+    alloc: Global,
+    head: Head<'_>,
+    s: &'a str,
+    registry: &PluginRegistry<F>,
+) -> Result<Option<(FilterChain<F::Filter>, &'a str)>, AllocError>
+    ensures value { (source place middle rest : List ℕ) (c : token.Chain) → IsHead place middle head.entry s.now c.what.0
+        → Repeated (Behind 124 FilterRule) middle rest c.what.1
+        → IfOk result (λ found. IfSome found (λ p. Made (chain_fault c) (chain_of F.Filter.shape) p
+        (chain_read (registry_of F.makes registry.now) source c) rest)) }
+    ensures within { IfOk result (λ found. IfSome found (λ p. length p.1.now ≤ length s.now)) }
+{
+    match build_from(alloc, head, s, 0)? {
+        Some((entry, behind)) => match fine_filters(alloc, behind, registry)? {
+            Some((filters, rest)) => Ok(Some((FilterChain::new(entry, filters), rest))),
+            None => Ok(None),
+        },
+        None => Ok(None),
+    }
+}
+
+/// The filters that stand here, each behind `|`, and what follows them.
+fn fine_filters<'a, F: ParseFilter + Drop>(
+    alloc: Global,
+    s: &'a str,
+    registry: &PluginRegistry<F>,
+) -> Result<Option<(Vec<F::Filter>, &'a str)>, AllocError>
+    ensures value { (source rest : List ℕ) (fs : List token.Filter) → Repeated (Behind 124 FilterRule) s.now rest fs
+        → IfOk result (λ found. IfSome found (λ p. Made (first_fault filter_fault fs) (λ v. map F.Filter.shape v.items) p
+        (filters_read (registry_of F.makes registry.now) source fs) rest)) }
+    ensures within { IfOk result (λ found. IfSome found (λ p. length p.1.now ≤ length s.now)) }
+{
+    let mut filters = Vec::new(alloc);
+    let mut rest = s;
+    'filters: while let Some(start) = next_filter(rest) {
+        match fine_filter(alloc, start, registry)? {
+            Some((filter, behind)) => {
+                filters.push(filter)?;
+                rest = behind;
+            }
+            None => return Ok(None),
+        }
+    }
+    Ok(Some((filters, rest)))
+}
+
+/// The filter that begins so, and what follows it.
+fn fine_filter<'a, F: ParseFilter + Drop>(
+    alloc: Global,
+    start: FilterStart<'a>,
+    registry: &PluginRegistry<F>,
+) -> Result<Option<(F::Filter, &'a str)>, AllocError>
+    ensures value { (source rest : List ℕ) (f : token.Filter) → IsFilter start.entry rest f
+        → IfOk result (λ found. IfSome found (λ p. Made (filter_fault f) F.Filter.shape p
+        (filter_or (registry_of F.makes registry.now) source ((registry_of F.makes registry.now).get f.what.0) f) rest)) }
+    ensures within { IfOk result (λ found. IfSome found (λ p. length p.1.now ≤ length start.entry.rest.now)) }
+{
+    let plug_in = match registry.get(start.name) {
+        Some(plug_in) => plug_in,
+        None => return Ok(None),
+    };
+    match build_arguments(alloc, start.rest)? {
+        Some((arguments, rest)) => match plug_in.parse(alloc, arguments) {
+            Ok(filter) => Ok(Some((filter, rest))),
+            Err(error) => {
+                if error.is_memory() {
+                    Err(AllocError)
+                } else {
+                    Ok(None)
+                }
+            }
+        },
+        None => Ok(None),
+    }
+}
