@@ -1,7 +1,8 @@
 //! The parts that each walk over a matched text hands out.
 use liquid_grammar::{
     ArgumentStart, FilterStart, Head, IndexStart, Literal, TokenKind, TokenParts, close_bracket,
-    next_argument, next_filter, next_index, next_token, value_head,
+    expression_end, expression_start, next_argument, next_filter, next_index, next_token,
+    value_head,
 };
 use std::test::Fail;
 use tests_lines::{holds, same};
@@ -39,7 +40,8 @@ fn filters_begin_by_a_bar(_rt: HostRuntime) -> Result<(), Fail> {
 fn arguments_begin_by_a_colon_or_a_comma(_rt: HostRuntime) -> Result<(), Fail> {
     let first = ArgumentStart {
         name: None,
-        value: "1, to: b",
+        head: Head::Literal(Literal::Integer("1")),
+        rest: ", to: b",
     };
     holds(
         next_argument(": 1, to: b", true) == Some(first),
@@ -47,13 +49,29 @@ fn arguments_begin_by_a_colon_or_a_comma(_rt: HostRuntime) -> Result<(), Fail> {
     )?;
     let second = ArgumentStart {
         name: Some("to"),
-        value: "b",
+        head: Head::Name("b"),
+        rest: "",
     };
     holds(
         next_argument(", to: b", false) == Some(second),
         "a named one",
     )?;
     holds(next_argument("", false).is_none(), "none")
+}
+
+#[test]
+fn expressions_begin_by_braces(_rt: HostRuntime) -> Result<(), Fail> {
+    holds(expression_start("{{- a }}b") == Some("a }}b"), "a dash")?;
+    holds(expression_start("{{a}}") == Some("a}}"), "no dash")?;
+    holds(expression_start(" {{- a }}").is_none(), "white space")?;
+    holds(expression_start("{% a %}").is_none(), "a tag")
+}
+
+#[test]
+fn expressions_end_by_braces(_rt: HostRuntime) -> Result<(), Fail> {
+    holds(expression_end(" -}} b") == Some("b"), "a dash")?;
+    holds(expression_end("}} b") == Some(" b"), "no dash")?;
+    holds(expression_end(" | a }}").is_none(), "a filter")
 }
 
 #[test]
