@@ -1,11 +1,11 @@
 -- What stands before and behind the chain of an expression.
-use Rattle.std.proofs.Common.{◌≡◌, ℕ, true, false, ◌==◌, List, [], ◌∷◌, Option, Some, None, option_map, IfSome, Bor, refl, sym, ap, ◌∙◌, subst}
+use Rattle.std.proofs.Common.{◌≡◌, ℕ, true, false, ◌==◌, List, ◌∷◌, Option, Some, None, option_map, IfSome, Bor, refl, sym, ap, ◌∙◌, subst}
 use Rattle.std.proofs.lemmas.Bool.{eqb-true}
 use Rattle.std.specs.Option.{option_or}
 use Rattle.liquid_grammar.specs.meaning.Bytes.{is_white}
 use Rattle.liquid_grammar.specs.meaning.Cover.{IsElement, expression}
 use Rattle.liquid_grammar.specs.meaning.Grammar.{White, Closer}
-use Rattle.liquid_grammar.specs.meaning.Rules.{Begins, One, Byte, ◌▷◌, ◌◁◌, here, instead, Repeated, ends, more}
+use Rattle.liquid_grammar.specs.meaning.Rules.{Begins, ◌▷◌, ◌◁◌, here, instead, ends, more}
 use Rattle.liquid_grammar.specs.meaning.Values.{IndexRule}
 use Rattle.liquid_grammar.specs.meaning.Tokens.{Chain, Behind, FilterRule, ChainRule, ExpressionStart, ExpressionRule, TagRule}
 use Rattle.liquid_grammar.specs.meaning.Parts.{OpensExpression, ClosesExpression}

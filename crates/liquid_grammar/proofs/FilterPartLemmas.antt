@@ -6,7 +6,7 @@ use Rattle.liquid_grammar.specs.declared.parts.ArgumentStart.{ArgumentStart}
 use Rattle.liquid_grammar.specs.meaning.Rules.{Rule, Begins, here, instead, Repeated, Byte, Optional, ◌▷◌}
 use Rattle.liquid_grammar.specs.meaning.Grammar.{White}
 use Rattle.liquid_grammar.specs.meaning.Values.{ValueRule}
-use Rattle.liquid_grammar.specs.meaning.Tokens.{Argument, positional, keyword, Filter, Behind, KeywordStart, KeywordRule, ArgumentRule, Arguments, arguments_of, FilterRule}
+use Rattle.liquid_grammar.specs.meaning.Tokens.{Argument, positional, keyword, Filter, Behind, KeywordRule, ArgumentRule, Arguments, arguments_of, FilterRule}
 use Rattle.liquid_grammar.specs.declared.head.Head.{Head}
 use Rattle.liquid_grammar.specs.meaning.Parts.{HasHead, NoneLeft, First, IsFilter, IsArgument, ArgumentsFrom, separator}
 use Rattle.liquid_grammar.specs.steps.Heads.{HasKeyword}

@@ -1,5 +1,5 @@
 -- What the next token is, by the readers that found its parts.
-use Rattle.std.proofs.Common.{◌≡◌, ℕ, ◌-◌, List, ◌++◌, length, take, Option, Some, None, option_map, MatchOption, refl, sym, ap, ◌∙◌, subst}
+use Rattle.std.proofs.Common.{◌≡◌, ℕ, ◌-◌, List, ◌++◌, length, take, Option, Some, None, option_map, refl, sym, ap, ◌∙◌, subst}
 use Rattle.std.proofs.lemmas.Option.{same_Some}
 use Rattle.liquid_grammar.specs.declared.parts.TokenText.{TokenText}
 use Rattle.liquid_grammar.specs.meaning.Rules.{Begins, Seen, At, here, instead, Repeated, ◌▷◌}

@@ -1,7 +1,6 @@
 -- The first token of a tag, as the cursor hands it out.
-use Rattle.std.proofs.Common.{◌≡◌, ℕ, List, [], ◌∷◌, ◌++◌, map, Some, None, Ok, Err, refl, sym, ap, ◌∙◌, subst}
+use Rattle.std.proofs.Common.{◌≡◌, ℕ, List, ◌∷◌, ◌++◌, map, Some, None, Ok, Err, refl, sym, ap, ◌∙◌, subst}
 use Rattle.std.specs.Prelude.{ok_or}
-use Rattle.liquid_error.specs.declared.place.Place.{Place}
 use Rattle.liquid_error.specs.meaning.Refusal.{located}
 use Rattle.liquid_grammar.specs.declared.parts.TokenText.{TokenText}
 use Rattle.liquid_grammar.specs.declared.parts.TokenParts.{TokenParts}

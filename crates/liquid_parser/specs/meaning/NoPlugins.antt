@@ -1,6 +1,6 @@
 -- What the plug-in that does nothing means.
 use Rattle.std.specs.Prelude.{[], false, Ok, codes}
-use Rattle.liquid_parser.specs.meaning.Lang.{Block, BlockNames, BlockMeaning}
+use Rattle.liquid_parser.specs.meaning.Lang.{Block, BlockNames}
 
 -- the names of a block that does nothing
 abbrev pub no_names : BlockNames

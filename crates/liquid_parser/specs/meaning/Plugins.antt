@@ -1,5 +1,5 @@
 -- What the tokens, bodies and plug-ins of the program mean to the reading.
-use Rattle.std.specs.Prelude.{◌≡◌, ℕ, List, None, option_map, Result}
+use Rattle.std.specs.Prelude.{◌≡◌, None, option_map, Result}
 use Rattle.std.specs.FinMap.{get, keys}
 use Rattle.liquid_error.specs.meaning.Refusal.{Refusal}
 use Rattle.liquid_grammar.specs.meaning.Rules.{Repeated, ◌▷◌}

@@ -10,7 +10,6 @@ use Rattle.liquid_parser.specs.declared.reading.stack.OpenBlock.{OpenBlock}
 use Rattle.liquid_parser.specs.declared.reading.stack.ParserState.{ParserState}
 use Rattle.liquid_parser.specs.declared.reading.stack.Next.{Next}
 use Rattle.liquid_parser.specs.declared.reading.stack.Next.TheVariants.{Among, Escaped}
-use Rattle.liquid_plugins.specs.meaning.Nodes.{NodeShape}
 use Rattle.liquid_plugins.specs.meaning.NodesOf.{shapes_of}
 use Rattle.liquid_parser.specs.meaning.Handed.{place_in}
 use Rattle.liquid_parser.specs.meaning.Lang.{Lang, Block, escaped}

@@ -1,6 +1,6 @@
 use denote.Text.{Utf8}
 use denote.Shadow.{shadow}
-use Rattle.std.proofs.Common.{◌≡◌, ◌≤◌, ℕ, List, length, map, true}
+use Rattle.std.proofs.Common.{◌≤◌, ℕ, List, length, map, true}
 use Rattle.liquid_grammar.specs.meaning.Faults.{argument_fault, first_fault}
 use Rattle.liquid_grammar.specs.meaning.Parts.{ArgumentsFrom}
 use Rattle.liquid_grammar.specs.meaning.Tokens.{Argument}

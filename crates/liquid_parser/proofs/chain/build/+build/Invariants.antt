@@ -1,6 +1,6 @@
 use denote.Text.{Utf8}
 use denote.Shadow.{shadow}
-use Rattle.std.proofs.Common.{◌≡◌, ℕ, ◌+◌, ◌-◌, ◌*◌, ◌<◌, ◌≤◌, List, length, map}
+use Rattle.std.proofs.Common.{ℕ, ◌+◌, ◌-◌, ◌*◌, ◌<◌, ◌≤◌, List, length, map}
 use Rattle.liquid_grammar.specs.meaning.Faults.{indexes_fault}
 use Rattle.liquid_grammar.specs.meaning.Rules.{Begins, Repeated}
 use Rattle.liquid_grammar.specs.meaning.Values.{Index, IndexRule, CloseBracket, gather}

@@ -1,4 +1,4 @@
-use Rattle.std.proofs.Common.{◌≡◌, ◌++◌, sym, ap, ◌∙◌}
+use Rattle.std.proofs.Common.{◌≡◌, ◌++◌, ap, ◌∙◌}
 use Rattle.liquid_plugins.specs.meaning.NodesOf.{name_chain}
 use Rattle.liquid_plugins.specs.meaning.Nodes.{chain_node}
 use Rattle.liquid_parser.proofs.StepLemmas.{chain_shape, name_shape}

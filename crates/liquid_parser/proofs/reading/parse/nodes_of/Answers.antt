@@ -20,12 +20,12 @@ elements-preserved-in-Some g c =
     let made = rw c.in-Some.is at c.in_ok-node.ensures.value c.args.text.now in (
       search rules,
       Goes-on (language_of g.F.ParseFilter.makes g.T.ParseTag.gives g.B.ParseBlock.block c.args.language.now) c.args.text.now (state_view g.F.Filter.Meant.shape g.T.Node.Meant.shape g.B.Node.Meant.shape g.B.Plan.Meant.shape g.B.ParseBlock.block) _ _ (expression made.chain made.text) blocks nodes (record c.elements.state { nodes = c.push.new.self }, c.in-Some.behind) c.elements.invariant.1 made.stands
-      (λ es cover. (
-        es,
-        cover,
-        node_advanced (language_of g.F.ParseFilter.makes g.T.ParseTag.gives g.B.ParseBlock.block c.args.language.now) c.args.text.now 0 blocks nodes _ _ _ made es
-            ∙ ap (λ ns. Ok (among blocks ns, es)) (sym (last_node (node_of g.F.Filter.Meant.shape g.T.Node.Meant.shape g.B.Node.Meant.shape) c.elements.state.nodes.items _ _ c.in_ok-push-in-Some.ensures.items refl)),
-      )),
+          (λ es cover. (
+            es,
+            cover,
+            node_advanced (language_of g.F.ParseFilter.makes g.T.ParseTag.gives g.B.ParseBlock.block c.args.language.now) c.args.text.now 0 blocks nodes _ _ _ made es
+                ∙ ap (λ ns. Ok (among blocks ns, es)) (sym (last_node (node_of g.F.Filter.Meant.shape g.T.Node.Meant.shape g.B.Node.Meant.shape) c.elements.state.nodes.items _ _ c.in_ok-push-in-Some.ensures.items refl)),
+          )),
     )
 
 pub elements-preserved : goal.elements-preserved
