@@ -126,10 +126,21 @@ impl Filter for Append {
 fn joined(alloc: Global, front: &Value, back: &Value) -> Result<Value, AllocError>
     ensures { IfOk result (λ v. tree_of v ≡ scalar (text (render (tree_of front.now) ++ render (tree_of back.now)))) }
 {
-    let front = ValueRender::new(front);
-    let back = ValueRender::new(back);
-    let text = format!(in alloc; "{front}{back}")?;
-    Ok(Value::Scalar(ScalarOf::Str(text)))
+    match (front, back) {
+        // The texts of texts are known before, and need no writer.
+        (Value::Scalar(ScalarOf::Str(front)), Value::Scalar(ScalarOf::Str(back))) => {
+            let mut text = String::with_capacity(alloc, front.len().saturating_add(back.len()))?;
+            text.push_str(front)?;
+            text.push_str(back)?;
+            Ok(Value::Scalar(ScalarOf::Str(text)))
+        }
+        _ => {
+            let front = ValueRender::new(front);
+            let back = ValueRender::new(back);
+            let text = format!(in alloc; "{front}{back}")?;
+            Ok(Value::Scalar(ScalarOf::Str(text)))
+        }
+    }
 }
 
 /// Either filter, so that one language has both.
