@@ -3,7 +3,7 @@
 //! Each call answers None where something may be refused. What then is, another reading tells.
 ghost use Rattle.std.specs.Prelude.{◌≡◌, ◌<◌, ◌≤◌, ℕ, List, IfOk, IfSome, length, map};
 ghost use Rattle.liquid_grammar.specs.meaning.Faults.{filter_fault, chain_fault, first_fault};
-ghost use Rattle.liquid_grammar.specs.meaning.Parts.{IsFilter, IsHead};
+ghost use Rattle.liquid_grammar.specs.meaning.Parts.{IsFilter, IsHead, OpensExpression};
 ghost use Rattle.liquid_grammar.specs.meaning.Rules.{Repeated};
 ghost use Rattle.liquid_grammar.specs.meaning.Tokens as token;
 ghost use Rattle.liquid_grammar.specs.meaning.Tokens.{Behind, FilterRule};
@@ -42,10 +42,24 @@ pub(crate) fn fine_expression<
         source s.now p.1.now (node_of F.Filter.shape T.Node.shape B.Node.shape p.0))) }
     ensures shorter { IfOk result (λ found. IfSome found (λ p. length p.1.now < length s.now)) }
 {
-    let start = match expression_start(s) {
-        Some(start) => start,
-        None => return Ok(None),
-    };
+    match expression_start(s) {
+        Some(start) => fine_behind(alloc, start, language),
+        None => Ok(None),
+    }
+}
+
+/// The same, from the chain on. It stands apart, so that the walk over tags and raw text stays short.
+#[inline(never)]
+fn fine_behind<'a, F: ParseFilter + Drop, T: ParseTag<F> + Drop, B: ParseBlock<F> + Drop>(
+    alloc: Global,
+    start: &'a str,
+    language: &Language<F, T, B>,
+) -> Result<Option<(Node<F::Filter, T::Node, B::Node>, &'a str)>, AllocError>
+    ensures value { (source s : List ℕ) → OpensExpression s start.now
+        → IfOk result (λ found. IfSome found (λ p. MakesNode (registry_of F.makes language.now.filters)
+        source s p.1.now (node_of F.Filter.shape T.Node.shape B.Node.shape p.0))) }
+    ensures shorter { IfOk result (λ found. IfSome found (λ p. length p.1.now < length start.now)) }
+{
     let (head, behind) = match value_head(start) {
         Some(begun) => begun,
         None => return Ok(None),
@@ -66,6 +80,7 @@ pub(crate) fn fine_expression<
 }
 
 /// The node of a name alone.
+#[inline(always)]
 pub(crate) fn name_node<F: ParseFilter, T: ParseTag<F>, B: ParseBlock<F>>(
     alloc: Global,
     name: &str,
