@@ -79,7 +79,7 @@ closes s behind (Some rest) w e =
     record { byte = x.0.0; match = after_begins exact-white s behind rest.now x.0.0 w m }
 
 -- a closer begins with a dash or a brace
-first_of : (s rest : List ℕ) (byte : ℕ) (b : ℕ) (t : List ℕ) → s ≡ b ∷ t → (b == 45) ≡ false → (b == 125) ≡ false → Closer 125 s rest byte → ⊥
+pub first_of : (s rest : List ℕ) (byte : ℕ) (b : ℕ) (t : List ℕ) → s ≡ b ∷ t → (b == 45) ≡ false → (b == 125) ≡ false → Closer 125 s rest byte → ⊥
 first_of s rest byte b t e dash brace (here m) =
     let first = m.match.before.match.before.match.before in
     let is : (b == 45) ≡ true = subst (λ x. (x == 45) ≡ true) (same_byte s _ _ _ b first.front e) first.passes in
@@ -110,7 +110,7 @@ no_index_here s rest c b = go b.match
         let opened = m.match.match.match.before.match.before.match in
         closes_by s rest opened.middle 91 (opened.before.front ∙ ap (λ x. x ∷ opened.middle) (eqb-true _ 91 opened.before.passes)) refl refl refl c
 
-same_white : (s a b v w : List ℕ) → White s a v → White s b w → a ≡ b
+pub same_white : (s a b v w : List ℕ) → White s a v → White s b w → a ≡ b
 same_white s a b v w m n = ap (λ (x : List ℕ × List ℕ). x.1) (same_match exact-white s a b v w m n)
 
 pub no_filter_here : (s rest : List ℕ) → ClosesExpression s rest → ¬ (Begins (Behind 124 FilterRule) s)

@@ -20,3 +20,4 @@ pub mod IndexPartLemmas
 pub mod FilterPartLemmas
 pub mod TokenPartLemmas
 pub mod ExpressionPartLemmas
+pub mod ChainStepLemmas

@@ -36,7 +36,8 @@ pub use matching::{
     match_literal, match_tag, match_token, match_value, match_variable, match_white,
 };
 pub use parts::{
-    ArgumentStart, FilterStart, IndexStart, TokenParts, TokenText, close_bracket, expression_end,
-    expression_start, next_argument, next_filter, next_index, next_token, value_head,
+    ArgumentStart, ChainStep, FilterStart, IndexStart, TokenParts, TokenText, chain_step,
+    close_bracket, expression_end, expression_start, next_argument, next_filter, next_index,
+    next_token, value_head,
 };
 pub use place::line_and_column;

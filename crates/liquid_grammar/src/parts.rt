@@ -7,6 +7,7 @@ ghost use Rattle.liquid_grammar.specs.meaning.Tokens.{Argument, Filter, Token, B
 ghost use Rattle.liquid_grammar.specs.meaning.Parts as part;
 ghost use Rattle.liquid_grammar.specs.meaning.Parts.{NoneLeft, First, IsHead, HasHead, IsIndex, IsFilter, ArgumentsFrom, IsArgument};
 ghost use Rattle.liquid_grammar.specs.meaning.Parts.{HasParts, IsToken, OpensExpression, ClosesExpression};
+ghost use Rattle.liquid_grammar.specs.meaning.Parts.{IsStep, Unclosed, step_rest};
 ghost use Rattle.liquid_grammar.specs.steps.Heads.{HasKeyword};
 
 use crate::bracket::{self, bracketed};
@@ -36,6 +37,15 @@ pub struct FilterStart<'a> {
     pub name: &'a str,
     /// What follows the name: the filter's arguments, if it has any.
     pub rest: &'a str,
+}
+
+/// What stands behind a value or a filter of an expression.
+#[derive(Clone, Copy, Debug, PartialEq, Eq)]
+pub enum ChainStep<'a> {
+    /// The next filter.
+    Filter(FilterStart<'a>),
+    /// The expression's end, with what follows it.
+    End(&'a str),
 }
 
 /// How an argument begins.
@@ -141,6 +151,25 @@ pub fn next_filter(s: &str) -> Option<FilterStart<'_>>
     let place = behind(s, b'|')?;
     let (name, rest) = identifier(place)?;
     Some(FilterStart { place, name, rest })
+}
+
+/// The beginning of the next filter of an expression's chain, or the expression's end. None where neither stands here.
+///
+/// The white space before both is walked once.
+pub fn chain_step(s: &str) -> Option<ChainStep<'_>>
+    ensures only { (rest : List ℕ) (filters : List Filter) → Repeated (Behind 124 FilterRule) s.now rest filters
+        → MatchOption result (Unclosed s.now rest filters) (λ step. IsStep s.now step rest filters) }
+    ensures shorter { IfSome result (λ step. length (step_rest step) < length s.now) }
+{
+    let here = skip_white(s);
+    match eat(here, b'|') {
+        Some(behind) => {
+            let place = skip_white(behind);
+            let (name, rest) = identifier(place)?;
+            Some(ChainStep::Filter(FilterStart { place, name, rest }))
+        }
+        None => Some(ChainStep::End(closer(here, b'}')?)),
+    }
 }
 
 /// The beginning of the next argument of a filter, and of its first one behind the filter's name.

@@ -59,6 +59,13 @@ invalid_text x source behind (raw text) m = absurd m
 invalid_text x source behind (tag_element t text) m = absurd m
 invalid_text x source behind (expression c text) m = absurd m
 
+-- what is neither a tag nor an expression has its brace behind its white space
+pub lone_brace_at : (s behind text brace white : List ℕ) → IsElement s behind (invalid text) → White s brace white → brace ≡ 123 ∷ behind
+lone_brace_at s behind text brace white is w =
+    let lone = is.kind.brace.match in
+    let same : lone.middle ≡ brace = same_rest s lone.middle brace _ _ lone.before w in
+    sym same ∙ (lone.after.front ∙ ap (λ b. b ∷ behind) (eqb-true _ 123 lone.after.passes))
+
 -- elements are handed over
 module _ (source : Bor (List ℕ)) (s behind : List ℕ) where
   pub raw_over : (t : Bor (List ℕ)) (e : Element) → Means (found.Raw t) e → HandsOver (Ok (cursor.Raw (record { text = t }))) source.now behind e
@@ -123,12 +130,7 @@ module _ (source : Bor (List ℕ)) (s behind : List ℕ) where
 
   pub invalid_over : (t brace : Bor (List ℕ)) (white : List ℕ) (e : Element) → IsElement s behind e → Means (found.Invalid t) e → White s brace.now white
       → HandsOver (Ok (cursor.Invalid (record { source = source; text = t; brace = brace }))) source.now behind e
-  invalid_over t brace white (invalid text) is m w =
-      let lone = is.kind.brace.match in
-      let same : lone.middle ≡ brace.now = same_rest s lone.middle brace.now _ _ lone.before w in (
-        refl,
-        (record { source_is = refl; brace_is = sym same ∙ (lone.after.front ∙ ap (λ b. b ∷ behind) (eqb-true _ 123 lone.after.passes)) }, m),
-      )
+  invalid_over t brace white (invalid text) is m w = (refl, (record { source_is = refl; brace_is = lone_brace_at s behind text brace.now white is w }, m))
   invalid_over t brace white (raw text) is m w = absurd m
   invalid_over t brace white (tag_element tag text) is m w = absurd m
   invalid_over t brace white (expression c text) is m w = absurd m

@@ -1,10 +1,11 @@
 -- Expressions without a fault, by the beginnings of their chains.
-use Rattle.std.proofs.Common.{◌≡◌, ℕ, List, [], ◌∷◌, ◌++◌, Some, None, Ok, Bor, refl, sym, ap, ◌∙◌, subst}
+use Rattle.std.proofs.Common.{◌≡◌, ℕ, List, [], ◌∷◌, ◌++◌, Option, Some, None, Ok, Err, Bor, refl, sym, ap, ◌∙◌, subst}
 use Rattle.std.specs.Option.{option_or}
-use Rattle.liquid_error.specs.meaning.Refusal.{ok_then}
+use Rattle.std.specs.Prelude.{IfSome, codes}
+use Rattle.liquid_error.specs.meaning.Refusal.{Refusal, ok_then}
 use Rattle.liquid_grammar.specs.declared.head.Head.{Head}
 use Rattle.liquid_grammar.specs.declared.head.Head.TheVariants as head
-use Rattle.liquid_grammar.specs.meaning.Cover.{Element, expression}
+use Rattle.liquid_grammar.specs.meaning.Cover.{Element, expression, invalid}
 use Rattle.liquid_grammar.specs.meaning.Faults.{chain_fault, filter_fault, first_fault, value_fault}
 use Rattle.liquid_grammar.specs.meaning.Kinds.{chain_kind, identifier_of}
 use Rattle.liquid_grammar.specs.meaning.Parts.{IsHead, HasHead, OpensExpression, ClosesExpression}
@@ -20,7 +21,7 @@ use Rattle.liquid_plugins.specs.meaning.Chain.{ChainShape}
 use Rattle.liquid_plugins.specs.meaning.Nodes.{NodeShape, chain_node}
 use Rattle.liquid_plugins.specs.meaning.NodesOf.{name_chain}
 use Rattle.liquid_parser.specs.meaning.Lang.{Filters, Lang}
-use Rattle.liquid_parser.specs.meaning.Reading.{Open, among, checked, chain_read, expression_read, node_added}
+use Rattle.liquid_parser.specs.meaning.Reading.{Open, among, checked, chain_read, expression_read, node_added, refused_at}
 use Rattle.liquid_parser.specs.steps.Built.{MakesNode}
 use Rattle.liquid_parser.specs.steps.Views.{advanced, past_escaped}
 use Rattle.liquid_parser.proofs.NameLemmas.{name_read}
@@ -79,3 +80,9 @@ pub node_advanced : {F T P B : Type 0} (l : Lang F T P B) (source : List ℕ) (o
 node_advanced l source outside blocks nodes s behind node made es =
     ap (λ o. ok_then (ok_then (checked source o) (λ _. node_added blocks nodes (expression_read l.filters source made.chain))) (λ next. past_escaped source next es)) made.fine
     ∙ ap (λ r. ok_then (node_added blocks nodes r) (λ next. past_escaped source next es)) made.read
+
+-- what is neither a tag nor an expression is refused at its brace
+pub invalid_advanced : {F T P B : Type 0} (l : Lang F T P B) (source : List ℕ) (outside : ℕ) (blocks : List (Open F T P B)) (nodes : List (NodeShape F T B)) (behind text : List ℕ) (es : List Element) (o : Option Refusal)
+    → IfSome o (λ r. r ≡ refused_at source (codes "Invalid liquid") (123 ∷ behind)) → IfSome o (λ r. advanced l source outside (among blocks nodes) source behind (invalid text) es ≡ Err r)
+invalid_advanced l source outside blocks nodes behind text es None is = tt
+invalid_advanced l source outside blocks nodes behind text es (Some r) is = ap (λ x. Err x) (sym is)

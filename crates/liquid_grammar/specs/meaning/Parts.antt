@@ -5,6 +5,8 @@ use Rattle.liquid_grammar.specs.declared.head.Head.TheVariants as head
 use Rattle.liquid_grammar.specs.declared.parts.IndexStart.{IndexStart}
 use Rattle.liquid_grammar.specs.declared.parts.IndexStart.TheVariants as start
 use Rattle.liquid_grammar.specs.declared.parts.FilterStart.{FilterStart}
+use Rattle.liquid_grammar.specs.declared.parts.ChainStep.{ChainStep}
+use Rattle.liquid_grammar.specs.declared.parts.ChainStep.TheVariants as step
 use Rattle.liquid_grammar.specs.declared.parts.ArgumentStart.{ArgumentStart}
 use Rattle.liquid_grammar.specs.declared.parts.TokenText.{TokenText}
 use Rattle.liquid_grammar.specs.declared.parts.TokenParts.{TokenParts}
@@ -158,3 +160,23 @@ pub record OpensExpression (s start : List ℕ) : Type 0 where
 pub record ClosesExpression (s rest : List ℕ) : Type 0 where
   pub byte : ℕ
   pub match : (White ▷ Closer 125) s rest byte
+
+-- no filter is left here, and no expression ends
+pub record Unclosed (s rest : List ℕ) (filters : List Filter) : Type 0 where
+  pub none : NoneLeft s rest filters
+  pub endless : ¬ (Begins (White ▷ Closer 125) s)
+
+-- no filter is left here, and an expression ends
+pub record Ended (s rest : List ℕ) (filters : List Filter) (after : List ℕ) : Type 0 where
+  pub none : NoneLeft s rest filters
+  pub closes : ClosesExpression s after
+
+-- the next filter of an expression, or its end
+abbrev pub IsStep : List ℕ → ChainStep → List ℕ → List Filter → Type 0
+IsStep s (step.Filter f) rest filters = First (IsFilter f) (Repeated (Behind 124 FilterRule)) rest filters
+IsStep s (step.End after) rest filters = Ended s rest filters after.now
+
+-- what follows the name of the filter, or the end
+abbrev pub step_rest : ChainStep → List ℕ
+step_rest (step.Filter f) = f.rest.now
+step_rest (step.End after) = after.now

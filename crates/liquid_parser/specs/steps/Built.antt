@@ -4,10 +4,15 @@ use Rattle.std.specs.Borrow.{Bor}
 use Rattle.liquid_error.specs.declared.error.Error.{Error}
 use Rattle.liquid_error.specs.meaning.Refusal.{Refusal}
 use Rattle.liquid_error.specs.meaning.Told.{told}
-use Rattle.liquid_grammar.specs.meaning.Cover.{IsElement, expression}
+use Rattle.liquid_grammar.specs.meaning.Cover.{IsElement, expression, invalid}
 use Rattle.liquid_grammar.specs.meaning.Faults.{Fault, chain_fault}
+use Rattle.liquid_grammar.specs.meaning.Grammar.{White, Closer}
+use Rattle.liquid_grammar.specs.meaning.Parts.{ClosesExpression}
+use Rattle.liquid_grammar.specs.meaning.Rules.{Begins, ◌▷◌}
 use Rattle.liquid_grammar.specs.meaning.Tokens.{Chain}
 use Rattle.liquid_plugins.specs.meaning.Nodes.{NodeShape}
+use Rattle.liquid_parser.specs.declared.chain.fine.Walked.{Walked}
+use Rattle.liquid_parser.specs.declared.chain.fine.Walked.TheVariants.{Whole, NoExpression, Undecided}
 use Rattle.liquid_parser.specs.meaning.Lang.{Filters}
 use Rattle.liquid_parser.specs.meaning.Reading.{expression_read}
 
@@ -19,6 +24,24 @@ BuiltUnless fault of (Some found) meant rest = (fault ≡ None) × (of found.0 �
 -- there is no fault, what was made is what the reading makes, and it leaves this rest
 abbrev pub Made : {A M : Type 0} → Option Fault → (A → M) → A × Bor (List ℕ) → Result M Refusal → List ℕ → Type 0
 Made fault of found read rest = (fault ≡ None) × (read ≡ Ok (of found.0)) × (found.1.now ≡ rest)
+
+-- the same up to the end of an expression, which stands behind this rest
+abbrev pub MadeToEnd : {A M : Type 0} → Option Fault → (A → M) → A × Bor (List ℕ) → Result M Refusal → List ℕ → Type 0
+MadeToEnd fault of found read rest = (fault ≡ None) × (read ≡ Ok (of found.0)) × ClosesExpression rest found.1.now
+
+-- what was read whole is so; where no expression stands, this holds; what is undecided says nothing
+abbrev pub ComesTo : {A : Type 0} → Walked A → (A → Type 0) → Type 0 → Type 0
+ComesTo (Whole found) is lacks = is found
+ComesTo NoExpression is lacks = lacks
+ComesTo Undecided is lacks = Unit
+
+-- no expression ends here, behind white space or none
+abbrev pub Endless : List ℕ → Type 0
+Endless s = ¬ (Begins (White ▷ Closer 125) s)
+
+-- an opener stands here, and neither a tag nor an expression
+abbrev pub StandsInvalid : List ℕ → Type 0
+StandsInvalid s = (behind text : List ℕ) × IsElement s behind (invalid text)
 
 -- an expression stands here that has no fault, and is read as this node
 pub record MakesNode {F T B : Type 0} (filters : Filters F) (source s rest : List ℕ) (node : NodeShape F T B) : Type 0 where

@@ -1,7 +1,9 @@
 //! Expressions in which nothing is refused, read in one walk.
 //!
-//! Each call answers None where something may be refused. What then is, another reading tells.
-ghost use Rattle.std.specs.Prelude.{◌≡◌, ◌<◌, ◌≤◌, ℕ, List, IfOk, IfSome, length, map};
+//! Where something in an expression may be refused, the walk leaves it undecided: what is told then, another reading finds.
+ghost use Rattle.std.specs.Prelude.{◌≡◌, ◌∷◌, ◌<◌, ◌≤◌, ℕ, List, IfOk, IfSome, codes, length, map};
+ghost use Rattle.liquid_error.specs.meaning.Told.{told};
+ghost use Rattle.liquid_grammar.specs.meaning.Cover.{IsElement, invalid};
 ghost use Rattle.liquid_grammar.specs.meaning.Faults.{filter_fault, chain_fault, first_fault};
 ghost use Rattle.liquid_grammar.specs.meaning.Parts.{IsFilter, IsHead, OpensExpression};
 ghost use Rattle.liquid_grammar.specs.meaning.Rules.{Repeated};
@@ -11,22 +13,36 @@ ghost use Rattle.liquid_plugins.specs.meaning.ExpressionOf.{chain_of};
 ghost use Rattle.liquid_plugins.specs.meaning.Nodes.{chain_node};
 ghost use Rattle.liquid_plugins.specs.meaning.NodesOf.{node_of, name_chain};
 ghost use Rattle.liquid_parser.specs.meaning.Plugins.{registry_of};
-ghost use Rattle.liquid_parser.specs.meaning.Reading.{chain_read, filters_read, filter_or};
-ghost use Rattle.liquid_parser.specs.steps.Built.{Made, MakesNode};
+ghost use Rattle.liquid_parser.specs.meaning.Reading.{chain_read, filters_read, filter_or, refused_at};
+ghost use Rattle.liquid_parser.specs.steps.Built.{ComesTo, Endless, Made, MadeToEnd, MakesNode, StandsInvalid};
 
 use crate::chain::arguments::build_arguments;
 use crate::chain::build::build_from;
 use crate::plugin::block::ParseBlock;
 use crate::plugin::language::Language;
 use crate::plugin::tag::ParseTag;
+use crate::reading::place::refused_at;
+use liquid_error::Error;
 use liquid_grammar::{
-    FilterStart, Head, expression_end, expression_start, next_filter, value_head,
+    ChainStep, FilterStart, Head, chain_step, expression_end, expression_start, match_white,
+    value_head,
 };
 use liquid_plugins::{BRIEF_LIMIT, Brief, FilterChain, Node, ParseFilter, PluginRegistry};
 use std::alloc::{AllocError, Global};
 
-/// The node of the expression that the text begins with, and what follows it. None where something in it may be
-/// refused, and where a dash has white space before it or no expression stands here.
+/// What a walk over an expression comes to.
+#[derive(Drop)]
+pub(crate) enum Walked<V> {
+    /// It was read to its end, as this.
+    Whole(V),
+    /// No expression stands here.
+    NoExpression,
+    /// Something in it may be refused.
+    Undecided,
+}
+
+/// The node of the expression that the text begins with, and what follows it. Undecided too where a dash has white space
+/// before it, and where no expression opens.
 #[inline(always)]
 pub(crate) fn fine_expression<
     'a,
@@ -37,14 +53,14 @@ pub(crate) fn fine_expression<
     alloc: Global,
     s: &'a str,
     language: &Language<F, T, B>,
-) -> Result<Option<(Node<F::Filter, T::Node, B::Node>, &'a str)>, AllocError>
-    ensures value { (source : List ℕ) → IfOk result (λ found. IfSome found (λ p. MakesNode (registry_of F.makes language.now.filters)
-        source s.now p.1.now (node_of F.Filter.shape T.Node.shape B.Node.shape p.0))) }
-    ensures shorter { IfOk result (λ found. IfSome found (λ p. length p.1.now < length s.now)) }
+) -> Result<Walked<(Node<F::Filter, T::Node, B::Node>, &'a str)>, AllocError>
+    ensures value { (source : List ℕ) → IfOk result (λ walked. ComesTo walked (λ p. MakesNode (registry_of F.makes language.now.filters)
+        source s.now p.1.now (node_of F.Filter.shape T.Node.shape B.Node.shape p.0)) (StandsInvalid s.now)) }
+    ensures shorter { IfOk result (λ walked. ComesTo walked (λ p. length p.1.now < length s.now) Unit) }
 {
     match expression_start(s) {
         Some(start) => fine_behind(alloc, start, language),
-        None => Ok(None),
+        None => Ok(Walked::Undecided),
     }
 }
 
@@ -54,29 +70,35 @@ fn fine_behind<'a, F: ParseFilter + Drop, T: ParseTag<F> + Drop, B: ParseBlock<F
     alloc: Global,
     start: &'a str,
     language: &Language<F, T, B>,
-) -> Result<Option<(Node<F::Filter, T::Node, B::Node>, &'a str)>, AllocError>
+) -> Result<Walked<(Node<F::Filter, T::Node, B::Node>, &'a str)>, AllocError>
     ensures value { (source s : List ℕ) → OpensExpression s start.now
-        → IfOk result (λ found. IfSome found (λ p. MakesNode (registry_of F.makes language.now.filters)
-        source s p.1.now (node_of F.Filter.shape T.Node.shape B.Node.shape p.0))) }
-    ensures shorter { IfOk result (λ found. IfSome found (λ p. length p.1.now < length start.now)) }
+        → IfOk result (λ walked. ComesTo walked (λ p. MakesNode (registry_of F.makes language.now.filters)
+        source s p.1.now (node_of F.Filter.shape T.Node.shape B.Node.shape p.0)) (StandsInvalid s)) }
+    ensures shorter { IfOk result (λ walked. ComesTo walked (λ p. length p.1.now < length start.now) Unit) }
 {
     let (head, behind) = match value_head(start) {
         Some(begun) => begun,
-        None => return Ok(None),
+        None => return Ok(Walked::NoExpression),
     };
     // Most expressions are names.
     if let Head::Name(name) = head {
         if let Some(rest) = expression_end(behind) {
-            return Ok(Some((name_node::<F, T, B>(alloc, name)?, rest)));
+            return Ok(Walked::Whole((name_node::<F, T, B>(alloc, name)?, rest)));
         }
     }
     match fine_chain(alloc, head, behind, &language.filters)? {
-        Some((chain, end)) => match expression_end(end) {
-            Some(rest) => Ok(Some((Node::Chain(chain), rest))),
-            None => Ok(None),
-        },
-        None => Ok(None),
+        Walked::Whole((chain, rest)) => Ok(Walked::Whole((Node::Chain(chain), rest))),
+        Walked::NoExpression => Ok(Walked::NoExpression),
+        Walked::Undecided => Ok(Walked::Undecided),
     }
+}
+
+/// The refusal "Invalid liquid" where neither a tag nor an expression stands behind an opener.
+pub(crate) fn no_expression(alloc: Global, source: &str, s: &str) -> Error
+    ensures { (behind text : List ℕ) → IsElement s.now behind (invalid text)
+        → IfSome (told result) (λ r. r ≡ refused_at source.now (codes "Invalid liquid") (123 ∷ behind)) }
+{
+    refused_at(alloc, source, "Invalid liquid", match_white(s).1)
 }
 
 /// The node of a name alone.
@@ -95,54 +117,60 @@ pub(crate) fn name_node<F: ParseFilter, T: ParseTag<F>, B: ParseBlock<F>>(
     Ok(Node::Name(brief))
 }
 
-/// The chain whose value begins so, with what stands behind that beginning, and what follows the chain.
+/// The chain whose value begins so, with what stands behind that beginning, and what follows the expression's end.
 fn fine_chain<'a, F: ParseFilter + Drop>(
     alloc: Global,
     head: Head<'_>,
     s: &'a str,
     registry: &PluginRegistry<F>,
-) -> Result<Option<(FilterChain<F::Filter>, &'a str)>, AllocError>
+) -> Result<Walked<(FilterChain<F::Filter>, &'a str)>, AllocError>
     ensures value { (source place middle rest : List ℕ) (c : token.Chain) → IsHead place middle head.entry s.now c.what.0
         → Repeated (Behind 124 FilterRule) middle rest c.what.1
-        → IfOk result (λ found. IfSome found (λ p. Made (chain_fault c) (chain_of F.Filter.shape) p
-        (chain_read (registry_of F.makes registry.now) source c) rest)) }
-    ensures within { IfOk result (λ found. IfSome found (λ p. length p.1.now ≤ length s.now)) }
+        → IfOk result (λ walked. ComesTo walked (λ p. MadeToEnd (chain_fault c) (chain_of F.Filter.shape) p
+        (chain_read (registry_of F.makes registry.now) source c) rest) (Endless rest)) }
+    ensures shorter { IfOk result (λ walked. ComesTo walked (λ p. length p.1.now < length s.now) Unit) }
 {
     match build_from(alloc, head, s, 0)? {
         Some((entry, behind)) => match fine_filters(alloc, behind, registry)? {
-            Some((filters, rest)) => Ok(Some((FilterChain::new(entry, filters), rest))),
-            None => Ok(None),
+            Walked::Whole((filters, rest)) => {
+                Ok(Walked::Whole((FilterChain::new(entry, filters), rest)))
+            }
+            Walked::NoExpression => Ok(Walked::NoExpression),
+            Walked::Undecided => Ok(Walked::Undecided),
         },
-        None => Ok(None),
+        None => Ok(Walked::Undecided),
     }
 }
 
-/// The filters that stand here, each behind `|`, and what follows them.
+/// The filters that stand here, each behind `|`, and what follows the expression's end.
 fn fine_filters<'a, F: ParseFilter + Drop>(
     alloc: Global,
     s: &'a str,
     registry: &PluginRegistry<F>,
-) -> Result<Option<(Vec<F::Filter>, &'a str)>, AllocError>
+) -> Result<Walked<(Vec<F::Filter>, &'a str)>, AllocError>
     ensures value { (source rest : List ℕ) (fs : List token.Filter) → Repeated (Behind 124 FilterRule) s.now rest fs
-        → IfOk result (λ found. IfSome found (λ p. Made (first_fault filter_fault fs) (λ v. map F.Filter.shape v.items) p
-        (filters_read (registry_of F.makes registry.now) source fs) rest)) }
-    ensures within { IfOk result (λ found. IfSome found (λ p. length p.1.now ≤ length s.now)) }
+        → IfOk result (λ walked. ComesTo walked (λ p. MadeToEnd (first_fault filter_fault fs) (λ v. map F.Filter.shape v.items) p
+        (filters_read (registry_of F.makes registry.now) source fs) rest) (Endless rest)) }
+    ensures shorter { IfOk result (λ walked. ComesTo walked (λ p. length p.1.now < length s.now) Unit) }
 {
     let mut filters = Vec::new(alloc);
     let mut rest = s;
-    'filters: while let Some(start) = next_filter(rest) {
-        match fine_filter(alloc, start, registry)? {
-            Some((filter, behind)) => {
-                filters.push(filter)?;
-                rest = behind;
-            }
-            None => return Ok(None),
+    'filters: loop {
+        match chain_step(rest) {
+            Some(ChainStep::Filter(start)) => match fine_filter(alloc, start, registry)? {
+                Some((filter, behind)) => {
+                    filters.push(filter)?;
+                    rest = behind;
+                }
+                None => return Ok(Walked::Undecided),
+            },
+            Some(ChainStep::End(behind)) => return Ok(Walked::Whole((filters, behind))),
+            None => return Ok(Walked::NoExpression),
         }
     }
-    Ok(Some((filters, rest)))
 }
 
-/// The filter that begins so, and what follows it.
+/// The filter that begins so, and what follows it. None where it may be refused.
 fn fine_filter<'a, F: ParseFilter + Drop>(
     alloc: Global,
     start: FilterStart<'a>,

@@ -9,7 +9,7 @@ ghost use Rattle.liquid_parser.specs.meaning.Reading.{Answers, Reads, OneReading
 ghost use Rattle.liquid_parser.specs.steps.Views.{state_view};
 ghost use Rattle.liquid_parser.specs.meaning.Reading as spec;
 
-use crate::chain::fine::fine_expression;
+use crate::chain::fine::{Walked, fine_expression, no_expression};
 use crate::cursor::element::handed_over;
 use crate::plugin::block::ParseBlock;
 use crate::plugin::language::Language;
@@ -64,11 +64,12 @@ fn nodes_of<'a, F: ParseFilter + Drop, T: ParseTag<F> + Drop, B: ParseBlock<F> +
     let mut rest = text;
     'elements: loop {
         match fine_expression(alloc, rest, language)? {
-            Some((node, behind)) => {
+            Walked::Whole((node, behind)) => {
                 state.nodes.push(node)?;
                 rest = behind;
             }
-            None => match next_element(rest) {
+            Walked::NoExpression => return Err(no_expression(alloc, text, rest)),
+            Walked::Undecided => match next_element(rest) {
                 Some((found, behind)) => {
                     let element = match handed_over(alloc, text, rest, found) {
                         Ok(element) => element,

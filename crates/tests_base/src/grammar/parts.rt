@@ -1,8 +1,8 @@
 //! The parts that each walk over a matched text hands out.
 use liquid_grammar::{
-    ArgumentStart, FilterStart, Head, IndexStart, Literal, TokenKind, TokenParts, close_bracket,
-    expression_end, expression_start, next_argument, next_filter, next_index, next_token,
-    value_head,
+    ArgumentStart, ChainStep, FilterStart, Head, IndexStart, Literal, TokenKind, TokenParts,
+    chain_step, close_bracket, expression_end, expression_start, next_argument, next_filter,
+    next_index, next_token, value_head,
 };
 use std::test::Fail;
 use tests_lines::{holds, same};
@@ -72,6 +72,21 @@ fn expressions_end_by_braces(_rt: HostRuntime) -> Result<(), Fail> {
     holds(expression_end(" -}} b") == Some("b"), "a dash")?;
     holds(expression_end("}} b") == Some(" b"), "no dash")?;
     holds(expression_end(" | a }}").is_none(), "a filter")
+}
+
+#[test]
+fn chains_go_on_or_end(_rt: HostRuntime) -> Result<(), Fail> {
+    let filter = ChainStep::Filter(FilterStart {
+        place: "cut: 1 }}",
+        name: "cut",
+        rest: ": 1 }}",
+    });
+    holds(chain_step(" | cut: 1 }}") == Some(filter), "a filter")?;
+    holds(chain_step(" }} b") == Some(ChainStep::End(" b")), "an end")?;
+    let dashed = Some(ChainStep::End("b"));
+    holds(chain_step("-}} b") == dashed, "a dashed end")?;
+    holds(chain_step(" | }}").is_none(), "a bar alone")?;
+    holds(chain_step(" , 1 }}").is_none(), "neither")
 }
 
 #[test]
