@@ -20,3 +20,6 @@ pub mod IndexPartLemmas
 pub mod FilterPartLemmas
 pub mod TokenPartLemmas
 pub mod ExpressionPartLemmas
+pub mod NumberLemmas
+pub mod FirstByteLemmas
+pub mod TokenScan

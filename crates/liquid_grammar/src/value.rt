@@ -8,6 +8,7 @@ ghost use Rattle.liquid_grammar.specs.steps.Steps.{Splits, Leaves};
 ghost use Rattle.liquid_grammar.specs.steps.TokenSteps as read;
 
 use crate::bracket::bracketed;
+use crate::bytes::byte_at;
 use crate::fault::{Fault, literal_fault};
 use crate::head::{Head, read_head};
 use crate::kind::TokenKind;
@@ -71,10 +72,20 @@ pub(crate) fn index<'a>(s: &'a str) -> Option<(Option<Fault<'a>>, &'a str)>
     ensures value { Scans (index_fault 0) result (read.index_over read.value s.now) }
     ensures shorter { IfSome result (λ x. length x.1.now < length s.now) }
 {
-    match named(s) {
-        Some(rest) => Some((None, rest)),
-        None => bracketed(s),
+    if begins_index(byte_at(s.as_bytes(), 0)) {
+        match named(s) {
+            Some(rest) => Some((None, rest)),
+            None => bracketed(s),
+        }
+    } else {
+        None
     }
+}
+
+fn begins_index(byte: u8) -> bool
+    ensures { result ≡ read.begins_index byte }
+{
+    byte == b'.' || byte == b'['
 }
 
 /// What follows `.` and an identifier.
