@@ -8,6 +8,7 @@ ghost use Rattle.liquid_grammar.specs.steps.Steps.{Splits, Leaves};
 ghost use Rattle.liquid_grammar.specs.steps.Steps as step;
 ghost use Rattle.liquid_grammar.specs.steps.TokenSteps as read;
 
+use crate::bytes::byte_at;
 use crate::fault::Fault;
 use crate::kind::TokenKind;
 use crate::name::identifier;
@@ -31,13 +32,25 @@ pub(crate) fn chain_and_kind<'a>(s: &'a str) -> Option<(TokenKind<'a>, Option<Fa
     ensures shorter { IfSome result (λ x. length x.2.now < length s.now) }
 {
     let (kind, first, rest) = value_and_kind(s)?;
-    match next_filter(rest) {
-        Some((second, behind)) => {
-            let (others, end) = filters(behind);
-            Some((TokenKind::Filtered, first.or(second.or(others)), end))
+    if begins_filter(rest) {
+        match next_filter(rest) {
+            Some((second, behind)) => {
+                let (others, end) = filters(behind);
+                Some((TokenKind::Filtered, first.or(second.or(others)), end))
+            }
+            None => Some((kind, first, rest)),
         }
-        None => Some((kind, first, rest)),
+    } else {
+        Some((kind, first, rest))
     }
+}
+
+/// Whether `|` stands here behind white space, as before each filter.
+#[inline]
+fn begins_filter(s: &str) -> bool
+    ensures { result ≡ read.begins_filter s.now }
+{
+    byte_at(skip_white(s).as_bytes(), 0) == b'|'
 }
 
 /// The first fault of all filters that stand here, each behind `|`.

@@ -1,7 +1,8 @@
 -- Readers of literals, values, filters, chains, tokens and tags. Like those of Steps, no public clause names them.
-use Rattle.std.specs.Prelude.{ℕ, zero, suc, ◌==◌, ◌||◌, Bool, true, cond, not, List, [], ◌∷◌, length, Option, Some, None, option_map, is_some}
+use Rattle.std.specs.Prelude.{ℕ, zero, suc, ◌==◌, ◌||◌, Bool, true, cond, not, List, [], ◌∷◌, length, Option, Some, None, option_map, is_some, drop, slice_index}
+use Rattle.std.specs.List.{prefix_len}
 use Rattle.std.specs.Char.{is_ascii_digit}
-use Rattle.liquid_grammar.specs.meaning.Bytes.{starts_name}
+use Rattle.liquid_grammar.specs.meaning.Bytes.{is_white, starts_name}
 use Rattle.liquid_grammar.specs.meaning.Rules.{Placed}
 use Rattle.liquid_grammar.specs.meaning.Grammar.{is_literal_word}
 use Rattle.liquid_grammar.specs.meaning.Literals.{Literal, word_literal, text_literal, integer, decimal}
@@ -130,6 +131,10 @@ arguments = seen (λ p. p.0 ∷ p.1) (both (behind 58 argument) (repeated (behin
 
 unfoldable pub filter : Reader Filter
 filter = at (seen (λ p. (p.0, arguments_of p.1)) (both identifier (optional arguments)))
+
+-- `|` stands here behind white space
+abbrev pub begins_filter : List ℕ → Bool
+begins_filter s = slice_index (drop (prefix_len is_white s) s) 0 == 124
 
 unfoldable pub chain_of : Reader Chain
 chain_of = at (both value (repeated (behind 124 filter)))

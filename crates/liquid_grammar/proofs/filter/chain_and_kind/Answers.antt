@@ -1,7 +1,9 @@
+use Rattle.std.proofs.Common.{sym, ◌∙◌}
 use Rattle.liquid_grammar.specs.meaning.Faults.{chain_fault}
 use Rattle.liquid_grammar.specs.steps.TokenSteps.{chain_of}
 use Rattle.liquid_grammar.proofs.KindLemmas.{filtered_is, unfiltered_is, nothing_chain_kind, nothing_scan}
 use Rattle.liquid_grammar.proofs.Scanning.{chain_more, chain_end, no_chain_scan}
+use Rattle.liquid_grammar.proofs.FirstByteLemmas.{no_filter_here}
 use Rattle.liquid_grammar.proofs.filter.chain_and_kind.Goals as goal
 
 pub returns-in_err-kind-clause-kind : goal.returns-in_err-kind-clause-kind
@@ -21,3 +23,11 @@ returns-in-None-clause-kind c = unfiltered_is c.args.s.now _ _ c.in_ok-kind.ensu
 
 pub returns-in-None-clause-value : goal.returns-in-None-clause-value
 returns-in-None-clause-value c = chain_end c.args.s.now _ _ c.in_ok-kind.ensures.value c.in-None.ensures.value
+
+pub returns-else-begins_filter-clause-kind : goal.returns-else-begins_filter-clause-kind
+returns-else-begins_filter-clause-kind c =
+    unfiltered_is c.args.s.now _ _ c.in_ok-kind.ensures.kind (no_filter_here c.in_ok-kind.rest.now (sym c.begins_filter.ensures ∙ c.if-begins_filter.false))
+
+pub returns-else-begins_filter-clause-value : goal.returns-else-begins_filter-clause-value
+returns-else-begins_filter-clause-value c =
+    chain_end c.args.s.now _ _ c.in_ok-kind.ensures.value (no_filter_here c.in_ok-kind.rest.now (sym c.begins_filter.ensures ∙ c.if-begins_filter.false))
