@@ -1,10 +1,11 @@
 //! Values: literals, and variables with their indexes.
-ghost use Rattle.std.specs.Prelude.{◌≡◌, ◌<◌, ◌≤◌, length, Some, IfSome, option_map};
+ghost use Rattle.std.specs.Prelude.{◌≡◌, ℕ, List, ◌<◌, ◌≤◌, length, None, Some, IfSome, option_map};
 ghost use Rattle.liquid_grammar.specs.meaning.Values.{gather};
 ghost use Rattle.liquid_grammar.specs.meaning.Faults.{value_fault, indexes_fault, index_fault};
 ghost use Rattle.liquid_grammar.specs.meaning.KindMeanings.{FindsValueKind};
 ghost use Rattle.liquid_grammar.specs.meaning.Meanings.{Scans};
 ghost use Rattle.liquid_grammar.specs.steps.Steps.{Splits, Leaves};
+ghost use Rattle.liquid_grammar.specs.steps.Steps as step;
 ghost use Rattle.liquid_grammar.specs.steps.TokenSteps as read;
 
 use crate::bracket::bracketed;
@@ -37,13 +38,33 @@ pub(crate) fn value_and_kind<'a>(s: &'a str) -> Option<(TokenKind<'a>, Option<Fa
             literal_fault(s, literal),
             rest,
         )),
-        (Head::Name(name), rest) => match index(rest) {
-            Some((first, behind)) => {
-                let (others, end) = indexes(behind);
-                Some((TokenKind::Variable, first.or(others), end))
+        (Head::Name(name), rest) => {
+            if begins_index(byte_at(rest.as_bytes(), 0)) {
+                Some(indexed(name, rest))
+            } else {
+                Some((TokenKind::Identifier(name), None, rest))
             }
-            None => Some((TokenKind::Identifier(name), None, rest)),
-        },
+        }
+    }
+}
+
+/// The kind and the first fault of the variable with this name, and what follows it.
+///
+/// It stands apart, so that no room is made for indexes where a name has none.
+#[inline(never)]
+fn indexed<'a>(name: &'a str, rest: &'a str) -> (TokenKind<'a>, Option<Fault<'a>>, &'a str)
+    ensures kind { (s : List ℕ) → None ≡ read.literal s → Some (name.now, rest.now) ≡ step.name s
+        → FindsValueKind (Some (result.0, result.2)) (read.value s) }
+    ensures value { (s : List ℕ) → None ≡ read.literal s → Some (name.now, rest.now) ≡ step.name s
+        → Scans value_fault (Some (result.1, result.2)) (read.value s) }
+    ensures shorter { length result.2.now ≤ length rest.now }
+{
+    match index(rest) {
+        Some((first, behind)) => {
+            let (others, end) = indexes(behind);
+            (TokenKind::Variable, first.or(others), end)
+        }
+        None => (TokenKind::Identifier(name), None, rest),
     }
 }
 
