@@ -7,7 +7,8 @@ use Rattle.std.specs.List.{prefix_len}
 use Rattle.std.specs.Char.{is_ascii_digit}
 use Rattle.liquid_grammar.specs.meaning.Bytes.{is_white, starts_name}
 use Rattle.liquid_grammar.specs.meaning.Literals.{Literal, text_literal}
-use Rattle.liquid_grammar.specs.meaning.Values.{named_index, placed_bracket}
+use Rattle.liquid_grammar.specs.meaning.Rules.{Begins}
+use Rattle.liquid_grammar.specs.meaning.Values.{named_index, placed_bracket, IndexRule}
 use Rattle.liquid_grammar.specs.meaning.Tokens.{is_single, is_double}
 use Rattle.liquid_grammar.specs.meaning.Faults.{index_fault, filter_fault, range_fault, chain_fault}
 use Rattle.liquid_grammar.specs.meaning.Meanings.{scan}
@@ -16,7 +17,9 @@ use Rattle.liquid_grammar.specs.steps.TokenSteps.{placed, at, any, begins_value,
 use Rattle.liquid_grammar.specs.steps.BracketSteps.{index}
 use Rattle.liquid_grammar.proofs.HeadLemmas.{one_none, seen_none, right_none, left_none, either_none, text_none, quoted_none, whole_none, number_none, literal_without_word, no_name}
 use Rattle.liquid_grammar.proofs.Scanning.{both_none, both_none_behind, range_no_start, no_chain_scan}
-use Rattle.liquid_grammar.proofs.ValueScan.{no_value_scan}
+use Rattle.liquid_grammar.proofs.Exact.{none_begins}
+use Rattle.liquid_grammar.proofs.TokenExact.{exact-value, exact-index}
+use Rattle.liquid_grammar.proofs.ValueScan.{scan_none, no_value_scan}
 
 -- the first byte, of what was read on the way
 pub first_byte : (s bytes : List ℕ) (b : ℕ) → bytes ≡ s → b ≡ slice_index bytes 0 → b ≡ slice_index s 0
@@ -57,6 +60,9 @@ no_index s e =
 
 pub no_index_here : (s : List ℕ) (b : ℕ) → b ≡ slice_index s 0 → begins_index b ≡ false → None ≡ scan (index_fault 0) (index s)
 no_index_here s b first e = no_index s (ap begins_index (sym first) ∙ e)
+
+pub no_index_begins : (s : List ℕ) (b : ℕ) → b ≡ slice_index s 0 → begins_index b ≡ false → ¬ (Begins IndexRule s)
+no_index_begins s b first e = none_begins (exact-index exact-value) s (scan_none (index_fault 0) (index s) (no_index_here s b first e))
 
 -- a range begins with `(`
 no_range_start : (s : List ℕ) → (slice_index s 0 == 40) ≡ false → range_start s ≡ None

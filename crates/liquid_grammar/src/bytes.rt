@@ -47,3 +47,11 @@ pub(crate) fn begins_value(byte: u8) -> bool
         || byte == b'-'
         || byte == b'+'
 }
+
+/// Whether an index begins with the byte.
+#[inline]
+pub(crate) fn begins_index(byte: u8) -> bool
+    ensures { result ≡ read.begins_index byte }
+{
+    byte == b'.' || byte == b'['
+}

@@ -10,7 +10,7 @@ ghost use Rattle.liquid_grammar.specs.meaning.Parts.{HasParts, IsToken, OpensExp
 ghost use Rattle.liquid_grammar.specs.steps.Heads.{HasKeyword};
 
 use crate::bracket::{self, bracketed};
-use crate::bytes::{begins_value, byte_at};
+use crate::bytes::{begins_index, begins_value, byte_at};
 use crate::filter::{behind, chain_and_kind, keyword_start};
 use crate::head::{Head, read_head};
 use crate::kind::TokenKind;
@@ -112,6 +112,9 @@ pub fn next_index<'a>(s: &'a str, depth: usize) -> Option<(IndexStart<'a>, &'a s
         (λ p. First (IsIndex s.now p.0 p.1.now) (Repeated IndexRule) rest is) }
     ensures shorter { IfSome result (λ p. length p.1.now < length s.now) }
 {
+    if !begins_index(byte_at(s.as_bytes(), 0)) {
+        return None;
+    }
     match named_index(s) {
         Some((name, rest)) => Some((IndexStart::Named(name), rest)),
         None if depth == 0 => {

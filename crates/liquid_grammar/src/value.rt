@@ -9,7 +9,7 @@ ghost use Rattle.liquid_grammar.specs.steps.Steps as step;
 ghost use Rattle.liquid_grammar.specs.steps.TokenSteps as read;
 
 use crate::bracket::bracketed;
-use crate::bytes::byte_at;
+use crate::bytes::{begins_index, byte_at};
 use crate::fault::{Fault, literal_fault};
 use crate::head::{Head, read_head};
 use crate::kind::TokenKind;
@@ -101,12 +101,6 @@ pub(crate) fn index<'a>(s: &'a str) -> Option<(Option<Fault<'a>>, &'a str)>
     } else {
         None
     }
-}
-
-fn begins_index(byte: u8) -> bool
-    ensures { result ≡ read.begins_index byte }
-{
-    byte == b'.' || byte == b'['
 }
 
 /// What follows `.` and an identifier.
