@@ -29,25 +29,25 @@ not_sign b e = grind (arith, nat_tests)
 not_digit : (b : ℕ) → starts_name b ≡ true → is_ascii_digit b ≡ false
 not_digit b e = grind (arith, nat_tests)
 
-one_none : (p : ℕ → Bool) (b : ℕ) (t : List ℕ) → p b ≡ false → one p (b ∷ t) ≡ None
+pub one_none : (p : ℕ → Bool) (b : ℕ) (t : List ℕ) → p b ≡ false → one p (b ∷ t) ≡ None
 one_none p b t e = ap (λ c. cond c (Some (b, t)) None) e
 
-seen_none : {A B : Type 0} (h : A → B) (f : Reader A) (s : List ℕ) → f s ≡ None → seen h f s ≡ None
+pub seen_none : {A B : Type 0} (h : A → B) (f : Reader A) (s : List ℕ) → f s ≡ None → seen h f s ≡ None
 seen_none h f s e = ap (λ o. option_map (λ a. (h a.0, a.1)) o) e
 
-right_none : {A B : Type 0} (f : Reader A) (g : Reader B) (s : List ℕ) → f s ≡ None → right f g s ≡ None
+pub right_none : {A B : Type 0} (f : Reader A) (g : Reader B) (s : List ℕ) → f s ≡ None → right f g s ≡ None
 right_none f g s e = seen_none (λ p. p.1) (both f g) s (both_none f g s e)
 
-left_none : {A B : Type 0} (f : Reader A) (g : Reader B) (s : List ℕ) → f s ≡ None → left f g s ≡ None
+pub left_none : {A B : Type 0} (f : Reader A) (g : Reader B) (s : List ℕ) → f s ≡ None → left f g s ≡ None
 left_none f g s e = seen_none (λ p. p.0) (both f g) s (both_none f g s e)
 
-text_none : {A : Type 0} (f : Reader A) (s : List ℕ) → f s ≡ None → text f s ≡ None
+pub text_none : {A : Type 0} (f : Reader A) (s : List ℕ) → f s ≡ None → text f s ≡ None
 text_none f s e = ap (λ o. option_map (λ a. (take (length s - length a.1) s, a.1)) o) e
 
-either_none : {A : Type 0} (f g : Reader A) (s : List ℕ) → f s ≡ None → g s ≡ None → either f g s ≡ None
+pub either_none : {A : Type 0} (f g : Reader A) (s : List ℕ) → f s ≡ None → g s ≡ None → either f g s ≡ None
 either_none f g s e h = ap₂ option_or e h
 
-quoted_none : (quote b : ℕ) (t : List ℕ) → (b == quote) ≡ false → quoted quote (b ∷ t) ≡ None
+pub quoted_none : (quote b : ℕ) (t : List ℕ) → (b == quote) ≡ false → quoted quote (b ∷ t) ≡ None
 unfolding quoted
 quoted_none quote b t e = left_none (right (byte quote) (run (λ c. not (c == quote)))) (byte quote) (b ∷ t) (right_none (byte quote) (run (λ c. not (c == quote))) (b ∷ t) (one_none (λ c. c == quote) b t e))
 
@@ -59,15 +59,15 @@ sign_none : (b : ℕ) (t : List ℕ) → (b == 43 || b == 45) ≡ false → sign
 unfolding sign
 sign_none b t e = ap (λ c. option_or (option_map (λ (a : ℕ × List ℕ). (Some a.0, a.1)) (cond c (Some (b, t)) None)) (Some (None, b ∷ t))) e
 
-whole_none : (b : ℕ) (t : List ℕ) → (b == 43 || b == 45) ≡ false → is_ascii_digit b ≡ false → whole (b ∷ t) ≡ None
+pub whole_none : (b : ℕ) (t : List ℕ) → (b == 43 || b == 45) ≡ false → is_ascii_digit b ≡ false → whole (b ∷ t) ≡ None
 unfolding whole
 whole_none b t e f = text_none (both sign digits) (b ∷ t) (both_none_behind sign digits (b ∷ t) (None, b ∷ t) (sign_none b t e) (digits_none b t f))
 
-fractional_none : (s : List ℕ) → whole s ≡ None → fractional s ≡ None
+pub fractional_none : (s : List ℕ) → whole s ≡ None → fractional s ≡ None
 unfolding fractional
 fractional_none s e = text_none (both whole (both (byte 46) digits)) s (both_none whole (both (byte 46) digits) s e)
 
-number_none : (s : List ℕ) → whole s ≡ None → number s ≡ None
+pub number_none : (s : List ℕ) → whole s ≡ None → number s ≡ None
 unfolding number
 number_none s e = left_none (either (seen decimal fractional) (seen integer whole)) (not_ahead (one starts_name)) s
     (either_none (seen decimal fractional) (seen integer whole) s (seen_none decimal fractional s (fractional_none s e)) (seen_none integer whole s e))

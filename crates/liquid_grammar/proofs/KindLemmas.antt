@@ -131,16 +131,16 @@ unfolding chain_of
 no_chain s e = sym (ap (λ o. chain_kind_in (option_map (placed s) o)) (both_none value (repeated next_filter) s (no_kind_found (value s) e)))
 
 -- the kind of the token that stands there
-abbrev as_range : Placed (Value × Value) × List ℕ → Token × List ℕ
+abbrev pub as_range : Placed (Value × Value) × List ℕ → Token × List ℕ
 as_range a = (range a.0, a.1)
 
-abbrev as_chain : Chain × List ℕ → Token × List ℕ
+abbrev pub as_chain : Chain × List ℕ → Token × List ℕ
 as_chain a = (chain a.0, a.1)
 
-abbrev as_symbol : Placed (List ℕ) × List ℕ → Token × List ℕ
+abbrev pub as_symbol : Placed (List ℕ) × List ℕ → Token × List ℕ
 as_symbol a = (symbol a.0, a.1)
 
-token_parts : (s : List ℕ) → token s ≡ option_or (option_map as_range (option_map (placed s) (ranged s))) (option_or (option_map as_chain (chain_of s)) (option_map as_symbol (option_map (placed s) (symbol_of s))))
+pub token_parts : (s : List ℕ) → token s ≡ option_or (option_map as_range (option_map (placed s) (ranged s))) (option_or (option_map as_chain (chain_of s)) (option_map as_symbol (option_map (placed s) (symbol_of s))))
 unfolding token
 token_parts s = refl
 

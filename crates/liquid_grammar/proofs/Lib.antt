@@ -21,3 +21,6 @@ pub mod FilterPartLemmas
 pub mod TokenPartLemmas
 pub mod ExpressionPartLemmas
 pub mod ChainStepLemmas
+pub mod NumberLemmas
+pub mod FirstByteLemmas
+pub mod TokenScan

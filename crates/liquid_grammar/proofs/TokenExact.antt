@@ -3,7 +3,7 @@ use Rattle.std.proofs.Common.{ℕ, zero, suc, true, not, ◌||◌, ◌==◌, ◌
 use Rattle.std.proofs.lemmas.Option.{none-some}
 use Rattle.std.specs.Char.{is_ascii_digit}
 use Rattle.liquid_grammar.specs.meaning.Bytes.{starts_name}
-use Rattle.liquid_grammar.specs.meaning.Rules.{Rule, One, Repeated, Byte, Optional, ◌▷◌, ◌◁◌}
+use Rattle.liquid_grammar.specs.meaning.Rules.{Rule, One, Then, Repeated, Byte, Optional, ◌▷◌, ◌◁◌}
 use Rattle.liquid_grammar.specs.meaning.Grammar.{White, Identifier, Name, is_literal_word}
 use Rattle.liquid_grammar.specs.meaning.Literals.{word_literal, text_literal, integer, decimal, Word, Quoted, Digits, Whole, Fractional, Number, LiteralRule}
 use Rattle.liquid_grammar.specs.meaning.Values.{Value, named_index, placed_literal, placed_variable, placed_bracket, OpenBracket, CloseBracket, Bracketed, IndexOver, VariableOver, ValueOver, Nested, ValueRule}
@@ -34,9 +34,12 @@ pub exact-whole : Exact read.whole Whole
 unfolding read.whole
 exact-whole = exact-text (exact-both exact-sign exact-digits)
 
+pub exact-fraction : Exact read.fraction (Then (Byte 46) Digits)
+exact-fraction = exact-both (exact-byte 46) exact-digits
+
 pub exact-fractional : Exact read.fractional Fractional
 unfolding read.fractional
-exact-fractional = exact-text (exact-both exact-whole (exact-both (exact-byte 46) exact-digits))
+exact-fractional = exact-text (exact-both exact-whole exact-fraction)
 
 pub exact-number : Exact read.number Number
 unfolding read.number

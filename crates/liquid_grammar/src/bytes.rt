@@ -1,6 +1,7 @@
 //! The classes of bytes of the grammar.
 ghost use Rattle.std.specs.Prelude.{◌≡◌, slice_index};
 ghost use Rattle.liquid_grammar.specs.meaning.Bytes as spec;
+ghost use Rattle.liquid_grammar.specs.steps.TokenSteps as read;
 
 /// The byte at `index`, or 0 past the end.
 #[inline]
@@ -32,4 +33,25 @@ pub(crate) fn is_word(byte: u8) -> bool
     ensures { result ≡ spec.is_word byte }
 {
     byte.is_ascii_alphabetic() || byte.is_ascii_digit() || byte == b'_'
+}
+
+/// Whether a literal or a name may begin with the byte.
+#[inline]
+pub(crate) fn begins_value(byte: u8) -> bool
+    ensures { result ≡ read.begins_value byte }
+{
+    starts_name(byte)
+        || byte.is_ascii_digit()
+        || byte == b'"'
+        || byte == b'\''
+        || byte == b'-'
+        || byte == b'+'
+}
+
+/// Whether an index begins with the byte.
+#[inline]
+pub(crate) fn begins_index(byte: u8) -> bool
+    ensures { result ≡ read.begins_index byte }
+{
+    byte == b'.' || byte == b'['
 }

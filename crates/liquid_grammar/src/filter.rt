@@ -1,13 +1,14 @@
 //! Arguments, filters and chains.
-ghost use Rattle.std.specs.Prelude.{◌≡◌, ◌<◌, ◌≤◌, length, Some, IfSome, option_map};
+ghost use Rattle.std.specs.Prelude.{◌≡◌, ℕ, List, ◌<◌, ◌≤◌, length, Some, IfSome, option_map};
 ghost use Rattle.liquid_grammar.specs.meaning.Tokens as spec;
-ghost use Rattle.liquid_grammar.specs.meaning.Faults.{argument_fault, filter_fault, chain_fault, first_fault};
-ghost use Rattle.liquid_grammar.specs.meaning.KindMeanings.{FindsKind};
+ghost use Rattle.liquid_grammar.specs.meaning.Faults.{argument_fault, filter_fault, value_fault, chain_fault, first_fault};
+ghost use Rattle.liquid_grammar.specs.meaning.KindMeanings.{FindsKind, FindsValueKind};
 ghost use Rattle.liquid_grammar.specs.meaning.Meanings.{Scans};
 ghost use Rattle.liquid_grammar.specs.steps.Steps.{Splits, Leaves};
 ghost use Rattle.liquid_grammar.specs.steps.Steps as step;
 ghost use Rattle.liquid_grammar.specs.steps.TokenSteps as read;
 
+use crate::bytes::byte_at;
 use crate::fault::Fault;
 use crate::kind::TokenKind;
 use crate::name::identifier;
@@ -31,13 +32,43 @@ pub(crate) fn chain_and_kind<'a>(s: &'a str) -> Option<(TokenKind<'a>, Option<Fa
     ensures shorter { IfSome result (λ x. length x.2.now < length s.now) }
 {
     let (kind, first, rest) = value_and_kind(s)?;
+    if begins_filter(rest) {
+        Some(filtered(kind, first, rest))
+    } else {
+        Some((kind, first, rest))
+    }
+}
+
+/// The kind and the first fault of the chain that begins with a value of this kind and fault, and what follows it.
+///
+/// It stands apart, so that no room is made for filters where a value has none.
+#[inline(never)]
+fn filtered<'a>(
+    kind: TokenKind<'a>,
+    first: Option<Fault<'a>>,
+    rest: &'a str,
+) -> (TokenKind<'a>, Option<Fault<'a>>, &'a str)
+    ensures kind { (s : List ℕ) → FindsValueKind (Some (kind.entry, rest.entry)) (read.value s)
+        → FindsKind (Some result.0) (read.chain_of s) }
+    ensures value { (s : List ℕ) → Scans value_fault (Some (first.entry, rest.entry)) (read.value s)
+        → Scans chain_fault (Some (result.1, result.2)) (read.chain_of s) }
+    ensures shorter { length result.2.now ≤ length rest.now }
+{
     match next_filter(rest) {
         Some((second, behind)) => {
             let (others, end) = filters(behind);
-            Some((TokenKind::Filtered, first.or(second.or(others)), end))
+            (TokenKind::Filtered, first.or(second.or(others)), end)
         }
-        None => Some((kind, first, rest)),
+        None => (kind, first, rest),
     }
+}
+
+/// Whether `|` stands here behind white space, as before each filter.
+#[inline]
+fn begins_filter(s: &str) -> bool
+    ensures { result ≡ read.begins_filter s.now }
+{
+    byte_at(skip_white(s).as_bytes(), 0) == b'|'
 }
 
 /// The first fault of all filters that stand here, each behind `|`.

@@ -5,8 +5,8 @@ ghost use Rattle.liquid_grammar.specs.meaning.Meanings.{FindsLiteral};
 ghost use Rattle.liquid_grammar.specs.steps.Steps as step;
 ghost use Rattle.liquid_grammar.specs.steps.TokenSteps as read;
 
-use crate::literal::{Literal, text_or_number, word_literal};
-use crate::name::{identifier, is_literal_word};
+use crate::literal::{Literal, literal_word, text_or_number};
+use crate::name::identifier;
 
 /// What a value begins with: a literal, or the name of a variable.
 #[derive(Clone, Copy, Debug, PartialEq, Eq)]
@@ -46,9 +46,8 @@ pub(crate) fn read_head(s: &str) -> Option<(Head<'_>, &str)>
 fn head_of_word(word: &str) -> Head<'_>
     ensures { IsHeadOf word.now result }
 {
-    if is_literal_word(word) {
-        Head::Literal(word_literal(word))
-    } else {
-        Head::Name(word)
+    match literal_word(word) {
+        Some(literal) => Head::Literal(literal),
+        None => Head::Name(word),
     }
 }

@@ -1,7 +1,8 @@
 //! Literals: words, texts and numbers.
-ghost use Rattle.std.specs.Prelude.{◌≡◌, ◌<◌, ◌≤◌, ◌==◌, not, length, Some, IfSome};
+ghost use Rattle.std.specs.Prelude.{◌≡◌, ◌<◌, ◌≤◌, ◌==◌, false, true, not, length, Some, IfSome, MatchOption};
 ghost use Rattle.std.specs.List.{prefix_len};
 ghost use Rattle.std.specs.Char.{is_ascii_digit};
+ghost use Rattle.liquid_grammar.specs.meaning.Grammar.{is_literal_word};
 ghost use Rattle.liquid_grammar.specs.meaning.Literals as spec;
 ghost use Rattle.liquid_grammar.specs.meaning.Meanings.{FindsLiteral, literal_of};
 ghost use Rattle.liquid_grammar.specs.steps.Steps.{Splits, Leaves};
@@ -22,39 +23,32 @@ pub enum Literal<'a> {
     Decimal(&'a str),
 }
 
-/// The text or the number that the text begins with, and what follows it.
+/// The text or the number that the text begins with, and what follows it. Its first byte tells which of them it can be.
 pub(crate) fn text_or_number(s: &str) -> Option<(Literal, &str)>
     ensures value { FindsLiteral result (read.text_or_number s.now) }
     ensures shorter { IfSome result (λ x. length x.1.now < length s.now) }
 {
-    match text_literal(s) {
-        Some((text, rest)) => Some((Literal::Text(text), rest)),
-        None => number(s),
-    }
-}
-
-/// What a literal word stands for.
-pub(crate) fn word_literal(word: &str) -> Literal<'_>
-    ensures { literal_of result ≡ spec.word_literal word.now }
-{
-    if word == "nil" || word == "null" {
-        Literal::Nil
-    } else if word == "empty" {
-        Literal::Empty
-    } else if word == "blank" {
-        Literal::Blank
+    let first = byte_at(s.as_bytes(), 0);
+    if first == b'\'' || first == b'"' {
+        let (text, rest) = quoted(s, first)?;
+        Some((Literal::Text(text), rest))
     } else {
-        Literal::Truth(word == "true")
+        number(s)
     }
 }
 
-fn text_literal(s: &str) -> Option<(&str, &str)>
-    ensures value { Splits result (read.text_of_quotes s.now) }
-    ensures shorter { IfSome result (λ x. length x.1.now < length s.now) }
+/// What the word stands for, where it is a literal word. Its first byte leaves at most two of these.
+pub(crate) fn literal_word(word: &str) -> Option<Literal<'_>>
+    ensures { MatchOption result (is_literal_word word.now ≡ false)
+        (λ l. (is_literal_word word.now ≡ true) × (literal_of l ≡ spec.word_literal word.now)) }
 {
-    match quoted(s, b'\'') {
-        Some(found) => Some(found),
-        None => quoted(s, b'"'),
+    match byte_at(word.as_bytes(), 0) {
+        b'n' if word == "nil" || word == "null" => Some(Literal::Nil),
+        b'e' if word == "empty" => Some(Literal::Empty),
+        b'b' if word == "blank" => Some(Literal::Blank),
+        b't' if word == "true" => Some(Literal::Truth(true)),
+        b'f' if word == "false" => Some(Literal::Truth(false)),
+        _ => None,
     }
 }
 
@@ -82,13 +76,7 @@ fn number(s: &str) -> Option<(Literal, &str)>
     ensures value { FindsLiteral result (read.number s.now) }
     ensures shorter { IfSome result (λ x. length x.1.now < length s.now) }
 {
-    let (literal, rest) = match fractional(s) {
-        Some((text, rest)) => (Literal::Decimal(text), rest),
-        None => {
-            let (text, rest) = whole(s)?;
-            (Literal::Integer(text), rest)
-        }
-    };
+    let (literal, rest) = longest_number(s)?;
     if starts_name(byte_at(rest.as_bytes(), 0)) {
         None
     } else {
@@ -96,14 +84,24 @@ fn number(s: &str) -> Option<(Literal, &str)>
     }
 }
 
-#[tactic(auto, unfolding(crate::specs::steps::TokenSteps::fractional))]
-fn fractional(s: &str) -> Option<(&str, &str)>
-    ensures value { Splits result (read.fractional s.now) }
+/// The whole number that the text begins with, with the fraction behind it if there is one.
+fn longest_number(s: &str) -> Option<(Literal, &str)>
+    ensures value { FindsLiteral result (read.longest_number s.now) }
     ensures shorter { IfSome result (λ x. length x.1.now < length s.now) }
 {
-    let (_, rest) = whole(s)?;
-    let (_, rest) = digits(eat(rest, b'.')?)?;
-    Some((before(s, rest), rest))
+    let (text, end) = whole(s)?;
+    match fraction(end) {
+        Some(rest) => Some((Literal::Decimal(before(s, rest)), rest)),
+        None => Some((Literal::Integer(text), end)),
+    }
+}
+
+/// What follows `.` and digits.
+fn fraction(s: &str) -> Option<&str>
+    ensures value { Leaves result (read.fraction s.now) }
+    ensures shorter { IfSome result (λ rest. length rest.now < length s.now) }
+{
+    Some(digits(eat(s, b'.')?)?.1)
 }
 
 #[tactic(auto, unfolding(crate::specs::steps::TokenSteps::whole))]

@@ -1,10 +1,10 @@
 //! Identifiers and names.
 ghost use Rattle.std.specs.Prelude.{◌≡◌, ◌<◌, ◌≤◌, length, IfSome};
-ghost use Rattle.liquid_grammar.specs.meaning.Grammar as spec;
 ghost use Rattle.liquid_grammar.specs.steps.Steps as read;
 ghost use Rattle.liquid_grammar.specs.steps.Steps.{Splits};
 
 use crate::bytes::{byte_at, is_word, starts_name};
+use crate::literal::literal_word;
 
 /// The longest identifier that the text begins with, and what follows it.
 #[tactic(auto, unfolding(crate::specs::steps::Steps::identifier))]
@@ -27,23 +27,10 @@ pub(crate) fn name(s: &str) -> Option<(&str, &str)>
     ensures shorter { IfSome result (λ x. length x.1.now < length s.now) }
 {
     let (word, rest) = identifier(s)?;
-    if is_literal_word(word) {
-        None
-    } else {
-        Some((word, rest))
+    match literal_word(word) {
+        Some(_) => None,
+        None => Some((word, rest)),
     }
-}
-
-/// Whether the word stands for a literal.
-pub(crate) fn is_literal_word(word: &str) -> bool
-    ensures { result ≡ spec.is_literal_word word.now }
-{
-    word == "nil"
-        || word == "null"
-        || word == "empty"
-        || word == "blank"
-        || word == "true"
-        || word == "false"
 }
 
 /// How many name bytes there are in front: a dash counts only where a word byte follows it.

@@ -11,6 +11,7 @@ ghost use Rattle.liquid_grammar.specs.meaning.Parts.{IsStep, Unclosed, step_rest
 ghost use Rattle.liquid_grammar.specs.steps.Heads.{HasKeyword};
 
 use crate::bracket::{self, bracketed};
+use crate::bytes::{begins_index, begins_value, byte_at};
 use crate::filter::{behind, chain_and_kind, keyword_start};
 use crate::head::{Head, read_head};
 use crate::kind::TokenKind;
@@ -121,6 +122,9 @@ pub fn next_index<'a>(s: &'a str, depth: usize) -> Option<(IndexStart<'a>, &'a s
         (λ p. First (IsIndex s.now p.0 p.1.now) (Repeated IndexRule) rest is) }
     ensures shorter { IfSome result (λ p. length p.1.now < length s.now) }
 {
+    if !begins_index(byte_at(s.as_bytes(), 0)) {
+        return None;
+    }
     match named_index(s) {
         Some((name, rest)) => Some((IndexStart::Named(name), rest)),
         None if depth == 0 => {
@@ -233,20 +237,21 @@ pub fn next_token(s: &str) -> Option<TokenText<'_>>
     })
 }
 
-/// What the token that stands here is made of, and what follows it.
+/// What the token that stands here is made of, and what follows it. Its first byte tells which of them it can be.
 fn token_parts(place: &str) -> Option<(TokenParts<'_>, &str)>
     ensures value { MatchOption result (¬ (Begins TokenRule place.now))
         (λ p. (token : Token) × TokenRule place.now p.1.now token × HasParts p.0 place.now p.1.now token) }
     ensures shorter { IfSome result (λ p. length p.1.now < length place.now) }
 {
-    match range_parts(place) {
-        Some((start, stop, _, rest)) => Some((TokenParts::Range { start, stop }, rest)),
-        None => match chain_and_kind(place) {
-            Some((kind, _, rest)) => Some((TokenParts::Chain(kind), rest)),
-            None => {
-                let rest = symbol(place)?;
-                Some((TokenParts::Symbol(before(place, rest)), rest))
-            }
-        },
+    let first = byte_at(place.as_bytes(), 0);
+    if first == b'(' {
+        let (start, stop, _, rest) = range_parts(place)?;
+        Some((TokenParts::Range { start, stop }, rest))
+    } else if begins_value(first) {
+        let (kind, _, rest) = chain_and_kind(place)?;
+        Some((TokenParts::Chain(kind), rest))
+    } else {
+        let rest = symbol(place)?;
+        Some((TokenParts::Symbol(before(place, rest)), rest))
     }
 }

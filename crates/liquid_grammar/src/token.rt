@@ -9,7 +9,7 @@ ghost use Rattle.liquid_grammar.specs.steps.Steps.{Splits, Leaves};
 ghost use Rattle.liquid_grammar.specs.steps.Steps as step;
 ghost use Rattle.liquid_grammar.specs.steps.TokenSteps as read;
 
-use crate::bytes::byte_at;
+use crate::bytes::{begins_value, byte_at};
 use crate::fault::Fault;
 use crate::filter::{chain, chain_and_kind};
 use crate::kind::TokenKind;
@@ -103,17 +103,18 @@ fn next_token<'a>(s: &'a str) -> Option<(Option<Fault<'a>>, &'a str)>
     token(skip_white(s))
 }
 
-#[tactic(auto, unfolding(crate::specs::steps::TokenSteps::token))]
+/// The first fault of the token that stands here, and what follows it. Its first byte tells which of them it can be.
 pub(crate) fn token<'a>(s: &'a str) -> Option<(Option<Fault<'a>>, &'a str)>
     ensures value { Scans token_fault result (read.token s.now) }
     ensures shorter { IfSome result (λ x. length x.1.now < length s.now) }
 {
-    match range(s) {
-        Some(found) => Some(found),
-        None => match chain(s) {
-            Some(found) => Some(found),
-            None => Some((None, symbol(s)?)),
-        },
+    let first = byte_at(s.as_bytes(), 0);
+    if first == b'(' {
+        range(s)
+    } else if begins_value(first) {
+        chain(s)
+    } else {
+        Some((None, symbol(s)?))
     }
 }
 

@@ -1,13 +1,15 @@
 //! Values: literals, and variables with their indexes.
-ghost use Rattle.std.specs.Prelude.{◌≡◌, ◌<◌, ◌≤◌, length, Some, IfSome, option_map};
+ghost use Rattle.std.specs.Prelude.{◌≡◌, ℕ, List, ◌<◌, ◌≤◌, length, None, Some, IfSome, option_map};
 ghost use Rattle.liquid_grammar.specs.meaning.Values.{gather};
 ghost use Rattle.liquid_grammar.specs.meaning.Faults.{value_fault, indexes_fault, index_fault};
 ghost use Rattle.liquid_grammar.specs.meaning.KindMeanings.{FindsValueKind};
 ghost use Rattle.liquid_grammar.specs.meaning.Meanings.{Scans};
 ghost use Rattle.liquid_grammar.specs.steps.Steps.{Splits, Leaves};
+ghost use Rattle.liquid_grammar.specs.steps.Steps as step;
 ghost use Rattle.liquid_grammar.specs.steps.TokenSteps as read;
 
 use crate::bracket::bracketed;
+use crate::bytes::{begins_index, byte_at};
 use crate::fault::{Fault, literal_fault};
 use crate::head::{Head, read_head};
 use crate::kind::TokenKind;
@@ -36,13 +38,33 @@ pub(crate) fn value_and_kind<'a>(s: &'a str) -> Option<(TokenKind<'a>, Option<Fa
             literal_fault(s, literal),
             rest,
         )),
-        (Head::Name(name), rest) => match index(rest) {
-            Some((first, behind)) => {
-                let (others, end) = indexes(behind);
-                Some((TokenKind::Variable, first.or(others), end))
+        (Head::Name(name), rest) => {
+            if begins_index(byte_at(rest.as_bytes(), 0)) {
+                Some(indexed(name, rest))
+            } else {
+                Some((TokenKind::Identifier(name), None, rest))
             }
-            None => Some((TokenKind::Identifier(name), None, rest)),
-        },
+        }
+    }
+}
+
+/// The kind and the first fault of the variable with this name, and what follows it.
+///
+/// It stands apart, so that no room is made for indexes where a name has none.
+#[inline(never)]
+fn indexed<'a>(name: &'a str, rest: &'a str) -> (TokenKind<'a>, Option<Fault<'a>>, &'a str)
+    ensures kind { (s : List ℕ) → None ≡ read.literal s → Some (name.now, rest.now) ≡ step.name s
+        → FindsValueKind (Some (result.0, result.2)) (read.value s) }
+    ensures value { (s : List ℕ) → None ≡ read.literal s → Some (name.now, rest.now) ≡ step.name s
+        → Scans value_fault (Some (result.1, result.2)) (read.value s) }
+    ensures shorter { length result.2.now ≤ length rest.now }
+{
+    match index(rest) {
+        Some((first, behind)) => {
+            let (others, end) = indexes(behind);
+            (TokenKind::Variable, first.or(others), end)
+        }
+        None => (TokenKind::Identifier(name), None, rest),
     }
 }
 
@@ -71,9 +93,13 @@ pub(crate) fn index<'a>(s: &'a str) -> Option<(Option<Fault<'a>>, &'a str)>
     ensures value { Scans (index_fault 0) result (read.index_over read.value s.now) }
     ensures shorter { IfSome result (λ x. length x.1.now < length s.now) }
 {
-    match named(s) {
-        Some(rest) => Some((None, rest)),
-        None => bracketed(s),
+    if begins_index(byte_at(s.as_bytes(), 0)) {
+        match named(s) {
+            Some(rest) => Some((None, rest)),
+            None => bracketed(s),
+        }
+    } else {
+        None
     }
 }
 

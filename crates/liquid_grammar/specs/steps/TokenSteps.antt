@@ -1,7 +1,8 @@
 -- Readers of literals, values, filters, chains, tokens and tags. Like those of Steps, no public clause names them.
-use Rattle.std.specs.Prelude.{ℕ, zero, suc, ◌==◌, ◌||◌, true, cond, not, List, [], ◌∷◌, length, Option, Some, None, option_map, is_some}
+use Rattle.std.specs.Prelude.{ℕ, zero, suc, ◌==◌, ◌||◌, Bool, true, cond, not, List, [], ◌∷◌, length, Option, Some, None, option_map, is_some, drop, slice_index}
+use Rattle.std.specs.List.{prefix_len}
 use Rattle.std.specs.Char.{is_ascii_digit}
-use Rattle.liquid_grammar.specs.meaning.Bytes.{starts_name}
+use Rattle.liquid_grammar.specs.meaning.Bytes.{is_white, starts_name}
 use Rattle.liquid_grammar.specs.meaning.Rules.{Placed}
 use Rattle.liquid_grammar.specs.meaning.Grammar.{is_literal_word}
 use Rattle.liquid_grammar.specs.meaning.Literals.{Literal, word_literal, text_literal, integer, decimal}
@@ -54,14 +55,24 @@ sign = optional (one (λ b. b == 43 || b == 45))
 unfoldable pub whole : Reader (List ℕ)
 whole = text (both sign digits)
 
+abbrev pub fraction : Reader (ℕ × List ℕ)
+fraction = both (byte 46) digits
+
 unfoldable pub fractional : Reader (List ℕ)
-fractional = text (both whole (both (byte 46) digits))
+fractional = text (both whole fraction)
+
+abbrev pub longest_number : Reader Literal
+longest_number = either (seen decimal fractional) (seen integer whole)
 
 unfoldable pub number : Reader Literal
-number = left (either (seen decimal fractional) (seen integer whole)) (not_ahead (one starts_name))
+number = left longest_number (not_ahead (one starts_name))
 
 abbrev pub text_or_number : Reader Literal
 text_or_number = either (seen text_literal text_of_quotes) number
+
+-- a byte that a literal or a name may begin with
+abbrev pub begins_value : ℕ → Bool
+begins_value b = ((((starts_name b || is_ascii_digit b) || b == 34) || b == 39) || b == 45) || b == 43
 
 unfoldable pub literal : Reader Literal
 literal = either word text_or_number
@@ -78,6 +89,10 @@ bracketed_over inner = left (right open_bracket inner) close_bracket
 
 unfoldable pub named : Reader (List ℕ)
 named = right (byte 46) identifier
+
+-- a byte that an index begins with
+abbrev pub begins_index : ℕ → Bool
+begins_index b = b == 46 || b == 91
 
 abbrev pub index_over : Reader Value → Reader Index
 index_over inner = either (seen named_index named) (seen placed_bracket (at (bracketed_over inner)))
@@ -116,6 +131,10 @@ arguments = seen (λ p. p.0 ∷ p.1) (both (behind 58 argument) (repeated (behin
 
 unfoldable pub filter : Reader Filter
 filter = at (seen (λ p. (p.0, arguments_of p.1)) (both identifier (optional arguments)))
+
+-- `|` stands here behind white space
+abbrev pub begins_filter : List ℕ → Bool
+begins_filter s = slice_index (drop (prefix_len is_white s) s) 0 == 124
 
 unfoldable pub chain_of : Reader Chain
 chain_of = at (both value (repeated (behind 124 filter)))

@@ -1,6 +1,7 @@
-use Rattle.std.proofs.Common.{arith}
+use Rattle.std.proofs.Common.{sym, ◌∙◌, arith}
 use Rattle.liquid_grammar.proofs.PartLemmas.{none_left, returned_none}
 use Rattle.liquid_grammar.proofs.IndexPartLemmas.{named_first, bracket_first, some_left, inside_left, no_index, index_begins, unmatched_brackets}
+use Rattle.liquid_grammar.proofs.FirstByteLemmas.{first_byte, no_index_begins}
 use Rattle.liquid_grammar.proofs.parts.next_index.Goals as goal
 
 pub returns-in_err-bracketed-in-None-clause-only :
@@ -29,3 +30,8 @@ returns-in_ok-open_bracket-in-None-2-clause-only c rest is m inside =
     bracket_first c.args.s.now rest _ is c.in-None-2.ensures.value c.in_ok-open_bracket-in-None-2.ensures.value
     (inside_left c.args.s.now rest _ is c.in_ok-open_bracket-in-None-2.ensures.value (inside (omega arith)))
     m
+
+pub returns-then-not-begins_index-clause-only : goal.returns-then-not-begins_index-clause-only
+returns-then-not-begins_index-clause-only c rest is m inside =
+    none_left c.args.s.now rest is m
+    (no_index_begins c.args.s.now _ (first_byte c.args.s.now _ _ c.as_bytes.ensures.value c.byte_at.ensures) (sym c.begins_index.ensures ∙ c.if-not-begins_index.true))
