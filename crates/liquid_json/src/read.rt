@@ -88,6 +88,9 @@ fn read_object(alloc: Global, text: &str, scratch: &mut Scratch) -> Result<Objec
 }
 
 /// The value that begins at the next token, in which at most `depth` arrays and objects stand in one another.
+///
+/// It is inlined, so that an item or a member is made where it is wanted and moved no further.
+#[inline(always)]
 #[cycle(read)]
 fn read_value(alloc: Global, reader: &mut Reader<'_>, depth: usize) -> Result<Value, Unread>
     ensures read { IfOk result (λ value. Reads (json_value depth reader.old) (view value) reader.new) }
