@@ -28,6 +28,9 @@ const MOST_NESTED: usize = 127;
 /// So many digits always write a number that fits 64 bits with a sign.
 const MOST_DIGITS: usize = 18;
 
+/// How many items an array has room for at first. Most arrays are short, and an object of them many.
+const FEW_ITEMS: usize = 2;
+
 /// Why a text is not read token by token.
 #[derive(Clone, Copy, Drop)]
 enum Unread {
@@ -128,7 +131,7 @@ fn read_items(alloc: Global, reader: &mut Reader<'_>, depth: usize) -> Result<Ar
         (λ values. ReadsItems (json_items (json_value depth) (length reader.old) reader.old) (items_view values.items) reader.new) }
     ensures shorter { OnOk result (length reader.new < length reader.old) }
 {
-    let mut values = Vec::new(alloc);
+    let mut values = Vec::with_capacity(alloc, FEW_ITEMS)?;
     'items: while !reader.take_end_array() {
         let value = read_value(alloc, reader, depth)?;
         values.push(value)?;
