@@ -1,5 +1,5 @@
 //! JSON texts as objects, each token turned into its value as it is read.
-ghost use Rattle.std.specs.Prelude.{◌≡◌, ◌^◌, ◌<◌, ◌==◌, Some, None, Result, Ok, true, false, length, slice_index};
+ghost use Rattle.std.specs.Prelude.{◌≡◌, ◌^◌, ◌<◌, ◌==◌, [], ◌∷◌, ◌++◌, Some, None, Result, Ok, true, false, length, slice_index};
 ghost use Rattle.std.specs.Prelude.{IfOk, IfErr, IfSome, IsTrue, OnOk, OnSome};
 ghost use Rattle.std.specs.Str.Parse.{IsNumeral, digits_value};
 ghost use Rattle.json.specs.Json.{value as json_value, items as json_items, members as json_members};
@@ -28,7 +28,7 @@ const MOST_NESTED: usize = 127;
 /// So many digits always write a number that fits 64 bits with a sign.
 const MOST_DIGITS: usize = 18;
 
-/// How many items an array has room for at first. Most arrays are short, and an object of them many.
+/// How many items an array has room for once it has one: most arrays are short, and there are many.
 const FEW_ITEMS: usize = 2;
 
 /// Why a text is not read token by token.
@@ -131,12 +131,24 @@ fn read_items(alloc: Global, reader: &mut Reader<'_>, depth: usize) -> Result<Ar
         (λ values. ReadsItems (json_items (json_value depth) (length reader.old) reader.old) (items_view values.items) reader.new) }
     ensures shorter { OnOk result (length reader.new < length reader.old) }
 {
-    let mut values = Vec::with_capacity(alloc, FEW_ITEMS)?;
+    let mut values = Vec::new(alloc);
     'items: while !reader.take_end_array() {
         let value = read_value(alloc, reader, depth)?;
-        values.push(value)?;
+        push_item(&mut values, value)?;
     }
     Ok(values)
+}
+
+/// Puts an item behind the others. The first one makes room for no more than `FEW_ITEMS`.
+#[inline(always)]
+fn push_item(values: &mut Array, value: Value) -> Result<(), Unread>
+    ensures { OnOk result (values.new.items ≡ values.old.items ++ value ∷ []) }
+{
+    if values.is_empty() {
+        values.reserve_exact(FEW_ITEMS)?;
+    }
+    values.push(value)?;
+    Ok(())
 }
 
 /// The members up to the brace that closes their object.

@@ -60,7 +60,7 @@ read_value-returns-in_ok-read_members-in-BeginObject-clause-read t c =
 pub read_items-items-init : goal.read_items-items-init
 read_items-items-init t c =
     let all = json.items (value c.args.depth) (length c.args.reader.now) c.args.reader.now in
-    (length c.args.reader.now, omega arith, omega arith, [], rw c.in_ok-values.ensures.items (λ rest ts given. none_made rest ts given), behind_none all)
+    (length c.args.reader.now, omega arith, omega arith, [], rw c.new-values.ensures.items (λ rest ts given. none_made rest ts given), behind_none all)
 
 pub read_items-items-preserved : goal.read_items-items-preserved
 read_items-items-preserved t c =
@@ -78,7 +78,7 @@ read_items-items-preserved t c =
       omega (arith, l.invariant.1),
       omega (arith, l.invariant.2),
       done ++ found.0 ∷ [],
-      rw c.in_ok-push.ensures.items (one_more_made done l.values.items found.0 c.in_ok-value.value l.invariant.4 found.2),
+      rw c.in_ok-push_item.ensures (one_more_made done l.values.items found.0 c.in_ok-value.value l.invariant.4 found.2),
       l.invariant.5 ∙ ap (parse_map (behind done)) turn ∙ behind_more done found.0 _,
     )
 
