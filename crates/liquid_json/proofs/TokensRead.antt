@@ -1,5 +1,5 @@
 -- The tokens of a text, of which some are values by now.
-use Rattle.std.proofs.Common.{◌≡◌, ℕ, ℤ, pos, negsuc, ◌^◌, ◌<◌, SFits, w64, lt-ltb, List, [], ◌∷◌, ◌++◌, Option, Some, None, Result, Ok, Err, Ordering, Less, Equal, Greater, nat_cmp, map, option_map, option_and_then, String, Vec, BTreeMap, Global, string_bytes, refl, sym, ap, ◌∙◌, arith, rules}
+use Rattle.std.proofs.Common.{◌≡◌, ℕ, ℤ, pos, negsuc, ◌^◌, SFits, w64, lt-ltb, List, [], ◌∷◌, ◌++◌, Option, Some, None, Result, Ok, Err, Ordering, Less, Equal, Greater, nat_cmp, map, option_and_then, String, BTreeMap, Global, string_bytes, refl, sym, ap, ◌∙◌, arith, rules}
 use Rattle.std.proofs.lemmas.List.{map-append}
 use Rattle.std.specs.Cmp.Lexicographic.{slice_cmp}
 use Rattle.std.specs.Ordering.{match_ordering}
@@ -9,15 +9,15 @@ use Rattle.json.specs.Token.{Token}
 use Rattle.serde_json.specs.Data as read
 use Rattle.serde_json.specs.Data.{put}
 use Rattle.serde_json.specs.Find.{of_integer}
-use Rattle.serde_json.specs.Read.{of_json, of_items, of_members}
+use Rattle.serde_json.specs.Read.{of_json, of_members}
 use Rattle.liquid_error.specs.meaning.Refusal.{Refusal, ok_then}
 use Rattle.liquid_scalar.specs.declared.scalar.ScalarOf.{ScalarOf}
 use Rattle.liquid_scalar.specs.meaning.Scalar.{scal, integer}
 use Rattle.liquid_value.specs.meaning.Members.{put_member}
-use Rattle.liquid_value.specs.meaning.Tree.{Tree, nil, scalar, array, object, Items, no_items, item, Members, no_members, member}
+use Rattle.liquid_value.specs.meaning.Tree.{Tree, nil, scalar, object, Items, no_items, item, Members, no_members, member}
 use Rattle.liquid_value.specs.meaning.View.{view, items_view, members_view}
-use Rattle.liquid_value.specs.declared.value.Value.{Value, Scalar, Array, Object, Nil, the_lemmas}
-use Rattle.liquid_json.specs.meaning.Given.{value_given, items_given, members_given}
+use Rattle.liquid_value.specs.declared.value.Value.{Value, Scalar, Object, Nil, the_lemmas}
+use Rattle.liquid_json.specs.meaning.Given.{value_given, members_given}
 use Rattle.liquid_json.specs.steps.Reads.{IsGiven, AreGiven, MembersGiven}
 use Rattle.liquid_json.proofs.Given.{joined, joined_none, joined_last, joined_all}
 
@@ -135,9 +135,6 @@ view_nil = search (rules, the_lemmas)
 
 pub view_scalar : (s : ScalarOf (String Global)) → view (Scalar s) ≡ scalar (scal string_bytes s)
 view_scalar s = search (rules, the_lemmas)
-
-pub view_array : (v : Vec Value Global) → view (Array v) ≡ array (items_view v.items)
-view_array v = search (rules, the_lemmas)
 
 pub view_object : (m : BTreeMap (String Global) Value) → view (Object m) ≡ object (members_view m.entries)
 view_object m = search (rules, the_lemmas)

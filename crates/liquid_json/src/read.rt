@@ -1,5 +1,7 @@
 //! JSON texts as objects, each token turned into its value as it is read.
-ghost use Rattle.std.specs.Prelude.{◌≡◌, ◌<◌, ◌==◌, Some, None, Result, Ok, true, false, IfOk, IfErr, IfSome, IsTrue, OnOk, length, slice_index};
+ghost use Rattle.std.specs.Prelude.{◌≡◌, ◌^◌, ◌<◌, ◌==◌, [], ◌∷◌, ◌++◌, Some, None, Result, Ok, true, false, length, slice_index};
+ghost use Rattle.std.specs.Prelude.{IfOk, IfErr, IfSome, IsTrue, OnOk, OnSome};
+ghost use Rattle.std.specs.Str.Parse.{IsNumeral, digits_value};
 ghost use Rattle.json.specs.Json.{value as json_value, items as json_items, members as json_members};
 ghost use Rattle.serde_json.specs.Errors.{IsMemory, IsOfText};
 ghost use Rattle.serde_json.specs.Find.{of_integer};
@@ -22,6 +24,12 @@ use std::alloc::{AllocError, AllocFailed, Global};
 
 /// How many arrays and objects may stand in one another, as `serde_json` has it.
 const MOST_NESTED: usize = 127;
+
+/// So many digits always write a number that fits 64 bits with a sign.
+const MOST_DIGITS: usize = 18;
+
+/// How many items an array has room for once it has one: most arrays are short, and there are many.
+const FEW_ITEMS: usize = 2;
 
 /// Why a text is not read token by token.
 #[derive(Clone, Copy, Drop)]
@@ -83,6 +91,9 @@ fn read_object(alloc: Global, text: &str, scratch: &mut Scratch) -> Result<Objec
 }
 
 /// The value that begins at the next token, in which at most `depth` arrays and objects stand in one another.
+///
+/// It is inlined, so that an item or a member is made where it is wanted and moved no further.
+#[inline(always)]
 #[cycle(read)]
 fn read_value(alloc: Global, reader: &mut Reader<'_>, depth: usize) -> Result<Value, Unread>
     ensures read { IfOk result (λ value. Reads (json_value depth reader.old) (view value) reader.new) }
@@ -123,16 +134,29 @@ fn read_items(alloc: Global, reader: &mut Reader<'_>, depth: usize) -> Result<Ar
     let mut values = Vec::new(alloc);
     'items: while !reader.take_end_array() {
         let value = read_value(alloc, reader, depth)?;
-        values.push(value)?;
+        push_item(&mut values, value)?;
     }
     Ok(values)
+}
+
+/// Puts an item behind the others. The first one makes room for no more than `FEW_ITEMS`.
+#[inline(always)]
+fn push_item(values: &mut Array, value: Value) -> Result<(), Unread>
+    ensures { OnOk result (values.new.items ≡ values.old.items ++ value ∷ []) }
+{
+    if values.is_empty() {
+        values.reserve_exact(FEW_ITEMS)?;
+    }
+    values.push(value)?;
+    Ok(())
 }
 
 /// The members up to the brace that closes their object.
 #[cycle(read)]
 fn read_members(alloc: Global, reader: &mut Reader<'_>, depth: usize) -> Result<Object, Unread>
     ensures read { IfOk result
-        (λ object. ReadsMembers (json_members (json_value depth) (length reader.old) reader.old) (members_view object.entries) reader.new) }
+        (λ object. ReadsMembers (json_members (json_value depth) (length reader.old) reader.old)
+        (members_view object.entries) reader.new) }
     ensures shorter { OnOk result (length reader.new < length reader.old) }
 {
     let mut object = Object::new(alloc);
@@ -149,6 +173,35 @@ fn whole_number(text: &str) -> Option<i64>
     ensures { IfSome result (λ n. number_of text.now ≡ Some (of_integer n)) }
 {
     let bytes = text.as_bytes();
+    match short_number(bytes) {
+        Some(number) => Some(number as i64),
+        None => scanned_number(bytes),
+    }
+}
+
+/// The number that the bytes write, where they are digits and no more than `MOST_DIGITS`.
+fn short_number(bytes: &[u8]) -> Option<u64>
+    ensures value { IfSome result (λ n. n ≡ digits_value 10 bytes.now) }
+    ensures digits { OnSome result (IsNumeral 10 bytes.now) }
+    ensures small { IfSome result (λ n. n < 10 ^ 18) }
+{
+    if bytes.is_empty() || bytes.len() > MOST_DIGITS {
+        return None;
+    }
+    let mut number = 0;
+    for byte in bytes {
+        if !byte.is_ascii_digit() {
+            return None;
+        }
+        number = 10 * number + u64::from(*byte - b'0');
+    }
+    Some(number)
+}
+
+/// The same of any number, of which the parts are found first.
+fn scanned_number(bytes: &[u8]) -> Option<i64>
+    ensures { IfSome result (λ n. number_of bytes.now ≡ Some (of_integer n)) }
+{
     if has_minus(bytes) {
         below_zero(&Numeral::scan(&bytes[1..]))
     } else {

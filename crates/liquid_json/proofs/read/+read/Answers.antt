@@ -11,7 +11,8 @@ use Rattle.liquid_value.specs.meaning.Tree.{scalar}
 use Rattle.liquid_value.specs.meaning.View.{view, members_view}
 use Rattle.liquid_value.specs.declared.value.Value.{the_lemmas}
 use Rattle.liquid_value.proofs.Entries.{members_view-insert_entry}
-use Rattle.liquid_json.proofs.TokensRead.{behind, behind_none, behind_more, none_made, one_more_made, all_made, put_behind, put_behind_none, put_behind_more, none_put, one_more_put, all_put, put_made, whole_given, view_nil, view_scalar, view_array, view_object}
+use Rattle.liquid_value.proofs.Listed.{view-Array}
+use Rattle.liquid_json.proofs.TokensRead.{behind, behind_none, behind_more, none_made, one_more_made, all_made, put_behind, put_behind_none, put_behind_more, none_put, one_more_put, all_put, put_made, whole_given, view_nil, view_scalar, view_object}
 use Rattle.liquid_json.proofs.read.+read.Goals as goal
 
 pub read_value-returns-in_ok-from_str-in-String-clause-read : goal.read_value-returns-in_ok-from_str-in-String-clause-read
@@ -47,7 +48,7 @@ read_value-returns-in_ok-read_items-in-BeginArray-clause-read t c =
     let first : c.args.reader.now ≡ token_of c.in_ok-token.token ∷ c.next.new.self = grind arith in
     let opened = ap (value c.args.depth) (first ∙ ap (λ k. token_of k ∷ c.next.new.self) c.in-BeginArray.is) ∙ value-begin_array c.args.depth c.next.new.self (omega arith) in
     let found = c.in_ok-read_items-in-BeginArray.ensures.read in
-    (json.array found.0, opened ∙ ap (parse_map json.array) found.1, (read.array found.2.0, rw found.2.1 refl, rw found.2.2 (ap Ok (sym (view_array _)))))
+    (json.array found.0, opened ∙ ap (parse_map json.array) found.1, (read.array found.2.0, rw found.2.1 refl, rw found.2.2 (ap Ok (sym (view-Array _)))))
 
 pub read_value-returns-in_ok-read_members-in-BeginObject-clause-read : goal.read_value-returns-in_ok-read_members-in-BeginObject-clause-read
 read_value-returns-in_ok-read_members-in-BeginObject-clause-read t c =
@@ -77,7 +78,7 @@ read_items-items-preserved t c =
       omega (arith, l.invariant.1),
       omega (arith, l.invariant.2),
       done ++ found.0 ∷ [],
-      rw c.in_ok-push.ensures.items (one_more_made done l.values.items found.0 c.in_ok-value.value l.invariant.4 found.2),
+      rw c.in_ok-push_item.ensures (one_more_made done l.values.items found.0 c.in_ok-value.value l.invariant.4 found.2),
       l.invariant.5 ∙ ap (parse_map (behind done)) turn ∙ behind_more done found.0 _,
     )
 

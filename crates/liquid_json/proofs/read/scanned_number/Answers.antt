@@ -1,0 +1,23 @@
+use Rattle.std.proofs.Common.{◌≡◌, drop, get_or, true, false, ◌==◌, Some, sym, ap, ◌∙◌, arith, take_all, length-drop, subst}
+use Rattle.std.specs.Prelude.{IfSome}
+use Rattle.fast_float.specs.Text.{scan}
+use Rattle.serde_json.specs.Find.{of_integer}
+use Rattle.serde_json.specs.Read.{number_of, number_from}
+use Rattle.liquid_json.proofs.read.scanned_number.Goals as goal
+
+pub returns-then-has_minus : goal.returns-then-has_minus
+unfolding number_of
+returns-then-has_minus c =
+    let s = c.args.bytes.now in
+    let signed : (get_or s 0 0 == 45) ≡ true = sym c.if-has_minus.ensures.value in
+    let parts : c.scan.result ≡ scan (drop 1 s) = c.scan.ensures.parts ∙ ap scan (take_all _ (drop 1 s) (omega (arith, length-drop 1 s))) in
+    let read : number_from true (scan (drop 1 s)) ≡ number_of s = rw signed in
+    subst (λ found. IfSome c.below_zero.result (λ n. found ≡ Some (of_integer n))) (ap (number_from true) parts ∙ read) c.below_zero.ensures
+
+pub returns-else-has_minus : goal.returns-else-has_minus
+unfolding number_of
+returns-else-has_minus c =
+    let s = c.args.bytes.now in
+    let unsigned : (get_or s 0 0 == 45) ≡ false = sym c.if-has_minus.ensures.value in
+    let read : number_from false (scan s) ≡ number_of s = rw unsigned in
+    subst (λ found. IfSome c.not_below_zero.result (λ n. found ≡ Some (of_integer n))) (ap (number_from false) c.scan-else-has_minus.ensures.parts ∙ read) c.not_below_zero.ensures
