@@ -61,7 +61,8 @@ returns-in-None g c =
 
 pub returns-in-NoExpression : goal.returns-in-NoExpression
 returns-in-NoExpression g c =
-    let goes = c.elements.invariant.1 in
+    let blocks = blocks_view g.F.Filter.Meant.shape g.T.Node.Meant.shape g.B.Node.Meant.shape g.B.Plan.Meant.shape g.B.ParseBlock.block c.elements.state.open.items in
+    let nodes = shapes_of g.F.Filter.Meant.shape g.T.Node.Meant.shape g.B.Node.Meant.shape c.elements.state.nodes.items in
     let found = rw c.in-NoExpression.is at c.in_ok-node.ensures.value c.args.text.now in
-    refused (language_of g.F.ParseFilter.makes g.T.ParseTag.gives g.B.ParseBlock.block c.args.language.now) c.args.text.now _ found.0 (invalid found.1) (blocks_view g.F.Filter.Meant.shape g.T.Node.Meant.shape g.B.Node.Meant.shape g.B.Plan.Meant.shape g.B.ParseBlock.block c.elements.state.open.items) (shapes_of g.F.Filter.Meant.shape g.T.Node.Meant.shape g.B.Node.Meant.shape c.elements.state.nodes.items) _ goes found.2
-    (λ es cover. invalid_advanced (language_of g.F.ParseFilter.makes g.T.ParseTag.gives g.B.ParseBlock.block c.args.language.now) c.args.text.now 0 _ _ found.0 found.1 es _ (c.no_expression.ensures found.0 found.1 found.2))
+    refused (language_of g.F.ParseFilter.makes g.T.ParseTag.gives g.B.ParseBlock.block c.args.language.now) c.args.text.now _ found.0 (invalid found.1) blocks nodes _ c.elements.invariant.1 found.2
+    (λ es cover. invalid_advanced (language_of g.F.ParseFilter.makes g.T.ParseTag.gives g.B.ParseBlock.block c.args.language.now) c.args.text.now 0 blocks nodes found.0 found.1 es _ (c.no_expression.ensures found.0 found.1 found.2))
