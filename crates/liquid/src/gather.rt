@@ -122,7 +122,8 @@ pub(crate) fn partials_of<'w, F: Folder>(
     files: &mut F,
     folder: Option<&'w str>,
 ) -> Result<Option<InMemorySource>, Fault<'w>>
-    ensures partials { WithPartials (F.known files.old) (F.listed files.old) (option_words (option_map (λ f. f.now) folder.entry)) (Stops result) (λ partials. Brings (λ source. source) partials result) }
+    ensures partials { WithPartials (F.known files.old) (F.listed files.old) (option_words (option_map (λ f. f.now) folder.entry))
+        (Stops result) (λ partials. Brings (λ source. source) partials result) }
     ensures command { IfErr result (λ fault. fault_status fault ≢ 2) }
 {
     match folder {
@@ -137,7 +138,8 @@ fn partials_in<'w, F: Folder>(
     files: &mut F,
     folder: &'w str,
 ) -> Result<InMemorySource, Fault<'w>>
-    ensures partials { WithFolder (F.known files.old) folder.now (F.listed files.old folder.now) (Stops result) (λ texts. Brings (λ source. source) texts result) }
+    ensures partials { WithFolder (F.known files.old) folder.now (F.listed files.old folder.now)
+        (Stops result) (λ texts. Brings (λ source. source) texts result) }
     ensures command { IfErr result (λ fault. fault_status fault ≢ 2) }
 {
     let names = names_in(alloc, files, folder)?;
@@ -151,7 +153,8 @@ fn texts_of<'w, F: Folder>(
     folder: &str,
     names: BTreeMap<String, ()>,
 ) -> Result<InMemorySource, Fault<'w>>
-    ensures texts { WithFiles (F.known files.old) folder.now (keys (by_name names)) empty (Stops result) (λ texts. Brings (λ source. source) texts result) }
+    ensures texts { WithFiles (F.known files.old) folder.now (keys (by_name names)) empty
+        (Stops result) (λ texts. Brings (λ source. source) texts result) }
     ensures command { IfErr result (λ fault. fault_status fault ≢ 2) }
 {
     let mut source = InMemorySource::new(alloc);

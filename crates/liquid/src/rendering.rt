@@ -98,7 +98,9 @@ fn render_sandboxed_source<K: Sink>(
     sink: &mut K,
 ) -> Result<(), Error>
     ensures rendered { (answer : ProgramAnswer) → Reads (meaning_of language.now) text.now answer
-        → RenderedBy (λ nodes. sandboxed_run (setting_over (option_map ⟦<Store as PartialStore<AnyFilter, TagNode<AnyFilter>, BlockNode>>⟧.finds (⟦<BuiltRuntime<(), Store> as Runtime>⟧.store runtime.old))) (names_of «data») None (nodes_from nodes))
+        → RenderedBy (λ nodes. sandboxed_run (setting_over
+        (option_map ⟦<Store as PartialStore<AnyFilter, TagNode<AnyFilter>, BlockNode>>⟧.finds
+        (⟦<BuiltRuntime<(), Store> as Runtime>⟧.store runtime.old))) (names_of «data») None (nodes_from nodes))
         answer (⟦<BuiltRuntime<(), Store> as Runtime>⟧.view runtime.old)
         (K.sunk sink.old) (K.sunk sink.new)
         (⟦<BuiltRuntime<(), Store> as Runtime>⟧.view runtime.new) result }
@@ -126,7 +128,8 @@ fn store_of(
     partials: Option<InMemorySource>,
 ) -> Result<Option<Store>, AllocError>
     requires { meaning_of language.now.value ≡ program_language }
-    ensures { IfOk result (λ store. IsFoundIn partials (option_map ⟦<Store as PartialStore<AnyFilter, TagNode<AnyFilter>, BlockNode>>⟧.finds store)) }
+    ensures { IfOk result (λ store. IsFoundIn partials
+        (option_map ⟦<Store as PartialStore<AnyFilter, TagNode<AnyFilter>, BlockNode>>⟧.finds store)) }
 {
     match partials {
         Some(source) => Ok(Some(LazyCompiler::new(source).compile(alloc, shared(language)?)?)),

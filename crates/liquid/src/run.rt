@@ -128,7 +128,9 @@ fn execute<'w, F: Folder, K: Sink>(
     sink: &mut K,
 ) -> Result<(), Fault<'w>>
     ensures command { exit_status result ≢ 2 }
-    ensures executes { Executes command.entry.options (path_words command.entry.paths.template.now command.entry.paths.globals.now (option_map (λ f. f.now) command.entry.paths.folder)) (F.known files.old) (F.listed files.old)
+    ensures executes { Executes command.entry.options
+        (path_words command.entry.paths.template.now command.entry.paths.globals.now
+        (option_map (λ f. f.now) command.entry.paths.folder)) (F.known files.old) (F.listed files.old)
         (K.sunk sink.old) (K.sunk sink.new) (exit_status result) }
     ensures behind { Grows (K.sunk sink.old) (K.sunk sink.new) }
     ensures borrows { (K.sunk sink.new).lent ≡ (K.sunk sink.old).lent }

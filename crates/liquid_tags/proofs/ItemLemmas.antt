@@ -5,7 +5,7 @@ use Rattle.std.specs.Option.{option_to_list}
 use Rattle.std.proofs.lemmas.List.{drop-map}
 use Rattle.std.proofs.lemmas.Option.{slice_get-map}
 use Rattle.liquid_scalar.specs.meaning.Scalar.{integer}
-use Rattle.liquid_value.specs.meaning.Tree.{Tree, scalar}
+use Rattle.liquid_value.specs.meaning.Tree.{scalar}
 use Rattle.liquid_value.specs.meaning.View.{view}
 use Rattle.liquid_value.specs.declared.value.Value.{Value}
 use Rattle.liquid_tags.specs.meaning.Series.{counted}

@@ -1,5 +1,5 @@
 -- The items of values, as lists of trees.
-use Rattle.std.proofs.Common.{◌≡◌, List, [], ◌∷◌, None, Some, Ok, refl, ap}
+use Rattle.std.proofs.Common.{◌≡◌, List, [], ◌∷◌, Some, Ok, refl, ap}
 use Rattle.liquid_value.specs.meaning.Tree.{Tree, Members, nil, state, scalar, array, object}
 use Rattle.liquid_value.specs.meaning.Parts.{as_object}
 use Rattle.liquid_value.specs.meaning.View.{items_of}

@@ -65,7 +65,8 @@ impl Numbers {
     /// Takes out the first one, if there is one. One behind the greatest number doesn't come, since a
     /// range ends at a number.
     fn take_first(&mut self) -> Result<Option<i64>, AllocError>
-        ensures first { IfOk result (λ number. option_map (λ n. scalar (integer n)) number ≡ slice_get (counted self.old.next self.old.size) 0) }
+        ensures first { IfOk result (λ number. option_map (λ n. scalar (integer n)) number
+            ≡ slice_get (counted self.old.next self.old.size) 0) }
         ensures behind { OnOk result (counted self.new.next self.new.size ≡ drop 1 (counted self.old.next self.old.size)) }
     {
         let number = self.next;

@@ -28,8 +28,10 @@ pub(crate) fn loop_turn<R: Runtime>(
     runtime: &mut R,
 ) -> Result<Turn, Error>
     ensures answer { Gives turn_of result (loop_takes (string_bytes name.now) (rounds_of rounds.old) (R.view runtime.old)).answer }
-    ensures after { Leaves result (loop_takes (string_bytes name.now) (rounds_of rounds.old) (R.view runtime.old)).written (R.view runtime.old) (R.view runtime.new) }
-    ensures progress { LeavesProgress result (loop_takes (string_bytes name.now) (rounds_of rounds.old) (R.view runtime.old)).progress (rounds_of rounds.new) }
+    ensures after { Leaves result (loop_takes (string_bytes name.now) (rounds_of rounds.old) (R.view runtime.old)).written
+        (R.view runtime.old) (R.view runtime.new) }
+    ensures progress { LeavesProgress result (loop_takes (string_bytes name.now) (rounds_of rounds.old) (R.view runtime.old)).progress
+        (rounds_of rounds.new) }
     ensures frames { SameFrames (R.view runtime.old) (R.view runtime.new) }
     ensures store { R.store runtime.new ≡ R.store runtime.old }
     ensures owes { R.restores runtime.new ≡ R.restores runtime.old }

@@ -73,7 +73,8 @@ fn store_of<F: ParseFilter, S: PartialSource + Drop>(
     language: &Rc<Language<F, Tags, Blocks>>,
     partials: S,
 ) -> Result<LazyStore<S, F, Tags, Blocks>, AllocError>
-    ensures { IfOk result (λ store. Compiled (meaning_of F.makes language.now.value) (S.texts partials) (⟦<LazyStore<S, F, Tags, Blocks> as PartialStore<F::Filter, TagNode<F::Filter>, BlockNode>>⟧.finds store)) }
+    ensures { IfOk result (λ store. Compiled (meaning_of F.makes language.now.value) (S.texts partials)
+        (⟦<LazyStore<S, F, Tags, Blocks> as PartialStore<F::Filter, TagNode<F::Filter>, BlockNode>>⟧.finds store)) }
 {
     Ok(LazyCompiler::new(partials).compile(alloc, language.clone()?)?)
 }

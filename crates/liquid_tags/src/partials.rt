@@ -39,7 +39,8 @@ pub(crate) fn included<R: Runtime>(
     call: &Call,
     runtime: &R,
 ) -> Result<Turn, Error>
-    ensures { Gives turn_of result (included inclusion (expression_of call.now.name) (map pair_of call.now.pairs.items) (R.view runtime.now)) }
+    ensures { Gives turn_of result (included inclusion (expression_of call.now.name)
+        (map pair_of call.now.pairs.items) (R.view runtime.now)) }
 {
     match call.name.evaluate(alloc, runtime) {
         Ok(name) => match partial_name(alloc, name.as_view()) {

@@ -9,7 +9,8 @@ ghost use Rattle.liquid_plugins.specs.meaning.Evaluation.{evaluate};
 ghost use Rattle.liquid_plugins.specs.meaning.ExpressionOf.{expression_of};
 ghost use Rattle.liquid_error.specs.meaning.Refusal.{ok_then};
 ghost use Rattle.liquid_tags.specs.meaning.Items.{items_left};
-ghost use Rattle.liquid_tags.specs.meaning.Series.{expected, items_between, items_in, items_of, pair, pairs, range_too_long, series_of, trees, whole_number};
+ghost use Rattle.liquid_tags.specs.meaning.Series.{expected, items_between, items_in, items_of, pair, pairs, range_too_long};
+ghost use Rattle.liquid_tags.specs.meaning.Series.{series_of, trees, whole_number};
 
 use crate::items::Items;
 use liquid_error::Error;

@@ -78,7 +78,8 @@ fn parse_assign<F: ParseFilter>(
     tokens: TagTokenIter<'_>,
     filters: &PluginRegistry<F>,
 ) -> Result<TagNode<F::Filter>, Error>
-    ensures { (ts : Tokens) → AreTokens tokens.entry ts → Gives (tag_of F.Filter.shape) result (assign_given (registry_of F.makes filters.now) ts) }
+    ensures { (ts : Tokens) → AreTokens tokens.entry ts
+        → Gives (tag_of F.Filter.shape) result (assign_given (registry_of F.makes filters.now) ts) }
 {
     let mut tokens = tokens;
     match tokens.next_identifier(alloc, TOKEN_EXPECTED) {

@@ -1,5 +1,4 @@
 use Rattle.std.proofs.Common.{◌≡◌, Ok}
-use Rattle.liquid_error.specs.meaning.Told.{Gives}
 use Rattle.liquid_value.specs.meaning.View.{members_view}
 use Rattle.liquid.proofs.GlobalLemmas.{object_brought}
 use Rattle.liquid.proofs.gather.globals_of.Goals as goal

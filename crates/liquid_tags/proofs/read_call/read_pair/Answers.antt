@@ -1,4 +1,3 @@
-use Rattle.std.proofs.Common.{sym}
 use Rattle.liquid_tags.proofs.PairLemmas.{pair_taken}
 use Rattle.liquid_tags.proofs.read_call.read_pair.Goals as goal
 
