@@ -41,11 +41,17 @@ pub(crate) fn copy_array(items: &Array) -> Result<Array, AllocError>
     Ok(copies)
 }
 
+/// Up to how many entries are put into a map one by one, which takes less than to collect them.
+const FEW_ENTRIES: usize = 5;
+
 /// A map from the same names to the same values, built in the order of the names.
 #[cycle(copy)]
 pub(crate) fn copy_object(members: &Object) -> Result<Object, AllocError>
     ensures { IfOk result (λ m. members_view m.entries ≡ members_view members.now.entries) }
 {
+    if members.len() <= FEW_ENTRIES {
+        return copy_few(members);
+    }
     match members.iter().next() {
         Some((first, _)) => {
             let alloc = *first.allocator();
@@ -53,6 +59,19 @@ pub(crate) fn copy_object(members: &Object) -> Result<Object, AllocError>
         }
         None => Object::emptied(members),
     }
+}
+
+// The same map, of which each entry is put in where its name belongs.
+#[cycle(copy)]
+fn copy_few(members: &Object) -> Result<Object, AllocError>
+    ensures { IfOk result (λ m. members_view m.entries ≡ members_view members.now.entries) }
+{
+    let mut copies = Object::emptied(members)?;
+    for (key, member) in members.iter() {
+        let name = key.clone()?;
+        drop(copies.insert(name, copy(member)?)?);
+    }
+    Ok(copies)
 }
 
 // The entries, copied, in the order of their names.

@@ -1,5 +1,7 @@
 // The laws of the comparisons of values. Each function only states its law.
-ghost use Rattle.liquid_value.specs.laws.LooseLaws.{LooseEqualityIsReflexive, LooseEqualityIsSymmetric, LooseEqualityIsNotTransitive, OrderSwappedIsReversed, EqualInOrderIsLooselyEqual, LooseEqualityOfObjectsGoesByName, in_name_order};
+ghost use Rattle.liquid_value.specs.laws.LooseLaws.{LooseEqualityIsReflexive, LooseEqualityIsSymmetric, LooseEqualityIsNotTransitive};
+ghost use Rattle.liquid_value.specs.laws.LooseLaws.{OrderSwappedIsReversed, EqualInOrderIsLooselyEqual};
+ghost use Rattle.liquid_value.specs.laws.LooseLaws.{LooseEqualityOfObjectsGoesByName, in_name_order};
 ghost use Rattle.liquid_value.specs.laws.StrictLaws.{StrictEqualityIsEquivalence, HashAgreesWithEquality};
 ghost use Rattle.std.specs.Prelude.{◌≡◌, true};
 ghost use Rattle.liquid_value.specs.meaning.View.{members_view};

@@ -2,7 +2,8 @@ ghost use Rattle.std.specs.Prelude.{Some, ◌≡◌, ◌++◌, codes};
 ghost use Rattle.std.specs.Fmt.{WritesOnOk};
 ghost use Rattle.liquid_value.specs.meaning.Tree.{array, object};
 ghost use Rattle.liquid_value.specs.meaning.View.{view, items_view, members_view};
-ghost use Rattle.liquid_value.specs.meaning.Render.{render, render_items, render_members, source, listed_items, listed_member, listed_members};
+ghost use Rattle.liquid_value.specs.meaning.Render.{render, render_items, render_members};
+ghost use Rattle.liquid_value.specs.meaning.Render.{source, listed_items, listed_member, listed_members};
 
 use crate::value::{Array, Object, Value};
 use std::fmt;

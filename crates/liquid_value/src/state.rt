@@ -1,6 +1,7 @@
 ghost use Rattle.std.specs.Prelude.{◌≡◌};
 ghost use Rattle.liquid_scalar.specs.meaning.Scalar.{scal};
-ghost use Rattle.liquid_value.specs.meaning.Kind.{state_name, absent_state, boolean_state, number_state, text_state, scalar_state, container_state};
+ghost use Rattle.liquid_value.specs.meaning.Kind.{state_name, absent_state, boolean_state, number_state};
+ghost use Rattle.liquid_value.specs.meaning.Kind.{text_state, scalar_state, container_state};
 
 use liquid_scalar::ScalarOf;
 use std::convert::AsStr;
