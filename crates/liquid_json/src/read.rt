@@ -1,7 +1,6 @@
 //! JSON texts as objects, each token turned into its value as it is read.
-ghost use Rattle.std.specs.Prelude.{◌≡◌, ◌^◌, ◌<◌, ◌==◌, [], ◌∷◌, ◌++◌, Some, None, Result, Ok, true, false, length, slice_index};
-ghost use Rattle.std.specs.Prelude.{IfOk, IfErr, IfSome, IsTrue, OnOk, OnSome};
-ghost use Rattle.std.specs.Str.Parse.{IsNumeral, digits_value};
+ghost use Rattle.std.specs.Prelude.{◌≡◌, ◌<◌, ◌==◌, [], ◌∷◌, ◌++◌, Some, None, Result, Ok, true, false, length, slice_index};
+ghost use Rattle.std.specs.Prelude.{IfOk, IfErr, IfSome, IsTrue, OnOk};
 ghost use Rattle.json.specs.Json.{value as json_value, items as json_items, members as json_members};
 ghost use Rattle.serde_json.specs.Errors.{IsMemory, IsOfText};
 ghost use Rattle.serde_json.specs.Find.{of_integer};
@@ -24,9 +23,6 @@ use std::alloc::{AllocError, AllocFailed, Global};
 
 /// How many arrays and objects may stand in one another, as `serde_json` has it.
 const MOST_NESTED: usize = 127;
-
-/// So many digits always write a number that fits 64 bits with a sign.
-const MOST_DIGITS: usize = 18;
 
 /// How many items an array has room for once it has one: most arrays are short, and there are many.
 const FEW_ITEMS: usize = 2;
@@ -173,35 +169,6 @@ fn whole_number(text: &str) -> Option<i64>
     ensures { IfSome result (λ n. number_of text.now ≡ Some (of_integer n)) }
 {
     let bytes = text.as_bytes();
-    match short_number(bytes) {
-        Some(number) => Some(number as i64),
-        None => scanned_number(bytes),
-    }
-}
-
-/// The number that the bytes write, where they are digits and no more than `MOST_DIGITS`.
-fn short_number(bytes: &[u8]) -> Option<u64>
-    ensures value { IfSome result (λ n. n ≡ digits_value 10 bytes.now) }
-    ensures digits { OnSome result (IsNumeral 10 bytes.now) }
-    ensures small { IfSome result (λ n. n < 10 ^ 18) }
-{
-    if bytes.is_empty() || bytes.len() > MOST_DIGITS {
-        return None;
-    }
-    let mut number = 0;
-    for byte in bytes {
-        if !byte.is_ascii_digit() {
-            return None;
-        }
-        number = 10 * number + u64::from(*byte - b'0');
-    }
-    Some(number)
-}
-
-/// The same of any number, of which the parts are found first.
-fn scanned_number(bytes: &[u8]) -> Option<i64>
-    ensures { IfSome result (λ n. number_of bytes.now ≡ Some (of_integer n)) }
-{
     if has_minus(bytes) {
         below_zero(&Numeral::scan(&bytes[1..]))
     } else {

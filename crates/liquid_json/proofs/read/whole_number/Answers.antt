@@ -1,15 +1,23 @@
-use Rattle.std.proofs.Common.{◌≡◌, ◌^◌, ◌<◌, pos, Some, w64, subst, sym, ap, ◌∙◌, arith}
-use Rattle.std.specs.Str.Parse.{IsNumeral, digits_value}
-use Rattle.std.proofs.lemmas.Int.{to_z_pos}
+use Rattle.std.proofs.Common.{◌≡◌, drop, get_or, true, false, ◌==◌, Option, None, Some, ℤ, sym, ap, ◌∙◌, arith, take_all, length-drop, subst}
+use Rattle.std.specs.Prelude.{IfSome}
+use Rattle.fast_float.specs.Text.{scan}
 use Rattle.serde_json.specs.Find.{of_integer}
-use Rattle.liquid_json.proofs.Numbers.{number_of-digits}
+use Rattle.serde_json.specs.Read.{number_of, number_from}
 use Rattle.liquid_json.proofs.read.whole_number.Goals as goal
 
-pub returns-in-Some : goal.returns-in-Some
-returns-in-Some c =
-    let number = c.in-Some.number in
-    let small : number < 10 ^ 18 = c.in-Some.ensures.small in
-    let is : number ≡ digits_value 10 c.args.text.now = c.in-Some.ensures.value ∙ ap (digits_value 10) c.as_bytes-bytes.ensures.value in
-    let numeral : IsNumeral 10 c.args.text.now = subst (IsNumeral 10) c.as_bytes-bytes.ensures.value c.in-Some.ensures.digits in
-    let fits : digits_value 10 c.args.text.now < 2 ^ 64 = omega (arith, is, small) in
-    number_of-digits c.args.text.now numeral fits ∙ ap (λ n. Some (of_integer n)) (ap pos (sym is) ∙ sym (to_z_pos w64 number (omega (arith, small))))
+pub returns-then-has_minus : goal.returns-then-has_minus
+unfolding number_of
+returns-then-has_minus c =
+    let s = c.as_bytes-bytes.result.now in
+    let signed : (get_or s 0 0 == 45) ≡ true = sym c.if-has_minus.ensures.value in
+    let parts : c.scan.result ≡ scan (drop 1 s) = c.scan.ensures.parts ∙ ap scan (take_all _ (drop 1 s) (omega (arith, length-drop 1 s))) in
+    let read : number_from true (scan (drop 1 s)) ≡ number_of s = rw signed in
+    subst (λ found. IfSome c.below_zero.result (λ n. found ≡ Some (of_integer n))) (ap (number_from true) parts ∙ read ∙ ap number_of c.as_bytes-bytes.ensures.value) c.below_zero.ensures
+
+pub returns-else-has_minus : goal.returns-else-has_minus
+unfolding number_of
+returns-else-has_minus c =
+    let s = c.as_bytes-bytes.result.now in
+    let unsigned : (get_or s 0 0 == 45) ≡ false = sym c.if-has_minus.ensures.value in
+    let read : number_from false (scan s) ≡ number_of s = rw unsigned in
+    subst (λ found. IfSome c.not_below_zero.result (λ n. found ≡ Some (of_integer n))) (ap (number_from false) c.scan-else-has_minus.ensures.parts ∙ read ∙ ap number_of c.as_bytes-bytes.ensures.value) c.not_below_zero.ensures

@@ -1,7 +1,0 @@
-use Rattle.std.proofs.Common.{◌≡◌, ◌^◌, ◌<◌, take}
-use Rattle.std.specs.Str.Parse.{AllDigits, digits_value}
-use Rattle.liquid_json.proofs.read.short_number.Given as goal
-
-abbrev pub invariant-loop-byte : goal.invariant-loop-byte
-invariant-loop-byte l =
-    AllDigits 10 (take l.byte-index l.bytes) × (l.number ≡ digits_value 10 (take l.byte-index l.bytes)) × (l.number < 10 ^ l.byte-index)
