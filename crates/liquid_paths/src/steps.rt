@@ -124,7 +124,8 @@ fn step_object<'v>(
 
 fn member_or_size<'v>(members: &'v Object, word: &str) -> Option<ValueCow<'v>>
     ensures gives { option_map cow_view result
-        ≡ option_or (get_member word.now (members_view members.now.entries)) (size_asked word.now (member_count (members_view members.now.entries))) }
+        ≡ option_or (get_member word.now (members_view members.now.entries))
+        (size_asked word.now (member_count (members_view members.now.entries))) }
     ensures in_place { IfSome result InPlace }
 {
     match member_at(members, word) {

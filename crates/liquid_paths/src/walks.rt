@@ -92,7 +92,8 @@ pub fn find_behind<'v>(
     value: &'v Value,
     path: &[ScalarCow<'_>],
 ) -> Result<ValueCow<'v>, Error>
-    ensures gives { Gives cow_view result (find_behind (indexes_of (take front path.now)) (view value.now) (indexes_of (drop front path.now))) }
+    ensures gives { Gives cow_view result (find_behind (indexes_of (take front path.now)) (view value.now)
+        (indexes_of (drop front path.now))) }
     ensures in_place { IfOk result InPlace }
 {
     let mut at = ValueCow::Borrowed(value);

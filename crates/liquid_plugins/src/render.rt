@@ -50,10 +50,12 @@ pub trait Renderable<V: Fresh>: Meant + Drop {
         progress: &mut Self::Progress,
         runtime: &mut R,
     ) -> Result<Turn, Error>
-        ensures answer { Gives turn_of result (means.takes (Self.shape self.now) (Self.Progress.shape progress.old) (R.view runtime.old)).answer }
+        ensures answer { Gives turn_of result (means.takes (Self.shape self.now) (Self.Progress.shape progress.old)
+            (R.view runtime.old)).answer }
         ensures after { Leaves result (means.takes (Self.shape self.now) (Self.Progress.shape progress.old) (R.view runtime.old)).written
             (R.view runtime.old) (R.view runtime.new) }
-        ensures progress { LeavesProgress result (means.takes (Self.shape self.now) (Self.Progress.shape progress.old) (R.view runtime.old)).progress
+        ensures progress { LeavesProgress result (means.takes (Self.shape self.now) (Self.Progress.shape progress.old)
+            (R.view runtime.old)).progress
             (Self.Progress.shape progress.new) }
         ensures frames { SameFrames (R.view runtime.old) (R.view runtime.new) }
         ensures store { R.store runtime.new ≡ R.store runtime.old }

@@ -21,7 +21,8 @@ impl VariableOf<Expression> {
 
     /// The variable with one more index, a literal. Where memory is refused the variable is dropped.
     pub fn push_literal<S: Into<Scalar>>(self, value: S) -> Result<Variable, AllocError>
-        ensures { IfOk result (λ v. (s : _) × S.converts value s × (variable_of v ≡ with_more self (literal_of (scal string_bytes s) ∷ []))) }
+        ensures { IfOk result (λ v. (s : _) × S.converts value s
+            × (variable_of v ≡ with_more self (literal_of (scal string_bytes s) ∷ []))) }
     {
         let mut variable = self;
         variable.indexes.push(Expression::with_literal(value))?;

@@ -11,5 +11,6 @@ use liquid_runtime::Runtime;
 /// The calls are those that found memory: pushes, pops, set calls and lookups.
 #[tactic(auto, using(crate::proofs::Alike::same_answers))]
 pub fn chained_and_flat_scopes_answer_alike<R: Runtime>()
-    ensures { SameAnswers R.Register.fresh ⟦<ChainedScopes<R> as Runtime>⟧.view ⟦<ChainedScopes<R> as Runtime>⟧.restores ⟦<FlatScopes<R> as Runtime>⟧.view ⟦<FlatScopes<R> as Runtime>⟧.restores }
+    ensures { SameAnswers R.Register.fresh ⟦<ChainedScopes<R> as Runtime>⟧.view ⟦<ChainedScopes<R> as Runtime>⟧.restores
+        ⟦<FlatScopes<R> as Runtime>⟧.view ⟦<FlatScopes<R> as Runtime>⟧.restores }
 {}

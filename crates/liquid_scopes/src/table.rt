@@ -282,7 +282,8 @@ impl<V> Table<V> {
         value: Value,
     ) -> Result<Option<Value>, Error>
         requires { GlobalAt (layers_of self.old.links.items) place }
-        ensures gives { (v : View V) → Gives (option_map tree_of) result (old_global (view_over v self.old.links.items) (string_bytes name)) }
+        ensures gives { (v : View V) → Gives (option_map tree_of) result
+            (old_global (view_over v self.old.links.items) (string_bytes name)) }
         ensures sets { (v : View V) → OnOk result (view_over v self.new.links.items
             ≡ put_global (view_over v self.old.links.items) (string_bytes name) (tree_of value)) }
         ensures owes { (v : View V) (rs : List (Restore V)) → restoring v (layers_of self.new.links.items) rs
@@ -345,7 +346,8 @@ fn look_listed<'a, R: Runtime>(
 ) -> Option<&'a Value>
     requires { count.old.looks + 1 < 2 ^ 64 }
     ensures value { option_map (λ r. tree_of r.now) result
-        ≡ two_looks listed (last_seal (layers_of table.now.links.items)) (own_at_top listed (layers_of table.now.links.items) name.now) (lookup (R.view base.now) name.now) }
+        ≡ two_looks listed (last_seal (layers_of table.now.links.items))
+        (own_at_top listed (layers_of table.now.links.items) name.now) (lookup (R.view base.now) name.now) }
     ensures looks { count.new.looks ≤ count.old.looks + 1 }
     ensures counts { count.old.looks ≤ count.new.looks }
     ensures finds { IfSome result (λ value. count.old.looks + 1 ≤ count.new.looks) }

@@ -1,7 +1,8 @@
 ghost use Rattle.std.specs.Prelude.{◌≡◌, option_map, is_some};
 ghost use Rattle.std.specs.Cow.{cow_str_bytes};
 ghost use Rattle.liquid_scalar.specs.meaning.Scalar.{scal};
-ghost use Rattle.liquid_views.specs.meaning.Outline.{told_outline, outline_name, outline_state, outline_scalar, outline_own_state, is_array_outline, is_object_outline, is_nil_outline};
+ghost use Rattle.liquid_views.specs.meaning.Outline.{told_outline, outline_name, outline_state, outline_scalar, outline_own_state};
+ghost use Rattle.liquid_views.specs.meaning.Outline.{is_array_outline, is_object_outline, is_nil_outline};
 
 use liquid_scalar::ScalarCow;
 use liquid_value::State;
