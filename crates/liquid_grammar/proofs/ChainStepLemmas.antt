@@ -1,14 +1,13 @@
 -- What stands behind a value or a filter of an expression, and what an expression lacks that is none.
-use Rattle.std.proofs.Common.{◌≡◌, ℕ, true, ◌==◌, List, [], ◌∷◌, ◌++◌, Option, Some, None, option_map, refl, sym, ap, ◌∙◌, subst}
+use Rattle.std.proofs.Common.{◌≡◌, ℕ, List, ◌∷◌, Some, None, option_map, refl, sym, ap, ◌∙◌, subst}
 use Rattle.std.proofs.lemmas.Bool.{eqb-true}
 use Rattle.liquid_grammar.specs.declared.parts.FilterStart.{FilterStart}
-use Rattle.liquid_grammar.specs.meaning.Bytes.{is_white}
 use Rattle.liquid_grammar.specs.meaning.Cover.{IsElement, invalid}
-use Rattle.liquid_grammar.specs.meaning.Grammar.{White, Closer, Opens, LoneBrace}
+use Rattle.liquid_grammar.specs.meaning.Grammar.{White, Closer, Opens}
 use Rattle.liquid_grammar.specs.meaning.Rules.{Rule, Begins, Repeated, Byte, ◌▷◌, here}
-use Rattle.liquid_grammar.specs.meaning.Tokens.{Chain, Filter, Behind, FilterRule, ChainRule, ExpressionStart, ExpressionRule}
+use Rattle.liquid_grammar.specs.meaning.Tokens.{Chain, Filter, Behind, FilterRule, ChainRule, ExpressionRule}
 use Rattle.liquid_grammar.specs.meaning.Values.{ValueRule}
-use Rattle.liquid_grammar.specs.meaning.Parts.{First, IsFilter, OpensExpression, ClosesExpression, Unclosed}
+use Rattle.liquid_grammar.specs.meaning.Parts.{First, IsFilter, OpensExpression, Unclosed}
 use Rattle.liquid_grammar.specs.steps.Steps.{Reader, byte, white, identifier, closer}
 use Rattle.liquid_grammar.specs.steps.TokenSteps.{separated}
 use Rattle.liquid_grammar.proofs.CoverLemmas.{brace_begins}

@@ -16,7 +16,6 @@ use Rattle.liquid_grammar.specs.meaning.Kinds.{Kind, chain_kind}
 use Rattle.liquid_grammar.specs.meaning.Meanings.{TagSeen, tag_seen, ChainSeen, chain_seen}
 use Rattle.liquid_grammar.specs.steps.TokenSteps.{full_expression, tag as read_tag}
 use Rattle.liquid_grammar.specs.steps.Steps as read
-use Rattle.liquid_grammar.specs.steps.Steps.{EndsRaw}
 use Rattle.liquid_grammar.proofs.RawLemmas.{opens, opens_from, closed_from}
 use Rattle.liquid_grammar.proofs.Exact.{same_match, none_begins, option_cases, before_end}
 use Rattle.liquid_grammar.proofs.GrammarExact.{exact-white, exact-opener, exact-lone_brace, shrinks-lone_brace}

@@ -1,22 +1,27 @@
 -- What the next filter and the next argument are, by the readers that found their beginnings.
-use Rattle.std.proofs.Common.{◌≡◌, ℕ, Bool, true, false, List, ◌∷◌, Option, Some, None, option_map, Bor, refl, sym, ap, ◌∙◌, subst}
+use Rattle.std.proofs.Common.{◌≡◌, ℕ, Bool, true, false, List, ◌∷◌, Option, Some, None, option_map, MatchOption, Bor, refl, sym, ap, ◌∙◌, subst}
 use Rattle.std.specs.Option.{option_or}
 use Rattle.liquid_grammar.specs.declared.parts.FilterStart.{FilterStart}
 use Rattle.liquid_grammar.specs.declared.parts.ArgumentStart.{ArgumentStart}
-use Rattle.liquid_grammar.specs.meaning.Rules.{Rule, Begins, here, instead, Repeated, Byte, Optional, ◌▷◌}
-use Rattle.liquid_grammar.specs.meaning.Grammar.{White}
+use Rattle.liquid_grammar.specs.meaning.Rules.{Rule, Begins, here, instead, Repeated, Byte, Optional, ◌▷◌, ◌◁◌}
+use Rattle.liquid_grammar.specs.meaning.Grammar.{White, Identifier}
 use Rattle.liquid_grammar.specs.meaning.Values.{ValueRule}
-use Rattle.liquid_grammar.specs.meaning.Tokens.{Argument, positional, keyword, Filter, Behind, KeywordRule, ArgumentRule, Arguments, arguments_of, FilterRule}
+use Rattle.liquid_grammar.specs.meaning.Tokens.{Argument, positional, keyword, Filter, Behind, KeywordStart, KeywordRule, ArgumentRule, Arguments, arguments_of, FilterRule}
+use Rattle.liquid_grammar.specs.meaning.Meanings.{literal_of}
+use Rattle.liquid_grammar.specs.declared.literal.Literal.{Literal as CodeLiteral}
 use Rattle.liquid_grammar.specs.declared.head.Head.{Head}
+use Rattle.liquid_grammar.specs.declared.head.Head.TheVariants as head
 use Rattle.liquid_grammar.specs.meaning.Parts.{HasHead, NoneLeft, First, IsFilter, IsArgument, ArgumentsFrom, separator}
-use Rattle.liquid_grammar.specs.steps.Heads.{HasKeyword}
+use Rattle.liquid_grammar.specs.steps.Heads.{HasColon, IsHeadOf}
 use Rattle.liquid_grammar.specs.steps.Steps.{Reader, identifier}
-use Rattle.liquid_grammar.specs.steps.TokenSteps.{optional, separated, behind, argument, arguments, keyword_start}
+use Rattle.liquid_grammar.specs.steps.TokenSteps.{optional, separated, behind, argument, arguments, text_or_number}
 use Rattle.liquid_grammar.proofs.Exact.{Exact, same_match, none_begins, exact-right, exact-byte}
 use Rattle.liquid_grammar.proofs.ExactRepeated.{exact-optional, repeated_total}
+use Rattle.liquid_grammar.proofs.FlatBrackets.{left_some}
 use Rattle.liquid_grammar.proofs.GrammarExact.{exact-white, exact-identifier}
-use Rattle.liquid_grammar.proofs.TokenExact.{exact-behind, exact-filter, exact-argument, exact-arguments, exact-more_arguments, exact-keyword_start}
-use Rattle.liquid_grammar.proofs.PartLemmas.{first_part, none_left, after_begins, none_before, none_after}
+use Rattle.liquid_grammar.proofs.TokenExact.{exact-behind, exact-filter, exact-argument, exact-arguments, exact-more_arguments}
+use Rattle.liquid_grammar.proofs.PartLemmas.{first_part, none_left, after_begins, none_before, none_after, head_found}
+use Rattle.liquid_grammar.proofs.HeadLemmas.{literal_of_word, name_of_word, literal_without_word, no_name}
 
 -- a separator between white space
 abbrev Separated : ℕ → Rule (List ℕ)
@@ -109,36 +114,75 @@ argument_first a true s middle rest part_here found n is m = go m.from m.match m
         }))
 argument_first a false s middle rest part_here found n is m = first_part (exact-behind 44 exact-argument) (IsArgument a) s middle rest part_here found n is m
 
--- a keyword argument, by its name and the beginning of its value
-pub no_keyword_start : (s : List ℕ) → None ≡ keyword_start s → ¬ (Begins KeywordRule s)
-no_keyword_start s e b = none_begins exact-keyword_start s (sym e) (record { rest = b.match.match.middle; shape = b.match.from.0; match = b.match.match.before })
+-- what the value behind a colon begins with
+pub colon_head : (s place : List ℕ) (r : Option (Head × Bor (List ℕ))) → Some place ≡ option_map (λ p. p.1) (separated 58 s) → MatchOption r (¬ (Begins ValueRule place)) (λ p. HasHead place p.0 p.1.now)
+    → MatchOption r (¬ (Begins (Behind 58 ValueRule) s)) (λ p. HasColon s p.0 p.1.now)
+colon_head s place None e none = none_behind 58 s place e none
+colon_head s place (Some p) e has =
+    let x = left_some (separated 58 s) place e in
+    let colon = (exact-separated 58).sound s x.0.1 x.0.0 x.1 in
+    record { place = place; white = x.0.0; colon = subst (λ t. Separated 58 s t x.0.0) x.2 colon; head = has }
 
-pub no_keyword_value : (s value name : List ℕ) → Some (name, value) ≡ keyword_start s → ¬ (Begins ValueRule value) → ¬ (Begins KeywordRule s)
-no_keyword_value s value name e none b =
-    let then = b.match.match in
-    let same = same_match exact-keyword_start s then.middle value b.match.from.0 name then.before (exact-keyword_start.sound s value name (sym e)) in
-    let moved : Begins ValueRule then.middle = record { rest = b.rest; shape = b.match.from.1; match = then.after } in
-    none (subst (λ t. Begins ValueRule t) (ap (λ (p : List ℕ × List ℕ). p.1) same) moved)
+-- a name and a colon behind it
+keyword_start_here : (s behind place white name : List ℕ) → Some (name, behind) ≡ identifier s → Separated 58 behind place white → KeywordStart s place name
+keyword_start_here s behind place white name e colon =
+    let before = colon.match.before in
+    let word : (Identifier ◁ White) s before.match.middle name =
+    record { from = (name, before.from.0); match = record { middle = behind; before = exact-identifier.sound s behind name (sym e); after = before.match.before }; is = refl }
+    in
+    let named : (Identifier ◁ White ◁ Byte 58) s colon.match.middle name =
+    record { from = (name, before.from.1); match = record { middle = before.match.middle; before = word; after = before.match.after }; is = refl }
+    in
+    record { from = (name, colon.from.1); match = record { middle = colon.match.middle; before = named; after = colon.match.after }; is = refl }
 
-pub keyword_found : (s value name after : List ℕ) (h : Head) → Some (name, value) ≡ keyword_start s → HasHead value h after → HasKeyword s name h after
-keyword_found s value name after h e has = record { place = value; start = exact-keyword_start.sound s value name (sym e); head = has }
+-- no keyword argument begins where no identifier does, nor where no colon with a value stands behind it
+pub no_keyword_name : (s : List ℕ) → None ≡ identifier s → ¬ (Begins KeywordRule s)
+no_keyword_name s e b =
+    let word = b.match.match.before.match.before.match.before in
+    none_begins exact-identifier s (sym e) (record { rest = word.match.middle; shape = word.from.0; match = word.match.before })
+
+pub no_keyword_value : (s behind name : List ℕ) → Some (name, behind) ≡ identifier s → ¬ (Begins (Behind 58 ValueRule) behind) → ¬ (Begins KeywordRule s)
+no_keyword_value s behind name e none b =
+    let start = b.match.match.before in
+    let named = start.match.before in
+    let word = named.match.before in
+    let place = word.match.middle in
+    let same = same_match exact-identifier s place behind word.from.0 name word.match.before (exact-identifier.sound s behind name (sym e)) in
+    let front : (White ▷ Byte 58) place start.match.middle named.from.1 =
+    record { from = (word.from.1, named.from.1); match = record { middle = named.match.middle; before = word.match.after; after = named.match.after }; is = refl }
+    in
+    let colon : Separated 58 place b.match.match.middle start.from.1 =
+    record { from = (named.from.1, start.from.1); match = record { middle = start.match.middle; before = front; after = start.match.after }; is = refl }
+    in
+    let all : Behind 58 ValueRule place b.rest b.match.from.1 =
+    record { from = (start.from.1, b.match.from.1); match = record { middle = b.match.match.middle; before = colon; after = b.match.match.after }; is = refl }
+    in
+    none (subst (λ t. Begins (Behind 58 ValueRule) t) (ap (λ (p : List ℕ × List ℕ). p.1) same) (record { rest = b.rest; shape = b.match.from.1; match = all }))
+
+-- the value that an argument is, by its first word, and by what is no word
+word_head : (s word : List ℕ) (h : Head) (rest : Bor (List ℕ)) → Some (word, rest.now) ≡ identifier s → IsHeadOf word h → HasHead s h rest.now
+word_head s word h rest e is = head_found s (Some (h, rest)) (literal_of_word s word h rest e is) (name_of_word s word h rest e is)
+
+wordless_head : (s : List ℕ) (l : CodeLiteral) (rest : Bor (List ℕ)) → None ≡ identifier s → Some (literal_of l, rest.now) ≡ text_or_number s → HasHead s (head.Literal l) rest.now
+wordless_head s l rest e f = head_found s (Some (head.Literal l, rest)) (literal_without_word s (Some (literal_of l, rest.now)) e f) (no_name s e)
 
 -- the separator, as the program has it
 pub at_separator : (byte wanted : ℕ) (s : List ℕ) (o : Option (List ℕ)) → byte ≡ wanted → o ≡ option_map (λ p. p.1) (separated byte s) → o ≡ option_map (λ p. p.1) (separated wanted s)
 at_separator byte wanted s o is e = subst (λ b. o ≡ option_map (λ p. p.1) (separated b s)) is e
 
 -- the next argument, with a name and without
-pub keyword_first : (name after : Bor (List ℕ)) (h : Head) (is_first : Bool) (s place rest : List ℕ) (found : List Argument) → Some place ≡ option_map (λ p. p.1) (separated (separator is_first) s)
-    → HasKeyword place name.now h after.now → ArgumentsFrom is_first s rest found
+pub keyword_first : (name after : Bor (List ℕ)) (h : Head) (is_first : Bool) (s place behind rest : List ℕ) (found : List Argument) → Some place ≡ option_map (λ p. p.1) (separated (separator is_first) s)
+    → Some (name.now, behind) ≡ identifier place → HasColon behind h after.now → ArgumentsFrom is_first s rest found
     → let a : ArgumentStart = record { name = Some name; head = h; rest = after } in First (IsArgument a) (ArgumentsFrom false) rest found
-keyword_first name after h is_first s place rest found e has m =
+keyword_first name after h is_first s place behind rest found e word has m =
     let a : ArgumentStart = record { name = Some name; head = h; rest = after } in
     let v = has.head in
     let part = keyword name.now v.value in
-    let here_is : ArgumentRule place v.rest part = here (record { from = (name.now, v.value); match = record { middle = has.place; before = has.start; after = v.match }; is = refl }) in
+    let start = keyword_start_here place behind has.place has.white name.now word has.colon in
+    let here_is : ArgumentRule place v.rest part = here (record { from = (name.now, v.value); match = record { middle = has.place; before = start; after = v.match }; is = refl }) in
     argument_first a is_first s v.rest rest part found (behind_begins (separator is_first) s place v.rest part e here_is) (record { place = has.place; value = v.value; is = refl; head = v.head }) m
 
-pub positional_first : (after : Bor (List ℕ)) (h : Head) (is_first : Bool) (s place rest : List ℕ) (found : List Argument) → Some place ≡ option_map (λ p. p.1) (separated (separator is_first) s)
+positional_first : (after : Bor (List ℕ)) (h : Head) (is_first : Bool) (s place rest : List ℕ) (found : List Argument) → Some place ≡ option_map (λ p. p.1) (separated (separator is_first) s)
     → ¬ (Begins KeywordRule place) → HasHead place h after.now → ArgumentsFrom is_first s rest found
     → let a : ArgumentStart = record { name = None; head = h; rest = after } in First (IsArgument a) (ArgumentsFrom false) rest found
 positional_first after h is_first s place rest found e none has m =
@@ -147,9 +191,21 @@ positional_first after h is_first s place rest found e none has m =
     let stands : ArgumentRule place has.rest part = instead none (record { from = has.value; match = has.match; is = refl }) in
     argument_first a is_first s has.rest rest part found (behind_begins (separator is_first) s place has.rest part e stands) (record { place = place; value = has.value; is = refl; head = has.head }) m
 
-pub no_argument_value : (place : List ℕ) → ¬ (Begins KeywordRule place) → ¬ (Begins ValueRule place) → ¬ (Begins ArgumentRule place)
-no_argument_value place none valueless b = go b.match
+pub word_first : (after : Bor (List ℕ)) (h : Head) (is_first : Bool) (s place word rest : List ℕ) (found : List Argument) → Some place ≡ option_map (λ p. p.1) (separated (separator is_first) s)
+    → Some (word, after.now) ≡ identifier place → ¬ (Begins (Behind 58 ValueRule) after.now) → IsHeadOf word h → ArgumentsFrom is_first s rest found
+    → let a : ArgumentStart = record { name = None; head = h; rest = after } in First (IsArgument a) (ArgumentsFrom false) rest found
+word_first after h is_first s place word rest found e i none is m =
+    positional_first after h is_first s place rest found e (no_keyword_value place after.now word i none) (word_head place word h after i is) m
+
+pub wordless_first : (l : CodeLiteral) (after : Bor (List ℕ)) (is_first : Bool) (s place rest : List ℕ) (found : List Argument) → Some place ≡ option_map (λ p. p.1) (separated (separator is_first) s)
+    → None ≡ identifier place → Some (literal_of l, after.now) ≡ text_or_number place → ArgumentsFrom is_first s rest found
+    → let a : ArgumentStart = record { name = None; head = head.Literal l; rest = after } in First (IsArgument a) (ArgumentsFrom false) rest found
+wordless_first l after is_first s place rest found e i f m =
+    positional_first after (head.Literal l) is_first s place rest found e (no_keyword_name place i) (wordless_head place l after i f) m
+
+pub no_argument_here : (place : List ℕ) → None ≡ identifier place → None ≡ text_or_number place → ¬ (Begins ArgumentRule place)
+no_argument_here place i f b = go b.match
   where
     go : ArgumentRule place b.rest b.shape → ⊥
-    go (here m) = none (record { rest = b.rest; shape = b.shape; match = m })
-    go (instead _ m) = valueless (record { rest = b.rest; shape = m.from; match = m.match })
+    go (here m) = no_keyword_name place i (record { rest = b.rest; shape = b.shape; match = m })
+    go (instead _ m) = head_found place None (literal_without_word place None i f) (no_name place i) (record { rest = b.rest; shape = m.from; match = m.match })

@@ -54,7 +54,8 @@ fn turn<'a>(state: Open<'a>) -> Option<Open<'a>>
     requires fits { state.depth + length state.rest.now < 2 ^ 64 }
     ensures same { MatchOption result (going state.entry ≡ None) (λ next. going state.entry ≡ going next) }
     ensures room { IfSome result (λ next. next.depth + length next.rest.now ≤ state.entry.depth + length state.entry.rest.now) }
-    ensures ends { IfSome result (λ next. 2 * length next.rest.now + rank next.awaits < 2 * length state.entry.rest.now + rank state.entry.awaits) }
+    ensures ends { IfSome result
+        (λ next. 2 * length next.rest.now + rank next.awaits < 2 * length state.entry.rest.now + rank state.entry.awaits) }
     ensures within { IfSome result (λ next. length next.rest.now ≤ length state.entry.rest.now) }
     ensures whole { IfSome result (λ next. next.depth ≡ 0 → next.awaits ≡ Await.Index) }
 {
@@ -79,7 +80,8 @@ fn at_value<'a>(state: Open<'a>) -> Option<Open<'a>>
     requires value { state.awaits ≡ Await.Value }
     ensures same { MatchOption result (going state.entry ≡ None) (λ next. going state.entry ≡ going next) }
     ensures room { IfSome result (λ next. next.depth + length next.rest.now ≤ state.entry.depth + length state.entry.rest.now) }
-    ensures ends { IfSome result (λ next. 2 * length next.rest.now + rank next.awaits < 2 * length state.entry.rest.now + rank state.entry.awaits) }
+    ensures ends { IfSome result
+        (λ next. 2 * length next.rest.now + rank next.awaits < 2 * length state.entry.rest.now + rank state.entry.awaits) }
     ensures within { IfSome result (λ next. length next.rest.now ≤ length state.entry.rest.now) }
     ensures whole { IfSome result (λ next. next.depth ≡ 0 → next.awaits ≡ Await.Index) }
 {

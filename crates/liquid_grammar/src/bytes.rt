@@ -3,6 +3,19 @@ ghost use Rattle.std.specs.Prelude.{◌≡◌, slice_index};
 ghost use Rattle.liquid_grammar.specs.meaning.Bytes as spec;
 ghost use Rattle.liquid_grammar.specs.steps.TokenSteps as read;
 
+// 1 at each letter, digit and `_`
+#[rattlefmt::skip]
+static WORD_BYTES: [u8; 256] = [
+    0, 0, 0, 0, 0, 0, 0, 0, 0, 0, 0, 0, 0, 0, 0, 0, 0, 0, 0, 0, 0, 0, 0, 0, 0, 0, 0, 0, 0, 0, 0, 0,
+    0, 0, 0, 0, 0, 0, 0, 0, 0, 0, 0, 0, 0, 0, 0, 0, 1, 1, 1, 1, 1, 1, 1, 1, 1, 1, 0, 0, 0, 0, 0, 0,
+    0, 1, 1, 1, 1, 1, 1, 1, 1, 1, 1, 1, 1, 1, 1, 1, 1, 1, 1, 1, 1, 1, 1, 1, 1, 1, 1, 0, 0, 0, 0, 1,
+    0, 1, 1, 1, 1, 1, 1, 1, 1, 1, 1, 1, 1, 1, 1, 1, 1, 1, 1, 1, 1, 1, 1, 1, 1, 1, 1, 0, 0, 0, 0, 0,
+    0, 0, 0, 0, 0, 0, 0, 0, 0, 0, 0, 0, 0, 0, 0, 0, 0, 0, 0, 0, 0, 0, 0, 0, 0, 0, 0, 0, 0, 0, 0, 0,
+    0, 0, 0, 0, 0, 0, 0, 0, 0, 0, 0, 0, 0, 0, 0, 0, 0, 0, 0, 0, 0, 0, 0, 0, 0, 0, 0, 0, 0, 0, 0, 0,
+    0, 0, 0, 0, 0, 0, 0, 0, 0, 0, 0, 0, 0, 0, 0, 0, 0, 0, 0, 0, 0, 0, 0, 0, 0, 0, 0, 0, 0, 0, 0, 0,
+    0, 0, 0, 0, 0, 0, 0, 0, 0, 0, 0, 0, 0, 0, 0, 0, 0, 0, 0, 0, 0, 0, 0, 0, 0, 0, 0, 0, 0, 0, 0, 0,
+];
+
 /// The byte at `index`, or 0 past the end.
 #[inline]
 pub(crate) fn byte_at(bytes: &[u8], index: usize) -> u8
@@ -27,12 +40,12 @@ pub(crate) fn starts_name(byte: u8) -> bool
     byte.is_ascii_alphabetic() || byte == b'_'
 }
 
-/// A letter, a digit or `_`.
+/// A letter, a digit or `_`. Each byte of a name is asked, so the answers stand in a table.
 #[inline]
 pub(crate) fn is_word(byte: u8) -> bool
     ensures { result ≡ spec.is_word byte }
 {
-    byte.is_ascii_alphabetic() || byte.is_ascii_digit() || byte == b'_'
+    byte_at(&WORD_BYTES, usize::from(byte)) == 1
 }
 
 /// Whether a literal or a name may begin with the byte.

@@ -1,5 +1,5 @@
 //! The elements of a text.
-ghost use Rattle.std.specs.Prelude.{◌≡◌, ℕ, List, [], ◌<◌, ◌++◌, length, Some, IfSome, MatchOption};
+ghost use Rattle.std.specs.Prelude.{◌≡◌, ℕ, List, [], ◌<◌, length, Some, IfSome, MatchOption};
 ghost use Rattle.liquid_grammar.specs.meaning.Grammar.{Opens};
 ghost use Rattle.liquid_grammar.specs.meaning.Cover as spec;
 ghost use Rattle.liquid_grammar.specs.meaning.Cover.{IsElement};

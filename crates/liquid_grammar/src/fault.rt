@@ -1,5 +1,5 @@
 //! Faults of literals and brackets, and the number of an integer literal.
-ghost use Rattle.std.specs.Prelude.{◌≡◌, option_map};
+ghost use Rattle.std.specs.Prelude.{◌≡◌};
 ghost use Rattle.liquid_grammar.specs.meaning.Faults as spec;
 ghost use Rattle.liquid_grammar.specs.meaning.Meanings.{literal_of, faults_of};
 

@@ -1,11 +1,9 @@
 //! Arguments, filters and chains.
 ghost use Rattle.std.specs.Prelude.{◌≡◌, ℕ, List, ◌<◌, ◌≤◌, length, Some, IfSome, option_map};
-ghost use Rattle.liquid_grammar.specs.meaning.Tokens as spec;
 ghost use Rattle.liquid_grammar.specs.meaning.Faults.{argument_fault, filter_fault, value_fault, chain_fault, first_fault};
 ghost use Rattle.liquid_grammar.specs.meaning.KindMeanings.{FindsKind, FindsValueKind};
 ghost use Rattle.liquid_grammar.specs.meaning.Meanings.{Scans};
 ghost use Rattle.liquid_grammar.specs.steps.Steps.{Splits, Leaves};
-ghost use Rattle.liquid_grammar.specs.steps.Steps as step;
 ghost use Rattle.liquid_grammar.specs.steps.TokenSteps as read;
 
 use crate::bytes::byte_at;
@@ -155,7 +153,7 @@ fn keyword<'a>(s: &'a str) -> Option<(Option<Fault<'a>>, &'a str)>
 
 /// The identifier before `:`, and what follows the colon and its white space.
 #[tactic(auto, unfolding(crate::specs::steps::TokenSteps::keyword_start))]
-pub(crate) fn keyword_start(s: &str) -> Option<(&str, &str)>
+fn keyword_start(s: &str) -> Option<(&str, &str)>
     ensures value { Splits result (read.keyword_start s.now) }
     ensures shorter { IfSome result (λ x. length x.1.now < length s.now) }
 {

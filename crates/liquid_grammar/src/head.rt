@@ -43,7 +43,8 @@ pub(crate) fn read_head(s: &str) -> Option<(Head<'_>, &str)>
     }
 }
 
-fn head_of_word(word: &str) -> Head<'_>
+/// What a value begins with whose first word this is.
+pub(crate) fn head_of_word(word: &str) -> Head<'_>
     ensures { IsHeadOf word.now result }
 {
     match literal_word(word) {

@@ -4,7 +4,8 @@ ghost use Rattle.liquid_grammar.specs.meaning.Grammar.{White, Identifier};
 ghost use Rattle.liquid_grammar.specs.meaning.Literals.{LiteralRule};
 ghost use Rattle.liquid_grammar.specs.meaning.Values.{ValueRule, VariableRule, IndexRule};
 ghost use Rattle.liquid_grammar.specs.meaning.Tokens.{ArgumentRule, FilterRule, ChainRule, TokenRule, ExpressionRule, TagRule};
-ghost use Rattle.liquid_grammar.specs.meaning.Faults.{value_fault, index_fault, argument_fault, filter_fault, chain_fault, token_fault, tag_fault};
+ghost use Rattle.liquid_grammar.specs.meaning.Faults.{value_fault, index_fault, argument_fault, filter_fault};
+ghost use Rattle.liquid_grammar.specs.meaning.Faults.{chain_fault, token_fault, tag_fault};
 ghost use Rattle.liquid_grammar.specs.meaning.Matches.{Matches, Finds};
 ghost use Rattle.liquid_grammar.specs.meaning.Meanings.{literal_of};
 

@@ -39,9 +39,8 @@ fn name_len(bytes: &[u8]) -> usize
     ensures len { result ≡ read.name_len bytes.now }
     ensures within { result ≤ length bytes.now }
 {
-    'bytes: for at in 0..bytes.len() {
-        let byte = bytes[at];
-        if !(is_word(byte) || (byte == b'-' && is_word(byte_at(bytes, at + 1)))) {
+    'bytes: for (at, byte) in bytes.iter().enumerate() {
+        if !(is_word(*byte) || (*byte == b'-' && is_word(byte_at(bytes, at + 1)))) {
             return at;
         }
     }

@@ -1,5 +1,5 @@
 //! Openers and closers.
-ghost use Rattle.std.specs.Prelude.{◌≡◌, ◌<◌, ◌≤◌, length, IfSome};
+ghost use Rattle.std.specs.Prelude.{◌<◌, length, IfSome};
 ghost use Rattle.liquid_grammar.specs.steps.Steps as read;
 ghost use Rattle.liquid_grammar.specs.steps.Steps.{Leaves};
 

@@ -3,18 +3,19 @@ ghost use Rattle.std.specs.Prelude.{◌≡◌, ℕ, false, List, ◌<◌, ◌++�
 ghost use Rattle.liquid_grammar.specs.meaning.Rules.{Begins, Repeated, ◌▷◌};
 ghost use Rattle.liquid_grammar.specs.meaning.Grammar.{White};
 ghost use Rattle.liquid_grammar.specs.meaning.Values.{Value, Index, CloseBracket, ValueRule, IndexRule};
-ghost use Rattle.liquid_grammar.specs.meaning.Tokens.{Argument, Filter, Token, Behind, FilterRule, KeywordRule, TokenRule};
+ghost use Rattle.liquid_grammar.specs.meaning.Tokens.{Argument, Filter, Token, Behind, FilterRule, TokenRule};
 ghost use Rattle.liquid_grammar.specs.meaning.Parts as part;
 ghost use Rattle.liquid_grammar.specs.meaning.Parts.{NoneLeft, First, IsHead, HasHead, IsIndex, IsFilter, ArgumentsFrom, IsArgument};
 ghost use Rattle.liquid_grammar.specs.meaning.Parts.{HasParts, IsToken, OpensExpression, ClosesExpression};
 ghost use Rattle.liquid_grammar.specs.meaning.Parts.{IsStep, Unclosed, step_rest};
-ghost use Rattle.liquid_grammar.specs.steps.Heads.{HasKeyword};
+ghost use Rattle.liquid_grammar.specs.steps.Heads.{HasColon};
 
 use crate::bracket::{self, bracketed};
 use crate::bytes::{begins_index, begins_value, byte_at};
-use crate::filter::{behind, chain_and_kind, keyword_start};
-use crate::head::{Head, read_head};
+use crate::filter::{behind, chain_and_kind};
+use crate::head::{Head, head_of_word, read_head};
 use crate::kind::TokenKind;
+use crate::literal::text_or_number;
 use crate::name::identifier;
 use crate::opener::{braces, closer};
 use crate::text::{before, eat, skip_white};
@@ -178,6 +179,9 @@ pub fn chain_step(s: &str) -> Option<ChainStep<'_>>
 
 /// The beginning of the next argument of a filter, and of its first one behind the filter's name.
 /// None where no argument is left.
+///
+/// The identifier that it begins with is read once: it is the argument's name where a colon and a value stand behind it,
+/// and else what the value begins with.
 pub fn next_argument(s: &str, is_first: bool) -> Option<ArgumentStart<'_>>
     ensures only { (rest : List ℕ) (arguments : List Argument) → ArgumentsFrom is_first s.now rest arguments
         → MatchOption result (NoneLeft s.now rest arguments)
@@ -185,17 +189,24 @@ pub fn next_argument(s: &str, is_first: bool) -> Option<ArgumentStart<'_>>
     ensures shorter { IfSome result (λ a. length a.rest.now < length s.now) }
 {
     let place = behind(s, separator(is_first))?;
-    match keyword_head(place) {
-        Some((name, head, rest)) => Some(ArgumentStart {
-            name: Some(name),
-            head,
-            rest,
-        }),
+    match identifier(place) {
+        Some((word, rest)) => match head_behind_colon(rest) {
+            Some((head, rest)) => Some(ArgumentStart {
+                name: Some(word),
+                head,
+                rest,
+            }),
+            None => Some(ArgumentStart {
+                name: None,
+                head: head_of_word(word),
+                rest,
+            }),
+        },
         None => {
-            let (head, rest) = value_head(place)?;
+            let (literal, rest) = text_or_number(place)?;
             Some(ArgumentStart {
                 name: None,
-                head,
+                head: Head::Literal(literal),
                 rest,
             })
         }
@@ -209,14 +220,12 @@ fn separator(is_first: bool) -> u8
     if is_first { b':' } else { b',' }
 }
 
-/// The name of the keyword argument that the text begins with, what its value begins with, and what follows that.
-fn keyword_head(s: &str) -> Option<(&str, Head<'_>, &str)>
-    ensures value { MatchOption result (¬ (Begins KeywordRule s.now)) (λ p. HasKeyword s.now p.0.now p.1 p.2.now) }
-    ensures shorter { IfSome result (λ p. length p.2.now < length s.now) }
+/// What the value behind a colon begins with, and what follows that.
+fn head_behind_colon(s: &str) -> Option<(Head<'_>, &str)>
+    ensures value { MatchOption result (¬ (Begins (Behind 58 ValueRule) s.now)) (λ p. HasColon s.now p.0 p.1.now) }
+    ensures shorter { IfSome result (λ p. length p.1.now < length s.now) }
 {
-    let (name, value) = keyword_start(s)?;
-    let (head, rest) = value_head(value)?;
-    Some((name, head, rest))
+    value_head(behind(s, b':')?)
 }
 
 /// The next token of a tag. None where no token is left.

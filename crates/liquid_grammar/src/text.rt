@@ -1,5 +1,5 @@
 //! Steps over a text.
-ghost use Rattle.std.specs.Prelude.{◌≡◌, ◌-◌, ◌<◌, ◌≤◌, ◌++◌, length, take, drop, Some, IfSome};
+ghost use Rattle.std.specs.Prelude.{◌≡◌, ◌-◌, ◌<◌, ◌≤◌, ◌++◌, length, take, Some, IfSome};
 ghost use Rattle.std.specs.List.{prefix_len};
 ghost use Rattle.liquid_grammar.specs.meaning.Bytes as class;
 ghost use Rattle.liquid_grammar.specs.steps.Steps as read;

@@ -3,9 +3,9 @@ use Rattle.std.specs.Prelude.{◌≡◌, ℕ, true, false, List, Option, Some, N
 use Rattle.std.specs.Borrow.{Bor}
 use Rattle.liquid_grammar.specs.declared.head.Head.{Head}
 use Rattle.liquid_grammar.specs.declared.head.Head.TheVariants as head
-use Rattle.liquid_grammar.specs.meaning.Grammar.{is_literal_word}
+use Rattle.liquid_grammar.specs.meaning.Rules.{Byte, ◌▷◌}
+use Rattle.liquid_grammar.specs.meaning.Grammar.{White, is_literal_word}
 use Rattle.liquid_grammar.specs.meaning.Parts.{HasHead}
-use Rattle.liquid_grammar.specs.meaning.Tokens.{KeywordStart}
 use Rattle.liquid_grammar.specs.meaning.Literals.{Literal, word_literal}
 use Rattle.liquid_grammar.specs.meaning.Meanings.{literal_of}
 
@@ -30,8 +30,9 @@ abbrev pub IsHeadOf : List ℕ → Head → Type 0
 IsHeadOf word (head.Literal literal) = (is_literal_word word ≡ true) × (literal_of literal ≡ word_literal word)
 IsHeadOf word (head.Name name) = (is_literal_word word ≡ false) × (name.now ≡ word)
 
--- a keyword argument of this name begins here, and its value so
-pub record HasKeyword (s name : List ℕ) (h : Head) (after : List ℕ) : Type 0 where
+-- a colon between white space stands here, and a value behind it begins so
+pub record HasColon (s : List ℕ) (h : Head) (after : List ℕ) : Type 0 where
   pub place : List ℕ
-  pub start : KeywordStart s place name
+  pub white : List ℕ
+  pub colon : (White ▷ Byte 58 ▷ White) s place white
   pub head : HasHead place h after

@@ -1,11 +1,12 @@
 //! The parts that each walk over a matched text hands out.
+use super::told;
 use liquid_grammar::{
     ArgumentStart, ChainStep, FilterStart, Head, IndexStart, Literal, TokenKind, TokenParts,
     chain_step, close_bracket, expression_end, expression_start, next_argument, next_filter,
     next_index, next_token, value_head,
 };
 use std::test::Fail;
-use tests_lines::{holds, same};
+use tests_lines::{Line, holds, rows_hold, same};
 
 #[test]
 fn values_have_heads(_rt: HostRuntime) -> Result<(), Fail> {
@@ -57,6 +58,54 @@ fn arguments_begin_by_a_colon_or_a_comma(_rt: HostRuntime) -> Result<(), Fail> {
         "a named one",
     )?;
     holds(next_argument("", false).is_none(), "none")
+}
+
+// Arguments behind a comma: the name, or nothing where the argument has none, the kind of what its value begins with
+// and the text of that, and what is left behind it. An identifier is a name only where a colon and a value follow it.
+const ARGUMENTS: &str = r#"[", a: b", "a", "name", "b", ""]
+[", a : b c", "a", "name", "b", " c"]
+[" ,a:b", "a", "name", "b", ""]
+[", a", null, "name", "a", ""]
+[", a:", null, "name", "a", ":"]
+[", a : | b", null, "name", "a", " : | b"]
+[", a b: 1", null, "name", "a", " b: 1"]
+[", a.b: 1", null, "name", "a", ".b: 1"]
+[", a-: 1", null, "name", "a", "-: 1"]
+[", a-b:\t1", "a-b", "integer", "1", ""]
+[", nil", null, "nil", "", ""]
+[", nil: nil.a", "nil", "nil", "", ".a"]
+[", true: 1", "true", "integer", "1", ""]
+[", true : }}", null, "true", "", " : }}"]
+[", 'a': 1", null, "text", "a", ": 1"]
+[", -1: 1", null, "integer", "-1", ": 1"]
+[", : 1"]
+[", "]
+["a: b"]"#;
+
+/// What a value begins with, as the tables name it.
+fn head_told<'a>(head: Head<'a>) -> (&'a str, &'a str) {
+    match head {
+        Head::Literal(literal) => told(literal),
+        Head::Name(name) => ("name", name),
+    }
+}
+
+fn is_argument(row: &Line) -> Result<bool, Fail> {
+    match next_argument(row.text(0)?, false) {
+        Some(found) => {
+            let (kind, text) = head_told(found.head);
+            let value = found.name == row.found_text(1)
+                && kind == row.text(2)?
+                && text == row.text(3)?;
+            Ok(value && found.rest == row.text(4)?)
+        }
+        None => Ok(row.found(1).is_none()),
+    }
+}
+
+#[test]
+fn arguments_have_a_name_where_a_colon_and_a_value_follow(rt: HostRuntime) -> Result<(), Fail> {
+    rows_hold(rt.alloc(), ARGUMENTS, |_, row| is_argument(row))
 }
 
 #[test]
