@@ -27,10 +27,10 @@ module _ {F T P B : Type 0} (l : Lang F T P B) (s : List ℕ) (outside : ℕ) wh
   abbrev pub Closing : List ℕ → State F T P B → List ℕ → State F T P B → Type 0
   Closing text first rest st = (es : List Element) → Cover text es → (left : List Element) × Cover rest left × (read_closed l s outside first es ≡ read_closed l s outside st left)
 
-  pub Closing-on : {A : Type 0} (of : A → State F T P B) (text rest behind : List ℕ) (first : State F T P B) (e : Element) (blocks : List (Open F T P B)) (nodes : List (NodeShape F T B)) (found : A × Bor (List ℕ))
+  pub Closing-on : (text rest behind : List ℕ) (first : State F T P B) (e : Element) (blocks : List (Open F T P B)) (nodes : List (NodeShape F T B)) (st : State F T P B) (after : List ℕ)
       → Closing text first rest (among blocks nodes) → 0 < length blocks → IsElement rest behind e
-      → ((es : List Element) → Cover behind es → LeadsTo of (Ok found) (advanced l s outside (among blocks nodes) s behind e es)) → Closing text first found.1.now (of found.0)
-  Closing-on of text rest behind first e blocks nodes found goes some is leads es c =
+      → ((es : List Element) → Cover behind es → (left : List Element) × Cover after left × (advanced l s outside (among blocks nodes) s behind e es ≡ Ok (st, left))) → Closing text first after st
+  Closing-on text rest behind first e blocks nodes st after goes some is leads es c =
       let w = goes es c in
       let t = taken rest behind e w.0 is w.1 in
       let here = leads t.others t.cover in (

@@ -2,6 +2,7 @@
 use Rattle.std.proofs.Common.{◌≡◌, ◌⊎◌, inl, inr, ℕ, Bool, true, false, List, [], ◌∷◌, map, Option, Some, None, refl, sym, ap, ◌∙◌, subst}
 use Rattle.std.specs.Prelude.{option_map, option_and_then}
 use Rattle.std.specs.Borrow.{Bor}
+use Rattle.std.proofs.lemmas.Option.{same_Some}
 use Rattle.liquid_grammar.specs.declared.kind.TokenKind.{TokenKind}
 use Rattle.liquid_grammar.specs.declared.kind.TokenKind.TheVariants as kind
 use Rattle.liquid_grammar.specs.declared.literal.Literal.{Literal as CodeLiteral}
@@ -127,21 +128,13 @@ values_of_kinds k (inr (inr e)) = ap (λ x. is_value_kind (token_kind_of x)) e.1
 
 -- ---- a literal, and a name alone
 
-inside : {A : Type 0} → A → Option A → A
-inside other None = other
-inside other (Some a) = a
-
-some_is : {A : Type 0} (a b : A) → Some a ≡ Some b → a ≡ b
-unfolding inside
-some_is a b h = ap (inside a) h
-
 literal_meant : (e : ExpressionShape) (t : Tree) → as_literal e ≡ Some t → e ≡ literal t
-literal_meant (literal u) t h = ap literal (some_is u t h)
+literal_meant (literal u) t h = ap literal (same_Some u t h)
 literal_meant (variable name is) t h = absurd (cc)
 
 name_meant : (e : ExpressionShape) (name : List ℕ) → as_identifier e ≡ Some name → e ≡ variable (text name) no_indexes
 name_meant (literal t) name h = absurd (cc)
-name_meant (variable (text bytes) no_indexes) name h = ap (λ n. variable (text n) no_indexes) (some_is bytes name h)
+name_meant (variable (text bytes) no_indexes) name h = ap (λ n. variable (text n) no_indexes) (same_Some bytes name h)
 name_meant (variable (text bytes) (index e es)) name h = absurd (cc)
 name_meant (variable (integer n) is) name h = absurd (cc)
 name_meant (variable (boolean b) is) name h = absurd (cc)

@@ -1,6 +1,7 @@
 pub mod TokenLemmas
 pub mod StepLemmas
 pub mod AskedLemmas
+pub mod InnermostLemmas
 pub mod Shapes
 pub mod Indexes
 pub mod HandedLemmas

@@ -1,5 +1,5 @@
 -- The reading of a text, element by element: what an unfinished reading keeps, how it goes on, and how it ends.
-use Rattle.std.proofs.Common.{◌≡◌, ℕ, List, [], ◌∷◌, Option, None, Some, Result, Ok, Err, Bor, refl, sym, ap, ◌∙◌}
+use Rattle.std.proofs.Common.{◌≡◌, ℕ, List, [], ◌∷◌, Option, None, Some, Result, Ok, Err, refl, sym, ap, ◌∙◌}
 use Rattle.std.specs.Prelude.{IfSome}
 use Rattle.liquid_error.specs.declared.error.Error.{Error}
 use Rattle.liquid_error.specs.meaning.Told.{told, Gives}
@@ -10,7 +10,7 @@ use Rattle.liquid_error.specs.meaning.Refusal.{Refusal, ok_then}
 use Rattle.liquid_parser.specs.meaning.ElementReading.{element_checked}
 use Rattle.liquid_parser.specs.meaning.Lang.{Lang}
 use Rattle.liquid_parser.specs.meaning.Reading.{State, Open, among, beginning, step, ended, read, answer, Reads, Answers}
-use Rattle.liquid_parser.specs.steps.Views.{advanced, LeadsTo}
+use Rattle.liquid_parser.specs.steps.Views.{advanced}
 use Rattle.liquid_parser.proofs.ElementLemmas.{unchecked_step}
 use Rattle.liquid_parser.proofs.EscapeLemmas.{past_then}
 
@@ -31,18 +31,18 @@ module _ {F T P B : Type 0} (l : Lang F T P B) (s : List ℕ) where
       ∙ past_then l s 0 (read l s 0) (λ b bs level so_far. refl) (λ b bs level so_far e' es'. refl) (step l s 0 (among blocks nodes) e behind) es
 
   -- one more element
-  pub Goes-on : {A : Type 0} (of : A → State F T P B) (rest behind : List ℕ) (e : Element) (blocks : List (Open F T P B)) (nodes : List (NodeShape F T B)) (found : A × Bor (List ℕ))
+  pub Goes-on : (rest behind : List ℕ) (e : Element) (blocks : List (Open F T P B)) (nodes : List (NodeShape F T B)) (st : State F T P B) (after : List ℕ)
       → Goes rest (among blocks nodes) → IsElement rest behind e
-      → ((es : List Element) → Cover behind es → LeadsTo of (Ok found) (advanced l s 0 (among blocks nodes) s behind e es)) → Goes found.1.now (of found.0)
-  Goes-on of rest behind e blocks nodes found goes is leads es c =
+      → ((es : List Element) → Cover behind es → (left : List Element) × Cover after left × (advanced l s 0 (among blocks nodes) s behind e es ≡ Ok (st, left))) → Goes after st
+  Goes-on rest behind e blocks nodes st after goes is leads es c =
       let o = cover_of behind in
       let w = goes (e ∷ o.elements) (next is o.cover) in
       let here = leads o.elements o.cover in
-      let same = cover_of found.1.now in (
+      let same = cover_of after in (
         w.0,
         w.1,
         w.2 ∙ (read_first behind e blocks nodes o.elements o.cover
-            ∙ (ap (λ r. ok_then r (λ p. read l s 0 p.0 p.1)) here.2 ∙ ap (read l s 0 (of found.0)) (same.only here.0 here.1 ∙ sym (same.only es c)))),
+            ∙ (ap (λ r. ok_then r (λ p. read l s 0 p.0 p.1)) here.2 ∙ ap (read l s 0 st) (same.only here.0 here.1 ∙ sym (same.only es c)))),
       )
 
   refused_one : (rest behind : List ℕ) (e : Element) (blocks : List (Open F T P B)) (nodes : List (NodeShape F T B)) (r : Refusal) → Goes rest (among blocks nodes) → IsElement rest behind e

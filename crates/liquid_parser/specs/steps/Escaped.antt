@@ -5,4 +5,5 @@ use Rattle.liquid_grammar.specs.meaning.Cover.{Element, Cover}
 
 -- the text up to the end of the body, with what follows it, or no end
 abbrev pub EscapesTo : Option (Bor (List ℕ) × Bor (List ℕ)) → Option (List ℕ × List Element) → Type 0
-EscapesTo result meant = MatchOption result (meant ≡ None) (λ p. (left : List Element) × Cover p.1.now left × (meant ≡ Some (p.0.now, left)))
+EscapesTo result meant =
+    MatchOption result (meant ≡ None) (λ p. (left : List Element) × Cover p.1.now left × (meant ≡ Some (p.0.now, left)))

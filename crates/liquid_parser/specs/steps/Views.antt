@@ -33,25 +33,34 @@ module _ {X N K L W F T B P : Type 0} (filter : X → F) (tag : N → T) (block 
   abbrev pub state_view : ParserState W L (Node X N K) → State F T P B
   state_view s = among (blocks_view s.open.items) (shapes_of filter tag block s.nodes.items)
 
-  abbrev pub next_view : Next W L (Node X N K) → State F T P B
-  next_view (Among s) = state_view s
-  next_view (Escaped b around) = inside (open_view b) (blocks_view around.items) 0 []
+  -- what the step says beside the state that it leaves
+  abbrev pub next_view : Next W L (Node X N K) → ParserState W L (Node X N K) → State F T P B
+  next_view Among s = state_view s
+  next_view (Escaped b) s = inside (open_view b) (blocks_view s.open.items) 0 []
 
 -- the escaped body of a block that has just begun is read to its end: how far the text is read then, and the elements that are left
-abbrev pub escaped_body : {F T P B : Type 0} → List ℕ → Open F T P B → List (Open F T P B) → Option (List ℕ × List Element) → Result (State F T P B × List Element) Refusal
+abbrev pub escaped_body : {F T P B : Type 0} → List ℕ → Open F T P B → List (Open F T P B) → Option (List ℕ × List Element)
+    → Result (State F T P B × List Element) Refusal
 escaped_body source b blocks None = Err (unclosed_by source b.kind.names.end_name)
 escaped_body source b blocks (Some p) = ok_then (finished b (escaped p.0) []) (λ nodes. Ok (among blocks nodes, p.1))
 
 -- what follows a state: in an escaped body, its end
 abbrev pub past_escaped : {F T P B : Type 0} → List ℕ → State F T P B → List Element → Result (State F T P B × List Element) Refusal
 past_escaped source (among blocks nodes) es = Ok (among blocks nodes, es)
-past_escaped source (inside b blocks level so_far) es = escaped_body source b blocks (escape b.kind.names.end_name b.kind.names.start_name b.kind.means.nests level so_far es)
+past_escaped source (inside b blocks level so_far) es =
+    escaped_body source b blocks (escape b.kind.names.end_name b.kind.names.start_name b.kind.means.nests level so_far es)
 
 -- an element of its own text is read, and the escaped body that it begins
-abbrev pub advanced : {F T P B : Type 0} → Lang F T P B → (source : List ℕ) → ℕ → State F T P B → (own behind : List ℕ) → Element → List Element → Result (State F T P B × List Element) Refusal
+abbrev pub advanced : {F T P B : Type 0} → Lang F T P B → (source : List ℕ) → ℕ → State F T P B → (own behind : List ℕ) → Element
+    → List Element → Result (State F T P B × List Element) Refusal
 advanced l source outside st own behind e es = ok_then (step l own outside st e behind) (λ next. past_escaped source next es)
 
 -- the state that a call leads to, and the elements that are left of the text behind it; want of memory says nothing
 abbrev pub LeadsTo : {A S : Type 0} → (A → S) → Result (A × Bor (List ℕ)) Error → Result (S × List Element) Refusal → Type 0
 LeadsTo of (Ok p) meant = (left : List Element) × Cover p.1.now left × (meant ≡ Ok (of p.0, left))
 LeadsTo of (Err e) meant = IfSome (told e) (λ r. meant ≡ Err r)
+
+-- the same of a call to which the state is lent, and which leaves it at this one
+abbrev pub LeavesAt : {S : Type 0} → S → Result (Bor (List ℕ)) Error → Result (S × List Element) Refusal → Type 0
+LeavesAt st (Ok rest) meant = (left : List Element) × Cover rest.now left × (meant ≡ Ok (st, left))
+LeavesAt st (Err e) meant = IfSome (told e) (λ r. meant ≡ Err r)

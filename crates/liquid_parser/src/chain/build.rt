@@ -1,5 +1,5 @@
 //! Expressions, built from a text that begins with one. Each part of the text is walked once.
-ghost use Rattle.std.specs.Prelude.{◌≡◌, ◌<◌, ◌≤◌, ℕ, List, None, Some, IfOk, IfSome, MatchOption, length};
+ghost use Rattle.std.specs.Prelude.{◌≡◌, ◌<◌, ◌≤◌, ℕ, List, None, IfOk, IfSome, MatchOption, length};
 ghost use Rattle.liquid_grammar.specs.meaning.Faults.{fault_within, index_fault, indexes_fault, literal_fault};
 ghost use Rattle.liquid_grammar.specs.meaning.Meanings.{literal_of};
 ghost use Rattle.liquid_grammar.specs.meaning.Parts.{IsHead, IsIndex};

@@ -3,7 +3,6 @@
 //! Where something in an expression may be refused, the walk leaves it undecided: what is told then, another reading finds.
 ghost use Rattle.std.specs.Prelude.{◌≡◌, ◌∷◌, ◌<◌, ◌≤◌, ℕ, List, IfOk, IfSome, codes, length, map};
 ghost use Rattle.liquid_error.specs.meaning.Told.{told};
-ghost use Rattle.liquid_grammar.specs.meaning.Cover.{IsElement, invalid};
 ghost use Rattle.liquid_grammar.specs.meaning.Faults.{filter_fault, chain_fault, first_fault};
 ghost use Rattle.liquid_grammar.specs.meaning.Parts.{IsFilter, IsHead, OpensExpression};
 ghost use Rattle.liquid_grammar.specs.meaning.Rules.{Repeated};
@@ -24,8 +23,7 @@ use crate::plugin::tag::ParseTag;
 use crate::reading::place::refused_at;
 use liquid_error::Error;
 use liquid_grammar::{
-    ChainStep, FilterStart, Head, chain_step, expression_end, expression_start, match_white,
-    value_head,
+    ChainStep, FilterStart, Head, chain_step, expression_end, expression_start, value_head,
 };
 use liquid_plugins::{BRIEF_LIMIT, Brief, FilterChain, Node, ParseFilter, PluginRegistry};
 use std::alloc::{AllocError, Global};
@@ -93,12 +91,12 @@ fn fine_behind<'a, F: ParseFilter + Drop, T: ParseTag<F> + Drop, B: ParseBlock<F
     }
 }
 
-/// The refusal "Invalid liquid" where neither a tag nor an expression stands behind an opener.
-pub(crate) fn no_expression(alloc: Global, source: &str, s: &str) -> Error
-    ensures { (behind text : List ℕ) → IsElement s.now behind (invalid text)
+/// The refusal "Invalid liquid" at the first brace of an opener, behind which neither a tag nor an expression stands.
+pub(crate) fn no_expression(alloc: Global, source: &str, brace: &str) -> Error
+    ensures { (behind : List ℕ) → brace.now ≡ 123 ∷ behind
         → IfSome (told result) (λ r. r ≡ refused_at source.now (codes "Invalid liquid") (123 ∷ behind)) }
 {
-    refused_at(alloc, source, "Invalid liquid", match_white(s).1)
+    refused_at(alloc, source, "Invalid liquid", brace)
 }
 
 /// The node of a name alone.

@@ -2,7 +2,8 @@
 ghost use Rattle.std.specs.Prelude.{◌≡◌, ◌<◌, ℕ, false, true, List, [], Ok, None, IfOk, is_none, Result};
 ghost use Rattle.liquid_error.specs.meaning.Told.{Gives};
 ghost use Rattle.liquid_grammar.specs.meaning.Cover.{Cover};
-ghost use Rattle.liquid_parser.specs.meaning.BlockReading.{or_end, handed_out, behind_first, bytes_left, HandsOut, Passes, Escapes, end_or, next_read, AllRead, FindsAll, IsAll, ParsedNext};
+ghost use Rattle.liquid_parser.specs.meaning.BlockReading.{or_end, handed_out, behind_first, bytes_left, end_or, next_read};
+ghost use Rattle.liquid_parser.specs.meaning.BlockReading.{HandsOut, Passes, Escapes, AllRead, FindsAll, IsAll, ParsedNext};
 ghost use Rattle.liquid_parser.specs.meaning.Elements.{StandsFor};
 ghost use Rattle.liquid_plugins.specs.meaning.NodesOf.{node_of, shapes_of};
 ghost use Rattle.liquid_plugins.specs.meaning.Nodes.{NodeShape};

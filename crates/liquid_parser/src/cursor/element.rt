@@ -1,5 +1,5 @@
 //! The elements of a source, each alone: their texts, and their nodes.
-ghost use Rattle.std.specs.Prelude.{◌≡◌, ◌∷◌, ℕ, List, IfOk, IfSome, codes, ◌<◌, Result, Ok};
+ghost use Rattle.std.specs.Prelude.{◌≡◌, ◌∷◌, ℕ, List, IfOk, IfSome, codes};
 ghost use Rattle.liquid_error.specs.meaning.Told.{told, Gives};
 ghost use Rattle.liquid_grammar.specs.meaning.Cover.{IsElement, text_of, Cover};
 ghost use Rattle.liquid_grammar.specs.meaning.Elements.{Means};
@@ -12,17 +12,16 @@ ghost use Rattle.liquid_parser.specs.meaning.Reading.{expression_read, refused_a
 ghost use Rattle.liquid_parser.specs.meaning.WholeTag.{Refuses};
 ghost use Rattle.liquid_parser.specs.meaning.BlockReading.{Parsed, Passes};
 ghost use Rattle.liquid_grammar.specs.meaning.Cover as cover;
-ghost use Rattle.liquid_grammar.specs.meaning.Tokens as token;
 
 use crate::chain::filters::parse_chain;
-use crate::chain::fine::name_node;
+use crate::chain::fine::{name_node, no_expression};
 use crate::cursor::block::TagBlock;
 use crate::cursor::tag::Tag;
 use crate::cursor::tokens::TagTokenIter;
 use crate::plugin::block::ParseBlock;
 use crate::plugin::language::Language;
 use crate::plugin::tag::ParseTag;
-use crate::reading::place::{check, refused_at};
+use crate::reading::place::check;
 use liquid_error::Error;
 use liquid_grammar::{Element, match_white, parts_are_matches};
 use liquid_plugins::{BRIEF_LIMIT, Brief, Node, ParseFilter};
@@ -144,7 +143,7 @@ impl<'a> InvalidLiquidToken<'a> {
         ensures { (source behind : List ℕ) → IsInvalid self.entry source behind
             → IfSome (told result) (λ r. r ≡ refused_at source (codes "Invalid liquid") (123 ∷ behind)) }
     {
-        refused_at(alloc, self.source, "Invalid liquid", self.brace)
+        no_expression(alloc, self.source, self.brace)
     }
 }
 

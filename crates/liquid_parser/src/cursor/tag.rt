@@ -1,5 +1,5 @@
 //! A tag alone: its name, its text and its tokens.
-ghost use Rattle.std.specs.Prelude.{◌≡◌, [], codes, IfSome, MatchOption, ◌<◌, ℕ, List, Result, Ok, None};
+ghost use Rattle.std.specs.Prelude.{◌≡◌, [], codes, IfSome, MatchOption, ℕ, List};
 ghost use Rattle.liquid_grammar.specs.meaning.Elements.{MeansTag};
 ghost use Rattle.liquid_grammar.specs.meaning.Tokens.{Tag as MatchedTag, TagRule};
 ghost use Rattle.liquid_parser.specs.meaning.Reading.{refused_at};
@@ -108,15 +108,15 @@ impl<'a> Tag<'a> {
         ensures passes { Passes block.old block.new }
         ensures closed { block.new.is_closed ≡ block.old.is_closed }
     {
-        let state = ParserState {
+        let mut state = ParserState {
             open: Vec::new(alloc),
             nodes: Vec::new(alloc),
         };
-        let next = match tag_read(alloc, AROUND, state, self, language) {
+        let next = match tag_read(alloc, AROUND, &mut state, self, language) {
             Ok(next) => next,
             Err(error) => return Err(error),
         };
-        match behind_tag(alloc, block.source, block.rest, next, language) {
+        match behind_tag(alloc, block.source, block.rest, state, next, language) {
             Ok((mut nodes, rest)) => {
                 block.rest = rest;
                 match nodes.pop() {

@@ -165,7 +165,8 @@ impl<'a> TagTokenIter<'a> {
         filters: &PluginRegistry<F>,
     ) -> std::result::Result<FilterChain<F::Filter>, Error>
         ensures value { (ts : Tokens) → AreTokens self.old ts
-            → Takes (chain_of F.Filter.shape) result self.new (next_as message.now (expect_filter_chain (registry_of F.makes filters.now)) ts) }
+            → Takes (chain_of F.Filter.shape) result self.new
+            (next_as message.now (expect_filter_chain (registry_of F.makes filters.now)) ts) }
         ensures shorter { IfOk result (λ chain. bytes_left self.new < bytes_left self.old) }
         ensures stays { IfErr result (λ e. self.new ≡ self.old) }
     {

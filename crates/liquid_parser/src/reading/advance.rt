@@ -7,7 +7,7 @@ ghost use Rattle.liquid_plugins.specs.meaning.NodesOf.{shapes_of};
 ghost use Rattle.liquid_parser.specs.meaning.Elements.{IsExpression, StandsFor};
 ghost use Rattle.liquid_parser.specs.meaning.Plugins.{registry_of, language_of};
 ghost use Rattle.liquid_parser.specs.meaning.Reading.{expression_read, node_added, step};
-ghost use Rattle.liquid_parser.specs.steps.Views.{blocks_view, state_view, next_view, advanced, LeadsTo};
+ghost use Rattle.liquid_parser.specs.steps.Views.{blocks_view, state_view, next_view, advanced, LeavesAt};
 ghost use Rattle.liquid_grammar.specs.meaning.Cover as cover;
 
 use crate::cursor::element::{BlockElement, Exp};
@@ -21,7 +21,8 @@ use liquid_error::Error;
 use liquid_plugins::{Node, ParseFilter};
 use std::alloc::Global;
 
-/// An element is read, and the escaped body that it begins: how far the text is read then, and what follows.
+/// An element is read, and the escaped body that it begins: what follows. A refusal ends the reading, and the state says
+/// nothing then.
 ///
 /// So many blocks are open around all that is read. What stands behind the element is text of the source.
 #[inline(always)]
@@ -35,30 +36,22 @@ pub(crate) fn advance<
     alloc: Global,
     outside: usize,
     source: &str,
-    state: ParserState<'a, B, B::Plan, Node<F::Filter, T::Node, B::Node>>,
+    state: &mut ParserState<'a, B, B::Plan, Node<F::Filter, T::Node, B::Node>>,
     element: BlockElement<'a>,
     behind: &'t str,
     language: &'a Language<F, T, B>,
-) -> Result<
-    (
-        ParserState<'a, B, B::Plan, Node<F::Filter, T::Node, B::Node>>,
-        &'t str,
-    ),
-    Error,
->
+) -> Result<&'t str, Error>
     ensures value { (own after : List ℕ) (e : cover.Element) (es : List cover.Element)
         → StandsFor element.entry own after e → Cover behind.now es
-        → LeadsTo (state_view F.Filter.shape T.Node.shape B.Node.shape B.Plan.shape B.block) result
+        → LeavesAt (state_view F.Filter.shape T.Node.shape B.Node.shape B.Plan.shape B.block state.new) result
         (advanced (language_of F.makes T.gives B.block language.now) source.now outside
-        (state_view F.Filter.shape T.Node.shape B.Node.shape B.Plan.shape B.block state.entry) own after e es) }
-    ensures within { IfOk result (λ p. (front : List ℕ) × (behind.now ≡ front ++ p.1.now)) }
+        (state_view F.Filter.shape T.Node.shape B.Node.shape B.Plan.shape B.block state.old) own after e es) }
+    ensures within { IfOk result (λ rest. (front : List ℕ) × (behind.now ≡ front ++ rest.now)) }
 {
     match element_read(alloc, outside, state, element, language) {
         Ok(step) => match step {
-            Next::Among(next) => Ok((next, behind)),
-            Next::Escaped(block, around) => {
-                escaped_read::<F, T, B>(alloc, source, behind, block, around)
-            }
+            Next::Among => Ok(behind),
+            Next::Escaped(block) => escaped_read::<F, T, B>(alloc, source, behind, block, state),
         },
         Err(error) => Err(error),
     }
@@ -69,20 +62,19 @@ pub(crate) fn advance<
 fn element_read<'a, F: ParseFilter + Drop, T: ParseTag<F> + Drop, B: ParseBlock<F> + Drop>(
     alloc: Global,
     outside: usize,
-    state: ParserState<'a, B, B::Plan, Node<F::Filter, T::Node, B::Node>>,
+    state: &mut ParserState<'a, B, B::Plan, Node<F::Filter, T::Node, B::Node>>,
     element: BlockElement<'a>,
     language: &'a Language<F, T, B>,
 ) -> Result<Next<'a, B, B::Plan, Node<F::Filter, T::Node, B::Node>>, Error>
     ensures { (source behind : List ℕ) (e : cover.Element) → StandsFor element.entry source behind e
-        → Gives (next_view F.Filter.shape T.Node.shape B.Node.shape B.Plan.shape B.block) result
+        → Gives (λ n. next_view F.Filter.shape T.Node.shape B.Node.shape B.Plan.shape B.block n state.new) result
         (step (language_of F.makes T.gives B.block language.now) source outside
-        (state_view F.Filter.shape T.Node.shape B.Node.shape B.Plan.shape B.block state.entry) e behind) }
+        (state_view F.Filter.shape T.Node.shape B.Node.shape B.Plan.shape B.block state.old) e behind) }
 {
     match element {
         BlockElement::Raw(raw) => {
-            let mut state = state;
             state.nodes.push(raw.into_renderable(alloc)?)?;
-            Ok(Next::Among(state))
+            Ok(Next::Among)
         }
         BlockElement::Expression(exp) => expression_read(alloc, state, exp, language),
         BlockElement::Tag(tag) => tag_read(alloc, outside, state, tag, language),
@@ -94,21 +86,20 @@ fn element_read<'a, F: ParseFilter + Drop, T: ParseTag<F> + Drop, B: ParseBlock<
 #[inline(always)]
 fn expression_read<'a, F: ParseFilter + Drop, T: ParseTag<F> + Drop, B: ParseBlock<F> + Drop>(
     alloc: Global,
-    state: ParserState<'a, B, B::Plan, Node<F::Filter, T::Node, B::Node>>,
+    state: &mut ParserState<'a, B, B::Plan, Node<F::Filter, T::Node, B::Node>>,
     exp: Exp<'_>,
     language: &Language<F, T, B>,
 ) -> Result<Next<'a, B, B::Plan, Node<F::Filter, T::Node, B::Node>>, Error>
     ensures { (source : List ℕ) (chain : Chain) → IsExpression exp.entry source chain
-        → Gives (next_view F.Filter.shape T.Node.shape B.Node.shape B.Plan.shape B.block) result
-        (node_added (blocks_view F.Filter.shape T.Node.shape B.Node.shape B.Plan.shape B.block state.entry.open.items)
-        (shapes_of F.Filter.shape T.Node.shape B.Node.shape state.entry.nodes.items)
+        → Gives (λ n. next_view F.Filter.shape T.Node.shape B.Node.shape B.Plan.shape B.block n state.new) result
+        (node_added (blocks_view F.Filter.shape T.Node.shape B.Node.shape B.Plan.shape B.block state.old.open.items)
+        (shapes_of F.Filter.shape T.Node.shape B.Node.shape state.old.nodes.items)
         (expression_read (registry_of F.makes language.now.filters) source chain)) }
 {
     match exp.parse(alloc, language) {
         Ok(node) => {
-            let mut state = state;
             state.nodes.push(node)?;
-            Ok(Next::Among(state))
+            Ok(Next::Among)
         }
         Err(error) => Err(error),
     }

@@ -1,11 +1,12 @@
 //! What a tag is asked for, in its order.
-ghost use Rattle.std.specs.Prelude.{ℕ, List, ◌≡◌, ◌∷◌, IfSome};
+ghost use Rattle.std.specs.Prelude.{ℕ, List, [], ◌≡◌, ◌∷◌, Ok, IfSome};
+ghost use Rattle.liquid_error.specs.meaning.Refusal.{ok_then};
 ghost use Rattle.liquid_error.specs.meaning.Told.{told, Gives};
 ghost use Rattle.liquid_plugins.specs.meaning.NodesOf.{shapes_of};
 ghost use Rattle.liquid_parser.specs.meaning.Plugins.{language_of};
-ghost use Rattle.liquid_parser.specs.meaning.Reading.{block_begun, outer_read, tag_read, unknown_tag};
+ghost use Rattle.liquid_parser.specs.meaning.Reading.{Open, among, block_begun, closed, outer_read, parted, tag_read, unknown_tag};
 ghost use Rattle.liquid_parser.specs.meaning.WholeTag.{IsTag};
-ghost use Rattle.liquid_parser.specs.steps.Views.{open_view, blocks_view, next_view};
+ghost use Rattle.liquid_parser.specs.steps.Views.{blocks_view, next_view};
 ghost use Rattle.liquid_grammar.specs.meaning.Tokens as token;
 
 use crate::chain::names::{is_among, listed};
@@ -14,11 +15,12 @@ use crate::plugin::block::ParseBlock;
 use crate::plugin::language::Language;
 use crate::plugin::tag::ParseTag;
 use crate::reading::place::refused_at;
-use crate::reading::stack::{Next, OpenBlock, ParserState};
+use crate::reading::stack::{Next, ParserState};
 use crate::reading::steps::{closed, divided, opened, tag_node};
 use liquid_error::Error;
 use liquid_plugins::{Node, ParseFilter};
 use std::alloc::Global;
+use std::mem;
 
 /// How many blocks may be open at once.
 pub const BLOCK_LIMIT: usize = 100;
@@ -29,61 +31,98 @@ pub const BLOCK_LIMIT: usize = 100;
 pub(crate) fn tag_read<'a, F: ParseFilter + Drop, T: ParseTag<F> + Drop, B: ParseBlock<F> + Drop>(
     alloc: Global,
     outside: usize,
-    state: ParserState<'a, B, B::Plan, Node<F::Filter, T::Node, B::Node>>,
+    state: &mut ParserState<'a, B, B::Plan, Node<F::Filter, T::Node, B::Node>>,
     tag: Tag<'a>,
     language: &'a Language<F, T, B>,
 ) -> Result<Next<'a, B, B::Plan, Node<F::Filter, T::Node, B::Node>>, Error>
     ensures { (source : List ℕ) (t : token.Tag) → IsTag tag.entry source t
-        → Gives (next_view F.Filter.shape T.Node.shape B.Node.shape B.Plan.shape B.block) result
+        → Gives (λ n. next_view F.Filter.shape T.Node.shape B.Node.shape B.Plan.shape B.block n state.new) result
         (tag_read (language_of F.makes T.gives B.block language.now) source outside
-        (blocks_view F.Filter.shape T.Node.shape B.Node.shape B.Plan.shape B.block state.entry.open.items)
-        (shapes_of F.Filter.shape T.Node.shape B.Node.shape state.entry.nodes.items) t) }
+        (blocks_view F.Filter.shape T.Node.shape B.Node.shape B.Plan.shape B.block state.old.open.items)
+        (shapes_of F.Filter.shape T.Node.shape B.Node.shape state.old.nodes.items) t) }
 {
-    let ParserState { mut open, nodes } = state;
-    match open.pop() {
-        None => outer(alloc, outside, open, nodes, tag, language),
-        Some(block) => inner(alloc, outside, block, open, nodes, tag, language),
+    match state.open.last() {
+        None => outer(alloc, outside, state, tag, language),
+        Some(block) => inner(alloc, outside, block.kind, state, tag, language),
     }
 }
 
-/// The same in this innermost block.
+/// The same where a block of this kind is the innermost.
 fn inner<'a, F: ParseFilter + Drop, T: ParseTag<F> + Drop, B: ParseBlock<F> + Drop>(
     alloc: Global,
     outside: usize,
-    block: OpenBlock<'a, B, B::Plan, Node<F::Filter, T::Node, B::Node>>,
-    around: Vec<OpenBlock<'a, B, B::Plan, Node<F::Filter, T::Node, B::Node>>>,
-    nodes: Vec<Node<F::Filter, T::Node, B::Node>>,
+    kind: &'a B,
+    state: &mut ParserState<'a, B, B::Plan, Node<F::Filter, T::Node, B::Node>>,
     tag: Tag<'a>,
     language: &'a Language<F, T, B>,
 ) -> Result<Next<'a, B, B::Plan, Node<F::Filter, T::Node, B::Node>>, Error>
-    ensures { (source : List ℕ) (t : token.Tag) → IsTag tag.entry source t
-        → Gives (next_view F.Filter.shape T.Node.shape B.Node.shape B.Plan.shape B.block) result
-        (tag_read (language_of F.makes T.gives B.block language.now) source outside
-        (open_view F.Filter.shape T.Node.shape B.Node.shape B.Plan.shape B.block block.entry
-        ∷ blocks_view F.Filter.shape T.Node.shape B.Node.shape B.Plan.shape B.block around.entry.items)
-        (shapes_of F.Filter.shape T.Node.shape B.Node.shape nodes.items) t) }
+    ensures { (source : List ℕ) (t : token.Tag) (b : Open F.Filter.Shape T.Node.Shape B.Plan.Shape B.Node.Shape)
+        (blocks : List (Open F.Filter.Shape T.Node.Shape B.Plan.Shape B.Node.Shape)) → IsTag tag.entry source t
+        → blocks_view F.Filter.shape T.Node.shape B.Node.shape B.Plan.shape B.block state.old.open.items ≡ b ∷ blocks
+        → b.kind ≡ B.block kind.now
+        → Gives (λ n. next_view F.Filter.shape T.Node.shape B.Node.shape B.Plan.shape B.block n state.new) result
+        (tag_read (language_of F.makes T.gives B.block language.now) source outside (b ∷ blocks)
+        (shapes_of F.Filter.shape T.Node.shape B.Node.shape state.old.nodes.items) t) }
 {
-    let mut open = around;
-    let mut block = block;
-    if tag.name == block.kind.end_tag() {
-        match closed::<F, T, B>(alloc, block, nodes, tag) {
-            Ok(nodes) => Ok(Next::Among(ParserState { open, nodes })),
-            Err(error) => Err(error),
-        }
-    } else if is_among(block.kind.dividers(), tag.name) {
-        match divided::<F, T, B>(alloc, &mut block, nodes, tag) {
-            Ok(()) => {
-                open.push(block)?;
-                Ok(Next::Among(ParserState {
-                    open,
-                    nodes: Vec::new(alloc),
-                }))
-            }
-            Err(error) => Err(error),
-        }
+    if tag.name == kind.end_tag() {
+        block_ended::<F, T, B>(alloc, state, tag)
+    } else if is_among(kind.dividers(), tag.name) {
+        part_ended::<F, T, B>(alloc, state, tag)
     } else {
-        open.push(block)?;
-        outer(alloc, outside, open, nodes, tag, language)
+        outer(alloc, outside, state, tag, language)
+    }
+}
+
+/// The innermost block ends: the nodes so far are its last part, and it is a node of the list that it stands in.
+fn block_ended<'a, F: ParseFilter + Drop, T: ParseTag<F> + Drop, B: ParseBlock<F> + Drop>(
+    alloc: Global,
+    state: &mut ParserState<'a, B, B::Plan, Node<F::Filter, T::Node, B::Node>>,
+    tag: Tag<'a>,
+) -> Result<Next<'a, B, B::Plan, Node<F::Filter, T::Node, B::Node>>, Error>
+    ensures { (source : List ℕ) (t : token.Tag) (b : Open F.Filter.Shape T.Node.Shape B.Plan.Shape B.Node.Shape)
+        (blocks : List (Open F.Filter.Shape T.Node.Shape B.Plan.Shape B.Node.Shape)) → IsTag tag.entry source t
+        → blocks_view F.Filter.shape T.Node.shape B.Node.shape B.Plan.shape B.block state.old.open.items ≡ b ∷ blocks
+        → Gives (λ n. next_view F.Filter.shape T.Node.shape B.Node.shape B.Plan.shape B.block n state.new) result
+        (ok_then (closed source t b (shapes_of F.Filter.shape T.Node.shape B.Node.shape state.old.nodes.items))
+        (λ after. Ok (among blocks after))) }
+{
+    match state.open.pop() {
+        None => Ok(Next::Among),
+        Some(block) => {
+            let nodes = mem::replace(&mut state.nodes, Vec::new(alloc));
+            match closed::<F, T, B>(alloc, block, nodes, tag) {
+                Ok(after) => {
+                    state.nodes = after;
+                    Ok(Next::Among)
+                }
+                Err(error) => Err(error),
+            }
+        }
+    }
+}
+
+/// A part of the innermost block ends: the nodes so far. The block stays where it stands.
+fn part_ended<'a, F: ParseFilter + Drop, T: ParseTag<F> + Drop, B: ParseBlock<F> + Drop>(
+    alloc: Global,
+    state: &mut ParserState<'a, B, B::Plan, Node<F::Filter, T::Node, B::Node>>,
+    tag: Tag<'a>,
+) -> Result<Next<'a, B, B::Plan, Node<F::Filter, T::Node, B::Node>>, Error>
+    ensures { (source : List ℕ) (t : token.Tag) (b : Open F.Filter.Shape T.Node.Shape B.Plan.Shape B.Node.Shape)
+        (blocks : List (Open F.Filter.Shape T.Node.Shape B.Plan.Shape B.Node.Shape)) → IsTag tag.entry source t
+        → blocks_view F.Filter.shape T.Node.shape B.Node.shape B.Plan.shape B.block state.old.open.items ≡ b ∷ blocks
+        → Gives (λ n. next_view F.Filter.shape T.Node.shape B.Node.shape B.Plan.shape B.block n state.new) result
+        (ok_then (parted source t b (shapes_of F.Filter.shape T.Node.shape B.Node.shape state.old.nodes.items))
+        (λ divided. Ok (among (divided ∷ blocks) []))) }
+{
+    match state.open.last_mut() {
+        None => Ok(Next::Among),
+        Some(block) => {
+            let nodes = mem::replace(&mut state.nodes, Vec::new(alloc));
+            match divided::<F, T, B>(alloc, block, nodes, tag) {
+                Ok(()) => Ok(Next::Among),
+                Err(error) => Err(error),
+            }
+        }
     }
 }
 
@@ -91,66 +130,57 @@ fn inner<'a, F: ParseFilter + Drop, T: ParseTag<F> + Drop, B: ParseBlock<F> + Dr
 fn outer<'a, F: ParseFilter + Drop, T: ParseTag<F> + Drop, B: ParseBlock<F> + Drop>(
     alloc: Global,
     outside: usize,
-    around: Vec<OpenBlock<'a, B, B::Plan, Node<F::Filter, T::Node, B::Node>>>,
-    nodes: Vec<Node<F::Filter, T::Node, B::Node>>,
+    state: &mut ParserState<'a, B, B::Plan, Node<F::Filter, T::Node, B::Node>>,
     tag: Tag<'a>,
     language: &'a Language<F, T, B>,
 ) -> Result<Next<'a, B, B::Plan, Node<F::Filter, T::Node, B::Node>>, Error>
     ensures { (source : List ℕ) (t : token.Tag) → IsTag tag.entry source t
-        → Gives (next_view F.Filter.shape T.Node.shape B.Node.shape B.Plan.shape B.block) result
+        → Gives (λ n. next_view F.Filter.shape T.Node.shape B.Node.shape B.Plan.shape B.block n state.new) result
         (outer_read (language_of F.makes T.gives B.block language.now) source outside t
-        (blocks_view F.Filter.shape T.Node.shape B.Node.shape B.Plan.shape B.block around.entry.items)
-        (shapes_of F.Filter.shape T.Node.shape B.Node.shape nodes.items)) }
+        (blocks_view F.Filter.shape T.Node.shape B.Node.shape B.Plan.shape B.block state.old.open.items)
+        (shapes_of F.Filter.shape T.Node.shape B.Node.shape state.old.nodes.items)) }
 {
     match language.tags.get(tag.name) {
         Some(plug_in) => match tag_node::<F, T, B>(alloc, plug_in, tag, &language.filters) {
             Ok(node) => {
-                let mut nodes = nodes;
-                nodes.push(node)?;
-                Ok(Next::Among(ParserState {
-                    open: around,
-                    nodes,
-                }))
+                state.nodes.push(node)?;
+                Ok(Next::Among)
             }
             Err(error) => Err(error),
         },
         None => match language.blocks.get(tag.name) {
-            Some(kind) => begun(alloc, outside, kind, around, nodes, tag, language),
+            Some(kind) => begun(alloc, outside, kind, state, tag, language),
             None => Err(unknown_tag(alloc, tag, language)),
         },
     }
 }
 
-/// A block begins, unless too many are open.
+/// A block begins behind the nodes so far, unless too many are open.
 fn begun<'a, F: ParseFilter + Drop, T: ParseTag<F> + Drop, B: ParseBlock<F> + Drop>(
     alloc: Global,
     outside: usize,
     kind: &'a B,
-    around: Vec<OpenBlock<'a, B, B::Plan, Node<F::Filter, T::Node, B::Node>>>,
-    nodes: Vec<Node<F::Filter, T::Node, B::Node>>,
+    state: &mut ParserState<'a, B, B::Plan, Node<F::Filter, T::Node, B::Node>>,
     tag: Tag<'a>,
     language: &'a Language<F, T, B>,
 ) -> Result<Next<'a, B, B::Plan, Node<F::Filter, T::Node, B::Node>>, Error>
     ensures { (source : List ℕ) (t : token.Tag) → IsTag tag.entry source t
-        → Gives (next_view F.Filter.shape T.Node.shape B.Node.shape B.Plan.shape B.block) result
+        → Gives (λ n. next_view F.Filter.shape T.Node.shape B.Node.shape B.Plan.shape B.block n state.new) result
         (block_begun (language_of F.makes T.gives B.block language.now) source outside t (B.block kind.now)
-        (blocks_view F.Filter.shape T.Node.shape B.Node.shape B.Plan.shape B.block around.entry.items)
-        (shapes_of F.Filter.shape T.Node.shape B.Node.shape nodes.items)) }
+        (blocks_view F.Filter.shape T.Node.shape B.Node.shape B.Plan.shape B.block state.old.open.items)
+        (shapes_of F.Filter.shape T.Node.shape B.Node.shape state.old.nodes.items)) }
 {
-    if around.len() >= BLOCK_LIMIT.saturating_sub(outside) {
+    if state.open.len() >= BLOCK_LIMIT.saturating_sub(outside) {
         return Err(refused_at(alloc, tag.tokens.source, "Nested too deep", tag.from));
     }
+    let nodes = mem::replace(&mut state.nodes, Vec::new(alloc));
     match opened::<F, T, B>(alloc, kind, nodes, tag, &language.filters) {
         Ok(block) => {
             if kind.escapes() {
-                return Ok(Next::Escaped(block, around));
+                return Ok(Next::Escaped(block));
             }
-            let mut open = around;
-            open.push(block)?;
-            Ok(Next::Among(ParserState {
-                open,
-                nodes: Vec::new(alloc),
-            }))
+            state.open.push(block)?;
+            Ok(Next::Among)
         }
         Err(error) => Err(error),
     }

@@ -1,5 +1,5 @@
 //! What follows a tag is read up to where no block is open.
-ghost use Rattle.std.specs.Prelude.{◌≡◌, ◌<◌, ◌++◌, ℕ, List, Result, Ok, None, IfOk};
+ghost use Rattle.std.specs.Prelude.{◌≡◌, ◌++◌, ℕ, List, IfOk};
 ghost use Rattle.liquid_grammar.specs.meaning.Cover.{Cover};
 ghost use Rattle.liquid_plugins.specs.meaning.NodesOf.{shapes_of};
 ghost use Rattle.liquid_parser.specs.meaning.ElementReading.{read_closed};
@@ -34,20 +34,22 @@ pub(crate) fn behind_tag<
     alloc: Global,
     source: &'t str,
     text: &'t str,
+    state: ParserState<'a, B, B::Plan, Node<F::Filter, T::Node, B::Node>>,
     next: Next<'a, B, B::Plan, Node<F::Filter, T::Node, B::Node>>,
     language: &'a Language<F, T, B>,
 ) -> Result<(Vec<Node<F::Filter, T::Node, B::Node>>, &'t str), Error>
     ensures value { (es : List cover.Element) → Cover text.now es
         → LeadsTo (λ v. shapes_of F.Filter.shape T.Node.shape B.Node.shape v.items) result
         (read_closed (language_of F.makes T.gives B.block language.now) source.now 1
-        (next_view F.Filter.shape T.Node.shape B.Node.shape B.Plan.shape B.block next.entry) es) }
+        (next_view F.Filter.shape T.Node.shape B.Node.shape B.Plan.shape B.block next.entry state.entry) es) }
     ensures within { IfOk result (λ p. (front : List ℕ) × (text.now ≡ front ++ p.1.now)) }
 {
     match next {
-        Next::Among(state) => closed(alloc, source, text, state, language),
-        Next::Escaped(block, around) => {
-            match escaped_read::<F, T, B>(alloc, source, text, block, around) {
-                Ok((state, after)) => closed(alloc, source, after, state, language),
+        Next::Among => closed(alloc, source, text, state, language),
+        Next::Escaped(block) => {
+            let mut state = state;
+            match escaped_read::<F, T, B>(alloc, source, text, block, &mut state) {
+                Ok(after) => closed(alloc, source, after, state, language),
                 Err(error) => Err(error),
             }
         }
@@ -77,11 +79,8 @@ fn closed<'a, 't: 'a, F: ParseFilter + Drop, T: ParseTag<F> + Drop, B: ParseBloc
                     Ok(element) => element,
                     Err(error) => return Err(error),
                 };
-                match advance(alloc, AROUND, source, state, element, behind, language) {
-                    Ok((next, after)) => {
-                        state = next;
-                        rest = after;
-                    }
+                match advance(alloc, AROUND, source, &mut state, element, behind, language) {
+                    Ok(after) => rest = after,
                     Err(error) => return Err(error),
                 }
             }

@@ -1,11 +1,11 @@
 //! Escaped bodies: the text up to the end of a block, in which nothing is read.
-ghost use Rattle.std.specs.Prelude.{◌≡◌, ◌<◌, ◌≤◌, ◌+◌, ◌^◌, ℕ, List, [], Some, IfOk, IfSome, string_bytes, codes, ◌++◌};
+ghost use Rattle.std.specs.Prelude.{◌≡◌, ◌<◌, ◌≤◌, ◌+◌, ◌^◌, ℕ, List, [], IfOk, IfSome, string_bytes, codes, ◌++◌};
 ghost use Rattle.liquid_error.specs.meaning.Told.{told};
 ghost use Rattle.liquid_grammar.specs.meaning.Cover.{Cover, IsElement};
 ghost use Rattle.liquid_grammar.specs.meaning.Elements.{Means};
 ghost use Rattle.liquid_parser.specs.steps.Escaped.{EscapesTo};
 ghost use Rattle.liquid_parser.specs.meaning.Reading.{inside, unclosed_by};
-ghost use Rattle.liquid_parser.specs.steps.Views.{open_view, blocks_view, state_view, past_escaped, LeadsTo};
+ghost use Rattle.liquid_parser.specs.steps.Views.{open_view, blocks_view, state_view, past_escaped, LeavesAt};
 ghost use Rattle.liquid_grammar.specs.meaning.Cover as cover;
 ghost use Rattle.liquid_parser.specs.meaning.Reading as spec;
 
@@ -19,32 +19,27 @@ use liquid_grammar::{Element, next_element, next_token, parts_are_matches};
 use liquid_plugins::{Node, ParseFilter};
 use std::alloc::{AllocError, Global};
 
-/// The escaped body of a block that has just begun is read to its end: how far the text is read then, and what follows.
+/// The escaped body of a block that has just begun is read to its end: what follows. The blocks around it are the state's,
+/// and its node is the last of the list that it stands in.
 pub(crate) fn escaped_read<'a, 't, F: ParseFilter, T: ParseTag<F>, B: ParseBlock<F>>(
     alloc: Global,
     source: &str,
     body: &'t str,
     block: OpenBlock<'a, B, B::Plan, Node<F::Filter, T::Node, B::Node>>,
-    around: Vec<OpenBlock<'a, B, B::Plan, Node<F::Filter, T::Node, B::Node>>>,
-) -> Result<
-    (
-        ParserState<'a, B, B::Plan, Node<F::Filter, T::Node, B::Node>>,
-        &'t str,
-    ),
-    Error,
->
+    state: &mut ParserState<'a, B, B::Plan, Node<F::Filter, T::Node, B::Node>>,
+) -> Result<&'t str, Error>
     ensures value { (es : List cover.Element) → Cover body.now es
-        → LeadsTo (state_view F.Filter.shape T.Node.shape B.Node.shape B.Plan.shape B.block) result
+        → LeavesAt (state_view F.Filter.shape T.Node.shape B.Node.shape B.Plan.shape B.block state.new) result
         (past_escaped source.now (inside (open_view F.Filter.shape T.Node.shape B.Node.shape B.Plan.shape B.block block.entry)
-        (blocks_view F.Filter.shape T.Node.shape B.Node.shape B.Plan.shape B.block around.entry.items) 0 []) es) }
-    ensures within { IfOk result (λ p. (front : List ℕ) × (body.now ≡ front ++ p.1.now)) }
+        (blocks_view F.Filter.shape T.Node.shape B.Node.shape B.Plan.shape B.block state.old.open.items) 0 []) es) }
+    ensures within { IfOk result (λ rest. (front : List ℕ) × (body.now ≡ front ++ rest.now)) }
 {
     let kind = block.kind;
     match escape(body, kind.end_tag(), kind.start_tag(), kind.nests()) {
         Some((text, after)) => match sliced::<F, T, B>(alloc, block, text) {
             Ok(nodes) => {
-                let open = around;
-                Ok((ParserState { open, nodes }, after))
+                state.nodes = nodes;
+                Ok(after)
             }
             Err(error) => Err(error),
         },

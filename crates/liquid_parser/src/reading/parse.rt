@@ -18,7 +18,7 @@ use crate::reading::advance::advance;
 use crate::reading::escape::unclosed;
 use crate::reading::stack::ParserState;
 use liquid_error::Error;
-use liquid_grammar::next_element;
+use liquid_grammar::{match_white, next_element};
 use liquid_plugins::{Node, ParseFilter};
 use std::alloc::Global;
 
@@ -68,18 +68,15 @@ fn nodes_of<'a, F: ParseFilter + Drop, T: ParseTag<F> + Drop, B: ParseBlock<F> +
                 state.nodes.push(node)?;
                 rest = behind;
             }
-            Walked::NoExpression => return Err(no_expression(alloc, text, rest)),
+            Walked::NoExpression => return Err(no_expression(alloc, text, match_white(rest).1)),
             Walked::Undecided => match next_element(rest) {
                 Some((found, behind)) => {
                     let element = match handed_over(alloc, text, rest, found) {
                         Ok(element) => element,
                         Err(error) => return Err(error),
                     };
-                    match advance(alloc, 0, text, state, element, behind, language) {
-                        Ok((next, after)) => {
-                            state = next;
-                            rest = after;
-                        }
+                    match advance(alloc, 0, text, &mut state, element, behind, language) {
+                        Ok(after) => rest = after,
                         Err(error) => return Err(error),
                     }
                 }

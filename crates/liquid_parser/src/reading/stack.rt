@@ -22,9 +22,10 @@ pub(crate) struct ParserState<'a, K, P, N> {
     pub(crate) nodes: Vec<N>,
 }
 
-/// What comes next: an element among the nodes, or the escaped body of a block that has just begun inside of others.
+/// What an element leads to: its nodes stand in the state, or the escaped body comes next of a block that has just begun.
+/// The blocks around that one are the state's.
 #[derive(Drop)]
 pub(crate) enum Next<'a, K, P, N> {
-    Among(ParserState<'a, K, P, N>),
-    Escaped(OpenBlock<'a, K, P, N>, Vec<OpenBlock<'a, K, P, N>>),
+    Among,
+    Escaped(OpenBlock<'a, K, P, N>),
 }

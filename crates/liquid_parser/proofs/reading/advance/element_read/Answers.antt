@@ -9,23 +9,23 @@ use Rattle.liquid_parser.proofs.ElementLemmas.{raw_step, tag_step, expression_st
 use Rattle.liquid_parser.proofs.StepLemmas.{is_text, last_node}
 use Rattle.liquid_parser.proofs.reading.advance.element_read.Goals as goal
 
-pub returns-in-Raw : goal.returns-in-Raw
-returns-in-Raw g c source behind e m =
+pub returns-in_ok-push-in-Raw : goal.returns-in_ok-push-in-Raw
+returns-in_ok-push-in-Raw g c source behind e m =
     let shape = is_text g.F.Filter.Meant.shape g.T.Node.Meant.shape g.B.Node.Meant.shape _ _ c.in_ok-into_renderable-in-Raw.ensures in
-    raw_step (language_of g.F.ParseFilter.makes g.T.ParseTag.gives g.B.ParseBlock.block c.args.language.now) source c.args.outside (blocks_view g.F.Filter.Meant.shape g.T.Node.Meant.shape g.B.Node.Meant.shape g.B.Plan.Meant.shape g.B.ParseBlock.block c.args.state.open.items) (shapes_of g.F.Filter.Meant.shape g.T.Node.Meant.shape g.B.Node.Meant.shape c.args.state.nodes.items) c.in-Raw.raw behind e (rw c.in-Raw.is at m)
-    ∙ ap (λ ns. Ok (among (blocks_view g.F.Filter.Meant.shape g.T.Node.Meant.shape g.B.Node.Meant.shape g.B.Plan.Meant.shape g.B.ParseBlock.block c.args.state.open.items) ns)) (sym (last_node (node_of g.F.Filter.Meant.shape g.T.Node.Meant.shape g.B.Node.Meant.shape) c.args.state.nodes.items _ (text_node c.in-Raw.raw.text.now) c.in_ok-push-in-Raw.ensures.items shape))
+    raw_step (language_of g.F.ParseFilter.makes g.T.ParseTag.gives g.B.ParseBlock.block c.args.language.now) source c.args.outside (blocks_view g.F.Filter.Meant.shape g.T.Node.Meant.shape g.B.Node.Meant.shape g.B.Plan.Meant.shape g.B.ParseBlock.block c.args.state.now.open.items) (shapes_of g.F.Filter.Meant.shape g.T.Node.Meant.shape g.B.Node.Meant.shape c.args.state.now.nodes.items) c.in-Raw.raw behind e (rw c.in-Raw.is at m)
+    ∙ ap (λ ns. Ok (among (blocks_view g.F.Filter.Meant.shape g.T.Node.Meant.shape g.B.Node.Meant.shape g.B.Plan.Meant.shape g.B.ParseBlock.block c.args.state.now.open.items) ns)) (sym (last_node (node_of g.F.Filter.Meant.shape g.T.Node.Meant.shape g.B.Node.Meant.shape) c.args.state.now.nodes.items _ (text_node c.in-Raw.raw.text.now) c.in_ok-push-in-Raw.ensures.items shape))
 
 pub returns-in-Expression : goal.returns-in-Expression
 returns-in-Expression g c source behind e m =
-    let s = expression_step (language_of g.F.ParseFilter.makes g.T.ParseTag.gives g.B.ParseBlock.block c.args.language.now) source c.args.outside (blocks_view g.F.Filter.Meant.shape g.T.Node.Meant.shape g.B.Node.Meant.shape g.B.Plan.Meant.shape g.B.ParseBlock.block c.args.state.open.items) (shapes_of g.F.Filter.Meant.shape g.T.Node.Meant.shape g.B.Node.Meant.shape c.args.state.nodes.items) c.in-Expression.exp behind e (rw c.in-Expression.is at m) in
+    let s = expression_step (language_of g.F.ParseFilter.makes g.T.ParseTag.gives g.B.ParseBlock.block c.args.language.now) source c.args.outside (blocks_view g.F.Filter.Meant.shape g.T.Node.Meant.shape g.B.Node.Meant.shape g.B.Plan.Meant.shape g.B.ParseBlock.block c.args.state.now.open.items) (shapes_of g.F.Filter.Meant.shape g.T.Node.Meant.shape g.B.Node.Meant.shape c.args.state.now.nodes.items) c.in-Expression.exp behind e (rw c.in-Expression.is at m) in
     with_outer _ _ _ c.expression_read.result s.2 (c.expression_read.ensures source s.0 s.1)
 
 pub returns-in-Tag : goal.returns-in-Tag
 returns-in-Tag g c source behind e m =
-    let s = tag_step (language_of g.F.ParseFilter.makes g.T.ParseTag.gives g.B.ParseBlock.block c.args.language.now) source c.args.outside (blocks_view g.F.Filter.Meant.shape g.T.Node.Meant.shape g.B.Node.Meant.shape g.B.Plan.Meant.shape g.B.ParseBlock.block c.args.state.open.items) (shapes_of g.F.Filter.Meant.shape g.T.Node.Meant.shape g.B.Node.Meant.shape c.args.state.nodes.items) c.in-Tag.tag behind e (rw c.in-Tag.is at m) in
+    let s = tag_step (language_of g.F.ParseFilter.makes g.T.ParseTag.gives g.B.ParseBlock.block c.args.language.now) source c.args.outside (blocks_view g.F.Filter.Meant.shape g.T.Node.Meant.shape g.B.Node.Meant.shape g.B.Plan.Meant.shape g.B.ParseBlock.block c.args.state.now.open.items) (shapes_of g.F.Filter.Meant.shape g.T.Node.Meant.shape g.B.Node.Meant.shape c.args.state.now.nodes.items) c.in-Tag.tag behind e (rw c.in-Tag.is at m) in
     with_outer _ _ _ c.tag_read.result s.2 (c.tag_read.ensures source s.0 s.1)
 
-pub returns : goal.returns
-returns g c source behind e m =
-    let s = invalid_step (language_of g.F.ParseFilter.makes g.T.ParseTag.gives g.B.ParseBlock.block c.args.language.now) source c.args.outside (blocks_view g.F.Filter.Meant.shape g.T.Node.Meant.shape g.B.Node.Meant.shape g.B.Plan.Meant.shape g.B.ParseBlock.block c.args.state.open.items) (shapes_of g.F.Filter.Meant.shape g.T.Node.Meant.shape g.B.Node.Meant.shape c.args.state.nodes.items) c.in-Invalid.token behind e (rw c.in-Invalid.is at m) in
+pub returns-in-Invalid : goal.returns-in-Invalid
+returns-in-Invalid g c source behind e m =
+    let s = invalid_step (language_of g.F.ParseFilter.makes g.T.ParseTag.gives g.B.ParseBlock.block c.args.language.now) source c.args.outside (blocks_view g.F.Filter.Meant.shape g.T.Node.Meant.shape g.B.Node.Meant.shape g.B.Plan.Meant.shape g.B.ParseBlock.block c.args.state.now.open.items) (shapes_of g.F.Filter.Meant.shape g.T.Node.Meant.shape g.B.Node.Meant.shape c.args.state.now.nodes.items) c.in-Invalid.token behind e (rw c.in-Invalid.is at m) in
     err_now _ _ _ s.1 (c.refusal.ensures source behind s.0)

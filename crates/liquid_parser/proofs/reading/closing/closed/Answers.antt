@@ -23,7 +23,7 @@ elements-preserved g c =
     let over = c.in-Ok.ensures c.in-Some.behind.now found.0 found.1 found.2 in (
       search rules,
       further c.args.text.now c.elements.rest.now c.in-Some.behind.now c.in-Ok-advance.after.now _ c.elements.invariant.1 found.1.joined c.in-Ok-advance.ensures.within,
-      Closing-on (language_of g.F.ParseFilter.makes g.T.ParseTag.gives g.B.ParseBlock.block c.args.language.now) c.args.source.now 1 (state_view g.F.Filter.Meant.shape g.T.Node.Meant.shape g.B.Node.Meant.shape g.B.Plan.Meant.shape g.B.ParseBlock.block) c.args.text.now c.elements.rest.now c.in-Some.behind.now (state_view g.F.Filter.Meant.shape g.T.Node.Meant.shape g.B.Node.Meant.shape g.B.Plan.Meant.shape g.B.ParseBlock.block c.args.state) found.0 (blocks_view g.F.Filter.Meant.shape g.T.Node.Meant.shape g.B.Node.Meant.shape g.B.Plan.Meant.shape g.B.ParseBlock.block c.elements.state.open.items) (shapes_of g.F.Filter.Meant.shape g.T.Node.Meant.shape g.B.Node.Meant.shape c.elements.state.nodes.items) (c.in-Ok-advance.next, c.in-Ok-advance.after) c.elements.invariant.2 some found.1 (λ es cover. c.in-Ok-advance.ensures.value c.args.source.now c.in-Some.behind.now found.0 es over.1 cover),
+      Closing-on (language_of g.F.ParseFilter.makes g.T.ParseTag.gives g.B.ParseBlock.block c.args.language.now) c.args.source.now 1 c.args.text.now c.elements.rest.now c.in-Some.behind.now (state_view g.F.Filter.Meant.shape g.T.Node.Meant.shape g.B.Node.Meant.shape g.B.Plan.Meant.shape g.B.ParseBlock.block c.args.state) found.0 (blocks_view g.F.Filter.Meant.shape g.T.Node.Meant.shape g.B.Node.Meant.shape g.B.Plan.Meant.shape g.B.ParseBlock.block c.elements.state.open.items) (shapes_of g.F.Filter.Meant.shape g.T.Node.Meant.shape g.B.Node.Meant.shape c.elements.state.nodes.items) (state_view g.F.Filter.Meant.shape g.T.Node.Meant.shape g.B.Node.Meant.shape g.B.Plan.Meant.shape g.B.ParseBlock.block c.advance.new.state) c.in-Ok-advance.after.now c.elements.invariant.2 some found.1 (λ es cover. c.in-Ok-advance.ensures.value c.args.source.now c.in-Some.behind.now found.0 es over.1 cover),
     )
 
 pub elements-smaller : goal.elements-smaller

@@ -5,6 +5,7 @@ use Rattle.liquid_plugins.specs.meaning.NodesOf.{node_of, shapes_of}
 use Rattle.liquid_parser.specs.meaning.Plugins.{language_of}
 use Rattle.liquid_parser.specs.meaning.Reading.{among}
 use Rattle.liquid_parser.specs.steps.Views.{blocks_view, state_view}
+use Rattle.liquid_parser.proofs.ElementLemmas.{lone_brace_at}
 use Rattle.liquid_parser.proofs.FineLemmas.{node_advanced, invalid_advanced}
 use Rattle.liquid_parser.proofs.StepLemmas.{last_node}
 use Rattle.liquid_parser.proofs.ReadingSteps.{Goes, Goes-begin, Goes-on, refused, unchecked, ends}
@@ -19,7 +20,7 @@ elements-preserved-in-Whole g c =
     let nodes = shapes_of g.F.Filter.Meant.shape g.T.Node.Meant.shape g.B.Node.Meant.shape c.elements.state.nodes.items in
     let made = rw c.in-Whole.is at c.in_ok-node.ensures.value c.args.text.now in (
       search rules,
-      Goes-on (language_of g.F.ParseFilter.makes g.T.ParseTag.gives g.B.ParseBlock.block c.args.language.now) c.args.text.now (state_view g.F.Filter.Meant.shape g.T.Node.Meant.shape g.B.Node.Meant.shape g.B.Plan.Meant.shape g.B.ParseBlock.block) _ _ (expression made.chain made.text) blocks nodes (record c.elements.state { nodes = c.push.new.self }, c.in-Whole.behind) c.elements.invariant.1 made.stands
+      Goes-on (language_of g.F.ParseFilter.makes g.T.ParseTag.gives g.B.ParseBlock.block c.args.language.now) c.args.text.now _ _ (expression made.chain made.text) blocks nodes (state_view g.F.Filter.Meant.shape g.T.Node.Meant.shape g.B.Node.Meant.shape g.B.Plan.Meant.shape g.B.ParseBlock.block (record c.elements.state { nodes = c.push.new.self })) c.in-Whole.behind.now c.elements.invariant.1 made.stands
           (λ es cover. (
             es,
             cover,
@@ -34,7 +35,7 @@ elements-preserved g c =
     let found = c.in-Some.ensures.found in
     let over = c.in-Ok.ensures c.in-Some.behind.now found.0 found.1 found.2 in (
       search rules,
-      Goes-on (language_of g.F.ParseFilter.makes g.T.ParseTag.gives g.B.ParseBlock.block c.args.language.now) c.args.text.now (state_view g.F.Filter.Meant.shape g.T.Node.Meant.shape g.B.Node.Meant.shape g.B.Plan.Meant.shape g.B.ParseBlock.block) _ _ found.0 (blocks_view g.F.Filter.Meant.shape g.T.Node.Meant.shape g.B.Node.Meant.shape g.B.Plan.Meant.shape g.B.ParseBlock.block c.elements.state.open.items) (shapes_of g.F.Filter.Meant.shape g.T.Node.Meant.shape g.B.Node.Meant.shape c.elements.state.nodes.items) (c.in-Ok-advance.next, c.in-Ok-advance.after) goes found.1 (λ es cover. c.in-Ok-advance.ensures.value c.args.text.now c.in-Some.behind.now found.0 es over.1 cover),
+      Goes-on (language_of g.F.ParseFilter.makes g.T.ParseTag.gives g.B.ParseBlock.block c.args.language.now) c.args.text.now _ _ found.0 (blocks_view g.F.Filter.Meant.shape g.T.Node.Meant.shape g.B.Node.Meant.shape g.B.Plan.Meant.shape g.B.ParseBlock.block c.elements.state.open.items) (shapes_of g.F.Filter.Meant.shape g.T.Node.Meant.shape g.B.Node.Meant.shape c.elements.state.nodes.items) (state_view g.F.Filter.Meant.shape g.T.Node.Meant.shape g.B.Node.Meant.shape g.B.Plan.Meant.shape g.B.ParseBlock.block c.advance.new.state) c.in-Ok-advance.after.now goes found.1 (λ es cover. c.in-Ok-advance.ensures.value c.args.text.now c.in-Some.behind.now found.0 es over.1 cover),
     )
 
 pub elements-smaller : goal.elements-smaller
@@ -65,4 +66,4 @@ returns-in-NoExpression g c =
     let nodes = shapes_of g.F.Filter.Meant.shape g.T.Node.Meant.shape g.B.Node.Meant.shape c.elements.state.nodes.items in
     let found = rw c.in-NoExpression.is at c.in_ok-node.ensures.value c.args.text.now in
     refused (language_of g.F.ParseFilter.makes g.T.ParseTag.gives g.B.ParseBlock.block c.args.language.now) c.args.text.now _ found.0 (invalid found.1) blocks nodes _ c.elements.invariant.1 found.2
-    (λ es cover. invalid_advanced (language_of g.F.ParseFilter.makes g.T.ParseTag.gives g.B.ParseBlock.block c.args.language.now) c.args.text.now 0 blocks nodes found.0 found.1 es _ (c.no_expression.ensures found.0 found.1 found.2))
+    (λ es cover. invalid_advanced (language_of g.F.ParseFilter.makes g.T.ParseTag.gives g.B.ParseBlock.block c.args.language.now) c.args.text.now 0 blocks nodes found.0 found.1 es _ (c.no_expression.ensures found.0 (lone_brace_at c.elements.rest.now found.0 found.1 c.match_white.result.1.now _ found.2 c.match_white.ensures.value)))

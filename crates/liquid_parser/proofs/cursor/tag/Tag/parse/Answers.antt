@@ -14,7 +14,7 @@ use Rattle.liquid_parser.proofs.cursor.tag.Tag.parse.Goals as goal
 
 pub returns-in-Some-clause-value : goal.returns-in-Some-clause-value
 returns-in-Some-clause-value g c own t es is cover =
-    let first : tag_read (language_of g.F.ParseFilter.makes g.T.ParseTag.gives g.B.ParseBlock.block c.args.language.now) own 1 [] [] t ≡ Ok (next_view g.F.Filter.Meant.shape g.T.Node.Meant.shape g.B.Node.Meant.shape g.B.Plan.Meant.shape g.B.ParseBlock.block c.in-Ok.next) =
+    let first : tag_read (language_of g.F.ParseFilter.makes g.T.ParseTag.gives g.B.ParseBlock.block c.args.language.now) own 1 [] [] t ≡ Ok (next_view g.F.Filter.Meant.shape g.T.Node.Meant.shape g.B.Node.Meant.shape g.B.Plan.Meant.shape g.B.ParseBlock.block c.in-Ok.next c.tag_read.new.state) =
     sym (ap (λ os. tag_read (language_of g.F.ParseFilter.makes g.T.ParseTag.gives g.B.ParseBlock.block c.args.language.now) own 1 (blocks_view g.F.Filter.Meant.shape g.T.Node.Meant.shape g.B.Node.Meant.shape g.B.Plan.Meant.shape g.B.ParseBlock.block os) (shapes_of g.F.Filter.Meant.shape g.T.Node.Meant.shape g.B.Node.Meant.shape c.new-2.result.items) t) c.new.ensures.items ∙ ap (λ ns. tag_read (language_of g.F.ParseFilter.makes g.T.ParseTag.gives g.B.ParseBlock.block c.args.language.now) own 1 [] (shapes_of g.F.Filter.Meant.shape g.T.Node.Meant.shape g.B.Node.Meant.shape ns) t) c.new-2.ensures.items) ∙ c.in-Ok.ensures own t is in
     let e = c.in-Ok-behind_tag.ensures.value es cover in
     let whole = ap (λ r. ok_then r (λ n. read_closed (language_of g.F.ParseFilter.makes g.T.ParseTag.gives g.B.ParseBlock.block c.args.language.now) c.args.block.now.source.now 1 n es)) first ∙ e.2 in
@@ -24,7 +24,7 @@ returns-in-Some-clause-value g c own t es is cover =
 
 pub returns-in-Ok-behind_tag-clause-value : goal.returns-in-Ok-behind_tag-clause-value
 returns-in-Ok-behind_tag-clause-value g c own t es is cover =
-    let first : tag_read (language_of g.F.ParseFilter.makes g.T.ParseTag.gives g.B.ParseBlock.block c.args.language.now) own 1 [] [] t ≡ Ok (next_view g.F.Filter.Meant.shape g.T.Node.Meant.shape g.B.Node.Meant.shape g.B.Plan.Meant.shape g.B.ParseBlock.block c.in-Ok.next) =
+    let first : tag_read (language_of g.F.ParseFilter.makes g.T.ParseTag.gives g.B.ParseBlock.block c.args.language.now) own 1 [] [] t ≡ Ok (next_view g.F.Filter.Meant.shape g.T.Node.Meant.shape g.B.Node.Meant.shape g.B.Plan.Meant.shape g.B.ParseBlock.block c.in-Ok.next c.tag_read.new.state) =
     sym (ap (λ os. tag_read (language_of g.F.ParseFilter.makes g.T.ParseTag.gives g.B.ParseBlock.block c.args.language.now) own 1 (blocks_view g.F.Filter.Meant.shape g.T.Node.Meant.shape g.B.Node.Meant.shape g.B.Plan.Meant.shape g.B.ParseBlock.block os) (shapes_of g.F.Filter.Meant.shape g.T.Node.Meant.shape g.B.Node.Meant.shape c.new-2.result.items) t) c.new.ensures.items ∙ ap (λ ns. tag_read (language_of g.F.ParseFilter.makes g.T.ParseTag.gives g.B.ParseBlock.block c.args.language.now) own 1 [] (shapes_of g.F.Filter.Meant.shape g.T.Node.Meant.shape g.B.Node.Meant.shape ns) t) c.new-2.ensures.items) ∙ c.in-Ok.ensures own t is in
     let e = c.in-Ok-behind_tag.ensures.value es cover in
     let whole = ap (λ r. ok_then r (λ n. read_closed (language_of g.F.ParseFilter.makes g.T.ParseTag.gives g.B.ParseBlock.block c.args.language.now) c.args.block.now.source.now 1 n es)) first ∙ e.2 in
@@ -35,7 +35,7 @@ returns-in-Ok-behind_tag-clause-value g c own t es is cover =
 
 pub returns-clause-value : goal.returns-clause-value
 returns-clause-value g c own t es is cover =
-    let first : tag_read (language_of g.F.ParseFilter.makes g.T.ParseTag.gives g.B.ParseBlock.block c.args.language.now) own 1 [] [] t ≡ Ok (next_view g.F.Filter.Meant.shape g.T.Node.Meant.shape g.B.Node.Meant.shape g.B.Plan.Meant.shape g.B.ParseBlock.block c.in-Ok.next) =
+    let first : tag_read (language_of g.F.ParseFilter.makes g.T.ParseTag.gives g.B.ParseBlock.block c.args.language.now) own 1 [] [] t ≡ Ok (next_view g.F.Filter.Meant.shape g.T.Node.Meant.shape g.B.Node.Meant.shape g.B.Plan.Meant.shape g.B.ParseBlock.block c.in-Ok.next c.tag_read.new.state) =
     sym (ap (λ os. tag_read (language_of g.F.ParseFilter.makes g.T.ParseTag.gives g.B.ParseBlock.block c.args.language.now) own 1 (blocks_view g.F.Filter.Meant.shape g.T.Node.Meant.shape g.B.Node.Meant.shape g.B.Plan.Meant.shape g.B.ParseBlock.block os) (shapes_of g.F.Filter.Meant.shape g.T.Node.Meant.shape g.B.Node.Meant.shape c.new-2.result.items) t) c.new.ensures.items ∙ ap (λ ns. tag_read (language_of g.F.ParseFilter.makes g.T.ParseTag.gives g.B.ParseBlock.block c.args.language.now) own 1 [] (shapes_of g.F.Filter.Meant.shape g.T.Node.Meant.shape g.B.Node.Meant.shape ns) t) c.new-2.ensures.items) ∙ c.in-Ok.ensures own t is in
     same_fault _ _ _ (ap (λ r. ok_then r (λ n. read_closed (language_of g.F.ParseFilter.makes g.T.ParseTag.gives g.B.ParseBlock.block c.args.language.now) c.args.block.now.source.now 1 n es)) first) (c.in-Err-behind_tag.ensures.value es cover)
 
