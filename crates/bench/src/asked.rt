@@ -48,7 +48,8 @@ pub(crate) fn name_and_value(
     alloc: Global,
     tokens: TagTokenIter<'_>,
 ) -> Result<(String, Box<Expression>), Error>
-    ensures { (ts : Tokens) → AreTokens tokens.entry ts → Gives (λ given. (string_bytes given.0, expression_of given.1.value)) result (name_and_value ts) }
+    ensures { (ts : Tokens) → AreTokens tokens.entry ts
+        → Gives (λ given. (string_bytes given.0, expression_of given.1.value)) result (name_and_value ts) }
 {
     let mut tokens = tokens;
     match tokens.next_identifier(alloc, TOKEN_EXPECTED) {

@@ -1,5 +1,5 @@
 //! Filters for tests: `append`, and `fail`, which refuses.
-ghost use Rattle.std.specs.Prelude.{◌≡◌, ◌++◌, IfOk, IfSome};
+ghost use Rattle.std.specs.Prelude.{◌≡◌, ◌++◌, IfOk, IfSome, string_bytes};
 ghost use Rattle.liquid_error.specs.meaning.Told.{told};
 ghost use Rattle.liquid_scalar.specs.meaning.Scalar.{text};
 ghost use Rattle.liquid_value.specs.meaning.Render.{render};
@@ -122,25 +122,38 @@ impl Filter for Append {
     }
 }
 
-/// The texts of two values, joined.
+/// The texts of two values, joined. Those of texts and numbers are known before, and need no writer.
 fn joined(alloc: Global, front: &Value, back: &Value) -> Result<Value, AllocError>
     ensures { IfOk result (λ v. tree_of v ≡ scalar (text (render (tree_of front.now) ++ render (tree_of back.now)))) }
 {
-    match (front, back) {
-        // The texts of texts are known before, and need no writer.
+    let mut digits = itoa::Buffer::new();
+    let text = match (front, back) {
         (Value::Scalar(ScalarOf::Str(front)), Value::Scalar(ScalarOf::Str(back))) => {
-            let mut text = String::with_capacity(alloc, front.len().saturating_add(back.len()))?;
-            text.push_str(front)?;
-            text.push_str(back)?;
-            Ok(Value::Scalar(ScalarOf::Str(text)))
+            joined_texts(alloc, front, back)?
+        }
+        (Value::Scalar(ScalarOf::Str(front)), Value::Scalar(ScalarOf::Integer(back))) => {
+            joined_texts(alloc, front, digits.format(*back))?
+        }
+        (Value::Scalar(ScalarOf::Integer(front)), Value::Scalar(ScalarOf::Str(back))) => {
+            joined_texts(alloc, digits.format(*front), back)?
         }
         _ => {
             let front = ValueRender::new(front);
             let back = ValueRender::new(back);
-            let text = format!(in alloc; "{front}{back}")?;
-            Ok(Value::Scalar(ScalarOf::Str(text)))
+            format!(in alloc; "{front}{back}")?
         }
-    }
+    };
+    Ok(Value::Scalar(ScalarOf::Str(text)))
+}
+
+/// A text, and another one behind it.
+fn joined_texts(alloc: Global, front: &str, back: &str) -> Result<String, AllocError>
+    ensures { IfOk result (λ text. string_bytes text ≡ front.now ++ back.now) }
+{
+    let mut text = String::with_capacity(alloc, front.len().saturating_add(back.len()))?;
+    text.push_str(front)?;
+    text.push_str(back)?;
+    Ok(text)
 }
 
 /// Either filter, so that one language has both.

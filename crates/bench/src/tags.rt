@@ -146,8 +146,10 @@ fn assign<R: Runtime>(
     expression: &Expression,
     runtime: &mut R,
 ) -> Result<Option<Value>, Error>
-    ensures answer { Gives (option_map tree_of) result (assigned (string_bytes name.now) (evaluate (R.view runtime.old) (expression_of expression.now)) (R.view runtime.old)).answer }
-    ensures after { Leaves result (assigned (string_bytes name.now) (evaluate (R.view runtime.old) (expression_of expression.now)) (R.view runtime.old)).written (R.view runtime.old) (R.view runtime.new) }
+    ensures answer { Gives (option_map tree_of) result (assigned (string_bytes name.now)
+        (evaluate (R.view runtime.old) (expression_of expression.now)) (R.view runtime.old)).answer }
+    ensures after { Leaves result (assigned (string_bytes name.now) (evaluate (R.view runtime.old) (expression_of expression.now))
+        (R.view runtime.old)).written (R.view runtime.old) (R.view runtime.new) }
     ensures frames { SameFrames (R.view runtime.old) (R.view runtime.new) }
     ensures store { R.store runtime.new ≡ R.store runtime.old }
     ensures owes { R.restores runtime.new ≡ R.restores runtime.old }

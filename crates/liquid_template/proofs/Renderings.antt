@@ -1,6 +1,6 @@
 -- What the renderer's returns come to, where it is known what a list, a node or a turn is.
 use Rattle.std.proofs.lemmas.Bool.{false_from_ne_true}
-use Rattle.std.proofs.Common.{Bool, ◌↔◌, ◌≡◌, ◌≢◌, ℕ, zero, suc, ◌+◌, ◌-◌, ◌<◌, ◌≤◌, List, [], ◌∷◌, length, get_or, true, false, is_some, Option, Some, None, Result, Ok, Err, IfSome, OnSome, refl, sym, ap, subst, ◌∙◌, arith, sub-one}
+use Rattle.std.proofs.Common.{Bool, ◌↔◌, ◌≡◌, ◌≢◌, ℕ, zero, suc, ◌+◌, ◌-◌, ◌<◌, ◌≤◌, List, [], ◌∷◌, length, get_or, true, false, is_some, Option, Some, None, Result, Ok, Err, IfSome, OnSome, refl, sym, ap, subst, ◌∙◌, ◌⊎◌, inl, inr, arith, sub-one}
 use Rattle.std.specs.declared.alloc.Global.{Global}
 use Rattle.std.specs.declared.vec.Vec.{Vec}
 use Rattle.liquid_error.specs.declared.error.Error.{Error}
@@ -26,7 +26,8 @@ use Rattle.liquid_template.specs.meaning.Partials.{too_deep, read_as, sought, pa
 use Rattle.liquid_template.specs.meaning.Rendering.{nodes_run}
 use Rattle.liquid_template.specs.meaning.Sunk.{Sunk}
 use Rattle.liquid_template.specs.meaning.Outcome.{Renders}
-use Rattle.liquid_template.specs.steps.PieceOut.{PieceOut}
+use Rattle.liquid_template.specs.steps.PieceOut.{PieceOut, ValueOut}
+use Rattle.liquid_template.proofs.Framing.{renders_memory}
 use Rattle.liquid_template.proofs.Joins.{renders_done, renders_refused, renders_put}
 use Rattle.liquid_template.proofs.Steps.{turn_refused, turn_ends, turn_more, turn_fails, turns_done, start_goes, list_fails, list_stops, list_goes, list_done}
 use Rattle.liquid_template.specs.steps.PartsOf.{parts_of}
@@ -168,6 +169,12 @@ module _ {Reg : Type 0} where
 
   pub value_out : (r : Result Tree Refusal) (t : Tree) (piece : List ℕ) (v : View Reg) (b a : Sunk) (answer : Answer) → r ≡ Ok t → piece ≡ render t → PieceOut piece b a answer → Renders (writes_value r v) v b a v answer
   value_out r t piece v b a answer e i h = subst (λ x. Renders (writes_value x v) v b a v answer) (sym e) (renders_put (render t) v b a answer (subst (λ x. PieceOut x b a answer) i h))
+
+  -- .. or there was no memory for its text
+  pub value_written : (r : Result Tree Refusal) (t : Tree) (text : List ℕ) (v : View Reg) (b a : Sunk) (answer : Answer) → r ≡ Ok t → text ≡ render t → ValueOut text b a answer → Renders (writes_value r v) v b a v answer
+  value_written r t text v b a answer e i (inl h) = value_out r t text v b a answer e i h
+  value_written r t text v b a (Ok u) e i (inr h) = absurd h.1
+  value_written r t text v b a (Err error) e i (inr h) = subst (λ c. Renders (writes_value r v) v b c v (Err error)) (sym h.0) (renders_memory (writes_value r v) v b error h.1)
 
   -- chains of one shape come to the same
   pub chain_out : {F : Type 0} (m : FilterMeaning F) (x y : ChainShape F) (v w : View Reg) (b a : Sunk) (answer : Answer) → x ≡ y → Renders (writes_value (chain_value m x v) v) v b a w answer → Renders (writes_value (chain_value m y v) v) v b a w answer

@@ -9,12 +9,14 @@ ghost use Rattle.liquid_plugins.specs.meaning.ExpressionOf.{chain_of};
 ghost use Rattle.liquid_plugins.specs.meaning.NodesOf.{name_chain};
 ghost use Rattle.liquid_template.specs.meaning.Actions.{writes_value};
 ghost use Rattle.liquid_template.specs.meaning.Outcome.{Renders};
+ghost use Rattle.liquid_template.specs.steps.PieceOut.{ValueOut};
 
 use crate::piece::write_piece;
 use crate::sink::Sink;
 use liquid_error::Error;
 use liquid_plugins::{Filter, FilterChain, named_value};
 use liquid_runtime::Runtime;
+use liquid_scalar::ScalarOf;
 use liquid_value::Value;
 use liquid_value::render::ValueRender;
 use std::alloc::{AllocError, Global};
@@ -36,6 +38,21 @@ fn rendered_text(alloc: Global, value: &Value) -> Result<CowStr<'_>, Error>
     }
 }
 
+/// Writes the text that a value renders as, as one piece. A text is written from where it stands, and a number takes no
+/// memory. Where there is no memory for the text, nothing is written.
+fn write_value<K: Sink>(alloc: Global, sink: &mut K, value: &Value) -> Result<(), Error>
+    ensures { ValueOut (render (tree_of value.now)) (K.sunk sink.old) (K.sunk sink.new) result }
+{
+    if let Value::Scalar(ScalarOf::Integer(number)) = value {
+        let mut digits = itoa::Buffer::new();
+        return write_piece(alloc, sink, digits.format(*number));
+    }
+    match rendered_text(alloc, value) {
+        Ok(text) => write_piece(alloc, sink, text.as_str()),
+        Err(error) => Err(error),
+    }
+}
+
 /// Renders a chain: its value's text, as one piece.
 #[inline(never)]
 pub(crate) fn render_chain<X, R, K>(
@@ -51,15 +68,10 @@ where
     ensures { Renders (writes_value (chain_value X.means (chain_of X.shape chain.now) (R.view runtime.now)) (R.view runtime.now))
         (R.view runtime.now) (K.sunk sink.old) (K.sunk sink.new) (R.view runtime.now) result }
 {
-    let value = match chain.evaluate(alloc, runtime) {
-        Ok(value) => value,
-        Err(error) => return Err(error),
-    };
-    let text = match rendered_text(alloc, value.as_view()) {
-        Ok(text) => text,
-        Err(error) => return Err(error),
-    };
-    write_piece(alloc, sink, text.as_str())
+    match chain.evaluate(alloc, runtime) {
+        Ok(value) => write_value(alloc, sink, value.as_view()),
+        Err(error) => Err(error),
+    }
 }
 
 /// Renders a name alone, as its chain is rendered. Where the name has no value, the chain is made and tells the refusal.
@@ -78,13 +90,7 @@ where
         (R.view runtime.now) (K.sunk sink.old) (K.sunk sink.new) (R.view runtime.now) result }
 {
     match named_value(name, runtime) {
-        Some(value) => {
-            let text = match rendered_text(alloc, value) {
-                Ok(text) => text,
-                Err(error) => return Err(error),
-            };
-            write_piece(alloc, sink, text.as_str())
-        }
+        Some(value) => write_value(alloc, sink, value),
         None => {
             let made: Result<FilterChain<X>, AllocError> = FilterChain::of_name(alloc, name);
             match made {

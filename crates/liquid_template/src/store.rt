@@ -32,13 +32,15 @@ pub trait PartialStore<X: Filter, T: Meant, B: Meant> {
         alloc: Global,
         name: &str,
     ) -> Result<Option<Rc<Template<X, T, B>>>, AllocError>
-        ensures gives { IfOk result (λ found. option_map (λ template. template_nodes X.shape T.shape B.shape template.value) found ≡ tree_in (finds self.old) name.now) }
+        ensures gives { IfOk result (λ found. option_map (λ template. template_nodes X.shape T.shape B.shape template.value) found
+            ≡ tree_in (finds self.old) name.now) }
         ensures kept { finds self.new ≡ finds self.old };
 
     /// The partial of a name, or the fault of its text. A name that is not there is refused as
     /// "Unknown partial-template", with the contexts `requested partial` and `available partials`.
     fn get(&mut self, alloc: Global, name: &str) -> Result<Rc<Template<X, T, B>>, Error>
-        ensures gives { Gives (λ template. template_nodes X.shape T.shape B.shape template.value) result (partial_in (finds self.old) name.now) }
+        ensures gives { Gives (λ template. template_nodes X.shape T.shape B.shape template.value) result
+            (partial_in (finds self.old) name.now) }
         ensures kept { finds self.new ≡ finds self.old };
 }
 

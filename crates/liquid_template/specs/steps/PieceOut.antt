@@ -1,5 +1,5 @@
 -- What putting one piece out comes to, over as many puts as it takes.
-use Rattle.std.specs.Prelude.{◌≡◌, ℕ, ◌+◌, ◌<◌, ◌⊎◌, List, [], ◌++◌, length, Result, Ok, Err, MatchOption}
+use Rattle.std.specs.Prelude.{◌≡◌, ℕ, ◌+◌, ◌<◌, ◌⊎◌, List, [], ◌++◌, length, None, Result, Ok, Err, IsErrAnd, MatchOption}
 use Rattle.liquid_error.specs.declared.error.Error.{Error}
 use Rattle.liquid_error.specs.meaning.Told.{told}
 use Rattle.liquid_template.specs.meaning.Sunk.{Sunk}
@@ -26,3 +26,7 @@ PieceTaken piece before after (Err error) =
 pub record PieceOut (piece : List ℕ) (before after : Sunk) (answer : Result (Unit {0}) Error) : Type 0 where
   pub taken : PieceTaken piece before after answer
   pub pours : Pours before after answer
+
+-- the text of a value put out as one piece; or nothing, where there was no memory for it
+abbrev pub ValueOut : List ℕ → Sunk → Sunk → Result (Unit {0}) Error → Type 0
+ValueOut text before after answer = PieceOut text before after answer ⊎ ((after ≡ before) × IsErrAnd answer (λ error. told error ≡ None))
