@@ -44,6 +44,7 @@ pub(crate) fn read_head(s: &str) -> Option<(Head<'_>, &str)>
 }
 
 /// What a value begins with whose first word this is.
+#[inline(always)]
 pub(crate) fn head_of_word(word: &str) -> Head<'_>
     ensures { IsHeadOf word.now result }
 {

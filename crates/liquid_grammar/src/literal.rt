@@ -1,5 +1,5 @@
 //! Literals: words, texts and numbers.
-ghost use Rattle.std.specs.Prelude.{◌≡◌, ◌<◌, ◌≤◌, ◌==◌, false, true, not, length, Some, IfSome, MatchOption, bytes_eq};
+ghost use Rattle.std.specs.Prelude.{◌≡◌, ◌<◌, ◌≤◌, ◌==◌, false, true, not, length, Some, IfSome, MatchOption};
 ghost use Rattle.std.specs.List.{prefix_len};
 ghost use Rattle.std.specs.Char.{is_ascii_digit};
 ghost use Rattle.liquid_grammar.specs.meaning.Grammar.{is_literal_word};
@@ -38,27 +38,19 @@ pub(crate) fn text_or_number(s: &str) -> Option<(Literal, &str)>
 }
 
 /// What the word stands for, where it is a literal word. Its first byte leaves at most two of these.
+#[inline(always)]
 pub(crate) fn literal_word(word: &str) -> Option<Literal<'_>>
     ensures { MatchOption result (is_literal_word word.now ≡ false)
         (λ l. (is_literal_word word.now ≡ true) × (literal_of l ≡ spec.word_literal word.now)) }
 {
     match byte_at(word.as_bytes(), 0) {
-        b'n' if is_spelled(word, "nil") || is_spelled(word, "null") => Some(Literal::Nil),
-        b'e' if is_spelled(word, "empty") => Some(Literal::Empty),
-        b'b' if is_spelled(word, "blank") => Some(Literal::Blank),
-        b't' if is_spelled(word, "true") => Some(Literal::Truth(true)),
-        b'f' if is_spelled(word, "false") => Some(Literal::Truth(false)),
+        b'n' if word == "nil" || word == "null" => Some(Literal::Nil),
+        b'e' if word == "empty" => Some(Literal::Empty),
+        b'b' if word == "blank" => Some(Literal::Blank),
+        b't' if word == "true" => Some(Literal::Truth(true)),
+        b'f' if word == "false" => Some(Literal::Truth(false)),
         _ => None,
     }
-}
-
-/// Whether the word is spelled so. Most names differ in their second byte from the literal word that begins like them,
-/// and no texts are compared then.
-#[inline]
-fn is_spelled(word: &str, spelling: &str) -> bool
-    ensures { result ≡ bytes_eq word.now spelling.now }
-{
-    byte_at(word.as_bytes(), 1) == byte_at(spelling.as_bytes(), 1) && word == spelling
 }
 
 /// The text between two quotes.
