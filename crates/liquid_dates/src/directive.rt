@@ -86,6 +86,7 @@ pub(crate) enum Directive {
 
 /// What a letter stands for, if for anything.
 #[tactic(auto, unfolding(crate::specs::meaning::Letters::letter_directive))]
+#[inline(always)]
 pub(crate) fn letter_directive(letter: char) -> Option<Directive>
     ensures { result ≡ Spec.letter_directive letter }
 {

@@ -33,15 +33,25 @@ impl DateTime {
         let mut out = String::with_capacity(alloc, pattern.len().saturating_add(ROOM))?;
         let mut rest = pattern;
         'directives: while let Some((copied, behind)) = rest.split_once('%') {
-            out.push_str(copied)?;
+            write_copied(&mut out, copied)?;
             match write_directive_at(&mut out, self, behind) {
                 Ok(more) => rest = more,
                 Err(error) => return Err(error),
             }
         }
-        out.push_str(rest)?;
+        write_copied(&mut out, rest)?;
         Ok(out)
     }
+}
+
+// Appends what stands between directives, which is often nothing.
+fn write_copied(out: &mut String, copied: &str) -> Result<(), AllocError>
+    ensures { OnOk result (string_bytes out.new ≡ string_bytes out.old ++ copied.now) }
+{
+    if copied.is_empty() {
+        return Ok(());
+    }
+    out.push_str(copied)
 }
 
 // Appends what the directive at the front of a text prints, and answers what is behind it. Its per

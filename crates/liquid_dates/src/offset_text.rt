@@ -10,7 +10,7 @@ use crate::DateTime;
 use crate::composites::write_two;
 use crate::directive::Offset;
 use crate::flags::{Filling, Flags, NumberFilling};
-use crate::writing::{digit_count, fill, write_digits, write_number};
+use crate::writing::{fill, write_number};
 use std::alloc::AllocError;
 
 /// Appends the offset as its flags and its width say.
@@ -57,13 +57,11 @@ fn signed_hours(
         Filling::Unset => zero_filled_hours(out, width, seconds),
         Filling::Zeros => zero_filled_hours(out, width, seconds),
         Filling::Spaces => {
-            fill(
-                out,
-                width.saturating_sub(1 + digit_count(u64::from(hours))),
-                ' ',
-            )?;
+            let mut buffer = itoa::Buffer::new();
+            let digits = buffer.format(u64::from(hours));
+            fill(out, width.saturating_sub(1 + digits.len()), ' ')?;
             write_offset_sign(out, seconds)?;
-            write_digits(out, u64::from(hours))
+            out.push_str(digits)
         }
     }
 }

@@ -1,4 +1,4 @@
-ghost use Rattle.std.specs.Prelude.{◌≡◌, ◌<◌, ◌+◌, ◌++◌, ◌∷◌, [], OnOk, length, replicate};
+ghost use Rattle.std.specs.Prelude.{◌≡◌, ◌<◌, ◌≤◌, ◌++◌, OnOk, length, replicate, unsigned_abs};
 ghost use Rattle.std.specs.Fmt.{decimal};
 ghost use Rattle.std.specs.String.{string_bytes};
 ghost use Rattle.liquid_dates.specs.meaning.Filling as Spec;
@@ -31,7 +31,9 @@ pub(crate) fn write_number(
     ensures { OnOk result
         (string_bytes out.new ≡ string_bytes out.old ++ Spec.filled_number filling width value) }
 {
-    let missing = missing(width, value);
+    let mut buffer = itoa::Buffer::new();
+    let digits = buffer.format(value.unsigned_abs());
+    let missing = missing(width, value, digits.len());
     match filling {
         NumberFilling::SpacesBeforeSign => {
             fill(out, missing, ' ')?;
@@ -42,14 +44,15 @@ pub(crate) fn write_number(
             fill(out, missing, '0')?;
         }
     }
-    write_digits(out, value.unsigned_abs())
+    out.push_str(digits)
 }
 
-// How many characters a number lacks to a width.
-fn missing(width: usize, value: i64) -> usize
+// How many characters a number with so many digits lacks to a width.
+fn missing(width: usize, value: i64, digits: usize) -> usize
+    requires count { digits ≡ length (decimal (unsigned_abs value)) }
+    requires bound { digits ≤ 40 }
     ensures { result ≡ Spec.missing width value }
 {
-    let digits = digit_count(value.unsigned_abs());
     if value < 0 {
         return width.saturating_sub(1 + digits);
     }
@@ -63,39 +66,6 @@ fn write_minus(out: &mut String, value: i64) -> Result<(), AllocError>
         return out.push('-');
     }
     Ok(())
-}
-
-/// Appends the decimal digits of a number.
-#[tactic(auto, using(crate::proofs::DecimalLemmas::one_digit, crate::proofs::DecimalLemmas::last_digit))]
-pub(crate) fn write_digits(out: &mut String, number: u64) -> Result<(), AllocError>
-    ensures { OnOk result (string_bytes out.new ≡ string_bytes out.old ++ decimal number) }
-{
-    if number < 10 {
-        return write_digit(out, number as u8);
-    }
-    write_digits(out, number / 10)?;
-    write_digit(out, (number % 10) as u8)
-}
-
-fn write_digit(out: &mut String, digit: u8) -> Result<(), AllocError>
-    requires { digit < 10 }
-    ensures { OnOk result (string_bytes out.new ≡ string_bytes out.old ++ ((48 + digit) ∷ [])) }
-{
-    out.push(char::from(b'0' + digit))
-}
-
-/// How many decimal digits a number has.
-pub(crate) fn digit_count(number: u64) -> usize
-    ensures value { result ≡ length (decimal number) }
-    ensures bound { result < 21 }
-{
-    let mut left = number;
-    let mut count = 1;
-    while left >= 10 {
-        left /= 10;
-        count += 1;
-    }
-    count
 }
 
 /// Appends an ASCII text, in upper case where a flag asks for it.

@@ -24,6 +24,7 @@ pub struct Fault<'a> {
 }
 
 /// The number that a sign and digits write. None if the text is none of these, or the number is no `i64`.
+#[inline]
 pub fn integer_of(text: &str) -> Option<i64>
     ensures { result ≡ spec.integer_of text.now }
 {
@@ -31,6 +32,7 @@ pub fn integer_of(text: &str) -> Option<i64>
 }
 
 /// The fault of a literal that stands at this place, if it has one.
+#[inline(always)]
 pub(crate) fn literal_fault<'a>(place: &'a str, literal: Literal) -> Option<Fault<'a>>
     ensures { faults_of result ≡ spec.literal_fault place.now (literal_of literal.entry) }
 {

@@ -24,6 +24,7 @@ pub enum Literal<'a> {
 }
 
 /// The text or the number that the text begins with, and what follows it. Its first byte tells which of them it can be.
+#[inline(always)]
 pub(crate) fn text_or_number(s: &str) -> Option<(Literal, &str)>
     ensures value { FindsLiteral result (read.text_or_number s.now) }
     ensures shorter { IfSome result (λ x. length x.1.now < length s.now) }

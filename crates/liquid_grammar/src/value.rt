@@ -17,6 +17,7 @@ use crate::name::{identifier, name};
 use crate::text::eat;
 
 /// The first fault of the value that the text begins with, and what follows it.
+#[inline(always)]
 pub(crate) fn value<'a>(s: &'a str) -> Option<(Option<Fault<'a>>, &'a str)>
     ensures value { Scans value_fault result (read.value s.now) }
     ensures shorter { IfSome result (λ x. length x.1.now < length s.now) }

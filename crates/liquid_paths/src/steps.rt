@@ -1,4 +1,4 @@
-ghost use Rattle.std.specs.Prelude.{◌≡◌, ◌<◌, ◌^◌, IfOk, IfSome, length, option_map, pos, string_bytes};
+ghost use Rattle.std.specs.Prelude.{◌≡◌, ◌<◌, ◌^◌, IfOk, IfSome, Some, length, option_map, pos, string_bytes};
 ghost use Rattle.std.specs.Option.{option_or};
 ghost use Rattle.liquid_value.specs.meaning.Cow.{cow_view};
 ghost use Rattle.liquid_scalar.specs.meaning.Scalar.{scal, integer, render_scalar};
@@ -33,6 +33,19 @@ pub fn step<'v>(
         Value::Object(members) => step_object(alloc, members, index),
         Value::Scalar(scalar) => step_scalar(alloc, scalar, index),
         Value::State(_) | Value::Nil => Ok(None),
+    }
+}
+
+/// The part of a value at a text or a whole number, where it is one of the value's own members or items.
+///
+/// It takes no memory. `None` tells nothing of what the step comes to.
+pub fn own_part<'v>(value: &'v Value, index: &Scalar) -> Option<&'v Value>
+    ensures { IfSome result (λ part. step (view value.now) (scal string_bytes index.now) ≡ Some (view part.now)) }
+{
+    match (value, index) {
+        (Value::Object(members), ScalarOf::Str(word)) => member_at(members, word.as_str()),
+        (Value::Array(items), ScalarOf::Integer(number)) => item_at(items.as_slice(), *number),
+        _ => None,
     }
 }
 

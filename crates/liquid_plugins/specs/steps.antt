@@ -1,2 +1,3 @@
 pub mod TreeCodes
 pub mod Codes
+pub mod LiteralWalk

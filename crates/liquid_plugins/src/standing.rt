@@ -12,9 +12,10 @@ ghost use Rattle.liquid_runtime.specs.meaning.NamesSeen.{lookup};
 ghost use Rattle.liquid_plugins.specs.meaning.Evaluation.{evaluate, try_evaluate, try_path_of};
 ghost use Rattle.liquid_plugins.specs.meaning.Expression.{variable, no_indexes};
 ghost use Rattle.liquid_plugins.specs.meaning.ExpressionOf.{expression_of, expressions_of};
+ghost use Rattle.liquid_plugins.specs.steps.LiteralWalk.{literal_part, literal_walk};
 
 use crate::expression::Expression;
-use liquid_paths::step;
+use liquid_paths::{own_part, step};
 use liquid_runtime::Runtime;
 use liquid_scalar::{Scalar, ScalarCow, ScalarOf};
 use liquid_value::{Value, ValueCow};
@@ -66,12 +67,38 @@ fn standing_behind<'c, R: Runtime>(
         ≡ Some (cow_view found)) }
     ensures in_place { IfSome result InPlace }
 {
+    if let Some(own) = own_value(indexes, value) {
+        return Some(ValueCow::Borrowed(own));
+    }
     let mut at = ValueCow::Borrowed(value);
     for index in indexes {
         let scalar = standing(alloc, index, runtime)?;
         at = part_of(alloc, &at, scalar.as_view())?;
     }
     Some(at)
+}
+
+/// The value that literal indexes lead to from a value, each of them to a member or an item: most paths are such.
+/// `None` tells nothing of what the indexes lead to.
+#[inline(always)]
+fn own_value<'c>(indexes: &Vec<Expression>, value: &'c Value) -> Option<&'c Value>
+    ensures { IfSome result (λ found. literal_walk (tree_of value.now) (expressions_of indexes.now.items) ≡ Some (tree_of found.now)) }
+{
+    let mut at = value;
+    for index in indexes {
+        at = own_part_of(at, index)?;
+    }
+    Some(at)
+}
+
+/// The member or the item of a value that a literal index asks for. `None` tells nothing of what it asks for.
+fn own_part_of<'c>(value: &'c Value, index: &Expression) -> Option<&'c Value>
+    ensures { IfSome result (λ part. literal_part (tree_of value.now) (expression_of index.now) ≡ Some (tree_of part.now)) }
+{
+    match index {
+        Expression::Literal(Value::Scalar(scalar)) => own_part(value, scalar),
+        _ => None,
+    }
 }
 
 /// The value of a name that is a text.

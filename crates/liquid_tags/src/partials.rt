@@ -65,6 +65,7 @@ fn partial_name(alloc: Global, value: &Value) -> Result<String, Error>
 }
 
 /// The names of the pairs, with what their expressions come to.
+#[inline(always)]
 fn bound<R: Runtime>(
     alloc: Global,
     pairs: &[(String, Expression)],
@@ -83,6 +84,7 @@ fn bound<R: Runtime>(
 }
 
 /// The turn that asks for the partial.
+#[inline(always)]
 fn inclusion_turn(
     alloc: Global,
     inclusion: Inclusion,
@@ -104,14 +106,12 @@ fn inclusion_turn(
 fn trace(alloc: Global, inclusion: Inclusion, name: &str) -> Result<String, AllocError>
     ensures { IfOk result (λ s. string_bytes s ≡ word_of inclusion ++ (codes " " ++ name.now)) }
 {
-    let word = match inclusion {
-        Inclusion::Include => "include",
-        Inclusion::Render => "render",
+    let front = match inclusion {
+        Inclusion::Include => "include ",
+        Inclusion::Render => "render ",
     };
-    let size = word.len().saturating_add(1).saturating_add(name.len());
-    let mut trace = String::with_capacity(alloc, size)?;
-    trace.push_str(word)?;
-    trace.push_str(" ")?;
+    let mut trace = String::with_capacity(alloc, front.len().saturating_add(name.len()))?;
+    trace.push_str(front)?;
     trace.push_str(name)?;
     Ok(trace)
 }

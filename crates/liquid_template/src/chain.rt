@@ -43,13 +43,16 @@ fn rendered_text(alloc: Global, value: &Value) -> Result<CowStr<'_>, Error>
 fn write_value<K: Sink>(alloc: Global, sink: &mut K, value: &Value) -> Result<(), Error>
     ensures { ValueOut (render (tree_of value.now)) (K.sunk sink.old) (K.sunk sink.new) result }
 {
-    if let Value::Scalar(ScalarOf::Integer(number)) = value {
-        let mut digits = itoa::Buffer::new();
-        return write_piece(alloc, sink, digits.format(*number));
-    }
-    match rendered_text(alloc, value) {
-        Ok(text) => write_piece(alloc, sink, text.as_str()),
-        Err(error) => Err(error),
+    match value {
+        Value::Scalar(ScalarOf::Integer(number)) => {
+            let mut digits = itoa::Buffer::new();
+            write_piece(alloc, sink, digits.format(*number))
+        }
+        Value::Scalar(ScalarOf::Str(text)) => write_piece(alloc, sink, text.as_str()),
+        other => match rendered_text(alloc, other) {
+            Ok(text) => write_piece(alloc, sink, text.as_str()),
+            Err(error) => Err(error),
+        },
     }
 }
 

@@ -8,7 +8,7 @@ use std::alloc::Global;
 
 /// Puts a piece until the sink has all of it; an empty piece makes no put. A failure of the sink is
 /// refused as "Failed to render".
-#[inline(never)]
+#[inline(always)]
 pub(crate) fn write_piece<K: Sink>(alloc: Global, sink: &mut K, piece: &str) -> Result<(), Error>
     ensures { PieceOut piece.now (K.sunk sink.old) (K.sunk sink.new) result }
 {

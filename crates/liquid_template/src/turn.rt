@@ -100,6 +100,7 @@ where
 }
 
 /// Opens a partial under its frame and keeps its trace. Where it is refused, the answer says so and the frame has ended.
+#[inline(always)]
 fn partial_opened<X, T, B, S>(
     alloc: Global,
     name: &str,

@@ -1,7 +1,7 @@
 //! Paths into values.
 use crate::values::answer_text;
 use liquid_json::to_value;
-use liquid_paths::{Path, find, find_behind, try_find};
+use liquid_paths::{Path, find, find_behind, own_part, try_find};
 use liquid_scalar::ScalarCow;
 use liquid_value::Value;
 use liquid_views::ArrayView;
@@ -143,6 +143,34 @@ fn paths_lead_to_values(rt: HostRuntime) -> Result<(), Fail> {
     let alloc = rt.alloc();
     let value = to_value(alloc, &Json::from_str(alloc, VALUES)?)?;
     rows_hold(alloc, PATHS, |alloc, row| row_holds(alloc, &value, row))
+}
+
+/// Values, an index of each, and the text of the item at that number or the member at that text, if there is one.
+const OWN_PARTS: &str = r#"[[10, 20], 1, "20"]
+[[10, 20], -2, "10"]
+[[10, 20], 2, null]
+[[10, 20], "1", null]
+[[10, 20], "size", null]
+[{"a": 5}, "a", "5"]
+[{"a": 5}, "b", null]
+[{"1": 5}, 1, null]
+["word", "size", null]"#;
+
+/// Whether the value of a row has the own part that the row tells.
+fn own_part_holds(alloc: Global, row: &Line) -> Result<bool, Fail> {
+    let value = to_value(alloc, row.member(0)?)?;
+    let Value::Scalar(index) = to_value(alloc, row.member(1)?)? else {
+        return Err(Fail::from("an index is no scalar"));
+    };
+    match (own_part(&value, &index), row.found_text(2)) {
+        (Some(part), Some(text)) => Ok(part.to_kstr(alloc)?.as_str() == text),
+        (part, text) => Ok(part.is_none() && text.is_none()),
+    }
+}
+
+#[test]
+fn items_and_members_are_own_parts(rt: HostRuntime) -> Result<(), Fail> {
+    rows_hold(rt.alloc(), OWN_PARTS, own_part_holds)
 }
 
 /// A list of the squares below a hundred.

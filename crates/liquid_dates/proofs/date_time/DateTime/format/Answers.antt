@@ -20,7 +20,7 @@ directives-preserved c =
     let cut = rw c.in-Some.is at (cut_at _ c.split_once.result utf8 c.split_once.ensures.cases) in
     let copied = cut_front c.args.self.now _ _ _ _ _ items front bytes cut in
     let printed = printed_directive _ (chars c.in-Some.behind.now) _ _ _ c.in-Ok.ensures.ok in
-    let more = printed_more _ _ _ _ _ _ copied.0 copied.1 (c.in_ok-push_str.ensures.bytes ∙ copied.2) printed in
+    let more = printed_more _ _ _ _ _ _ copied.0 copied.1 (c.in_ok-write_copied.ensures ∙ copied.2) printed in
     (more.0, more.1, more.2, c.in-Ok.ensures.utf8)
 
 pub returns-in-Err-clause-refused : goal.returns-in-Err-clause-refused
@@ -42,11 +42,11 @@ pub returns-clause-text : goal.returns-clause-text
 returns-clause-text c =
     let (items, front, bytes, utf8) = c.directives.invariant in
     let none = rw c.in_default.is at (cut_at _ c.split_once.result utf8 c.split_once.ensures.cases) in
-    rw c.in_ok-push_str-2.ensures.bytes (copied_rest c.args.self.now _ _ _ items front bytes utf8 none)
+    rw c.in_ok-write_copied-2.ensures (copied_rest c.args.self.now _ _ _ items front bytes utf8 none)
 
 pub returns-clause-only : goal.returns-clause-only
 returns-clause-only c = λ answer formats.
     let (items, front, bytes, utf8) = c.directives.invariant in
     let none = rw c.in_default.is at (cut_at _ c.split_once.result utf8 c.split_once.ensures.cases) in
-    rw c.in_ok-push_str-2.ensures.bytes
+    rw c.in_ok-write_copied-2.ensures
     (formats_once c.args.self.now _ answer _ formats (copied_rest c.args.self.now _ _ _ items front bytes utf8 none))
