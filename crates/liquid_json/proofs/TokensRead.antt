@@ -15,8 +15,9 @@ use Rattle.liquid_scalar.specs.declared.scalar.ScalarOf.{ScalarOf}
 use Rattle.liquid_scalar.specs.meaning.Scalar.{scal, integer}
 use Rattle.liquid_value.specs.meaning.Members.{put_member}
 use Rattle.liquid_value.specs.meaning.Tree.{Tree, nil, scalar, object, Items, no_items, item, Members, no_members, member}
-use Rattle.liquid_value.specs.meaning.View.{view, items_view, members_view}
+use Rattle.liquid_value.specs.meaning.View.{view, items_view, object_view, members_view}
 use Rattle.liquid_value.specs.declared.value.Value.{Value, Scalar, Object, Nil, the_lemmas}
+use Rattle.liquid_value.specs.declared.shared_object.SharedObject.{SharedObject}
 use Rattle.liquid_json.specs.meaning.Given.{value_given, members_given}
 use Rattle.liquid_json.specs.steps.Reads.{IsGiven, AreGiven, MembersGiven}
 use Rattle.liquid_json.proofs.Given.{joined, joined_none, joined_last, joined_all}
@@ -136,5 +137,5 @@ view_nil = search (rules, the_lemmas)
 pub view_scalar : (s : ScalarOf (String Global)) → view (Scalar s) ≡ scalar (scal string_bytes s)
 view_scalar s = search (rules, the_lemmas)
 
-pub view_object : (m : BTreeMap (String Global) Value) → view (Object m) ≡ object (members_view m.entries)
-view_object m = search (rules, the_lemmas)
+pub view_object : (h : SharedObject) → view (Object h) ≡ object (object_view h)
+view_object h = search (rules, the_lemmas)

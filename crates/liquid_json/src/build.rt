@@ -1,12 +1,13 @@
-//! Maps that are built from entries whose names ascend, with no search for a name's place.
+//! Values of arrays, and maps that are built from entries whose names ascend, with no search for a name's place.
 ghost use Rattle.std.specs.Prelude.{◌≡◌, IfOk};
 ghost use Rattle.std.specs.List.Sorted.{IsStrictlySortedBy};
 ghost use Rattle.std.specs.Map.{keys_of};
 ghost use Rattle.std.specs.String.{string_cmp};
 ghost use Rattle.serde_json.specs.View.{members_view as json_members};
-ghost use Rattle.liquid_value.specs.meaning.View.{members_view};
+ghost use Rattle.liquid_value.specs.meaning.Tree.{array};
+ghost use Rattle.liquid_value.specs.meaning.View.{view, items_view, members_view};
 
-use liquid_value::{Object, Value};
+use liquid_value::{Array, Object, SharedArray, Value};
 use serde_json::{Map, Value as Json};
 use std::alloc::{AllocError, Global};
 
@@ -18,6 +19,22 @@ pub(crate) fn object_in_order(
     ensures { IfOk result (λ object. members_view object.entries ≡ members_view entries.items) }
 {
     entries.into_iter().collect(alloc)
+}
+
+/// Up to how many items of an array stay the value's own.
+pub(crate) const FEW_ITEMS: usize = 2;
+
+/// Returns an array as a value whose copies share it. One of few items stays the value's own: the block of memory that it
+/// takes to share them is dearer than they are.
+#[inline(always)]
+pub(crate) fn value_of_array(alloc: Global, items: Array) -> Result<Value, AllocError>
+    ensures { IfOk result (λ value. view value ≡ array (items_view items.items)) }
+{
+    if items.len() <= FEW_ITEMS {
+        Ok(Value::from(items))
+    } else {
+        Ok(Value::Array(SharedArray::shared(alloc, items)?))
+    }
 }
 
 pub(crate) fn map_in_order(

@@ -5,11 +5,11 @@ ghost use Rattle.liquid_error.specs.meaning.Told.{Gives};
 ghost use Rattle.liquid_value.specs.meaning.View.{view, items_view, members_view, entry_view};
 ghost use Rattle.liquid_json.specs.meaning.Given.{value_given, object_given, items_given, members_given};
 
-use crate::build::object_in_order;
+use crate::build::{object_in_order, value_of_array};
 use crate::scalar::integer;
 use liquid_error::{Error, Result};
 use liquid_scalar::Scalar;
-use liquid_value::{Array, Object, Value};
+use liquid_value::{Array, Object, SharedObject, Value};
 use serde_json::{Map, Value as Json};
 use std::alloc::Global;
 
@@ -48,8 +48,14 @@ pub fn into_value(alloc: Global, json: Json) -> Result<Value>
         Json::Bool(truth) => Ok(Value::Scalar(Scalar::Bool(truth))),
         Json::Number(number) => Ok(Value::Scalar(Scalar::Integer(integer(alloc, &number)?))),
         Json::String(text) => Ok(Value::Scalar(Scalar::Str(text))),
-        Json::Array(items) => Ok(Value::Array(into_items(alloc, items)?)),
-        Json::Object(members) => Ok(Value::Object(into_members(alloc, members)?)),
+        Json::Array(items) => {
+            let array = into_items(alloc, items)?;
+            Ok(value_of_array(alloc, array)?)
+        }
+        Json::Object(members) => {
+            let object = into_members(alloc, members)?;
+            Ok(Value::Object(SharedObject::shared(alloc, object)?))
+        }
     }
 }
 

@@ -12,20 +12,18 @@ ghost use Rattle.liquid_value.specs.meaning.View.{view, items_view, members_view
 ghost use Rattle.liquid_json.specs.meaning.Given.{object_read};
 ghost use Rattle.liquid_json.specs.steps.Reads.{Reads, ReadsItems, ReadsMembers};
 
+use crate::build::{FEW_ITEMS, value_of_array};
 use crate::convert::into_object;
 use fast_float::Numeral;
 use json::{Invalid, Reader, Scratch, Token};
 use liquid_error::Result as Answer;
 use liquid_scalar::Scalar;
-use liquid_value::{Array, Object, Value};
+use liquid_value::{Array, Object, SharedObject, Value};
 use serde_json::{Error, Value as Json};
 use std::alloc::{AllocError, AllocFailed, Global};
 
 /// How many arrays and objects may stand in one another, as `serde_json` has it.
 const MOST_NESTED: usize = 127;
-
-/// How many items an array has room for once it has one: most arrays are short, and there are many.
-const FEW_ITEMS: usize = 2;
 
 /// Why a text is not read token by token.
 #[derive(Clone, Copy, Drop)]
@@ -108,13 +106,15 @@ fn read_value(alloc: Global, reader: &mut Reader<'_>, depth: usize) -> Result<Va
             if depth == 0 {
                 return Err(Unread::Refused);
             }
-            Ok(Value::Array(read_items(alloc, reader, depth - 1)?))
+            let array = read_items(alloc, reader, depth - 1)?;
+            Ok(value_of_array(alloc, array)?)
         }
         Token::BeginObject => {
             if depth == 0 {
                 return Err(Unread::Refused);
             }
-            Ok(Value::Object(read_members(alloc, reader, depth - 1)?))
+            let object = read_members(alloc, reader, depth - 1)?;
+            Ok(Value::Object(SharedObject::shared(alloc, object)?))
         }
         Token::EndObject | Token::EndArray | Token::Key(_) | Token::Bad => Err(Unread::Refused),
     }

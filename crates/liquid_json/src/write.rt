@@ -24,8 +24,8 @@ pub fn from_value(alloc: Global, value: &Value) -> Result<Json, AllocError>
 {
     match value {
         Value::Scalar(scalar) => Ok(from_scalar(alloc, scalar)?),
-        Value::Array(items) => Ok(Json::Array(from_items(alloc, items)?)),
-        Value::Object(members) => Ok(Json::Object(from_members(alloc, members)?)),
+        Value::Array(items) => Ok(Json::Array(from_items(alloc, items.as_array())?)),
+        Value::Object(members) => Ok(Json::Object(from_members(alloc, members.as_object())?)),
         Value::State(_) | Value::Nil => Ok(Json::Null),
     }
 }

@@ -6,7 +6,7 @@ ghost use Rattle.liquid_value.specs.meaning.Members.{get_member, member_count};
 ghost use Rattle.liquid_value.specs.meaning.Tree.{scalar, array, object};
 ghost use Rattle.liquid_value.specs.meaning.View.{view, items_view, members_view};
 ghost use Rattle.liquid_value.specs.meaning.Place.{place_at, item_at};
-ghost use Rattle.liquid_paths.specs.meaning.Step.{step, size_asked, item_asked};
+ghost use Rattle.liquid_paths.specs.meaning.Step.{own_part, step, size_asked, item_asked};
 ghost use Rattle.liquid_paths.specs.meaning.PathOf.{index_of};
 ghost use Rattle.liquid_paths.specs.meaning.InPlace.{InPlace};
 
@@ -36,11 +36,13 @@ pub fn step<'v>(
     }
 }
 
-/// The part of a value at a text or a whole number, where it is one of the value's own members or items.
+/// Returns the member of an object at a text, or the item of an array at a whole number. It takes no memory.
 ///
-/// It takes no memory. `None` tells nothing of what the step comes to.
+/// Where it returns `None`, a step by the index may still lead somewhere: to a size, to `first` or `last`, or by a scalar
+/// of another kind.
 pub fn own_part<'v>(value: &'v Value, index: &Scalar) -> Option<&'v Value>
-    ensures { IfSome result (λ part. step (view value.now) (scal string_bytes index.now) ≡ Some (view part.now)) }
+    ensures part { option_map (λ part. view part.now) result ≡ own_part (view value.now) (scal string_bytes index.now) }
+    ensures leads { IfSome result (λ part. step (view value.now) (scal string_bytes index.now) ≡ Some (view part.now)) }
 {
     match (value, index) {
         (Value::Object(members), ScalarOf::Str(word)) => member_at(members, word.as_str()),

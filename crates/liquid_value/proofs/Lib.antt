@@ -10,3 +10,4 @@ pub mod Listed
 pub mod StepLemmas
 pub mod Collected
 pub mod Copies
+pub mod SharedLemmas

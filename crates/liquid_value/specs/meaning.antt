@@ -8,6 +8,7 @@ pub mod Members
 pub mod Strict
 pub mod Parts
 pub mod Rows
+pub mod Shared
 pub mod Cow
 pub mod Place
 pub mod Names

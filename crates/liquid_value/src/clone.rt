@@ -2,8 +2,10 @@ ghost use Rattle.std.specs.Prelude.{◌≡◌, IfOk, map};
 ghost use Rattle.std.specs.List.Sorted.{IsStrictlySortedBy};
 ghost use Rattle.std.specs.Map.{keys_of};
 ghost use Rattle.std.specs.String.{string_cmp};
-ghost use Rattle.liquid_value.specs.meaning.View.{view, items_view, members_view, entry_view};
+ghost use Rattle.liquid_value.specs.meaning.View.{view, array_view, object_view, items_view, members_view, entry_view};
 
+use crate::shared_array::SharedArray;
+use crate::shared_object::SharedObject;
 use crate::value::{Array, Object, Value};
 use std::alloc::{AllocError, Global};
 use std::default::Emptied;
@@ -16,14 +18,32 @@ impl Clone for Value {
     }
 }
 
+/// The same array, shared with the one that is copied.
+impl Clone for SharedArray {
+    ghost is_clone = { λ a b. array_view b ≡ array_view a };
+
+    fn clone(&self) -> Result<SharedArray, AllocError> {
+        copy_shared_array(self)
+    }
+}
+
+/// The same object, shared with the one that is copied.
+impl Clone for SharedObject {
+    ghost is_clone = { λ h k. object_view k ≡ object_view h };
+
+    fn clone(&self) -> Result<SharedObject, AllocError> {
+        copy_shared_object(self)
+    }
+}
+
 #[cycle(copy)]
 fn copy(value: &Value) -> Result<Value, AllocError>
     ensures { IfOk result (λ v. view v ≡ view value.now) }
 {
     match value {
         Value::Scalar(scalar) => Ok(Value::Scalar(scalar.clone()?)),
-        Value::Array(items) => Ok(Value::Array(copy_array(items)?)),
-        Value::Object(members) => Ok(Value::Object(copy_object(members)?)),
+        Value::Array(items) => Ok(Value::Array(copy_shared_array(items)?)),
+        Value::Object(members) => Ok(Value::Object(copy_shared_object(members)?)),
         Value::State(state) => Ok(Value::State(*state)),
         Value::Nil => Ok(Value::Nil),
     }
@@ -31,7 +51,7 @@ fn copy(value: &Value) -> Result<Value, AllocError>
 
 /// A list of the same values.
 #[cycle(copy)]
-pub(crate) fn copy_array(items: &Array) -> Result<Array, AllocError>
+fn copy_array(items: &Array) -> Result<Array, AllocError>
     ensures { IfOk result (λ v. items_view v.items ≡ items_view items.now.items) }
 {
     let mut copies = Vec::with_capacity(*items.allocator(), items.len())?;
@@ -41,12 +61,45 @@ pub(crate) fn copy_array(items: &Array) -> Result<Array, AllocError>
     Ok(copies)
 }
 
+/// The same array: one that is shared has one owner more, and another is copied, to be shared.
+#[cycle(copy)]
+fn copy_shared_array(array: &SharedArray) -> Result<SharedArray, AllocError>
+    ensures { IfOk result (λ a. array_view a ≡ array_view array.now) }
+{
+    match array {
+        SharedArray::Own(items) => SharedArray::shared(*items.allocator(), copy_array(items)?),
+        SharedArray::Shared(items) => Ok(SharedArray::Shared(items.clone()?)),
+    }
+}
+
+/// The same object: one that is shared has one owner more, and another is copied, to be shared.
+#[cycle(copy)]
+fn copy_shared_object(object: &SharedObject) -> Result<SharedObject, AllocError>
+    ensures { IfOk result (λ o. object_view o ≡ object_view object.now) }
+{
+    match object {
+        SharedObject::Own(object) => copy_own_object(object),
+        SharedObject::Shared(object) => Ok(SharedObject::Shared(object.clone()?)),
+    }
+}
+
+// A copy of an object that is a value's own. Its copies share it; one without names has nothing to share.
+#[cycle(copy)]
+fn copy_own_object(object: &Object) -> Result<SharedObject, AllocError>
+    ensures { IfOk result (λ h. object_view h ≡ members_view object.now.entries) }
+{
+    match object.iter().next() {
+        Some((first, _)) => SharedObject::shared(*first.allocator(), copy_object(object)?),
+        None => Ok(SharedObject::Own(Object::emptied(object)?)),
+    }
+}
+
 /// Up to how many entries are put into a map one by one, which takes less than to collect them.
 const FEW_ENTRIES: usize = 5;
 
 /// A map from the same names to the same values, built in the order of the names.
 #[cycle(copy)]
-pub(crate) fn copy_object(members: &Object) -> Result<Object, AllocError>
+fn copy_object(members: &Object) -> Result<Object, AllocError>
     ensures { IfOk result (λ m. members_view m.entries ≡ members_view members.now.entries) }
 {
     if members.len() <= FEW_ENTRIES {

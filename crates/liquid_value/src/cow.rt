@@ -8,6 +8,8 @@ ghost use Rattle.liquid_value.specs.steps.StrictLawProofs.{same_value_equiv};
 ghost use Rattle.liquid_value.specs.meaning.Tree.{nil, state, scalar, array, object};
 ghost use Rattle.liquid_value.specs.meaning.View.{view, items_view, members_view};
 
+use crate::shared_array::SharedArray;
+use crate::shared_object::SharedObject;
 use crate::state::State;
 use crate::value::{Array, Object, Value};
 use liquid_scalar::Scalar;
@@ -120,7 +122,7 @@ impl<'s> From<Array> for ValueCow<'s> {
     ghost from_gives = { λ items w. cow_view w ≡ array (items_view items.items) };
 
     fn from(other: Array) -> ValueCow<'s> {
-        ValueCow::Owned(Value::Array(other))
+        ValueCow::Owned(Value::Array(SharedArray::Own(other)))
     }
 }
 
@@ -128,7 +130,7 @@ impl<'s> From<Object> for ValueCow<'s> {
     ghost from_gives = { λ members w. cow_view w ≡ object (members_view members.entries) };
 
     fn from(other: Object) -> ValueCow<'s> {
-        ValueCow::Owned(Value::Object(other))
+        ValueCow::Owned(Value::Object(SharedObject::Own(other)))
     }
 }
 

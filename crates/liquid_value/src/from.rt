@@ -4,6 +4,8 @@ ghost use Rattle.liquid_scalar.specs.meaning.Scalar.{scal};
 ghost use Rattle.liquid_value.specs.meaning.Tree.{state, scalar, array, object};
 ghost use Rattle.liquid_value.specs.meaning.View.{view, items_view, members_view};
 
+use crate::shared_array::SharedArray;
+use crate::shared_object::SharedObject;
 use crate::state::State;
 use crate::value::{Array, Object, Value};
 use liquid_scalar::Scalar;
@@ -20,7 +22,7 @@ impl From<Array> for Value {
     ghost from_gives = { λ items v. view v ≡ array (items_view items.items) };
 
     fn from(other: Array) -> Value {
-        Value::Array(other)
+        Value::Array(SharedArray::Own(other))
     }
 }
 
@@ -28,7 +30,7 @@ impl From<Object> for Value {
     ghost from_gives = { λ members v. view v ≡ object (members_view members.entries) };
 
     fn from(other: Object) -> Value {
-        Value::Object(other)
+        Value::Object(SharedObject::Own(other))
     }
 }
 

@@ -11,6 +11,8 @@ pub mod loose;
 pub mod map;
 pub mod order;
 pub mod render;
+pub mod shared_array;
+pub mod shared_object;
 pub mod state;
 pub mod steps;
 mod strict;
@@ -18,5 +20,7 @@ pub mod value;
 
 pub use compare::ValueViewCmp;
 pub use cow::ValueCow;
+pub use shared_array::SharedArray;
+pub use shared_object::SharedObject;
 pub use state::State;
 pub use value::{Array, Object, Value};

@@ -21,8 +21,16 @@ fn faces(left: &Value, right: &Value, onward: bool) -> bool
     ensures { result ≡ facing onward (view left.now) (view right.now) }
 {
     match (left, right) {
-        (Value::Array(left), Value::Array(right)) => items_face(left, right, onward),
-        (Value::Object(left), Value::Object(right)) => members_face(left, right, onward),
+        (Value::Array(left), Value::Array(right)) => items_face(
+            left.as_array(),
+            right.as_array(),
+            onward,
+        ),
+        (Value::Object(left), Value::Object(right)) => members_face(
+            left.as_object(),
+            right.as_object(),
+            onward,
+        ),
         _ => {
             if onward {
                 leaf_eq(left, right)

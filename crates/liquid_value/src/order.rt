@@ -17,8 +17,11 @@ pub(crate) fn value_cmp(left: &Value, right: &Value) -> Option<Ordering>
 {
     match (left, right) {
         (Value::Scalar(left), Value::Scalar(right)) => left.scalar_cmp(right),
-        (Value::Array(left), Value::Array(right)) => items_cmp(left, right),
-        (Value::Object(left), Value::Object(right)) => members_cmp(left, right),
+        (Value::Array(left), Value::Array(right)) => items_cmp(left.as_array(), right.as_array()),
+        (Value::Object(left), Value::Object(right)) => members_cmp(
+            left.as_object(),
+            right.as_object(),
+        ),
         _ => None,
     }
 }

@@ -37,8 +37,8 @@ pub(crate) fn write_value<W: fmt::Write>(value: &Value, f: &mut fmt::Formatter<W
 {
     match value {
         Value::Scalar(scalar) => scalar.render().fmt(f),
-        Value::Array(items) => write_items(items, f),
-        Value::Object(members) => write_members(members, f),
+        Value::Array(items) => write_items(items.as_array(), f),
+        Value::Object(members) => write_members(members.as_object(), f),
         Value::State(_) | Value::Nil => Ok(()),
     }
 }
@@ -102,8 +102,8 @@ pub(crate) fn write_source<W: fmt::Write>(value: &Value, f: &mut fmt::Formatter<
 {
     match value {
         Value::Scalar(scalar) => scalar.source().fmt(f),
-        Value::Array(items) => write_array_source(items, f),
-        Value::Object(members) => write_object_source(members, f),
+        Value::Array(items) => write_array_source(items.as_array(), f),
+        Value::Object(members) => write_object_source(members.as_object(), f),
         Value::State(state) => f.write_str(state.type_name()),
         Value::Nil => f.write_str("nil"),
     }

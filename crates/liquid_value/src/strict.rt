@@ -39,8 +39,11 @@ fn same_value(left: &Value, right: &Value) -> bool
 {
     match (left, right) {
         (Value::Scalar(left), Value::Scalar(right)) => *left == *right,
-        (Value::Array(left), Value::Array(right)) => same_items(left, right),
-        (Value::Object(left), Value::Object(right)) => same_members(left, right),
+        (Value::Array(left), Value::Array(right)) => same_items(left.as_array(), right.as_array()),
+        (Value::Object(left), Value::Object(right)) => same_members(
+            left.as_object(),
+            right.as_object(),
+        ),
         (Value::State(left), Value::State(right)) => *left as u8 == *right as u8,
         (Value::Nil, Value::Nil) => true,
         _ => false,
@@ -91,11 +94,11 @@ fn hash_value<H: Hasher>(value: &Value, state: &mut H)
         }
         Value::Array(items) => {
             state.write_u8(1);
-            hash_items(items, state)
+            hash_items(items.as_array(), state)
         }
         Value::Object(members) => {
             state.write_u8(2);
-            hash_members(members, state)
+            hash_members(members.as_object(), state)
         }
         Value::State(own) => {
             state.write_u8(3);

@@ -6,15 +6,18 @@ ghost use Rattle.std.specs.Cow.{cow_str_bytes};
 ghost use Rattle.liquid_value.specs.meaning.Kind.{type_name, query_state};
 ghost use Rattle.liquid_scalar.specs.meaning.Scalar.{scal};
 ghost use Rattle.liquid_value.specs.contracts.value.Value.{the_row};
+ghost use Rattle.liquid_value.specs.contracts.shared_object.SharedObject.{the_row as shared_object_row};
+ghost use Rattle.liquid_value.specs.contracts.shared_array.SharedArray.{the_row as shared_array_row};
 ghost use Rattle.liquid_value.specs.declared.value.Value.{Array, Object};
 ghost use Rattle.liquid_value.specs.meaning.Parts.{as_scalar, as_array, as_object, as_state};
-ghost use Rattle.liquid_value.specs.meaning.Rows.{array_row, object_row};
 ghost use Rattle.liquid_value.specs.meaning.Tree.{nil, scalar, array};
-ghost use Rattle.liquid_value.specs.meaning.View.{view, items_view, members_view};
+ghost use Rattle.liquid_value.specs.meaning.View.{view, array_view, items_view, object_view, members_view};
 ghost use Rattle.liquid_value.specs.meaning.Render.{render};
 
 use crate::contents::{is_empty_array, is_empty_object};
 use crate::render::ValueRender;
+use crate::shared_array::SharedArray;
+use crate::shared_object::SharedObject;
 use crate::state::State;
 use liquid_scalar::{Scalar, ScalarCow};
 use std::alloc::{AllocError, Global};
@@ -28,11 +31,12 @@ pub type Array = Vec<Value>;
 pub type Object = BTreeMap<String, Value>;
 
 /// A value of a template.
+#[cycle(value)]
 #[derive(Debug, Drop)]
 pub enum Value {
     Scalar(Scalar),
-    Array(Array),
-    Object(Object),
+    Array(SharedArray),
+    Object(SharedObject),
     State(State),
     Nil,
 }
@@ -70,8 +74,10 @@ impl Value {
     {
         match self {
             Value::Scalar(scalar) => state.holds_of_scalar(scalar),
-            Value::Array(items) => state.holds_of_container(is_empty_array(items)),
-            Value::Object(members) => state.holds_of_container(is_empty_object(members)),
+            Value::Array(items) => state.holds_of_container(is_empty_array(items.as_array())),
+            Value::Object(members) => state.holds_of_container(is_empty_object(
+                members.as_object(),
+            )),
             Value::State(_) | Value::Nil => state.holds_of_absent(),
         }
     }
@@ -92,7 +98,7 @@ impl Value {
         ensures { IfOk result (λ v. WholeRun I.next_gives items (λ run. view v ≡ array (items_view run.items))) }
     {
         let values: Array = items.collect(alloc)?;
-        Ok(Value::Array(values))
+        Ok(Value::from(values))
     }
 
     /// The scalar, and none for any other value, which is dropped.
@@ -106,8 +112,8 @@ impl Value {
     }
 
     /// The list, and none for any other value, which is dropped.
-    pub fn into_array(self) -> Option<Array>
-        ensures { option_map (λ v. items_view v.items) result ≡ as_array (view self) }
+    pub fn into_array(self) -> Option<SharedArray>
+        ensures { option_map array_view result ≡ as_array (view self) }
     {
         match self {
             Value::Array(array) => Some(array),
@@ -116,8 +122,8 @@ impl Value {
     }
 
     /// The map, and none for any other value, which is dropped.
-    pub fn into_object(self) -> Option<Object>
-        ensures { option_map (λ m. members_view m.entries) result ≡ as_object (view self) }
+    pub fn into_object(self) -> Option<SharedObject>
+        ensures { option_map object_view result ≡ as_object (view self) }
     {
         match self {
             Value::Object(object) => Some(object),
@@ -150,7 +156,7 @@ impl Value {
         ensures { option_map (λ v. items_view v.now.items) result ≡ as_array (view self.now) }
     {
         match self {
-            Value::Array(items) => Some(items),
+            Value::Array(items) => Some(items.as_array()),
             _ => None,
         }
     }
@@ -160,15 +166,15 @@ impl Value {
         ensures { option_map (λ m. members_view m.now.entries) result ≡ as_object (view self.now) }
     {
         match self {
-            Value::Object(members) => Some(members),
+            Value::Object(members) => Some(members.as_object()),
             _ => None,
         }
     }
 
     /// The list, to be changed in place, and none for any other value.
-    pub fn as_array_mut(&mut self) -> Option<&mut Array>
-        ensures* writes_back { sem 𝓛 (LendsIf the_row array_row self.entry result Array self.old) }
-        ensures value { option_map (λ v. items_view v.now.items) result ≡ as_array (view self.old) }
+    pub fn as_array_mut(&mut self) -> Option<&mut SharedArray>
+        ensures* writes_back { sem 𝓛 (LendsIf the_row shared_array_row self.entry result Array self.old) }
+        ensures value { option_map (λ a. array_view a.now) result ≡ as_array (view self.old) }
     {
         match self {
             Value::Array(list) => Some(list),
@@ -177,9 +183,9 @@ impl Value {
     }
 
     /// The map, to be changed in place, and none for any other value.
-    pub fn as_object_mut(&mut self) -> Option<&mut Object>
-        ensures* writes_back { sem 𝓛 (LendsIf the_row object_row self.entry result Object self.old) }
-        ensures value { option_map (λ m. members_view m.now.entries) result ≡ as_object (view self.old) }
+    pub fn as_object_mut(&mut self) -> Option<&mut SharedObject>
+        ensures* writes_back { sem 𝓛 (LendsIf the_row shared_object_row self.entry result Object self.old) }
+        ensures value { option_map (λ h. object_view h.now) result ≡ as_object (view self.old) }
     {
         match self {
             Value::Object(map) => Some(map),

@@ -10,7 +10,7 @@ ghost use Rattle.liquid_views.specs.meaning.Trees.{items_by};
 use crate::build::array_of;
 use crate::kind::ViewKind;
 use crate::view::ValueView;
-use liquid_value::Value;
+use liquid_value::{SharedArray, Value};
 use std::alloc::{AllocError, Global};
 use std::fmt;
 
@@ -89,7 +89,7 @@ impl<T: ValueView> ValueView for Vec<T> {
     }
 
     fn to_value(&self, alloc: Global) -> Result<Value, AllocError> {
-        Ok(Value::Array(array_of(alloc, self)?))
+        Ok(Value::Array(SharedArray::shared(alloc, array_of(alloc, self)?)?))
     }
 
     fn write_render<W: fmt::Write>(&self, f: &mut fmt::Formatter<W>) -> fmt::Result {

@@ -11,7 +11,7 @@ ghost use Rattle.liquid_views.specs.meaning.Entries.{put_entries, index_members}
 use crate::kind::ViewKind;
 use crate::object::{ObjectView, list_member, write_member};
 use crate::view::ValueView;
-use liquid_value::{Object, Value, ValueCow};
+use liquid_value::{Object, SharedObject, Value, ValueCow};
 use std::alloc::{AllocError, Global};
 use std::collections::{BTreeMap, HashMap};
 use std::fmt;
@@ -26,7 +26,8 @@ impl<V: ValueView> ValueView for HashMap<String, V> {
     }
 
     fn to_value(&self, alloc: Global) -> Result<Value, AllocError> {
-        Ok(Value::Object(copy_entries(alloc, self)?))
+        let object = copy_entries(alloc, self)?;
+        Ok(Value::Object(SharedObject::shared(alloc, object)?))
     }
 
     fn write_render<W: fmt::Write>(&self, f: &mut fmt::Formatter<W>) -> fmt::Result {

@@ -11,7 +11,7 @@ ghost use Rattle.liquid_views.specs.meaning.Trees.{members_by};
 use crate::index::ObjectIndex;
 use crate::kind::ViewKind;
 use crate::view::ValueView;
-use liquid_value::{Object, Value, ValueCow};
+use liquid_value::{Object, SharedObject, Value, ValueCow};
 use std::alloc::{AllocError, Global};
 use std::collections::BTreeMap;
 use std::fmt;
@@ -49,7 +49,8 @@ impl<K: ObjectIndex, V: ValueView> ValueView for BTreeMap<K, V> {
     }
 
     fn to_value(&self, alloc: Global) -> Result<Value, AllocError> {
-        Ok(Value::Object(copy_members(alloc, self)?))
+        let object = copy_members(alloc, self)?;
+        Ok(Value::Object(SharedObject::shared(alloc, object)?))
     }
 
     fn write_render<W: fmt::Write>(&self, f: &mut fmt::Formatter<W>) -> fmt::Result {

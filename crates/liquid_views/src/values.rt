@@ -19,7 +19,7 @@ impl ValueView for Value {
     fn kind(&self) -> ViewKind<'_> {
         match self {
             Value::Scalar(scalar) => ViewKind::Scalar(scalar.as_ref()),
-            Value::Array(items) => ViewKind::Array(is_empty_array(items)),
+            Value::Array(items) => ViewKind::Array(is_empty_array(items.as_array())),
             Value::Object(members) => ViewKind::Object(is_empty_object(members)),
             Value::State(state) => ViewKind::State(*state),
             Value::Nil => ViewKind::Nil,

@@ -1,7 +1,7 @@
 -- One step from a value by an index.
 use Rattle.std.specs.Prelude.{ℕ, pos, negsuc, List, length, codes, Option, None, Some, bytes_eq, if◌then◌else◌, option_and_then}
 use Rattle.std.specs.Option.{option_or}
-use Rattle.liquid_scalar.specs.meaning.Scalar.{Scal, integer, render_scalar, to_integer}
+use Rattle.liquid_scalar.specs.meaning.Scalar.{Scal, integer, text, render_scalar, to_integer}
 use Rattle.liquid_value.specs.meaning.Members.{get_member, item_count, member_count}
 use Rattle.liquid_value.specs.meaning.Tree.{Tree, nil, state, scalar, array, object, Items}
 use Rattle.liquid_value.specs.meaning.Place.{item_at}
@@ -15,6 +15,12 @@ abbrev pub item_asked : List ℕ → Items → Option Tree
 item_asked word ts =
     if bytes_eq word (codes "first") then item_at (pos 0) ts
     else (if bytes_eq word (codes "last") then item_at (negsuc 0) ts else size_asked word (item_count ts))
+
+-- the member of an object at a text, and the item of an array at a whole number
+abbrev pub own_part : Tree → Scal → Option Tree
+own_part (array ts) (integer n) = item_at n ts
+own_part (object ms) (text word) = get_member word ms
+own_part t index = None
 
 -- an array has the item at the index's number, else what the index's text asks for; an object its own key, else its
 -- size; a scalar the size of its text; nil and a state have nothing

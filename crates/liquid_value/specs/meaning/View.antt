@@ -3,7 +3,9 @@ use Rattle.std.specs.Prelude.{ℕ, List, [], ◌∷◌, map, String, string_byte
 use Rattle.std.specs.declared.alloc.Global.{Global}
 use Rattle.liquid_scalar.specs.meaning.Scalar.{scal}
 use Rattle.liquid_value.specs.declared.value.Value.{Value, fold-Value}
-use Rattle.liquid_value.specs.declared.value.Value.TheOpen.{Value-F}
+use Rattle.liquid_value.specs.declared.shared_array.SharedArray.TheOpen.{Value-F, SharedArray-F, SharedObject-F}
+use Rattle.liquid_value.specs.declared.shared_array.SharedArray.{SharedArray, fold-SharedArray}
+use Rattle.liquid_value.specs.declared.shared_object.SharedObject.{SharedObject, fold-SharedObject}
 use Rattle.liquid_value.specs.meaning.Tree.{Tree, nil, state, scalar, array, object, Items, no_items, item, Members, no_members, member}
 
 -- the items of a list
@@ -17,16 +19,34 @@ members_of [] = no_members
 members_of (e ∷ es) = member (string_bytes e.0) e.1 (members_of es)
 
 -- one level of a value, with each value inside already seen as its tree
-abbrev pub view_step : Value-F Tree → Tree
+abbrev pub view_step : Value-F Items Members Tree → Tree
 view_step (Value-F.Scalar s) = scalar (scal string_bytes s)
-view_step (Value-F.Array v) = array (items_of v.items)
-view_step (Value-F.Object m) = object (members_of m.entries)
+view_step (Value-F.Array a) = array a
+view_step (Value-F.Object o) = object o
 view_step (Value-F.State s) = state s
 view_step Value-F.Nil = nil
 
+-- .. of the list that a value holds, its own or a shared one
+abbrev pub array_step : SharedArray-F Items Members Tree → Items
+array_step (SharedArray-F.SharedArray::Own v) = items_of v.items
+array_step (SharedArray-F.SharedArray::Shared r) = items_of r.value.items
+
+-- .. and of the map that a value holds, its own or a shared one
+abbrev pub object_step : SharedObject-F Items Members Tree → Members
+object_step (SharedObject-F.SharedObject::Own m) = members_of m.entries
+object_step (SharedObject-F.SharedObject::Shared r) = members_of r.value.entries
+
 -- the tree that a value means
 abbrev pub view : Value → Tree
-view = fold-Value Tree view_step
+view = fold-Value Items Members Tree array_step object_step view_step
+
+-- the items of the array that a value holds
+abbrev pub array_view : SharedArray → Items
+array_view = fold-SharedArray Items Members Tree array_step object_step view_step
+
+-- the members of the object that a value holds
+abbrev pub object_view : SharedObject → Members
+object_view = fold-SharedObject Items Members Tree array_step object_step view_step
 
 -- the items that a list of values means
 abbrev pub items_view : List Value → Items

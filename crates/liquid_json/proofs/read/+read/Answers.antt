@@ -7,7 +7,7 @@ use Rattle.json.proofs.Grammar.{value_is, value-begin_array, value-begin_object,
 use Rattle.serde_json.specs.Data as read
 use Rattle.serde_json.specs.Find.{of_integer}
 use Rattle.liquid_scalar.specs.meaning.Scalar.{text}
-use Rattle.liquid_value.specs.meaning.Tree.{scalar}
+use Rattle.liquid_value.specs.meaning.Tree.{scalar, array, object}
 use Rattle.liquid_value.specs.meaning.View.{view, members_view}
 use Rattle.liquid_value.specs.declared.value.Value.{the_lemmas}
 use Rattle.liquid_value.proofs.Entries.{members_view-insert_entry}
@@ -43,19 +43,19 @@ read_value-returns-in-Some-clause-read t c =
       (read.number (of_integer c.in-Some.number), rw c.in-Some.ensures refl, whole_given c.in-Some.number (grind arith) ∙ ap Ok (search (rules, the_lemmas))),
     )
 
-pub read_value-returns-in_ok-read_items-in-BeginArray-clause-read : goal.read_value-returns-in_ok-read_items-in-BeginArray-clause-read
-read_value-returns-in_ok-read_items-in-BeginArray-clause-read t c =
+pub read_value-returns-in_ok-value_of_array-in-BeginArray-clause-read : goal.read_value-returns-in_ok-value_of_array-in-BeginArray-clause-read
+read_value-returns-in_ok-value_of_array-in-BeginArray-clause-read t c =
     let first : c.args.reader.now ≡ token_of c.in_ok-token.token ∷ c.next.new.self = grind arith in
     let opened = ap (value c.args.depth) (first ∙ ap (λ k. token_of k ∷ c.next.new.self) c.in-BeginArray.is) ∙ value-begin_array c.args.depth c.next.new.self (omega arith) in
-    let found = c.in_ok-read_items-in-BeginArray.ensures.read in
-    (json.array found.0, opened ∙ ap (parse_map json.array) found.1, (read.array found.2.0, rw found.2.1 refl, rw found.2.2 (ap Ok (sym (view-Array _)))))
+    let found = c.in_ok-array-in-BeginArray.ensures.read in
+    (json.array found.0, opened ∙ ap (parse_map json.array) found.1, (read.array found.2.0, rw found.2.1 refl, rw found.2.2 (ap Ok (sym c.in_ok-value_of_array-in-BeginArray.ensures))))
 
-pub read_value-returns-in_ok-read_members-in-BeginObject-clause-read : goal.read_value-returns-in_ok-read_members-in-BeginObject-clause-read
-read_value-returns-in_ok-read_members-in-BeginObject-clause-read t c =
+pub read_value-returns-in_ok-shared-in-BeginObject-clause-read : goal.read_value-returns-in_ok-shared-in-BeginObject-clause-read
+read_value-returns-in_ok-shared-in-BeginObject-clause-read t c =
     let first : c.args.reader.now ≡ token_of c.in_ok-token.token ∷ c.next.new.self = grind arith in
     let opened = ap (value c.args.depth) (first ∙ ap (λ k. token_of k ∷ c.next.new.self) c.in-BeginObject.is) ∙ value-begin_object c.args.depth c.next.new.self (omega arith) in
-    let found = c.in_ok-read_members-in-BeginObject.ensures.read in
-    (json.object found.0, opened ∙ ap (parse_map json.object) found.1, (read.object found.2.0, rw found.2.1 refl, rw found.2.2 (ap Ok (sym (view_object _)))))
+    let found = c.in_ok-object-in-BeginObject.ensures.read in
+    (json.object found.0, opened ∙ ap (parse_map json.object) found.1, (read.object found.2.0, rw found.2.1 refl, rw found.2.2 (ap Ok (sym (view_object _ ∙ ap object c.in_ok-shared-in-BeginObject.ensures)))))
 
 pub read_items-items-init : goal.read_items-items-init
 read_items-items-init t c =

@@ -1,0 +1,5 @@
+use Rattle.liquid_value.proofs.Listed.{view-own_object}
+use Rattle.liquid_value.proofs.cow.ValueCowFromObject.from.Goals as goal
+
+pub returns : goal.returns
+returns c = view-own_object c.args.other
