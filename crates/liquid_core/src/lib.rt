@@ -25,7 +25,9 @@ pub mod model {
     pub use liquid_scalar::{Scalar, ScalarCow, ScalarOf, ScalarRender, ScalarSource, ScalarText};
     pub use liquid_value::contents::{is_empty_array, is_empty_object};
     pub use liquid_value::render::{ValueRender, ValueSource};
-    pub use liquid_value::{Array, Object, State, Value, ValueCow, ValueViewCmp};
+    pub use liquid_value::{
+        Array, Object, SharedArray, SharedObject, State, Value, ValueCow, ValueViewCmp,
+    };
     pub use liquid_views::{
         ArrayView, ObjectIndex, ObjectRender, ObjectSource, ObjectView, ValueView, ViewKind,
         ViewRender, ViewSource, array_of, object_of, scalar_of,
@@ -169,15 +171,17 @@ pub use liquid_dates::{DateError, DateFormatError};
 pub use liquid_error::{Cause, Error, Place, Result};
 pub use liquid_json::{to_object, to_value};
 pub use liquid_parser::{
-    BlockReflection, Language, Node, ParseBlock, ParseTag, TagBlock, TagReflection, TagTokenIter,
+    BlockBody, BlockReflection, Language, NoPlugin, Node, ParseBlock, ParseTag, TagBlock,
+    TagReflection, TagTokenIter,
 };
-pub use liquid_partials::render_source;
+pub use liquid_partials::{EagerStore, LazyStore, OnDemandStore, render_source};
 pub use liquid_plugins::{
-    Discreet, Expression, Filter, FilterParameters, FilterReflection, ParseFilter, Renderable,
-    Turn, call_filter,
+    Discreet, Expression, Filter, FilterParameters, FilterReflection, ParseFilter, Plugins,
+    Renderable, Turn, call_filter,
 };
-pub use liquid_runtime::{Frame, IndexFrame, Runtime, RuntimeBuilder, Scopes};
+pub use liquid_runtime::names::no_names;
+pub use liquid_runtime::{BuiltRuntime, Frame, Fresh, IndexFrame, Runtime, RuntimeBuilder, Scopes};
 pub use liquid_scopes::{ChainedScopes, FlatScopes, Looks};
 pub use liquid_template::{History, PartialStore, Sink, SinkFault, Template, TextSink, WriterSink};
-pub use liquid_value::{Object, Value, ValueCow};
+pub use liquid_value::{Object, SharedArray, SharedObject, Value, ValueCow};
 pub use liquid_views::{ObjectView, ValueView, array_of, object_of, scalar_of};

@@ -10,6 +10,7 @@ ghost use Rattle.liquid_plugins.specs.meaning.Discreet.{Discreet};
 use crate::meant::Meant;
 use liquid_error::Error;
 use liquid_runtime::{Frame, Fresh, Runtime};
+use liquid_value::Object;
 use std::alloc::Global;
 
 /// What a turn answers.
@@ -61,6 +62,14 @@ pub trait Renderable<V: Fresh>: Meant + Drop {
         ensures store { R.store runtime.new ≡ R.store runtime.old }
         ensures owes { R.restores runtime.new ≡ R.restores runtime.old }
         ensures borrows { R.lent runtime.new ≡ R.lent runtime.old };
+
+    /// Takes back the object of the frame of the turn that has ended, for the next turn to write over. The meaning of the
+    /// progress stays. A node that has no use for it leaves this out.
+    fn recycle(&self, progress: &mut Self::Progress, names: Object)
+        ensures { Self.Progress.shape progress.new ≡ Self.Progress.shape progress.old }
+    {
+        drop(names)
+    }
 }
 
 /// A node whose meaning does not depend on hidden globals.

@@ -1,5 +1,5 @@
 //! Values that stand where an expression leads.
-ghost use Rattle.std.specs.Prelude.{◌≡◌, IfSome, Ok, Some, option_and_then, string_bytes};
+ghost use Rattle.std.specs.Prelude.{◌≡◌, IfSome, Ok, Some, option_and_then, option_map, string_bytes};
 ghost use Rattle.liquid_scalar.specs.meaning.Scalar.{Scal, render_scalar, scal, text};
 ghost use Rattle.liquid_value.specs.meaning.Tree.{scalar};
 ghost use Rattle.liquid_value.specs.meaning.Cow.{cow_view};
@@ -21,10 +21,11 @@ use liquid_scalar::{Scalar, ScalarCow, ScalarOf};
 use liquid_value::{Value, ValueCow};
 use std::alloc::Global;
 
-/// The value that the variable of a name alone comes to, if it stands. `None` tells nothing of what it comes to.
+/// Returns the value of a name, which is what the variable of the name alone comes to, or `None` where it has none.
 #[tactic(auto, using(crate::proofs::StandingValues::named_stands))]
 pub fn named_value<'c, R: Runtime>(name: &str, runtime: &'c R) -> Option<&'c Value>
-    ensures { IfSome result (λ value. evaluate (R.view runtime.now) (variable (text name.now) no_indexes) ≡ Ok (tree_of value.now)) }
+    ensures value { option_map (λ value. tree_of value.now) result ≡ lookup (R.view runtime.now) name.now }
+    ensures evaluates { IfSome result (λ value. evaluate (R.view runtime.now) (variable (text name.now) no_indexes) ≡ Ok (tree_of value.now)) }
 {
     runtime.try_get_name(name)
 }

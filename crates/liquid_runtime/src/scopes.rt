@@ -50,6 +50,17 @@ pub trait Scopes: Runtime {
         ensures store { Self.store self.new ≡ Self.store self.old }
         ensures borrows { Self.lent self.new ≡ Self.lent self.old };
 
+    /// Ends the frame that was begun last, as `pop` does, and returns its object if that is to be had without a copy.
+    fn pop_names(&mut self) -> Option<Object>
+        requires { 0 < length (opened (Self.restores self.old)) }
+        ensures ends { EndsFirst (Self.restores self.old) (Self.view self.old) (Self.restores self.new) (Self.view self.new) }
+        ensures store { Self.store self.new ≡ Self.store self.old }
+        ensures borrows { Self.lent self.new ≡ Self.lent self.old }
+    {
+        self.pop();
+        None
+    }
+
     /// How many frames are open.
     fn frames(&self) -> usize
         ensures { result ≡ length (opened (Self.restores self.now)) };

@@ -11,7 +11,7 @@ use crate::links::{name_over, roots_over};
 use liquid_error::Error;
 use liquid_runtime::names::value_of;
 use liquid_runtime::{Frame, Registers, Runtime, Scopes};
-use liquid_value::Value;
+use liquid_value::{Object, Value};
 use std::alloc::{AllocError, Global};
 use std::collections::BTreeSet;
 
@@ -144,9 +144,13 @@ impl<R: Runtime> Scopes for ChainedScopes<R> {
     }
 
     fn pop(&mut self) {
+        drop(self.pop_names());
+    }
+
+    fn pop_names(&mut self) -> Option<Object> {
         match self.links.pop() {
             Some(link) => closing(&mut self.base, link),
-            None => {}
+            None => None,
         }
     }
 

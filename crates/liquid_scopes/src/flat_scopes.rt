@@ -14,7 +14,7 @@ use liquid_error::Error;
 use liquid_paths::try_find;
 use liquid_runtime::{Frame, Registers, Runtime, Scopes};
 use liquid_scalar::ScalarCow;
-use liquid_value::{Value, ValueCow};
+use liquid_value::{Object, Value, ValueCow};
 use std::alloc::{AllocError, Global};
 use std::collections::BTreeSet;
 use std::marker::Model;
@@ -223,16 +223,20 @@ impl<R: Runtime> Scopes for FlatScopes<R> {
         match self.table.add(self.alloc, link) {
             Ok(()) => Ok(()),
             Err(link) => {
-                closing(&mut self.base, link);
+                drop(closing(&mut self.base, link));
                 Err(Error::Memory)
             }
         }
     }
 
     fn pop(&mut self) {
+        drop(self.pop_names());
+    }
+
+    fn pop_names(&mut self) -> Option<Object> {
         match self.table.take() {
             Some(link) => closing(&mut self.base, link),
-            None => {}
+            None => None,
         }
     }
 

@@ -205,9 +205,9 @@ pub(crate) fn opening<R: Runtime>(alloc: Global, base: &mut R, frame: Frame) -> 
     }
 }
 
-// What the ending of a link's frame gives back to the base.
+// Gives back to the base what the ending of a link's frame gives back, and returns the names of a stack frame.
 #[inline(always)]
-pub(crate) fn closing<R: Runtime>(base: &mut R, link: Link<R::Register>)
+pub(crate) fn closing<R: Runtime>(base: &mut R, link: Link<R::Register>) -> Option<Object>
     ensures registers { R.view base.new ≡ with_registers (registers_of (R.view base.new)) (R.view base.old) }
     ensures ends { (v : View R.Register) → registers_of v ≡ registers_of (R.view base.old)
         → with_registers (registers_of (R.view base.new)) v ≡ ending (layer_restores (layer_of link) v) (layer_view (layer_of link) v) }
@@ -216,9 +216,12 @@ pub(crate) fn closing<R: Runtime>(base: &mut R, link: Link<R::Register>)
     ensures borrows { R.lent base.new ≡ R.lent base.old }
 {
     match link {
-        Link::None => {}
-        Link::Stack(_d, _n) => {}
-        Link::Global(_g) => {}
-        Link::Sandboxed(_d, _n, saved) => *base.registers_mut() = saved,
+        Link::None => None,
+        Link::Stack(names, _name) => Some(names),
+        Link::Global(_assigned) => None,
+        Link::Sandboxed(_names, _name, saved) => {
+            *base.registers_mut() = saved;
+            None
+        }
     }
 }

@@ -3,6 +3,7 @@ use crate::problem::Problem;
 use bench::Filters;
 use bench::filters::AnyFilter;
 use bench::languages::filters;
+use liquid_core::model::{SharedArray, SharedObject};
 use liquid_core::parser::{Filter, Language, parse};
 use liquid_core::partials::{EagerCompiler, EagerStore, InMemorySource, PartialCompiler};
 use liquid_core::runtime::{
@@ -44,7 +45,7 @@ fn post(alloc: Global, number: u32) -> Result<Value, AllocError> {
     post.insert(String::from_str(alloc, "title")?, Value::scalar(title))?;
     let words = Value::scalar(i64::from(number));
     post.insert(String::from_str(alloc, "words")?, words)?;
-    Ok(Value::Object(post))
+    Ok(Value::Object(SharedObject::shared(alloc, post)?))
 }
 
 /// The title of a site, and its list of so many posts.
@@ -56,7 +57,10 @@ fn globals(alloc: Global, posts: u32) -> Result<Object, AllocError> {
     let mut globals = Object::new(alloc);
     let title = Value::scalar(String::from_str(alloc, "Field notes")?);
     globals.insert(String::from_str(alloc, "title")?, title)?;
-    globals.insert(String::from_str(alloc, "posts")?, Value::Array(list))?;
+    globals.insert(
+        String::from_str(alloc, "posts")?,
+        Value::Array(SharedArray::shared(alloc, list)?),
+    )?;
     Ok(globals)
 }
 

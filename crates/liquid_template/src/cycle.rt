@@ -179,10 +179,10 @@ where
     match turned(alloc, tag, going, depth, sink, scopes, answer) {
         Step::Stop => false,
         Step::Next => true,
-        Step::Part(_) => closed(alloc, going, scopes, answer),
+        Step::Part(_) => closed(alloc, tag, going, scopes, answer),
         Step::Partial(template) => {
             render_partial(alloc, template, depth, sink, scopes, answer);
-            closed(alloc, going, scopes, answer)
+            closed(alloc, tag, going, scopes, answer)
         }
     }
 }
@@ -268,11 +268,11 @@ where
         Step::Next => true,
         Step::Part(place) => {
             render_part(alloc, parts, place, depth, sink, scopes, answer);
-            closed(alloc, going, scopes, answer)
+            closed(alloc, block, going, scopes, answer)
         }
         Step::Partial(template) => {
             render_partial(alloc, template, depth, sink, scopes, answer);
-            closed(alloc, going, scopes, answer)
+            closed(alloc, block, going, scopes, answer)
         }
     }
 }

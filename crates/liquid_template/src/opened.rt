@@ -8,28 +8,36 @@ use crate::begun::Going;
 use crate::template::Template;
 use crate::trace::with_own_trace;
 use liquid_error::Error;
+use liquid_plugins::Renderable;
 use liquid_runtime::Scopes;
 use std::alloc::Global;
 use std::mem;
 use std::rc::Rc;
 
-/// Ends the frame of a turn, puts the turn's trace on an error, and tells whether there is none.
+/// Ends the frame of a turn, puts the turn's trace on an error, and returns whether there is none. The node takes back the
+/// object of the frame.
 #[inline(never)]
-pub(crate) fn closed<P: Drop, S: Scopes>(
+pub(crate) fn closed<N, S>(
     alloc: Global,
-    going: &mut Going<P>,
+    node: &N,
+    going: &mut Going<N::Progress>,
     scopes: &mut S,
     answer: &mut Result<(), Error>,
 ) -> bool
+where
+    S: Scopes,
+    N: Renderable<S::Register>,
     requires { 0 < length (opened (S.restores scopes.old)) }
     ensures ends { EndsFirst (S.restores scopes.old) (S.view scopes.old) (S.restores scopes.new) (S.view scopes.new) }
     ensures traced { ErrBecomes (refused_through (option_map (λ s. string_bytes s) going.old.trace)) answer.old answer.new }
     ensures goes_on { result ≡ is_ok answer.new }
-    ensures progress { going.new.progress ≡ going.old.progress }
+    ensures progress { N.Progress.shape going.new.progress ≡ N.Progress.shape going.old.progress }
     ensures store { S.store scopes.new ≡ S.store scopes.old }
     ensures borrows { S.lent scopes.new ≡ S.lent scopes.old }
 {
-    scopes.pop();
+    if let Some(names) = scopes.pop_names() {
+        node.recycle(&mut going.progress, names);
+    }
     match answer {
         Ok(()) => true,
         Err(_) => {

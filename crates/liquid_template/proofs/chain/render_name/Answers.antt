@@ -9,7 +9,7 @@ use Rattle.liquid_template.proofs.chain.render_name.Goals as goal
 
 pub returns-in-Some : goal.returns-in-Some
 returns-in-Some g c =
-    value_written _ _ _ _ _ _ _ (ap (λ r. ok_then r (filtered g.X.Filter.means (erase (g.R.Runtime.view c.args.runtime.now)) [])) c.in-Some.ensures) refl c.write_value.ensures
+    value_written _ _ _ _ _ _ _ (ap (λ r. ok_then r (filtered g.X.Filter.means (erase (g.R.Runtime.view c.args.runtime.now)) [])) c.in-Some.ensures.evaluates) refl c.write_value.ensures
 
 pub returns-in-Ok : goal.returns-in-Ok
 returns-in-Ok g c =

@@ -1,7 +1,7 @@
 use Rattle.std.proofs.Common.{◌∙◌, ap, [], ◌∷◌, map}
 use Rattle.liquid_scopes.specs.steps.LinkLayers.{layer_of}
 use Rattle.liquid_scopes.proofs.LayerLaws.{map_append, pops}
-use Rattle.liquid_scopes.proofs.flat_scopes.FlatScopesScopes.pop.Goals as goal
+use Rattle.liquid_scopes.proofs.flat_scopes.FlatScopesScopes.pop_names.Goals as goal
 
 pub returns-in-Some-clause-ends : goal.returns-in-Some-clause-ends
 returns-in-Some-clause-ends g c = pops (g.R.Runtime.view c.args.self.now.base) (g.R.Runtime.view c.closing.new.base) (map layer_of c.args.self.now.table.links.items) (map layer_of c.take.new.self.links.items) (layer_of c.in-Some.link)
