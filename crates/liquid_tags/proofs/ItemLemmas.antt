@@ -1,32 +1,55 @@
 -- What is taken out of the items of a loop, and what is left.
-use Rattle.std.proofs.Common.{◌≡◌, ℕ, zero, suc, ℤ, pos, ◌+◌, ◌-◌, ◌<◌, ◌+ℤ◌, List, [], ◌∷◌, ◌++◌, Option, None, Some, option_map, map, length, drop, refl, sym, ap, ◌∙◌, add-one, arith}
+use Rattle.std.proofs.Common.{◌≡◌, ℕ, zero, suc, ℤ, pos, ◌+◌, ◌-◌, ◌<◌, ◌+ℤ◌, List, [], ◌∷◌, None, Some, option_map, map, length, drop, refl, sym, ap, ◌∙◌, add-one, arith}
 use Rattle.std.specs.Prelude.{slice_get}
-use Rattle.std.specs.Option.{option_to_list}
-use Rattle.std.proofs.lemmas.List.{drop-map}
-use Rattle.std.proofs.lemmas.Option.{slice_get-map}
+use Rattle.std.proofs.lemmas.List.{length-drop, length-map}
+use Rattle.std.proofs.lemmas.Option.{none-some, slice_get-map}
 use Rattle.liquid_scalar.specs.meaning.Scalar.{integer}
-use Rattle.liquid_value.specs.meaning.Tree.{scalar}
-use Rattle.liquid_value.specs.meaning.View.{view}
+use Rattle.liquid_value.specs.meaning.Tree.{Items, scalar}
+use Rattle.liquid_value.specs.meaning.View.{view, items_view}
 use Rattle.liquid_value.specs.declared.value.Value.{Value}
-use Rattle.liquid_tags.specs.meaning.Series.{counted}
+use Rattle.liquid_tags.specs.meaning.Series.{counted, trees}
+use Rattle.liquid_tags.proofs.SeriesLemmas.{trees_of}
 
 pub counted_size : (from : ℤ) (n : ℕ) → n ≡ length (counted from n)
 counted_size from zero = refl
 counted_size from (suc n) = ap suc (counted_size (from +ℤ pos 1) n)
 
--- the first of a list is what was taken out of it
-first_taken : {A : Type 0} (before after : List A) (x : Option A) → before ≡ option_to_list x ++ after → after ≡ drop 1 before → x ≡ slice_get before 0
-first_taken [] after None taken rest = refl
-first_taken (b ∷ bs) after None taken rest =
-    let same : suc (length bs) ≡ length bs = ap length (taken ∙ rest) in
-    absurd (omega arith)
-first_taken before after (Some y) taken rest = sym (ap (λ xs. slice_get xs 0) taken)
+-- what is at a place is the first of what is left from there
+at_place : {A : Type 0} (xs : List A) (place : ℕ) → slice_get (drop place xs) 0 ≡ slice_get xs place
+at_place xs zero = refl
+at_place [] (suc place) = refl
+at_place (x ∷ xs) (suc place) = at_place xs place
 
-pub value_taken : (before after : List Value) (x : Option Value) → before ≡ option_to_list x ++ after → after ≡ drop 1 before → option_map view x ≡ slice_get (map view before) 0
-value_taken before after x taken rest = ap (option_map view) (first_taken before after x taken rest) ∙ sym (slice_get-map view before 0)
+rest_past : {A : Type 0} (xs : List A) (place : ℕ) → drop (suc place) xs ≡ drop 1 (drop place xs)
+rest_past xs zero = refl
+rest_past [] (suc place) = refl
+rest_past (x ∷ xs) (suc place) = rest_past xs place
 
-pub values_behind : (before after : List Value) → after ≡ drop 1 before → map view after ≡ drop 1 (map view before)
-values_behind before after rest = ap (map view) rest ∙ sym (drop-map view 1 before)
+pub rest_after : {A : Type 0} (xs : List A) (place : ℕ) → drop (place + 1) xs ≡ drop 1 (drop place xs)
+rest_after xs place = ap (λ n. drop n xs) (add-one place) ∙ rest_past xs place
+
+none_after : {A : Type 0} (xs : List A) (place : ℕ) → slice_get xs place ≡ None → drop place xs ≡ drop 1 (drop place xs)
+none_after [] zero none = refl
+none_after [] (suc place) none = refl
+none_after (x ∷ xs) zero none = absurd (none-some x (sym none))
+none_after (x ∷ xs) (suc place) none = none_after xs place none
+
+-- the trees of a list of values, from a place on
+module _ (values : List Value) (items : Items) (place : ℕ) (e : items_view values ≡ items) where
+  viewed : trees items ≡ map view values
+  viewed = ap trees (sym e) ∙ trees_of (map view values)
+
+  at_item : slice_get (trees items) place ≡ option_map view (slice_get values place)
+  at_item = ap (λ ts. slice_get ts place) viewed ∙ slice_get-map view values place
+
+  pub left_count : length (drop place (trees items)) ≡ length values - place
+  left_count = length-drop place (trees items) ∙ ap (λ n. n - place) (ap length viewed ∙ length-map values view)
+
+  pub first_left : slice_get (drop place (trees items)) 0 ≡ option_map view (slice_get values place)
+  first_left = at_place (trees items) place ∙ at_item
+
+  pub none_left : slice_get values place ≡ None → drop place (trees items) ≡ drop 1 (drop place (trees items))
+  none_left none = none_after (trees items) place (at_item ∙ ap (option_map view) none)
 
 -- one of so many numbers, and those behind it
 counted_first : (from : ℤ) (size behind : ℕ) → size ≡ behind + 1 → counted from size ≡ scalar (integer from) ∷ counted (from +ℤ pos 1) behind

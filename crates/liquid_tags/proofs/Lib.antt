@@ -6,3 +6,5 @@ pub mod SeriesTokens
 pub mod ConditionLemmas
 pub mod SandboxLemmas
 pub mod PageLemmas
+pub mod Writes
+pub mod ReuseLemmas

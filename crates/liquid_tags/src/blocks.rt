@@ -2,7 +2,7 @@
 ghost use Rattle.std.specs.Prelude.{◌≡◌, IfOk};
 ghost use Rattle.liquid_tags.specs.laws.BlockLaws.{blocks_hide};
 ghost use Rattle.liquid_tags.specs.meaning.Items.{items_left};
-ghost use Rattle.liquid_tags.specs.meaning.Blocks.{block_nodes, block_of, over_items, progress_of};
+ghost use Rattle.liquid_tags.specs.meaning.Blocks.{block_count, block_nodes, block_of, over_items, progress_of};
 
 use crate::condition::{Condition, ConditionShape, chosen};
 use crate::items::Items;
@@ -12,6 +12,7 @@ use crate::series::{Series, SeriesShape, items_of};
 use liquid_error::Error;
 use liquid_plugins::{Bytes, Discreet, ListOf, Meant, Renderable, Turn};
 use liquid_runtime::{Frame, Fresh, Runtime};
+use liquid_value::Object;
 use std::alloc::{AllocError, Global};
 
 /// What a block is made to.
@@ -37,14 +38,26 @@ pub enum BlockShape {
 pub enum BlockProgress {
     /// This part comes, or the block's text, and no turn behind it.
     Once(u64),
-    /// A loop.
-    Loop(Rounds),
+    /// A loop. It is in a box, so that the progress of the other blocks is small.
+    Loop(Box<Rounds>),
 }
 
 /// Stands for the shape of a block's progress.
 pub enum ProgressShape {
     Once(u64),
     Loop(RoundsShape),
+}
+
+impl BlockProgress {
+    /// Returns how many turns there are at most.
+    pub fn turns(&self) -> u64
+        ensures { result ≡ block_count (progress_of self.now) }
+    {
+        match self {
+            BlockProgress::Once(_) => 1,
+            BlockProgress::Loop(rounds) => rounds.turns,
+        }
+    }
 }
 
 impl Meant for BlockNode {
@@ -75,7 +88,7 @@ impl<V: Fresh> Renderable<V> for BlockNode {
                 Err(error) => Err(error),
             },
             BlockNode::For(_, series) => match items_of(alloc, &**series, &*runtime) {
-                Ok(items) => Ok(over_items(items)?),
+                Ok(items) => Ok(over_items(alloc, items)?),
                 Err(error) => Err(error),
             },
             BlockNode::Raw(_) => Ok(BlockProgress::Once(0)),
@@ -83,10 +96,7 @@ impl<V: Fresh> Renderable<V> for BlockNode {
     }
 
     fn turns(progress: &BlockProgress) -> u64 {
-        match progress {
-            BlockProgress::Once(_) => 1,
-            BlockProgress::Loop(rounds) => rounds.turns,
-        }
+        progress.turns()
     }
 
     fn turn<R: Runtime<Register = V>>(
@@ -98,10 +108,17 @@ impl<V: Fresh> Renderable<V> for BlockNode {
         match (self, progress) {
             (BlockNode::Raw(text), _) => Ok(Turn::Text(text.clone()?)),
             (BlockNode::For(name, _), BlockProgress::Loop(rounds)) => {
-                loop_turn(alloc, name, rounds, runtime)
+                loop_turn(alloc, name, &mut **rounds, runtime)
             }
             (_, BlockProgress::Once(part)) => Ok(Turn::Body(*part, Frame::None, None)),
             (BlockNode::If(_), BlockProgress::Loop(_)) => Ok(Turn::End),
+        }
+    }
+
+    fn recycle(&self, progress: &mut BlockProgress, names: Object) {
+        match progress {
+            BlockProgress::Loop(rounds) => rounds.names = Some(names),
+            BlockProgress::Once(_) => {}
         }
     }
 }
@@ -112,7 +129,7 @@ impl<V: Fresh> Discreet<V> for BlockNode {
 
 /// The progress of a loop over these items; without items the `else` part comes.
 #[inline(never)]
-fn over_items(items: Items) -> Result<BlockProgress, AllocError>
+fn over_items(alloc: Global, items: Items) -> Result<BlockProgress, AllocError>
     ensures { IfOk result (λ p. progress_of p ≡ over_items (items_left items)) }
 {
     let size = items.len();
@@ -120,12 +137,17 @@ fn over_items(items: Items) -> Result<BlockProgress, AllocError>
         return Ok(BlockProgress::Once(1));
     }
     match size.checked_add(1) {
-        Some(turns) => Ok(BlockProgress::Loop(Rounds {
-            left: items,
-            place: 0,
-            size,
-            turns,
-        })),
+        Some(turns) => {
+            let rounds = Rounds {
+                left: items,
+                place: 0,
+                size,
+                turns,
+                kept: None,
+                names: None,
+            };
+            Ok(BlockProgress::Loop(Box::new(alloc, rounds)?))
+        }
         None => Err(AllocError),
     }
 }

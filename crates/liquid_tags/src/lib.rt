@@ -8,6 +8,7 @@ pub mod blocks;
 pub mod condition;
 mod increment;
 pub mod items;
+pub mod kept;
 mod languages;
 pub mod laws;
 mod loops;

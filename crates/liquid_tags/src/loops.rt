@@ -1,14 +1,14 @@
 //! The turns of a loop.
-ghost use Rattle.std.specs.Prelude.{◌≡◌, ◌+◌, drop, option_map, pos, slice_get, string_bytes, IfOk, OnOk};
+ghost use Rattle.std.specs.Prelude.{◌≡◌, codes, drop, option_map, slice_get, string_bytes, true, None, IfOk, IfSome, OnOk};
 ghost use Rattle.liquid_error.specs.meaning.Told.{Gives};
-ghost use Rattle.liquid_scalar.specs.meaning.Scalar.{integer};
-ghost use Rattle.liquid_value.specs.meaning.Tree.{scalar};
 ghost use Rattle.liquid_value.specs.meaning.View.{view as tree_of};
 ghost use Rattle.liquid_runtime.specs.meaning.Maps.{names_of};
 ghost use Rattle.liquid_runtime.specs.meaning.Written.{SameFrames};
 ghost use Rattle.liquid_plugins.specs.meaning.TurnOf.{turn_of, Leaves, LeavesProgress};
 ghost use Rattle.liquid_tags.specs.meaning.Loops.{behind, forloop, item_turn, loop_takes, names_of_item, rounds_of};
+ghost use Rattle.liquid_tags.specs.steps.Reuse.{IsWritten, Writes};
 
+use crate::kept::Kept;
 use crate::names::bind;
 use crate::rounds::Rounds;
 use liquid_error::Error;
@@ -16,8 +16,8 @@ use liquid_plugins::Turn;
 use liquid_runtime::names::no_names;
 use liquid_runtime::{Frame, Interrupt, Runtime};
 use liquid_value::{Object, Value};
-use liquid_views::object_of;
 use std::alloc::{AllocError, Global};
+use std::mem;
 
 /// A turn of the loop with this name.
 #[inline(never)]
@@ -44,7 +44,8 @@ pub(crate) fn loop_turn<R: Runtime>(
             return Ok(Turn::End);
         }
     }
-    Ok(item_turn(alloc, name, place, size, item)?)
+    let used = mem::replace(&mut rounds.names, None);
+    Ok(item_turn(alloc, name, &mut rounds.kept, used, place, size, item)?)
 }
 
 /// Takes out the next item, if there is one.
@@ -62,10 +63,12 @@ fn next_item(rounds: &mut Rounds) -> Result<Option<Value>, AllocError>
     }
 }
 
-/// The turn of the item at a place, and the end where there is none.
+/// Returns the turn of the item at a place, or the end if there is none.
 fn item_turn(
     alloc: Global,
     name: &String,
+    kept: &mut Option<Kept>,
+    used: Option<Object>,
     place: u64,
     size: u64,
     item: Option<Value>,
@@ -74,48 +77,56 @@ fn item_turn(
 {
     match item {
         Some(item) => {
-            let loop_object = forloop(alloc, place, size)?;
-            let names = names_of_item(alloc, name, loop_object, item)?;
+            let names = names_of_item(alloc, name, kept, used, place, size, item)?;
             Ok(Turn::Body(0, Frame::Stack(names, None), None))
         }
         None => Ok(Turn::End),
     }
 }
 
-/// The object `forloop` of the item at a place.
-fn forloop(alloc: Global, place: u64, size: u64) -> Result<Value, AllocError>
+/// Returns the object `forloop` of the item at a place: that of the item before, written over.
+fn forloop(
+    alloc: Global,
+    kept: &mut Option<Kept>,
+    place: u64,
+    size: u64,
+) -> Result<Value, AllocError>
     ensures { IfOk result (λ v. tree_of v ≡ forloop place size) }
 {
-    let Some(index) = place.checked_add(1) else {
-        return Err(AllocError);
-    };
-    let members = object_of(
-        alloc,
-        &[
-            ("first", Value::scalar(place == 0)),
-            ("index", number(index)?),
-            ("index0", number(place)?),
-            ("last", Value::scalar(index == size)),
-            ("length", number(size)?),
-            ("rindex", number(size.saturating_sub(place))?),
-            ("rindex0", number(size.saturating_sub(index))?),
-        ],
-    )?;
-    Ok(Value::Object(members))
-}
-
-/// A count as a value. One past the greatest number of a value doesn't come: no memory has room for so many items.
-fn number(count: u64) -> Result<Value, AllocError>
-    ensures { IfOk result (λ v. tree_of v ≡ scalar (integer (pos count))) }
-{
-    match i64::try_from(count) {
-        Ok(number) => Ok(Value::scalar(number)),
-        Err(_) => Err(AllocError),
+    match kept {
+        Some(kept) => kept.turn(alloc, place, size),
+        None => {
+            let (first, object) = Kept::first(alloc, place, size)?;
+            *kept = Some(first);
+            Ok(object)
+        }
     }
 }
 
-/// The names of an item's frame: `forloop`, and the loop's own name, which wins.
+/// Returns the names of an item's frame: `forloop`, and the loop's own name, which wins. They are written over those of
+/// the turn before, if these come back.
 fn names_of_item(
+    alloc: Global,
+    name: &String,
+    kept: &mut Option<Kept>,
+    used: Option<Object>,
+    place: u64,
+    size: u64,
+    item: Value,
+) -> Result<Object, AllocError>
+    ensures { IfOk result (λ names. names_of names ≡ names_of_item (string_bytes name.now) (forloop place size) (tree_of item)) }
+{
+    match used {
+        Some(names) => match write_over(alloc, name, kept, names, place, size, item)? {
+            Written::Names(names) => Ok(names),
+            Written::Item(item) => new_names(alloc, name, forloop(alloc, kept, place, size)?, item),
+        },
+        None => new_names(alloc, name, forloop(alloc, kept, place, size)?, item),
+    }
+}
+
+/// Makes the names of an item's frame.
+fn new_names(
     alloc: Global,
     name: &String,
     loop_object: Value,
@@ -127,4 +138,70 @@ fn names_of_item(
     bind(alloc, &mut names, "forloop", loop_object)?;
     bind(alloc, &mut names, name.as_str(), item)?;
     Ok(names)
+}
+
+/// Names that were written over, or the item for which others are to be made.
+pub(crate) enum Written {
+    Names(Object),
+    Item(Value),
+}
+
+/// Writes the object `forloop` and an item over those of the turn before, where the names are these two alone.
+fn write_over(
+    alloc: Global,
+    name: &String,
+    kept: &mut Option<Kept>,
+    names: Object,
+    place: u64,
+    size: u64,
+    item: Value,
+) -> Result<Written, AllocError>
+    ensures { IfOk result (λ written. IsWritten (names_of_item (string_bytes name.now) (forloop place size) (tree_of item)) (tree_of item) written) }
+{
+    let mut names = names;
+    if names.len() != 2 || name.as_str() == "forloop" {
+        return Ok(Written::Item(item));
+    }
+    if !write_loop(alloc, &mut names, kept, place, size)? {
+        return Ok(Written::Item(item));
+    }
+    match write_name(&mut names, name.as_str(), item) {
+        Some(item) => Ok(Written::Item(item)),
+        None => Ok(Written::Names(names)),
+    }
+}
+
+/// Writes the object `forloop` of an item over that of the turn before, if the names have one. The frame lets go of the one
+/// before first, so that the loop alone has it and can change it in place.
+fn write_loop(
+    alloc: Global,
+    names: &mut Object,
+    kept: &mut Option<Kept>,
+    place: u64,
+    size: u64,
+) -> Result<bool, AllocError>
+    ensures { IfOk result (λ is_written. is_written ≡ true → Writes (codes "forloop") (forloop place size) names.old.entries names.new.entries) }
+{
+    match names.get_mut("forloop") {
+        Some(slot) => {
+            *slot = Value::Nil;
+            *slot = forloop(alloc, kept, place, size)?;
+            Ok(true)
+        }
+        None => Ok(false),
+    }
+}
+
+/// Writes a value over that of a name, and gives it back if there is no such name.
+fn write_name(names: &mut Object, name: &str, value: Value) -> Option<Value>
+    ensures written { result ≡ None → Writes name.now (tree_of value) names.old.entries names.new.entries }
+    ensures back { IfSome result (λ back. back ≡ value) }
+{
+    match names.get_mut(name) {
+        Some(slot) => {
+            *slot = value;
+            None
+        }
+        None => Some(value),
+    }
 }

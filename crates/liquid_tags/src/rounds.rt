@@ -2,16 +2,21 @@
 ghost use Rattle.liquid_tags.specs.meaning.Loops.{rounds_of};
 
 use crate::items::Items;
+use crate::kept::Kept;
 use liquid_plugins::{ListOf, Meant, TreeMark};
+use liquid_value::Object;
 
 /// The items that are left of a loop, the place of the first of them, how many items there were, and
-/// how many turns there are: one for each item, and one behind the last.
+/// how many turns there are: one for each item, and one after the last. Beside them, the object `forloop`
+/// and the names of the frame of the turn that has ended, which the next turn writes over.
 #[derive(Drop)]
 pub struct Rounds {
-    pub left: Items,
-    pub place: u64,
-    pub size: u64,
-    pub turns: u64,
+    pub(crate) left: Items,
+    pub(crate) place: u64,
+    pub(crate) size: u64,
+    pub(crate) turns: u64,
+    pub(crate) kept: Option<Kept>,
+    pub(crate) names: Option<Object>,
 }
 
 /// Stands for the shape of a loop's progress.

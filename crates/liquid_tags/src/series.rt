@@ -1,5 +1,5 @@
 //! What a loop goes over.
-ghost use Rattle.std.specs.Prelude.{◌≡◌, map, string_bytes, IfOk, IfSome, option_and_then};
+ghost use Rattle.std.specs.Prelude.{◌≡◌, [], map, string_bytes, IfOk, IfSome, option_and_then};
 ghost use Rattle.liquid_error.specs.meaning.Told.{told, Gives};
 ghost use Rattle.liquid_scalar.specs.meaning.Scalar.{to_integer};
 ghost use Rattle.liquid_value.specs.meaning.Cow.{cow_view};
@@ -17,9 +17,8 @@ use liquid_error::Error;
 use liquid_plugins::{Expression, ExpressionMark, Meant};
 use liquid_runtime::Runtime;
 use liquid_value::render::ValueSource;
-use liquid_value::{Array, Object, Value, ValueCow};
+use liquid_value::{Array, Object, SharedArray, Value, ValueCow};
 use std::alloc::{AllocError, Global};
-use std::collections::VecDeque;
 
 /// A value, or the numbers of a range.
 #[derive(Drop)]
@@ -67,35 +66,42 @@ pub(crate) fn items_of<R: Runtime>(
     }
 }
 
-/// The items of a value. Each is copied at most once.
+/// Returns the items of a value. An array that the value shares is not copied.
 #[tactic(auto, using(crate::proofs::SeriesLemmas::items_of_object))]
 fn items_in(alloc: Global, value: ValueCow<'_>) -> Result<Items, Error>
     ensures { Gives items_left result (items_in (cow_view value.entry)) }
 {
     if let Some(members) = value.as_object() {
-        return Ok(Items::Listed(VecDeque::from(pairs(alloc, members)?)));
+        return Ok(pairs_of(alloc, members)?);
     }
     items_of_owned(alloc, value.into_owned()?)
 }
 
-/// The items of a value that is the loop's own.
+/// Returns the items of a value that is the loop's own.
 fn items_of_owned(alloc: Global, value: Value) -> Result<Items, Error>
     ensures { Gives items_left result (items_in (tree_of value)) }
 {
     match value {
-        Value::Array(items) => Ok(Items::Listed(owned_items(items))),
-        Value::Object(members) => Ok(Items::Listed(VecDeque::from(pairs(alloc, &members)?))),
-        Value::State(_) | Value::Nil => Ok(Items::Listed(VecDeque::new(alloc))),
+        Value::Array(array) => Ok(Items::listed(array)),
+        Value::Object(members) => Ok(pairs_of(alloc, members.as_object())?),
+        Value::State(_) | Value::Nil => Ok(no_items(alloc)),
         Value::Scalar(scalar) => Err(expected(alloc, "Array expected", &Value::Scalar(scalar))),
     }
 }
 
-/// The items of an array, which are its trees.
-#[tactic(auto, using(crate::proofs::SeriesLemmas::trees_of))]
-fn owned_items(items: Array) -> VecDeque<Value>
-    ensures { trees (items_view items.items) ≡ map tree_of result.items }
+/// Returns no items.
+fn no_items(alloc: Global) -> Items
+    ensures { items_left result ≡ [] }
 {
-    VecDeque::from(items)
+    Items::listed(SharedArray::Own(Vec::new(alloc)))
+}
+
+/// Returns the pairs of an object as items.
+
+fn pairs_of(alloc: Global, members: &Object) -> Result<Items, AllocError>
+    ensures { IfOk result (λ items. items_left items ≡ pairs (members_view members.now.entries)) }
+{
+    Ok(Items::listed(SharedArray::Own(pairs(alloc, members)?)))
 }
 
 /// The pairs of an object.
@@ -116,7 +122,7 @@ fn pair(alloc: Global, name: &String, value: &Value) -> Result<Value, AllocError
     let mut pair = Array::with_capacity(alloc, 2)?;
     pair.push(Value::scalar(name.clone()?))?;
     pair.push(value.clone()?)?;
-    Ok(Value::Array(pair))
+    Ok(Value::Array(SharedArray::shared(alloc, pair)?))
 }
 
 /// The whole number that an expression comes to.

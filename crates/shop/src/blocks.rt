@@ -9,7 +9,7 @@ ghost use Rattle.shop.specs.laws.BlockLaws.{blocks_hide};
 ghost use Rattle.shop.specs.meaning.Blocks.{block_nodes, block_of, part_for, stock_turn};
 
 use liquid_core::error::Error;
-use liquid_core::model::Value;
+use liquid_core::model::{Object, Value};
 use liquid_core::parser::{Discreet, Meant};
 use liquid_core::runtime::{Expression, ExpressionMark, Frame, Fresh, Renderable, Runtime, Turn};
 use liquid_tags::blocks::BlockShape;
@@ -58,10 +58,7 @@ impl<V: Fresh> Renderable<V> for ShopBlock {
     }
 
     fn turns(progress: &BlockProgress) -> u64 {
-        match progress {
-            BlockProgress::Once(_) => 1,
-            BlockProgress::Loop(rounds) => rounds.turns,
-        }
+        progress.turns()
     }
 
     fn turn<R: Runtime<Register = V>>(
@@ -73,6 +70,13 @@ impl<V: Fresh> Renderable<V> for ShopBlock {
         match self {
             ShopBlock::Library(block) => block.turn(alloc, progress, runtime),
             ShopBlock::Stock(_) => Ok(stock_turn(&*progress)),
+        }
+    }
+
+    fn recycle(&self, progress: &mut BlockProgress, names: Object) {
+        match self {
+            ShopBlock::Library(block) => Renderable::<V>::recycle(block, progress, names),
+            ShopBlock::Stock(_) => {}
         }
     }
 }

@@ -1,5 +1,5 @@
 -- Blocks whose turns do not depend on hidden globals.
-use Rattle.std.proofs.Common.{◌≡◌, ℕ, zero, suc, ◌+◌, List, [], ◌∷◌, cond, None, Ok, Result, slice_get, refl, ap, ◌∙◌}
+use Rattle.std.proofs.Common.{◌≡◌, ℕ, zero, suc, ◌+◌, List, [], ◌∷◌, cond, None, Ok, slice_get, refl, ap, ◌∙◌}
 use Rattle.std.specs.FinMap.{empty}
 use Rattle.liquid_error.specs.meaning.Refusal.{ok_then}
 use Rattle.liquid_runtime.specs.meaning.Maps.{Names}

@@ -8,19 +8,18 @@ use Rattle.liquid_runtime.specs.meaning.Maps.{Names}
 use Rattle.liquid_runtime.proofs.MapLaws.{empty-over, insert-over}
 use Rattle.liquid_runtime.specs.meaning.View.{View}
 use Rattle.liquid_runtime.specs.meaning.Calls.{value_in}
-use Rattle.liquid_runtime.specs.meaning.Written.{written_of}
 use Rattle.liquid_runtime.specs.meaning.Sets.{old_index, put_index}
 use Rattle.liquid_runtime.specs.meaning.Erased.{erase}
 use Rattle.liquid_plugins.specs.meaning.Chain.{FilterMeaning, ChainShape, chain_value, filtered}
 use Rattle.liquid_plugins.specs.meaning.Expression.{ExpressionShape}
 use Rattle.liquid_plugins.specs.meaning.Evaluation.{evaluate}
-use Rattle.liquid_plugins.specs.meaning.Turns.{TurnShape, text_turn, end_turn, Answered}
+use Rattle.liquid_plugins.specs.meaning.Turns.{text_turn, end_turn}
 use Rattle.liquid_plugins.specs.meaning.Discreet.{Discreet, hiding, overlaid, HidesGlobals}
 use Rattle.std.specs.Fmt.{signed_decimal}
 use Rattle.liquid_tags.specs.declared.partials.Inclusion.{Inclusion}
 use Rattle.liquid_tags.specs.declared.tags.TagShape.{TagShape}
 use Rattle.liquid_tags.specs.declared.tags.TagShape.TheVariants.{Assign, Increment, Interrupts, Includes}
-use Rattle.liquid_tags.specs.meaning.Counters.{counted_on, counts_from, increments, one_higher, past_limit}
+use Rattle.liquid_tags.specs.meaning.Counters.{counted_on, counts_from, one_higher, past_limit}
 use Rattle.liquid_plugins.proofs.Hiding.{answers_hide, evaluate_hidden}
 use Rattle.liquid_tags.specs.meaning.Partials.{Pair, bound, included, inclusion_turn, partial_name}
 use Rattle.liquid_tags.specs.meaning.Tags.{assigns, tag_nodes, tag_takes}

@@ -27,7 +27,7 @@ block_of (block.Raw slice) = shape.Raw (string_bytes slice)
 
 abbrev pub progress_of : BlockProgress → ProgressShape
 progress_of (progress.Once part) = Once part
-progress_of (progress.Loop r) = Loop (rounds_of r)
+progress_of (progress.Loop r) = Loop (rounds_of r.value)
 
 -- a loop over these items; without items its `else` part is rendered
 abbrev pub over_items : List Tree → ProgressShape

@@ -1,5 +1,5 @@
 -- Conditions: what each is made of, and whether it holds.
-use Rattle.std.specs.Prelude.{ℕ, List, [], ◌∷◌, ◌+◌, Bool, true, false, not, cond, Option, None, Some, Result, Ok, Err}
+use Rattle.std.specs.Prelude.{ℕ, List, [], ◌∷◌, ◌+◌, Bool, true, false, not, cond, Option, None, Some, Result, Ok}
 use Rattle.std.specs.declared.cmp.Ordering.{Ordering}
 use Rattle.std.specs.declared.cmp.Ordering.TheVariants as ordering
 use Rattle.liquid_error.specs.meaning.Refusal.{Refusal, ok_then}
@@ -9,7 +9,6 @@ use Rattle.liquid_value.specs.meaning.Kind.{query_state}
 use Rattle.liquid_value.specs.meaning.Loose.{value_eq}
 use Rattle.liquid_value.specs.meaning.Order.{value_cmp}
 use Rattle.liquid_runtime.specs.meaning.View.{View}
-use Rattle.liquid_plugins.specs.meaning.Expression.{ExpressionShape}
 use Rattle.liquid_plugins.specs.meaning.Evaluation.{evaluate, try_evaluate}
 use Rattle.liquid_plugins.specs.meaning.ExpressionOf.{expression_of}
 use Rattle.liquid_tags.specs.declared.condition.Comparison.{Comparison}

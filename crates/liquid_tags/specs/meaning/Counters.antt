@@ -1,5 +1,5 @@
 -- The tag `increment`.
-use Rattle.std.specs.Prelude.{ℕ, ℤ, pos, ◌+ℤ◌, ◌-◌, ◌^◌, List, codes, cond, Option, None, Some, option_and_then, unwrap_or, Result, Ok, Err}
+use Rattle.std.specs.Prelude.{ℕ, ℤ, pos, ◌+ℤ◌, ◌-◌, ◌^◌, List, codes, cond, Option, None, Some, option_and_then, unwrap_or, Ok, Err}
 use Rattle.std.specs.Fmt.{signed_decimal}
 use Rattle.std.specs.Int.Signed.{le_z}
 use Rattle.liquid_error.specs.meaning.Refusal.{Refusal, plain, with_context, ok_then}

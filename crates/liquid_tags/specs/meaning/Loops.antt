@@ -2,7 +2,7 @@
 use Rattle.std.specs.Prelude.{ℕ, zero, suc, ◌+◌, ◌-◌, ◌==◌, List, drop, slice_get, codes, pos, Bool, true, false, cond, Option, None, Some, Ok}
 use Rattle.std.specs.FinMap.{empty, insert}
 use Rattle.liquid_scalar.specs.meaning.Scalar.{integer, boolean}
-use Rattle.liquid_value.specs.meaning.Tree.{Tree, scalar, object, no_members, member}
+use Rattle.liquid_value.specs.meaning.Tree.{Tree, scalar, object, Members, no_members, member}
 use Rattle.liquid_runtime.specs.declared.registers.Interrupt.{Interrupt}
 use Rattle.liquid_runtime.specs.declared.registers.Interrupt.TheVariants.{Break}
 use Rattle.liquid_runtime.specs.meaning.Maps.{Names}
@@ -21,16 +21,19 @@ rounds_of r = record { left = items_left r.left; place = r.place; size = r.size;
 abbrev number : ℕ → Tree
 number n = scalar (integer (pos n))
 
--- the object `forloop` of the item at a place, where places count from 0
-abbrev pub forloop : ℕ → ℕ → Tree
-forloop place size = object (
+-- the members of `forloop` of the item at a place, where places count from 0
+abbrev pub forloop_members : ℕ → ℕ → Members
+forloop_members place size =
     member (codes "first") (scalar (boolean (place == 0))) (
     member (codes "index") (number (place + 1)) (
     member (codes "index0") (number place) (
     member (codes "last") (scalar (boolean (place + 1 == size))) (
     member (codes "length") (number size) (
     member (codes "rindex") (number (size - place)) (
-    member (codes "rindex0") (number (size - (place + 1))) no_members)))))))
+    member (codes "rindex0") (number (size - (place + 1))) no_members))))))
+
+abbrev pub forloop : ℕ → ℕ → Tree
+forloop place size = object (forloop_members place size)
 
 -- the names of the frame of an item: `forloop` and the loop's own name, which wins
 abbrev pub names_of_item : List ℕ → Tree → Tree → Names

@@ -1,9 +1,9 @@
 -- The tags `include` and `render`: what they read, and the partial that they ask for.
-use Rattle.std.specs.Prelude.{ℕ, List, [], ◌∷◌, ◌++◌, codes, Option, Some, map, string_bytes, String, ok_or, Result, Ok, Err}
+use Rattle.std.specs.Prelude.{ℕ, List, [], ◌∷◌, ◌++◌, codes, Some, map, string_bytes, String, ok_or, Result, Ok}
 use Rattle.std.specs.declared.alloc.Global.{Global}
 use Rattle.std.specs.FinMap.{empty, insert}
 use Rattle.liquid_error.specs.meaning.Refusal.{Refusal, ok_then}
-use Rattle.liquid_scalar.specs.meaning.Scalar.{Scal, render_scalar}
+use Rattle.liquid_scalar.specs.meaning.Scalar.{render_scalar}
 use Rattle.liquid_value.specs.meaning.Tree.{Tree}
 use Rattle.liquid_value.specs.meaning.Parts.{as_scalar}
 use Rattle.liquid_runtime.specs.meaning.Maps.{Names}

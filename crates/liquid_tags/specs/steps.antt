@@ -1,0 +1,2 @@
+pub mod Forloops
+pub mod Reuse
