@@ -1,30 +1,30 @@
 ghost use Rattle.std.specs.Prelude.{◌≡◌, ◌∷◌, IfSome, is_some, map, option_map, string_bytes};
 ghost use Rattle.liquid.specs.meaning.Command.{
   are_paths,
-  begin_with,
-  behind,
   first_word,
   is_command,
   is_path,
   is_verb,
-  options_in,
+  options_before,
   options_of,
   path_words,
-  paths_in,
   paths_of,
+  with_option,
 };
 
-/// `render [--sandboxed] [--lenient] TEMPLATE GLOBALS.json [DIR]`: its options, and the paths of a
-/// template, of its globals and of the folder of its partials, if there is one.
+/// `render [--standard] [--sandboxed] [--lenient] TEMPLATE GLOBALS.json [DIR]`: its options, and the
+/// paths of a template, of its globals and of the folder of its partials, if there is one.
 #[derive(Clone, Copy)]
 pub struct Command<'w> {
     pub options: Options,
     pub paths: Paths<'w>,
 }
 
-/// Whether to render in a sandbox, and whether a name without a value is nil and no refusal.
+/// Whether to render with the standard filters, whether to render in a sandbox, and whether a name
+/// without a value is nil instead of an error.
 #[derive(Clone, Copy)]
 pub struct Options {
+    pub standard: bool,
     pub sandboxed: bool,
     pub lenient: bool,
 }
@@ -36,6 +36,12 @@ pub struct Paths<'w> {
     pub globals: &'w str,
     pub folder: Option<&'w str>,
 }
+
+const NO_OPTIONS: Options = Options {
+    standard: false,
+    sandboxed: false,
+    lenient: false,
+};
 
 fn is_verb(word: &str) -> bool
     ensures { result ≡ is_verb word.now }
@@ -85,40 +91,41 @@ impl<'w> Paths<'w> {
     }
 }
 
-/// Whether the words begin with this option, and the words behind it.
-fn split_option<'w>(words: &'w [String], option: &str) -> (bool, &'w [String])
-    ensures begins { result.0 ≡ begin_with option.now (map string_bytes words.now) }
-    ensures behind { map string_bytes result.1.now ≡ behind option.now (map string_bytes words.now) }
+/// Returns the options with the one that a word is. There are none where it is no option, or one that is there.
+fn with_option(word: &str, options: Options) -> Option<Options>
+    ensures { result ≡ with_option word.now options }
 {
-    match words.split_first() {
-        Some((word, rest)) => if word.as_str() == option {
-            (true, rest)
-        } else {
-            (false, words)
-        },
-        None => (false, words),
+    if word == "--standard" && !options.standard {
+        Some(Options {
+            standard: true,
+            ..options
+        })
+    } else if word == "--sandboxed" && !options.sandboxed {
+        Some(Options {
+            sandboxed: true,
+            ..options
+        })
+    } else if word == "--lenient" && !options.lenient {
+        Some(Options {
+            lenient: true,
+            ..options
+        })
+    } else {
+        None
     }
 }
 
-/// The options that the words begin with, and the words behind them.
-fn split_options(words: &[String]) -> (Options, &[String])
-    ensures options { result.0 ≡ options_in (map string_bytes words.now) }
-    ensures behind { map string_bytes result.1.now ≡ paths_in (map string_bytes words.now) }
+/// Splits off the options that the words begin with, and adds them to these.
+fn split_options(options: Options, words: &[String]) -> (Options, &[String])
+    ensures options { result.0 ≡ (options_before options (map string_bytes words.now)).0 }
+    ensures paths { map string_bytes result.1.now ≡ (options_before options (map string_bytes words.now)).1 }
 {
-    let (sandboxed, rest) = split_option(words, "--sandboxed");
-    if sandboxed {
-        let (lenient, rest) = split_option(rest, "--lenient");
-        (
-            Options {
-                sandboxed: true,
-                lenient,
-            },
-            rest,
-        )
-    } else {
-        let (lenient, rest) = split_option(words, "--lenient");
-        let (sandboxed, rest) = split_option(rest, "--sandboxed");
-        (Options { sandboxed, lenient }, rest)
+    match words {
+        [] => (options, words),
+        [word, rest @ ..] => match with_option(word.as_str(), options) {
+            Some(options) => split_options(options, rest),
+            None => (options, words),
+        },
     }
 }
 
@@ -134,7 +141,7 @@ impl<'w> Command<'w> {
         if !is_verb(verb.as_str()) {
             return None;
         }
-        let (options, rest) = split_options(rest);
+        let (options, rest) = split_options(NO_OPTIONS, rest);
         let paths = Paths::from_words(rest)?;
         Some(Command { options, paths })
     }

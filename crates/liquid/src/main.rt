@@ -3,6 +3,7 @@
 
 pub mod command;
 pub mod fault;
+pub mod filters;
 pub mod folder;
 pub mod gather;
 pub mod in_memory;

@@ -10,9 +10,7 @@ ghost use Rattle.liquid.specs.meaning.Program.{built_over, IsFoundIn, Renders};
 ghost use Rattle.liquid.specs.meaning.ProgramLanguage.{meaning_of, program_language, ProgramAnswer, setting_over};
 
 use crate::command::Options;
-use bench::Filters;
-use bench::filters::AnyFilter;
-use bench::languages::filters;
+use crate::filters::{ProgramFilter, ProgramFilters, program_filters};
 use liquid_core::parser::{Language, parse};
 use liquid_core::partials::{InMemorySource, LazyCompiler, LazyStore, PartialCompiler};
 use liquid_core::runtime::{BuiltRuntime, Runtime, RuntimeBuilder, Template};
@@ -23,10 +21,10 @@ use std::alloc::{AllocError, Global};
 use std::rc::Rc;
 
 /// The program's language.
-type ProgramLanguage = Language<Filters, Tags, Blocks>;
+type ProgramLanguage = Language<ProgramFilters, Tags, Blocks>;
 
 /// The program's store of partials.
-type Store = LazyStore<InMemorySource, Filters, Tags, Blocks>;
+type Store = LazyStore<InMemorySource, ProgramFilters, Tags, Blocks>;
 
 /// Writes what the text comes to over these globals and these partials, by these options.
 #[tactic(auto, using(crate::proofs::UntouchedSinks::untouched))]
@@ -43,7 +41,7 @@ pub fn render_over<K: Sink>(
     ensures behind { Grows (K.sunk sink.old) (K.sunk sink.new) }
     ensures borrows { (K.sunk sink.new).lent ≡ (K.sunk sink.old).lent }
 {
-    match shared_language(alloc) {
+    match shared_language(alloc, options.standard) {
         Ok(language) => {
             render_in_language(alloc, options, text, &language, globals, partials, sink)
         }
@@ -51,10 +49,10 @@ pub fn render_over<K: Sink>(
     }
 }
 
-fn shared_language(alloc: Global) -> Result<Rc<ProgramLanguage>, AllocError>
-    ensures { IfOk result (λ language. meaning_of language.value ≡ program_language) }
+fn shared_language(alloc: Global, standard: bool) -> Result<Rc<ProgramLanguage>, AllocError>
+    ensures { IfOk result (λ language. meaning_of language.value ≡ program_language standard) }
 {
-    Ok(Rc::new(alloc, language(alloc, filters(alloc)?)?)?)
+    Ok(Rc::new(alloc, language(alloc, program_filters(alloc, standard)?)?)?)
 }
 
 /// Writes what the text comes to in the program's language.
@@ -68,14 +66,18 @@ fn render_in_language<K: Sink>(
     partials: Option<InMemorySource>,
     sink: &mut K,
 ) -> Result<(), Error>
-    requires { meaning_of language.now.value ≡ program_language }
+    requires { meaning_of language.now.value ≡ program_language options.standard }
     ensures renders { Renders options text.now (names_of globals) partials
         (K.sunk sink.old) (K.sunk sink.new) result }
     ensures behind { Grows (K.sunk sink.old) (K.sunk sink.new) }
     ensures borrows { (K.sunk sink.new).lent ≡ (K.sunk sink.old).lent }
 {
-    let Options { sandboxed, lenient } = options;
-    match store_of(alloc, language, partials) {
+    let Options {
+        standard,
+        sandboxed,
+        lenient,
+    } = options;
+    match store_of(alloc, standard, language, partials) {
         Ok(store) => if sandboxed {
             let mut runtime = runtime_of(alloc, lenient, no_names(alloc), store);
             render_sandboxed_source(alloc, text, language, &mut runtime, globals, sink)
@@ -99,7 +101,7 @@ fn render_sandboxed_source<K: Sink>(
 ) -> Result<(), Error>
     ensures rendered { (answer : ProgramAnswer) → Reads (meaning_of language.now) text.now answer
         → RenderedBy (λ nodes. sandboxed_run (setting_over
-        (option_map ⟦<Store as PartialStore<AnyFilter, TagNode<AnyFilter>, BlockNode>>⟧.finds
+        (option_map ⟦<Store as PartialStore<ProgramFilter, TagNode<ProgramFilter>, BlockNode>>⟧.finds
         (⟦<BuiltRuntime<(), Store> as Runtime>⟧.store runtime.old))) (names_of «data») None (nodes_from nodes))
         answer (⟦<BuiltRuntime<(), Store> as Runtime>⟧.view runtime.old)
         (K.sunk sink.old) (K.sunk sink.new)
@@ -115,8 +117,7 @@ fn render_sandboxed_source<K: Sink>(
 
 /// The same language once more.
 fn shared(language: &Rc<ProgramLanguage>) -> Result<Rc<ProgramLanguage>, AllocError>
-    requires { meaning_of language.now.value ≡ program_language }
-    ensures { IfOk result (λ copy. meaning_of copy.value ≡ program_language) }
+    ensures { IfOk result (λ copy. meaning_of copy.value ≡ meaning_of language.now.value) }
 {
     language.clone()
 }
@@ -124,12 +125,13 @@ fn shared(language: &Rc<ProgramLanguage>) -> Result<Rc<ProgramLanguage>, AllocEr
 /// A store of the partials, if there are any, in this language.
 fn store_of(
     alloc: Global,
+    standard: bool,
     language: &Rc<ProgramLanguage>,
     partials: Option<InMemorySource>,
 ) -> Result<Option<Store>, AllocError>
-    requires { meaning_of language.now.value ≡ program_language }
-    ensures { IfOk result (λ store. IsFoundIn partials
-        (option_map ⟦<Store as PartialStore<AnyFilter, TagNode<AnyFilter>, BlockNode>>⟧.finds store)) }
+    requires { meaning_of language.now.value ≡ program_language standard }
+    ensures { IfOk result (λ store. IsFoundIn standard partials
+        (option_map ⟦<Store as PartialStore<ProgramFilter, TagNode<ProgramFilter>, BlockNode>>⟧.finds store)) }
 {
     match partials {
         Some(source) => Ok(Some(LazyCompiler::new(source).compile(alloc, shared(language)?)?)),

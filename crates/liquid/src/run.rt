@@ -13,12 +13,13 @@ use liquid_core::{Error, Sink, WriterSink};
 use std::alloc::Global;
 use std::io::{self, Write};
 
-/// Runs the command that the words behind the program's name give: `render [--sandboxed]
+/// Runs the command that the words behind the program's name give: `render [--standard] [--sandboxed]
 /// [--lenient] TEMPLATE GLOBALS.json [DIR]` writes the template at that path to `out`, over the globals
 /// that the JSON object gives. Each file directly in the folder DIR is a partial under its file name.
-/// With `--sandboxed` the object is the data of a sandbox without a name, over a runtime that has no
+/// With `--standard` the template has the standard filters in place of `append` and `fail`. With
+/// `--sandboxed` the object is the data of a sandbox without a name, over a runtime that has no
 /// globals. With `--lenient` a name or an index without a value is nil, and no refusal. The options
-/// stand in either order.
+/// stand in any order.
 ///
 /// It answers the exit status: 0 where the template was rendered; 1 where parsing or rendering was
 /// refused, with the error's text on `err`; 2 where the words are no command, with the usage on

@@ -4,6 +4,7 @@ mod globals;
 mod lenient;
 mod partials;
 mod sandbox;
+mod standard;
 mod streams;
 mod templates;
 

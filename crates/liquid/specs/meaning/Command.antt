@@ -1,5 +1,6 @@
--- The command line `render [--sandboxed] [--lenient] TEMPLATE GLOBALS.json [DIR]`.
+-- The command line `render [--standard] [--sandboxed] [--lenient] TEMPLATE GLOBALS.json [DIR]`.
 use Rattle.std.specs.Prelude.{◌&&◌, ℕ, List, [], ◌∷◌, Bool, true, false, not, Option, None, Some, codes, nat_eq, if◌then◌else◌}
+use Rattle.std.specs.Option.{option_map_or}
 use Rattle.std.specs.Str.{bytes_eq}
 use Rattle.std.specs.List.{starts_with}
 use Rattle.liquid.specs.declared.command.Options.{Options}
@@ -8,14 +9,8 @@ use Rattle.liquid.specs.declared.command.Options.{Options}
 abbrev pub is_verb : List ℕ → Bool
 is_verb word = bytes_eq word (codes "render")
 
--- whether the words begin with this option, and what stands behind it
-abbrev pub begin_with : List ℕ → List (List ℕ) → Bool
-begin_with option [] = false
-begin_with option (word ∷ words) = bytes_eq word option
-
-abbrev pub behind : List ℕ → List (List ℕ) → List (List ℕ)
-behind option [] = []
-behind option (word ∷ words) = if bytes_eq word option then words else word ∷ words
+abbrev pub standard_word : List ℕ
+standard_word = codes "--standard"
 
 abbrev pub sandboxed_word : List ℕ
 sandboxed_word = codes "--sandboxed"
@@ -23,16 +18,28 @@ sandboxed_word = codes "--sandboxed"
 abbrev pub lenient_word : List ℕ
 lenient_word = codes "--lenient"
 
--- the options stand in front, in either order, each at most once
-abbrev pub options_in : List (List ℕ) → Options
-options_in words =
-    if begin_with sandboxed_word words then record { sandboxed = true; lenient = begin_with lenient_word (behind sandboxed_word words) }
-    else record { sandboxed = begin_with sandboxed_word (behind lenient_word words); lenient = begin_with lenient_word words }
+-- no option
+abbrev pub no_options : Options
+no_options = record { standard = false; sandboxed = false; lenient = false }
 
--- what stands behind them
+-- the options with the one that a word is; none where it is no option, or one that is there
+abbrev pub with_option : List ℕ → Options → Option Options
+with_option word o =
+    if bytes_eq word standard_word && not o.standard then Some (record o { standard = true })
+    else if bytes_eq word sandboxed_word && not o.sandboxed then Some (record o { sandboxed = true })
+    else if bytes_eq word lenient_word && not o.lenient then Some (record o { lenient = true })
+    else None
+
+-- the options that the words begin with, in any order, each at most once, after these; and the words after them
+abbrev pub options_before : Options → List (List ℕ) → Options × List (List ℕ)
+options_before o [] = (o, [])
+options_before o (word ∷ words) = option_map_or (λ more. options_before more words) (with_option word o) (o, word ∷ words)
+
+abbrev pub options_in : List (List ℕ) → Options
+options_in words = (options_before no_options words).0
+
 abbrev pub paths_in : List (List ℕ) → List (List ℕ)
-paths_in words =
-    if begin_with sandboxed_word words then behind lenient_word (behind sandboxed_word words) else behind sandboxed_word (behind lenient_word words)
+paths_in words = (options_before no_options words).1
 
 -- a word that begins with `--` is no path of a template
 abbrev pub is_path : List ℕ → Bool
@@ -51,7 +58,7 @@ is_command (verb ∷ words) = is_verb verb && are_paths (paths_in words)
 
 -- the options of a command, and the paths that it names
 abbrev pub options_of : List (List ℕ) → Options
-options_of [] = record { sandboxed = false; lenient = false }
+options_of [] = no_options
 options_of (verb ∷ words) = options_in words
 
 abbrev pub paths_of : List (List ℕ) → List (List ℕ)

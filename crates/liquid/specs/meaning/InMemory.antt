@@ -44,7 +44,7 @@ ShowsNothing output status = (output ≡ []) × ((status ≡ 3) ⊎ (status ≡ 
 -- the template's text over the globals, with a store of the partials
 abbrev pub ShowsText : Options → List ℕ → Names → Option Texts → List ℕ → ℕ → Type 0
 ShowsText options text globals partials output status =
-    (answer : ProgramAnswer) → Reads program_language text answer → (found : Option ProgramFound) → IsFoundIn partials found → ShowsAnswer (program_run options globals found) answer output status
+    (answer : ProgramAnswer) → Reads (program_language options.standard) text answer → (found : Option ProgramFound) → IsFoundIn options.standard partials found → ShowsAnswer (program_run options globals found) answer output status
 
 -- what a command shows, by the files at its paths
 abbrev pub ShowsCommand : Options → List (List ℕ) → (List ℕ → Option (List ℕ)) → (List ℕ → Option (List (List ℕ))) → List ℕ → ℕ → Type 0

@@ -24,11 +24,11 @@ use Rattle.liquid.specs.meaning.Status.{settled}
 abbrev pub built_over : Bool → Names → View (Unit {0})
 built_over lenient globals = leniently lenient (built_view tt 32 globals)
 
--- a store of these texts finds what they are read as; where there are no texts there is no store
-abbrev pub IsFoundIn : Option Texts → Option ProgramFound → Type 0
-IsFoundIn None found = found ≡ None
-IsFoundIn (Some texts) None = ⊥
-IsFoundIn (Some texts) (Some found) = Compiled program_language texts found
+-- a store of these texts finds what they are read as, with the standard filters or without; where there are no texts there is no store
+abbrev pub IsFoundIn : Bool → Option Texts → Option ProgramFound → Type 0
+IsFoundIn standard None found = found ≡ None
+IsFoundIn standard (Some texts) None = ⊥
+IsFoundIn standard (Some texts) (Some found) = Compiled (program_language standard) texts found
 
 -- the globals that the runtime has: in a sandbox it has none
 abbrev pub runtime_names : Bool → Names → Names
@@ -47,7 +47,7 @@ program_action true found globals nodes = sandboxed_run (setting_over found) glo
 -- what the text is read as in the program's language was rendered, by these options, over a built runtime of these globals with a store of these partials, which left a view
 pub record Renders (options : Options) (text : List ℕ) (globals : Names) (partials : Option Texts) (before after : Sunk) (result : Result (Unit {0}) Error) : Type 0 where
   pub left : View (Unit {0})
-  pub rendered : (answer : ProgramAnswer) → Reads program_language text answer → (found : Option ProgramFound) → IsFoundIn partials found
+  pub rendered : (answer : ProgramAnswer) → Reads (program_language options.standard) text answer → (found : Option ProgramFound) → IsFoundIn options.standard partials found
       → RenderedBy (program_action options.sandboxed found globals) answer (first_view options globals) before after left result
 
 -- 0 where the template was rendered, 1 where it was refused

@@ -5,7 +5,7 @@ use std::test::Fail;
 /// The words, the status, and what both streams say.
 type Command = (&'static [&'static str], u8, &'static str, &'static str);
 
-const COMMANDS: [Command; 35] = [
+const COMMANDS: [Command; 38] = [
     (&["render", "t", "g.json"], 0, "x", ""),
     (&["render", "u", "g.json"], 0, "another file", ""),
     (&[], 2, "", USAGE),
@@ -105,6 +105,26 @@ const COMMANDS: [Command; 35] = [
             "t",
             "g.json",
         ],
+        2,
+        "",
+        USAGE,
+    ),
+    (&["render", "--standard", "t", "g.json"], 0, "x", ""),
+    (
+        &[
+            "render",
+            "--sandboxed",
+            "--lenient",
+            "--standard",
+            "t",
+            "g.json",
+        ],
+        0,
+        "x",
+        "",
+    ),
+    (
+        &["render", "--standard", "--standard", "t", "g.json"],
         2,
         "",
         USAGE,

@@ -1,0 +1,55 @@
+-- Filters by their names.
+use Rattle.std.specs.Prelude.{List, [], ◌∷◌, map}
+use Rattle.std.specs.FinMap.{empty, insert}
+use Rattle.liquid_runtime.specs.meaning.Maps.{NameMap}
+use Rattle.std_filters.specs.declared.beside.Beside.{Beside}
+use Rattle.std_filters.specs.declared.beside.Beside.TheVariants.{Library, Own}
+use Rattle.std_filters.specs.declared.kinds.StdKind.{StdKind}
+use Rattle.std_filters.specs.declared.kinds.StdKind.TheVariants as std
+use Rattle.std_filters.specs.declared.text_kinds.TextKind.TheVariants as texts
+use Rattle.std_filters.specs.declared.list_kinds.ListKind.TheVariants as lists
+use Rattle.std_filters.specs.declared.number_kinds.NumberKind.TheVariants as numbers
+use Rattle.std_filters.specs.declared.value_kinds.ValueKind.TheVariants as values
+use Rattle.std_filters.specs.declared.plugin.FilterPlugin.{FilterPlugin}
+use Rattle.std_filters.specs.meaning.Sense.{FilterSense}
+use Rattle.std_filters.specs.meaning.Standard.{std_sense}
+
+-- what a kind means that is a library's or a host's own
+abbrev pub sense_beside : {L O : Type 0} → (L → FilterSense) → (O → FilterSense) → Beside L O → FilterSense
+sense_beside library own (Library kind) = library kind
+sense_beside library own (Own kind) = own kind
+
+-- the filter under its name
+abbrev pub register : {K : Type 0} → (K → FilterSense) → NameMap (FilterPlugin K) → K → NameMap (FilterPlugin K)
+register sense before kind = insert before (sense kind).name (record { kind = kind })
+
+-- filters under their names; of two of one name the later stays
+abbrev pub registered : {K : Type 0} → (K → FilterSense) → NameMap (FilterPlugin K) → List K → NameMap (FilterPlugin K)
+registered sense before [] = before
+registered sense before (kind ∷ kinds) = registered sense (register sense before kind) kinds
+
+-- all kinds
+abbrev pub all_kinds : List StdKind
+all_kinds =
+    std.Texts texts.Append ∷ std.Texts texts.Base64Decode ∷ std.Texts texts.Base64Encode ∷ std.Texts texts.Capitalize
+    ∷ std.Texts texts.Downcase ∷ std.Texts texts.Escape ∷ std.Texts texts.EscapeOnce ∷ std.Texts texts.Lstrip
+    ∷ std.Texts texts.NewlineToBr ∷ std.Texts texts.Prepend ∷ std.Texts texts.Remove ∷ std.Texts texts.RemoveFirst
+    ∷ std.Texts texts.RemoveLast ∷ std.Texts texts.Replace ∷ std.Texts texts.ReplaceFirst ∷ std.Texts texts.ReplaceLast
+    ∷ std.Texts texts.Rstrip ∷ std.Texts texts.Slice ∷ std.Texts texts.Split ∷ std.Texts texts.Strip
+    ∷ std.Texts texts.StripHtml ∷ std.Texts texts.StripNewlines ∷ std.Texts texts.Truncate ∷ std.Texts texts.TruncateWords
+    ∷ std.Texts texts.Upcase ∷ std.Texts texts.UrlDecode ∷ std.Texts texts.UrlEncode ∷ std.Lists lists.Compact
+    ∷ std.Lists lists.Concat ∷ std.Lists lists.First ∷ std.Lists lists.Join ∷ std.Lists lists.Last
+    ∷ std.Lists lists.Map ∷ std.Lists lists.Reverse ∷ std.Lists lists.Sort ∷ std.Lists lists.SortNatural
+    ∷ std.Lists lists.Sum ∷ std.Lists lists.Uniq ∷ std.Lists lists.Where ∷ std.Numbers numbers.Abs
+    ∷ std.Numbers numbers.AtLeast ∷ std.Numbers numbers.AtMost ∷ std.Numbers numbers.Ceil ∷ std.Numbers numbers.DividedBy
+    ∷ std.Numbers numbers.Floor ∷ std.Numbers numbers.Minus ∷ std.Numbers numbers.Modulo ∷ std.Numbers numbers.Plus
+    ∷ std.Numbers numbers.Round ∷ std.Numbers numbers.Times ∷ std.Values values.Default ∷ std.Values values.Json
+    ∷ std.Values values.Size ∷ []
+
+-- the standard filters
+abbrev pub standard_filters : NameMap (FilterPlugin StdKind)
+standard_filters = registered std_sense empty all_kinds
+
+-- the standard filters, and a host's own, which replace those of the same name
+abbrev pub filters_beside : {O : Type 0} → (O → FilterSense) → List O → NameMap (FilterPlugin (Beside StdKind O))
+filters_beside own kinds = registered (sense_beside std_sense own) (registered (sense_beside std_sense own) empty (map Library all_kinds)) (map Own kinds)

@@ -1,0 +1,77 @@
+//! The filters on numbers.
+ghost use Rattle.std_filters.specs.meaning.Standard.{number_sense};
+
+use crate::arguments::CallArguments;
+use crate::parameters::{DIGITS, NONE, NUMBER};
+use crate::row::{FilterKind, FilterRow};
+use liquid_error::Error;
+use liquid_value::Value;
+use std::alloc::Global;
+use std_numbers::arithmetic::{at_least, at_most, divided_by, minus, modulo, plus, times};
+use std_numbers::single::{abs, ceil, floor, round};
+
+/// A filter on numbers.
+#[derive(Debug, Clone, Copy, PartialEq, Eq, Drop)]
+pub enum NumberKind {
+    Abs,
+    AtLeast,
+    AtMost,
+    Ceil,
+    DividedBy,
+    Floor,
+    Minus,
+    Modulo,
+    Plus,
+    Round,
+    Times,
+}
+
+impl FilterKind for NumberKind {
+    ghost sense = { number_sense };
+
+    fn row(&self) -> FilterRow {
+        match self {
+            NumberKind::Abs => FilterRow::new("abs", "The number without its sign.", &NONE),
+            NumberKind::AtLeast => FilterRow::new("at_least", "The greater number.", &NUMBER),
+            NumberKind::AtMost => FilterRow::new("at_most", "The lesser number.", &NUMBER),
+            NumberKind::Ceil => FilterRow::new("ceil", "The number itself.", &NONE),
+            NumberKind::DividedBy => FilterRow::new(
+                "divided_by",
+                "The quotient, rounded down.",
+                &NUMBER,
+            ),
+            NumberKind::Floor => FilterRow::new("floor", "The number itself.", &NONE),
+            NumberKind::Minus => FilterRow::new("minus", "The difference.", &NUMBER),
+            NumberKind::Modulo => FilterRow::new("modulo", "The rest of a division.", &NUMBER),
+            NumberKind::Plus => FilterRow::new("plus", "The sum.", &NUMBER),
+            NumberKind::Round => FilterRow::new(
+                "round",
+                "The nearest multiple of a power of ten.",
+                &DIGITS,
+            ),
+            NumberKind::Times => FilterRow::new("times", "The product.", &NUMBER),
+        }
+    }
+
+    fn answer(
+        &self,
+        alloc: Global,
+        input: &Value,
+        arguments: &CallArguments<'_>,
+    ) -> Result<Value, Error> {
+        let given = arguments.positional.as_slice();
+        match self {
+            NumberKind::Abs => abs(alloc, input),
+            NumberKind::AtLeast => at_least(alloc, input, given),
+            NumberKind::AtMost => at_most(alloc, input, given),
+            NumberKind::Ceil => ceil(alloc, input),
+            NumberKind::DividedBy => divided_by(alloc, input, given),
+            NumberKind::Floor => floor(alloc, input),
+            NumberKind::Minus => minus(alloc, input, given),
+            NumberKind::Modulo => modulo(alloc, input, given),
+            NumberKind::Plus => plus(alloc, input, given),
+            NumberKind::Round => round(alloc, input, given),
+            NumberKind::Times => times(alloc, input, given),
+        }
+    }
+}

@@ -1,0 +1,144 @@
+//! Registries of filters by their names.
+ghost use Rattle.std.specs.Prelude.{◌≡◌, IfOk, OnOk, map};
+ghost use Rattle.std_filters.specs.declared.beside.Beside.TheVariants.{Library, Own};
+ghost use Rattle.std_filters.specs.meaning.Registered.{filters_beside, register, registered, sense_beside, standard_filters};
+
+use crate::beside::Beside;
+use crate::kinds::StdKind;
+use crate::list_kinds::ListKind;
+use crate::number_kinds::NumberKind;
+use crate::plugin::FilterPlugin;
+use crate::row::FilterKind;
+use crate::text_kinds::TextKind;
+use crate::value_kinds::ValueKind;
+use liquid_plugins::PluginRegistry;
+use std::alloc::{AllocError, Global};
+
+/// All standard filters.
+const ALL_KINDS: [StdKind; 53] = [
+    StdKind::Texts(TextKind::Append),
+    StdKind::Texts(TextKind::Base64Decode),
+    StdKind::Texts(TextKind::Base64Encode),
+    StdKind::Texts(TextKind::Capitalize),
+    StdKind::Texts(TextKind::Downcase),
+    StdKind::Texts(TextKind::Escape),
+    StdKind::Texts(TextKind::EscapeOnce),
+    StdKind::Texts(TextKind::Lstrip),
+    StdKind::Texts(TextKind::NewlineToBr),
+    StdKind::Texts(TextKind::Prepend),
+    StdKind::Texts(TextKind::Remove),
+    StdKind::Texts(TextKind::RemoveFirst),
+    StdKind::Texts(TextKind::RemoveLast),
+    StdKind::Texts(TextKind::Replace),
+    StdKind::Texts(TextKind::ReplaceFirst),
+    StdKind::Texts(TextKind::ReplaceLast),
+    StdKind::Texts(TextKind::Rstrip),
+    StdKind::Texts(TextKind::Slice),
+    StdKind::Texts(TextKind::Split),
+    StdKind::Texts(TextKind::Strip),
+    StdKind::Texts(TextKind::StripHtml),
+    StdKind::Texts(TextKind::StripNewlines),
+    StdKind::Texts(TextKind::Truncate),
+    StdKind::Texts(TextKind::TruncateWords),
+    StdKind::Texts(TextKind::Upcase),
+    StdKind::Texts(TextKind::UrlDecode),
+    StdKind::Texts(TextKind::UrlEncode),
+    StdKind::Lists(ListKind::Compact),
+    StdKind::Lists(ListKind::Concat),
+    StdKind::Lists(ListKind::First),
+    StdKind::Lists(ListKind::Join),
+    StdKind::Lists(ListKind::Last),
+    StdKind::Lists(ListKind::Map),
+    StdKind::Lists(ListKind::Reverse),
+    StdKind::Lists(ListKind::Sort),
+    StdKind::Lists(ListKind::SortNatural),
+    StdKind::Lists(ListKind::Sum),
+    StdKind::Lists(ListKind::Uniq),
+    StdKind::Lists(ListKind::Where),
+    StdKind::Numbers(NumberKind::Abs),
+    StdKind::Numbers(NumberKind::AtLeast),
+    StdKind::Numbers(NumberKind::AtMost),
+    StdKind::Numbers(NumberKind::Ceil),
+    StdKind::Numbers(NumberKind::DividedBy),
+    StdKind::Numbers(NumberKind::Floor),
+    StdKind::Numbers(NumberKind::Minus),
+    StdKind::Numbers(NumberKind::Modulo),
+    StdKind::Numbers(NumberKind::Plus),
+    StdKind::Numbers(NumberKind::Round),
+    StdKind::Numbers(NumberKind::Times),
+    StdKind::Values(ValueKind::Default),
+    StdKind::Values(ValueKind::Json),
+    StdKind::Values(ValueKind::Size),
+];
+
+/// Returns the standard filters.
+pub fn filters(alloc: Global) -> Result<PluginRegistry<FilterPlugin<StdKind>>, AllocError>
+    ensures { IfOk result (λ r. r ≡ standard_filters) }
+{
+    let mut filters = PluginRegistry::new(alloc);
+    register_all(&mut filters, &ALL_KINDS)?;
+    Ok(filters)
+}
+
+/// Returns the standard filters and a host's own, which replace those of the same name.
+pub fn filters_beside<O: FilterKind>(
+    alloc: Global,
+    own: &[O],
+) -> Result<PluginRegistry<FilterPlugin<Beside<StdKind, O>>>, AllocError>
+    ensures { IfOk result (λ r. r ≡ filters_beside O.sense own.now) }
+{
+    let mut filters = PluginRegistry::new(alloc);
+    register_library(&mut filters, &ALL_KINDS)?;
+    register_own(&mut filters, own)?;
+    Ok(filters)
+}
+
+/// Puts a library's filters under their names, in order.
+fn register_library<L: FilterKind, O: FilterKind>(
+    filters: &mut PluginRegistry<FilterPlugin<Beside<L, O>>>,
+    kinds: &[L],
+) -> Result<(), AllocError>
+    ensures { OnOk result (filters.new ≡ registered (sense_beside L.sense O.sense) filters.old (map Library kinds.now)) }
+{
+    for kind in kinds {
+        register(filters, Beside::Library(*kind))?;
+    }
+    Ok(())
+}
+
+/// Puts a host's own filters under their names, in order.
+fn register_own<L: FilterKind, O: FilterKind>(
+    filters: &mut PluginRegistry<FilterPlugin<Beside<L, O>>>,
+    kinds: &[O],
+) -> Result<(), AllocError>
+    ensures { OnOk result (filters.new ≡ registered (sense_beside L.sense O.sense) filters.old (map Own kinds.now)) }
+{
+    for kind in kinds {
+        register(filters, Beside::Own(*kind))?;
+    }
+    Ok(())
+}
+
+/// Puts the filter under its name, in place of any other there.
+pub fn register<K: FilterKind>(
+    filters: &mut PluginRegistry<FilterPlugin<K>>,
+    kind: K,
+) -> Result<(), AllocError>
+    ensures { OnOk result (filters.new ≡ register K.sense filters.old kind) }
+{
+    filters.register(kind.row().name, FilterPlugin { kind })?;
+    Ok(())
+}
+
+/// Puts the filters under their names, in order.
+pub fn register_all<K: FilterKind>(
+    filters: &mut PluginRegistry<FilterPlugin<K>>,
+    kinds: &[K],
+) -> Result<(), AllocError>
+    ensures { OnOk result (filters.new ≡ registered K.sense filters.old kinds.now) }
+{
+    for kind in kinds {
+        register(filters, *kind)?;
+    }
+    Ok(())
+}

@@ -1,0 +1,4 @@
+pub mod Steps
+pub mod DistinctLemmas
+pub mod LastLemmas
+pub mod SumLemmas

@@ -1,0 +1,30 @@
+-- What a loop has found so far, and what is still to come.
+use Rattle.std.proofs.Common.{◌≡◌, ℕ, ◌+◌, ◌<◌, List, [], ◌∷◌, ◌++◌, length, get_or, drop, map, reverse, refl, sym, ap, ◌∙◌, add-one, ℤ, Result, Ok}
+use Rattle.std.proofs.lemmas.List.{reverse-append}
+use Rattle.std.proofs.Math.Seq.{drop-cons}
+use Rattle.std.specs.Prelude.{◌+ℤ◌}
+use Rattle.liquid_error.specs.meaning.Refusal.{Refusal, ok_then}
+use Rattle.liquid_value.specs.meaning.Tree.{Tree}
+
+-- entries after those that were found, if there are any
+abbrev pub after : List (Tree × Tree) → Result (List (Tree × Tree)) Refusal → Result (List (Tree × Tree)) Refusal
+after front r = ok_then r (λ es. Ok (front ++ es))
+
+-- a sum that is added to what was summed up
+abbrev pub added : ℤ → Result ℤ Refusal → Result ℤ Refusal
+added sum r = ok_then r (λ rest. Ok (sum +ℤ rest))
+
+-- the first of what is left, and the rest
+pub mapped-drop : {A B : Type 0} (f : A → B) (xs : List A) (i : ℕ) (x : A) → i < length xs → x ≡ get_or xs i x → map f (drop i xs) ≡ f x ∷ map f (drop (i + 1) xs)
+mapped-drop f xs i x within is = ap (map f) (drop-cons xs i x within) ∙ rw (add-one, ← is)
+
+map-append : {A B : Type 0} (f : A → B) (xs ys : List A) → map f (xs ++ ys) ≡ map f xs ++ map f ys
+map-append f [] ys = refl
+map-append f (x ∷ xs) ys = ap (λ l. f x ∷ l) (map-append f xs ys)
+
+-- a reversed list is seen as what is seen of it, reversed
+pub map_reverse : {A B : Type 0} (f : A → B) (xs : List A) → map f (reverse xs) ≡ reverse (map f xs)
+map_reverse f [] = refl
+map_reverse f (x ∷ xs) =
+    ap (map f) (reverse-append (x ∷ []) xs) ∙ map-append f (reverse xs) (x ∷ []) ∙ ap (λ l. l ++ f x ∷ []) (map_reverse f xs)
+    ∙ sym (reverse-append (f x ∷ []) (map f xs))

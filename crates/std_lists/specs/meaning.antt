@@ -1,0 +1,5 @@
+pub mod Lists
+pub mod Keys
+pub mod Entries
+pub mod Choices
+pub mod Sums

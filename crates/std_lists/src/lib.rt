@@ -1,0 +1,9 @@
+//! The standard filters on lists.
+#![tactic(auto)]
+
+pub mod choices;
+pub mod keys;
+pub mod lists;
+pub mod sums;
+#[cfg(test)]
+mod tests;

@@ -1,0 +1,22 @@
+-- Rounding to a unit that is far greater than the number.
+use Rattle.std.proofs.Common.{◌≡◌, ℕ, ℤ, pos, negsuc, suc, ◌+◌, ◌*◌, ◌^◌, ◌<◌, ◌≤◌, FitsSigned, w64, true, unsigned_abs, sym, ap, arith}
+use Rattle.std.specs.Prelude.{neg_ℤ}
+use Rattle.std.specs.Int.Signed.{lt_z}
+use Rattle.std.proofs.Math.Nat.{pow-le-pow_right, one-le-pow}
+use Rattle.std_numbers.specs.meaning.Rounding.{nearest_multiple, rounded, rounded_to}
+
+pub power_above_0 : (k : ℕ) → 0 < 10 ^ k
+power_above_0 k = omega (arith, one-le-pow k 10 (omega arith))
+
+-- a magnitude below half the unit is nearest to none of it
+nearest_multiple-none : (unit m : ℕ) → 2 * m + 1 < unit → nearest_multiple unit m ≡ 0
+nearest_multiple-none unit m h = grind arith
+
+rounded_to-none : (unit : ℕ) (n : ℤ) → FitsSigned w64 n → 10 ^ 20 ≤ unit → pos 0 ≡ rounded_to unit n
+rounded_to-none unit (pos m) fits h = ap pos (sym (nearest_multiple-none unit m (omega (arith, fits.sfits))))
+rounded_to-none unit (negsuc m) fits h = ap (λ k. neg_ℤ (pos k)) (sym (nearest_multiple-none unit (suc m) (omega (arith, fits.sfits))))
+
+-- past 19 digits before the point, no number reaches half the unit
+pub rounded-none : (n d : ℤ) → FitsSigned w64 n → lt_z d (pos 0) ≡ true → 19 < unsigned_abs d → pos 0 ≡ rounded n d
+rounded-none n (pos d) fits low far = grind arith
+rounded-none n (negsuc d) fits low far = rounded_to-none (10 ^ suc d) n fits (let far_enough : 20 ≤ suc d = omega arith in pow-le-pow_right (omega arith) far_enough)

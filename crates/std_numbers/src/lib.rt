@@ -1,0 +1,10 @@
+//! The standard filters on numbers.
+#![tactic(auto)]
+
+pub mod arithmetic;
+mod division;
+pub mod laws;
+mod rounding;
+pub mod single;
+#[cfg(test)]
+mod tests;

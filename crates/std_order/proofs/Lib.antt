@@ -1,0 +1,2 @@
+pub mod StableOrder
+pub mod KeyOrder

@@ -1,0 +1,7 @@
+//! The standard filters that put a list in order.
+#![tactic(auto)]
+
+pub mod laws;
+pub mod order;
+#[cfg(test)]
+mod tests;

@@ -1,0 +1,57 @@
+//! Rows of the filters that put a list in order.
+use crate::order::{sort, sort_natural};
+use liquid_error::Error;
+use liquid_json::to_value;
+use liquid_value::render::ValueSource;
+use liquid_value::{Value, ValueCow};
+use serde_json::Value as Json;
+use std::alloc::Global;
+use std::test::Fail;
+use tests_lines::{Line, rows_hold};
+
+/// A filter, its input, its arguments, and the source of what it answers.
+const ROWS: &str = r#"["sort", [3, null, 1], [], "[1, 3, , ]"]
+["sort", [{"k": 2, "n": 1}, {"n": 2}, {"k": 1, "n": 3}, {"k": 2, "n": 4}], ["k"], "[k1n3, k2n1, k2n4, n2, ]"]
+["sort", ["b", "a", "b", 3], [], "liquid: Values without an order\n  with:\n    first=\"b\"\n    second=3\n"]
+["sort", [{"a": 1}], [], "[a1, ]"]
+["sort_natural", ["b", "C", "a", null, "B"], [], "[a, b, B, C, , ]"]
+["sort_natural", [10, 9, "x"], [], "[10, 9, x, ]"]
+["sort_natural", [1, 2], ["a", "b"], "liquid: Unexpected arguments\n"]"#;
+
+/// Returns what a filter answers.
+fn answered(
+    alloc: Global,
+    filter: &str,
+    input: &Value,
+    arguments: &[ValueCow<'_>],
+) -> Result<Value, Error> {
+    match filter {
+        "sort" => sort(alloc, input, arguments),
+        _ => sort_natural(alloc, input, arguments),
+    }
+}
+
+/// Returns the values of a list.
+fn values_of<'a>(alloc: Global, list: &[Json]) -> Result<Vec<ValueCow<'a>>, Error> {
+    let mut values = Vec::new(alloc);
+    for json in list {
+        values.push(ValueCow::Owned(to_value(alloc, json)?))?;
+    }
+    Ok(values)
+}
+
+/// Returns whether a filter answers what its row says.
+fn is_answered(alloc: Global, row: &Line) -> Result<bool, Fail> {
+    let input = to_value(alloc, row.member(1)?)?;
+    let arguments = values_of(alloc, row.list(2)?.as_slice())?;
+    let found = match answered(alloc, row.text(0)?, &input, arguments.as_slice()) {
+        Ok(value) => ValueSource::new(&value).to_string(alloc)?,
+        Err(error) => error.to_string(alloc)?,
+    };
+    Ok(found.as_str() == row.text(3)?)
+}
+
+#[test]
+fn lists_are_put_in_order(rt: HostRuntime) -> Result<(), Fail> {
+    rows_hold(rt.alloc(), ROWS, is_answered)
+}

@@ -1,0 +1,9 @@
+pub mod CharacterSteps
+pub mod CutLemmas
+pub mod EscapeLemmas
+pub mod HtmlLemmas
+pub mod PieceLemmas
+pub mod PlaceLemmas
+pub mod TagLemmas
+pub mod Utf8Lemmas
+pub mod WordLemmas

@@ -1,0 +1,24 @@
+//! Operations on texts that the standard filters stand on.
+#![tactic(auto)]
+
+mod cases;
+mod cuts;
+mod html;
+mod laws;
+mod parts;
+mod replacement;
+mod slices;
+mod tags;
+mod url;
+mod utf8;
+
+pub use cases::{capitalize, to_lowercase};
+pub use cuts::{cut, truncate, truncate_words};
+pub use html::{escape, escape_once};
+pub use laws::escaped_is_left_alone;
+pub use parts::{characters, pieces, split, words};
+pub use replacement::{replace, replace_first, replace_last, replace_line_ends};
+pub use slices::{slice, slice_items};
+pub use tags::strip_tags;
+pub use url::{url_decode, url_encode};
+pub use utf8::text_of_bytes;

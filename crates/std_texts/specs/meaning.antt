@@ -1,0 +1,10 @@
+pub mod Written
+pub mod Joints
+pub mod Letters
+pub mod Ends
+pub mod Lines
+pub mod Html
+pub mod Replacing
+pub mod Splitting
+pub mod Cutting
+pub mod Encoding

@@ -1,0 +1,69 @@
+//! Filters that encode and decode a text.
+ghost use Rattle.std.specs.Prelude.{Ok};
+ghost use Rattle.liquid_error.specs.meaning.Told.{Gives};
+ghost use Rattle.liquid_value.specs.meaning.View.{view as tree_of};
+ghost use Rattle.std_texts.specs.meaning.Encoding.{base64_decoded, base64_encoded, url_decoded, url_encoded};
+
+use base64::DecodeAllocError;
+use base64::engine::general_purpose::STANDARD;
+use liquid_error::Error;
+use liquid_scalar::ScalarOf;
+use liquid_value::Value;
+use std::alloc::Global;
+use std_strings as strings;
+use std_values::errors::{decoded_no_text, invalid_base64};
+
+/// Returns the text as a part of a URL. Nil is kept.
+pub fn url_encode(alloc: Global, input: &Value) -> Result<Value, Error>
+    ensures { Gives tree_of result (Ok (url_encoded (tree_of input.now))) }
+{
+    match input {
+        Value::Nil => Ok(Value::Nil),
+        other => {
+            let text = other.to_kstr(alloc)?;
+            let encoded = strings::url_encode(alloc, text.as_str())?;
+            Ok(Value::Scalar(ScalarOf::Str(encoded)))
+        }
+    }
+}
+
+/// Returns the text of a part of a URL. Nil is kept. An `Err` is that of bytes that are no text.
+pub fn url_decode(alloc: Global, input: &Value) -> Result<Value, Error>
+    ensures { Gives tree_of result (url_decoded (tree_of input.now)) }
+{
+    match input {
+        Value::Nil => Ok(Value::Nil),
+        other => {
+            let text = other.to_kstr(alloc)?;
+            match strings::url_decode(alloc, text.as_str())? {
+                Some(decoded) => Ok(Value::Scalar(ScalarOf::Str(decoded))),
+                None => Err(decoded_no_text(alloc)),
+            }
+        }
+    }
+}
+
+/// Returns the base64 of the text.
+pub fn base64_encode(alloc: Global, input: &Value) -> Result<Value, Error>
+    ensures { Gives tree_of result (Ok (base64_encoded (tree_of input.now))) }
+{
+    let text = input.to_kstr(alloc)?;
+    let encoded = STANDARD.encode(alloc, text.as_str().as_bytes())?;
+    Ok(Value::Scalar(ScalarOf::Str(encoded)))
+}
+
+/// Returns the text of which the input is the base64. An `Err` is that of a text that is no base64, or of bytes that are no
+/// text.
+pub fn base64_decode(alloc: Global, input: &Value) -> Result<Value, Error>
+    ensures { Gives tree_of result (base64_decoded (tree_of input.now)) }
+{
+    let text = input.to_kstr(alloc)?;
+    match STANDARD.decode(alloc, text.as_str().as_bytes()) {
+        Ok(bytes) => match strings::text_of_bytes(bytes) {
+            Some(decoded) => Ok(Value::Scalar(ScalarOf::Str(decoded))),
+            None => Err(decoded_no_text(alloc)),
+        },
+        Err(DecodeAllocError::DecodeError(_)) => Err(invalid_base64(alloc)),
+        Err(DecodeAllocError::OutOfMemory) => Err(Error::Memory),
+    }
+}

@@ -1,0 +1,41 @@
+//! Filters that join two texts.
+ghost use Rattle.std.specs.Prelude.{map, Ok};
+ghost use Rattle.liquid_error.specs.meaning.Told.{Gives};
+ghost use Rattle.liquid_value.specs.meaning.Cow.{cow_view};
+ghost use Rattle.liquid_value.specs.meaning.View.{view as tree_of};
+ghost use Rattle.std_texts.specs.meaning.Joints.{appended, joined, prepended};
+
+use liquid_error::Error;
+use liquid_scalar::ScalarOf;
+use liquid_value::render::ValueRender;
+use liquid_value::{Value, ValueCow};
+use std::alloc::Global;
+use std_values::errors::unexpected_arguments;
+
+/// Returns the text, followed by that of the argument.
+pub fn append(alloc: Global, input: &Value, arguments: &[ValueCow<'_>]) -> Result<Value, Error>
+    ensures { Gives tree_of result (appended (tree_of input.now) (map cow_view arguments.now)) }
+{
+    match arguments {
+        [back] => join(alloc, input, back.as_view()),
+        _ => Err(unexpected_arguments(alloc)),
+    }
+}
+
+/// Returns the text of the argument, followed by the text.
+pub fn prepend(alloc: Global, input: &Value, arguments: &[ValueCow<'_>]) -> Result<Value, Error>
+    ensures { Gives tree_of result (prepended (tree_of input.now) (map cow_view arguments.now)) }
+{
+    match arguments {
+        [front] => join(alloc, front.as_view(), input),
+        _ => Err(unexpected_arguments(alloc)),
+    }
+}
+
+fn join(alloc: Global, front: &Value, back: &Value) -> Result<Value, Error>
+    ensures { Gives tree_of result (Ok (joined (tree_of front.now) (tree_of back.now))) }
+{
+    let front = ValueRender::new(front);
+    let back = ValueRender::new(back);
+    Ok(Value::Scalar(ScalarOf::Str(format!(in alloc; "{front}{back}")?)))
+}

@@ -1,0 +1,140 @@
+//! Filters that replace or remove parts of a text.
+ghost use Rattle.std.specs.Prelude.{map};
+ghost use Rattle.liquid_error.specs.meaning.Told.{Gives};
+ghost use Rattle.liquid_value.specs.meaning.Cow.{cow_view};
+ghost use Rattle.liquid_value.specs.meaning.View.{view as tree_of};
+ghost use Rattle.std_texts.specs.meaning.Replacing.{remove, remove_first, remove_last, replace, replace_first, replace_last};
+
+use liquid_error::Error;
+use liquid_scalar::ScalarOf;
+use liquid_value::{Value, ValueCow};
+use std::alloc::Global;
+use std_strings as strings;
+use std_values::errors::unexpected_arguments;
+
+/// Returns the text with the second argument, or nothing, in each place of the first.
+pub fn replace(alloc: Global, input: &Value, arguments: &[ValueCow<'_>]) -> Result<Value, Error>
+    ensures { Gives tree_of result (replace (tree_of input.now) (map cow_view arguments.now)) }
+{
+    match arguments {
+        [search] => {
+            let text = input.to_kstr(alloc)?;
+            let search = search.as_view().to_kstr(alloc)?;
+            let replaced = strings::replace(alloc, text.as_str(), search.as_str(), "")?;
+            Ok(Value::Scalar(ScalarOf::Str(replaced)))
+        }
+        [search, by] => {
+            let text = input.to_kstr(alloc)?;
+            let search = search.as_view().to_kstr(alloc)?;
+            let by = by.as_view().to_kstr(alloc)?;
+            let replaced = strings::replace(alloc, text.as_str(), search.as_str(), by.as_str())?;
+            Ok(Value::Scalar(ScalarOf::Str(replaced)))
+        }
+        _ => Err(unexpected_arguments(alloc)),
+    }
+}
+
+/// Returns the text with the second argument, or nothing, in the first place of the first.
+pub fn replace_first(
+    alloc: Global,
+    input: &Value,
+    arguments: &[ValueCow<'_>],
+) -> Result<Value, Error>
+    ensures { Gives tree_of result (replace_first (tree_of input.now) (map cow_view arguments.now)) }
+{
+    match arguments {
+        [search] => {
+            let text = input.to_kstr(alloc)?;
+            let search = search.as_view().to_kstr(alloc)?;
+            let replaced = strings::replace_first(alloc, text.as_str(), search.as_str(), "")?;
+            Ok(Value::Scalar(ScalarOf::Str(replaced)))
+        }
+        [search, by] => {
+            let text = input.to_kstr(alloc)?;
+            let search = search.as_view().to_kstr(alloc)?;
+            let by = by.as_view().to_kstr(alloc)?;
+            let replaced = strings::replace_first(
+                alloc,
+                text.as_str(),
+                search.as_str(),
+                by.as_str(),
+            )?;
+            Ok(Value::Scalar(ScalarOf::Str(replaced)))
+        }
+        _ => Err(unexpected_arguments(alloc)),
+    }
+}
+
+/// Returns the text with the second argument in the last place of the first.
+pub fn replace_last(
+    alloc: Global,
+    input: &Value,
+    arguments: &[ValueCow<'_>],
+) -> Result<Value, Error>
+    ensures { Gives tree_of result (replace_last (tree_of input.now) (map cow_view arguments.now)) }
+{
+    match arguments {
+        [search, by] => {
+            let text = input.to_kstr(alloc)?;
+            let search = search.as_view().to_kstr(alloc)?;
+            let by = by.as_view().to_kstr(alloc)?;
+            let replaced = strings::replace_last(
+                alloc,
+                text.as_str(),
+                search.as_str(),
+                by.as_str(),
+            )?;
+            Ok(Value::Scalar(ScalarOf::Str(replaced)))
+        }
+        _ => Err(unexpected_arguments(alloc)),
+    }
+}
+
+/// Returns the text without the places of the argument.
+pub fn remove(alloc: Global, input: &Value, arguments: &[ValueCow<'_>]) -> Result<Value, Error>
+    ensures { Gives tree_of result (remove (tree_of input.now) (map cow_view arguments.now)) }
+{
+    match arguments {
+        [search] => {
+            let text = input.to_kstr(alloc)?;
+            let search = search.as_view().to_kstr(alloc)?;
+            let rest = strings::replace(alloc, text.as_str(), search.as_str(), "")?;
+            Ok(Value::Scalar(ScalarOf::Str(rest)))
+        }
+        _ => Err(unexpected_arguments(alloc)),
+    }
+}
+
+/// Returns the text without the first place of the argument.
+pub fn remove_first(
+    alloc: Global,
+    input: &Value,
+    arguments: &[ValueCow<'_>],
+) -> Result<Value, Error>
+    ensures { Gives tree_of result (remove_first (tree_of input.now) (map cow_view arguments.now)) }
+{
+    match arguments {
+        [search] => {
+            let text = input.to_kstr(alloc)?;
+            let search = search.as_view().to_kstr(alloc)?;
+            let rest = strings::replace_first(alloc, text.as_str(), search.as_str(), "")?;
+            Ok(Value::Scalar(ScalarOf::Str(rest)))
+        }
+        _ => Err(unexpected_arguments(alloc)),
+    }
+}
+
+/// Returns the text without the last place of the argument.
+pub fn remove_last(alloc: Global, input: &Value, arguments: &[ValueCow<'_>]) -> Result<Value, Error>
+    ensures { Gives tree_of result (remove_last (tree_of input.now) (map cow_view arguments.now)) }
+{
+    match arguments {
+        [search] => {
+            let text = input.to_kstr(alloc)?;
+            let search = search.as_view().to_kstr(alloc)?;
+            let rest = strings::replace_last(alloc, text.as_str(), search.as_str(), "")?;
+            Ok(Value::Scalar(ScalarOf::Str(rest)))
+        }
+        _ => Err(unexpected_arguments(alloc)),
+    }
+}

@@ -1,0 +1,4 @@
+pub mod Errors
+pub mod Numbers
+pub mod Items
+pub mod Parts

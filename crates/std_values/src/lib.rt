@@ -1,0 +1,9 @@
+//! What the standard filters take of a value: its items, its number, a property; and their errors.
+#![tactic(auto)]
+
+pub mod errors;
+pub mod items;
+pub mod numbers;
+pub mod parts;
+#[cfg(test)]
+mod tests;
