@@ -98,8 +98,10 @@ fn long_texts_are_printed(rt: HostRuntime) -> Result<(), Fail> {
 }
 
 fn mail(alloc: Global, text: &str) -> Result<Result<String, DateError>, Fail> {
-    let moment = DateTime::from_str(text, november()?).ok_or("no date time")?;
-    Ok(moment.to_rfc2822(alloc))
+    match DateTime::from_str(text, november()?) {
+        Some(moment) => Ok(moment.to_rfc2822(alloc)),
+        None => Err(Fail::from("no date time")),
+    }
 }
 
 fn is_mailed(alloc: Global, row: &Line) -> Result<bool, Fail> {

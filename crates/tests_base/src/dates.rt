@@ -196,11 +196,10 @@ fn patterns_are_printed(rt: HostRuntime) -> Result<(), Fail> {
 
 /// Whether the row's pattern is refused with the row's text.
 fn is_refused(alloc: Global, row: &Line, date_time: DateTime) -> Result<bool, Fail> {
-    let error = date_time
-        .format(alloc, row.text(0)?)
-        .err()
-        .ok_or("an error")?;
-    Ok(error.to_string(alloc)?.as_str() == row.text(1)?)
+    match date_time.format(alloc, row.text(0)?) {
+        Ok(_) => Ok(false),
+        Err(error) => Ok(error.to_string(alloc)?.as_str() == row.text(1)?),
+    }
 }
 
 #[test]
@@ -220,9 +219,11 @@ fn patterns_are_refused(rt: HostRuntime) -> Result<(), Fail> {
 }
 
 fn is_read(row: &Line) -> Result<bool, Fail> {
-    let read = DateTime::from_str(row.text(0)?, november()?).ok_or("no date time")?;
-    let is_instant = read.instant() == i128::from(row.number(1)?);
-    Ok(is_instant && i64::from(read.offset()) == row.number(2)?)
+    let (instant, offset) = (i128::from(row.number(1)?), row.number(2)?);
+    match DateTime::from_str(row.text(0)?, november()?) {
+        Some(read) => Ok(read.instant() == instant && i64::from(read.offset()) == offset),
+        None => Ok(false),
+    }
 }
 
 fn is_no_date_time(row: &Line) -> Result<bool, Fail> {
@@ -278,11 +279,13 @@ fn date_times_are_printed(rt: HostRuntime) -> Result<(), Fail> {
 #[test]
 fn mail_has_a_form_of_its_own(rt: HostRuntime) -> Result<(), Fail> {
     let alloc = rt.alloc();
-    let mail = DateTime::from_str("2016-02-16 10:00:00 +0100", november()?).ok_or("no date time")?;
-    same(
-        mail.to_rfc2822(alloc)?.as_str(),
-        "Tue, 16 Feb 2016 10:00:00 +0100",
-    )?;
+    match DateTime::from_str("2016-02-16 10:00:00 +0100", november()?) {
+        Some(mail) => same(
+            mail.to_rfc2822(alloc)?.as_str(),
+            "Tue, 16 Feb 2016 10:00:00 +0100",
+        )?,
+        None => return Err(Fail::from("no date time")),
+    }
     let early = DateTime::from_ymd(-20, 6, 13)?.with_offset(-1830)?;
     holds(
         early.to_rfc2822(alloc).err() == Some(DateError::NoRfc2822Form),

@@ -1,6 +1,6 @@
 //! Errors with their texts, their causes, and what each helper of a result adds.
 use liquid_error::{
-    CauseOf, CloneableError, Error, Place, ResultLiquidChainExt, ResultLiquidExt,
+    CauseOf, CloneableError, Error, FnKey, Key, Place, ResultLiquidChainExt, ResultLiquidExt,
     ResultLiquidReplaceExt,
 };
 use std::alloc::{AllocError, Global};
@@ -89,10 +89,14 @@ fn a_clone_has_the_same_causes(rt: HostRuntime) -> Result<(), Fail> {
     let alloc = rt.alloc();
     let copy = caused(alloc)?.clone()?;
     same(copy.to_string(alloc)?.as_str(), "liquid: c\n")?;
-    let middle = behind(&copy).ok_or("an error")?;
+    let Some(middle) = behind(&copy) else {
+        return Err(Fail::from("an error has no error as its cause"));
+    };
     same(middle.to_string(alloc)?.as_str(), "liquid: b\n")?;
-    let last = middle.source().ok_or("a cause")?.clone()?;
-    same(last.to_string(alloc)?.as_str(), "liquid: a\n\n")
+    match middle.source() {
+        Some(last) => same(last.clone()?.to_string(alloc)?.as_str(), "liquid: a\n\n"),
+        None => Err(Fail::from("the cause has no cause")),
+    }
 }
 
 fn refused(alloc: Global) -> liquid_error::Result<u8> {
@@ -106,7 +110,9 @@ fn shows(
     text: &str,
     cause: &str,
 ) -> Result<(), Fail> {
-    let error = answer.err().ok_or("an error")?;
+    let Err(error) = answer else {
+        return Err(Fail::from("an answer is no error"));
+    };
     same(error.to_string(alloc)?.as_str(), text)?;
     let source = match error.source() {
         Some(source) => source.to_string(alloc)?,
@@ -155,7 +161,7 @@ fn contexts_are_added(rt: HostRuntime) -> Result<(), Fail> {
     )?;
     shows(
         alloc,
-        refused(alloc).context_key("b").value_with(alloc, made),
+        Key::value_with(refused(alloc).context_key("b"), alloc, made),
         with,
         "",
     )?;
@@ -167,7 +173,7 @@ fn contexts_are_added(rt: HostRuntime) -> Result<(), Fail> {
     )?;
     shows(
         alloc,
-        refused(alloc).context_key_with(made).value_with(made),
+        FnKey::value_with(refused(alloc).context_key_with(made), made),
         with,
         "",
     )

@@ -4,6 +4,8 @@
 
 mod asked;
 mod line;
+mod row;
 
 pub use asked::{holds, rows_hold, same};
 pub use line::Line;
+pub use row::Row;

@@ -16,6 +16,8 @@ mod filters;
 #[cfg(test)]
 mod made;
 #[cfg(test)]
+mod read_elements;
+#[cfg(test)]
 mod reflections;
 #[cfg(test)]
 mod taken;

@@ -28,7 +28,7 @@ fn scalar_told(alloc: Global, made: Result<Scalar>) -> std::result::Result<Strin
 
 fn object_told(alloc: Global, made: Result<Object>) -> std::result::Result<String, AllocError> {
     match made {
-        Ok(object) => told(alloc, Ok(Value::Object(object))),
+        Ok(object) => told(alloc, Ok(Value::from(object))),
         Err(error) => error.to_string(alloc),
     }
 }

@@ -1,5 +1,6 @@
 //! Values as the rows of the tables name them.
 mod comparisons;
+mod sharing;
 mod shown;
 mod texts;
 mod values;
@@ -13,12 +14,13 @@ use std::test::Fail;
 use tests_lines::Line;
 
 fn number(given: Option<&Json>) -> Result<i64, Fail> {
-    Ok(
-        given
-            .ok_or("a number is missing")?
-            .as_i64()
-            .ok_or("no whole number")?,
-    )
+    match given {
+        Some(given) => match given.as_i64() {
+            Some(number) => Ok(number),
+            None => Err(Fail::from("no whole number")),
+        },
+        None => Err(Fail::from("a number is missing")),
+    }
 }
 
 fn day(number: i64) -> Result<Date, Fail> {
@@ -87,8 +89,8 @@ fn value_of(alloc: Global, given: &Json) -> Result<Value, Fail> {
         return Ok(value);
     }
     match given {
-        Json::Array(items) => Ok(Value::Array(array_of(alloc, items)?)),
-        Json::Object(members) => Ok(Value::Object(object_of(alloc, members)?)),
+        Json::Array(items) => Ok(Value::from(array_of(alloc, items)?)),
+        Json::Object(members) => Ok(Value::from(object_of(alloc, members)?)),
         _ => Ok(to_value(alloc, given)?),
     }
 }

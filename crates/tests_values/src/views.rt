@@ -222,8 +222,10 @@ fn finds<O: ObjectView>(
     let has_names = ObjectView::contains_key(object, name)
         && !ObjectView::contains_key(object, other);
     let is_absent = object.lookup(alloc, other)?.is_none();
-    let found = object.lookup(alloc, name)?.ok_or("no value")?;
-    Ok(has_names && is_absent && *found.as_view() == Value::scalar(number))
+    match object.lookup(alloc, name)? {
+        Some(found) => Ok(has_names && is_absent && *found.as_view() == Value::scalar(number)),
+        None => Ok(false),
+    }
 }
 
 #[test]

@@ -1,12 +1,12 @@
 //! Globals that are given as JSON, and runtimes of them.
-use bench::languages::language;
+use crate::languages::plain_language;
+use crate::pages::{Over, holds_at_once};
 use liquid_core::model::{Date, DateTime, Object, ScalarCow, State, Value, to_object};
 use liquid_core::runtime::{BuiltRuntime, Runtime, RuntimeBuilder};
-use liquid_core::{Error, TextSink, render_source};
 use serde_json::Value as Json;
 use std::alloc::{AllocError, Global};
 use std::test::Fail;
-use tests_lines::{holds, same};
+use tests_lines::{Row, holds};
 
 /// The object of a text of JSON.
 pub(crate) fn object_of(alloc: Global, names: &str) -> Result<Object, Fail> {
@@ -18,14 +18,6 @@ pub(crate) fn object_of(alloc: Global, names: &str) -> Result<Object, Fail> {
 pub(crate) fn runtime_of(alloc: Global, globals: &str) -> Result<BuiltRuntime<(), ()>, Fail> {
     let globals = object_of(alloc, globals)?;
     Ok(RuntimeBuilder::new(alloc).set_globals(globals).build())
-}
-
-/// The error's text, empty where there is none.
-pub(crate) fn error_text(alloc: Global, answer: &Result<(), Error>) -> Result<String, AllocError> {
-    match answer {
-        Ok(()) => Ok(String::new(alloc)),
-        Err(error) => error.to_string(alloc),
-    }
 }
 
 fn add(alloc: Global, object: &mut Object, name: &str, value: Value) -> Result<(), AllocError> {
@@ -44,23 +36,25 @@ fn globals(alloc: Global) -> Result<Object, Fail> {
     Ok(object)
 }
 
-/// What a template without partials writes over those globals.
-fn written(alloc: Global, template: &str) -> Result<String, Fail> {
-    let language = language(alloc)?;
+/// Templates over those globals.
+const ROWS: &str =
+    r#"{"template": "{{ day }}, {{ moment }}", "written": "2016-02-16, 2016-02-16 10:00:00 +0100"}
+{"template": "[{{ none }}]", "written": "[]"}"#;
+
+/// Whether a row holds over those globals.
+fn is_written(alloc: Global, row: &Row) -> Result<bool, Fail> {
     let globals = globals(alloc)?;
-    let mut runtime: BuiltRuntime<(), ()> = RuntimeBuilder::new(alloc).set_globals(globals).build();
-    let mut sink = TextSink::new(alloc);
-    render_source(alloc, template, &language, &mut runtime, &mut sink)?;
-    Ok(sink.into_string()?)
+    let runtime: Over<()> = RuntimeBuilder::new(alloc).set_globals(globals).build();
+    holds_at_once(alloc, row, &*plain_language(alloc)?, runtime)
 }
 
 #[test]
 fn dates_and_states_are_rendered(rt: HostRuntime) -> Result<(), Fail> {
     let alloc = rt.alloc();
-    let dates = written(alloc, "{{ day }}, {{ moment }}")?;
-    same(dates.as_str(), "2016-02-16, 2016-02-16 10:00:00 +0100")?;
-    let state = written(alloc, "[{{ none }}]")?;
-    same(state.as_str(), "[]")
+    for line in ROWS.lines() {
+        holds(is_written(alloc, &Row::of(alloc, line)?)?, line)?;
+    }
+    Ok(())
 }
 
 #[test]

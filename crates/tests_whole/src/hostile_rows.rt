@@ -1,10 +1,11 @@
-//! Texts of bad will: plug-ins that don't end, openers that are no liquid, and more open than may be.
-use crate::rows::lines_hold;
-use crate::text_rows::holds;
-use bench::languages::{hostile_language, language};
+//! Malicious texts: plug-ins that don't end, openers that are no liquid, and more open than may be.
+use crate::kinds::OnDemand;
+use crate::languages::{hostile_language, plain_language};
+use crate::pages::all_hold;
 use std::alloc::Global;
 use std::test::Fail;
 
+/// Texts in the language with malicious plug-ins.
 const HOSTILE: &str = r#"{"template": "{% spin %}.", "written": "sss."}
 {"template": "{% mute %}.", "written": "."}
 {"template": "{% far %}a{% endfar %}.", "written": "."}
@@ -18,16 +19,13 @@ const HOSTILE: &str = r#"{"template": "{% spin %}.", "written": "sss."}
 {"template": "é{{ 4.5 }}", "written": "", "error": "liquid: Decimal not supported (line 1, column 5)\n"}
 {"template": "{{ +9223372036854775807 }}", "written": "9223372036854775807"}
 {"template": "{{ -9223372036854775809 }}", "written": "", "error": "liquid: Integer out of range (line 1, column 4)\n"}
-{"template": "{{ a[-9223372036854775808] }}", "globals": {"a": [0]}, "written": "", "error": "liquid: Unknown index\n  with:\n    variable=a\n    requested index=-9223372036854775808\n    available indexes=0..0, first, last\n", "lenient": {"written": ""}}"#;
-
-/// Whether the row of a line holds of the language with plug-ins of bad will.
-fn holds_in_spite(alloc: Global, line: &str) -> Result<bool, Fail> {
-    holds(alloc, line, &hostile_language(alloc)?)
-}
+{"template": "{{ a[-9223372036854775808] }}", "globals": {"a": [0]}, "written": "", "error": "liquid: Unknown index\n  with:\n    variable=a\n    requested index=-9223372036854775808\n    available indexes=0..0, first, last\n", "lenient": {"written": ""}}
+{"template": "{{ a[-9223372036854775808] }}", "globals": {"a": [1]}, "written": "", "error": "liquid: Unknown index\n  with:\n    variable=a\n    requested index=-9223372036854775808\n    available indexes=0..0, first, last\n", "lenient": {"written": ""}}"#;
 
 #[test]
-fn hostile_templates_are_rendered(rt: HostRuntime) -> Result<(), Fail> {
-    lines_hold(rt.alloc(), HOSTILE, holds_in_spite)
+fn malicious_templates_are_rendered(rt: HostRuntime) -> Result<(), Fail> {
+    let alloc = rt.alloc();
+    all_hold::<_, _, _, OnDemand>(alloc, HOSTILE, &hostile_language(alloc)?, 15)
 }
 
 /// A text over and over.
@@ -47,13 +45,12 @@ fn nested(alloc: Global, open: &str, text: &str, end: &str, count: usize) -> Res
     Ok(all)
 }
 
-/// Refuses a text that doesn't come to what is written, or to the text of a refusal, by each of the calls that
+/// Refuses a text that doesn't come to what is written, or to the text of an error, by each of the calls that
 /// render.
 fn comes_to(alloc: Global, template: &str, written: &str, error: &str) -> Result<(), Fail> {
     let members = format!(in alloc; "\"written\": \"{written}\", \"error\": \"{error}\"")?;
     let line = format!(in alloc; "{{\"template\": \"{template}\", {members}}}")?;
-    let is_so = holds(alloc, line.as_str(), &language(alloc)?)?;
-    tests_lines::holds(is_so, template)
+    all_hold::<_, _, _, OnDemand>(alloc, line.as_str(), &plain_language(alloc)?, 1)
 }
 
 #[test]

@@ -1,19 +1,17 @@
-//! Templates with partials, and requests to stores, over all three stores.
-use crate::calls::{holds_at_once, holds_in};
+//! Requests to stores, and templates with partials.
 use crate::counting_source::CountingSource;
-use crate::given::{error_text, runtime_of};
-use crate::rows::{Row, lines_hold, source_of};
+use crate::kinds::{Eager, Kind, Lazy, OnDemand, source_of};
+use crate::languages::{PlainLanguage, plain_language};
 use bench::blocks::BlockNode;
 use bench::filters::AnyFilter;
-use bench::forms::{Chained, Flat};
-use bench::languages::language;
 use bench::tags::TagNode;
 use bench::{Blocks, Filters, Tags};
 use liquid_core::partials::{
     EagerCompiler, InMemorySource, LazyCompiler, OnDemandCompiler, PartialCompiler, PartialSource,
+    unknown_partial,
 };
 use liquid_core::runtime::{BuiltRuntime, RuntimeBuilder, Template};
-use liquid_core::{Error, Language, PartialStore, TextSink, render_source};
+use liquid_core::{Error, PartialStore};
 use serde_json::Value as Json;
 use std::alloc::{AllocError, Global};
 use std::cell::Cell;
@@ -21,65 +19,8 @@ use std::rc::Rc;
 use std::test::Fail;
 use tests_lines::{Line, holds, same};
 
-type TheLanguage = Language<Filters, Tags, Blocks>;
-
-fn compiled<C>(
-    alloc: Global,
-    language: &Rc<TheLanguage>,
-    compiler: C,
-) -> Result<C::Store, AllocError>
-where
-    C: PartialCompiler<Filters, Tags, Blocks> + Drop,
-{
-    compiler.compile(alloc, language.clone()?)
-}
-
-/// A runtime over the store of a row's partials.
-fn runtime_from<C>(
-    alloc: Global,
-    row: &Row,
-    language: &Rc<TheLanguage>,
-    compiler: C,
-) -> Result<BuiltRuntime<(), C::Store>, Fail>
-where
-    C: PartialCompiler<Filters, Tags, Blocks> + Drop,
-    C::Store: Drop,
-{
-    let store = compiled(alloc, language, compiler)?;
-    row.over(alloc, store)
-}
-
-fn from_eager(alloc: Global, row: &Row, language: &Rc<TheLanguage>) -> Result<bool, Fail> {
-    let compiler = EagerCompiler::new(row.source(alloc)?);
-    let runtime = runtime_from(alloc, row, language, compiler)?;
-    holds_at_once(alloc, row, language, runtime)
-}
-
-fn from_on_demand(alloc: Global, row: &Row, language: &Rc<TheLanguage>) -> Result<bool, Fail> {
-    let compiler = OnDemandCompiler::new(row.source(alloc)?);
-    let runtime = runtime_from(alloc, row, language, compiler)?;
-    holds_at_once(alloc, row, language, runtime)
-}
-
-fn from_lazy(alloc: Global, row: &Row, language: &Rc<TheLanguage>) -> Result<bool, Fail> {
-    let compiler = LazyCompiler::new(row.source(alloc)?);
-    let runtime = runtime_from(alloc, row, language, compiler)?;
-    holds_at_once(alloc, row, language, runtime)
-}
-
-fn over_chained(alloc: Global, row: &Row, language: &Rc<TheLanguage>) -> Result<bool, Fail> {
-    let compiler = EagerCompiler::new(row.source(alloc)?);
-    let base = runtime_from(alloc, row, language, compiler)?;
-    holds_in::<Chained<_>, _, _, _>(alloc, row, language, base)
-}
-
-fn over_flat(alloc: Global, row: &Row, language: &Rc<TheLanguage>) -> Result<bool, Fail> {
-    let compiler = LazyCompiler::new(row.source(alloc)?);
-    let base = runtime_from(alloc, row, language, compiler)?;
-    holds_in::<Flat<_>, _, _, _>(alloc, row, language, base)
-}
-
-const ROWS: &str =
+/// Templates with partials.
+pub(crate) const ROWS: &str =
     r#"{"partials": [["p", "x{% inc p %}"]], "template": "{% inc p %}", "depth": 3, "written": "xxx", "error": "liquid: Partials nest too deep\n"}
 {"partials": [["p", "x{% inc p %}"]], "template": "{% inc q %}", "depth": 32, "written": "", "error": "liquid: Unknown partial-template\n  with:\n    requested partial=q\n    available partials=p\n"}
 {"partials": [["p", "x{% inc p %}"]], "template": "{% inc q %}", "depth": 0, "written": "", "error": "liquid: Partials nest too deep\n"}
@@ -94,30 +35,6 @@ const ROWS: &str =
 {"partials": [["a", "1{% inc b %}"], ["b", "2{% inc c %}"], ["c", "3"]], "template": "{% inc a %}{% inc c %}", "depth": 3, "written": "1233"}
 {"partials": [["a", "1{% inc b %}"], ["b", "2{% inc c %}"], ["c", "3"]], "template": "{% inc a %}{% inc c %}", "depth": 2, "written": "12", "error": "liquid: Partials nest too deep\n"}
 {"partials": [["p", "{% box %}x"]], "template": "{% box %}a{% inc p %}{% endbox %}", "depth": 1, "written": "[a", "error": "liquid: Unclosed block. {% endbox %} tag expected. (line 1, column 11)\n"}"#;
-
-/// Whether a row holds of all three stores, and of both forms of scopes.
-fn holds_over_each(alloc: Global, row: &Row, language: &Rc<TheLanguage>) -> Result<bool, Fail> {
-    let from_eager = from_eager(alloc, row, language)?;
-    let from_on_demand = from_on_demand(alloc, row, language)?;
-    let from_lazy = from_lazy(alloc, row, language)?;
-    let over_chained = over_chained(alloc, row, language)?;
-    let over_flat = over_flat(alloc, row, language)?;
-    Ok(from_eager && from_on_demand && from_lazy && over_chained && over_flat)
-}
-
-/// Whether the row of a line holds so where names are strict and where they are lenient.
-fn holds_of_all(alloc: Global, line: &str) -> Result<bool, Fail> {
-    let language = shared_language(alloc)?;
-    let row = Row::of(alloc, line)?;
-    let is_strict = holds_over_each(alloc, &row, &language)?;
-    let row = row.leniently();
-    Ok(is_strict && holds_over_each(alloc, &row, &language)?)
-}
-
-#[test]
-fn partials_are_rendered_from_all_stores(rt: HostRuntime) -> Result<(), Fail> {
-    lines_hold(rt.alloc(), ROWS, holds_of_all)
-}
 
 /// What a partial is by itself: its text over a runtime without globals.
 fn shown(
@@ -138,11 +55,10 @@ fn shown(
 const SOURCES: &str = r#"[["p", "P"], ["q", "Q"], ["bad", "{% nope %}"]]"#;
 
 fn source(alloc: Global) -> Result<InMemorySource, Fail> {
-    source_of(alloc, &Json::from_str(alloc, SOURCES)?)
-}
-
-fn shared_language(alloc: Global) -> Result<Rc<TheLanguage>, Fail> {
-    Ok(Rc::new(alloc, language(alloc)?)?)
+    match Json::from_str(alloc, SOURCES)? {
+        Json::Array(partials) => source_of(alloc, &partials),
+        _ => Err(Fail::from("partials are no list")),
+    }
 }
 
 /// Names that are requested one after the other, with what `get` answers.
@@ -161,10 +77,10 @@ fn answered<S>(alloc: Global, store: &mut S, name: &str) -> Result<(String, bool
 where
     S: PartialStore<AnyFilter, TagNode, BlockNode>,
 {
-    let found = store.get(alloc, name);
+    let found = PartialStore::get(store, alloc, name);
     let is_tree = found.is_ok();
     let text = shown(alloc, found)?;
-    let agrees = match store.try_get(alloc, name)? {
+    let agrees = match PartialStore::try_get(store, alloc, name)? {
         None => !is_tree,
         Some(template) => is_tree && shown(alloc, Ok(template))?.as_str() == text.as_str(),
     };
@@ -185,7 +101,7 @@ fn lists_its_names<S>(alloc: Global, store: &S) -> Result<bool, AllocError>
 where
     S: PartialStore<AnyFilter, TagNode, BlockNode>,
 {
-    let names = store.names(alloc)?.join(alloc, " ")?;
+    let names = PartialStore::names(store, alloc)?.join(alloc, " ")?;
     Ok(names.as_str() == "bad p q" && store.contains("bad") && !store.contains("none"))
 }
 
@@ -203,13 +119,12 @@ where
     holds(lists_its_names(alloc, &store)?, "a store has its names")
 }
 
-/// Refuses a compiler of the sources whose store answers otherwise than the rows tell.
-fn answers_from<C>(alloc: Global, language: &Rc<TheLanguage>, compiler: C) -> Result<(), Fail>
+/// Refuses a kind of store that answers otherwise than the rows tell.
+fn answers_from<K>(alloc: Global, language: &Rc<PlainLanguage>) -> Result<(), Fail>
 where
-    C: PartialCompiler<Filters, Tags, Blocks> + Drop,
-    C::Store: Drop,
+    K: Kind<Filters, Tags, Blocks>,
 {
-    let store = compiled(alloc, language, compiler)?;
+    let store = K::store(alloc, source(alloc)?, language)?;
     answers_all(alloc, store)
 }
 
@@ -233,17 +148,17 @@ where
 #[test]
 fn requests_have_the_same_answers_from_all_stores(rt: HostRuntime) -> Result<(), Fail> {
     let alloc = rt.alloc();
-    let language = shared_language(alloc)?;
-    answers_from(alloc, &language, EagerCompiler::new(source(alloc)?))?;
-    answers_from(alloc, &language, LazyCompiler::new(source(alloc)?))?;
-    answers_from(alloc, &language, OnDemandCompiler::new(source(alloc)?))
+    let language = plain_language(alloc)?;
+    answers_from::<Eager>(alloc, &language)?;
+    answers_from::<Lazy>(alloc, &language)?;
+    answers_from::<OnDemand>(alloc, &language)
 }
 
 #[test]
 fn a_lazy_store_keeps_trees_and_faults(rt: HostRuntime) -> Result<(), Fail> {
     let alloc = rt.alloc();
-    let language = shared_language(alloc)?;
-    let mut store = compiled(alloc, &language, LazyCompiler::new(source(alloc)?))?;
+    let language = plain_language(alloc)?;
+    let mut store = LazyCompiler::new(source(alloc)?).compile(alloc, language)?;
     holds(
         !store.is_kept("p") && !store.is_kept("bad"),
         "nothing is kept yet",
@@ -262,21 +177,21 @@ fn is_replaced(alloc: Global, texts: &mut InMemorySource, text: &str) -> Result<
     Ok(texts.add(name, String::from_str(alloc, text)?)?)
 }
 
+const UNKNOWN: &str =
+    "liquid: Unknown partial-template\n  with:\n    requested partial=q\n    available partials=p\n";
+
 /// Refuses a source that has more than `p`, or another text for it.
 fn has_the_new_text(alloc: Global, source: &InMemorySource) -> Result<(), Fail> {
     holds(source.contains("p"), "p has a text")?;
     holds(!source.contains("q"), "q has no text")?;
-    same(source.get(alloc, "p")?.as_str(), "new")?;
-    holds(
-        source.try_get(alloc, "q")?.is_none(),
-        "no text is found for q",
-    )?;
-    match source.get(alloc, "q") {
+    let names = PartialSource::names(source, alloc)?.join(alloc, " ")?;
+    same(names.as_str(), "p")?;
+    same(PartialSource::get(source, alloc, "p")?.as_str(), "new")?;
+    let found = PartialSource::try_get(source, alloc, "q")?;
+    holds(found.is_none(), "no text is found for q")?;
+    match PartialSource::get(source, alloc, "q") {
         Ok(_) => Err(Fail::from("q has a text")),
-        Err(error) => same(
-            error.to_string(alloc)?.as_str(),
-            "liquid: Unknown partial-template\n  with:\n    requested partial=q\n    available partials=p\n",
-        ),
+        Err(error) => same(error.to_string(alloc)?.as_str(), UNKNOWN),
     }
 }
 
@@ -289,22 +204,10 @@ fn a_source_is_a_map_of_texts(rt: HostRuntime) -> Result<(), Fail> {
     let texts = compiler.source_mut();
     holds(!is_replaced(alloc, texts, "old")?, "p had no text")?;
     holds(is_replaced(alloc, texts, "new")?, "p had a text")?;
-    let copy = compiler.source().clone()?;
-    has_the_new_text(alloc, &copy)
-}
-
-#[test]
-fn a_partial_is_asked_for_where_there_is_no_store(rt: HostRuntime) -> Result<(), Fail> {
-    let alloc = rt.alloc();
-    let language = language(alloc)?;
-    let mut runtime = runtime_of(alloc, "{}")?;
-    let mut sink = TextSink::new(alloc);
-    let answer = render_source(alloc, "a{% inc p %}", &language, &mut runtime, &mut sink);
-    same(
-        error_text(alloc, &answer)?.as_str(),
-        "liquid: Partial does not exist\n  with:\n    name=p\n",
-    )?;
-    same(sink.into_string()?.as_str(), "a")
+    let copy = InMemorySource::clone(compiler.source())?;
+    has_the_new_text(alloc, &copy)?;
+    let unknown = unknown_partial(alloc, "q", &["p"]);
+    same(unknown.to_string(alloc)?.as_str(), UNKNOWN)
 }
 
 /// The sources, which count how often they are asked.
@@ -318,7 +221,7 @@ fn counting(alloc: Global, asked: &Rc<Cell<u64>>) -> Result<CountingSource<InMem
 /// A store on demand reads a text for each request of a name that has one.
 fn is_read_on_demand(alloc: Global, asked: &Rc<Cell<u64>>) -> Result<(), Fail> {
     let compiler = OnDemandCompiler::new(counting(alloc, asked)?);
-    let mut store = compiled(alloc, &shared_language(alloc)?, compiler)?;
+    let mut store = PartialCompiler::compile(compiler, alloc, plain_language(alloc)?)?;
     holds(asked.get() == 0, "no text is read beforehand")?;
     request(alloc, &mut store, "p")?;
     request(alloc, &mut store, "p")?;
@@ -329,7 +232,7 @@ fn is_read_on_demand(alloc: Global, asked: &Rc<Cell<u64>>) -> Result<(), Fail> {
 /// An eager store reads each text when it is made, and none later.
 fn is_read_eagerly(alloc: Global, asked: &Rc<Cell<u64>>) -> Result<(), Fail> {
     let compiler = EagerCompiler::new(counting(alloc, asked)?);
-    let mut store = compiled(alloc, &shared_language(alloc)?, compiler)?;
+    let mut store = PartialCompiler::compile(compiler, alloc, plain_language(alloc)?)?;
     holds(asked.get() == 5, "each text is read beforehand")?;
     request(alloc, &mut store, "p")?;
     request(alloc, &mut store, "none")?;
@@ -339,7 +242,7 @@ fn is_read_eagerly(alloc: Global, asked: &Rc<Cell<u64>>) -> Result<(), Fail> {
 /// A lazy store reads a text for the first request of its name.
 fn is_read_lazily(alloc: Global, asked: &Rc<Cell<u64>>) -> Result<(), Fail> {
     let compiler = LazyCompiler::new(counting(alloc, asked)?);
-    let mut store = compiled(alloc, &shared_language(alloc)?, compiler)?;
+    let mut store = PartialCompiler::compile(compiler, alloc, plain_language(alloc)?)?;
     holds(asked.get() == 5, "no text is read beforehand")?;
     get(alloc, &mut store, "p");
     request(alloc, &mut store, "p")?;

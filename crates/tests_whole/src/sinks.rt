@@ -1,5 +1,6 @@
 //! Sinks: texts of any length through a writer, and the faults of sinks.
-use crate::given::{error_text, runtime_of};
+use crate::given::runtime_of;
+use crate::pages::error_text;
 use bench::dripping::Dripping;
 use bench::languages::language;
 use liquid_core::model::ScalarCow;

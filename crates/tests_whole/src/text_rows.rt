@@ -1,15 +1,7 @@
-//! Templates of the program's language with what they come to, by each of the calls that render them.
-use crate::calls::{holds_at_once, holds_in};
-use crate::rows::{Row, lines_hold};
-use bench::forms::{Chained, Flat};
-use bench::languages::language;
-use liquid_core::parser::{Language, ParseBlock, ParseFilter, ParseTag, parse};
-use liquid_core::runtime::{Renderable, Template};
-use std::alloc::Global;
-use std::test::Fail;
+//! Templates of the test plug-ins with what they come to.
 
 /// Texts and names.
-const NAMES: &str =
+pub(crate) const NAMES: &str =
     r#"{"template": "Hello {{ name }}!", "globals": {"name": "World"}, "written": "Hello World!"}
 {"template": "", "written": ""}
 {"template": "    \n    {{ exp }}    \n    ", "globals": {"exp": 5}, "written": "    \n    5    \n    "}
@@ -29,7 +21,7 @@ const NAMES: &str =
 {"template": "{{ nil }}", "written": ""}"#;
 
 /// Expressions, paths and filters.
-const EXPRESSIONS: &str = r#"{"template": "a {{-5}} b", "written": "a5 b"}
+pub(crate) const EXPRESSIONS: &str = r#"{"template": "a {{-5}} b", "written": "a5 b"}
 {"template": "{{ 4.5 }}", "written": "", "error": "liquid: Decimal not supported (line 1, column 4)\n"}
 {"template": "{{ 9223372036854775808 }}", "written": "", "error": "liquid: Integer out of range (line 1, column 4)\n"}
 {"template": "{{ -9223372036854775808 }}", "written": "-9223372036854775808"}
@@ -48,7 +40,8 @@ const EXPRESSIONS: &str = r#"{"template": "a {{-5}} b", "written": "a5 b"}
 {"template": "a {{ p.a | append: p['b'] }}{{ p.c }}", "globals": {"p": {"b": 2, "a": "x"}}, "written": "a x2", "error": "liquid: Unknown index\n  with:\n    variable=p\n    requested index=c\n    available indexes=a, b\n", "lenient": {"written": "a x2"}}"#;
 
 /// Tags and blocks.
-const BLOCKS: &str = r#"{"template": "{% raw %}{{ a }}{{% endraw %}", "written": "{{ a }}{"}
+pub(crate) const BLOCKS: &str =
+    r#"{"template": "{% raw %}{{ a }}{{% endraw %}", "written": "{{ a }}{"}
 {"template": "{% raw %} x {%- endraw %}", "written": " x"}
 {"template": "{% box %}a{% endbox 1 %}", "written": "", "error": "liquid: Unexpected token (line 1, column 21)\n"}
 {"template": "{% box %}a", "written": "", "error": "liquid: Unclosed block. {% endbox %} tag expected. (line 1, column 11)\n"}
@@ -64,118 +57,13 @@ const BLOCKS: &str = r#"{"template": "{% raw %}{{ a }}{{% endraw %}", "written":
 {"template": "{% box %}{% endbox 4.5 %}", "written": "", "error": "liquid: Decimal not supported (line 1, column 20)\n"}"#;
 
 /// Frames, globals and sandboxes.
-const FRAMES: &str =
+pub(crate) const FRAMES: &str =
     r#"{"template": "{% with x 1 %}{% set x 2 %}{{ x }}{% endwith %}{{ x }}", "written": "12"}
 {"template": "{% set g 1 %}{% glob %}{{ g }}{% set g 5 %}{{ g }}{% endglob %}{{ g }}", "written": "151"}
 {"template": "{% glob %}{% set g 5 %}{{ g }}{% endglob %}{{ g }}", "written": "5", "error": "liquid: Unknown variable\n  with:\n    requested variable=g\n", "lenient": {"written": "5"}}
 {"template": "{% inc p %}", "written": "", "error": "liquid: Partial does not exist\n  with:\n    name=p\n"}
 {"template": "{% sbox %}{{ x }}{% endsbox %}", "globals": {"x": 1}, "written": "", "error": "liquid: Unknown variable\n  with:\n    requested variable=x\n", "lenient": {"written": ""}}
 {"template": "{% sbox %}{% set x 2 %}{% endsbox %}{{ x }}", "globals": {"x": 1}, "written": "2"}
-{"template": "{% set %}", "written": "", "error": "liquid: Token expected (line 1, column 7)\n"}"#;
-
-/// Whether a row holds of `parse` and `render`, which answers no text with a refusal.
-fn in_two_steps<F, T, B>(
-    alloc: Global,
-    row: &Row,
-    language: &Language<F, T, B>,
-) -> Result<bool, Fail>
-where
-    F: ParseFilter + Drop,
-    T: ParseTag<F> + Drop,
-    B: ParseBlock<F> + Drop,
-    T::Node: Renderable<()>,
-    B::Node: Renderable<()>,
-{
-    let mut runtime = row.runtime(alloc)?;
-    let rendered = match parse(alloc, row.template(), language) {
-        Ok(nodes) => Template::new(nodes).render(alloc, &mut runtime),
-        Err(error) => Err(error),
-    };
-    let (text, is_refused) = match rendered {
-        Ok(text) => (text, false),
-        Err(error) => (error.to_string(alloc)?, true),
-    };
-    Ok(row.is_answer(text.as_str(), is_refused))
-}
-
-/// Whether a row holds of `render_in` over chained scopes.
-fn over_chained<F, T, B>(
-    alloc: Global,
-    row: &Row,
-    language: &Language<F, T, B>,
-) -> Result<bool, Fail>
-where
-    F: ParseFilter + Drop,
-    T: ParseTag<F> + Drop,
-    B: ParseBlock<F> + Drop,
-    T::Node: Renderable<()>,
-    B::Node: Renderable<()>,
-{
-    holds_in::<Chained<()>, F, T, B>(alloc, row, language, row.runtime(alloc)?)
-}
-
-/// Whether a row holds of `render_in` over flat scopes.
-fn over_flat<F, T, B>(alloc: Global, row: &Row, language: &Language<F, T, B>) -> Result<bool, Fail>
-where
-    F: ParseFilter + Drop,
-    T: ParseTag<F> + Drop,
-    B: ParseBlock<F> + Drop,
-    T::Node: Renderable<()>,
-    B::Node: Renderable<()>,
-{
-    holds_in::<Flat<()>, F, T, B>(alloc, row, language, row.runtime(alloc)?)
-}
-
-/// Whether a row holds of each of the calls.
-fn holds_by_each<F, T, B>(
-    alloc: Global,
-    row: &Row,
-    language: &Language<F, T, B>,
-) -> Result<bool, Fail>
-where
-    F: ParseFilter + Drop,
-    T: ParseTag<F> + Drop,
-    B: ParseBlock<F> + Drop,
-    T::Node: Renderable<()>,
-    B::Node: Renderable<()>,
-{
-    let at_once = holds_at_once(alloc, row, language, row.runtime(alloc)?)?;
-    let in_two_steps = in_two_steps(alloc, row, language)?;
-    let over_chained = over_chained(alloc, row, language)?;
-    let over_flat = over_flat(alloc, row, language)?;
-    Ok(at_once && in_two_steps && over_chained && over_flat)
-}
-
-/// Whether the row of a line holds of each of the calls, where names are strict and where they are
-/// lenient.
-pub(crate) fn holds<F, T, B>(
-    alloc: Global,
-    line: &str,
-    language: &Language<F, T, B>,
-) -> Result<bool, Fail>
-where
-    F: ParseFilter + Drop,
-    T: ParseTag<F> + Drop,
-    B: ParseBlock<F> + Drop,
-    T::Node: Renderable<()>,
-    B::Node: Renderable<()>,
-{
-    let row = Row::of(alloc, line)?;
-    let is_strict = holds_by_each(alloc, &row, language)?;
-    let row = row.leniently();
-    Ok(is_strict && holds_by_each(alloc, &row, language)?)
-}
-
-/// Whether the row of a line holds so of the program's language.
-fn holds_of_it(alloc: Global, line: &str) -> Result<bool, Fail> {
-    holds(alloc, line, &language(alloc)?)
-}
-
-#[test]
-fn templates_come_to_what_they_mean(rt: HostRuntime) -> Result<(), Fail> {
-    let alloc = rt.alloc();
-    lines_hold(alloc, NAMES, holds_of_it)?;
-    lines_hold(alloc, EXPRESSIONS, holds_of_it)?;
-    lines_hold(alloc, BLOCKS, holds_of_it)?;
-    lines_hold(alloc, FRAMES, holds_of_it)
-}
+{"template": "{% set %}", "written": "", "error": "liquid: Token expected (line 1, column 7)\n"}
+{"template": "{% set x 2 %}{{ x }}", "globals": {"x": 1}, "written": "2"}
+{"template": "a{% inc p %}", "written": "a", "error": "liquid: Partial does not exist\n  with:\n    name=p\n"}"#;

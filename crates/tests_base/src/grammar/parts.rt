@@ -140,7 +140,9 @@ fn chains_go_on_or_end(_rt: HostRuntime) -> Result<(), Fail> {
 
 #[test]
 fn tokens_stand_behind_white_space(_rt: HostRuntime) -> Result<(), Fail> {
-    let range = next_token(" (1..a) b").ok_or("a token")?;
+    let Some(range) = next_token(" (1..a) b") else {
+        return Err(Fail::from("no token"));
+    };
     same(range.text, "(1..a)")?;
     same(range.rest, " b")?;
     let parts = TokenParts::Range {
@@ -153,8 +155,12 @@ fn tokens_stand_behind_white_space(_rt: HostRuntime) -> Result<(), Fail> {
 
 #[test]
 fn tokens_stand_side_by_side(_rt: HostRuntime) -> Result<(), Fail> {
-    let range = next_token(" (1..a) b").ok_or("a token")?;
-    let name = next_token(range.rest).ok_or("a token")?;
+    let Some(range) = next_token(" (1..a) b") else {
+        return Err(Fail::from("no token"));
+    };
+    let Some(name) = next_token(range.rest) else {
+        return Err(Fail::from("no second token"));
+    };
     same(name.place, "b")?;
     same(name.text, "b")?;
     let parts = TokenParts::Chain(TokenKind::Identifier("b"));

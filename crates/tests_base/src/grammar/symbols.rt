@@ -1,5 +1,6 @@
 //! Symbols side by side: which of them is the longest.
 use super::leaves;
+use serde_json::Value as Json;
 use std::alloc::Global;
 use std::test::Fail;
 use tests_lines::{Line, rows_hold};
@@ -25,15 +26,22 @@ fn is_behind_symbol(alloc: Global, first: &str, second: &str, rest: &str) -> Res
     leaves("token", text.as_str(), Some(rest))
 }
 
+/// The text at a place of a list.
+fn text_at(list: &Json, place: usize) -> Result<&str, Fail> {
+    match list.get(place) {
+        Some(member) => match member.as_str() {
+            Some(text) => Ok(text),
+            None => Err(Fail::from("a pair has no text at a place")),
+        },
+        None => Err(Fail::from("a pair is too short")),
+    }
+}
+
 /// Whether the row's symbol leaves of each second symbol what stands beside it, where the longest is taken.
 fn is_short(alloc: Global, row: &Line) -> Result<bool, Fail> {
     let first = row.text(0)?;
     for pair in row.list(1)? {
-        let second = pair
-            .get(0)
-            .and_then(|json| json.as_str())
-            .ok_or("a symbol")?;
-        let rest = pair.get(1).and_then(|json| json.as_str()).ok_or("a rest")?;
+        let (second, rest) = (text_at(pair, 0)?, text_at(pair, 1)?);
         if !is_behind_symbol(alloc, first, second, rest)? {
             return Ok(false);
         }
@@ -45,7 +53,9 @@ fn is_short(alloc: Global, row: &Line) -> Result<bool, Fail> {
 fn is_whole(alloc: Global, row: &Line) -> Result<bool, Fail> {
     let first = row.text(0)?;
     for symbol in row.list(1)? {
-        let second = symbol.as_str().ok_or("a symbol")?;
+        let Some(second) = symbol.as_str() else {
+            return Err(Fail::from("a symbol is no text"));
+        };
         if !is_behind_symbol(alloc, first, second, second)? {
             return Ok(false);
         }

@@ -22,11 +22,11 @@ pub fn call<'g>(alloc: Global, word: &str, given: &'g mut Given) -> Answered<'g>
     let json = std::mem::replace(&mut given.json, Json::Null);
     match word {
         "to_value" => Ok(Answer::Value(to_value(alloc, &json)?)),
-        "to_object" => Ok(Answer::Value(Value::Object(to_object(alloc, &json)?))),
+        "to_object" => Ok(Answer::Value(Value::from(to_object(alloc, &json)?))),
         "into_value" => Ok(Answer::Value(into_value(alloc, json)?)),
-        "into_object" => Ok(Answer::Value(Value::Object(into_object(alloc, json)?))),
+        "into_object" => Ok(Answer::Value(Value::from(into_object(alloc, json)?))),
         "object_from_str" => match object_from_str(alloc, GLOBALS) {
-            Ok(object) => Ok(Answer::Value(Value::Object(object?))),
+            Ok(object) => Ok(Answer::Value(Value::from(object?))),
             Err(error) => Ok(if error.is_memory() {
                 Answer::Memory
             } else {

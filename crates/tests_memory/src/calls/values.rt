@@ -54,8 +54,8 @@ fn of_growing<'g>(alloc: Global, word: &str, given: &'g mut Given, member: Value
             let _old = Object::insert(&mut given.object, name, member)?;
         }
         ("object_extend", _) => given.object.extend(pairs)?,
-        ("array_push", Some(array)) => array.push(member)?,
-        ("array_extend", Some(array)) => array.extend(items)?,
+        ("array_push", Some(array)) => array.to_mut()?.push(member)?,
+        ("array_extend", Some(array)) => array.to_mut()?.extend(items)?,
         _ => return Ok(Answer::Nothing),
     }
     Ok(Answer::Done)
@@ -64,7 +64,7 @@ fn of_growing<'g>(alloc: Global, word: &str, given: &'g mut Given, member: Value
 /// The calls that look into an object, or make one.
 fn of_objects<'g>(alloc: Global, word: &str, given: &'g Given) -> Answered<'g> {
     match word {
-        "object_of" => Ok(Answer::Value(Value::Object(object_of(alloc, &[("k", 1i64)])?))),
+        "object_of" => Ok(Answer::Value(Value::from(object_of(alloc, &[("k", 1i64)])?))),
         "keys" => Ok(Answer::Listed(ObjectView::keys(&given.object, alloc)?)),
         _ => match ObjectView::lookup(&given.object, alloc, "a")? {
             Some(value) => Ok(Answer::Found(value)),
@@ -80,7 +80,7 @@ fn of_arrays<'g>(alloc: Global, word: &str, given: &'g mut Given) -> Answered<'g
             let items = std::mem::replace(&mut given.items, Vec::new(alloc));
             Ok(Answer::Value(Value::array(alloc, items.into_iter())?))
         }
-        _ => Ok(Answer::Value(Value::Array(array_of(alloc, &["a", "b"])?))),
+        _ => Ok(Answer::Value(Value::from(array_of(alloc, &["a", "b"])?))),
     }
 }
 

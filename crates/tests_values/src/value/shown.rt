@@ -221,8 +221,10 @@ fn maps_show_what_is_absent(rt: HostRuntime) -> Result<(), Fail> {
         "a name without a number",
     )?;
     holds(!ObjectView::contains_key(&names, "d"), "no such name")?;
-    let found = names.lookup(alloc, "b")?.ok_or("no value")?;
-    holds(*found.as_view() == Value::scalar(2i64), "a name's number")
+    match names.lookup(alloc, "b")? {
+        Some(found) => holds(*found.as_view() == Value::scalar(2i64), "a name's number"),
+        None => Err(Fail::from("a name has no value")),
+    }
 }
 
 #[test]

@@ -50,7 +50,7 @@ fn arrays_change_in_place(rt: HostRuntime) -> Result<(), Fail> {
     let alloc = rt.alloc();
     let mut array = value_in(alloc, "[1]")?;
     if let Some(items) = array.as_array_mut() {
-        items.push(Value::scalar(2i64))?;
+        items.to_mut()?.push(Value::scalar(2i64))?;
     }
     same(array.to_kstr(alloc)?.as_str(), "12")
 }
@@ -60,7 +60,8 @@ fn objects_change_in_place(rt: HostRuntime) -> Result<(), Fail> {
     let alloc = rt.alloc();
     let mut object = value_in(alloc, "{\"a\": 1}")?;
     if let Some(members) = object.as_object_mut() {
-        drop(members.insert(String::from_str(alloc, "b")?, Value::scalar(2i64))?);
+        let map = members.to_mut()?;
+        drop(map.insert(String::from_str(alloc, "b")?, Value::scalar(2i64))?);
     }
     same(object.to_kstr(alloc)?.as_str(), "a1b2")
 }
@@ -93,11 +94,17 @@ const NAMED: &str = "{\"b\": 2, \"a\": \"x\"}";
 const BLANK: &str = "{\"state\": \"blank\"}";
 
 fn items(alloc: Global) -> Result<Array, Fail> {
-    Ok(value_in(alloc, ITEMS)?.into_array().ok_or("no array")?)
+    match value_in(alloc, ITEMS)?.into_array() {
+        Some(items) => Ok(items.into_array()?),
+        None => Err(Fail::from("no array")),
+    }
 }
 
 fn named(alloc: Global) -> Result<Object, Fail> {
-    Ok(value_in(alloc, NAMED)?.into_object().ok_or("no object")?)
+    match value_in(alloc, NAMED)?.into_object() {
+        Some(names) => Ok(names.into_object()?),
+        None => Err(Fail::from("no object")),
+    }
 }
 
 fn is(alloc: Global, value: Value, text: &str) -> Result<bool, Fail> {
@@ -167,7 +174,7 @@ fn objects_are_maps(rt: HostRuntime) -> Result<(), Fail> {
         .entry(String::from_str(alloc, "c")?)?
         .or_insert(Value::scalar(3i64));
     *slot = Value::scalar(4i64);
-    same(Value::Object(object).to_kstr(alloc)?.as_str(), "b2c4")
+    same(Value::from(object).to_kstr(alloc)?.as_str(), "b2c4")
 }
 
 // How many are left before a step, the name and the text of the entry that it takes, and how many are left then.

@@ -1,0 +1,116 @@
+//! A row of a table of templates.
+ghost use Rattle.std.specs.Prelude.{◌≡◌, Some, IfOk, option_map, option_and_then, unwrap_or, [], true, false};
+ghost use Rattle.serde_json.specs.Find.{get, as_str};
+ghost use Rattle.serde_json.specs.Read.{read};
+ghost use Rattle.serde_json.specs.View.{view};
+
+use serde_json::Value as Json;
+use std::alloc::Global;
+use std::test::Fail;
+
+/// A template and what it comes to, an object of JSON: `template`, what it sees and the partials that it may
+/// render, what is `written`, the text of its `error`, empty where it has none, and what is left of the names. What
+/// the row comes to where names are lenient is its member `lenient`, or the same where it has none.
+#[derive(Drop)]
+pub struct Row {
+    json: Json,
+    is_lenient: bool,
+}
+
+impl Row {
+    /// Reads the row of a line. A line that is no JSON is refused, and so is a row without a template or without
+    /// what it writes.
+    pub fn of(alloc: Global, line: &str) -> Result<Row, Fail>
+        ensures read { IfOk result (λ row. read line.now ≡ Some (view row.json)) }
+        ensures strict { IfOk result (λ row. row.is_lenient ≡ false) }
+    {
+        let json = Json::from_str(alloc, line)?;
+        if json.get("template").is_none() || json.get("written").is_none() {
+            return Err(Fail::from("a row has no template, or nothing that it writes"));
+        }
+        Ok(Row {
+            json,
+            is_lenient: false,
+        })
+    }
+
+    /// Returns the same row over names that are lenient.
+    pub fn leniently(self) -> Row
+        ensures same { result.json ≡ self.json }
+        ensures lenient { result.is_lenient ≡ true }
+    {
+        Row {
+            json: self.json,
+            is_lenient: true,
+        }
+    }
+
+    /// Returns whether names are lenient.
+    pub fn is_lenient(&self) -> bool
+        ensures { result ≡ self.now.is_lenient }
+    {
+        self.is_lenient
+    }
+
+    /// Returns a member, or nothing where the row has no such member.
+    pub fn member(&self, name: &str) -> Option<&Json>
+        ensures { option_map (λ v. view v.now) result ≡ get name.now (view self.now.json) }
+    {
+        self.json.get(name)
+    }
+
+    /// Returns the text of a member, empty where the row has no such text.
+    pub fn text(&self, name: &str) -> &str
+        ensures { result.now ≡ unwrap_or (option_and_then as_str (get name.now (view self.now.json))) [] }
+    {
+        match self.member(name) {
+            Some(member) => member.as_str().unwrap_or(""),
+            None => "",
+        }
+    }
+
+    /// Returns the text that a name within a member has, or nothing where it has none.
+    pub fn text_within(&self, member: &str, name: &str) -> Option<&str>
+        ensures { option_map (λ s. s.now) result ≡
+            option_and_then as_str (option_and_then (get name.now) (get member.now (view self.now.json))) }
+    {
+        match self.member(member) {
+            Some(names) => match names.get(name) {
+                Some(text) => text.as_str(),
+                None => None,
+            },
+            None => None,
+        }
+    }
+
+    /// Returns what the row writes, or the text of its error.
+    fn answer(&self, name: &str) -> &str {
+        if self.is_lenient && self.member("lenient").is_some() {
+            self.text_within("lenient", name).unwrap_or("")
+        } else {
+            self.text(name)
+        }
+    }
+
+    /// Returns the template.
+    pub fn template(&self) -> &str {
+        self.text("template")
+    }
+
+    /// Returns what is written.
+    pub fn written(&self) -> &str {
+        self.answer("written")
+    }
+
+    /// Returns the text of the error, empty where there is none.
+    pub fn error(&self) -> &str {
+        self.answer("error")
+    }
+
+    /// Returns whether a text is what the row writes, followed by its error's text.
+    pub fn is_whole(&self, all: &str) -> bool {
+        all.len() == self.written().len() + self.error().len()
+            && all.starts_with(self.written())
+            && all.ends_with(self.error())
+    }
+}

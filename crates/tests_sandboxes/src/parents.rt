@@ -1,0 +1,171 @@
+//! The parents of sandboxes, and what is left of one.
+use liquid_core::Error;
+use liquid_core::model::{Object, Value, ValueSource, to_object};
+use liquid_core::runtime::{BuiltRuntime, Fresh, Interrupt, Runtime, RuntimeBuilder};
+use std::alloc::{AllocError, Global};
+use std::test::Fail;
+use tests_lines::{Line, Row};
+
+/// A register of the host's own.
+#[derive(Drop)]
+pub(crate) struct Visits {
+    pub(crate) count: u8,
+}
+
+impl Fresh for Visits {
+    ghost fresh = { record { count = 0 } };
+
+    fn fresh() -> Visits {
+        Visits { count: 0 }
+    }
+}
+
+/// A parent over a store of partials.
+pub(crate) type Over<P> = BuiltRuntime<Visits, P>;
+
+/// The parents of a table, a row each: globals, assigned names, what the register counts, the interrupt that is set,
+/// if there is one, and an index variable, which is 3. One has no name, and the globals and assigned names of the other
+/// hide the names of the sites.
+pub(crate) const EMPTY_OR_FULL: &str = r#"[{}, {}, 0, "", "spare"]
+[{"a": "A", "b": [9], "c": 41, "e": ["E"], "forloop": {"index": 8}, "i": 17, "k": {"k": "K"}, "l": ["L", "M"]}, {"a": 70, "d": 42, "h": 9, "n": "1", "o": ["O"], "s": "S", "t": 1, "unknown": [5, 6], "x": true, "z": "Z"}, 7, "break", "spare"]"#;
+
+/// The parents of rows whose names are lenient.
+pub(crate) const LENIENT: &str = r#"[{}, {}, 0, "", "n"]
+[{"x": 10, "t": "T", "y": "z"}, {"s": "S", "g": 11}, 0, "continue", "n"]
+[{"b": 12, "n": 13}, {"t": 14, "x": null, "y": 0}, 0, "", "n"]"#;
+
+/// The parents of rows in the language of the test plug-ins.
+pub(crate) const STRICT: &str = r#"[{}, {}, 0, "", "n"]
+[{"x": 10, "t": "T"}, {"s": "S", "g": 11}, 0, "continue", "n"]
+[{"b": 12, "n": 13}, {"t": 14, "x": null}, 0, "", "n"]"#;
+
+fn set_index<R: Runtime>(alloc: Global, runtime: &mut R, name: &str) -> Result<(), Error> {
+    runtime.set_index(String::from_str(alloc, name)?, Value::scalar(3i64))?;
+    Ok(())
+}
+
+/// The object at a place of a parent's row.
+fn names(alloc: Global, parent: &Line, place: usize) -> Result<Object, Fail> {
+    Ok(to_object(alloc, parent.member(place)?)?)
+}
+
+/// A parent over a store, lenient where the row asks for it.
+pub(crate) fn over<P: Drop>(
+    alloc: Global,
+    parent: &Line,
+    row: &Row,
+    store: P,
+) -> Result<Over<P>, Fail> {
+    let mut runtime: Over<P> = RuntimeBuilder::new(alloc)
+        .set_globals(names(alloc, parent, 0)?)
+        .set_partials(store)
+        .set_lenient(row.is_lenient())
+        .build();
+    for (name, value) in names(alloc, parent, 1)? {
+        runtime.set_global(name, value)?;
+    }
+    set_index(alloc, &mut runtime, parent.text(4)?)?;
+    let registers = runtime.registers_mut();
+    registers.value.count = u8::try_from(parent.number(2)?)?;
+    match parent.text(3)? {
+        "break" => registers.interrupt.set(Interrupt::Break),
+        "continue" => registers.interrupt.set(Interrupt::Continue),
+        _ => {}
+    }
+    Ok(runtime)
+}
+
+/// Whether the register and the interrupt of a runtime are the parent's, and whether it is as lenient as the row.
+fn has_registers<R: Runtime<Register = Visits>>(
+    parent: &Line,
+    row: &Row,
+    runtime: &R,
+) -> Result<bool, Fail> {
+    let registers = runtime.registers();
+    Ok(
+        i64::from(registers.value.count) == parent.number(2)?
+            && registers.interrupt.interrupted() != parent.text(3)?.is_empty()
+            && runtime.is_lenient() == row.is_lenient()
+            && runtime.name().is_none(),
+    )
+}
+
+/// The names that the rows and the parents use.
+const NAMES: [&str; 22] = [
+    "a", "b", "c", "d", "e", "f", "forloop", "g", "h", "i", "k", "l", "n", "o", "p", "r", "s", "t",
+    "unknown", "x", "y", "z",
+];
+
+/// The source text of a value, and `-` where there is none.
+fn shown(alloc: Global, value: Option<&Value>) -> Result<String, AllocError> {
+    match value {
+        Some(value) => ValueSource::new(value).to_string(alloc),
+        None => String::from_str(alloc, "-"),
+    }
+}
+
+/// Whether a value is left as a row tells, or as it was where the row tells nothing.
+fn is_told(
+    alloc: Global,
+    told: Option<&str>,
+    before: Option<&Value>,
+    after: Option<&Value>,
+) -> Result<bool, AllocError> {
+    let left = shown(alloc, after)?;
+    match told {
+        Some(told) => Ok(left.as_str() == told),
+        None => Ok(left.as_str() == shown(alloc, before)?.as_str()),
+    }
+}
+
+/// Whether the names are what a row leaves. A name that is counted is seen where no other value is its own.
+fn are_names_left<R: Runtime, Q: Runtime>(
+    alloc: Global,
+    row: &Row,
+    before: &R,
+    after: &Q,
+) -> Result<bool, AllocError> {
+    for name in NAMES {
+        let was = before.try_get_name(name);
+        let told = match row.text_within("assigned", name) {
+            None if was.is_none() => row.text_within("counted", name),
+            told => told,
+        };
+        if !is_told(alloc, told, was, after.try_get_name(name))? {
+            return Ok(false);
+        }
+    }
+    Ok(true)
+}
+
+/// Whether the index variables are what a row leaves.
+fn are_indexes_left<R: Runtime, Q: Runtime>(
+    alloc: Global,
+    row: &Row,
+    before: &R,
+    after: &Q,
+) -> Result<bool, AllocError> {
+    for name in ["c", "d", "n", "spare"] {
+        let (told, was) = (row.text_within("counted", name), before.get_index(name));
+        if !is_told(alloc, told, was, after.get_index(name))? {
+            return Ok(false);
+        }
+    }
+    Ok(true)
+}
+
+/// Whether a runtime is what a row leaves of the parent, which was `before`: the names and index variables that the
+/// row leaves, and all others as they were.
+pub(crate) fn is_left<R: Runtime<Register = Visits>>(
+    alloc: Global,
+    parent: &Line,
+    row: &Row,
+    before: &Over<()>,
+    after: &R,
+) -> Result<bool, Fail> {
+    Ok(
+        has_registers(parent, row, after)?
+            && are_names_left(alloc, row, before, after)?
+            && are_indexes_left(alloc, row, before, after)?,
+    )
+}

@@ -1,0 +1,68 @@
+//! Sites of the tag library, each of which comes to the same whatever is around its sandbox.
+use crate::faulty_sites::FAULTY;
+use crate::lenient_library_rows::{BLOCKS, NAMES, PARTIALS};
+use crate::lenient_rows;
+use crate::lenient_sites::LENIENT;
+use crate::parents::{self, EMPTY_OR_FULL, STRICT};
+use crate::plain_rows::ROWS;
+use crate::plain_sites::PLAIN;
+use crate::refused_sites::REFUSED;
+use crate::sites::{Rows, all_hold, all_hold_leniently};
+use std::test::Fail;
+
+/// A loop over a partial that assigns and counts, without and with a name that only a parent has.
+const COUNTED: &str =
+    r#"{"template": "{% for i in (1..2) %}{% include \"b\" %}{% endfor %}{% assign a = s %}", "data": {"s": 3}, "partials": [["b", "{{ i }}{% assign d = i %}{% increment c %}"]], "written": "1021", "assigned": {"d": "2", "a": "3"}, "counted": {"c": "2"}}
+{"template": "{% for i in (1..2) %}{% include \"b\" %}{% endfor %}{% assign a = s %}", "data": {"s": 3}, "partials": [["b", "{{ i }}{% assign d = i %}{% increment c %}{{ z }}"]], "written": "10", "error": "liquid: Unknown variable\n  with:\n    requested variable=z\nfrom: include b\n", "assigned": {"d": "1"}, "counted": {"c": "1"}}
+{"template": "{% for i in (1..2) %}{% include \"b\" %}{% endfor %}{% assign g = s %}", "data": {"s": 3}, "partials": [["b", "{{ i }}{% assign h = i %}{% increment c %}"]], "written": "1021", "assigned": {"h": "2", "g": "3"}, "counted": {"c": "2"}}
+{"template": "{% for i in (1..2) %}{% include \"b\" %}{% endfor %}{% assign g = s %}", "data": {"s": 3}, "partials": [["b", "{{ i }}{% assign h = i %}{% increment c %}{{ t }}"]], "written": "10", "error": "liquid: Unknown variable\n  with:\n    requested variable=t\nfrom: include b\n", "assigned": {"h": "1"}, "counted": {"c": "1"}}"#;
+
+#[test]
+fn sites_are_the_same(rt: HostRuntime) -> Result<(), Fail> {
+    let alloc = rt.alloc();
+    all_hold(alloc, COUNTED, EMPTY_OR_FULL, Rows::Library, 4)?;
+    all_hold(alloc, PLAIN, EMPTY_OR_FULL, Rows::Library, 80)
+}
+
+#[test]
+fn refused_sites_are_the_same(rt: HostRuntime) -> Result<(), Fail> {
+    let alloc = rt.alloc();
+    all_hold(alloc, REFUSED, EMPTY_OR_FULL, Rows::Library, 98)?;
+    all_hold(alloc, FAULTY, EMPTY_OR_FULL, Rows::Library, 40)
+}
+
+#[test]
+fn lenient_sites_are_the_same(rt: HostRuntime) -> Result<(), Fail> {
+    let alloc = rt.alloc();
+    all_hold_leniently(alloc, LENIENT, EMPTY_OR_FULL, Rows::Library, 70)?;
+    all_hold_leniently(alloc, NAMES, parents::LENIENT, Rows::Library, 10)?;
+    all_hold_leniently(alloc, BLOCKS, parents::LENIENT, Rows::Library, 10)?;
+    all_hold_leniently(alloc, PARTIALS, parents::LENIENT, Rows::Library, 11)
+}
+
+#[test]
+fn a_sandbox_shows_its_data_alone(rt: HostRuntime) -> Result<(), Fail> {
+    let alloc = rt.alloc();
+    all_hold(alloc, ROWS, STRICT, Rows::Plain, 16)?;
+    all_hold_leniently(
+        alloc,
+        lenient_rows::NAMES,
+        parents::LENIENT,
+        Rows::Plain,
+        16,
+    )?;
+    all_hold_leniently(
+        alloc,
+        lenient_rows::INDEXES,
+        parents::LENIENT,
+        Rows::Plain,
+        12,
+    )?;
+    all_hold_leniently(
+        alloc,
+        lenient_rows::FRAMES,
+        parents::LENIENT,
+        Rows::Plain,
+        14,
+    )
+}

@@ -1,0 +1,44 @@
+//! Counters near the greatest whole number.
+use crate::languages::library_language;
+use liquid_core::TextSink;
+use liquid_core::model::{Value, ValueRender};
+use liquid_core::parser::parse;
+use liquid_core::runtime::{BuiltRuntime, Runtime, RuntimeBuilder, Template};
+use std::alloc::Global;
+use std::test::Fail;
+use tests_lines::{Line, rows_hold};
+
+/// Two counts.
+const COUNTS: &str = "{% increment n %} {% increment n %}";
+
+/// The number that counting begins with, what two counts write, with the error's text after it, and the number that is
+/// left: a count past the limit leaves it as it was.
+const ROWS: &str = r#"[6, "6 7", "8"]
+[9223372036854775806, "9223372036854775806 liquid: Counter past its limit\n  with:\n    name=n\n", "9223372036854775807"]"#;
+
+/// What is left of the counter.
+fn left<R: Runtime>(alloc: Global, runtime: &R) -> Result<String, Fail> {
+    match runtime.get_index("n") {
+        Some(number) => Ok(ValueRender::new(number).to_string(alloc)?),
+        None => Err(Fail::from("the counter is gone")),
+    }
+}
+
+/// Whether a row holds of two counts.
+fn is_counted(alloc: Global, row: &Line) -> Result<bool, Fail> {
+    let page = Template::new(parse(alloc, COUNTS, &*library_language(alloc)?)?);
+    let mut runtime: BuiltRuntime<(), ()> = RuntimeBuilder::new(alloc).build();
+    runtime.set_index(String::from_str(alloc, "n")?, Value::scalar(row.number(0)?))?;
+    let mut sink = TextSink::new(alloc);
+    let answer = page.render_to(alloc, &mut sink, &mut runtime);
+    let mut all = sink.into_string()?;
+    if let Err(error) = answer {
+        all.push_str(error.to_string(alloc)?.as_str())?;
+    }
+    Ok(all.as_str() == row.text(1)? && left(alloc, &runtime)?.as_str() == row.text(2)?)
+}
+
+#[test]
+fn a_counter_ends_at_the_greatest_number(rt: HostRuntime) -> Result<(), Fail> {
+    rows_hold(rt.alloc(), ROWS, is_counted)
+}

@@ -1,0 +1,38 @@
+//! What tags and blocks tell about themselves.
+use crate::reflections::{block_is_told, tag_is_told};
+use liquid_tags::{Blocks, Tags};
+use std::test::Fail;
+use tests_lines::{Line, holds};
+
+/// The name of each tag, and its description.
+const TAGS: &str = r#"["assign", "Assigns what a chain comes to, and writes nothing."]
+["increment", "Writes the number of a counter, and sets it one higher."]
+["break", "Leaves the loop around it."]
+["continue", "Goes on with the next item of the loop around it."]
+["include", "Renders a partial, which sees the names around it."]
+["render", "Renders a partial, which sees the names that it is given alone."]"#;
+
+/// The start and the end of each block, and its description.
+const BLOCKS: &str = r#"["if", "endif", "Renders the part behind the first condition that holds."]
+["for", "endfor", "Renders its body for each item of an array, an object or a range."]
+["raw", "endraw", "Writes its body as it stands."]"#;
+
+#[test]
+fn tags_and_blocks_tell_about_themselves(rt: HostRuntime) -> Result<(), Fail> {
+    let alloc = rt.alloc();
+    let tags = [
+        Tags::Assign,
+        Tags::Increment,
+        Tags::Break,
+        Tags::Continue,
+        Tags::Include,
+        Tags::Render,
+    ];
+    for (line, tag) in TAGS.lines().zip(tags) {
+        holds(tag_is_told(&tag, &Line::of(alloc, line)?)?, line)?;
+    }
+    for (line, block) in BLOCKS.lines().zip([Blocks::If, Blocks::For, Blocks::Raw]) {
+        holds(block_is_told(&block, &Line::of(alloc, line)?)?, line)?;
+    }
+    Ok(())
+}

@@ -1,0 +1,194 @@
+//! Nodes made by hand, of a list of steps.
+use bench::blocks::BlockNode;
+use bench::hostile::{HostileBlockNode, HostileTagNode};
+use bench::tags::{LeakyTagNode, TagNode};
+use liquid_core::Error;
+use liquid_plugins::{Expression, Filter, FilterChain, Meant, Node, Variable};
+use liquid_runtime::Runtime;
+use liquid_value::{Value, ValueCow};
+use serde_json::Value as Json;
+use std::alloc::{AllocError, Global};
+use std::mem;
+use std::test::Fail;
+
+/// A filter that gives its input back.
+#[derive(Drop)]
+pub(crate) struct Same;
+
+impl Meant for Same {
+    type Shape = u64;
+
+    ghost shape = { λ _. 0 };
+}
+
+impl Filter for Same {
+    ghost use Rattle.std.specs.Prelude.{Ok, codes};
+
+    ghost means = { record { answers = λ _ input _. Ok input; label = λ _. codes "same" } };
+
+    fn evaluate<'s, R: Runtime>(
+        &'s self,
+        _alloc: Global,
+        input: &ValueCow<'_>,
+        _runtime: &'s R,
+    ) -> Result<Value, Error> {
+        Ok(input.as_view().clone()?)
+    }
+
+    fn label(&self) -> &str {
+        "same"
+    }
+}
+
+pub(crate) type Element = Node<Same, LeakyTagNode, BlockNode>;
+
+pub(crate) type HostileElement = Node<Same, HostileTagNode, HostileBlockNode>;
+
+pub(crate) fn text(alloc: Global, text: &str) -> Result<String, AllocError> {
+    String::from_str(alloc, text)
+}
+
+pub(crate) fn written<T, B>(alloc: Global, piece: &str) -> Result<Node<Same, T, B>, AllocError> {
+    Ok(Node::Text(text(alloc, piece)?))
+}
+
+fn variable(alloc: Global, name: &str) -> Result<Expression, AllocError> {
+    Ok(Expression::Variable(Variable::with_literal(alloc, text(alloc, name)?)))
+}
+
+/// A number, as a node holds a value.
+fn literal(alloc: Global, number: i64) -> Result<Box<Expression>, AllocError> {
+    Ok(Box::new(alloc, Expression::with_literal(number))?)
+}
+
+fn word(step: &Json, place: usize) -> Result<&str, Fail> {
+    match step.get(place) {
+        Some(Json::String(word)) => Ok(word.as_str()),
+        _ => Err(Fail::from("a step has no word at a place")),
+    }
+}
+
+fn number(step: &Json, place: usize) -> Result<i64, Fail> {
+    match step.get(place) {
+        Some(member) => match member.as_i64() {
+            Some(number) => Ok(number),
+            None => Err(Fail::from("a step has no number at a place")),
+        },
+        None => Err(Fail::from("a step is too short")),
+    }
+}
+
+/// The tag of a step, if it is one.
+fn tag(alloc: Global, step: &Json) -> Result<Option<TagNode>, Fail> {
+    match word(step, 0)? {
+        "set" => {
+            let name = text(alloc, word(step, 1)?)?;
+            Ok(Some(TagNode::Set(name, literal(alloc, number(step, 2)?)?)))
+        }
+        "inc" => Ok(Some(TagNode::Inc(text(alloc, word(step, 1)?)?))),
+        "brk" => Ok(Some(TagNode::Brk)),
+        _ => Ok(None),
+    }
+}
+
+/// The tag that writes what a sandbox hides.
+fn leak(alloc: Global, step: &Json) -> Result<LeakyTagNode, Fail> {
+    let name = text(alloc, word(step, 1)?)?;
+    Ok(LeakyTagNode::Leak(name, literal(alloc, number(step, 2)?)?))
+}
+
+/// A node without parts, or none for a step that has to do with parts.
+fn leaf(alloc: Global, step: &Json) -> Result<Option<Element>, Fail> {
+    match word(step, 0)? {
+        "text" => Ok(Some(written(alloc, word(step, 1)?)?)),
+        "shown" => {
+            let name = variable(alloc, word(step, 1)?)?;
+            Ok(Some(Node::Chain(FilterChain::new(name, Vec::new(alloc)))))
+        }
+        "leak" => Ok(Some(Node::Tag(leak(alloc, step)?))),
+        _ => match tag(alloc, step)? {
+            Some(tag) => Ok(Some(Node::Tag(LeakyTagNode::Plain(tag)))),
+            None => Ok(None),
+        },
+    }
+}
+
+/// What a `with` binds: the number of its step, or the value of the name that stands there.
+fn bound(alloc: Global, step: &Json) -> Result<Box<Expression>, Fail> {
+    match step.get(3) {
+        Some(Json::String(name)) => Ok(Box::new(alloc, variable(alloc, name.as_str())?)?),
+        _ => Ok(literal(alloc, number(step, 3)?)?),
+    }
+}
+
+/// The block that a step ends.
+fn block(alloc: Global, step: &Json) -> Result<BlockNode, Fail> {
+    match word(step, 1)? {
+        "box" => Ok(BlockNode::Box),
+        "sbox" => Ok(BlockNode::Sbox),
+        "swap" => Ok(BlockNode::Swap),
+        "raw" => Ok(BlockNode::Raw(text(alloc, word(step, 2)?)?)),
+        "with" => Ok(BlockNode::With(text(alloc, word(step, 2)?)?, bound(alloc, step)?)),
+        "glob" => Ok(BlockNode::Glob),
+        _ => Err(Fail::from("no block has this name")),
+    }
+}
+
+/// A block that is open: the nodes before it, and its parts so far.
+#[derive(Drop)]
+struct Open {
+    outer: Vec<Element>,
+    parts: Vec<Vec<Element>>,
+}
+
+/// The nodes of a list of steps. A step is a word and what it is given; a block's parts stand between
+/// `begin` and `end`, divided by `mid`, and `end` names the block.
+pub(crate) fn nodes(alloc: Global, steps: &Vec<Json>) -> Result<Vec<Element>, Fail> {
+    let mut list = Vec::new(alloc);
+    let mut open: Vec<Open> = Vec::new(alloc);
+    for step in steps {
+        match leaf(alloc, step)? {
+            Some(node) => list.push(node)?,
+            None => place(alloc, step, &mut list, &mut open)?,
+        }
+    }
+    Ok(list)
+}
+
+/// The nodes of a text of JSON that is a list of steps.
+pub(crate) fn nodes_in(alloc: Global, text: &str) -> Result<Vec<Element>, Fail> {
+    match Json::from_str(alloc, text)? {
+        Json::Array(steps) => nodes(alloc, &steps),
+        _ => Err(Fail::from("steps are no list")),
+    }
+}
+
+/// Begins, divides or ends a block.
+fn place(
+    alloc: Global,
+    step: &Json,
+    list: &mut Vec<Element>,
+    open: &mut Vec<Open>,
+) -> Result<(), Fail> {
+    let done = mem::replace(list, Vec::new(alloc));
+    match word(step, 0)? {
+        "end" => {
+            let Some(Open { outer, mut parts }) = open.pop() else {
+                return Err(Fail::from("no block is open"));
+            };
+            parts.push(done)?;
+            *list = outer;
+            list.push(Node::Block(block(alloc, step)?, parts))?;
+        }
+        "mid" => match open.last_mut() {
+            Some(block) => block.parts.push(done)?,
+            None => return Err(Fail::from("no block is open")),
+        },
+        "begin" => open.push(Open {
+            outer: done,
+            parts: Vec::new(alloc),
+        })?,
+        _ => return Err(Fail::from("no step has this name")),
+    }
+    Ok(())
+}

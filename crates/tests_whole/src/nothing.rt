@@ -1,0 +1,88 @@
+//! The plug-in that does nothing: what it tells of itself, and what it makes of texts.
+use crate::kinds::OnDemand;
+use crate::pages::all_hold;
+use crate::reflections::{block_is_told, body_is_told, filter_is_told, tag_is_told};
+use liquid_core::model::{Value, ValueCow};
+use liquid_core::parser::{
+    Filter, FilterArguments, Language, NoPlugin, PluginRegistry, call_filter,
+};
+use std::alloc::{AllocError, Global};
+use std::rc::Rc;
+use std::test::Fail;
+use tests_lines::{Line, holds};
+
+/// Name, description, parameters by place, parameters by keyword.
+const FILTER: &str = r#"["nothing", "Gives nil.", "", ""]"#;
+
+/// Name and description.
+const TAG: &str = r#"["nothing", "Writes nothing."]"#;
+
+/// Start tag, end tag, description, dividers, whether it escapes, and whether it nests.
+const BLOCK: &str =
+    r#"["nothing", "endnothing", "Writes nothing, not even its body.", "", false, false]"#;
+
+#[test]
+fn nothing_tells_what_it_is(rt: HostRuntime) -> Result<(), Fail> {
+    let alloc = rt.alloc();
+    let row = Line::of(alloc, FILTER)?;
+    holds(filter_is_told(alloc, &NoPlugin, &row)?, "the filter")?;
+    holds(tag_is_told(&NoPlugin, &Line::of(alloc, TAG)?)?, "the tag")?;
+    let row = Line::of(alloc, BLOCK)?;
+    holds(block_is_told(&NoPlugin, &row)?, "the block")?;
+    holds(body_is_told(alloc, &NoPlugin, &row)?, "its body")?;
+    holds(NoPlugin.label() == "nothing", "the label")
+}
+
+/// Whether the filter gives nil for a number.
+fn gives_nil(alloc: Global) -> Result<bool, Fail> {
+    let input = ValueCow::Owned(Value::scalar(5i64));
+    let given = FilterArguments {
+        positional: Vec::new(alloc),
+        keyword: Vec::new(alloc),
+    };
+    Ok(call_filter(alloc, &NoPlugin, &input, given)? == Value::Nil)
+}
+
+/// A language in which `nothing` is a filter and a tag, and `none` a block.
+fn nothings(alloc: Global) -> Result<Language<NoPlugin, NoPlugin, NoPlugin>, AllocError> {
+    let mut language = Language {
+        filters: PluginRegistry::new(alloc),
+        tags: PluginRegistry::new(alloc),
+        blocks: PluginRegistry::new(alloc),
+    };
+    language.filters.register("nothing", NoPlugin)?;
+    language.tags.register("nothing", NoPlugin)?;
+    language.blocks.register("none", NoPlugin)?;
+    Ok(language)
+}
+
+/// Texts, and what each comes to. The end of a block is the one that it tells, whatever name it is
+/// registered by, and its tokens are refused, where any token of a tag or a block is taken.
+const TEXTS: &str = r#"{"template": "a{{ 5 | nothing }}b", "written": "ab"}
+{"template": "a{{ 5 | nothing: 1, by: \"x\" | nothing }}b", "written": "ab"}
+{"template": "a{% nothing %}b{% nothing x == (1..2) %}c", "written": "abc"}
+{"template": "a{% none x | nothing %}b{{ 5 }}{% endnothing %}c", "written": "ac"}
+{"template": "a{% none %}{% none %}b{% endnothing %}{% endnothing %}c", "written": "ac"}
+{"template": "a{% none %}b{% endnothing 1 %}c", "written": "", "error": "liquid: Unexpected token (line 1, column 27)\n"}
+{"template": "a{% none %}b{% endnone %}c", "written": "", "error": "liquid: Unknown tag. (line 1, column 16)\n  with:\n    requested=endnone\n    available tags=nothing\n    available blocks=none\n"}
+{"template": "a{% none %}b", "written": "", "error": "liquid: Unclosed block. {% endnothing %} tag expected. (line 1, column 13)\n"}"#;
+
+/// Texts in a language that has no plug-in.
+const ROWS: &str =
+    r#"{"template": "Hello {{ name }}!", "globals": {"name": "World"}, "written": "Hello World!"}
+{"template": "{{ name | append: 1 }}", "globals": {"name": "World"}, "written": "", "error": "liquid: Unknown filter (line 1, column 11)\n  with:\n    requested filter=append\n    available filters=\n"}
+{"template": "{% name %}", "globals": {"name": "World"}, "written": "", "error": "liquid: Unknown tag. (line 1, column 4)\n  with:\n    requested=name\n    available tags=\n    available blocks=\n"}
+{"template": "{{ name.size }}", "globals": {"name": "World"}, "written": "5"}"#;
+
+#[test]
+fn nothing_makes_nothing(rt: HostRuntime) -> Result<(), Fail> {
+    let alloc = rt.alloc();
+    let language = Rc::new(alloc, nothings(alloc)?)?;
+    all_hold::<_, _, _, OnDemand>(alloc, TEXTS, &language, 8)?;
+    let language: Rc<Language<NoPlugin, NoPlugin, NoPlugin>> = Rc::new(
+        alloc,
+        Language::empty(alloc),
+    )?;
+    all_hold::<_, _, _, OnDemand>(alloc, ROWS, &language, 4)?;
+    holds(gives_nil(alloc)?, "the filter gives nil")
+}

@@ -1,0 +1,170 @@
+//! What filters, tags and blocks tell about themselves.
+use bench::filters::AppendParameters;
+use bench::languages::hostile_language;
+use bench::{Blocks, Filters, HostileBlocks, HostileTags};
+use liquid_core::parser::{
+    BlockReflection, FilterParametersReflection, FilterReflection, ParameterReflection, ParseBlock,
+    TagReflection,
+};
+use liquid_tags::Blocks as LibraryBlocks;
+use std::alloc::{AllocError, Global};
+use std::test::Fail;
+use tests_lines::{Line, holds, rows_hold, same};
+
+/// The parameters, each with its name, its description and whether it may be left out, joined by `; `.
+fn listed(alloc: Global, parameters: &[ParameterReflection]) -> Result<String, AllocError> {
+    let mut lines = Vec::new(alloc);
+    for parameter in parameters {
+        let kind = if parameter.is_optional {
+            "optional"
+        } else {
+            "needed"
+        };
+        lines.push(format!(in alloc; "{} ({kind}): {}", parameter.name, parameter.description)?)?;
+    }
+    lines.join(alloc, "; ")
+}
+
+/// Whether a filter tells its name, its description and its parameters as a row does.
+pub(crate) fn filter_is_told<P: FilterReflection>(
+    alloc: Global,
+    filter: &P,
+    row: &Line,
+) -> Result<bool, Fail> {
+    let positional = listed(alloc, filter.positional_parameters())?;
+    let keyword = listed(alloc, filter.keyword_parameters())?;
+    Ok(
+        filter.name() == row.text(0)?
+            && filter.description() == row.text(1)?
+            && positional.as_str() == row.text(2)?
+            && keyword.as_str() == row.text(3)?,
+    )
+}
+
+/// Whether a tag tells its name and its description as a row does, and neither an example nor a spec.
+pub(crate) fn tag_is_told<T: TagReflection>(tag: &T, row: &Line) -> Result<bool, Fail> {
+    Ok(
+        tag.tag() == row.text(0)?
+            && tag.description() == row.text(1)?
+            && tag.example().is_none()
+            && tag.spec().is_none(),
+    )
+}
+
+/// Whether a block tells its tags and its description as a row does, and neither an example nor a spec.
+pub(crate) fn block_is_told<B: BlockReflection>(block: &B, row: &Line) -> Result<bool, Fail> {
+    Ok(
+        block.start_tag() == row.text(0)?
+            && block.end_tag() == row.text(1)?
+            && block.description() == row.text(2)?
+            && block.example().is_none()
+            && block.spec().is_none(),
+    )
+}
+
+/// Whether a block has the dividers of a row, and escapes and nests as it tells.
+pub(crate) fn body_is_told<B: ParseBlock<Filters>>(
+    alloc: Global,
+    block: &B,
+    row: &Line,
+) -> Result<bool, Fail> {
+    let mut dividers = Vec::new(alloc);
+    for divider in block.dividers() {
+        dividers.push(*divider)?;
+    }
+    Ok(
+        dividers.join(alloc, " ")?.as_str() == row.text(3)?
+            && block.escapes() == row.truth(4)?
+            && block.nests() == row.truth(5)?,
+    )
+}
+
+/// Name, description, parameters by place, parameters by keyword.
+const FILTERS: &str =
+    r#"["append", "The input's text with the text of a value behind it.", "value (needed): What is put behind the input.", ""]
+["fail", "Refuses each input.", "", ""]"#;
+
+#[test]
+fn filters_tell_what_they_are(rt: HostRuntime) -> Result<(), Fail> {
+    let alloc = rt.alloc();
+    for (line, filter) in FILTERS.lines().zip([Filters::Append, Filters::Fail]) {
+        let row = Line::of(alloc, line)?;
+        holds(filter_is_told(alloc, &filter, &row)?, line)?;
+    }
+    let positional = listed(alloc, AppendParameters::positional_parameters())?;
+    same(
+        positional.as_str(),
+        "value (needed): What is put behind the input.",
+    )?;
+    let keyword = AppendParameters::keyword_parameters();
+    holds(keyword.is_empty(), "no parameter has a keyword")
+}
+
+/// Name and description.
+const TAGS: &str = r#"["set", "Sets a global to a value, and writes nothing."]
+["inc", "Renders the partial of a name, without a frame."]
+["brk", "Leaves the loop around it."]
+["spin", "Writes `s` at each of its turns, and never ends."]
+["mute", "Has no turns."]"#;
+
+fn tag_is_found(alloc: Global, row: &Line) -> Result<bool, Fail> {
+    let language = hostile_language(alloc)?;
+    match language.tags.get(row.text(0)?) {
+        Some(tag) => tag_is_told::<HostileTags>(tag, row),
+        None => Ok(false),
+    }
+}
+
+#[test]
+fn tags_tell_what_they_are(rt: HostRuntime) -> Result<(), Fail> {
+    rows_hold(rt.alloc(), TAGS, tag_is_found)
+}
+
+/// Start tag, end tag, description, dividers, whether it escapes, and whether it nests.
+const BLOCKS: &str = r#"["box", "endbox", "Writes its body in brackets.", "", false, false]
+["sbox", "endsbox", "Renders its body where no name is seen.", "", false, false]
+["swap", "endswap", "Renders what stands behind `mid`, and then what stands before it.", "mid", false, false]
+["raw", "endraw", "Writes its body as it stands.", "", true, false]
+["with", "endwith", "Renders its body with one name.", "", false, false]
+["glob", "endglob", "Renders its body with globals of its own.", "", false, false]"#;
+
+/// The same of the tag library.
+const LIBRARY: &str =
+    r#"["if", "endif", "Renders the part behind the first condition that holds.", "elsif else", false, false]
+["for", "endfor", "Renders its body for each item of an array, an object or a range.", "else", false, false]
+["raw", "endraw", "Writes its body as it stands.", "", true, false]"#;
+
+/// Whether a block is told by the row of a line, with its body.
+fn block_holds<B: ParseBlock<Filters>>(alloc: Global, block: &B, line: &str) -> Result<bool, Fail> {
+    let row = Line::of(alloc, line)?;
+    Ok(block_is_told(block, &row)? && body_is_told(alloc, block, &row)?)
+}
+
+#[test]
+fn blocks_tell_what_they_are(rt: HostRuntime) -> Result<(), Fail> {
+    let alloc = rt.alloc();
+    let blocks = [
+        Blocks::Box,
+        Blocks::Sbox,
+        Blocks::Swap,
+        Blocks::Raw,
+        Blocks::With,
+        Blocks::Glob,
+    ];
+    for (line, block) in BLOCKS.lines().zip(blocks) {
+        let hostile = HostileBlocks::Plain(block);
+        let is_told = block_holds(alloc, &block, line)?;
+        holds(is_told && block_holds(alloc, &hostile, line)?, line)?;
+    }
+    Ok(())
+}
+
+#[test]
+fn blocks_of_the_library_tell_what_they_are(rt: HostRuntime) -> Result<(), Fail> {
+    let alloc = rt.alloc();
+    let blocks = [LibraryBlocks::If, LibraryBlocks::For, LibraryBlocks::Raw];
+    for (line, block) in LIBRARY.lines().zip(blocks) {
+        holds(block_holds(alloc, &block, line)?, line)?;
+    }
+    Ok(())
+}
