@@ -87,6 +87,10 @@ impl<V: Fresh> Renderable<V> for HostileTagNode {
             }
         }
     }
+
+    fn caught(&self, _progress: &mut u64, text: String) {
+        drop(text);
+    }
 }
 
 impl Meant for HostileBlockNode {
@@ -129,5 +133,9 @@ impl<V: Fresh> Renderable<V> for HostileBlockNode {
                 }
             }
         }
+    }
+
+    fn caught(&self, _progress: &mut Stage, text: String) {
+        drop(text);
     }
 }

@@ -76,6 +76,10 @@ impl<V: Fresh> Renderable<V> for TagNode {
             }
         }
     }
+
+    fn caught(&self, _progress: &mut u64, text: String) {
+        drop(text);
+    }
 }
 
 impl<V: Fresh> Discreet<V> for TagNode {
@@ -136,6 +140,10 @@ impl<V: Fresh> Renderable<V> for LeakyTagNode {
                 }
             }
         }
+    }
+
+    fn caught(&self, _progress: &mut u64, text: String) {
+        drop(text);
     }
 }
 

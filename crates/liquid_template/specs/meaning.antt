@@ -3,6 +3,7 @@ pub mod FaultText
 pub mod Grows
 pub mod Nodes
 pub mod Outcome
+pub mod Output
 pub mod Partials
 pub mod Pours
 pub mod Put

@@ -4,12 +4,12 @@ ghost use Rattle.liquid_plugins.specs.meaning.Chain.{chain_value};
 ghost use Rattle.liquid_plugins.specs.meaning.ExpressionOf.{chain_of};
 ghost use Rattle.liquid_plugins.specs.meaning.NodesOf.{name_chain};
 ghost use Rattle.liquid_template.specs.meaning.Actions.{writes_value};
-ghost use Rattle.liquid_template.specs.meaning.Outcome.{Renders};
+ghost use Rattle.liquid_template.specs.meaning.Outcome.{RendersWithin};
 ghost use Rattle.liquid_template.specs.steps.PieceOut.{PieceOut};
+ghost use Rattle.liquid_template.specs.steps.Place.{target, around};
 
 use crate::chain::{render_chain, render_name};
-use crate::piece::write_piece;
-use crate::sink::Sink;
+use crate::outlet::Out;
 use liquid_error::Error;
 use liquid_plugins::{Filter, FilterChain};
 use liquid_runtime::Runtime;
@@ -17,16 +17,17 @@ use std::alloc::Global;
 
 /// Puts a text out.
 #[inline(never)]
-pub(crate) fn put_text<K: Sink>(
+pub(crate) fn put_text<O: Out>(
     alloc: Global,
     text: &str,
-    sink: &mut K,
+    out: &mut O,
     answer: &mut Result<(), Error>,
 )
     requires { IsOk answer.old }
-    ensures { PieceOut text.now (K.sunk sink.old) (K.sunk sink.new) answer.new }
+    ensures out { PieceOut text.now (target (O.place out.old)) (target (O.place out.new)) answer.new }
+    ensures around { around (O.place out.new) ≡ around (O.place out.old) }
 {
-    match write_piece(alloc, sink, text) {
+    match out.put(alloc, text) {
         Ok(()) => {}
         Err(error) => *answer = Err(error),
     }
@@ -34,22 +35,23 @@ pub(crate) fn put_text<K: Sink>(
 
 /// Puts out what a chain comes to.
 #[inline(never)]
-pub(crate) fn put_chain<X, R, K>(
+pub(crate) fn put_chain<X, R, O>(
     alloc: Global,
     chain: &FilterChain<X>,
-    sink: &mut K,
+    out: &mut O,
     runtime: &R,
     answer: &mut Result<(), Error>,
 )
 where
     X: Filter,
     R: Runtime,
-    K: Sink,
+    O: Out,
     requires { IsOk answer.old }
-    ensures { Renders (writes_value (chain_value X.means (chain_of X.shape chain.now) (R.view runtime.now)) (R.view runtime.now))
-        (R.view runtime.now) (K.sunk sink.old) (K.sunk sink.new) (R.view runtime.now) answer.new }
+    ensures renders { RendersWithin (writes_value (chain_value X.means (chain_of X.shape chain.now) (R.view runtime.now)) (R.view runtime.now))
+        (R.view runtime.now) (target (O.place out.old)) (target (O.place out.new)) (R.view runtime.now) answer.new }
+    ensures around { around (O.place out.new) ≡ around (O.place out.old) }
 {
-    match render_chain(alloc, chain, sink, runtime) {
+    match render_chain(alloc, chain, out, runtime) {
         Ok(()) => {}
         Err(error) => *answer = Err(error),
     }
@@ -57,22 +59,23 @@ where
 
 /// Puts out what a name comes to.
 #[inline(never)]
-pub(crate) fn put_name<X, R, K>(
+pub(crate) fn put_name<X, R, O>(
     alloc: Global,
     name: &str,
-    sink: &mut K,
+    out: &mut O,
     runtime: &R,
     answer: &mut Result<(), Error>,
 )
 where
     X: Filter,
     R: Runtime,
-    K: Sink,
+    O: Out,
     requires { IsOk answer.old }
-    ensures { Renders (writes_value (chain_value X.means (name_chain name.now) (R.view runtime.now)) (R.view runtime.now))
-        (R.view runtime.now) (K.sunk sink.old) (K.sunk sink.new) (R.view runtime.now) answer.new }
+    ensures renders { RendersWithin (writes_value (chain_value X.means (name_chain name.now) (R.view runtime.now)) (R.view runtime.now))
+        (R.view runtime.now) (target (O.place out.old)) (target (O.place out.new)) (R.view runtime.now) answer.new }
+    ensures around { around (O.place out.new) ≡ around (O.place out.old) }
 {
-    match render_name::<X, R, K>(alloc, name, sink, runtime) {
+    match render_name::<X, R, O>(alloc, name, out, runtime) {
         Ok(()) => {}
         Err(error) => *answer = Err(error),
     }

@@ -4,10 +4,12 @@
 mod begun;
 mod chain;
 mod cycle;
+mod gate;
 mod history;
 mod laws;
 mod leaf;
 mod opened;
+mod outlet;
 mod partial;
 mod piece;
 mod render;
@@ -20,6 +22,7 @@ mod trace;
 mod turn;
 mod writer_sink;
 
+pub use crate::gate::{Gate, GatedSink, Limits};
 pub use crate::history::History;
 pub use crate::laws::{outsides_agree, sandboxed_runs_are_isolated};
 pub use crate::sink::{Sink, SinkFault};

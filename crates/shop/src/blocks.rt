@@ -79,6 +79,10 @@ impl<V: Fresh> Renderable<V> for ShopBlock {
             ShopBlock::Stock(_) => {}
         }
     }
+
+    fn caught(&self, _progress: &mut BlockProgress, text: String) {
+        drop(text);
+    }
 }
 
 impl<V: Fresh> Discreet<V> for ShopBlock {

@@ -9,7 +9,7 @@ use Rattle.liquid_runtime.specs.meaning.Frames.{no_frame}
 use Rattle.liquid_runtime.specs.meaning.View.{View}
 use Rattle.liquid_plugins.specs.meaning.Evaluation.{evaluate}
 use Rattle.liquid_plugins.specs.meaning.ExpressionOf.{expression_of}
-use Rattle.liquid_plugins.specs.meaning.Turning.{answers}
+use Rattle.liquid_plugins.specs.meaning.Turning.{answers, captures_nothing}
 use Rattle.liquid_plugins.specs.meaning.Turns.{TurnShape, body_turn, end_turn, Answered, NodeMeaning}
 use Rattle.liquid_tags.specs.meaning.Blocks as library
 use Rattle.liquid_tags.specs.declared.blocks.ProgressShape.{ProgressShape}
@@ -49,4 +49,4 @@ block_takes (Stock e) p v = answers (Ok (stock_turn p)) p v
 
 -- what the nodes mean
 abbrev pub block_nodes : {Reg : Type 0} → NodeMeaning ShopBlockShape ProgressShape Reg
-block_nodes = record { starts = block_starts; count = library.block_count; takes = block_takes }
+block_nodes = record { starts = block_starts; count = library.block_count; takes = block_takes; catches = captures_nothing }

@@ -1,0 +1,152 @@
+//! A host's limit on work.
+ghost use Rattle.std.specs.Prelude.{◌≡◌, ◌↔◌, true, ◌+◌, ◌<◌, ◌≤◌};
+ghost use Rattle.liquid_template.specs.meaning.Output.{Gated, gated_by, passed, asked};
+
+use crate::history::History;
+use crate::sink::Sink;
+
+/// Says whether rendering may go on. A rendering that may not is refused as "Rendering was stopped", with the frames as they
+/// were and a beginning of the text written.
+///
+/// A host with a clock, or with a flag that a user sets, writes a gate of its own. `Limits` counts turns and bytes.
+pub trait Gate {
+    // how many turns and bytes it let pass, and how often it refused
+    ghost gated: { Self → Gated };
+
+    /// Asked before each turn of a tag or a block: whether the turn may be taken.
+    fn turn(&mut self) -> bool
+        ensures turns { (gated self.new).turns ≡ asked result 1 (gated self.old).turns }
+        ensures bytes { (gated self.new).bytes ≡ (gated self.old).bytes };
+
+    /// Asked before a piece of so many bytes, at least one, is put to the sink: whether it may be put. It is put whole or not
+    /// at all.
+    fn bytes(&mut self, count: u64) -> bool
+        ensures bytes { (gated self.new).bytes ≡ asked result count (gated self.old).bytes }
+        ensures turns { (gated self.new).turns ≡ (gated self.old).turns };
+}
+
+/// A sink behind a gate, for `Template::render_within`.
+#[derive(Drop)]
+pub struct GatedSink<K: Sink, G: Gate> {
+    pub(crate) sink: K,
+    pub(crate) gate: G,
+}
+
+impl<K: Sink, G: Gate> GatedSink<K, G> {
+    /// The sink and the gate that is asked before anything is put to it.
+    pub fn new(sink: K, gate: G) -> GatedSink<K, G>
+        ensures { (result.sink ≡ sink) × (result.gate ≡ gate) }
+    {
+        GatedSink { sink, gate }
+    }
+
+    /// The sink, with what it took.
+    pub fn sink(&self) -> &K
+        ensures { result.now ≡ self.now.sink }
+    {
+        &self.sink
+    }
+
+    /// The gate, with what it was asked.
+    pub fn gate(&self) -> &G
+        ensures { result.now ≡ self.now.gate }
+    {
+        &self.gate
+    }
+
+    /// The sink alone.
+    pub fn into_sink(self) -> K
+    where
+        G: Drop,
+        ensures { result ≡ self.sink }
+    {
+        let GatedSink { sink, gate } = self;
+        drop(gate);
+        sink
+    }
+}
+
+/// A gate that lets so many turns and so many bytes pass, and no more.
+#[derive(Drop)]
+pub struct Limits {
+    max_turns: u64,
+    max_bytes: u64,
+    turns: u64,
+    bytes: u64,
+    turns_refused: History,
+    bytes_refused: History,
+}
+
+impl Limits {
+    /// At most so many turns and so many bytes from now on.
+    pub fn new(max_turns: u64, max_bytes: u64) -> Limits
+        ensures none { (⟦<Limits as Gate>⟧.gated result) ≡ gated_by (passed 0 0) (passed 0 0) }
+        ensures turns { result.max_turns ≡ max_turns }
+        ensures bytes { result.max_bytes ≡ max_bytes }
+    {
+        Limits {
+            max_turns,
+            max_bytes,
+            turns: 0,
+            bytes: 0,
+            turns_refused: History::new(),
+            bytes_refused: History::new(),
+        }
+    }
+
+    /// How many turns have passed.
+    pub fn turns_passed(&self) -> u64
+        ensures { result ≡ (⟦<Limits as Gate>⟧.gated self.now).turns.count }
+    {
+        self.turns
+    }
+
+    /// How many bytes have passed.
+    pub fn bytes_passed(&self) -> u64
+        ensures { result ≡ (⟦<Limits as Gate>⟧.gated self.now).bytes.count }
+    {
+        self.bytes
+    }
+}
+
+impl Gate for Limits {
+    ghost gated = { λ limits. record {
+      turns = record { count = limits.turns; refusals = limits.turns_refused.failures };
+      bytes = record { count = limits.bytes; refusals = limits.bytes_refused.failures };
+    } };
+
+    /// Lets a turn pass exactly while fewer than the limit have passed.
+    fn turn(&mut self) -> bool
+        ensures turns { passed self.new.turns self.new.turns_refused.failures
+            ≡ asked result 1 (passed self.old.turns self.old.turns_refused.failures) }
+        ensures bytes { passed self.new.bytes self.new.bytes_refused.failures ≡ passed self.old.bytes self.old.bytes_refused.failures }
+        ensures passes { (result ≡ true) ↔ (self.old.turns < self.old.max_turns) }
+        ensures limits { (self.new.max_turns ≡ self.old.max_turns) × (self.new.max_bytes ≡ self.old.max_bytes) }
+    {
+        if self.turns < self.max_turns {
+            self.turns += 1;
+            true
+        } else {
+            self.turns_refused.failed();
+            false
+        }
+    }
+
+    /// Lets bytes pass exactly if no more than the limit have passed with them.
+    fn bytes(&mut self, count: u64) -> bool
+        ensures bytes { passed self.new.bytes self.new.bytes_refused.failures
+            ≡ asked result count (passed self.old.bytes self.old.bytes_refused.failures) }
+        ensures turns { passed self.new.turns self.new.turns_refused.failures ≡ passed self.old.turns self.old.turns_refused.failures }
+        ensures passes { (result ≡ true) ↔ (self.old.bytes + count ≤ self.old.max_bytes) }
+        ensures limits { (self.new.max_turns ≡ self.old.max_turns) × (self.new.max_bytes ≡ self.old.max_bytes) }
+    {
+        if let Some(left) = self.max_bytes.checked_sub(self.bytes) {
+            if count <= left {
+                self.bytes = self.max_bytes - (left - count);
+                return true;
+            }
+        }
+        self.bytes_refused.failed();
+        false
+    }
+}
