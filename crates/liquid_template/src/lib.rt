@@ -5,6 +5,7 @@ mod begun;
 mod chain;
 mod cycle;
 mod history;
+mod isolated;
 mod laws;
 mod leaf;
 mod opened;
@@ -21,7 +22,9 @@ mod turn;
 mod writer_sink;
 
 pub use crate::history::History;
-pub use crate::laws::{outsides_agree, sandboxed_runs_are_isolated};
+pub use crate::laws::{
+    isolated_outsides_agree, isolated_runs_are_apart, outsides_agree, sandboxed_runs_are_isolated,
+};
 pub use crate::sink::{Sink, SinkFault};
 pub use crate::store::{PartialStore, unknown_partial};
 pub use crate::template::Template;
