@@ -19,6 +19,10 @@ none_of_two true (Some t) b = refl
 none_of_two false None b = refl
 none_of_two false (Some t) b = refl
 
+and_true : (b : Bool) → (b && true) ≡ b
+and_true true = refl
+and_true false = refl
+
 module _ {Reg : Type 0} where
   upper_stack : (names : Names) (name : Option (List ℕ)) (v : View Reg) → upper_names (begin_stack names name v) ≡ over names (upper_names v)
   upper_stack names name v = over-over names v.locals _
@@ -54,6 +58,14 @@ module _ {Reg : Type 0} where
   pub seal_sandboxed : (fresh : Reg) (names : Names) (name : Option (List ℕ)) (v : View Reg) (q : List ℕ) → comes_from_seal (begin_sandboxed fresh names name v) q ≡ true
   seal_sandboxed fresh names name v q =
       ap (λ m. is_none (get m q)) (empty-over (over empty empty) ∙ empty-over empty) ∙ ap is_none (get-empty (slice_cmp nat_cmp) q)
+
+  -- a global frame within a sandboxed one
+  pub lookup_isolated : (assigned : Names) (fresh : Reg) (names : Names) (name : Option (List ℕ)) (v : View Reg) (q : List ℕ) → lookup (assigned_view assigned (begin_sandboxed fresh names name v)) q ≡ option_or (get assigned q) (get names q)
+  lookup_isolated assigned fresh names name v q = lookup_global assigned (begin_sandboxed fresh names name v) q ∙ ap (option_or (get assigned q)) (lookup_sandboxed fresh names name v q)
+
+  pub seal_isolated : (assigned : Names) (fresh : Reg) (names : Names) (name : Option (List ℕ)) (v : View Reg) (q : List ℕ) → comes_from_seal (assigned_view assigned (begin_sandboxed fresh names name v)) q ≡ is_none (get assigned q)
+  seal_isolated assigned fresh names name v q =
+      seal_global assigned (begin_sandboxed fresh names name v) q ∙ ap (λ b. is_none (get assigned q) && b) (seal_sandboxed fresh names name v q) ∙ and_true (is_none (get assigned q))
 
 -- what an implementation of a frame needs
 pub ruleset frame_laws = (lookup_stack, lookup_global, lookup_sandboxed, seal_stack, seal_global, seal_sandboxed)

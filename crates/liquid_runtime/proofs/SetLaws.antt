@@ -6,6 +6,7 @@ use Rattle.std.specs.Ordering.{nat_cmp, is_eq}
 use Rattle.std.specs.declared.cmp.Ordering.{Ordering}
 use Rattle.std.specs.declared.cmp.Ordering.TheVariants.{Less, Equal, Greater}
 use Rattle.std.specs.Cmp.Lexicographic.{slice_cmp, nat_list_cmp_total}
+use Rattle.std.specs.Cmp.{eq_by_cmp_equiv}
 use Rattle.std.specs.FinMap.{get, insert, empty, get-insert}
 use Rattle.liquid_value.specs.meaning.Tree.{Tree}
 use Rattle.liquid_runtime.specs.meaning.Maps.{Names, over}
@@ -13,10 +14,10 @@ use Rattle.liquid_runtime.proofs.MapLaws.{get-over, names_apart}
 use Rattle.liquid_runtime.specs.meaning.View.{View, Floor, unsealed, sealed}
 use Rattle.liquid_runtime.specs.meaning.NamesSeen.{lookup, shown_globals, upper_names, floor_names, names_of_floor, names_seen}
 use Rattle.liquid_runtime.specs.meaning.Sets.{put_global, put_index}
-use Rattle.liquid_runtime.specs.laws.Laws.{SetGlobalKeepsOthers, SetIndexKeepsOthers, RootsAreSeen, StackNamesFirst, GlobalFrameKeepsNames, GlobalsAreSeen}
-use Rattle.liquid_runtime.specs.meaning.Frames.{begin_index, begin_stack, core_view}
+use Rattle.liquid_runtime.specs.laws.Laws.{SetGlobalKeepsOthers, SetIndexKeepsOthers, RootsAreSeen, StackNamesFirst, GlobalFrameKeepsNames, GlobalsAreSeen, IsolatedFrameShowsItsNames, IsolatedFrameShowsAssigned, IsolatedEndsBoth, IsolatedKeepsOutside}
+use Rattle.liquid_runtime.specs.meaning.Frames.{begin_index, begin_stack, begin_sandboxed, core_view}
 use Rattle.liquid_runtime.proofs.Agreement.{get_agrees, lenient_get_agrees}
-use Rattle.liquid_runtime.proofs.FrameLaws.{lookup_stack, lookup_global}
+use Rattle.liquid_runtime.proofs.FrameLaws.{lookup_stack, lookup_global, lookup_sandboxed, lookup_isolated}
 use Rattle.liquid_runtime.proofs.FrameLookups.{lookup_indexed, nothing_there, no_names, or_none}
 
 not_tied : (o : Ordering) → (o ≡ Equal → ⊥) → is_eq o ≡ false
@@ -84,5 +85,19 @@ module _ {Reg : Type 0} where
       ∙ ap (option_or (get globals name)) (lookup_indexed no_names (record { interrupt = record { current = None }; value = fresh }) depth false name ∙ nothing_there name)
       ∙ or_none (get globals name)
 
+  pub isolated_shows : IsolatedFrameShowsItsNames Reg
+  isolated_shows fresh names name v q = global_keeps (begin_sandboxed fresh names name v) q ∙ lookup_sandboxed fresh names name v q
+
+  pub isolated_assigned : IsolatedFrameShowsAssigned Reg
+  isolated_assigned fresh names name v q t =
+      lookup_isolated (insert empty q t) fresh names name v q
+      ∙ ap (λ o. option_or o (get names q)) (get-insert nat_list_cmp_total empty q t q ∙ ap (λ b. cond b (Some t) (get no_names q)) ((eq_by_cmp_equiv nat_list_cmp_total).refl q))
+
+  pub isolated_ends : IsolatedEndsBoth Reg
+  isolated_ends fresh names name v w = refl
+
+  pub isolated_keeps : IsolatedKeepsOutside Reg
+  isolated_keeps names name v w d l = ap (λ x. record v { index = w.index; depth = x; lenient = w.lenient }) d ∙ ap (λ x. record v { index = w.index; lenient = x }) l
+
 -- the laws of names and frames
-pub ruleset laws = (get-over, get_agrees, lenient_get_agrees, roots_are_seen, set_global_keeps, set_index_keeps, stack_first, global_keeps)
+pub ruleset laws = (get-over, get_agrees, lenient_get_agrees, roots_are_seen, set_global_keeps, set_index_keeps, stack_first, global_keeps, isolated_ends, isolated_keeps)

@@ -3,6 +3,10 @@ ghost use Rattle.liquid_runtime.specs.laws.Laws.{
   GetAgrees,
   GlobalFrameKeepsNames,
   GlobalsAreSeen,
+  IsolatedEndsBoth,
+  IsolatedFrameShowsAssigned,
+  IsolatedFrameShowsItsNames,
+  IsolatedKeepsOutside,
   LeftNamesFirst,
   LenientGetAgrees,
   RootsAreSeen,
@@ -60,6 +64,20 @@ pub fn stack_names_first<V: Fresh>()
 #[tactic(auto, using(crate::proofs::SetLaws::laws))]
 pub fn global_frame_keeps_names<V: Fresh>()
     ensures { GlobalFrameKeepsNames V }
+{}
+
+/// An isolated frame shows the names that it began with, and what is assigned in it, and no other name.
+pub fn isolated_frames_show_their_names<V: Fresh>()
+    ensures begun { IsolatedFrameShowsItsNames V }
+    ensures assigned { IsolatedFrameShowsAssigned V }
+{}
+
+/// An isolated frame ends as a global frame within a sandboxed one does: of the view below it only index
+/// variables may have changed.
+#[tactic(auto, using(crate::proofs::SetLaws::laws))]
+pub fn isolated_frames_end_with_their_names<V: Fresh>()
+    ensures both { IsolatedEndsBoth V }
+    ensures kept { IsolatedKeepsOutside V }
 {}
 
 /// A built runtime has the caller's globals and no other name.

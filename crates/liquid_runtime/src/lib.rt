@@ -17,7 +17,8 @@ pub use builder::{BuiltRuntime, RuntimeBuilder};
 pub use global_frame::GlobalFrame;
 pub use index_frame::IndexFrame;
 pub use laws::{
-    get_agrees_with_try_get, global_frame_keeps_names, globals_are_seen, left_names_first,
+    get_agrees_with_try_get, global_frame_keeps_names, globals_are_seen,
+    isolated_frames_end_with_their_names, isolated_frames_show_their_names, left_names_first,
     lenient_get_agrees_with_try_get, roots_are_the_names_seen, set_global_changes_no_other_name,
     set_index_changes_no_other_name, stack_names_first,
 };

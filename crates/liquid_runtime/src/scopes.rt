@@ -11,13 +11,19 @@ use liquid_error::Error;
 use liquid_value::Object;
 use std::alloc::Global;
 
-/// A frame, as a value: none, names with the name of the template if it sets one, the same alone, or
-/// a frame that takes what a template assigns.
+/// A frame, as a value.
 #[derive(Drop)]
 pub enum Frame {
+    /// No frame. It is pushed and popped like any other.
     None,
+    /// Names that stand before those below, with the name of the template if it sets one.
     Stack(Object, Option<String>),
+    /// The same names alone, with a fresh interrupt and a fresh register. What is assigned goes to the
+    /// frames below, and is not seen.
     Sandboxed(Object, Option<String>),
+    /// The same as a sandboxed frame, but what is assigned is seen in the frame, and ends with it.
+    Isolated(Object, Option<String>),
+    /// A frame that takes what a template assigns.
     Global,
 }
 

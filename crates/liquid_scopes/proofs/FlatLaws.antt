@@ -1,9 +1,10 @@
 -- What pushing and popping a frame does to the places of names.
 use Rattle.std.proofs.Common.{◌≡◌, ℕ, zero, suc, ◌<◌, ◌≤◌, List, [], ◌∷◌, ◌++◌, length, map, get_or, Option, None, Some, Bool, true, false, cond, refl, sym, ap, ◌∙◌, arith}
 use Rattle.std.proofs.lemmas.Bool.Decides.{nat_tests}
-use Rattle.std.specs.Prelude.{is_some, nat_eq, ◌&&◌, ◌||◌, not}
+use Rattle.std.specs.Prelude.{is_some, is_none, nat_eq, ◌&&◌, ◌||◌, not}
+use Rattle.std.specs.Option.{option_or}
 use Rattle.liquid_value.specs.meaning.Tree.{Tree}
-use Rattle.liquid_scopes.specs.steps.Layers.{Layer, global_layer, is_global, assigned, GlobalAt}
+use Rattle.liquid_scopes.specs.steps.Layers.{Layer, none_layer, stack_layer, global_layer, sandboxed_layer, isolated_layer, is_global, assigned, assigning, GlobalAt}
 use Rattle.liquid_scopes.specs.steps.NamePlaces.{is_at}
 use Rattle.liquid_scopes.specs.steps.Standing.{own, own_at, has_at, listed_at}
 use Rattle.liquid_scopes.proofs.Unlisted.{absent}
@@ -53,17 +54,6 @@ same_place false j n e P h = and_no (P j)
     and_no : (b : Bool) → (b && false) ≡ false
     and_no true = refl
     and_no false = refl
-
-drop_own : (a b e : Bool) → (a && e) ≡ false → (a && (b && e)) ≡ false
-drop_own true true e h = h
-drop_own true false e h = refl
-drop_own false b e h = refl
-
-take_out : (a x : Bool) → (a && x) ≡ false → ((a || x) && not x) ≡ a
-take_out true true h = absurd (cc)
-take_out true false h = refl
-take_out false true h = refl
-take_out false false h = refl
 
 and_no : (b : Bool) → (b && false) ≡ false
 and_no true = refl
@@ -122,11 +112,6 @@ put_unlisted false true true false h = let k = h refl in absurd (cc)
 put_unlisted false true false w h = refl
 put_unlisted false false e w h = refl
 
-still_apart : (A w X : Bool) → (A && X) ≡ false → ((A && not w) && X) ≡ false
-still_apart true true X h = refl
-still_apart true false X h = h
-still_apart false w X h = refl
-
 at_that : (U : Option ℕ) (n j : ℕ) → is_at U n ≡ true → is_at U j ≡ nat_eq j n
 at_that None n j h = absurd (cc)
 at_that (Some u) n j h = let k : u ≡ n = grind (arith, nat_tests) in ap (nat_eq j) k
@@ -134,19 +119,35 @@ at_that (Some u) n j h = let k : u ≡ n = grind (arith, nat_tests) in ap (nat_e
 same_at : (U : Option ℕ) (i j : ℕ) (b : Bool) → is_at U i ≡ b → nat_eq j i ≡ true → is_at U j ≡ b
 same_at U i j b h e = let k : j ≡ i = grind (arith, nat_tests) in ap (is_at U) k ∙ h
 
-absent_split : (P : List ℕ → ℕ → Bool) (k p : List ℕ) (i j : ℕ) (b c : Bool) → bytes_eq k p ≡ b → nat_eq j i ≡ c → P k i ≡ false → (P p j && (b && c)) ≡ false
-absent_split P k p i j true true e n h = let m : j ≡ i = grind (arith, nat_tests) in ap (λ x. P p x && true) m ∙ ap (λ x. P x i && true) (sym (same_text k p e)) ∙ ap (λ b. b && true) h
-absent_split P k p i j true false e n h = and_no (P p j)
-absent_split P k p i j false c e n h = and_no (P p j)
+-- a value that lies over another one
+put_over : (a b : Option Tree) (c : Bool) (a' : Option Tree) → is_some a' ≡ (is_some a || c) → is_some (option_or a' b) ≡ (is_some (option_or a b) || c)
+put_over (Some t) b c (Some u) e = refl
+put_over (Some t) b c None e = absurd (cc)
+put_over None None true (Some u) e = refl
+put_over None (Some t) true (Some u) e = refl
+put_over None b false (Some u) e = absurd (cc)
+put_over None b true None e = absurd (cc)
+put_over None b false None e = or_nothing (is_some b)
+
+unchanged : (x b n : Bool) → ((x || (b && false)) && not ((b && n) && false)) ≡ x
+unchanged true true true = refl
+unchanged true true false = refl
+unchanged true false n = refl
+unchanged false true n = refl
+unchanged false false n = refl
+
+-- a noted name goes if the frame doesn't have it
+kept_or_dropped : (o : Option Tree) (A w b e : Bool) → (b ≡ true → e ≡ true → A ≡ is_some o) → (e ≡ true → w ≡ false) → (((A && not w) || (b && e)) && not ((b && is_none o) && e)) ≡ (A && not w)
+kept_or_dropped o A w b false h k = unchanged (A && not w) b (is_none o)
+kept_or_dropped o true true b true h k = let m = k refl in absurd (cc)
+kept_or_dropped None true false true true h k = let m = h refl refl in absurd (cc)
+kept_or_dropped (Some t) true false true true h k = refl
+kept_or_dropped o true false false true h k = refl
+kept_or_dropped None false w true true h k = refl
+kept_or_dropped (Some t) false w true true h k = let m = h refl refl in absurd (cc)
+kept_or_dropped o false w false true h k = refl
 
 module _ {Reg : Type 0} where
-  own_seam : (before after : List (Layer Reg)) (g : Names) (q : List ℕ) → own_at (length before) (before ++ global_layer g ∷ after) q ≡ get g q
-  own_seam [] after g q = refl
-  own_seam (l ∷ before) after g q = own_seam before after g q
-
-  pub own_here : (ls : List (Layer Reg)) (i : ℕ) (q : List ℕ) (p : GlobalAt ls i) → own_at i ls q ≡ get p.names q
-  own_here ls i q p = ap (λ xs. own_at i xs q) p.is ∙ ap (λ n. own_at n (p.before ++ global_layer p.names ∷ p.after) q) p.place ∙ own_seam p.before p.after p.names q
-
   -- no frame stands yet at the place of the next one
   nothing_there : (ls : List (Layer Reg)) (q : List ℕ) (j n : ℕ) → n ≡ length ls → (has_at ls q j && nat_eq j n) ≡ false
   nothing_there ls q j n e = same_place (nat_eq j n) j n refl (has_at ls q) (ap (has_at ls q) e ∙ nothing_behind ls q)
@@ -170,13 +171,20 @@ module _ {Reg : Type 0} where
       let A = has_at ls q j in
       fit ∙ ap (λ b. b && not (is_at U j)) (or_nothing A ∙ ap (λ o. A || (is_some o && nat_eq j (length ls))) (sym none) ∙ sym (has_at-push ls l q j))
 
+  put_own : (l : Layer Reg) (k q : List ℕ) (t : Tree) → is_global l ≡ true → is_some (own (assigning (insert (assigned l) k t) l) q) ≡ (is_some (own l q) || (bytes_eq k q && nat_eq 0 0))
+  put_own none_layer k q t e = absurd (cc)
+  put_own (stack_layer d n) k q t e = absurd (cc)
+  put_own (global_layer g) k q t e = put_name g k q t
+  put_own (sandboxed_layer d n s) k q t e = absurd (cc)
+  put_own (isolated_layer d g n s) k q t e = put_over (get g q) (get d q) (bytes_eq k q && nat_eq 0 0) (get (insert g k t) q) (put_name g k q t)
+
   -- a global frame with one value more
-  has_at-put : (before after : List (Layer Reg)) (m : Names) (k q : List ℕ) (t : Tree) (j : ℕ)
-      → has_at (before ++ global_layer (insert m k t) ∷ after) q j ≡ (has_at (before ++ global_layer m ∷ after) q j || (bytes_eq k q && nat_eq j (length before)))
-  has_at-put [] after m k q t zero = put_name m k q t
-  has_at-put [] after m k q t (suc j) = no_more (has_at after q j) (bytes_eq k q) (nat_eq (suc j) 0) (suc_not_zero j)
-  has_at-put (l ∷ before) after m k q t zero = no_more (is_some (own l q)) (bytes_eq k q) (nat_eq 0 (suc (length before))) (zero_not_suc (length before))
-  has_at-put (l ∷ before) after m k q t (suc j) = has_at-put before after m k q t j ∙ ap (λ b. has_at (before ++ global_layer m ∷ after) q j || (bytes_eq k q && b)) (sym (suc_eq j (length before)))
+  has_at-put : (before after : List (Layer Reg)) (l : Layer Reg) (k q : List ℕ) (t : Tree) (j : ℕ) → is_global l ≡ true
+      → has_at (before ++ assigning (insert (assigned l) k t) l ∷ after) q j ≡ (has_at (before ++ l ∷ after) q j || (bytes_eq k q && nat_eq j (length before)))
+  has_at-put [] after l k q t zero e = put_own l k q t e
+  has_at-put [] after l k q t (suc j) e = no_more (has_at after q j) (bytes_eq k q) (nat_eq (suc j) 0) (suc_not_zero j)
+  has_at-put (m ∷ before) after l k q t zero e = no_more (is_some (own m q)) (bytes_eq k q) (nat_eq 0 (suc (length before))) (zero_not_suc (length before))
+  has_at-put (m ∷ before) after l k q t (suc j) e = has_at-put before after l k q t j e ∙ ap (λ b. has_at (before ++ l ∷ after) q j || (bytes_eq k q && b)) (sym (suc_eq j (length before)))
 
   module _ {X : Type 0} (f : X → Layer Reg) where
     pub no_items : (xs : List X) → map f xs ≡ [] → xs ≡ []
@@ -233,11 +241,11 @@ module _ {Reg : Type 0} where
         ∙ taken (has_at (map f ys) q j) (is_some (own (f x) q)) (nat_eq j n) (is_at U j) (nothing_there (map f ys) q j n k)
 
     -- a value was set in the global frame at place i
-    pub put_at : (xs : List X) (i : ℕ) (x : X) (k q : List ℕ) (t : Tree) (j : ℕ) (p : GlobalAt (map f xs) i) → is_global (f x) ≡ true → assigned (f x) ≡ insert p.names k t
+    pub put_at : (xs : List X) (i : ℕ) (x : X) (k q : List ℕ) (t : Tree) (j : ℕ) (p : GlobalAt (map f xs) i) → f x ≡ assigning (insert (assigned p.layer) k t) p.layer
         → has_at (map f (set xs i x)) q j ≡ (has_at (map f xs) q j || (bytes_eq k q && nat_eq j i))
-    put_at xs i x k q t j p g a =
-        ap (λ ls. has_at ls q j) (set_put f xs i x k t p g a) ∙ has_at-put p.before p.after p.names k q t j
-        ∙ ap (λ n. has_at (p.before ++ global_layer p.names ∷ p.after) q j || (bytes_eq k q && nat_eq j n)) (sym p.place)
+    put_at xs i x k q t j p a =
+        ap (λ ls. has_at ls q j) (set_put f xs i x k t p a) ∙ has_at-put p.before p.after p.layer k q t j p.global
+        ∙ ap (λ n. has_at (p.before ++ p.layer ∷ p.after) q j || (bytes_eq k q && nat_eq j n)) (sym p.place)
         ∙ ap (λ ls. has_at ls q j || (bytes_eq k q && nat_eq j i)) (sym p.is)
 
   -- the places after a value was set in the listed frame at place i
@@ -253,11 +261,15 @@ module _ {Reg : Type 0} where
   fits_put_unlisted ls ms U i k q j S here more fit = fit ∙ put_unlisted (has_at ls q j) (bytes_eq k q) (nat_eq j i) (is_at U j) (same_at U i j true here)
       ∙ ap (λ b. b && not (is_at U j)) (sym more)
 
-  -- the place that was noted for a name that was not given a value
-  pub fits_kept : (ls ms : List (Layer Reg)) (U : Option ℕ) (i : ℕ) (k q : List ℕ) (j : ℕ) (S T V : Bool) → has_at ls k i ≡ false → ms ≡ ls → S ≡ listed_at ls U q j
-      → T ≡ (S || (bytes_eq k q && nat_eq j i)) → V ≡ (T && not (bytes_eq k q && nat_eq j i)) → V ≡ listed_at ms U q j
-  fits_kept ls ms U i k q j S T V none same fit noted dropped =
-      let free = absent_split (has_at ls) k q i j (bytes_eq k q) (nat_eq j i) refl refl none in
-      dropped ∙ ap (λ b. b && not (bytes_eq k q && nat_eq j i)) (noted ∙ ap (λ b. b || (bytes_eq k q && nat_eq j i)) fit)
-      ∙ take_out (listed_at ls U q j) (bytes_eq k q && nat_eq j i) (still_apart (has_at ls q j) (is_at U j) (bytes_eq k q && nat_eq j i) free)
+  -- the place that was noted for a name that was not given a value: it goes unless the frame had the name before
+  pub fits_kept : (ls ms : List (Layer Reg)) (U : Option ℕ) (i : ℕ) (k q : List ℕ) (j : ℕ) (S T V : Bool) → is_at U i ≡ false → ms ≡ ls → S ≡ listed_at ls U q j
+      → T ≡ (S || (bytes_eq k q && nat_eq j i)) → V ≡ (T && not ((bytes_eq k q && is_none (own_at i ms k)) && nat_eq j i)) → V ≡ listed_at ms U q j
+  fits_kept ls ms U i k q j S T V apart same fit noted dropped =
+      dropped
+      ∙ ap (λ b. b && not ((bytes_eq k q && is_none (own_at i ms k)) && nat_eq j i)) (noted ∙ ap (λ b. b || (bytes_eq k q && nat_eq j i)) fit)
+      ∙ ap (λ xs. (listed_at ls U q j || (bytes_eq k q && nat_eq j i)) && not ((bytes_eq k q && is_none (own_at i xs k)) && nat_eq j i)) same
+      ∙ kept_or_dropped (own_at i ls k) (has_at ls q j) (is_at U j) (bytes_eq k q) (nat_eq j i) (λ b e. had ls k q i j b e) (λ e. same_at U i j false apart e)
       ∙ sym (ap (λ xs. listed_at xs U q j) same)
+    where
+      had : (xs : List (Layer Reg)) (k q : List ℕ) (i j : ℕ) → bytes_eq k q ≡ true → nat_eq j i ≡ true → has_at xs q j ≡ is_some (own_at i xs k)
+      had xs k q i j b e = let m : j ≡ i = grind (arith, nat_tests) in ap (has_at xs q) m ∙ ap (λ p. has_at xs p i) (sym (same_text k q b))

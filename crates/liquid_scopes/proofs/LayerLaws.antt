@@ -9,13 +9,13 @@ use Rattle.liquid_value.specs.meaning.Tree.{Tree}
 use Rattle.liquid_runtime.specs.meaning.Maps.{Names}
 use Rattle.liquid_runtime.specs.meaning.View.{View}
 use Rattle.liquid_runtime.specs.meaning.NamesSeen.{lookup, comes_from_seal}
-use Rattle.liquid_runtime.specs.meaning.Frames.{Restore, scope_base, restored_by, FrameShape, no_frame, stack_frame, sandboxed_frame, global_frame, beginning, ending}
+use Rattle.liquid_runtime.specs.meaning.Frames.{Restore, scope_base, restored_by, FrameShape, no_frame, stack_frame, sandboxed_frame, isolated_frame, global_frame, beginning, ending}
 use Rattle.liquid_runtime.specs.meaning.OpenFrames.{opened, EndsFirst}
 use Rattle.liquid_runtime.specs.meaning.Sets.{put_global, put_index}
 use Rattle.liquid_runtime.specs.meaning.Calls.{registers_of, with_registers}
 use Rattle.liquid_runtime.specs.declared.registers.Registers.{Registers}
-use Rattle.liquid_scopes.specs.steps.Layers.{Layer, none_layer, stack_layer, global_layer, sandboxed_layer, layer_view, layer_restores, shown_over, restoring, layer_found, layer_seals, layer_name, is_global, assigned, Plain, GlobalAt, LastGlobal}
-use Rattle.liquid_runtime.proofs.FrameLaws.{lookup_stack, lookup_global, lookup_sandboxed, seal_stack, seal_global, seal_sandboxed}
+use Rattle.liquid_scopes.specs.steps.Layers.{Layer, none_layer, stack_layer, global_layer, sandboxed_layer, isolated_layer, layer_view, layer_restores, shown_over, restoring, layer_found, layer_seals, layer_name, is_global, assigned, assigning, Plain, GlobalAt, LastGlobal}
+use Rattle.liquid_runtime.proofs.FrameLaws.{lookup_stack, lookup_global, lookup_sandboxed, lookup_isolated, seal_stack, seal_global, seal_sandboxed, seal_isolated}
 
 pub map_append : {X Y : Type 0} (f : X → Y) (xs ys : List X) → map f (xs ++ ys) ≡ map f xs ++ map f ys
 map_append f [] ys = refl
@@ -53,12 +53,14 @@ module _ {Reg : Type 0} where
   index_link (stack_layer d n) v q x = refl
   index_link (global_layer g) v q x = refl
   index_link (sandboxed_layer d n s) v q x = refl
+  index_link (isolated_layer d g n s) v q x = refl
 
   index_restores : (l : Layer Reg) (v : View Reg) (q : List ℕ) (x : Tree) → layer_restores l (put_index v q x) ≡ layer_restores l v
   index_restores none_layer v q x = refl
   index_restores (stack_layer d n) v q x = refl
   index_restores (global_layer g) v q x = refl
   index_restores (sandboxed_layer d n s) v q x = refl
+  index_restores (isolated_layer d g n s) v q x = refl
 
   pub shown_put_index : (v : View Reg) (ls : List (Layer Reg)) (q : List ℕ) (x : Tree) → shown_over (put_index v q x) ls ≡ put_index (shown_over v ls) q x
   shown_put_index v [] q x = refl
@@ -74,12 +76,14 @@ module _ {Reg : Type 0} where
   registers_link (stack_layer d n) v w = refl
   registers_link (global_layer g) v w = refl
   registers_link (sandboxed_layer d n s) v w = refl
+  registers_link (isolated_layer d g n s) v w = refl
 
   registers_restores : (l : Layer Reg) (v : View Reg) (w : Registers Reg) → layer_restores l (with_registers w v) ≡ layer_restores l v
   registers_restores none_layer v w = refl
   registers_restores (stack_layer d n) v w = refl
   registers_restores (global_layer g) v w = refl
   registers_restores (sandboxed_layer d n s) v w = refl
+  registers_restores (isolated_layer d g n s) v w = refl
 
   pub shown_with_registers : (v : View Reg) (ls : List (Layer Reg)) (w : Registers Reg) → shown_over (with_registers w v) ls ≡ with_registers w (shown_over v ls)
   shown_with_registers v [] w = refl
@@ -95,6 +99,7 @@ module _ {Reg : Type 0} where
   registers_are (stack_layer d n) v = refl
   registers_are (global_layer g) v = refl
   registers_are (sandboxed_layer d n s) v = refl
+  registers_are (isolated_layer d g n s) v = refl
 
   pub shown_registers : (v : View Reg) (ls : List (Layer Reg)) → registers_of (shown_over v ls) ≡ registers_of v
   shown_registers v [] = refl
@@ -105,6 +110,7 @@ module _ {Reg : Type 0} where
   index_is (stack_layer d n) v = refl
   index_is (global_layer g) v = refl
   index_is (sandboxed_layer d n s) v = refl
+  index_is (isolated_layer d g n s) v = refl
 
   pub shown_index : (v : View Reg) (ls : List (Layer Reg)) → (shown_over v ls).index ≡ v.index
   shown_index v [] = refl
@@ -115,12 +121,14 @@ module _ {Reg : Type 0} where
   depth_is (stack_layer d n) v = refl
   depth_is (global_layer g) v = refl
   depth_is (sandboxed_layer d n s) v = refl
+  depth_is (isolated_layer d g n s) v = refl
 
   lenient_is : (l : Layer Reg) (v : View Reg) → (layer_view l v).lenient ≡ v.lenient
   lenient_is none_layer v = refl
   lenient_is (stack_layer d n) v = refl
   lenient_is (global_layer g) v = refl
   lenient_is (sandboxed_layer d n s) v = refl
+  lenient_is (isolated_layer d g n s) v = refl
 
   pub shown_lenient : (v : View Reg) (ls : List (Layer Reg)) → (shown_over v ls).lenient ≡ v.lenient
   shown_lenient v [] = refl
@@ -135,12 +143,14 @@ module _ {Reg : Type 0} where
   lookup_link (stack_layer d n) v q = lookup_stack d n v q
   lookup_link (global_layer g) v q = lookup_global g v q
   lookup_link (sandboxed_layer d n s) v q = lookup_sandboxed v.register d n v q
+  lookup_link (isolated_layer d g n s) v q = lookup_isolated g v.register d n v q
 
   one_open : (l : Layer Reg) (v : View Reg) (rs : List (Restore Reg)) → length (opened (layer_restores l v ∷ rs)) ≡ length (opened rs) + 1
   one_open none_layer v rs = omega arith
   one_open (stack_layer d n) v rs = omega arith
   one_open (global_layer g) v rs = omega arith
   one_open (sandboxed_layer d n s) v rs = omega arith
+  one_open (isolated_layer d g n s) v rs = omega arith
 
   pub count_open : (v : View Reg) (ls : List (Layer Reg)) (rs : List (Restore Reg)) → length (opened (restoring v ls rs)) ≡ length ls + length (opened rs)
   count_open v [] rs = omega arith
@@ -155,6 +165,7 @@ module _ {Reg : Type 0} where
   name_link (stack_layer d n) v = refl
   name_link (global_layer g) v = refl
   name_link (sandboxed_layer d n s) v = refl
+  name_link (isolated_layer d g n s) v = refl
 
   plain_push : (ls : List (Layer Reg)) (l : Layer Reg) → Plain ls → is_global l ≡ false → Plain (ls ++ l ∷ [])
   plain_push [] l p e = (e, tt)
@@ -162,31 +173,31 @@ module _ {Reg : Type 0} where
 
   pub last_stays : (ls : List (Layer Reg)) (l : Layer Reg) (o : Option ℕ) → LastGlobal ls o → is_global l ≡ false → LastGlobal (ls ++ l ∷ []) o
   last_stays ls l None p e = plain_push ls l p e
-  last_stays ls l (Some i) p e = record { before = p.before; names = p.names; after = p.after ++ l ∷ []; is = ap (λ xs. xs ++ l ∷ []) p.is ∙ append_assoc p.before (global_layer p.names ∷ p.after) (l ∷ []); place = p.place; plain = plain_push p.after l p.plain e }
+  last_stays ls l (Some i) p e = record { before = p.before; layer = p.layer; after = p.after ++ l ∷ []; is = ap (λ xs. xs ++ l ∷ []) p.is ∙ append_assoc p.before (p.layer ∷ p.after) (l ∷ []); global = p.global; place = p.place; plain = plain_push p.after l p.plain e }
 
   pub last_here : (ls : List (Layer Reg)) (l : Layer Reg) → is_global l ≡ true → LastGlobal (ls ++ l ∷ []) (Some (length ls))
-  last_here ls none_layer e = absurd (cc)
-  last_here ls (stack_layer d n) e = absurd (cc)
-  last_here ls (global_layer g) e = record { before = ls; names = g; after = []; is = refl; place = refl; plain = tt }
-  last_here ls (sandboxed_layer d n s) e = absurd (cc)
+  last_here ls l e = record { before = ls; layer = l; after = []; is = refl; global = e; place = refl; plain = tt }
 
   global_link : (l : Layer Reg) (v : View Reg) (q : List ℕ) (x : Tree) → is_global l ≡ false → layer_view l (put_global v q x) ≡ put_global (layer_view l v) q x
   global_link none_layer v q x e = refl
   global_link (stack_layer d n) v q x e = refl
   global_link (global_layer g) v q x e = absurd (cc)
   global_link (sandboxed_layer d n s) v q x e = refl
+  global_link (isolated_layer d g n s) v q x e = absurd (cc)
 
   global_restoring : (l : Layer Reg) (v : View Reg) (q : List ℕ) (x : Tree) → is_global l ≡ false → layer_restores l (put_global v q x) ≡ layer_restores l v
   global_restoring none_layer v q x e = refl
   global_restoring (stack_layer d n) v q x e = refl
   global_restoring (global_layer g) v q x e = absurd (cc)
   global_restoring (sandboxed_layer d n s) v q x e = refl
+  global_restoring (isolated_layer d g n s) v q x e = absurd (cc)
 
   global_is : (l : Layer Reg) (v : View Reg) → is_global l ≡ false → (layer_view l v).globals ≡ v.globals
   global_is none_layer v e = refl
   global_is (stack_layer d n) v e = refl
   global_is (global_layer g) v e = absurd (cc)
   global_is (sandboxed_layer d n s) v e = refl
+  global_is (isolated_layer d g n s) v e = absurd (cc)
 
   pub shown_globals_are : (v : View Reg) (ls : List (Layer Reg)) → Plain ls → (shown_over v ls).globals ≡ v.globals
   shown_globals_are v [] p = refl
@@ -201,17 +212,44 @@ module _ {Reg : Type 0} where
   restoring_put_global v (l ∷ ls) q x rs p = ap (λ u. restoring u ls (layer_restores l (put_global v q x) ∷ rs)) (global_link l v q x p.0)
       ∙ restoring_put_global (layer_view l v) ls q x (layer_restores l (put_global v q x) ∷ rs) p.1 ∙ ap (λ r. restoring (layer_view l v) ls (r ∷ rs)) (global_restoring l v q x p.0)
 
-  split_globals : (v : View Reg) (before : List (Layer Reg)) (g : Names) (after : List (Layer Reg)) → Plain after → (shown_over v (before ++ global_layer g ∷ after)).globals ≡ Some g
-  split_globals v [] g after p = shown_globals_are (layer_view (global_layer g) v) after p
-  split_globals v (m ∷ before) g after p = split_globals (layer_view m v) before g after p
+  holds : (l : Layer Reg) (v : View Reg) → is_global l ≡ true → (layer_view l v).globals ≡ Some (assigned l)
+  holds none_layer v e = absurd (cc)
+  holds (stack_layer d n) v e = absurd (cc)
+  holds (global_layer g) v e = refl
+  holds (sandboxed_layer d n s) v e = absurd (cc)
+  holds (isolated_layer d g n s) v e = refl
 
-  split_put : (v : View Reg) (before : List (Layer Reg)) (g : Names) (after : List (Layer Reg)) (q : List ℕ) (x : Tree) → Plain after → shown_over v (before ++ global_layer (insert g q x) ∷ after) ≡ put_global (shown_over v (before ++ global_layer g ∷ after)) q x
-  split_put v [] g after q x p = shown_put_global (layer_view (global_layer g) v) after q x p
-  split_put v (m ∷ before) g after q x p = split_put (layer_view m v) before g after q x p
+  put_in : (l : Layer Reg) (v : View Reg) (q : List ℕ) (x : Tree) → is_global l ≡ true → layer_view (assigning (insert (assigned l) q x) l) v ≡ put_global (layer_view l v) q x
+  put_in none_layer v q x e = absurd (cc)
+  put_in (stack_layer d n) v q x e = absurd (cc)
+  put_in (global_layer g) v q x e = refl
+  put_in (sandboxed_layer d n s) v q x e = absurd (cc)
+  put_in (isolated_layer d g n s) v q x e = refl
 
-  split_restoring : (v : View Reg) (before : List (Layer Reg)) (g : Names) (after : List (Layer Reg)) (q : List ℕ) (x : Tree) (rs : List (Restore Reg)) → Plain after → restoring v (before ++ global_layer (insert g q x) ∷ after) rs ≡ restoring v (before ++ global_layer g ∷ after) rs
-  split_restoring v [] g after q x rs p = restoring_put_global (layer_view (global_layer g) v) after q x (restored_by global_frame v ∷ rs) p
-  split_restoring v (m ∷ before) g after q x rs p = split_restoring (layer_view m v) before g after q x (layer_restores m v ∷ rs) p
+  assigning_restores : (m : Names) (l : Layer Reg) (v : View Reg) → layer_restores (assigning m l) v ≡ layer_restores l v
+  assigning_restores m none_layer v = refl
+  assigning_restores m (stack_layer d n) v = refl
+  assigning_restores m (global_layer g) v = refl
+  assigning_restores m (sandboxed_layer d n s) v = refl
+  assigning_restores m (isolated_layer d g n s) v = refl
+
+  split_globals : (v : View Reg) (before : List (Layer Reg)) (l : Layer Reg) (after : List (Layer Reg)) → is_global l ≡ true → Plain after → (shown_over v (before ++ l ∷ after)).globals ≡ Some (assigned l)
+  split_globals v [] l after e p = shown_globals_are (layer_view l v) after p ∙ holds l v e
+  split_globals v (m ∷ before) l after e p = split_globals (layer_view m v) before l after e p
+
+  split_put : (v : View Reg) (before : List (Layer Reg)) (l : Layer Reg) (after : List (Layer Reg)) (q : List ℕ) (x : Tree) → is_global l ≡ true → Plain after
+      → shown_over v (before ++ assigning (insert (assigned l) q x) l ∷ after) ≡ put_global (shown_over v (before ++ l ∷ after)) q x
+  split_put v [] l after q x e p = ap (λ u. shown_over u after) (put_in l v q x e) ∙ shown_put_global (layer_view l v) after q x p
+  split_put v (m ∷ before) l after q x e p = split_put (layer_view m v) before l after q x e p
+
+  split_restoring : (v : View Reg) (before : List (Layer Reg)) (l : Layer Reg) (after : List (Layer Reg)) (q : List ℕ) (x : Tree) (rs : List (Restore Reg)) → is_global l ≡ true → Plain after
+      → restoring v (before ++ assigning (insert (assigned l) q x) l ∷ after) rs ≡ restoring v (before ++ l ∷ after) rs
+  split_restoring v [] l after q x rs e p =
+      let m = insert (assigned l) q x in
+      ap (λ u. restoring u after (layer_restores (assigning m l) v ∷ rs)) (put_in l v q x e)
+      ∙ restoring_put_global (layer_view l v) after q x (layer_restores (assigning m l) v ∷ rs) p
+      ∙ ap (λ k. restoring (layer_view l v) after (k ∷ rs)) (assigning_restores m l v)
+  split_restoring v (m ∷ before) l after q x rs e p = split_restoring (layer_view m v) before l after q x (layer_restores m v ∷ rs) e p
 
   -- the registers that are taken out, and the frame that begins over the others
   pub begins_over : (v w : View Reg) (ls : List (Layer Reg)) (l : Layer Reg) → w ≡ with_registers (registers_of w) v → shown_over w (ls ++ l ∷ []) ≡ layer_view l (with_registers (registers_of w) (shown_over v ls))
@@ -247,52 +285,51 @@ module _ {Reg : Type 0} where
       subst (λ ys. LastGlobal ys (Some i)) (sym (mapped_step f xs i x h e))
       (subst (λ j. LastGlobal (map f (take i xs) ++ f x ∷ []) (Some j)) k (last_here (map f (take i xs)) (f x) n))
 
-  global_is_one : (l : Layer Reg) → is_global l ≡ true → l ≡ global_layer (assigned l)
-  global_is_one none_layer e = absurd (cc)
-  global_is_one (stack_layer d n) e = absurd (cc)
-  global_is_one (global_layer g) e = refl
-  global_is_one (sandboxed_layer d n s) e = absurd (cc)
-
   set_here : {X : Type 0} (f : X → Layer Reg) (xs : List X) (i : ℕ) (x : X) (p : GlobalAt (map f xs) i) → map f (set xs i x) ≡ p.before ++ f x ∷ p.after
-  set_here f xs i x p = map_set f xs i x ∙ ap (λ ys. set ys i (f x)) p.is ∙ ap (λ k. set (p.before ++ global_layer p.names ∷ p.after) k (f x)) p.place ∙ set-append_seam p.before (global_layer p.names) p.after (f x)
+  set_here f xs i x p = map_set f xs i x ∙ ap (λ ys. set ys i (f x)) p.is ∙ ap (λ k. set (p.before ++ p.layer ∷ p.after) k (f x)) p.place ∙ set-append_seam p.before p.layer p.after (f x)
 
-  -- the layer that is set is global and holds one more value
-  pub set_put : {X : Type 0} (f : X → Layer Reg) (xs : List X) (i : ℕ) (x : X) (q : List ℕ) (t : Tree) (p : GlobalAt (map f xs) i) → is_global (f x) ≡ true → assigned (f x) ≡ insert p.names q t → map f (set xs i x) ≡ p.before ++ global_layer (insert p.names q t) ∷ p.after
-  set_put f xs i x q t p e a = set_here f xs i x p ∙ ap (λ m. p.before ++ m ∷ p.after) (global_is_one (f x) e ∙ ap (λ m. global_layer m) a)
+  -- in the layer that is set one more value is assigned
+  pub set_put : {X : Type 0} (f : X → Layer Reg) (xs : List X) (i : ℕ) (x : X) (q : List ℕ) (t : Tree) (p : GlobalAt (map f xs) i) → f x ≡ assigning (insert (assigned p.layer) q t) p.layer
+      → map f (set xs i x) ≡ p.before ++ assigning (insert (assigned p.layer) q t) p.layer ∷ p.after
+  set_put f xs i x q t p a = set_here f xs i x p ∙ ap (λ m. p.before ++ m ∷ p.after) a
 
-  pub set_shown : {X : Type 0} (f : X → Layer Reg) (v : View Reg) (xs : List X) (i : ℕ) (x : X) (q : List ℕ) (t : Tree) → (p : GlobalAt (map f xs) i) → is_global (f x) ≡ true → assigned (f x) ≡ insert p.names q t → shown_over v (map f (set xs i x)) ≡ put_global (shown_over v (map f xs)) q t
-  set_shown f v xs i x q t p e a = ap (shown_over v) (set_put f xs i x q t p e a) ∙ split_put v p.before p.names p.after q t p.plain ∙ ap (λ ys. put_global (shown_over v ys) q t) (sym p.is)
+  pub set_shown : {X : Type 0} (f : X → Layer Reg) (v : View Reg) (xs : List X) (i : ℕ) (x : X) (q : List ℕ) (t : Tree) → (p : GlobalAt (map f xs) i) → f x ≡ assigning (insert (assigned p.layer) q t) p.layer
+      → shown_over v (map f (set xs i x)) ≡ put_global (shown_over v (map f xs)) q t
+  set_shown f v xs i x q t p a = ap (shown_over v) (set_put f xs i x q t p a) ∙ split_put v p.before p.layer p.after q t p.global p.plain ∙ ap (λ ys. put_global (shown_over v ys) q t) (sym p.is)
 
-  pub set_restoring : {X : Type 0} (f : X → Layer Reg) (v : View Reg) (xs : List X) (i : ℕ) (x : X) (q : List ℕ) (t : Tree) (rs : List (Restore Reg)) → (p : GlobalAt (map f xs) i) → is_global (f x) ≡ true → assigned (f x) ≡ insert p.names q t → restoring v (map f (set xs i x)) rs ≡ restoring v (map f xs) rs
-  set_restoring f v xs i x q t rs p e a = ap (λ ys. restoring v ys rs) (set_put f xs i x q t p e a) ∙ split_restoring v p.before p.names p.after q t rs p.plain ∙ ap (λ ys. restoring v ys rs) (sym p.is)
+  pub set_restoring : {X : Type 0} (f : X → Layer Reg) (v : View Reg) (xs : List X) (i : ℕ) (x : X) (q : List ℕ) (t : Tree) (rs : List (Restore Reg)) → (p : GlobalAt (map f xs) i) → f x ≡ assigning (insert (assigned p.layer) q t) p.layer
+      → restoring v (map f (set xs i x)) rs ≡ restoring v (map f xs) rs
+  set_restoring f v xs i x q t rs p a = ap (λ ys. restoring v ys rs) (set_put f xs i x q t p a) ∙ split_restoring v p.before p.layer p.after q t rs p.global p.plain ∙ ap (λ ys. restoring v ys rs) (sym p.is)
 
   -- the layer that is set holds what was there
-  pub set_same : {X : Type 0} (f : X → Layer Reg) (xs : List X) (i : ℕ) (x : X) → (p : GlobalAt (map f xs) i) → is_global (f x) ≡ true → assigned (f x) ≡ p.names → map f (set xs i x) ≡ map f xs
-  set_same f xs i x p e a = set_here f xs i x p ∙ ap (λ m. p.before ++ m ∷ p.after) (global_is_one (f x) e ∙ ap (λ m. global_layer m) a) ∙ sym p.is
+  pub set_same : {X : Type 0} (f : X → Layer Reg) (xs : List X) (i : ℕ) (x : X) → (p : GlobalAt (map f xs) i) → f x ≡ p.layer → map f (set xs i x) ≡ map f xs
+  set_same f xs i x p a = set_here f xs i x p ∙ ap (λ m. p.before ++ m ∷ p.after) a ∙ sym p.is
 
-  pub globals_here : (v : View Reg) (ls : List (Layer Reg)) (i : ℕ) → (p : GlobalAt ls i) → (shown_over v ls).globals ≡ Some p.names
-  globals_here v ls i p = ap (λ xs. (shown_over v xs).globals) p.is ∙ split_globals v p.before p.names p.after p.plain
+  pub globals_here : (v : View Reg) (ls : List (Layer Reg)) (i : ℕ) → (p : GlobalAt ls i) → (shown_over v ls).globals ≡ Some (assigned p.layer)
+  globals_here v ls i p = ap (λ xs. (shown_over v xs).globals) p.is ∙ split_globals v p.before p.layer p.after p.global p.plain
 
   seam : (before after : List (Layer Reg)) (l d : Layer Reg) → get_or (before ++ l ∷ after) (length before) d ≡ l
   seam [] after l d = refl
   seam (m ∷ before) after l d = seam before after l d
 
-  pub read_here : {X : Type 0} (f : X → Layer Reg) (xs : List X) (i : ℕ) (d : X) → (p : GlobalAt (map f xs) i) → f (get_or xs i d) ≡ global_layer p.names
-  read_here f xs i d p = map_get f xs i d ∙ ap (λ ys. get_or ys i (f d)) p.is ∙ ap (λ k. get_or (p.before ++ global_layer p.names ∷ p.after) k (f d)) p.place ∙ seam p.before p.after (global_layer p.names) (f d)
+  pub read_here : {X : Type 0} (f : X → Layer Reg) (xs : List X) (i : ℕ) (d : X) → (p : GlobalAt (map f xs) i) → f (get_or xs i d) ≡ p.layer
+  read_here f xs i d p = map_get f xs i d ∙ ap (λ ys. get_or ys i (f d)) p.is ∙ ap (λ k. get_or (p.before ++ p.layer ∷ p.after) k (f d)) p.place ∙ seam p.before p.after p.layer (f d)
 
   pub within_here : (ls : List (Layer Reg)) (i : ℕ) → GlobalAt ls i → i < length ls
-  within_here ls i p = rw (ap length p.is, p.place) (below_seam p.before p.after (global_layer p.names))
+  within_here ls i p = rw (ap length p.is, p.place) (below_seam p.before p.after p.layer)
 
   pub seal_layer : (l : Layer Reg) (v : View Reg) (q : List ℕ) → comes_from_seal (layer_view l v) q ≡ layer_seals l q (comes_from_seal v q)
   seal_layer none_layer v q = refl
   seal_layer (stack_layer d n) v q = seal_stack d n v q
   seal_layer (global_layer g) v q = seal_global g v q
   seal_layer (sandboxed_layer d n s) v q = seal_sandboxed v.register d n v q
+  seal_layer (isolated_layer d g n s) v q = seal_isolated g v.register d n v q
 
   ending_begun : (fresh : Reg) (f : FrameShape) (v : View Reg) → ending (restored_by f v) (beginning fresh f v) ≡ v
   ending_begun fresh no_frame v = refl
   ending_begun fresh (stack_frame d n) v = refl
   ending_begun fresh (sandboxed_frame d n) v = refl
+  ending_begun fresh (isolated_frame d n) v = refl
   ending_begun fresh global_frame v = refl
 
   -- a frame that is opened and closed at once leaves the base as it was

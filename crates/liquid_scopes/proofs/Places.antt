@@ -8,8 +8,8 @@ use Rattle.std.specs.Option.{option_or}
 use Rattle.std.specs.FinMap.{insert}
 use Rattle.liquid_value.specs.meaning.Tree.{Tree}
 use Rattle.liquid_runtime.specs.meaning.Maps.{Names}
-use Rattle.liquid_scopes.specs.steps.Layers.{Layer, none_layer, stack_layer, global_layer, sandboxed_layer, is_global, assigned, GlobalAt, LastGlobal}
-use Rattle.liquid_scopes.specs.steps.Standing.{last_place, places_where}
+use Rattle.liquid_scopes.specs.steps.Layers.{Layer, none_layer, stack_layer, global_layer, sandboxed_layer, isolated_layer, is_global, assigned, assigning, GlobalAt, LastGlobal}
+use Rattle.liquid_scopes.specs.steps.Standing.{last_place, places_where, is_sandboxed}
 use Rattle.liquid_scopes.proofs.LayerLaws.{map_append, map_length, set_put}
 
 some_or : (o p : Option ℕ) (i : ℕ) → o ≡ Some i → o ≡ option_or o p
@@ -59,9 +59,9 @@ module _ {Reg : Type 0} (P : Layer Reg → Bool) where
   pub last_of_places : (ls : List (Layer Reg)) (xs : List ℕ) → xs ≡ places_where P 0 ls → slice_get xs (length xs - 1) ≡ last_place P ls
   last_of_places ls xs e = ap (λ ys. slice_get ys (length ys - 1)) e ∙ last_where 0 ls ∙ from_zero (last_place P ls)
 
-  places-same : ((m n : Names) → P (global_layer m) ≡ P (global_layer n)) → (k : ℕ) (before after : List (Layer Reg)) (m n : Names) → places_where P k (before ++ global_layer m ∷ after) ≡ places_where P k (before ++ global_layer n ∷ after)
-  places-same s k [] after m n = ap (λ b. cond b (k ∷ places_where P (suc k) after) (places_where P (suc k) after)) (s m n)
-  places-same s k (l ∷ before) after m n = ap (λ R. cond (P l) (k ∷ R) R) (places-same s (suc k) before after m n)
+  places-same : (k : ℕ) (before after : List (Layer Reg)) (l m : Layer Reg) → P l ≡ P m → places_where P k (before ++ l ∷ after) ≡ places_where P k (before ++ m ∷ after)
+  places-same k [] after l m s = ap (λ b. cond b (k ∷ places_where P (suc k) after) (places_where P (suc k) after)) s
+  places-same k (x ∷ before) after l m s = ap (λ R. cond (P x) (k ∷ R) R) (places-same (suc k) before after l m s)
 
   module _ {X : Type 0} (f : X → Layer Reg) where
     pub kept_place : (xs ys : List X) (x : X) (n : ℕ) (old new : List ℕ) → ys ≡ xs ++ x ∷ [] → n ≡ length xs → old ≡ places_where P 0 (map f xs) → new ≡ old ++ cond (P (f x)) (n ∷ []) [] → new ≡ places_where P 0 (map f ys)
@@ -73,16 +73,34 @@ module _ {Reg : Type 0} (P : Layer Reg → Bool) where
     pub dropped_place : (xs ys : List X) (x : X) (old new : List ℕ) → xs ≡ ys ++ x ∷ [] → old ≡ places_where P 0 (map f xs) → ((kept : List ℕ) (place : ℕ) → old ≡ kept ++ cond (P (f x)) (place ∷ []) [] → new ≡ kept) → new ≡ places_where P 0 (map f ys)
     dropped_place xs ys x old new is was h = h (places_where P 0 (map f ys)) (0 + length (map f ys)) (was ∙ ap (places_where P 0) (ap (map f) is ∙ map_append f ys (x ∷ [])) ∙ places-push 0 (map f ys) (f x))
 
-    pub put_places : ((m n : Names) → P (global_layer m) ≡ P (global_layer n)) → (xs : List X) (i : ℕ) (x : X) (k : List ℕ) (t : Tree) (p : GlobalAt (map f xs) i) → is_global (f x) ≡ true → assigned (f x) ≡ insert p.names k t → places_where P 0 (map f (set xs i x)) ≡ places_where P 0 (map f xs)
-    put_places s xs i x k t p g a = ap (places_where P 0) (set_put f xs i x k t p g a) ∙ places-same s 0 p.before p.after (insert p.names k t) p.names ∙ sym (ap (places_where P 0) p.is)
+    pub put_places : ((m : Names) (l : Layer Reg) → P (assigning m l) ≡ P l) → (xs : List X) (i : ℕ) (x : X) (k : List ℕ) (t : Tree) (p : GlobalAt (map f xs) i) → f x ≡ assigning (insert (assigned p.layer) k t) p.layer → places_where P 0 (map f (set xs i x)) ≡ places_where P 0 (map f xs)
+    put_places s xs i x k t p a =
+        let m = insert (assigned p.layer) k t in
+        ap (places_where P 0) (set_put f xs i x k t p a) ∙ places-same 0 p.before p.after (assigning m p.layer) p.layer (s m p.layer) ∙ sym (ap (places_where P 0) p.is)
+
+-- what is assigned makes a layer neither global nor sandboxed
+pub assigning_sandboxed : {Reg : Type 0} (m : Names) (l : Layer Reg) → is_sandboxed (assigning m l) ≡ is_sandboxed l
+assigning_sandboxed m none_layer = refl
+assigning_sandboxed m (stack_layer d n) = refl
+assigning_sandboxed m (global_layer g) = refl
+assigning_sandboxed m (sandboxed_layer d n s) = refl
+assigning_sandboxed m (isolated_layer d g n s) = refl
+
+pub assigning_global : {Reg : Type 0} (m : Names) (l : Layer Reg) → is_global (assigning m l) ≡ is_global l
+assigning_global m none_layer = refl
+assigning_global m (stack_layer d n) = refl
+assigning_global m (global_layer g) = refl
+assigning_global m (sandboxed_layer d n s) = refl
+assigning_global m (isolated_layer d g n s) = refl
 
 module _ {Reg : Type 0} where
   global_step : (l : Layer Reg) (ls : List (Layer Reg)) (o : Option ℕ) → LastGlobal ls o → LastGlobal (l ∷ ls) (option_or (option_map (λ i. suc i) o) (cond (is_global l) (Some 0) None))
-  global_step l ls (Some i) p = record { before = l ∷ p.before; names = p.names; after = p.after; is = ap (λ xs. l ∷ xs) p.is; place = ap suc p.place; plain = p.plain }
+  global_step l ls (Some i) p = record { before = l ∷ p.before; layer = p.layer; after = p.after; is = ap (λ xs. l ∷ xs) p.is; global = p.global; place = ap suc p.place; plain = p.plain }
   global_step none_layer ls None p = (refl, p)
   global_step (stack_layer d n) ls None p = (refl, p)
-  global_step (global_layer g) ls None p = record { before = []; names = g; after = ls; is = refl; place = refl; plain = p }
+  global_step (global_layer g) ls None p = record { before = []; layer = global_layer g; after = ls; is = refl; global = refl; place = refl; plain = p }
   global_step (sandboxed_layer d n s) ls None p = (refl, p)
+  global_step (isolated_layer d g n s) ls None p = record { before = []; layer = isolated_layer d g n s; after = ls; is = refl; global = refl; place = refl; plain = p }
 
   pub last_global_is : (ls : List (Layer Reg)) → LastGlobal ls (last_place is_global ls)
   last_global_is [] = tt

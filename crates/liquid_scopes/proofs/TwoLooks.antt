@@ -7,7 +7,7 @@ use Rattle.std.specs.FinMap.{get}
 use Rattle.liquid_value.specs.meaning.Tree.{Tree}
 use Rattle.liquid_runtime.specs.meaning.View.{View}
 use Rattle.liquid_runtime.specs.meaning.NamesSeen.{lookup}
-use Rattle.liquid_scopes.specs.steps.Layers.{Layer, none_layer, stack_layer, global_layer, sandboxed_layer, layer_found, layer_view, shown_over}
+use Rattle.liquid_scopes.specs.steps.Layers.{Layer, none_layer, stack_layer, global_layer, sandboxed_layer, isolated_layer, layer_found, layer_view, shown_over}
 use Rattle.liquid_scopes.specs.steps.Standing.{two_looks, own, own_at, has_at, own_at_top, is_sandboxed, last_seal, found_over}
 use Rattle.liquid_scopes.specs.steps.NamePlaces.{TopOf}
 use Rattle.liquid_scopes.proofs.LayerLaws.{lookup_link}
@@ -97,6 +97,7 @@ module _ {Reg : Type 0} where
   own_found (stack_layer d n) q below e = or_of_own (get d q) below e
   own_found (global_layer g) q below e = or_of_own (get g q) below e
   own_found (sandboxed_layer d n s) q below e = refl
+  own_found (isolated_layer d g n s) q below e = refl
 
   -- one that has it not passes what is below, unless it is sandboxed
   passes : (l : Layer Reg) (q : List ℕ) (below : Option Tree) → is_some (own l q) ≡ false → layer_found l q below ≡ cond (is_sandboxed l) None below
@@ -104,6 +105,7 @@ module _ {Reg : Type 0} where
   passes (stack_layer d n) q below e = or_of_none (get d q) below e
   passes (global_layer g) q below e = or_of_none (get g q) below e
   passes (sandboxed_layer d n s) q below e = not_there (get d q) e
+  passes (isolated_layer d g n s) q below e = not_there (option_or (get g q) (get d q)) e
 
   pub tail_top : (l : Layer Reg) (ls : List (Layer Reg)) (q : List ℕ) (i : ℕ) → TopOf (has_at (l ∷ ls) q) (Some (suc i)) → TopOf (has_at ls q) (Some i)
   tail_top l ls q i h = (h.0, λ j lt. h.1 (suc j) (omega arith))

@@ -186,6 +186,10 @@ impl<V> Link<V> {
                 None => below,
             },
             Link::Sandboxed(data, _, _) => value_of(data, name),
+            Link::Isolated(data, assigned, _, _) => match value_of(assigned, name) {
+                Some(value) => Some(value),
+                None => value_of(data, name),
+            },
         }
     }
 
@@ -204,6 +208,7 @@ impl<V> Link<V> {
                 None => below,
             },
             Link::Sandboxed(_, _, _) => true,
+            Link::Isolated(_, assigned, _, _) => value_of(assigned, name).is_none(),
         }
     }
 }

@@ -8,6 +8,9 @@ ghost use Rattle.std.specs.Prelude.{
   true,
   false,
   is_some,
+  is_none,
+  ◌&&◌,
+  bytes_eq,
   IfOk,
   OnOk,
   OnErr,
@@ -17,15 +20,17 @@ ghost use Rattle.std.specs.Prelude.{
   option_map,
 };
 ghost use Rattle.std.specs.FinMap.{get, insert};
+ghost use Rattle.std.specs.Option.{option_or};
 ghost use Rattle.liquid_error.specs.meaning.Told.{told};
 ghost use Rattle.liquid_value.specs.meaning.View.{view as tree_of};
 ghost use Rattle.liquid_runtime.specs.meaning.View.{View};
-ghost use Rattle.liquid_runtime.specs.meaning.Maps.{names_of};
+ghost use Rattle.liquid_runtime.specs.meaning.Maps.{names_of, over};
+ghost use Rattle.liquid_runtime.specs.meaning.Roots.{NamesOf};
 ghost use Rattle.liquid_runtime.specs.meaning.Frames.{beginning, restored_by, ending};
 ghost use Rattle.liquid_runtime.specs.meaning.Calls.{frame_of, registers_of, with_registers};
-ghost use Rattle.liquid_scopes.specs.steps.Layers.{layer_name, layer_view, layer_restores, is_global, assigned, LayerNames};
+ghost use Rattle.liquid_scopes.specs.steps.Layers.{layer_name, layer_view, layer_restores, is_global, assigned, assigning, LayerNames};
 ghost use Rattle.liquid_scopes.specs.steps.LinkLayers.{layer_of};
-ghost use Rattle.liquid_scopes.specs.steps.Standing.{own, is_sandboxed, stands, Noted, PartlyNoted, Forgotten};
+ghost use Rattle.liquid_scopes.specs.steps.Standing.{own, is_sandboxed, seals_own, stands, Noted, PartlyNoted, Forgotten};
 
 use crate::flat_scopes::Count;
 use crate::index::Index;
@@ -45,6 +50,8 @@ pub(crate) enum Link<V> {
     Global(Object),
     // With the registers that its ending gives back.
     Sandboxed(Object, Option<String>, Registers<V>),
+    // The same, with what is assigned in it.
+    Isolated(Object, Object, Option<String>, Registers<V>),
 }
 
 impl<V> Link<V> {
@@ -61,6 +68,7 @@ impl<V> Link<V> {
             Link::Stack(data, _) => add_names(data, below),
             Link::Global(assigned) => add_names(assigned, below),
             Link::Sandboxed(data, _, _) => only_names(alloc, data),
+            Link::Isolated(data, assigned, _, _) => both_names(alloc, data, assigned),
         }
     }
 
@@ -74,7 +82,7 @@ impl<V> Link<V> {
                 None => below,
             },
             Link::Global(_) => below,
-            Link::Sandboxed(_, name, _) => match own_name(name) {
+            Link::Sandboxed(_, name, _) | Link::Isolated(_, _, name, _) => match own_name(name) {
                 Some(name) => Some(name),
                 None => below,
             },
@@ -93,6 +101,20 @@ impl<V> Link<V> {
             Link::Stack(data, _) | Link::Global(data) | Link::Sandboxed(data, _, _) => {
                 value_of(data, name)
             }
+            Link::Isolated(data, assigned, _, _) => first_value(assigned, data, name),
+        }
+    }
+
+    // Whether the frame, if it is a sandboxed one, seals a name that no frame over it gives: one look.
+    pub(crate) fn seals_own(&self, name: &str, looks: &mut Count) -> bool
+        requires { looks.old.looks + 1 < 2 ^ 64 }
+        ensures seals { result ≡ seals_own (layer_of self.now) name.now }
+        ensures looks { looks.new.looks ≡ looks.old.looks + 1 }
+    {
+        looks.tick();
+        match self {
+            Link::Isolated(_, assigned, _, _) => value_of(assigned, name).is_none(),
+            _ => true,
         }
     }
 
@@ -102,7 +124,7 @@ impl<V> Link<V> {
     {
         match self {
             Link::None => false,
-            Link::Global(_) => true,
+            Link::Global(_) | Link::Isolated(_, _, _, _) => true,
             Link::Stack(data, _) | Link::Sandboxed(data, _, _) => has_names(data),
         }
     }
@@ -119,6 +141,9 @@ impl<V> Link<V> {
             Link::Stack(data, _) | Link::Global(data) | Link::Sandboxed(data, _, _) => {
                 index.note_all(alloc, data, place)
             }
+            Link::Isolated(data, assigned, _, _) => {
+                note_both(index, alloc, data, assigned, place)
+            }
         }
     }
 
@@ -133,6 +158,29 @@ impl<V> Link<V> {
             Link::Stack(data, _) | Link::Global(data) | Link::Sandboxed(data, _, _) => {
                 index.forget_all(data, place);
             }
+            Link::Isolated(data, assigned, _, _) => forget_both(index, data, assigned, place),
+        }
+    }
+
+    // The frame at this place was not given a value for the name: the name leaves the index, unless the frame
+    // gives it another value.
+    pub(crate) fn forget_absent(&self, index: &mut Index, name: &str, place: usize)
+        ensures { Forgotten (λ q. bytes_eq name.now q && is_none (own (layer_of self.now) name.now)) place index.old.places index.new.places }
+    {
+        if !self.gives(name) {
+            index.forget(name, place);
+        }
+    }
+
+    fn gives(&self, name: &str) -> bool
+        ensures { result ≡ is_some (own (layer_of self.now) name.now) }
+    {
+        match self {
+            Link::None => false,
+            Link::Stack(data, _) | Link::Global(data) | Link::Sandboxed(data, _, _) => {
+                value_of(data, name).is_some()
+            }
+            Link::Isolated(data, assigned, _, _) => first_value(assigned, data, name).is_some(),
         }
     }
 
@@ -143,7 +191,7 @@ impl<V> Link<V> {
             Link::None => false,
             Link::Stack(_, _) => false,
             Link::Global(_) => false,
-            Link::Sandboxed(_, _, _) => true,
+            Link::Sandboxed(_, _, _) | Link::Isolated(_, _, _, _) => true,
         }
     }
 
@@ -153,7 +201,7 @@ impl<V> Link<V> {
         match self {
             Link::None => false,
             Link::Stack(_, _) => false,
-            Link::Global(_) => true,
+            Link::Global(_) | Link::Isolated(_, _, _, _) => true,
             Link::Sandboxed(_, _, _) => false,
         }
     }
@@ -161,18 +209,66 @@ impl<V> Link<V> {
     pub(crate) fn assign(&mut self, name: String, value: Value) -> Result<Option<Value>, Error>
         requires { is_global (layer_of self.old) ≡ true }
         ensures old { IfOk result (λ old. option_map tree_of old ≡ get (assigned (layer_of self.old)) (string_bytes name)) }
-        ensures global { is_global (layer_of self.new) ≡ true }
-        ensures sets { OnOk result (assigned (layer_of self.new)
-            ≡ insert (assigned (layer_of self.old)) (string_bytes name) (tree_of value)) }
+        ensures sets { OnOk result (layer_of self.new
+            ≡ assigning (insert (assigned (layer_of self.old)) (string_bytes name) (tree_of value)) (layer_of self.old)) }
         ensures err { IfErr result (λ e. told e ≡ None) }
-        ensures unchanged { OnErr result (assigned (layer_of self.new) ≡ assigned (layer_of self.old)) }
-        ensures absent { OnErr result (None ≡ get (assigned (layer_of self.old)) (string_bytes name)) }
+        ensures unchanged { OnErr result (layer_of self.new ≡ layer_of self.old) }
     {
         match self {
             Link::Global(assigned) => set_name(assigned, name, value),
+            Link::Isolated(_, assigned, _, _) => set_name(assigned, name, value),
             _ => Err(Error::Memory),
         }
     }
+}
+
+// The names of both objects.
+fn both_names(
+    alloc: Global,
+    names: &Object,
+    assigned: &Object,
+) -> Result<BTreeSet<String>, AllocError>
+    ensures { IfOk result (λ all. NamesOf (over (names_of assigned.now) (names_of names.now)) all) }
+{
+    add_names(assigned, only_names(alloc, names)?)
+}
+
+// The value that a name has in the first object, else in the second.
+fn first_value<'a>(first: &'a Object, second: &'a Object, name: &str) -> Option<&'a Value>
+    ensures { option_map (λ r. tree_of r.now) result ≡ option_or (get (names_of first.now) name.now) (get (names_of second.now) name.now) }
+{
+    match value_of(first, name) {
+        Some(value) => Some(value),
+        None => value_of(second, name),
+    }
+}
+
+// The frame at this place gives the names of both objects a value; where memory is wanting, some of them.
+fn note_both(
+    index: &mut Index,
+    alloc: Global,
+    names: &Object,
+    assigned: &Object,
+    place: usize,
+) -> Result<(), Error>
+    ensures noted { OnOk result (Noted (λ q. is_some (option_or (get (names_of assigned.now) q) (get (names_of names.now) q)))
+        place index.old.places index.new.places) }
+    ensures partly { PartlyNoted (λ q. is_some (option_or (get (names_of assigned.now) q) (get (names_of names.now) q)))
+        place index.old.places index.new.places }
+{
+    match index.note_all(alloc, names, place) {
+        Ok(()) => index.note_all(alloc, assigned, place),
+        Err(error) => Err(error),
+    }
+}
+
+// The frame at this place gives the names of both objects no value any more.
+fn forget_both(index: &mut Index, names: &Object, assigned: &Object, place: usize)
+    ensures { Forgotten (λ q. is_some (option_or (get (names_of assigned.now) q) (get (names_of names.now) q)))
+        place index.old.places index.new.places }
+{
+    index.forget_all(names, place);
+    index.forget_all(assigned, place);
 }
 
 fn has_names(names: &Object) -> bool
@@ -181,7 +277,7 @@ fn has_names(names: &Object) -> bool
     !names.is_empty()
 }
 
-// The link of a frame that begins over the base: a sandboxed one takes the base's registers into the link.
+// The link of a frame that begins over the base: a sandboxed or isolated one takes the base's registers into the link.
 #[inline(always)]
 #[tactic(auto, using(liquid_runtime::proofs::Objects::changed_objects))]
 pub(crate) fn opening<R: Runtime>(alloc: Global, base: &mut R, frame: Frame) -> Link<R::Register>
@@ -202,6 +298,10 @@ pub(crate) fn opening<R: Runtime>(alloc: Global, base: &mut R, frame: Frame) -> 
             let saved = mem::replace(base.registers_mut(), Registers::default());
             Link::Sandboxed(d, n, saved)
         }
+        Frame::Isolated(d, n) => {
+            let saved = mem::replace(base.registers_mut(), Registers::default());
+            Link::Isolated(d, Object::new(alloc), n, saved)
+        }
     }
 }
 
@@ -220,6 +320,10 @@ pub(crate) fn closing<R: Runtime>(base: &mut R, link: Link<R::Register>) -> Opti
         Link::Stack(names, _name) => Some(names),
         Link::Global(_assigned) => None,
         Link::Sandboxed(_names, _name, saved) => {
+            *base.registers_mut() = saved;
+            None
+        }
+        Link::Isolated(_names, _assigned, _name, saved) => {
             *base.registers_mut() = saved;
             None
         }

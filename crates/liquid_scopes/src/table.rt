@@ -1,6 +1,6 @@
 //! Frames in the order in which they began, with an index of their names.
 ghost use Rattle.std.specs.Prelude.{◌≡◌, ◌≤◌, ◌<◌, ◌+◌, ◌^◌, ◌&&◌, ◌||◌, ◌++◌, ℕ, List, [], ◌∷◌, true, length, map};
-ghost use Rattle.std.specs.Prelude.{nat_eq, bytes_eq, false, IfOk, IfErr, IfSome, IfNone, OnOk, OnErr, Some, None};
+ghost use Rattle.std.specs.Prelude.{nat_eq, bytes_eq, is_none, false, IfOk, IfErr, IfSome, IfNone, OnOk, OnErr, Some, None};
 ghost use Rattle.std.specs.Prelude.{string_bytes, option_map, option_to_list, vec_len, vec_capacity};
 ghost use Rattle.liquid_error.specs.meaning.Told.{Gives};
 ghost use Rattle.liquid_value.specs.meaning.View.{view as tree_of};
@@ -12,7 +12,7 @@ ghost use Rattle.liquid_runtime.specs.meaning.Sets.{old_global, put_global};
 ghost use Rattle.liquid_scopes.specs.steps.Layers.{restoring, is_global, LastGlobal, GlobalAt};
 ghost use Rattle.liquid_scopes.specs.steps.LinkLayers.{layer_of, layers_of, view_over};
 ghost use Rattle.liquid_scopes.specs.steps.Standing.{stands, own_at, has_at, listed_at, seen_over, own_at_top};
-ghost use Rattle.liquid_scopes.specs.steps.Standing.{two_looks, sealed_by, is_sandboxed, last_seal, places_where};
+ghost use Rattle.liquid_scopes.specs.steps.Standing.{Forgotten, two_looks, sealed_by, seals_at, is_sandboxed, last_seal, places_where};
 ghost use Rattle.liquid_scopes.specs.steps.NamePlaces.{TopOf};
 
 use crate::flat_scopes::Count;
@@ -83,16 +83,16 @@ impl<V> Table<V> {
     }
 
     // Whether the name, if it has a value, is the own name of a sandboxed frame, where `below` says so
-    // of the base. It takes one look at most.
+    // of the base. It takes two looks at most.
     pub(crate) fn seals_over(&self, name: &str, below: bool, count: &mut Count) -> bool
-        requires { count.old.looks + 1 < 2 ^ 64 }
+        requires { count.old.looks + 2 < 2 ^ 64 }
         ensures seals { (v : View V) → below ≡ comes_from_seal v name.now
             → result ≡ comes_from_seal (view_over v self.now.links.items) name.now }
-        ensures looks { count.new.looks ≤ count.old.looks + 1 }
+        ensures looks { count.new.looks ≤ count.old.looks + 2 }
     {
         let top = self.top(name, count);
         match self.sealed() {
-            Some(seal) => !is_under(seal, top),
+            Some(seal) => !is_under(seal, top) && self.seals_at(seal, name, count),
             None => match top {
                 Some(_) => false,
                 None => below,
@@ -105,7 +105,8 @@ impl<V> Table<V> {
     fn top(&self, name: &str, count: &mut Count) -> Option<usize>
         requires { count.old.looks + 1 < 2 ^ 64 }
         ensures seals { (v : View V) → comes_from_seal (view_over v self.now.links.items) name.now
-            ≡ sealed_by result (last_seal (layers_of self.now.links.items)) (comes_from_seal v name.now) }
+            ≡ sealed_by result (last_seal (layers_of self.now.links.items))
+            (seals_at (layers_of self.now.links.items) name.now) (comes_from_seal v name.now) }
         ensures looks { count.new.looks ≤ count.old.looks + 1 }
     {
         let listed = self.listed(name);
@@ -115,6 +116,18 @@ impl<V> Table<V> {
                 None => listed,
             },
             None => listed,
+        }
+    }
+
+    // Whether the sandboxed frame at this place seals the name, if no frame over it gives it a value: one look at most.
+    fn seals_at(&self, place: usize, name: &str, count: &mut Count) -> bool
+        requires { count.old.looks + 1 < 2 ^ 64 }
+        ensures seals { result ≡ seals_at (layers_of self.now.links.items) name.now place }
+        ensures looks { count.new.looks ≤ count.old.looks + 1 }
+    {
+        match self.links.as_slice().get(place) {
+            Some(link) => link.seals_own(name, count),
+            None => true,
         }
     }
 
@@ -304,7 +317,7 @@ impl<V> Table<V> {
         match put(&mut self.links, place, name, value) {
             Ok(old) => Ok(old),
             Err(error) => {
-                self.index.forget(kept.as_str(), place);
+                forget_absent(self.links.as_slice(), &mut self.index, kept.as_str(), place);
                 Err(error)
             }
         }
@@ -372,6 +385,18 @@ fn look_listed<'a, R: Runtime>(
     }
 }
 
+// The frame at this place was not given a value for the name: the name leaves the index, unless the frame
+// gives it another value.
+fn forget_absent<V>(links: &[Link<V>], index: &mut Index, name: &str, place: usize)
+    ensures { Forgotten (λ q. bytes_eq name.now q && is_none (own_at place (layers_of links.now) name.now)) place
+        index.old.places index.new.places }
+{
+    match links.get(place) {
+        Some(link) => link.forget_absent(index, name, place),
+        None => index.forget(name, place),
+    }
+}
+
 // Gives a name a value in the global frame at this place, wherever the name is listed.
 fn put<V>(
     links: &mut Vec<Link<V>>,
@@ -392,7 +417,6 @@ fn put<V>(
     ensures globals { OnOk result (places_where is_global 0 (layers_of links.new.items)
         ≡ places_where is_global 0 (layers_of links.old.items)) }
     ensures unchanged { OnErr result (map layer_of links.new.items ≡ map layer_of links.old.items) }
-    ensures absent { OnErr result (has_at (layers_of links.old.items) (string_bytes name) place ≡ false) }
 {
     match links[place].assign(name, value) {
         Ok(old) => Ok(old),

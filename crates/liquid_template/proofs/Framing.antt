@@ -5,7 +5,7 @@ use Rattle.liquid_error.specs.meaning.Refusal.{Refusal}
 use Rattle.liquid_error.specs.meaning.Told.{told}
 use Rattle.liquid_error.specs.meaning.Helpers.{ErrBecomes}
 use Rattle.liquid_runtime.specs.meaning.View.{View}
-use Rattle.liquid_runtime.specs.meaning.Frames.{FrameShape, no_frame, stack_frame, sandboxed_frame, global_frame, Restore, beginning, restored_by, ending}
+use Rattle.liquid_runtime.specs.meaning.Frames.{FrameShape, no_frame, stack_frame, sandboxed_frame, isolated_frame, global_frame, Restore, beginning, restored_by, ending}
 use Rattle.liquid_runtime.specs.meaning.OpenFrames.{opened, EndsFirst}
 use Rattle.liquid_template.specs.meaning.Run.{Run, Action}
 use Rattle.liquid_template.specs.meaning.Actions.{under, refused_through}
@@ -26,6 +26,7 @@ module _ {Reg : Type 0} where
   opened_restored no_frame v rs = omega arith
   opened_restored (stack_frame names name) v rs = omega arith
   opened_restored (sandboxed_frame names name) v rs = omega arith
+  opened_restored (isolated_frame names name) v rs = omega arith
   opened_restored global_frame v rs = omega arith
 
   -- want of memory before anything was rendered

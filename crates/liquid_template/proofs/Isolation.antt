@@ -6,12 +6,13 @@ use Rattle.liquid_error.specs.meaning.Refusal.{Refusal}
 use Rattle.liquid_value.specs.meaning.Tree.{Tree}
 use Rattle.liquid_runtime.specs.meaning.Maps.{Names, over}
 use Rattle.liquid_runtime.proofs.MapLaws.{over-over, empty-over}
-use Rattle.liquid_runtime.specs.meaning.View.{View}
+use Rattle.liquid_runtime.specs.meaning.View.{View, Floor}
+use Rattle.liquid_runtime.specs.declared.registers.Interrupt.{Interrupt}
 use Rattle.liquid_runtime.specs.meaning.NamesSeen.{upper_names}
 use Rattle.liquid_runtime.specs.meaning.Written.{with_written}
 use Rattle.liquid_runtime.specs.meaning.Erased.{Erased, erase, without_names}
 use Rattle.liquid_runtime.specs.meaning.Emptied.{emptied}
-use Rattle.liquid_runtime.specs.meaning.Frames.{FrameShape, no_frame, stack_frame, sandboxed_frame, global_frame, Restore, restore_nothing, restore_global, begin_sandboxed, beginning, restored_by, ending}
+use Rattle.liquid_runtime.specs.meaning.Frames.{FrameShape, no_frame, stack_frame, sandboxed_frame, isolated_frame, global_frame, Restore, restore_nothing, restore_global, restore_isolated, begin_sandboxed, begin_isolated, beginning, restored_by, ending}
 use Rattle.liquid_plugins.specs.meaning.Evaluation.{evaluate}
 use Rattle.liquid_plugins.specs.meaning.Chain.{ChainShape, FilterMeaning, chain_value, filtered}
 use Rattle.liquid_plugins.specs.meaning.Turns.{Answered, TurnShape, text_turn, body_turn, partial_turn, capture_turn, end_turn, NodeMeaning}
@@ -156,10 +157,27 @@ module _ {Reg : Type 0} (g : Names) where
       hidden = λ v h. record { shown = h.shown; names = h.names; there = h.there };
     }
 
+    isolated_steps : (l : Names) (s : Option Names) (b : Names) (x : Bool) (f : Floor) (n : Option (List ℕ)) (i : Option Interrupt) (r : Reg) (ss : List (Step Reg))
+        → map (step_outside (restore_isolated l (Some (over (unwrap_or s empty) g)) b x f n i r) trace) ss ≡ map cover_step (map (step_outside (restore_isolated l s b x f n i r) trace) ss)
+    isolated_steps l s b x f n i r [] = refl
+    isolated_steps l s b x f n i r (y ∷ ss) = ap (λ ys. step_outside (restore_isolated l (Some (over (unwrap_or s empty) g)) b x f n i r) trace y ∷ ys) (isolated_steps l s b x f n i r ss)
+
+    -- inside an isolated frame nothing of the outside is left, and its ending gives back what was
+    apart_isolated : (d : Names) (n : Option (List ℕ)) (k : Action Reg) → Apart (under fresh (isolated_frame d n) trace k)
+    unfolding under
+    apart_isolated d n k = record {
+      same = λ v h.
+          let inner = k (begin_isolated fresh d n v) in
+          ap (λ ss. record { steps = ss; refusal = option_map (refused_through trace) inner.refusal; view = ending (restored_by (isolated_frame d n) (cover v)) inner.view })
+          (isolated_steps v.locals v.globals v.base v.shown v.floor v.name v.interrupt v.register inner.steps);
+      hidden = λ v h. record { shown = h.shown; names = h.names; there = h.there };
+    }
+
     apart_under : (frame : FrameShape) (k : Action Reg) → Apart k → Apart (under fresh frame trace k)
     apart_under no_frame k i = apart_none k i
     apart_under (stack_frame d n) k i = apart_stack d n k i
     apart_under (sandboxed_frame d n) k i = apart_sandboxed d n k i
+    apart_under (isolated_frame d n) k i = apart_isolated d n k
     apart_under global_frame k i = apart_global k
 
   -- a hidden view, as the law of discreet nodes has it

@@ -8,7 +8,7 @@ use Rattle.liquid_error.specs.meaning.Told.{told}
 use Rattle.liquid_error.specs.meaning.Helpers.{ErrBecomes}
 use Rattle.liquid_runtime.specs.meaning.View.{View}
 use Rattle.liquid_runtime.specs.meaning.Written.{written_of, with_written, SameFrames}
-use Rattle.liquid_runtime.specs.meaning.Frames.{FrameShape, no_frame, stack_frame, sandboxed_frame, global_frame, Restore, beginning, restored_by, ending}
+use Rattle.liquid_runtime.specs.meaning.Frames.{FrameShape, no_frame, stack_frame, sandboxed_frame, isolated_frame, global_frame, Restore, beginning, restored_by, ending}
 use Rattle.liquid_template.specs.meaning.Run.{Step, Run, Action, pieces, written, one_if, checkpoints}
 use Rattle.liquid_template.specs.meaning.Actions.{refused_through, done, refuses, writes, goes_on, and_then, step_outside, outside, under}
 use Rattle.liquid_template.proofs.Pouring.{pours_nothing, pours_refused, pours_then, pours_through}
@@ -57,6 +57,7 @@ module _ {Reg : Type 0} where
   same_frames_ended fresh no_frame v w h = h
   same_frames_ended fresh (stack_frame names name) v w h = ap (ending (restored_by (stack_frame names name) v)) h
   same_frames_ended fresh (sandboxed_frame names name) v w h = ap (ending (restored_by (sandboxed_frame names name) v)) h
+  same_frames_ended fresh (isolated_frame names name) v w h = ap (ending (restored_by (isolated_frame names name) v)) h
   same_frames_ended fresh global_frame v w h = ap (ending (restored_by global_frame v)) h
 
   joined : (r : Run Reg) (next : Action Reg) → r.refusal ≡ None → and_then r next ≡ goes_on None r next

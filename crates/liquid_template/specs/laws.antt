@@ -1,1 +1,2 @@
+pub mod IsolatedFrames
 pub mod Isolation

@@ -1,6 +1,7 @@
 pub mod Actions
 pub mod FaultText
 pub mod Grows
+pub mod Isolated
 pub mod Nodes
 pub mod Outcome
 pub mod Output

@@ -1,6 +1,7 @@
-//! Laws of sandboxed runs, each as the contract of a function. `V` is the type of the register, `F`,
+//! Laws of sandboxed runs and of isolated ones, each as the contract of a function. `V` is the type of the register, `F`,
 //! `T` and `B` are what filters, tags and blocks are seen as, `P` and `Q` the progress of tags and of
 //! blocks.
+ghost use Rattle.liquid_template.specs.laws.IsolatedFrames.{IsolatedFromOutside, IsolatedOutsidesAgree};
 ghost use Rattle.liquid_template.specs.laws.Isolation.{Isolated, OutsidesAgree};
 ghost use Rattle.liquid_template.specs.meaning.Nodes.{Setting};
 
@@ -18,4 +19,17 @@ pub fn sandboxed_runs_are_isolated<V: Fresh, F, T, P, B, Q>()
 /// same refusal and the same writes.
 pub fn outsides_agree<V: Fresh, F, T, P, B, Q>()
     ensures { (s : Setting V F T P B Q) → OutsidesAgree s }
+{}
+
+/// Under an isolated frame any list of nodes has the run that it has over an outside without names: the
+/// same steps and the same end, with all that the outside had as it was, but for index variables.
+#[tactic(auto, using(crate::proofs::IsolatedFrames::from_outside))]
+pub fn isolated_runs_are_apart<V: Fresh, F, T, P, B, Q>()
+    ensures { (s : Setting V F T P B Q) → IsolatedFromOutside s }
+{}
+
+/// So two outsides that agree on partials, depth, index variables and name get the same text, the
+/// same refusal and the same writes.
+pub fn isolated_outsides_agree<V: Fresh, F, T, P, B, Q>()
+    ensures { (s : Setting V F T P B Q) → IsolatedOutsidesAgree s }
 {}

@@ -6,6 +6,7 @@ mod chain;
 mod cycle;
 mod gate;
 mod history;
+mod isolated;
 mod laws;
 mod leaf;
 mod opened;
@@ -24,7 +25,9 @@ mod writer_sink;
 
 pub use crate::gate::{Gate, GatedSink, Limits};
 pub use crate::history::History;
-pub use crate::laws::{outsides_agree, sandboxed_runs_are_isolated};
+pub use crate::laws::{
+    isolated_outsides_agree, isolated_runs_are_apart, outsides_agree, sandboxed_runs_are_isolated,
+};
 pub use crate::sink::{Sink, SinkFault};
 pub use crate::store::{PartialStore, unknown_partial};
 pub use crate::template::Template;

@@ -99,7 +99,7 @@ impl<X: Filter, T, B> Template<X, T, B> {
 }
 
 /// The name as a text of its own.
-fn name_text(alloc: Global, name: Option<&str>) -> Result<Option<String>, AllocError>
+pub(crate) fn name_text(alloc: Global, name: Option<&str>) -> Result<Option<String>, AllocError>
     ensures { IfOk result (λ own. option_map (λ s. string_bytes s) own ≡ option_map (λ r. r.now) name.entry) }
 {
     match name {

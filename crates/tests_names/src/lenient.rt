@@ -64,7 +64,27 @@ const ROWS: &str = r#"[[], "", ["base"], "5"]
 [[["sandboxed", {"b": 2}], ["global"]], "b", ["b"], "4"]
 [[["sandboxed", {"b": 2}], ["global"]], "b", ["b", "x"], "liquid: Unknown index\n  with:\n    variable=b\n    requested index=x\n    available indexes=\n"]
 [[["sandboxed", {"b": 2}], ["global"], ["stack", {"c": 1}]], "", ["b", "x"], "liquid: Unknown variable\n  with:\n    requested variable=b\n"]
-[[["sandboxed", {"b": 2}], ["sandboxed", {}]], "", ["b"], "liquid: Unknown variable\n  with:\n    requested variable=b\n"]"#;
+[[["sandboxed", {"b": 2}], ["sandboxed", {}]], "", ["b"], "liquid: Unknown variable\n  with:\n    requested variable=b\n"]
+[[["isolated", {"b": 2}]], "", ["b"], "2"]
+[[["isolated", {"b": 2}]], "", ["base"], "liquid: Unknown variable\n  with:\n    requested variable=base\n"]
+[[["isolated", {"b": 2}]], "", ["b", "x"], "liquid: Unknown variable\n  with:\n    requested variable=b\n"]
+[[["isolated", {"b": 2}]], "", [], "liquid: Unknown variable\n  with:\n    requested variable=nil\n"]
+[[["isolated", {"b": 2}]], "g", ["g"], "4"]
+[[["isolated", {"b": 2}]], "g", ["g", "x"], "liquid: Unknown index\n  with:\n    variable=g\n    requested index=x\n    available indexes=\n"]
+[[["isolated", {"b": 2}]], "b", ["b"], "4"]
+[[["isolated", {"b": 2}]], "b", ["b", "x"], "liquid: Unknown index\n  with:\n    variable=b\n    requested index=x\n    available indexes=\n"]
+[[["isolated", {"b": 2}], ["stack", {"c": 1}]], "", ["b", "x"], "liquid: Unknown variable\n  with:\n    requested variable=b\n"]
+[[["isolated", {"b": 2}], ["stack", {"c": 1}]], "b", ["b"], "4"]
+[[["isolated", {"b": 2}], ["stack", {"c": 1}]], "b", ["b", "x"], "liquid: Unknown index\n  with:\n    variable=b\n    requested index=x\n    available indexes=\n"]
+[[["isolated", {"b": 2}], ["stack", {"b": 3}]], "b", ["b"], "3"]
+[[["stack", {"b": 7}], ["isolated", {"c": 2}], ["stack", {"d": 1}]], "", ["b"], "liquid: Unknown variable\n  with:\n    requested variable=b\n"]
+[[["isolated", {"b": 2}], ["global"]], "g", ["g"], "4"]
+[[["isolated", {"b": 2}], ["isolated", {}]], "", ["b"], "liquid: Unknown variable\n  with:\n    requested variable=b\n"]
+[[["isolated", {"b": 2}], ["isolated", {"c": 1}]], "c", ["c"], "4"]
+[[["isolated", {"b": 2}], ["sandboxed", {"c": 1}]], "g", ["g"], "liquid: Unknown variable\n  with:\n    requested variable=g\n"]
+[[["isolated", {"b": 2}], ["sandboxed", {"c": 1}]], "c", ["c", "x"], "liquid: Unknown variable\n  with:\n    requested variable=c\n"]
+[[["sandboxed", {"b": 2}], ["isolated", {"c": 1}]], "", ["b"], "liquid: Unknown variable\n  with:\n    requested variable=b\n"]
+[[["sandboxed", {"b": 2}], ["isolated", {"c": 1}]], "g", ["g"], "4"]"#;
 
 /// Frames over the same runtime, a name that is set under them, if there is one, and the names seen.
 const NAMES: &str = r#"[[], "", ["base"]]
@@ -72,15 +92,20 @@ const NAMES: &str = r#"[[], "", ["base"]]
 [[["stack", {"a": 1}]], "", ["a", "base"]]
 [[["global"]], "g", ["base", "g"]]
 [[["sandboxed", {"b": 2}]], "g", ["b"]]
-[[["sandboxed", {"b": 2}], ["global"], ["stack", {"c": 1}]], "g", ["b", "c", "g"]]"#;
+[[["sandboxed", {"b": 2}], ["global"], ["stack", {"c": 1}]], "g", ["b", "c", "g"]]
+[[["isolated", {"b": 2}]], "", ["b"]]
+[[["isolated", {"b": 2}]], "g", ["b", "g"]]
+[[["isolated", {"b": 2}], ["stack", {"c": 1}]], "b", ["b", "c"]]
+[[["stack", {"a": 1}], ["isolated", {"b": 2}]], "a", ["a", "b"]]"#;
 
 /// A frame, as a row tells it.
-fn frame_of(alloc: Global, told: &Json) -> Result<Frame, Error> {
+pub(crate) fn frame_of(alloc: Global, told: &Json) -> Result<Frame, Error> {
     match (told.get(0).and_then(Json::as_str), told.get(1)) {
         (Some("none"), _) => Ok(Frame::None),
         (Some("global"), _) => Ok(Frame::Global),
         (Some("stack"), Some(names)) => Ok(Frame::Stack(to_object(alloc, names)?, None)),
         (Some("sandboxed"), Some(names)) => Ok(Frame::Sandboxed(to_object(alloc, names)?, None)),
+        (Some("isolated"), Some(names)) => Ok(Frame::Isolated(to_object(alloc, names)?, None)),
         _ => Err(Error::with_msg(alloc, "a row tells no frame")),
     }
 }

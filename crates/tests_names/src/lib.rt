@@ -10,6 +10,8 @@ mod framed;
 #[cfg(test)]
 mod frames;
 #[cfg(test)]
+mod isolated;
+#[cfg(test)]
 mod lenient;
 #[cfg(test)]
 mod made;

@@ -14,8 +14,8 @@ use tests_lines::holds;
 
 /// A register of a user's own.
 #[derive(Drop)]
-struct Marks {
-    count: u8,
+pub(crate) struct Marks {
+    pub(crate) count: u8,
 }
 
 impl Fresh for Marks {

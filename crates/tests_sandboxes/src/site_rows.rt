@@ -17,6 +17,20 @@ const COUNTED: &str =
 {"template": "{% for i in (1..2) %}{% include \"b\" %}{% endfor %}{% assign g = s %}", "data": {"s": 3}, "partials": [["b", "{{ i }}{% assign h = i %}{% increment c %}"]], "written": "1021", "assigned": {"h": "2", "g": "3"}, "counted": {"c": "2"}}
 {"template": "{% for i in (1..2) %}{% include \"b\" %}{% endfor %}{% assign g = s %}", "data": {"s": 3}, "partials": [["b", "{{ i }}{% assign h = i %}{% increment c %}{{ t }}"]], "written": "10", "error": "liquid: Unknown variable\n  with:\n    requested variable=t\nfrom: include b\n", "assigned": {"h": "1"}, "counted": {"c": "1"}}"#;
 
+/// Pages that are rendered in isolation: what they assign is seen, and nothing of it is left.
+const ISOLATED: &str =
+    r#"{"isolated": true, "template": "{% assign y = 1 %}{{ y }}", "written": "1"}
+{"isolated": true, "template": "{{ a }}", "written": "", "error": "liquid: Unknown variable\n  with:\n    requested variable=a\n"}
+{"isolated": true, "template": "{% assign b = 2 %}{{ b }}{{ z }}", "data": {"b": 1}, "written": "2", "error": "liquid: Unknown variable\n  with:\n    requested variable=z\n"}
+{"isolated": true, "template": "{% increment c %}{% increment c %}", "written": "01", "counted": {"c": "2"}}
+{"isolated": true, "template": "{% assign a = 5 %}{% include \"q\" %}{{ a }}", "partials": [["q", "{{ a }}{% assign a = 6 %}"]], "written": "56"}
+{"isolated": true, "template": "{% for i in (1..3) %}{% assign s = i %}{% break %}{% endfor %}{{ s }}", "data": {"s": 0}, "written": "1"}"#;
+
+#[test]
+fn an_isolated_page_keeps_what_it_assigns(rt: HostRuntime) -> Result<(), Fail> {
+    all_hold(rt.alloc(), ISOLATED, EMPTY_OR_FULL, Rows::Library, 6)
+}
+
 #[test]
 fn sites_are_the_same(rt: HostRuntime) -> Result<(), Fail> {
     let alloc = rt.alloc();

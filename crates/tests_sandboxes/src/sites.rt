@@ -17,6 +17,11 @@ struct Place<'a> {
 }
 
 impl Place<'_> {
+    /// Whether the row is rendered in isolation, and not in a sandbox.
+    fn is_isolated(&self) -> bool {
+        self.row.member("isolated").is_some()
+    }
+
     /// Whether a call wrote and was refused as the row tells, and left what it tells of the parent.
     fn holds<P: Drop>(
         &self,
@@ -54,7 +59,7 @@ fn outer(alloc: Global) -> Result<Object, AllocError> {
     Ok(outer)
 }
 
-/// Whether a row holds of `render_sandboxed`.
+/// Whether a row holds of `render_sandboxed`, or of `render_isolated`.
 fn holds_at_once<X, T, B, P>(
     alloc: Global,
     place: &Place<'_>,
@@ -70,14 +75,19 @@ where
     let mut after = over(alloc, place.parent, place.row, store)?;
     let mut sink = TextSink::new(alloc);
     let data = data(alloc, place.row)?;
-    let answer = page.render_sandboxed(alloc, &mut sink, &mut after, data, None);
+    let answer = if place.is_isolated() {
+        page.render_isolated(alloc, &mut sink, &mut after, data, None)
+    } else {
+        page.render_sandboxed(alloc, &mut sink, &mut after, data, None)
+    };
     place.holds(alloc, &sink, &answer, &after)
 }
 
-/// Renders a page in a sandbox over a frame that is open, and answers the base again.
+/// Renders a page in a sandbox or in isolation over a frame that is open, and returns the base again.
 fn rendered_over_a_frame<S, X, T, B>(
     alloc: Global,
     page: &Template<X, T, B>,
+    is_isolated: bool,
     data: Object,
     outer: Object,
     sink: &mut TextSink,
@@ -93,7 +103,11 @@ where
     let mut scopes = S::new(alloc, base);
     let answer = match scopes.push(Frame::Stack(outer, None)) {
         Ok(()) => {
-            let answer = page.render_sandboxed_in(alloc, sink, &mut scopes, data, Some("page"));
+            let answer = if is_isolated {
+                page.render_isolated_in(alloc, sink, &mut scopes, data, Some("page"))
+            } else {
+                page.render_sandboxed_in(alloc, sink, &mut scopes, data, Some("page"))
+            };
             scopes.pop();
             answer
         }
@@ -102,7 +116,7 @@ where
     (answer, scopes.into_base())
 }
 
-/// Whether a row holds of `render_sandboxed_in` over scopes of one form and a frame that is open.
+/// Whether a row holds of `render_sandboxed_in`, or of `render_isolated_in`, over scopes of one form and a frame that is open.
 fn holds_in<S, X, T, B, P>(
     alloc: Global,
     place: &Place<'_>,
@@ -120,7 +134,13 @@ where
     let mut sink = TextSink::new(alloc);
     let (data, outer) = (data(alloc, place.row)?, outer(alloc)?);
     let (answer, after) = rendered_over_a_frame::<S, X, T, B>(
-        alloc, page, data, outer, &mut sink, base,
+        alloc,
+        page,
+        place.is_isolated(),
+        data,
+        outer,
+        &mut sink,
+        base,
     );
     place.holds(alloc, &sink, &answer, &after)
 }

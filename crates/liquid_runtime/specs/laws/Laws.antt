@@ -1,5 +1,5 @@
 -- The laws of names and frames.
-use Rattle.std.specs.Prelude.{◌≡◌, ◌≢◌, ℕ, List, [], ◌∷◌, String, true, false, None, Ok, is_some, unwrap_or}
+use Rattle.std.specs.Prelude.{◌≡◌, ◌≢◌, ℕ, List, [], ◌∷◌, Option, String, true, false, None, Some, Ok, is_some, unwrap_or}
 use Rattle.std.specs.BTreeSet.{BTreeSet, contains_text}
 use Rattle.std.specs.Option.{option_or}
 use Rattle.std.specs.declared.alloc.Global.{Global}
@@ -14,7 +14,7 @@ use Rattle.liquid_runtime.specs.meaning.NamesSeen.{lookup, names_seen}
 use Rattle.liquid_runtime.specs.meaning.Roots.{NamesOf}
 use Rattle.liquid_runtime.specs.meaning.Lookup.{try_path, found}
 use Rattle.liquid_runtime.specs.meaning.Sets.{put_global, put_index}
-use Rattle.liquid_runtime.specs.meaning.Frames.{begin_stack, begin_global, built_view}
+use Rattle.liquid_runtime.specs.meaning.Frames.{begin_stack, begin_global, begin_sandboxed, begin_isolated, built_view, sandboxed_frame, isolated_frame, global_frame, restored_by, ending}
 
 -- of two maps laid over one another the left one has the first word
 abbrev pub LeftNamesFirst : Type 0
@@ -47,6 +47,27 @@ StackNamesFirst Reg = (names : Names) (v : View Reg) (name : List ℕ) → looku
 -- a global frame that begins hides no name and adds none
 abbrev pub GlobalFrameKeepsNames : Type 0 → Type 0
 GlobalFrameKeepsNames Reg = (v : View Reg) (name : List ℕ) → lookup (begin_global v) name ≡ lookup v name
+
+-- an isolated frame that begins shows its own names alone
+abbrev pub IsolatedFrameShowsItsNames : Type 0 → Type 0
+IsolatedFrameShowsItsNames Reg = (fresh : Reg) (names : Names) (name : Option (List ℕ)) (v : View Reg) (q : List ℕ) → lookup (begin_isolated fresh names name v) q ≡ get names q
+
+-- what is assigned in it is seen there
+abbrev pub IsolatedFrameShowsAssigned : Type 0 → Type 0
+IsolatedFrameShowsAssigned Reg = (fresh : Reg) (names : Names) (name : Option (List ℕ)) (v : View Reg) (q : List ℕ) (t : Tree) → lookup (put_global (begin_isolated fresh names name v) q t) q ≡ Some t
+
+-- its ending is that of a global frame within a sandboxed one
+abbrev pub IsolatedEndsBoth : Type 0 → Type 0
+IsolatedEndsBoth Reg =
+    (fresh : Reg) (names : Names) (name : Option (List ℕ)) (v w : View Reg) →
+    ending (restored_by (isolated_frame names name) v) w
+    ≡ ending (restored_by (sandboxed_frame names name) v) (ending (restored_by global_frame (begin_sandboxed fresh names name v)) w)
+
+-- so of the view below it only index variables may change: depth and leniency are changed by no call
+abbrev pub IsolatedKeepsOutside : Type 0 → Type 0
+IsolatedKeepsOutside Reg =
+    (names : Names) (name : Option (List ℕ)) (v w : View Reg) → w.depth ≡ v.depth → w.lenient ≡ v.lenient →
+    ending (restored_by (isolated_frame names name) v) w ≡ record v { index = w.index }
 
 -- a built runtime has the caller's globals and no other name
 abbrev pub GlobalsAreSeen : Type 0 → Type 0

@@ -5,7 +5,7 @@ use Rattle.std.specs.FinMap.{empty, get}
 use Rattle.liquid_value.specs.meaning.Tree.{Tree}
 use Rattle.liquid_runtime.specs.meaning.Maps.{Names, names_of}
 use Rattle.liquid_runtime.specs.meaning.View.{View}
-use Rattle.liquid_runtime.specs.meaning.Frames.{FrameShape, no_frame, stack_frame, sandboxed_frame, global_frame}
+use Rattle.liquid_runtime.specs.meaning.Frames.{FrameShape, no_frame, stack_frame, sandboxed_frame, isolated_frame, global_frame}
 use Rattle.liquid_runtime.specs.declared.scopes.Frame.{Frame}
 use Rattle.liquid_runtime.specs.declared.scopes.Frame.TheVariants as frame
 use Rattle.liquid_runtime.specs.declared.registers.Interrupt.{Interrupt}
@@ -18,6 +18,7 @@ abbrev pub frame_of : Frame → FrameShape
 frame_of frame.None = no_frame
 frame_of (frame.Stack d n) = stack_frame (names_of d) (option_map (λ s. string_bytes s) n)
 frame_of (frame.Sandboxed d n) = sandboxed_frame (names_of d) (option_map (λ s. string_bytes s) n)
+frame_of (frame.Isolated d n) = isolated_frame (names_of d) (option_map (λ s. string_bytes s) n)
 frame_of frame.Global = global_frame
 
 -- the interrupt that stands

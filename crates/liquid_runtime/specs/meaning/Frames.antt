@@ -7,11 +7,12 @@ use Rattle.liquid_runtime.specs.declared.registers.Interrupt.{Interrupt}
 use Rattle.liquid_runtime.specs.meaning.View.{View, Floor, unsealed, sealed}
 use Rattle.liquid_runtime.specs.meaning.NamesSeen.{upper_names}
 
--- no frame, a stack frame or a sandboxed frame of data, each with a name if one is set, or a global frame
+-- no frame, a stack frame, a sandboxed frame or an isolated frame of data, each with a name if one is set, or a global frame
 pub data FrameShape : Type 0 where
   no_frame : FrameShape
   stack_frame : Names → Option (List ℕ) → FrameShape
   sandboxed_frame : Names → Option (List ℕ) → FrameShape
+  isolated_frame : Names → Option (List ℕ) → FrameShape
   global_frame : FrameShape
 
 -- a core: no names, nowhere to set one, nothing sealed, and a path without a value is refused
@@ -58,11 +59,16 @@ begin_sandboxed fresh names name v = record v {
   register = fresh;
 }
 
+-- an isolated frame: a global frame within a sandboxed one, so what is assigned inside is seen there
+abbrev pub begin_isolated : {Reg : Type 0} → Reg → Names → Option (List ℕ) → View Reg → View Reg
+begin_isolated fresh names name v = begin_global (begin_sandboxed fresh names name v)
+
 -- the view that a frame begins with; `fresh` is the register's default
 abbrev pub beginning : {Reg : Type 0} → Reg → FrameShape → View Reg → View Reg
 beginning fresh no_frame v = v
 beginning fresh (stack_frame names name) v = begin_stack names name v
 beginning fresh (sandboxed_frame names name) v = begin_sandboxed fresh names name v
+beginning fresh (isolated_frame names name) v = begin_isolated fresh names name v
 beginning fresh global_frame v = begin_global v
 
 -- a built runtime: a core, an index frame, a stack frame of the caller's globals, and a global frame
@@ -76,12 +82,14 @@ pub data Restore (Reg : Type 0) : Type 0 where
   restore_stack : Names → Option (List ℕ) → Restore Reg
   restore_global : Names → Option Names → Names → Bool → Restore Reg
   restore_sandboxed : Names → Names → Bool → Floor → Option (List ℕ) → Option Interrupt → Reg → Restore Reg
+  restore_isolated : Names → Option Names → Names → Bool → Floor → Option (List ℕ) → Option Interrupt → Reg → Restore Reg
 
 -- what the frame's ending will restore of the view that it begins over
 abbrev pub restored_by : {Reg : Type 0} → FrameShape → View Reg → Restore Reg
 restored_by no_frame v = restore_nothing
 restored_by (stack_frame names name) v = restore_stack v.locals v.name
 restored_by (sandboxed_frame names name) v = restore_sandboxed v.locals v.base v.shown v.floor v.name v.interrupt v.register
+restored_by (isolated_frame names name) v = restore_isolated v.locals v.globals v.base v.shown v.floor v.name v.interrupt v.register
 restored_by global_frame v = restore_global v.locals v.globals v.base v.shown
 
 -- the view as the ending leaves it: what is not restored passes
@@ -92,6 +100,16 @@ ending (restore_stack locals name) v = record v { locals = locals; name = name }
 ending (restore_global locals globals base shown) v = record v { locals = locals; globals = globals; base = base; shown = shown }
 ending (restore_sandboxed locals base shown floor name interrupt register) v = record v {
   locals = locals;
+  base = base;
+  shown = shown;
+  floor = floor;
+  name = name;
+  interrupt = interrupt;
+  register = register;
+}
+ending (restore_isolated locals globals base shown floor name interrupt register) v = record v {
+  locals = locals;
+  globals = globals;
   base = base;
   shown = shown;
   floor = floor;

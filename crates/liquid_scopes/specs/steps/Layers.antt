@@ -7,19 +7,21 @@ use Rattle.liquid_runtime.specs.meaning.Roots.{NamesOf, NamesOver}
 use Rattle.std.specs.Option.{option_or}
 use Rattle.std.specs.FinMap.{get, empty}
 use Rattle.liquid_value.specs.meaning.Tree.{Tree}
-use Rattle.liquid_runtime.specs.meaning.Maps.{Names}
+use Rattle.liquid_runtime.specs.meaning.Maps.{Names, over}
 use Rattle.liquid_runtime.specs.meaning.View.{View}
-use Rattle.liquid_runtime.specs.meaning.Frames.{Restore, restore_nothing, restore_sandboxed, restored_by, stack_frame, global_frame, begin_stack, begin_sandboxed}
+use Rattle.liquid_runtime.specs.meaning.Frames.{Restore, restore_nothing, restore_sandboxed, restore_isolated, restored_by, stack_frame, global_frame, begin_stack, begin_sandboxed}
 use Rattle.liquid_runtime.specs.steps.FrameViews.{assigned_view}
 use Rattle.liquid_runtime.specs.meaning.Calls.{registers_of, with_registers}
 use Rattle.liquid_runtime.specs.declared.registers.Registers.{Registers}
 
--- a frame with what it holds; a sandboxed one holds the registers that its ending gives back
+-- a frame with what it holds; a sandboxed one and an isolated one hold the registers that their endings give back
 pub data Layer (Reg : Type 0) : Type 0 where
   none_layer : Layer Reg
   stack_layer : Names → Option (List ℕ) → Layer Reg
   global_layer : Names → Layer Reg
   sandboxed_layer : Names → Option (List ℕ) → Registers Reg → Layer Reg
+  -- its data, what is assigned in it, its name
+  isolated_layer : Names → Names → Option (List ℕ) → Registers Reg → Layer Reg
 
 module _ {Reg : Type 0} where
   -- the view over the one below; the registers are always the base's
@@ -28,6 +30,7 @@ module _ {Reg : Type 0} where
   layer_view (stack_layer d n) v = begin_stack d n v
   layer_view (global_layer g) v = assigned_view g v
   layer_view (sandboxed_layer d n saved) v = with_registers (registers_of v) (begin_sandboxed v.register d n v)
+  layer_view (isolated_layer d g n saved) v = assigned_view g (with_registers (registers_of v) (begin_sandboxed v.register d n v))
 
   -- what its ending restores
   abbrev pub layer_restores : Layer Reg → View Reg → Restore Reg
@@ -35,6 +38,7 @@ module _ {Reg : Type 0} where
   layer_restores (stack_layer d n) v = restored_by (stack_frame d n) v
   layer_restores (global_layer g) v = restored_by global_frame v
   layer_restores (sandboxed_layer d n saved) v = restore_sandboxed v.locals v.base v.shown v.floor v.name saved.interrupt.current saved.value
+  layer_restores (isolated_layer d g n saved) v = restore_isolated v.locals v.globals v.base v.shown v.floor v.name saved.interrupt.current saved.value
 
   abbrev pub shown_over : View Reg → List (Layer Reg) → View Reg
   shown_over v [] = v
@@ -50,12 +54,14 @@ module _ {Reg : Type 0} where
   layer_found (stack_layer d n) q o = option_or (get d q) o
   layer_found (global_layer g) q o = option_or (get g q) o
   layer_found (sandboxed_layer d n saved) q o = get d q
+  layer_found (isolated_layer d g n saved) q o = option_or (get g q) (get d q)
 
   abbrev pub layer_seals : Layer Reg → List ℕ → Bool → Bool
   layer_seals none_layer q b = b
   layer_seals (stack_layer d n) q b = is_none (get d q) && b
   layer_seals (global_layer g) q b = is_none (get g q) && b
   layer_seals (sandboxed_layer d n saved) q b = true
+  layer_seals (isolated_layer d g n saved) q b = is_none (get g q)
 
   -- the name that a layer gives over the one below it
   abbrev pub layer_name : Layer Reg → Option (List ℕ) → Option (List ℕ)
@@ -63,6 +69,7 @@ module _ {Reg : Type 0} where
   layer_name (stack_layer d n) o = option_or n o
   layer_name (global_layer g) o = o
   layer_name (sandboxed_layer d n saved) o = option_or n o
+  layer_name (isolated_layer d g n saved) o = option_or n o
 
   -- the names that are seen under a layer, from those that are seen below it
   abbrev pub LayerNames : Layer Reg → BTreeSet (String Global) → BTreeSet (String Global) → Type 0
@@ -70,19 +77,30 @@ module _ {Reg : Type 0} where
   LayerNames (stack_layer d n) below set = NamesOver d below set
   LayerNames (global_layer g) below set = NamesOver g below set
   LayerNames (sandboxed_layer d n saved) below set = NamesOf d set
+  LayerNames (isolated_layer d g n saved) below set = NamesOf (over g d) set
 
   abbrev pub is_global : Layer Reg → Bool
   is_global none_layer = false
   is_global (stack_layer d n) = false
   is_global (global_layer g) = true
   is_global (sandboxed_layer d n saved) = false
+  is_global (isolated_layer d g n saved) = true
 
-  -- what a global layer holds
+  -- what is assigned in a layer
   abbrev pub assigned : Layer Reg → Names
   assigned none_layer = empty
   assigned (stack_layer d n) = empty
   assigned (global_layer g) = g
   assigned (sandboxed_layer d n saved) = empty
+  assigned (isolated_layer d g n saved) = g
+
+  -- the layer with this assigned in it, if it is a global one
+  abbrev pub assigning : Names → Layer Reg → Layer Reg
+  assigning m none_layer = none_layer
+  assigning m (stack_layer d n) = stack_layer d n
+  assigning m (global_layer g) = global_layer m
+  assigning m (sandboxed_layer d n saved) = sandboxed_layer d n saved
+  assigning m (isolated_layer d g n saved) = isolated_layer d m n saved
 
   -- no global frame among them
   abbrev pub Plain : List (Layer Reg) → Type 0
@@ -91,9 +109,10 @@ module _ {Reg : Type 0} where
 
   pub record GlobalAt (ls : List (Layer Reg)) (i : ℕ) : Type 0 where
     pub before : List (Layer Reg)
-    pub names : Names
+    pub layer : Layer Reg
     pub after : List (Layer Reg)
-    pub is : ls ≡ before ++ global_layer names ∷ after
+    pub is : ls ≡ before ++ layer ∷ after
+    pub global : is_global layer ≡ true
     pub place : i ≡ length before
     pub plain : Plain after
 

@@ -2,7 +2,7 @@
 use Rattle.std.specs.Prelude.{List, map, option_map, string_bytes}
 use Rattle.liquid_runtime.specs.meaning.Maps.{names_of}
 use Rattle.liquid_runtime.specs.meaning.View.{View}
-use Rattle.liquid_scopes.specs.steps.Layers.{Layer, none_layer, stack_layer, global_layer, sandboxed_layer, shown_over}
+use Rattle.liquid_scopes.specs.steps.Layers.{Layer, none_layer, stack_layer, global_layer, sandboxed_layer, isolated_layer, shown_over}
 use Rattle.liquid_scopes.specs.declared.link.Link.{Link}
 use Rattle.liquid_scopes.specs.declared.link.Link.TheVariants as link
 
@@ -11,6 +11,7 @@ layer_of link.None = none_layer
 layer_of (link.Stack d n) = stack_layer (names_of d) (option_map (λ s. string_bytes s) n)
 layer_of (link.Global g) = global_layer (names_of g)
 layer_of (link.Sandboxed d n saved) = sandboxed_layer (names_of d) (option_map (λ s. string_bytes s) n) saved
+layer_of (link.Isolated d g n saved) = isolated_layer (names_of d) (names_of g) (option_map (λ s. string_bytes s) n) saved
 
 -- the layers that links are
 abbrev pub layers_of : {Reg : Type 0} → List (Link Reg) → List (Layer Reg)

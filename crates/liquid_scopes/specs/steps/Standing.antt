@@ -1,5 +1,5 @@
 -- Which frames give a name a value: what an index of names says, and what the layers are.
-use Rattle.std.specs.Prelude.{◌≡◌, ℕ, zero, suc, List, [], ◌∷◌, Option, Some, None, Bool, true, false, ◌&&◌, ◌||◌, not, cond, is_some, nat_eq, nat_lt, String, option_map}
+use Rattle.std.specs.Prelude.{◌≡◌, ℕ, zero, suc, List, [], ◌∷◌, Option, Some, None, Bool, true, false, ◌&&◌, ◌||◌, not, cond, is_some, is_none, nat_eq, nat_lt, String, option_map}
 use Rattle.std.specs.Option.{option_or}
 use Rattle.std.specs.BTreeMap.{BTreeMap, get_by_text}
 use Rattle.std.specs.FinMap.{get}
@@ -7,7 +7,7 @@ use Rattle.std.specs.declared.alloc.Global.{Global}
 use Rattle.liquid_value.specs.meaning.Tree.{Tree}
 use Rattle.liquid_scopes.specs.declared.frames.Frames.{Frames}
 use Rattle.liquid_scopes.specs.steps.NamePlaces.{is_place, is_at, is_under}
-use Rattle.liquid_scopes.specs.steps.Layers.{Layer, none_layer, stack_layer, global_layer, sandboxed_layer, layer_found}
+use Rattle.liquid_scopes.specs.steps.Layers.{Layer, none_layer, stack_layer, global_layer, sandboxed_layer, isolated_layer, layer_found}
 
 -- for each name its frames
 abbrev pub Places : Type 0
@@ -44,12 +44,13 @@ two_looks None (Some s) value below = None
 two_looks (Some i) None value below = value
 two_looks (Some i) (Some s) value below = cond (nat_lt i s) None value
 
--- whether a name is the own name of a sandboxed frame, by its last place, the last sandboxed frame and the base
-abbrev pub sealed_by : Option ℕ → Option ℕ → Bool → Bool
-sealed_by None None below = below
-sealed_by None (Some s) below = true
-sealed_by (Some i) None below = false
-sealed_by (Some i) (Some s) below = not (nat_lt s i)
+-- whether a name is the own name of a sandboxed frame, by its last place, the last sandboxed frame, what that frame seals,
+-- and the base
+abbrev pub sealed_by : Option ℕ → Option ℕ → (ℕ → Bool) → Bool → Bool
+sealed_by None None seals below = below
+sealed_by None (Some s) seals below = seals s
+sealed_by (Some i) None seals below = false
+sealed_by (Some i) (Some s) seals below = not (nat_lt s i) && seals s
 
 -- the place of the unlisted frame, if neither the name's last listed place nor the last sandboxed frame stands over it
 abbrev pub seen_over : Option ℕ → Option ℕ → Option ℕ → Option ℕ
@@ -63,6 +64,7 @@ module _ {Reg : Type 0} where
   own (stack_layer d n) q = get d q
   own (global_layer g) q = get g q
   own (sandboxed_layer d n saved) q = get d q
+  own (isolated_layer d g n saved) q = option_or (get g q) (get d q)
 
   abbrev pub own_at : ℕ → List (Layer Reg) → List ℕ → Option Tree
   own_at j [] q = None
@@ -85,6 +87,20 @@ module _ {Reg : Type 0} where
   is_sandboxed (stack_layer d n) = false
   is_sandboxed (global_layer g) = false
   is_sandboxed (sandboxed_layer d n saved) = true
+  is_sandboxed (isolated_layer d g n saved) = true
+
+  -- whether a sandboxed layer seals a name that no layer over it gives: an isolated one doesn't where the name is assigned
+  abbrev pub seals_own : Layer Reg → List ℕ → Bool
+  seals_own none_layer q = true
+  seals_own (stack_layer d n) q = true
+  seals_own (global_layer g) q = true
+  seals_own (sandboxed_layer d n saved) q = true
+  seals_own (isolated_layer d g n saved) q = is_none (get g q)
+
+  abbrev pub seals_at : List (Layer Reg) → List ℕ → ℕ → Bool
+  seals_at [] q j = true
+  seals_at (l ∷ ls) q zero = seals_own l q
+  seals_at (l ∷ ls) q (suc j) = seals_at ls q j
 
   -- the place of the last layer that passes
   abbrev pub last_place : (Layer Reg → Bool) → List (Layer Reg) → Option ℕ

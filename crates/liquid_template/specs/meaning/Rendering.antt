@@ -1,7 +1,7 @@
 -- What rendering a template comes to.
 use Rattle.std.specs.Prelude.{ℕ, List, Option, None}
 use Rattle.liquid_runtime.specs.meaning.Maps.{Names}
-use Rattle.liquid_runtime.specs.meaning.Frames.{sandboxed_frame}
+use Rattle.liquid_runtime.specs.meaning.Frames.{sandboxed_frame, isolated_frame}
 use Rattle.liquid_plugins.specs.meaning.Nodes.{Nodes}
 use Rattle.liquid_template.specs.meaning.Run.{Action}
 use Rattle.liquid_template.specs.meaning.Actions.{under}
@@ -20,3 +20,7 @@ module _ {Reg F T P B Q : Type 0} (s : Setting Reg F T P B Q) where
   -- the same under a sandboxed frame
   abbrev pub sandboxed_run : Names → Option (List ℕ) → Nodes F T B → Action Reg
   sandboxed_run names name ns = under s.fresh (sandboxed_frame names name) None (template_run ns)
+
+  -- the same under an isolated frame
+  abbrev pub isolated_run : Names → Option (List ℕ) → Nodes F T B → Action Reg
+  isolated_run names name ns = under s.fresh (isolated_frame names name) None (template_run ns)

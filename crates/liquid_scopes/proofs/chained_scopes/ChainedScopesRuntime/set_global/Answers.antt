@@ -3,7 +3,7 @@ use Rattle.std.specs.FinMap.{get, insert}
 use Rattle.liquid_value.specs.meaning.View.{view as tree_of}
 use Rattle.liquid_runtime.specs.meaning.Frames.{scope_base}
 use Rattle.liquid_runtime.specs.meaning.Sets.{old_value, no_global_frame}
-use Rattle.liquid_scopes.specs.steps.Layers.{shown_over, restoring, assigned, is_global}
+use Rattle.liquid_scopes.specs.steps.Layers.{shown_over, restoring, assigned, assigning, is_global}
 use Rattle.liquid_scopes.specs.steps.LinkLayers.{layer_of}
 use Rattle.liquid_scopes.proofs.LayerLaws.{shown_globals_are, shown_put_global, restoring_put_global, set_shown, set_restoring, set_same, globals_here, read_here}
 use Rattle.std.specs.Prelude.{Ok, Err, IfSome}
@@ -11,7 +11,7 @@ use Rattle.liquid_error.specs.meaning.Told.{told}
 use Rattle.liquid_scopes.proofs.chained_scopes.ChainedScopesRuntime.set_global.Goals as goal
 
 pub assign-requires : goal.assign-requires
-assign-requires g c = ap (λ l. is_global (layer_of l)) c.index_mut.ensures.value ∙ ap is_global (read_here layer_of c.args.self.now.links.items c.in-Some.i c.index_mut.result.now c.in-Some.ensures)
+assign-requires g c = ap (λ l. is_global (layer_of l)) c.index_mut.ensures.value ∙ ap is_global (read_here layer_of c.args.self.now.links.items c.in-Some.i c.index_mut.result.now c.in-Some.ensures) ∙ c.in-Some.ensures.global
 
 pub returns-in-Ok-clause-gives : goal.returns-in-Ok-clause-gives
 returns-in-Ok-clause-gives g c =
@@ -26,30 +26,30 @@ returns-in-Ok-clause-sets g c =
     let q = string_bytes c.args.name in
     let xs = c.args.self.now.links.items in
     let l = c.index_mut.result.now in
-    set_shown layer_of (g.R.Runtime.view c.args.self.now.base) xs c.in-Some.i c.assign.new.self q (tree_of c.args.value) c.in-Some.ensures c.in-Ok.ensures.global
-    (c.in-Ok.ensures.sets ∙ ap (λ k. insert (assigned (layer_of k)) q (tree_of c.args.value)) c.index_mut.ensures.value ∙ ap (λ k. insert (assigned k) q (tree_of c.args.value)) (read_here layer_of xs c.in-Some.i l c.in-Some.ensures))
+    set_shown layer_of (g.R.Runtime.view c.args.self.now.base) xs c.in-Some.i c.assign.new.self q (tree_of c.args.value) c.in-Some.ensures
+    (c.in-Ok.ensures.sets ∙ ap (λ k. assigning (insert (assigned (layer_of k)) q (tree_of c.args.value)) (layer_of k)) c.index_mut.ensures.value ∙ ap (λ k. assigning (insert (assigned k) q (tree_of c.args.value)) k) (read_here layer_of xs c.in-Some.i l c.in-Some.ensures))
 
 pub returns-in-Ok-clause-owes : goal.returns-in-Ok-clause-owes
 returns-in-Ok-clause-owes g c =
     let q = string_bytes c.args.name in
     let xs = c.args.self.now.links.items in
     let l = c.index_mut.result.now in
-    set_restoring layer_of (g.R.Runtime.view c.args.self.now.base) xs c.in-Some.i c.assign.new.self q (tree_of c.args.value) (scope_base ∷ g.R.Runtime.restores c.args.self.now.base) c.in-Some.ensures c.in-Ok.ensures.global
-    (c.in-Ok.ensures.sets ∙ ap (λ k. insert (assigned (layer_of k)) q (tree_of c.args.value)) c.index_mut.ensures.value ∙ ap (λ k. insert (assigned k) q (tree_of c.args.value)) (read_here layer_of xs c.in-Some.i l c.in-Some.ensures))
+    set_restoring layer_of (g.R.Runtime.view c.args.self.now.base) xs c.in-Some.i c.assign.new.self q (tree_of c.args.value) (scope_base ∷ g.R.Runtime.restores c.args.self.now.base) c.in-Some.ensures
+    (c.in-Ok.ensures.sets ∙ ap (λ k. assigning (insert (assigned (layer_of k)) q (tree_of c.args.value)) (layer_of k)) c.index_mut.ensures.value ∙ ap (λ k. assigning (insert (assigned k) q (tree_of c.args.value)) k) (read_here layer_of xs c.in-Some.i l c.in-Some.ensures))
 
 pub returns-in-Err-clause-unchanged : goal.returns-in-Err-clause-unchanged
 returns-in-Err-clause-unchanged g c =
     let xs = c.args.self.now.links.items in
     let l = c.index_mut.result.now in
-    ap (shown_over (g.R.Runtime.view c.args.self.now.base)) (set_same layer_of xs c.in-Some.i c.assign.new.self c.in-Some.ensures c.in-Err.ensures.global
-    (c.in-Err.ensures.unchanged ∙ ap (λ k. assigned (layer_of k)) c.index_mut.ensures.value ∙ ap assigned (read_here layer_of xs c.in-Some.i l c.in-Some.ensures)))
+    ap (shown_over (g.R.Runtime.view c.args.self.now.base)) (set_same layer_of xs c.in-Some.i c.assign.new.self c.in-Some.ensures
+    (c.in-Err.ensures.unchanged ∙ ap layer_of c.index_mut.ensures.value ∙ read_here layer_of xs c.in-Some.i l c.in-Some.ensures))
 
 pub returns-in-Err-clause-owes : goal.returns-in-Err-clause-owes
 returns-in-Err-clause-owes g c =
     let xs = c.args.self.now.links.items in
     let l = c.index_mut.result.now in
-    ap (λ ys. restoring (g.R.Runtime.view c.args.self.now.base) ys (scope_base ∷ g.R.Runtime.restores c.args.self.now.base)) (set_same layer_of xs c.in-Some.i c.assign.new.self c.in-Some.ensures c.in-Err.ensures.global
-    (c.in-Err.ensures.unchanged ∙ ap (λ k. assigned (layer_of k)) c.index_mut.ensures.value ∙ ap assigned (read_here layer_of xs c.in-Some.i l c.in-Some.ensures)))
+    ap (λ ys. restoring (g.R.Runtime.view c.args.self.now.base) ys (scope_base ∷ g.R.Runtime.restores c.args.self.now.base)) (set_same layer_of xs c.in-Some.i c.assign.new.self c.in-Some.ensures
+    (c.in-Err.ensures.unchanged ∙ ap layer_of c.index_mut.ensures.value ∙ read_here layer_of xs c.in-Some.i l c.in-Some.ensures))
 
 pub returns-in-Ok-set_global-clause-gives : goal.returns-in-Ok-set_global-clause-gives
 returns-in-Ok-set_global-clause-gives g c = ap (λ o. old_value no_global_frame o (string_bytes c.args.name)) (shown_globals_are (g.R.Runtime.view c.args.self.now.base) (map layer_of c.args.self.now.links.items) c.in-None.ensures) ∙ c.in-Ok-set_global.ensures.gives

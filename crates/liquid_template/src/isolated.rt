@@ -1,0 +1,100 @@
+//! Rendering templates in isolation.
+ghost use Rattle.std.specs.Prelude.{◌≡◌, option_map};
+ghost use Rattle.liquid_runtime.specs.meaning.Maps.{names_of};
+ghost use Rattle.liquid_template.specs.meaning.Partials.{partials_of};
+ghost use Rattle.liquid_template.specs.meaning.Rendering.{isolated_run};
+ghost use Rattle.liquid_template.specs.meaning.Runs.{setting};
+ghost use Rattle.liquid_template.specs.meaning.Isolated.{RendersIsolated, OnlyIndexChanges};
+ghost use Rattle.liquid_template.specs.meaning.TemplateOf.{template_nodes};
+
+use crate::sandbox::name_text;
+use crate::sink::Sink;
+use crate::store::PartialStore;
+use crate::template::Template;
+use liquid_error::Error;
+use liquid_plugins::{Filter, Renderable};
+use liquid_runtime::{Frame, Runtime, Scopes};
+use liquid_scopes::FlatScopes;
+use liquid_value::Object;
+use std::alloc::Global;
+
+impl<X: Filter, T, B> Template<X, T, B> {
+    /// Writes what the template comes to in isolation over these scopes, piece by piece: it sees the
+    /// names of `data` and those that it assigns itself, and no other name of the scopes.
+    ///
+    /// Text, refusal and what is written are those over scopes that have no other names. What the
+    /// template assigns ends with the call: whatever the answer, all of the scopes is afterwards as it
+    /// was, interrupt and register too, but for index variables. `name` is the template's name; where it
+    /// is not given, the name is that of the scopes. A refusal, a sink that fails and a lack of memory
+    /// leave what they leave after `render_in`.
+    pub fn render_isolated_in<S, K>(
+        &self,
+        alloc: Global,
+        sink: &mut K,
+        scopes: &mut S,
+        data: Object,
+        name: Option<&str>,
+    ) -> Result<(), Error>
+    where
+        S: Scopes,
+        T: Renderable<S::Register>,
+        B: Renderable<S::Register>,
+        S::Store: PartialStore<X, T, B>,
+        K: Sink,
+        ensures isolated { RendersIsolated S.Register.fresh
+            (isolated_run
+            (setting S.Register.fresh X.means T.means B.means (partials_of S.Store.finds (S.store scopes.old)))
+            (names_of «data») (option_map (λ r. r.now) name.entry) (template_nodes X.shape T.shape B.shape self.now))
+            (S.view scopes.old)
+            (K.sunk sink.old) (K.sunk sink.new) (S.view scopes.new) result }
+        ensures kept { OnlyIndexChanges (S.view scopes.old) (S.view scopes.new) }
+        ensures owes { S.restores scopes.new ≡ S.restores scopes.old }
+        ensures store { partials_of S.Store.finds (S.store scopes.new) ≡ partials_of S.Store.finds (S.store scopes.old) }
+        ensures borrows { S.lent scopes.new ≡ S.lent scopes.old }
+    {
+        let name = match name_text(alloc, name) {
+            Ok(name) => name,
+            Err(_) => return Err(Error::Memory),
+        };
+        match scopes.push(Frame::Isolated(data, name)) {
+            Ok(()) => {}
+            Err(error) => return Err(error),
+        }
+        let answer = self.render_in(alloc, sink, scopes);
+        scopes.pop();
+        answer
+    }
+
+    /// Writes what the template comes to in isolation over the parent, piece by piece, as
+    /// `render_isolated_in` does over scopes of its own.
+    pub fn render_isolated<R, K>(
+        &self,
+        alloc: Global,
+        sink: &mut K,
+        parent: &mut R,
+        data: Object,
+        name: Option<&str>,
+    ) -> Result<(), Error>
+    where
+        R: Runtime,
+        T: Renderable<R::Register>,
+        B: Renderable<R::Register>,
+        R::Store: PartialStore<X, T, B>,
+        K: Sink,
+        ensures isolated { RendersIsolated R.Register.fresh
+            (isolated_run
+            (setting R.Register.fresh X.means T.means B.means (partials_of R.Store.finds (R.store parent.old)))
+            (names_of «data») (option_map (λ r. r.now) name.entry) (template_nodes X.shape T.shape B.shape self.now))
+            (R.view parent.old)
+            (K.sunk sink.old) (K.sunk sink.new) (R.view parent.new) result }
+        ensures kept { OnlyIndexChanges (R.view parent.old) (R.view parent.new) }
+        ensures owes { R.restores parent.new ≡ R.restores parent.old }
+        ensures store { partials_of R.Store.finds (R.store parent.new) ≡ partials_of R.Store.finds (R.store parent.old) }
+        ensures borrows { R.lent parent.new ≡ R.lent parent.old }
+    {
+        let mut scopes: FlatScopes<&mut R> = FlatScopes::new(alloc, parent);
+        let answer = self.render_isolated_in(alloc, sink, &mut scopes, data, name);
+        let _base = scopes.into_base();
+        answer
+    }
+}
