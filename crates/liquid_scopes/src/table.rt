@@ -18,7 +18,7 @@ ghost use Rattle.liquid_scopes.specs.steps.NamePlaces.{TopOf};
 use crate::flat_scopes::Count;
 use crate::index::Index;
 use crate::link::Link;
-use crate::links::{name_over, roots_over};
+use crate::links::{forget_absent, name_over, put, roots_over};
 use crate::place::{drop_place, is_at, is_under, keep_place, last_of};
 use liquid_error::Error;
 use liquid_runtime::Runtime;
@@ -382,44 +382,5 @@ fn look_listed<'a, R: Runtime>(
                 base.try_get_name(name)
             }
         },
-    }
-}
-
-// The frame at this place was not given a value for the name: the name leaves the index, unless the frame
-// gives it another value.
-fn forget_absent<V>(links: &[Link<V>], index: &mut Index, name: &str, place: usize)
-    ensures { Forgotten (λ q. bytes_eq name.now q && is_none (own_at place (layers_of links.now) name.now)) place
-        index.old.places index.new.places }
-{
-    match links.get(place) {
-        Some(link) => link.forget_absent(index, name, place),
-        None => index.forget(name, place),
-    }
-}
-
-// Gives a name a value in the global frame at this place, wherever the name is listed.
-fn put<V>(
-    links: &mut Vec<Link<V>>,
-    place: usize,
-    name: String,
-    value: Value,
-) -> Result<Option<Value>, Error>
-    requires { GlobalAt (layers_of links.old.items) place }
-    ensures gives { (v : View V) → Gives (option_map tree_of) result (old_global (view_over v links.old.items) (string_bytes name)) }
-    ensures sets { (v : View V) → OnOk result (view_over v links.new.items
-        ≡ put_global (view_over v links.old.items) (string_bytes name) (tree_of value)) }
-    ensures owes { (v : View V) (rs : List (Restore V)) → restoring v (layers_of links.new.items) rs
-        ≡ restoring v (layers_of links.old.items) rs }
-    ensures names { OnOk result ((q : List ℕ) (j : ℕ) → has_at (layers_of links.new.items) q j
-        ≡ (has_at (layers_of links.old.items) q j || (bytes_eq (string_bytes name) q && nat_eq j place))) }
-    ensures seals { OnOk result (places_where is_sandboxed 0 (layers_of links.new.items)
-        ≡ places_where is_sandboxed 0 (layers_of links.old.items)) }
-    ensures globals { OnOk result (places_where is_global 0 (layers_of links.new.items)
-        ≡ places_where is_global 0 (layers_of links.old.items)) }
-    ensures unchanged { OnErr result (map layer_of links.new.items ≡ map layer_of links.old.items) }
-{
-    match links[place].assign(name, value) {
-        Ok(old) => Ok(old),
-        Err(error) => Err(error),
     }
 }

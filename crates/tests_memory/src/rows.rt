@@ -17,6 +17,7 @@ fn call(alloc: Global, row: &Row, word: &str, boxes: usize) -> Result<Seen, Prob
         "parse" => parsing::parsed(alloc, row, boxes),
         "render_to" => rendering::plainly(alloc, row, boxes),
         "render_sandboxed" => rendering::in_a_sandbox(alloc, row, boxes),
+        "render_isolated" => rendering::in_isolation(alloc, row, boxes),
         "render_in_chained" => rendering::over_chained(alloc, row, boxes),
         "render_in_flat" => rendering::over_flat(alloc, row, boxes),
         "compile_eager" => compiling::eagerly(alloc, row, boxes),

@@ -20,10 +20,14 @@ fn told<T: Drop>(answer: Result<T, Error>, is_made: bool, stands: bool) -> Told 
 }
 
 /// A frame of names, of which `own` is one.
-fn frame(alloc: Global) -> Result<Frame, Problem> {
+fn frame(alloc: Global, is_isolated: bool) -> Result<Frame, Problem> {
     let mut names = object(alloc)?;
     names.insert(text(alloc, "own")?, Value::scalar(1i64))?;
-    Ok(Frame::Stack(names, None))
+    if is_isolated {
+        Ok(Frame::Isolated(names, None))
+    } else {
+        Ok(Frame::Stack(names, None))
+    }
 }
 
 /// Begins a frame, and ends it again.
@@ -44,12 +48,12 @@ fn pushed<S: Scopes>(scopes: &mut S, frame: Frame) -> Told
 }
 
 /// Begins a frame behind so many boxes, and then another.
-fn push<S>(alloc: Global, base: S::Base, boxes: usize) -> Result<Seen, Problem>
+fn push<S>(alloc: Global, base: S::Base, is_isolated: bool, boxes: usize) -> Result<Seen, Problem>
 where
     S: Scopes<Register = (), Store = ()>,
     S::Base: Drop,
 {
-    let (one, other) = (frame(alloc)?, frame(alloc)?);
+    let (one, other) = (frame(alloc, is_isolated)?, frame(alloc, is_isolated)?);
     let mut scopes = S::new(alloc, base);
     let before = taken(alloc, boxes);
     let first = pushed(&mut scopes, one);
@@ -161,7 +165,8 @@ fn seek(alloc: Global, base: Built, boxes: usize) -> Result<Seen, Problem> {
 /// Makes a call of chained scopes behind so many boxes, and then once more.
 fn chained(alloc: Global, base: Built, word: &str, boxes: usize) -> Result<Seen, Problem> {
     match word {
-        "chained_push" => push::<Chained<()>>(alloc, base, boxes),
+        "chained_push" => push::<Chained<()>>(alloc, base, false, boxes),
+        "chained_push_isolated" => push::<Chained<()>>(alloc, base, true, boxes),
         "chained_set_global" => sets::<Chained<()>>(alloc, base, "global", boxes),
         "chained_set_index" => sets::<Chained<()>>(alloc, base, "index", boxes),
         "chained_roots" => roots::<Chained<()>>(alloc, base, boxes),
@@ -172,7 +177,8 @@ fn chained(alloc: Global, base: Built, word: &str, boxes: usize) -> Result<Seen,
 /// Makes a call of flat scopes behind so many boxes, and then once more.
 fn flat(alloc: Global, base: Built, word: &str, boxes: usize) -> Result<Seen, Problem> {
     match word {
-        "flat_push" => push::<Flat<()>>(alloc, base, boxes),
+        "flat_push" => push::<Flat<()>>(alloc, base, false, boxes),
+        "flat_push_isolated" => push::<Flat<()>>(alloc, base, true, boxes),
         "flat_set_global" => sets::<Flat<()>>(alloc, base, "global", boxes),
         "flat_set_index" => sets::<Flat<()>>(alloc, base, "index", boxes),
         "flat_roots" => roots::<Flat<()>>(alloc, base, boxes),

@@ -107,6 +107,27 @@ pub fn in_a_sandbox(alloc: Global, row: &Row, boxes: usize) -> Result<Seen, Prob
     })
 }
 
+/// Renders in isolation with the row's globals, within other globals, and then once more.
+pub fn in_isolation(alloc: Global, row: &Row, boxes: usize) -> Result<Seen, Problem> {
+    let (page, mut parent) = made(alloc, row, row.parent(alloc)?)?;
+    let (data, more) = (row.globals(alloc)?, row.globals(alloc)?);
+    let mut sink = TextSink::new(alloc);
+    let before = taken(alloc, boxes);
+    let answer = page.render_isolated(alloc, &mut sink, &mut parent, data, Some("page"));
+    let after = taken(alloc, MOST);
+    let around = row.parent(alloc)?;
+    let first = came_to(alloc, row, &parent, &around, &sink, &answer)?;
+    let mut sink = TextSink::new(alloc);
+    let answer = page.render_isolated(alloc, &mut sink, &mut parent, more, Some("page"));
+    let next = came_to(alloc, row, &parent, &around, &sink, &answer)?;
+    Ok(Seen {
+        before,
+        after,
+        first,
+        next,
+    })
+}
+
 /// Whether one frame is open, and its name and its own name are there.
 fn has_its_frame<S: Scopes>(scopes: &S) -> bool {
     scopes.frames() == 1 && scopes.name() == Some("frame") && scopes.try_get_name("own").is_some()

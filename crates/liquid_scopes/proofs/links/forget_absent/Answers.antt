@@ -3,7 +3,7 @@ use Rattle.std.specs.Prelude.{◌&&◌, not, nat_eq, is_none, bytes_eq}
 use Rattle.liquid_scopes.specs.steps.LinkLayers.{layer_of}
 use Rattle.liquid_scopes.specs.steps.Standing.{stands}
 use Rattle.liquid_scopes.proofs.FlatLaws.{own_within, own_past, and_all}
-use Rattle.liquid_scopes.proofs.table.forget_absent.Goals as goal
+use Rattle.liquid_scopes.proofs.links.forget_absent.Goals as goal
 
 pub returns-in-Some : goal.returns-in-Some
 returns-in-Some g c = λ q j.

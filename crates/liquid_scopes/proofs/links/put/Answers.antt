@@ -9,7 +9,7 @@ use Rattle.liquid_scopes.specs.steps.Standing.{is_sandboxed}
 use Rattle.liquid_scopes.proofs.LayerLaws.{set_shown, set_restoring, set_same, globals_here, read_here}
 use Rattle.liquid_scopes.proofs.FlatLaws.{put_at}
 use Rattle.liquid_scopes.proofs.Places.{put_places, assigning_sandboxed, assigning_global}
-use Rattle.liquid_scopes.proofs.table.put.Goals as goal
+use Rattle.liquid_scopes.proofs.links.put.Goals as goal
 
 pub assign-requires : goal.assign-requires
 assign-requires g c = ap (λ l. is_global (layer_of l)) c.index_mut.ensures.value ∙ ap is_global (read_here layer_of c.args.links.now.items c.args.place c.index_mut.result.now c.requires) ∙ c.requires.global
