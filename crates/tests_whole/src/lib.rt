@@ -22,6 +22,7 @@ mod kinds;
 mod languages;
 #[cfg(test)]
 mod library_reflections;
+mod limits;
 #[cfg(test)]
 mod nested;
 #[cfg(test)]

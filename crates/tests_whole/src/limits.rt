@@ -1,0 +1,82 @@
+//! Limits on turns and on bytes: what is written with each number of either, from none to all that the page takes.
+use crate::pages::error_text;
+use crate::sink_given::{Around, page, runtime};
+use liquid_core::{GatedSink, Limits, TextSink};
+use std::alloc::Global;
+use std::test::Fail;
+use tests_lines::{Line, rows_hold, same};
+
+/// More turns and bytes than any row takes.
+const MANY: u64 = 1000;
+
+const STOPPED: &str = "liquid: Rendering was stopped\n";
+
+/// A template, what it writes with no turn, with one and so on up to all, and with no byte, with one and so on up to all.
+/// A block of the tests takes three turns, and a tag one. A piece is written whole or not at all.
+const ROWS: &str = r#"["Hello", ["Hello"], ["", "", "", "", "", "Hello"]]
+["a{% box %}b{% endbox %}c{% set g 1 %}", ["a", "a[", "a[b", "a[b]c", "a[b]c"], ["", "a", "a[", "a[b", "a[b]", "a[b]c"]]
+["{% box %}{% box %}x{% endbox %}{% endbox %}", ["", "[", "[", "[[", "[[x", "[[x]", "[[x]]"], ["", "[", "[[", "[[x", "[[x]", "[[x]]"]]
+["{% swap %}ab{% mid %}{{ 45 }}{% endswap %}", ["", "45", "45ab", "45ab"], ["", "", "45", "45", "45ab"]]
+["{% inc p %}{{ x }}b", ["", "p7b"], ["", "p", "p7", "p7b"]]"#;
+
+/// Whether a page over so many turns and bytes writes this, and is stopped where more was to come.
+fn writes(
+    alloc: Global,
+    template: &str,
+    turns: u64,
+    bytes: u64,
+    text: &str,
+    whole: bool,
+) -> Result<bool, Fail> {
+    let template = page(alloc, template)?;
+    let mut around: Around = runtime(alloc)?;
+    let mut sink = GatedSink::new(TextSink::new(alloc), Limits::new(turns, bytes));
+    let answer = template.render_within(alloc, &mut sink, &mut around);
+    let told = error_text(alloc, &answer)?;
+    let passed = sink.gate().turns_passed() <= turns && sink.gate().bytes_passed() <= bytes;
+    let taken = sink.sink().as_bytes() == text.as_bytes();
+    Ok(passed && taken && (told.as_str() == if whole { "" } else { STOPPED }))
+}
+
+/// Whether the row's texts are written with none, one and so on, of turns or else of bytes.
+fn each_is_written(alloc: Global, row: &Line, of_turns: bool) -> Result<bool, Fail> {
+    let texts = row.list(if of_turns { 1 } else { 2 })?;
+    for (number, text) in texts.iter().enumerate() {
+        let count = u64::try_from(number)?;
+        let (turns, bytes) = if of_turns {
+            (count, MANY)
+        } else {
+            (MANY, count)
+        };
+        let whole = number.saturating_add(1) == texts.len();
+        if !writes(
+            alloc,
+            row.text(0)?,
+            turns,
+            bytes,
+            text.as_str().unwrap_or(""),
+            whole,
+        )? {
+            return Ok(false);
+        }
+    }
+    Ok(true)
+}
+
+fn row_holds(alloc: Global, row: &Line) -> Result<bool, Fail> {
+    Ok(each_is_written(alloc, row, true)? && each_is_written(alloc, row, false)?)
+}
+
+#[test]
+fn limits_stop_a_page_at_the_turn_or_the_piece(rt: HostRuntime) -> Result<(), Fail> {
+    rows_hold(rt.alloc(), ROWS, row_holds)
+}
+
+#[test]
+fn a_gated_sink_gives_its_sink_back(rt: HostRuntime) -> Result<(), Fail> {
+    let alloc = rt.alloc();
+    let mut sink = GatedSink::new(TextSink::new(alloc), Limits::new(1, 1));
+    let mut around = runtime(alloc)?;
+    page(alloc, "a")?.render_within(alloc, &mut sink, &mut around)?;
+    same(sink.into_sink().into_string()?.as_str(), "a")
+}
