@@ -1,0 +1,7 @@
+//! Moments: the date times that values stand for. The filter `date` prints them.
+#![tactic(auto)]
+
+pub mod laws;
+pub mod moments;
+
+pub use moments::moment_of;
