@@ -1,6 +1,6 @@
 -- A text that is written for a URL is read back.
-use Rattle.std.proofs.Common.{◌≡◌, ◌≢◌, ℕ, zero, suc, ◌+◌, ◌-◌, ◌<◌, ◌≤◌, Bool, true, false, cond, ◌&&◌, List, [], ◌∷◌, ◌++◌, length, map, take, drop, get_or, refl, sym, ap, ◌∙◌, arith, eqb, nat_le, append_assoc, append-nil, Some, inl, inr, length-drop}
-use Rattle.std.specs.Prelude.{slice_range, codes}
+use Rattle.std.proofs.Common.{◌≡◌, ◌≢◌, ℕ, zero, suc, ◌+◌, ◌-◌, ◌<◌, ◌≤◌, Bool, true, false, cond, ◌&&◌, List, [], ◌∷◌, ◌++◌, length, map, take, drop, get_or, refl, sym, ap, ◌∙◌, arith, eqb, nat_le, append_assoc, append-nil, Some, length-drop}
+use Rattle.std.specs.Prelude.{slice_range}
 use Rattle.std.specs.Str.{IsUtf8}
 use Rattle.std.proofs.lemmas.Bool.{eqb-true}
 use Rattle.std.proofs.lemmas.List.Elements.{All-head, All-tail}
@@ -16,7 +16,7 @@ use Rattle.std.proofs.lemmas.Bool.Decides.{nat_tests}
 use Rattle.std.proofs.lemmas.List.Folds.{drop_split}
 use Rattle.std.proofs.lemmas.List.{get_or-drop}
 use Rattle.std.proofs.Math.Seq.{drop-cons, drop-length, take-suc}
-use Rattle.memchr.specs.Find.{matches, matches_from, occurs_at}
+use Rattle.memchr.specs.Find.{matches_from, occurs_at}
 use Rattle.std_strings.specs.meaning.Pieces.{pieces_between}
 use Rattle.std_strings.specs.meaning.Replace.{replaced}
 
