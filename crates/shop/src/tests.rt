@@ -27,7 +27,8 @@ fn written(alloc: Global, text: &str, left: i64) -> Result<String, Error> {
 
 /// A text, what `left` is, and what is written.
 const ROWS: &str = r#"["{{ 'rain' | upcase }}", 1, "RAIN"]
-["{{ left | upcase }}", 12, "12"]
+["{{ left | quoted }}", 12, "\"12\""]
+["{{ 'a' | quoted | size }}", 1, "3"]
 ["{% badge 'new' %}", 1, "[new]"]
 ["{% badge left %}", -1, "[-1]"]
 ["{% badge %}", 1, "liquid: Value expected (line 1, column 9)\n"]
@@ -55,7 +56,7 @@ fn rows_of_the_language(rt: HostRuntime) -> Result<(), Fail> {
         assert_eq!(rt; written.as_str(), row.text(2)?);
         rows = rows.saturating_add(1);
     }
-    assert_eq!(rt; rows, 18);
+    assert_eq!(rt; rows, 19);
     Ok(())
 }
 

@@ -1,1 +1,2 @@
 pub mod ArgumentSteps
+pub mod DateSteps

@@ -2,6 +2,7 @@
 ghost use Rattle.std_filters.specs.meaning.Standard.{std_sense};
 
 use crate::arguments::CallArguments;
+use crate::date_kind::DateKind;
 use crate::list_kinds::ListKind;
 use crate::number_kinds::NumberKind;
 use crate::row::{FilterKind, FilterRow};
@@ -12,12 +13,13 @@ use liquid_value::Value;
 use std::alloc::Global;
 
 /// A standard filter.
-#[derive(Debug, Clone, Copy, PartialEq, Eq, Drop)]
+#[derive(Clone, Copy, Drop)]
 pub enum StdKind {
     Texts(TextKind),
     Lists(ListKind),
     Numbers(NumberKind),
     Values(ValueKind),
+    Dates(DateKind),
 }
 
 impl FilterKind for StdKind {
@@ -29,6 +31,7 @@ impl FilterKind for StdKind {
             StdKind::Lists(kind) => kind.row(),
             StdKind::Numbers(kind) => kind.row(),
             StdKind::Values(kind) => kind.row(),
+            StdKind::Dates(kind) => kind.row(),
         }
     }
 
@@ -43,6 +46,7 @@ impl FilterKind for StdKind {
             StdKind::Lists(kind) => kind.answer(alloc, input, arguments),
             StdKind::Numbers(kind) => kind.answer(alloc, input, arguments),
             StdKind::Values(kind) => kind.answer(alloc, input, arguments),
+            StdKind::Dates(kind) => kind.answer(alloc, input, arguments),
         }
     }
 }

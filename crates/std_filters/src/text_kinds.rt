@@ -155,7 +155,7 @@ impl FilterKind for TextKind {
         input: &Value,
         arguments: &CallArguments<'_>,
     ) -> Result<Value, Error> {
-        let given = arguments.positional.as_slice();
+        let given = arguments.positional;
         match self {
             TextKind::Append => append(alloc, input, given),
             TextKind::Base64Decode => base64_decode(alloc, input),

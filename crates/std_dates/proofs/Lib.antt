@@ -1,0 +1,5 @@
+pub mod Deciding
+pub mod Parts
+pub mod Days
+pub mod Forms
+pub mod MomentLemmas
