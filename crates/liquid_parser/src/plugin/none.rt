@@ -171,8 +171,12 @@ impl<F: ParseFilter> ParseBlock<F> for NoPlugin {
 impl<V: Fresh> Renderable<V> for NoPlugin {
     type Progress = NoPlugin;
 
-    ghost means = { record { starts = λ _. begins_with tt; count = λ _. 0; takes = λ _. answers (Ok end_turn);
-        catches = captures_nothing } };
+    ghost means = { record {
+      starts = λ _. begins_with tt;
+      count = λ _. 0;
+      takes = λ _. answers (Ok end_turn);
+      catches = captures_nothing;
+    } };
 
     fn start<R: Runtime<Register = V>>(
         &self,
