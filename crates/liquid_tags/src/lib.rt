@@ -1,22 +1,22 @@
 //! A small library of tags and blocks: `assign`, `increment`, `break`, `continue`, `include`, `render`, `if`, `for` and `raw`.
 #![tactic(auto)]
 
-mod asked;
+pub mod asked;
 mod assign;
 pub mod block_plugins;
 pub mod blocks;
 pub mod condition;
-mod increment;
+pub mod increment;
 pub mod items;
 pub mod kept;
 mod languages;
 pub mod laws;
-mod loops;
-mod names;
+pub mod loops;
+pub mod names;
 mod pages;
 pub mod partials;
 mod read_call;
-mod read_condition;
+pub mod read_condition;
 pub mod rounds;
 pub mod series;
 pub mod tag_plugins;
