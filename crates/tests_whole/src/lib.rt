@@ -15,6 +15,7 @@ mod given;
 #[cfg(test)]
 mod hostile_rows;
 #[cfg(test)]
+mod items_by_place;
 mod joins;
 #[cfg(test)]
 mod kinds;
