@@ -16,6 +16,7 @@ mod given;
 mod hostile_rows;
 #[cfg(test)]
 mod items_by_place;
+#[cfg(test)]
 mod joins;
 #[cfg(test)]
 mod kinds;
@@ -23,6 +24,7 @@ mod kinds;
 mod languages;
 #[cfg(test)]
 mod library_reflections;
+#[cfg(test)]
 mod limits;
 #[cfg(test)]
 mod nested;
