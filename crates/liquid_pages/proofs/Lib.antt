@@ -1,0 +1,5 @@
+pub mod GlobalLemmas
+pub mod PageLemmas
+pub mod ShownLemmas
+pub mod ShownSteps
+pub mod UntouchedSinks

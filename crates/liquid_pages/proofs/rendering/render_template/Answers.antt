@@ -1,0 +1,17 @@
+use Rattle.std.proofs.Common.{true, false, rules, ap, option_map, ◌∙◌}
+use Rattle.liquid_error.specs.declared.error.Error.{the_lemmas}
+use Rattle.liquid_pages.specs.meaning.Pages.{built_over}
+use Rattle.liquid_pages.proofs.PageLemmas.{answer_over, nothing_rendered}
+use Rattle.liquid_pages.proofs.rendering.render_template.Goals as goal
+
+pub returns-else-sandboxed-clause-renders : goal.returns-else-sandboxed-clause-renders
+returns-else-sandboxed-clause-renders g c =
+    answer_over _ _ c.args.options false _ _ _ _ _ _ _ _ _ _ c.if-sandboxed.false c.render_to.ensures.renders (ap (option_map _) c.runtime_of-runtime-else-sandboxed.ensures.store) c.runtime_of-runtime-else-sandboxed.ensures.view c.in-Ok.ensures
+
+pub returns-then-sandboxed-clause-renders : goal.returns-then-sandboxed-clause-renders
+returns-then-sandboxed-clause-renders g c =
+    answer_over _ _ c.args.options true _ _ _ _ _ _ _ _ _ _ c.if-sandboxed.true c.render_sandboxed.ensures.sandboxed.renders (ap (option_map _) c.runtime_of-runtime.ensures.store)
+    (c.runtime_of-runtime.ensures.view ∙ ap (built_over c.args.options.lenient) c.no_names.ensures) c.in-Ok.ensures
+
+pub returns-in-Err-clause-renders : goal.returns-in-Err-clause-renders
+returns-in-Err-clause-renders g c = nothing_rendered _ _ c.args.options _ _ _ _ _ (search (rules, the_lemmas))

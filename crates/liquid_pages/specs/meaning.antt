@@ -1,0 +1,4 @@
+pub mod Faults
+pub mod Globals
+pub mod Pages
+pub mod Shown

@@ -1,0 +1,51 @@
+//! Why a page is not rendered, or not to its end.
+
+use liquid_error::Error;
+use std::fmt;
+
+/// A text of a page. Partials are numbered from 0.
+#[derive(Clone, Copy, Debug, PartialEq, Eq, Drop)]
+pub enum PageText {
+    Template,
+    Globals,
+    PartialName(usize),
+    PartialText(usize),
+}
+
+impl fmt::Display for PageText {
+    fn fmt<W: fmt::Write>(&self, f: &mut fmt::Formatter<W>) -> fmt::Result {
+        match self {
+            PageText::Template => write!(f, "the template"),
+            PageText::Globals => write!(f, "the text of the globals"),
+            PageText::PartialName(place) => write!(f, "the name of partial {place}"),
+            PageText::PartialText(place) => write!(f, "the text of partial {place}"),
+        }
+    }
+}
+
+/// Why a page is not rendered, or not to its end. An `Error` that is out of memory says so wherever it
+/// stands.
+#[derive(Debug, Drop)]
+pub enum PageFault {
+    /// This text is not UTF-8.
+    NoText(PageText),
+    /// The globals are not JSON.
+    BadJson(serde_json::Error),
+    /// The JSON of the globals is not an object of values.
+    NoGlobals(Error),
+    /// The template can't be read.
+    Unparsed(Error),
+    /// Rendering was refused, or memory ran out.
+    Refused(Error),
+}
+
+impl fmt::Display for PageFault {
+    fn fmt<W: fmt::Write>(&self, f: &mut fmt::Formatter<W>) -> fmt::Result {
+        match self {
+            PageFault::NoText(text) => writeln!(f, "liquid: {text} is not UTF-8"),
+            PageFault::BadJson(error) => writeln!(f, "liquid: bad JSON: {error}"),
+            PageFault::NoGlobals(error) | PageFault::Unparsed(error) | PageFault::Refused(error) =>
+                write!(f, "{error}"),
+        }
+    }
+}

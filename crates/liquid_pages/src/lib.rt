@@ -1,0 +1,19 @@
+//! Pages: a template's text rendered over globals of JSON and partials by their names, in any language
+//! whose tags and blocks may be rendered in a sandbox.
+#![tactic(auto)]
+
+pub mod fault;
+pub mod gather;
+pub mod globals;
+pub mod options;
+pub mod page;
+pub mod rendering;
+#[cfg(test)]
+mod tests;
+
+pub use fault::{PageFault, PageText};
+pub use gather::PartialBytes;
+pub use globals::globals_of;
+pub use options::PageOptions;
+pub use page::{Rendered, render_page};
+pub use rendering::{PageTemplate, read_template, render_template, render_text};

@@ -1,0 +1,169 @@
+//! Rendering a template over globals and partials.
+ghost use Rattle.std.specs.Prelude.{◌≡◌, IfOk, Ok, option_map};
+ghost use Rattle.liquid_error.specs.meaning.Told.{Gives};
+ghost use Rattle.liquid_runtime.specs.meaning.Maps.{names_of};
+ghost use Rattle.liquid_parser.specs.meaning.Plugins.{language_of};
+ghost use Rattle.liquid_parser.specs.meaning.Reading.{Reads};
+ghost use Rattle.liquid_plugins.specs.meaning.NodesOf.{shapes_of};
+ghost use Rattle.liquid_template.specs.meaning.Grows.{Grows};
+ghost use Rattle.liquid_template.specs.meaning.Runs.{setting};
+ghost use Rattle.liquid_template.specs.meaning.TemplateOf.{own_nodes};
+ghost use Rattle.liquid_pages.specs.meaning.Pages.{built_over, IsFoundIn, PageAnswer, Renders, RendersAnswer};
+
+use crate::options::PageOptions;
+use liquid_error::Error;
+use liquid_parser::{Language, ParseBlock, ParseTag, parse};
+use liquid_partials::{LazyCompiler, LazyStore, PartialCompiler, PartialSource};
+use liquid_plugins::{Discreet, ParseFilter};
+use liquid_runtime::names::no_names;
+use liquid_runtime::{BuiltRuntime, Runtime, RuntimeBuilder};
+use liquid_template::{PartialStore, Sink, Template};
+use liquid_value::Object;
+use std::alloc::{AllocError, Global};
+use std::rc::Rc;
+
+/// A template of a language.
+pub type PageTemplate<F, T, B> = Template<
+    <F as ParseFilter>::Filter,
+    <T as ParseTag<F>>::Node,
+    <B as ParseBlock<F>>::Node,
+>;
+
+/// A runtime over a store of partials.
+type PageRuntime<S, F, T, B> = BuiltRuntime<(), LazyStore<S, F, T, B>>;
+
+/// Returns the template that a text is read as.
+pub fn read_template<F, T, B>(
+    alloc: Global,
+    text: &str,
+    language: &Language<F, T, B>,
+) -> Result<PageTemplate<F, T, B>, Error>
+where
+    F: ParseFilter + Drop,
+    T: ParseTag<F> + Drop,
+    B: ParseBlock<F> + Drop,
+    ensures { (answer : PageAnswer F.Filter.Shape T.Node.Shape B.Node.Shape) → Reads (language_of F.makes T.gives B.block language.now) text.now answer
+        → Gives (λ t. shapes_of F.Filter.shape T.Node.shape B.Node.shape (own_nodes t)) result answer }
+{
+    match parse(alloc, text, language) {
+        Ok(nodes) => Ok(Template::new(nodes)),
+        Err(fault) => Err(fault),
+    }
+}
+
+/// Writes what a text comes to in this language, over these globals and these partials, by these options.
+///
+/// A text that can't be read is refused before anything is written. What was written before any other
+/// error stays written, and a failure of the sink is the error "Failed to render".
+#[tactic(auto, using(crate::proofs::UntouchedSinks::untouched))]
+pub fn render_text<F, T, B, S, K>(
+    alloc: Global,
+    options: PageOptions,
+    text: &str,
+    language: &Rc<Language<F, T, B>>,
+    globals: Object,
+    partials: Option<S>,
+    sink: &mut K,
+) -> Result<(), Error>
+where
+    F: ParseFilter + Drop,
+    T: ParseTag<F> + Drop,
+    B: ParseBlock<F> + Drop,
+    T::Node: Discreet<()>,
+    B::Node: Discreet<()>,
+    S: PartialSource + Drop,
+    K: Sink,
+    ensures renders { Renders (setting tt F.Filter.means T.Node.means B.Node.means) (language_of F.makes T.gives B.block language.now.value) options text.now (names_of globals)
+        (option_map S.texts partials) (K.sunk sink.old) (K.sunk sink.new) result }
+    ensures after { Grows (K.sunk sink.old) (K.sunk sink.new) }
+    ensures borrows { (K.sunk sink.new).lent ≡ (K.sunk sink.old).lent }
+{
+    match read_template(alloc, text, language) {
+        Ok(template) => render_template(
+            alloc, options, &template, language, globals, partials, sink,
+        ),
+        Err(error) => Err(error),
+    }
+}
+
+/// Writes what a template of this language comes to, as `render_text` does of a text.
+#[tactic(auto, using(crate::proofs::UntouchedSinks::untouched))]
+pub fn render_template<F, T, B, S, K>(
+    alloc: Global,
+    options: PageOptions,
+    template: &PageTemplate<F, T, B>,
+    language: &Rc<Language<F, T, B>>,
+    globals: Object,
+    partials: Option<S>,
+    sink: &mut K,
+) -> Result<(), Error>
+where
+    F: ParseFilter + Drop,
+    T: ParseTag<F> + Drop,
+    B: ParseBlock<F> + Drop,
+    T::Node: Discreet<()>,
+    B::Node: Discreet<()>,
+    S: PartialSource + Drop,
+    K: Sink,
+    ensures renders { RendersAnswer (setting tt F.Filter.means T.Node.means B.Node.means) (language_of F.makes T.gives B.block language.now.value) options
+        (Ok (shapes_of F.Filter.shape T.Node.shape B.Node.shape (own_nodes template.now))) (names_of globals)
+        (option_map S.texts partials) (K.sunk sink.old) (K.sunk sink.new) result }
+    ensures after { Grows (K.sunk sink.old) (K.sunk sink.new) }
+    ensures borrows { (K.sunk sink.new).lent ≡ (K.sunk sink.old).lent }
+{
+    let PageOptions { sandboxed, lenient } = options;
+    match store_of(alloc, language, partials) {
+        Ok(store) => if sandboxed {
+            let mut runtime = runtime_of(alloc, lenient, no_names(alloc), store);
+            template.render_sandboxed(alloc, sink, &mut runtime, globals, None)
+        } else {
+            let mut runtime = runtime_of(alloc, lenient, globals, store);
+            template.render_to(alloc, sink, &mut runtime)
+        },
+        Err(_) => Err(Error::Memory),
+    }
+}
+
+/// A store of the partials, if there are any, in this language.
+fn store_of<F, T, B, S>(
+    alloc: Global,
+    language: &Rc<Language<F, T, B>>,
+    partials: Option<S>,
+) -> Result<Option<LazyStore<S, F, T, B>>, AllocError>
+where
+    F: ParseFilter + Drop,
+    T: ParseTag<F> + Drop,
+    B: ParseBlock<F> + Drop,
+    S: PartialSource + Drop,
+    ensures { IfOk result (λ store. IsFoundIn (language_of F.makes T.gives B.block language.now.value) (option_map S.texts partials)
+        (option_map ⟦<LazyStore<S, F, T, B> as PartialStore<F::Filter, T::Node, B::Node>>⟧.finds store)) }
+{
+    match partials {
+        Some(source) => Ok(Some(LazyCompiler::new(source).compile(alloc, language.clone()?)?)),
+        None => Ok(None),
+    }
+}
+
+/// The runtime over these globals and this store, if there is one, lenient or not.
+fn runtime_of<F, T, B, S>(
+    alloc: Global,
+    lenient: bool,
+    globals: Object,
+    store: Option<LazyStore<S, F, T, B>>,
+) -> PageRuntime<S, F, T, B>
+where
+    F: ParseFilter + Drop,
+    T: ParseTag<F> + Drop,
+    B: ParseBlock<F> + Drop,
+    S: PartialSource + Drop,
+    ensures view { ⟦<PageRuntime<S, F, T, B> as Runtime>⟧.view result ≡ built_over lenient (names_of globals) }
+    ensures store { ⟦<PageRuntime<S, F, T, B> as Runtime>⟧.store result ≡ store }
+{
+    let builder = RuntimeBuilder::new(alloc)
+        .set_globals(globals)
+        .set_lenient(lenient);
+    match store {
+        Some(store) => builder.set_partials(store).build(),
+        None => builder.build(),
+    }
+}
