@@ -58,7 +58,9 @@ where
     B: ParseBlock<F> + Drop,
     T::Node: Discreet<()>,
     B::Node: Discreet<()>,
-    ensures { (page : Page) → ComesTo (setting tt F.Filter.means T.Node.means B.Node.means) (language_of F.makes T.gives B.block language.now.value) options text.now globals.now
+    ensures { (page : Page) → ComesTo
+        (setting tt F.Filter.means T.Node.means B.Node.means)
+        (language_of F.makes T.gives B.block language.now.value) options text.now globals.now
         (map bytes_of_partial partials.now) page
         → Shows page (⟦<TextSink as Sink>⟧.sunk result.output).taken result.end }
 {
@@ -83,7 +85,9 @@ where
     B: ParseBlock<F> + Drop,
     T::Node: Discreet<()>,
     B::Node: Discreet<()>,
-    ensures { (page : Page) → ReadComesTo (setting tt F.Filter.means T.Node.means B.Node.means) (language_of F.makes T.gives B.block language.now.value) options
+    ensures { (page : Page) → ReadComesTo
+        (setting tt F.Filter.means T.Node.means B.Node.means)
+        (language_of F.makes T.gives B.block language.now.value) options
         (and_then (names_read globals.now) (λ names. partials_over text.now names (map bytes_of_partial partials.now))) page
         → Shows page (⟦<TextSink as Sink>⟧.sunk result.output).taken result.end }
 {
@@ -108,7 +112,9 @@ where
     B: ParseBlock<F> + Drop,
     T::Node: Discreet<()>,
     B::Node: Discreet<()>,
-    ensures { (page : Page) → ReadComesTo (setting tt F.Filter.means T.Node.means B.Node.means) (language_of F.makes T.gives B.block language.now.value) options
+    ensures { (page : Page) → ReadComesTo
+        (setting tt F.Filter.means T.Node.means B.Node.means)
+        (language_of F.makes T.gives B.block language.now.value) options
         (partials_over text.now (names_of globals) (map bytes_of_partial partials.now)) page
         → Shows page (⟦<TextSink as Sink>⟧.sunk result.output).taken result.end }
 {
@@ -133,7 +139,9 @@ where
     B: ParseBlock<F> + Drop,
     T::Node: Discreet<()>,
     B::Node: Discreet<()>,
-    ensures { (page : Page) → TextComesTo (setting tt F.Filter.means T.Node.means B.Node.means) (language_of F.makes T.gives B.block language.now.value) options
+    ensures { (page : Page) → TextComesTo
+        (setting tt F.Filter.means T.Node.means B.Node.means)
+        (language_of F.makes T.gives B.block language.now.value) options
         text.now (names_of globals) partials page
         → Shows page (⟦<TextSink as Sink>⟧.sunk result.output).taken result.end }
 {
@@ -158,7 +166,9 @@ where
     B: ParseBlock<F> + Drop,
     T::Node: Discreet<()>,
     B::Node: Discreet<()>,
-    ensures { (page : Page) → NodesComeTo (setting tt F.Filter.means T.Node.means B.Node.means) (language_of F.makes T.gives B.block language.now.value) options
+    ensures { (page : Page) → NodesComeTo
+        (setting tt F.Filter.means T.Node.means B.Node.means)
+        (language_of F.makes T.gives B.block language.now.value) options
         (shapes_of F.Filter.shape T.Node.shape B.Node.shape (own_nodes template.now)) (names_of globals) partials page
         → Shows page (⟦<TextSink as Sink>⟧.sunk result.output).taken result.end }
 {
