@@ -42,8 +42,7 @@ where
     F: ParseFilter + Drop,
     T: ParseTag<F> + Drop,
     B: ParseBlock<F> + Drop,
-    ensures { (answer : PageAnswer F.Filter.Shape T.Node.Shape B.Node.Shape) → Reads
-        (language_of F.makes T.gives B.block language.now) text.now answer
+    ensures { (answer : PageAnswer F.Filter.Shape T.Node.Shape B.Node.Shape) → Reads (language_of F.makes T.gives B.block language.now) text.now answer
         → Gives (λ t. shapes_of F.Filter.shape T.Node.shape B.Node.shape (own_nodes t)) result answer }
 {
     match parse(alloc, text, language) {
@@ -74,9 +73,7 @@ where
     B::Node: Discreet<()>,
     S: PartialSource + Drop,
     K: Sink,
-    ensures renders { Renders
-        (setting tt F.Filter.means T.Node.means B.Node.means)
-        (language_of F.makes T.gives B.block language.now.value) options text.now (names_of globals)
+    ensures renders { Renders (setting tt F.Filter.means T.Node.means B.Node.means) (language_of F.makes T.gives B.block language.now.value) options text.now (names_of globals)
         (option_map S.texts partials) (K.sunk sink.old) (K.sunk sink.new) result }
     ensures after { Grows (K.sunk sink.old) (K.sunk sink.new) }
     ensures borrows { (K.sunk sink.new).lent ≡ (K.sunk sink.old).lent }
@@ -108,9 +105,7 @@ where
     B::Node: Discreet<()>,
     S: PartialSource + Drop,
     K: Sink,
-    ensures renders { RendersAnswer
-        (setting tt F.Filter.means T.Node.means B.Node.means)
-        (language_of F.makes T.gives B.block language.now.value) options
+    ensures renders { RendersAnswer (setting tt F.Filter.means T.Node.means B.Node.means) (language_of F.makes T.gives B.block language.now.value) options
         (Ok (shapes_of F.Filter.shape T.Node.shape B.Node.shape (own_nodes template.now))) (names_of globals)
         (option_map S.texts partials) (K.sunk sink.old) (K.sunk sink.new) result }
     ensures after { Grows (K.sunk sink.old) (K.sunk sink.new) }

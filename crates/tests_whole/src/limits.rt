@@ -12,13 +12,12 @@ const MANY: u64 = 1000;
 const STOPPED: &str = "liquid: Rendering was stopped\n";
 
 /// A template, what it writes with no turn, with one and so on up to all, and with no byte, with one and so on up to all.
-/// A block of the tests takes three turns, and a tag one; the partial `p` has a tag. A piece is written whole or not at all,
-/// and an empty one asks for nothing.
+/// A block of the tests takes three turns, and a tag one. A piece is written whole or not at all.
 const ROWS: &str = r#"["Hello", ["Hello"], ["", "", "", "", "", "Hello"]]
 ["a{% box %}b{% endbox %}c{% set g 1 %}", ["a", "a[", "a[b", "a[b]c", "a[b]c"], ["", "a", "a[", "a[b", "a[b]", "a[b]c"]]
 ["{% box %}{% box %}x{% endbox %}{% endbox %}", ["", "[", "[", "[[", "[[x", "[[x]", "[[x]]"], ["", "[", "[[", "[[x", "[[x]", "[[x]]"]]
 ["{% swap %}ab{% mid %}{{ 45 }}{% endswap %}", ["", "45", "45ab", "45ab"], ["", "", "45", "45", "45ab"]]
-["{% inc p %}{{ x }}b", ["", "p7", "p7b"], ["", "p", "p7", "p7b"]]"#;
+["{% inc p %}{{ x }}b", ["", "p7b"], ["", "p", "p7", "p7b"]]"#;
 
 /// Whether a page over so many turns and bytes writes this, and is stopped where more was to come.
 fn writes(
