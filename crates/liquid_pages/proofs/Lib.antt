@@ -1,5 +1,5 @@
-pub mod UntouchedSinks
 pub mod GlobalLemmas
 pub mod PageLemmas
-pub mod PreparedLemmas
 pub mod ShownLemmas
+pub mod ShownSteps
+pub mod UntouchedSinks

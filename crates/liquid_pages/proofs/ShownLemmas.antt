@@ -1,5 +1,5 @@
 -- From what is written to a sink over memory to what a page shows.
-use Rattle.std.proofs.Common.{◌≡◌, ℕ, suc, Bool, true, false, ◌⊎◌, inl, inr, List, [], ◌∷◌, ◌++◌, Option, None, Some, Result, Ok, Err, ◌+◌, arith, refl, sym, ap, subst, ◌∙◌}
+use Rattle.std.proofs.Common.{◌≡◌, ℕ, Bool, true, false, inl, inr, List, [], ◌++◌, Option, None, Some, Result, Ok, Err, ◌+◌, arith, refl, sym, ap, subst, ◌∙◌}
 use Rattle.std.specs.Prelude.{IfSome, MatchOption, option_map, IsUtf8}
 use Rattle.std.specs.Str.{is_utf8}
 use Rattle.std.proofs.lemmas.Str.{IsUtf8-from_is_utf8, is_utf8-from_IsUtf8}
@@ -13,16 +13,14 @@ use Rattle.liquid_parser.specs.meaning.Lang.{Lang}
 use Rattle.liquid_template.specs.meaning.Outcome.{BrokenOff, Cut, GateRefuses, Outcome, SinkFails, Stopped, Whole}
 use Rattle.liquid_template.specs.meaning.Output.{Output, ungated}
 use Rattle.liquid_template.specs.meaning.Run.{Run, Step, written}
-use Rattle.liquid_template.specs.meaning.Sunk.{Sunk, alone}
+use Rattle.liquid_template.specs.meaning.Sunk.{alone}
 use Rattle.liquid_partials.specs.meaning.Sources.{Texts}
 use Rattle.liquid_pages.specs.declared.fault.PageFault.{PageFault}
-use Rattle.liquid_pages.specs.declared.fault.PageFault.TheVariants as page
 use Rattle.liquid_pages.specs.declared.fault.PageText.{PageText}
 use Rattle.liquid_pages.specs.declared.options.PageOptions.{PageOptions}
 use Rattle.liquid_pages.specs.meaning.Faults.{Fault, no_text, refused, fault_told, text_read}
 use Rattle.liquid_pages.specs.meaning.Pages.{RendersAnswer, Settings}
-use Rattle.liquid_pages.specs.meaning.Prepared.{ReadingComesTo}
-use Rattle.liquid_pages.specs.meaning.Shown.{Begins, Page, Shows, ended, page_of_run, page_run, stopped}
+use Rattle.liquid_pages.specs.meaning.Shown.{Begins, NodesComeTo, Page, Shows, ended, page_of_run, page_run, stopped}
 
 -- bytes that are a text, and bytes that are none
 pub text_is : (which : PageText) (bytes : List ℕ) → IsUtf8 bytes → text_read which bytes ≡ Ok bytes
@@ -49,7 +47,7 @@ module _ (r : Run (Unit {0})) (first last : List ℕ) (left : View (Unit {0})) (
   never_fails step rest turns bytes refusal f = let one : 0 ≡ 0 + 1 = f.failures in omega (arith, one)
 
   never_refused : (step : Step (Unit {0})) (part : List ℕ) (turns bytes : ℕ) (refusal : Refusal) → GateRefuses step part turns bytes (At first) (At last) refusal → ⊥
-  never_refused step part turns bytes refusal g = elim g.refused as (λ _. ⊥) [ inl t ↦ t.1.0 | inr b ↦ b.1.1 ]
+  never_refused step part turns bytes refusal g = elim g.refused as (λ _. ⊥) [ inl t ↦ t.1 | inr b ↦ b.2 ]
 
   never_broken : (refusal : Refusal) → BrokenOff r (At first) (At last) left refusal → ⊥
   never_broken refusal b = elim b.cause as (λ _. ⊥) [ inl f ↦ never_fails b.step b.rest _ _ refusal f | inr g ↦ never_refused b.step b.part _ _ refusal g ]
@@ -65,20 +63,13 @@ module _ (r : Run (Unit {0})) (first last : List ℕ) (left : View (Unit {0})) (
   shown_outcome (Err error) o = stopped_shown (told error) o
 
 -- what was read was rendered to an empty sink
-pub reading_shown : {F T P L B Q : Type 0} (s : Settings F T P B Q) (l : Lang F T L B) (options : PageOptions) (nodes : List (NodeShape F T B)) (names : Names) (texts : Texts) (first last : List ℕ) (result : Result (Unit {0}) Error)
-    → first ≡ [] → RendersAnswer s l options (Ok nodes) names (Some texts) (alone first 0) (alone last 0) result
-    → (p : Page) → ReadingComesTo s options (record { language = l; texts = texts; nodes = nodes }) names p → Shows p last (ended result)
-reading_shown s l options nodes names texts first last result nothing renders p comes =
-    subst (λ q. Shows q last (ended result)) (sym comes.1.1)
-    (shown_outcome (page_run s options names comes.0 nodes) first last renders.left nothing result (renders.rendered comes.0 comes.1.0).outcome)
-
--- the same with partials that are these texts, and an end that is this one
-pub reading_ends : {F T P L B Q : Type 0} (s : Settings F T P B Q) (l : Lang F T L B) (options : PageOptions) (nodes : List (NodeShape F T B)) (names : Names) (given texts : Texts) (first last : List ℕ) (result : Result (Unit {0}) Error) (end : Result (Unit {0}) PageFault)
-    → first ≡ [] → given ≡ texts → end ≡ ended result → RendersAnswer s l options (Ok nodes) names (Some given) (alone first 0) (alone last 0) result
-    → (p : Page) → ReadingComesTo s options (record { language = l; texts = texts; nodes = nodes }) names p → Shows p last end
-reading_ends s l options nodes names given texts first last result end nothing same is renders p comes =
+pub nodes_shown : {F T P L B Q : Type 0} (s : Settings F T P B Q) (l : Lang F T L B) (options : PageOptions) (nodes : List (NodeShape F T B)) (names : Names) (texts : Texts) (first last : List ℕ) (result : Result (Unit {0}) Error) (end : Result (Unit {0}) PageFault)
+    → first ≡ [] → end ≡ ended result → RendersAnswer s l options (Ok nodes) names (Some texts) (alone first 0) (alone last 0) result
+    → (p : Page) → NodesComeTo s l options nodes names texts p → Shows p last end
+nodes_shown s l options nodes names texts first last result end nothing is renders p comes =
     subst (λ e. Shows p last e) (sym is)
-    (reading_shown s l options nodes names texts first last result nothing (subst (λ t. RendersAnswer s l options (Ok nodes) names (Some t) (alone first 0) (alone last 0) result) same renders) p comes)
+    (subst (λ q. Shows q last (ended result)) (sym comes.2)
+    (shown_outcome (page_run s options names comes.0 nodes) first last renders.left nothing result (renders.rendered comes.0 comes.1).outcome))
 
 fault_shown_told : (p : Page) (t : Option Fault) → IfSome t (λ f. p ≡ stopped f) → MatchOption t (Begins [] p) (λ f. ([] ≡ p.output) × (p.fault ≡ Some f))
 fault_shown_told p None tells = (p.output, refl)

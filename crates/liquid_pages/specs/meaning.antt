@@ -1,5 +1,4 @@
 pub mod Faults
 pub mod Globals
 pub mod Pages
-pub mod Prepared
 pub mod Shown

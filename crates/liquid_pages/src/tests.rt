@@ -2,7 +2,7 @@
 use crate::fault::{PageFault, PageText};
 use crate::gather::PartialBytes;
 use crate::options::PageOptions;
-use crate::page::{Pages, Rendered, TemplatePages, render_page};
+use crate::page::{Rendered, render_page};
 use liquid_parser::{Language, NoPlugin};
 use liquid_plugins::PluginRegistry;
 use std::alloc::{AllocError, Global};
@@ -150,12 +150,6 @@ fn pages_show_their_text_or_the_first_fault(rt: HostRuntime) -> Result<(), Fail>
         let page = render_page(rt.alloc(), &language, options, *text, *globals, &partials);
         assert_eq!(rt; end_of(&page), *end);
         assert!(rt; page.output.as_bytes() == *output);
-        let pages = Pages::new(rt.alloc(), &language, *text, &partials);
-        for _ in 0..2 {
-            let page = pages.render(rt.alloc(), options, *globals);
-            assert_eq!(rt; end_of(&page), *end);
-            assert!(rt; page.output.as_bytes() == *output);
-        }
     }
     Ok(())
 }

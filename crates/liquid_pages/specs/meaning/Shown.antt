@@ -70,6 +70,11 @@ module _ {F T P L B Q : Type 0} (s : Settings F T P B Q) (l : Lang F T L B) (opt
   TextComesTo text names texts page =
       (answer : PageAnswer F T B) × Reads l text answer × ((found : Option (Found F T B)) × IsFoundIn l (Some texts) found × (page ≡ page_of_answer (page_run s options names found) answer))
 
+  -- nodes over names, with these partials, come to this page
+  abbrev pub NodesComeTo : List (NodeShape F T B) → Names → Texts → Page → Type 0
+  NodesComeTo nodes names texts page =
+      (found : Option (Found F T B)) × IsFoundIn l (Some texts) found × (page ≡ page_of_run (page_run s options names found nodes))
+
   abbrev pub ReadComesTo : Result (List ℕ × (Names × Texts)) Fault → Page → Type 0
   ReadComesTo (Err fault) page = page ≡ stopped fault
   ReadComesTo (Ok read) page = TextComesTo read.0 read.1.0 read.1.1 page
