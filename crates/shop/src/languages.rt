@@ -28,7 +28,6 @@ pub fn language(alloc: Global) -> Result<ShopLanguage, AllocError>
     blocks.register("if", ShopBlocks::Library(Blocks::If))?;
     blocks.register("for", ShopBlocks::Library(Blocks::For))?;
     blocks.register("stock", ShopBlocks::Stock)?;
-    blocks.register("twice", ShopBlocks::Twice)?;
     Ok(Language {
         filters,
         tags,

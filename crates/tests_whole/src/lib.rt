@@ -16,7 +16,6 @@ mod given;
 mod hostile_rows;
 #[cfg(test)]
 mod items_by_place;
-#[cfg(test)]
 mod joins;
 #[cfg(test)]
 mod kinds;
@@ -24,7 +23,6 @@ mod kinds;
 mod languages;
 #[cfg(test)]
 mod library_reflections;
-#[cfg(test)]
 mod limits;
 #[cfg(test)]
 mod nested;

@@ -28,4 +28,4 @@ the_tags =
 abbrev pub the_blocks : NameMap ShopBlocks
 the_blocks =
     registered empty
-    ((codes "if", shop_blocks.Library blocks.If) ∷ (codes "for", shop_blocks.Library blocks.For) ∷ (codes "stock", shop_blocks.Stock) ∷ (codes "twice", shop_blocks.Twice) ∷ [])
+    ((codes "if", shop_blocks.Library blocks.If) ∷ (codes "for", shop_blocks.Library blocks.For) ∷ (codes "stock", shop_blocks.Stock) ∷ [])
