@@ -109,10 +109,6 @@ impl<V: Fresh> Renderable<V> for BlockNode {
             _ => Ok(Turn::End),
         }
     }
-
-    fn caught(&self, _progress: &mut Stage, text: String) {
-        drop(text);
-    }
 }
 
 impl<V: Fresh> Discreet<V> for BlockNode {

@@ -87,10 +87,6 @@ impl<V: Fresh> Renderable<V> for HostileTagNode {
             }
         }
     }
-
-    fn caught(&self, _progress: &mut u64, text: String) {
-        drop(text);
-    }
 }
 
 impl Meant for HostileBlockNode {
@@ -133,9 +129,5 @@ impl<V: Fresh> Renderable<V> for HostileBlockNode {
                 }
             }
         }
-    }
-
-    fn caught(&self, _progress: &mut Stage, text: String) {
-        drop(text);
     }
 }

@@ -76,10 +76,6 @@ impl<V: Fresh> Renderable<V> for TagNode {
             }
         }
     }
-
-    fn caught(&self, _progress: &mut u64, text: String) {
-        drop(text);
-    }
 }
 
 impl<V: Fresh> Discreet<V> for TagNode {
@@ -140,10 +136,6 @@ impl<V: Fresh> Renderable<V> for LeakyTagNode {
                 }
             }
         }
-    }
-
-    fn caught(&self, _progress: &mut u64, text: String) {
-        drop(text);
     }
 }
 

@@ -9,7 +9,6 @@ use Rattle.liquid_runtime.specs.meaning.Maps.{Names}
 use Rattle.liquid_runtime.specs.meaning.View.{View}
 use Rattle.liquid_template.specs.meaning.Run.{Run, pieces, written}
 use Rattle.liquid_template.specs.meaning.Sunk.{Sunk, sunk}
-use Rattle.liquid_template.specs.meaning.Output.{ungated}
 use Rattle.liquid_template.specs.meaning.Outcome.{BrokenOff, Cut, Stopped, Outcome}
 use Rattle.liquid_template.proofs.Joins.{pieces-append}
 use Rattle.liquid_partials.specs.meaning.Rendered.{RenderedBy}
@@ -54,19 +53,19 @@ module _ (behind behind_after : Option (List ℕ)) (lent : List ℕ) where
   abbrev filled : List ℕ → ℕ → Sunk
   filled output failures = sunk output failures behind_after lent
 
-  broken_begins : (r : EndedRun) (output : List ℕ) (failures : ℕ) (left : View (Unit {0})) (refusal : Refusal) → BrokenOff r (ungated fresh) (ungated (filled output failures)) left refusal → IsBeginning r output
+  broken_begins : (r : EndedRun) (output : List ℕ) (failures : ℕ) (left : View (Unit {0})) (refusal : Refusal) → BrokenOff r fresh (filled output failures) left refusal → IsBeginning r output
   broken_begins r output failures left refusal b =
       (b.rest ++ pieces b.later, ap pieces b.steps ∙ pieces-append b.front (b.step ∷ b.later) ∙ rw b.taken (rw b.piece (simp append_assoc)))
 
   stopped_begins : (r : EndedRun) (output : List ℕ) (failures : ℕ) (left : View (Unit {0})) (t : Option Refusal)
-      → MatchOption t (Cut r (ungated fresh) (ungated (filled output failures))) (Stopped r (ungated fresh) (ungated (filled output failures)) left) → IsBeginning r output
+      → MatchOption t (Cut r fresh (filled output failures)) (Stopped r fresh (filled output failures) left) → IsBeginning r output
   stopped_begins r output failures left None c = (c.rest, c.pieces_are ∙ ap (λ front. front ++ c.rest) (sym c.taken))
   stopped_begins r output failures left (Some refusal) (inl s) = whole_begins r output s.0.taken
   stopped_begins r output failures left (Some refusal) (inr s) = broken_begins r output failures left refusal s
 
   -- an outcome shows the run
   shown_outcome : (r : EndedRun) (output : List ℕ) (failures : ℕ) (flushed : Bool) (left : View (Unit {0})) (result : Result (Unit {0}) Error)
-      → Outcome r (ungated fresh) (ungated (filled output failures)) left result
+      → Outcome r fresh (filled output failures) left result
       → ((settled (status_of result) flushed ≡ 0) × IsWhole r output) ⊎ ((settled (status_of result) flushed ≡ 1) × IsBeginning r output)
   shown_outcome r output failures flushed left (Ok u) o = shown_whole r output flushed o.0.taken o.1
   shown_outcome r output failures flushed left (Err error) o = inr (refused_status flushed, stopped_begins r output failures left (told error) o)

@@ -63,7 +63,7 @@ impl FilterKind for PlainKind {
         arguments: &CallArguments<'_>,
     ) -> Result<Value, Error> {
         match self {
-            PlainKind::Append => append(alloc, input, arguments.positional),
+            PlainKind::Append => append(alloc, input, arguments.positional.as_slice()),
             PlainKind::Fail => Err(Error::with_msg(alloc, "bad")),
         }
     }
@@ -77,7 +77,7 @@ pub fn program_filters(
     ensures { IfOk result (λ r. r ≡ program_filters standard) }
 {
     if standard {
-        return filters_beside(alloc, None, &[]);
+        return filters_beside(alloc, &[]);
     }
     let mut filters = PluginRegistry::new(alloc);
     register_all(

@@ -182,8 +182,6 @@ pub use liquid_plugins::{
 pub use liquid_runtime::names::no_names;
 pub use liquid_runtime::{BuiltRuntime, Frame, Fresh, IndexFrame, Runtime, RuntimeBuilder, Scopes};
 pub use liquid_scopes::{ChainedScopes, FlatScopes, Looks};
-pub use liquid_template::{
-    Gate, GatedSink, History, Limits, PartialStore, Sink, SinkFault, Template, TextSink, WriterSink,
-};
+pub use liquid_template::{History, PartialStore, Sink, SinkFault, Template, TextSink, WriterSink};
 pub use liquid_value::{Object, SharedArray, SharedObject, Value, ValueCow};
 pub use liquid_views::{ObjectView, ValueView, array_of, object_of, scalar_of};

@@ -8,10 +8,8 @@ use Rattle.liquid_runtime.specs.meaning.View.{View}
 use Rattle.liquid_plugins.specs.meaning.Nodes.{NodeShape}
 use Rattle.liquid_template.specs.meaning.Actions.{refuses}
 use Rattle.liquid_template.specs.meaning.Outcome.{Renders}
-use Rattle.liquid_template.specs.meaning.Output.{ungated}
 use Rattle.liquid_template.specs.meaning.Run.{Action, Run}
 use Rattle.liquid_template.specs.meaning.Sunk.{Sunk}
-use Rattle.liquid_template.proofs.Framing.{without_gate}
 use Rattle.liquid_template.proofs.Joins.{renders_refused}
 use Rattle.liquid_partials.specs.meaning.Rendered.{RenderedBy}
 
@@ -34,6 +32,5 @@ module _ {Reg F T B : Type 0} (action : List (NodeShape F T B) → Action Reg) w
 
   -- a text that is refused, or whose reading ran out of memory, leaves the sink and the view as they were
   pub RenderedBy-refused : (answer : Answer) (v : View Reg) (b : Sunk) (e : Error) → IfSome (told e) (λ refusal. answer ≡ Err refusal) → RenderedBy action answer v b b v (Err e)
-  RenderedBy-refused (Ok nodes) v b e h =
-      without_gate (action nodes v) v v b b (Err e) (renders_refused (action nodes v) v v (ungated b) e (not_read nodes (action nodes v) v (told e) h) refl)
+  RenderedBy-refused (Ok nodes) v b e h = renders_refused (action nodes v) v v b e (not_read nodes (action nodes v) v (told e) h) refl
   RenderedBy-refused (Err refusal) v b e h = (refl, (refl, same_refusal refusal (told e) h))

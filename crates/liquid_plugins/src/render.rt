@@ -1,5 +1,5 @@
 //! What a node does in its turns.
-ghost use Rattle.std.specs.Prelude.{◌≡◌, Result, Some, OnSome, string_bytes};
+ghost use Rattle.std.specs.Prelude.{◌≡◌, Result, Some, OnSome};
 ghost use Rattle.liquid_error.specs.meaning.Told.{Gives};
 ghost use Rattle.liquid_runtime.specs.meaning.View.{View};
 ghost use Rattle.liquid_runtime.specs.meaning.Written.{SameFrames, with_written};
@@ -13,19 +13,12 @@ use liquid_runtime::{Frame, Fresh, Runtime};
 use liquid_value::Object;
 use std::alloc::Global;
 
-/// What a turn returns. A part is a number, from 0; a frame begins before it and ends after it; a trace, if one is given, is
-/// put on an error out of it.
+/// What a turn answers.
 #[derive(Drop)]
 pub enum Turn {
-    /// A text, which is written.
     Text(String),
-    /// A part of the node, which is rendered.
     Body(u64, Frame, Option<String>),
-    /// The partial of this name, which is rendered.
     Partial(String, Frame, Option<String>),
-    /// A part of the node, which is rendered into a text of its own. Nothing of it is written; `caught` gets the text.
-    Capture(u64, Frame, Option<String>),
-    /// The node has ended.
     End,
 }
 
@@ -34,7 +27,7 @@ pub trait Renderable<V: Fresh>: Meant + Drop {
     type Progress: Meant + Drop;
 
     // what each call answers and leaves, by the node's shape, the progress's and the view
-    ghost means: { NodeMeaning Self.Shape Self.Progress.Shape V };
+    ghost means: { NodeMeaning Self.Shape Self.Progress.Shape V.Shape };
 
     fn start<R: Runtime<Register = V>>(
         &self,
@@ -69,12 +62,6 @@ pub trait Renderable<V: Fresh>: Meant + Drop {
         ensures store { R.store runtime.new ≡ R.store runtime.old }
         ensures owes { R.restores runtime.new ≡ R.restores runtime.old }
         ensures borrows { R.lent runtime.new ≡ R.lent runtime.old };
-
-    /// Takes the text of the part that the last turn captured. The next turn follows. Nothing is caught where the part was
-    /// refused. A node that returns no `Turn::Capture` drops the text.
-    fn caught(&self, progress: &mut Self::Progress, text: String)
-        ensures { Self.Progress.shape progress.new
-            ≡ means.catches (Self.shape self.now) (Self.Progress.shape progress.old) (string_bytes text) };
 
     /// Takes back the object of the frame of the turn that has ended, for the next turn to write over. The meaning of the
     /// progress stays. A node that has no use for it leaves this out.

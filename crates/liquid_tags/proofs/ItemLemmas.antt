@@ -1,5 +1,5 @@
 -- What is taken out of the items of a loop, and what is left.
-use Rattle.std.proofs.Common.{◌≡◌, ℕ, zero, suc, ℤ, pos, ◌+◌, ◌-◌, ◌<◌, ◌≤◌, ◌+ℤ◌, List, [], ◌∷◌, None, Some, option_map, map, length, drop, refl, sym, ap, ◌∙◌, add-one, arith}
+use Rattle.std.proofs.Common.{◌≡◌, ℕ, zero, suc, ℤ, pos, ◌+◌, ◌-◌, ◌<◌, ◌+ℤ◌, List, [], ◌∷◌, None, Some, option_map, map, length, drop, refl, sym, ap, ◌∙◌, add-one, arith}
 use Rattle.std.specs.Prelude.{slice_get}
 use Rattle.std.proofs.lemmas.List.{length-drop, length-map}
 use Rattle.std.proofs.lemmas.Option.{none-some, slice_get-map}
@@ -34,13 +34,6 @@ none_after [] (suc place) none = refl
 none_after (x ∷ xs) zero none = absurd (none-some x (sym none))
 none_after (x ∷ xs) (suc place) none = none_after xs place none
 
--- what is at a place of what is left from another
-placed : {A : Type 0} (xs : List A) (place at sum : ℕ) → sum ≡ place + at → slice_get (drop place xs) at ≡ slice_get xs sum
-placed xs zero at sum e = ap (slice_get xs) (omega arith)
-placed [] (suc place) at sum e = refl
-placed (x ∷ xs) (suc place) at zero e = absurd (omega arith)
-placed (x ∷ xs) (suc place) at (suc sum) e = placed xs place at sum (omega arith)
-
 -- the trees of a list of values, from a place on
 module _ (values : List Value) (items : Items) (place : ℕ) (e : items_view values ≡ items) where
   viewed : trees items ≡ map view values
@@ -54,9 +47,6 @@ module _ (values : List Value) (items : Items) (place : ℕ) (e : items_view val
 
   pub first_left : slice_get (drop place (trees items)) 0 ≡ option_map view (slice_get values place)
   first_left = at_place (trees items) place ∙ at_item
-
-  pub left_at : (at sum : ℕ) → sum ≡ place + at → slice_get (drop place (trees items)) at ≡ option_map view (slice_get values sum)
-  left_at at sum is = placed (trees items) place at sum is ∙ ap (λ ts. slice_get ts sum) viewed ∙ slice_get-map view values sum
 
   pub none_left : slice_get values place ≡ None → drop place (trees items) ≡ drop 1 (drop place (trees items))
   none_left none = none_after (trees items) place (at_item ∙ ap (option_map view) none)
@@ -76,17 +66,3 @@ no_number_behind from next size e = sym (ap (λ n. drop 1 (counted from n)) e)
 
 pub no_number : (from : ℤ) (size : ℕ) → size < 1 → counted from size ≡ []
 no_number from size below = let none : size ≡ 0 = omega arith in ap (counted from) none
-
-number_there : (from : ℤ) (size place : ℕ) → place < size → slice_get (counted from size) place ≡ Some (scalar (integer (from +ℤ pos place)))
-number_there from zero place below = absurd (omega arith)
-number_there from (suc n) zero below = ap (λ z. Some (scalar (integer z))) (grind arith)
-number_there from (suc n) (suc place) below = number_there (from +ℤ pos 1) n place (omega arith) ∙ ap (λ z. Some (scalar (integer z))) (grind arith)
-
--- the number at a place, and none after the last
-pub number_at : (from number : ℤ) (size place : ℕ) → place < size → number ≡ from +ℤ pos place → Some (scalar (integer number)) ≡ slice_get (counted from size) place
-number_at from number size place below is = ap (λ z. Some (scalar (integer z))) is ∙ sym (number_there from size place below)
-
-pub number_past : (from : ℤ) (size place : ℕ) → size ≤ place → None ≡ slice_get (counted from size) place
-number_past from zero place past = refl
-number_past from (suc n) zero past = absurd (omega arith)
-number_past from (suc n) (suc place) past = number_past (from +ℤ pos 1) n place (omega arith)

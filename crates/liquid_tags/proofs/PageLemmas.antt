@@ -14,8 +14,7 @@ use Rattle.liquid_plugins.specs.meaning.Nodes.{nodes_from}
 use Rattle.liquid_template.specs.meaning.Partials.{Found}
 use Rattle.liquid_template.specs.meaning.Rendering.{template_run}
 use Rattle.liquid_template.specs.meaning.Sunk.{Sunk}
-use Rattle.liquid_template.specs.meaning.Output.{ungated}
-use Rattle.liquid_template.proofs.Framing.{renders_memory, without_gate}
+use Rattle.liquid_template.proofs.Framing.{renders_memory}
 use Rattle.liquid_partials.specs.meaning.Compiled.{Compiled}
 use Rattle.liquid_partials.specs.meaning.Rendered.{Rendered}
 use Rattle.liquid_partials.specs.meaning.Sources.{Texts}
@@ -51,9 +50,7 @@ module _ {F : Type 0} (m : FilterMeaning F) (filters : Filters F) (text : List �
   nothing_comes : (at : Sunk) (error : Error) → told error ≡ None → (answer : PageAnswer F) (finds : Found F (TagShape F) BlockShape)
       → Rendered (library (tt {0}) m (Some finds)) answer (built_view (tt {0}) page_depth globals) at at (built_view (tt {0}) page_depth globals) (Err error)
   nothing_comes at error memory (Ok nodes) finds =
-      let start = built_view (tt {0}) page_depth globals in
-      let run = template_run (library (tt {0}) m (Some finds)) (nodes_from nodes) start in
-      without_gate run start start at at (Err error) (renders_memory run start (ungated at) error memory)
+      renders_memory (template_run (library (tt {0}) m (Some finds)) (nodes_from nodes) (built_view (tt {0}) page_depth globals)) (built_view (tt {0}) page_depth globals) at error memory
   nothing_comes at error memory (Err refusal) finds =
       (refl, (refl, subst (λ (o : Option Refusal). IfSome o (λ reason. reason ≡ refusal)) (sym memory) tt))
 

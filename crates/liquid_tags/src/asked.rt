@@ -10,10 +10,14 @@ use liquid_plugins::Meant;
 use std::alloc::Global;
 
 /// The message of a token that is missing.
-pub const TOKEN_EXPECTED: &str = "Token expected";
+pub(crate) const TOKEN_EXPECTED: &str = "Token expected";
 
-/// Returns the node, if no token is left. Another token is an `Err`: "Unexpected token".
-pub fn alone<N: Meant + Drop>(alloc: Global, tokens: TagTokenIter<'_>, node: N) -> Result<N, Error>
+/// This, where no token is left.
+pub(crate) fn alone<N: Meant + Drop>(
+    alloc: Global,
+    tokens: TagTokenIter<'_>,
+    node: N,
+) -> Result<N, Error>
     ensures { (ts : Tokens) → AreTokens tokens.entry ts → Gives N.shape result (alone (N.shape node) ts) }
 {
     match tokens.expect_nothing(alloc) {

@@ -227,8 +227,8 @@ fn begun_for(alloc: Global, tokens: TagTokenIter<'_>) -> Result<BlockPlan, Error
     }
 }
 
-/// Returns the range or the value that the next token is.
-pub fn next_series(alloc: Global, tokens: &mut TagTokenIter<'_>) -> Result<Series, Error>
+/// The range or the value that the next token is.
+fn next_series(alloc: Global, tokens: &mut TagTokenIter<'_>) -> Result<Series, Error>
     ensures { (ts : Tokens) → AreTokens tokens.old ts → Takes series_of result tokens.new (next_as expect_series ts) }
 {
     match tokens.expect_next(alloc, TOKEN_EXPECTED) {

@@ -121,10 +121,6 @@ impl<V: Fresh> Renderable<V> for BlockNode {
             BlockProgress::Once(_) => {}
         }
     }
-
-    fn caught(&self, _progress: &mut BlockProgress, text: String) {
-        drop(text);
-    }
 }
 
 impl<V: Fresh> Discreet<V> for BlockNode {

@@ -50,26 +50,13 @@ impl Items {
         Items::Counted(Numbers { next, size })
     }
 
-    /// Returns how many there are.
-    pub fn len(&self) -> u64
+    /// How many there are.
+    pub(crate) fn len(&self) -> u64
         ensures { result ≡ length (items_left self.now) }
     {
         match self {
             Items::Listed(listed) => listed.len() as u64,
             Items::Counted(numbers) => numbers.size,
-        }
-    }
-
-    /// Returns the item at a place, counted from 0, if there is one.
-    pub fn get(&self, place: u64) -> Result<Option<Value>, AllocError>
-        ensures { IfOk result (λ item. option_map tree_of item ≡ slice_get (items_left self.now) place) }
-    {
-        match self {
-            Items::Listed(listed) => listed.get(place),
-            Items::Counted(numbers) => match numbers.get(place)? {
-                Some(number) => Ok(Some(Value::scalar(number))),
-                None => Ok(None),
-            },
         }
     }
 
@@ -96,23 +83,6 @@ impl Listed {
         self.array.as_array().len().saturating_sub(self.place)
     }
 
-    /// Returns the item at a place, counted from 0, if there is one.
-    fn get(&self, place: u64) -> Result<Option<Value>, AllocError>
-        ensures { IfOk result (λ item. option_map tree_of item
-            ≡ slice_get (drop self.now.place (trees (array_view self.now.array))) place) }
-    {
-        let Some(at) = (self.place as u64).checked_add(place) else {
-            return Err(AllocError);
-        };
-        match self.array.as_array().get(at as usize) {
-            Some(item) => {
-                let item = item.clone()?;
-                Ok(Some(item))
-            }
-            None => Ok(None),
-        }
-    }
-
     /// Takes out the first item, if there is one.
     fn take_first(&mut self) -> Result<Option<Value>, AllocError>
         ensures first { IfOk result (λ item. option_map tree_of item
@@ -132,21 +102,6 @@ impl Listed {
 }
 
 impl Numbers {
-    /// Returns the number at a place, counted from 0, if there is one.
-    #[tactic(auto, using(crate::proofs::ItemLemmas::number_at, crate::proofs::ItemLemmas::number_past))]
-    fn get(&self, place: u64) -> Result<Option<i64>, AllocError>
-        ensures { IfOk result (λ number. option_map (λ n. scalar (integer n)) number
-            ≡ slice_get (counted self.now.next self.now.size) place) }
-    {
-        if place >= self.size {
-            return Ok(None);
-        }
-        match self.next.checked_add_unsigned(place) {
-            Some(number) => Ok(Some(number)),
-            None => Err(AllocError),
-        }
-    }
-
     /// Takes out the first one, if there is one. One behind the greatest number doesn't come, since a
     /// range ends at a number.
     fn take_first(&mut self) -> Result<Option<i64>, AllocError>

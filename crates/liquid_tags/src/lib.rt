@@ -1,22 +1,22 @@
 //! A small library of tags and blocks: `assign`, `increment`, `break`, `continue`, `include`, `render`, `if`, `for` and `raw`.
 #![tactic(auto)]
 
-pub mod asked;
+mod asked;
 mod assign;
 pub mod block_plugins;
 pub mod blocks;
 pub mod condition;
-pub mod increment;
+mod increment;
 pub mod items;
 pub mod kept;
 mod languages;
 pub mod laws;
-pub mod loops;
-pub mod names;
+mod loops;
+mod names;
 mod pages;
 pub mod partials;
 mod read_call;
-pub mod read_condition;
+mod read_condition;
 pub mod rounds;
 pub mod series;
 pub mod tag_plugins;

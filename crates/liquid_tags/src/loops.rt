@@ -63,9 +63,8 @@ fn next_item(rounds: &mut Rounds) -> Result<Option<Value>, AllocError>
     }
 }
 
-/// Returns the turn of the item at a place, or the end if there is none. `kept` and `used` are the object `forloop` and the
-/// names of the turn before, if there are any: they are written over.
-pub fn item_turn(
+/// Returns the turn of the item at a place, or the end if there is none.
+fn item_turn(
     alloc: Global,
     name: &String,
     kept: &mut Option<Kept>,

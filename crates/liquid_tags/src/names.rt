@@ -9,7 +9,12 @@ use std::alloc::{AllocError, Global};
 
 /// Gives a name this value.
 #[tactic(auto, using(liquid_runtime::proofs::ObjectNames::changed_objects))]
-pub fn bind(alloc: Global, names: &mut Object, name: &str, value: Value) -> Result<(), AllocError>
+pub(crate) fn bind(
+    alloc: Global,
+    names: &mut Object,
+    name: &str,
+    value: Value,
+) -> Result<(), AllocError>
     ensures { IfOk result (λ _. names_of names.new ≡ insert (names_of names.old) name.now (tree_of value)) }
 {
     names.insert(String::from_str(alloc, name)?, value)?;

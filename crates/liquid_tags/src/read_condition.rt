@@ -46,8 +46,8 @@ fn behind_value(
     }
 }
 
-/// Returns the comparison that a token's text stands for, if it stands for one.
-pub fn comparison_of(text: &str) -> Option<Comparison>
+/// The comparison that a token's text stands for.
+fn comparison_of(text: &str) -> Option<Comparison>
     ensures { result ≡ comparison_of text.now }
 {
     if text == "==" {

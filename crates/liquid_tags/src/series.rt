@@ -42,9 +42,13 @@ impl Meant for Series {
 /// The numbers of the longest range.
 const LONGEST: u64 = 1_000_000;
 
-/// Returns the items of a series.
+/// The items of a series.
 #[inline(never)]
-pub fn items_of<R: Runtime>(alloc: Global, series: &Series, runtime: &R) -> Result<Items, Error>
+pub(crate) fn items_of<R: Runtime>(
+    alloc: Global,
+    series: &Series,
+    runtime: &R,
+) -> Result<Items, Error>
     ensures { Gives items_left result (items_of (R.view runtime.now) (series_of series.now)) }
 {
     match series {

@@ -74,10 +74,6 @@ impl<X: Filter, V: Fresh> Renderable<V> for TagNode<X> {
             TagNode::Includes(inclusion, call) => included(alloc, *inclusion, &**call, &*runtime),
         }
     }
-
-    fn caught(&self, _progress: &mut u64, text: String) {
-        drop(text);
-    }
 }
 
 impl<X: Filter, V: Fresh> Discreet<V> for TagNode<X> {

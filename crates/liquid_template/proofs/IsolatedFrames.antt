@@ -14,11 +14,10 @@ use Rattle.liquid_template.specs.meaning.Actions.{refused_through, step_outside,
 use Rattle.liquid_template.specs.meaning.Nodes.{Setting}
 use Rattle.liquid_template.specs.meaning.Rendering.{nodes_run, template_run, isolated_run}
 use Rattle.liquid_template.specs.meaning.Isolated.{given_back, step_given_back, run_given_back, RendersIsolated, OnlyIndexChanges}
-use Rattle.liquid_template.specs.meaning.Output.{ungated}
 use Rattle.liquid_template.specs.meaning.Sunk.{Sunk}
 use Rattle.liquid_template.specs.meaning.Outcome.{Renders}
 use Rattle.liquid_template.specs.laws.IsolatedFrames.{SameIsolatedRun, IsolatedFromOutside, IsolatedOutsidesAgree}
-use Rattle.liquid_template.proofs.Framing.{renders_framed, renders_memory, becomes_itself, first_is, without_gate, within_no_gate}
+use Rattle.liquid_template.proofs.Framing.{renders_framed, renders_memory, becomes_itself, first_is}
 
 module _ {Reg : Type 0} (fresh : Reg) (names : Names) (name : Option (List ℕ)) (o p : View Reg) (e : o.name ≡ p.name) where
   -- what the frame's ending leaves over the outside p, and over the outside o emptied
@@ -28,7 +27,7 @@ module _ {Reg : Type 0} (fresh : Reg) (names : Names) (name : Option (List ℕ))
   back_steps : (ss : List (Step Reg)) → map (step_outside (restored_by (isolated_frame names name) p) None) ss ≡ map (step_given_back p) (map (step_outside (restored_by (isolated_frame names name) (emptied fresh o)) None) ss)
   back_steps [] = refl
   back_steps (x ∷ ss) =
-      ap (λ y. record { piece = x.piece; checkpoint = x.checkpoint; traces = x.traces; at = y } ∷ map (step_outside (restored_by (isolated_frame names name) p) None) ss) (back_view x.at)
+      ap (λ y. record { piece = x.piece; traces = x.traces; at = y } ∷ map (step_outside (restored_by (isolated_frame names name) p) None) ss) (back_view x.at)
       ∙ ap (λ ys. step_given_back p (step_outside (restored_by (isolated_frame names name) (emptied fresh o)) None x) ∷ ys) (back_steps ss)
 
   back : (r : Run Reg) → outside (restored_by (isolated_frame names name) p) None r ≡ run_given_back p (outside (restored_by (isolated_frame names name) (emptied fresh o)) None r)
@@ -67,7 +66,7 @@ module _ {Reg F T P B Q : Type 0} (s : Setting Reg F T P B Q) where
     renders_isolated v x b a answer r = record { renders = r; isolated = subst (λ q. Renders q v b a x answer) (from_outside names name ns v) r }
 
     pub isolated_memory : (v : View Reg) (b : Sunk) (e : Error) → told e ≡ None → RendersIsolated s.fresh (isolated_run s names name ns) v b b v (Err e)
-    isolated_memory v b e h = renders_isolated v v b b (Err e) (without_gate (isolated_run s names name ns v) v v b b (Err e) (renders_memory (isolated_run s names name ns v) v (ungated b) e h))
+    isolated_memory v b e h = renders_isolated v v b b (Err e) (renders_memory (isolated_run s names name ns v) v b e h)
 
     -- the name may be told as a text of its own
     pub isolated_renders : (own : Option (List ℕ)) (v v1 w x : View Reg) (rs rs1 rs2 rs3 : List (Restore Reg)) (b a : Sunk) (answer : Result (Unit {0}) Error)
@@ -75,7 +74,7 @@ module _ {Reg F T P B Q : Type 0} (s : Setting Reg F T P B Q) where
         → RendersIsolated s.fresh (isolated_run s names name ns) v b a x answer
     isolated_renders own v v1 w x rs rs1 rs2 rs3 b a answer e h i j k r =
         renders_isolated v x b a answer (subst (λ n. Renders (isolated_run s names n ns v) v b a x answer) e
-        (without_gate (isolated_run s names own ns v) v x b a answer (renders_framed s.fresh (isolated_frame names own) None (template_run s ns) v v1 w x rs rs1 rs2 rs3 (ungated b) (ungated a) answer answer h i j k (becomes_itself answer) (within_no_gate (template_run s ns v1) v1 w b a answer r))))
+        (renders_framed s.fresh (isolated_frame names own) None (template_run s ns) v v1 w x rs rs1 rs2 rs3 b a answer answer h i j k (becomes_itself answer) r))
 
 -- an isolated frame gives all but index variables back when it ends
 module _ {Reg : Type 0} where

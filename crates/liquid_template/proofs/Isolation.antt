@@ -15,13 +15,13 @@ use Rattle.liquid_runtime.specs.meaning.Emptied.{emptied}
 use Rattle.liquid_runtime.specs.meaning.Frames.{FrameShape, no_frame, stack_frame, sandboxed_frame, isolated_frame, global_frame, Restore, restore_nothing, restore_global, restore_isolated, begin_sandboxed, begin_isolated, beginning, restored_by, ending}
 use Rattle.liquid_plugins.specs.meaning.Evaluation.{evaluate}
 use Rattle.liquid_plugins.specs.meaning.Chain.{ChainShape, FilterMeaning, chain_value, filtered}
-use Rattle.liquid_plugins.specs.meaning.Turns.{Answered, TurnShape, text_turn, body_turn, partial_turn, capture_turn, end_turn, NodeMeaning}
+use Rattle.liquid_plugins.specs.meaning.Turns.{Answered, TurnShape, text_turn, body_turn, partial_turn, end_turn, NodeMeaning}
 use Rattle.liquid_plugins.specs.meaning.Discreet.{hiding, overlaid, HidesGlobals, Discreet}
 use Rattle.liquid_plugins.proofs.ErasedLemmas.{evaluate_erased}
 use Rattle.liquid_error.specs.meaning.Refusal.{ok_then}
 use Rattle.liquid_plugins.specs.meaning.Nodes.{NodeShape, text_node, chain_node, tag_node, block_node, Nodes, no_nodes, node, Parts, no_parts, part}
-use Rattle.liquid_template.specs.meaning.Run.{Step, Run, Action, pieces, written}
-use Rattle.liquid_template.specs.meaning.Actions.{traced, refused_through, done, refuses, writes, writes_value, asks, goes_on, and_then, unless_interrupted, step_outside, outside, under, silent_step, silent, part_at}
+use Rattle.liquid_template.specs.meaning.Run.{Step, Run, Action}
+use Rattle.liquid_template.specs.meaning.Actions.{traced, refused_through, done, refuses, writes, writes_value, goes_on, and_then, unless_interrupted, step_outside, outside, under, part_at}
 use Rattle.liquid_template.specs.meaning.Nodes.{Setting, performed, answered, turns, started, played, run_node, run_nodes, run_parts}
 use Rattle.liquid_template.specs.meaning.Partials.{partials_at, sought, read_as, no_store, too_deep}
 use Rattle.liquid_template.specs.meaning.Rendering.{nodes_run, sandboxed_run}
@@ -82,34 +82,10 @@ module _ {Reg : Type 0} (g : Names) where
     hidden = λ v h. hidden_goes_on (a v).refusal (a v) k j (i.hidden v h);
   }
 
-  -- a run of which nothing is written, and what follows its text
-  silent_steps : (ss : List (Step Reg)) → map silent_step (map cover_step ss) ≡ map cover_step (map silent_step ss)
-  silent_steps [] = refl
-  silent_steps (x ∷ ss) = ap (λ ys. silent_step (cover_step x) ∷ ys) (silent_steps ss)
-
-  silent_covered : (r : Run Reg) → silent (covered r) ≡ covered (silent r)
-  silent_covered r = ap (λ ss. record { steps = ss; refusal = r.refusal; view = cover r.view }) (silent_steps r.steps)
-
-  pieces_covered : (ss : List (Step Reg)) → pieces (map cover_step ss) ≡ pieces ss
-  pieces_covered [] = refl
-  pieces_covered (x ∷ ss) = ap (λ t. x.piece ++ t) (pieces_covered ss)
-
-  apart_captured : (a : Action Reg) (k : List ℕ → Action Reg) → Apart a → ((text : List ℕ) → Apart (k text)) → Apart (λ v. and_then (silent (a v)) (k (written (a v))))
-  apart_captured a k i j = record {
-    same = λ v h. ap (λ r. and_then (silent r) (k (written r))) (i.same v h)
-        ∙ ap (λ text. and_then (silent (covered (a v))) (k text)) (pieces_covered (a v).steps)
-        ∙ ap (λ r. and_then r (k (written (a v)))) (silent_covered (a v))
-        ∙ covered_goes_on (a v).refusal (silent (a v)) (k (written (a v))) (j (written (a v))) (i.hidden v h);
-    hidden = λ v h. hidden_goes_on (a v).refusal (silent (a v)) (k (written (a v))) (j (written (a v))) (i.hidden v h);
-  }
-
-  apart_asks : Apart asks
-  apart_asks = record { same = λ v h. refl; hidden = λ v h. h }
-
   outside_steps : (r s : Restore Reg) (trace : Option (List ℕ)) → ((v : View Reg) → ending r (cover v) ≡ cover (ending s v)) → (ss : List (Step Reg)) → map (step_outside r trace) (map cover_step ss) ≡ map cover_step (map (step_outside s trace) ss)
   outside_steps r s trace e [] = refl
-  outside_steps r s trace e (x ∷ ss) = ap (λ y. record { piece = x.piece; checkpoint = x.checkpoint; traces = traced trace x.traces; at = y } ∷ map (step_outside r trace) (map cover_step ss)) (e x.at)
-      ∙ ap (λ ys. record { piece = x.piece; checkpoint = x.checkpoint; traces = traced trace x.traces; at = cover (ending s x.at) } ∷ ys) (outside_steps r s trace e ss)
+  outside_steps r s trace e (x ∷ ss) = ap (λ y. record { piece = x.piece; traces = traced trace x.traces; at = y } ∷ map (step_outside r trace) (map cover_step ss)) (e x.at)
+      ∙ ap (λ ys. record { piece = x.piece; traces = traced trace x.traces; at = cover (ending s x.at) } ∷ ys) (outside_steps r s trace e ss)
 
   outside_covered : (r s : Restore Reg) (trace : Option (List ℕ)) → ((v : View Reg) → ending r (cover v) ≡ cover (ending s v)) → (o : Run Reg) → outside r trace (covered o) ≡ covered (outside s trace o)
   outside_covered r s trace e o = ap (λ ss. record { steps = ss; refusal = option_map (refused_through trace) o.refusal; view = ending r (cover o.view) }) (outside_steps r s trace e o.steps)
@@ -235,26 +211,24 @@ module _ {Reg : Type 0} (g : Names) where
       apart_performed (text_turn piece) = apart_writes piece
       apart_performed (body_turn place frame trace) = apart_under s.fresh trace frame (part_at parts place) (each place)
       apart_performed (partial_turn name frame trace) = apart_under s.fresh trace frame (partials name) (ok name)
-      apart_performed (capture_turn place frame trace) = apart_under s.fresh trace frame (part_at parts place) (each place)
       apart_performed end_turn = apart_done
 
-      module _ {N R : Type 0} (m : NodeMeaning N R Reg) (law : Discreet m) (n : N) where
-        apart_answered : (a : Result TurnShape Refusal) (q : R) (rest : R → Action Reg) → ((p : R) → Apart (rest p)) → Apart (answered s partials m n parts a q rest)
-        apart_answered (Err refusal) q rest i = apart_refuses refusal
-        apart_answered (Ok (text_turn piece)) q rest i = apart_then (performed s partials parts (text_turn piece)) (rest q) (apart_performed (text_turn piece)) (i q)
-        apart_answered (Ok (body_turn place frame trace)) q rest i = apart_then (performed s partials parts (body_turn place frame trace)) (rest q) (apart_performed (body_turn place frame trace)) (i q)
-        apart_answered (Ok (partial_turn name frame trace)) q rest i = apart_then (performed s partials parts (partial_turn name frame trace)) (rest q) (apart_performed (partial_turn name frame trace)) (i q)
-        apart_answered (Ok (capture_turn place frame trace)) q rest i = apart_captured (performed s partials parts (capture_turn place frame trace)) (λ text. rest (m.catches n q text)) (apart_performed (capture_turn place frame trace)) (λ text. i (m.catches n q text))
-        apart_answered (Ok end_turn) q rest i = apart_done
+      apart_answered : (a : Result TurnShape Refusal) (rest : Action Reg) → Apart rest → Apart (answered s partials parts a rest)
+      apart_answered (Err refusal) rest i = apart_refuses refusal
+      apart_answered (Ok (text_turn piece)) rest i = apart_then (performed s partials parts (text_turn piece)) rest (apart_performed (text_turn piece)) i
+      apart_answered (Ok (body_turn place frame trace)) rest i = apart_then (performed s partials parts (body_turn place frame trace)) rest (apart_performed (body_turn place frame trace)) i
+      apart_answered (Ok (partial_turn name frame trace)) rest i = apart_then (performed s partials parts (partial_turn name frame trace)) rest (apart_performed (partial_turn name frame trace)) i
+      apart_answered (Ok end_turn) rest i = apart_done
 
+      module _ {N R : Type 0} (m : NodeMeaning N R Reg) (law : Discreet m) (n : N) where
         apart_turns : (left : ℕ) (progress : R) → Apart (turns s partials m n parts left progress)
         unfolding turns
         apart_turns zero progress = apart_done
-        apart_turns (suc left) progress = apart_then asks (λ w. answered s partials m n parts (m.takes n progress w).answer (m.takes n progress w).progress (turns s partials m n parts left) (with_written (m.takes n progress w).written w)) apart_asks (record {
-          same = λ v h. ap (λ t. answered s partials m n parts t.answer t.progress (turns s partials m n parts left) (with_written t.written (cover v))) (told_hidden (m.takes n progress) (law.turn n progress) v h)
-              ∙ (apart_answered (m.takes n progress v).answer (m.takes n progress v).progress (turns s partials m n parts left) (apart_turns left)).same (with_written (m.takes n progress v).written v) (told_stays_hidden (m.takes n progress) (law.turn n progress) v h);
-          hidden = λ v h. (apart_answered (m.takes n progress v).answer (m.takes n progress v).progress (turns s partials m n parts left) (apart_turns left)).hidden (with_written (m.takes n progress v).written v) (told_stays_hidden (m.takes n progress) (law.turn n progress) v h);
-        })
+        apart_turns (suc left) progress = record {
+          same = λ v h. ap (λ t. answered s partials parts t.answer (turns s partials m n parts left t.progress) (with_written t.written (cover v))) (told_hidden (m.takes n progress) (law.turn n progress) v h)
+              ∙ (apart_answered (m.takes n progress v).answer (turns s partials m n parts left (m.takes n progress v).progress) (apart_turns left (m.takes n progress v).progress)).same (with_written (m.takes n progress v).written v) (told_stays_hidden (m.takes n progress) (law.turn n progress) v h);
+          hidden = λ v h. (apart_answered (m.takes n progress v).answer (turns s partials m n parts left (m.takes n progress v).progress) (apart_turns left (m.takes n progress v).progress)).hidden (with_written (m.takes n progress v).written v) (told_stays_hidden (m.takes n progress) (law.turn n progress) v h);
+        }
 
         apart_started : (a : Result R Refusal) → Apart (started s partials m n parts a)
         apart_started (Err refusal) = apart_refuses refusal
@@ -315,7 +289,7 @@ module _ {Reg : Type 0} (assigned : Names) (o : View Reg) (e : o.globals ≡ Som
   back_steps : (ss : List (Step Reg)) → map (step_outside (restored_by (sandboxed_frame names name) o) None) (map (cover_step assigned) ss) ≡ map (step_over_outside o) (map (step_outside (restored_by (sandboxed_frame names name) (emptied fresh o)) None) ss)
   back_steps [] = refl
   back_steps (x ∷ ss) =
-      ap (λ y. record { piece = x.piece; checkpoint = x.checkpoint; traces = x.traces; at = y } ∷ map (step_outside (restored_by (sandboxed_frame names name) o) None) (map (cover_step assigned) ss)) (back_view x.at)
+      ap (λ y. record { piece = x.piece; traces = x.traces; at = y } ∷ map (step_outside (restored_by (sandboxed_frame names name) o) None) (map (cover_step assigned) ss)) (back_view x.at)
       ∙ ap (λ ys. step_over_outside o (step_outside (restored_by (sandboxed_frame names name) (emptied fresh o)) None x) ∷ ys) (back_steps ss)
 
   back : (r : Run Reg) → outside (restored_by (sandboxed_frame names name) o) None (covered assigned r) ≡ run_over_outside o (outside (restored_by (sandboxed_frame names name) (emptied fresh o)) None r)

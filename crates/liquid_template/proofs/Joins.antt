@@ -1,7 +1,7 @@
 -- How outcomes over a sink join: one thing after another, and a frame with a trace.
-use Rattle.std.proofs.Common.{◌≡◌, ℕ, ◌+◌, ◌<◌, true, false, List, [], ◌∷◌, ◌++◌, length, map, Option, Some, None, Result, Ok, Err, ◌⊎◌, inl, inr, refl, sym, ap, subst, ◌∙◌, append_assoc, arith, option_map}
+use Rattle.std.proofs.Common.{◌≡◌, ℕ, ◌+◌, List, [], ◌∷◌, ◌++◌, map, Option, Some, None, Result, Ok, Err, ◌⊎◌, inl, inr, refl, sym, ap, subst, ◌∙◌, append_assoc, option_map}
 use Rattle.std.specs.Prelude.{MatchOption, IfSome, unwrap_or}
-use Rattle.std.proofs.lemmas.List.{append-nil, length-append}
+use Rattle.std.proofs.lemmas.List.{append-nil}
 use Rattle.liquid_error.specs.declared.error.Error.{Error}
 use Rattle.liquid_error.specs.meaning.Refusal.{Refusal}
 use Rattle.liquid_error.specs.meaning.Told.{told}
@@ -9,13 +9,12 @@ use Rattle.liquid_error.specs.meaning.Helpers.{ErrBecomes}
 use Rattle.liquid_runtime.specs.meaning.View.{View}
 use Rattle.liquid_runtime.specs.meaning.Written.{written_of, with_written, SameFrames}
 use Rattle.liquid_runtime.specs.meaning.Frames.{FrameShape, no_frame, stack_frame, sandboxed_frame, isolated_frame, global_frame, Restore, beginning, restored_by, ending}
-use Rattle.liquid_template.specs.meaning.Run.{Step, Run, Action, pieces, written, one_if, checkpoints}
+use Rattle.liquid_template.specs.meaning.Run.{Step, Run, Action, pieces, written}
 use Rattle.liquid_template.specs.meaning.Actions.{refused_through, done, refuses, writes, goes_on, and_then, step_outside, outside, under}
 use Rattle.liquid_template.proofs.Pouring.{pours_nothing, pours_refused, pours_then, pours_through}
-use Rattle.liquid_template.specs.steps.PieceOut.{PieceLost, PieceFails, PieceRefused, Partial, PieceTaken, PieceOut}
-use Rattle.liquid_template.specs.meaning.Output.{Output, Passes, Refuses, PassesSome}
-use Rattle.liquid_template.specs.meaning.Outcome.{Whole, SinkFails, GateRefuses, BrokenOff, Cut, Stopped, Outcome, RendersWithin}
-use Rattle.liquid_template.proofs.Passing.{passes_none, passes_then, refuses_then, some_then, some_more, all_pass, none_pass, one_refused, passes_at, some_at, refuses_at}
+use Rattle.liquid_template.specs.steps.PieceOut.{Partly, PieceTaken, PieceOut}
+use Rattle.liquid_template.specs.meaning.Sunk.{Sunk}
+use Rattle.liquid_template.specs.meaning.Outcome.{Whole, BrokenOff, Cut, Stopped, Outcome, Renders, failed_to_render}
 
 pub some_is : {A : Type 0} (x y : A) → Some x ≡ Some y → x ≡ y
 some_is x y e = ap (λ o. unwrap_or o x) e
@@ -24,29 +23,10 @@ at_most_once : (m n k : ℕ) → n ≡ k → (m ≡ n) ⊎ (m ≡ n + 1) → (m 
 at_most_once m n k e (inl h) = inl (h ∙ e)
 at_most_once m n k e (inr h) = inr (h ∙ ap (λ i. i + 1) e)
 
-and_none : (n : ℕ) → n + 0 ≡ n
-and_none n = omega arith
-
-none_and : (n : ℕ) → 0 + n ≡ n
-none_and n = omega arith
-
-sum_of : (k m n : ℕ) → k + (m + n) ≡ k + m + n
-sum_of k m n = omega arith
-
-turns_same : (b a : Output) → a.turns ≡ b.turns → Passes b.turns 0 a.turns
-turns_same b a e = e ∙ passes_none b.turns
-
 module _ {Reg : Type 0} where
   pub pieces-append : (ss ts : List (Step Reg)) → pieces (ss ++ ts) ≡ pieces ss ++ pieces ts
   pieces-append [] ts = refl
   pieces-append (s ∷ ss) ts = ap (λ x. s.piece ++ x) (pieces-append ss ts) ∙ sym (append_assoc s.piece (pieces ss) (pieces ts))
-
-  pub checkpoints-append : (ss ts : List (Step Reg)) → checkpoints (ss ++ ts) ≡ checkpoints ss + checkpoints ts
-  checkpoints-append [] ts = sym (none_and (checkpoints ts))
-  checkpoints-append (s ∷ ss) ts = ap (λ n. one_if s.checkpoint + n) (checkpoints-append ss ts) ∙ sum_of (one_if s.checkpoint) (checkpoints ss) (checkpoints ts)
-
-  bytes-append : (ss ts : List (Step Reg)) → length (pieces (ss ++ ts)) ≡ length (pieces ss) + length (pieces ts)
-  bytes-append ss ts = ap length (pieces-append ss ts) ∙ length-append (pieces ss) (pieces ts)
 
   -- frames that are the same twice are the same
   pub same_frames_then : (v w x : View Reg) → SameFrames v w → SameFrames w x → SameFrames v x
@@ -67,55 +47,19 @@ module _ {Reg : Type 0} where
   stays r next refusal e = ap (λ f. goes_on f r next) e
 
   -- one thing was done, and then the next
-  whole_then : (r : Run Reg) (next : Action Reg) (b m a : Output) (w x : View Reg) → r.refusal ≡ None → Whole r b m w → Whole (next w) m a x → Whole (and_then r next) b a x
+  whole_then : (r : Run Reg) (next : Action Reg) (b m a : Sunk) (w x : View Reg) → r.refusal ≡ None → Whole r b m w → Whole (next w) m a x → Whole (and_then r next) b a x
   whole_then r next b m a w x d h i =
       let i' = subst (λ u. Whole (next u) m a x) h.view i in
       subst (λ p. Whole p b a x) (sym (joined r next d)) (record {
-        taken = i'.taken ∙ ap (λ t. t ++ written (next r.view)) h.taken ∙ append_assoc b.sunk.taken (written r) (written (next r.view)) ∙ ap (λ t. b.sunk.taken ++ t) (sym (pieces-append r.steps (next r.view).steps));
+        taken = i'.taken ∙ ap (λ t. t ++ written (next r.view)) h.taken ∙ append_assoc b.taken (written r) (written (next r.view)) ∙ ap (λ t. b.taken ++ t) (sym (pieces-append r.steps (next r.view).steps));
         failures = i'.failures ∙ h.failures;
-        turns = passes_at b.turns a.turns (checkpoints r.steps + checkpoints (next r.view).steps) (checkpoints (r.steps ++ (next r.view).steps)) (sym (checkpoints-append r.steps (next r.view).steps))
-            (passes_then b.turns m.turns a.turns (checkpoints r.steps) (checkpoints (next r.view).steps) h.turns i'.turns);
-        bytes = passes_at b.bytes a.bytes (length (written r) + length (written (next r.view))) (length (pieces (r.steps ++ (next r.view).steps))) (sym (bytes-append r.steps (next r.view).steps))
-            (passes_then b.bytes m.bytes a.bytes (length (written r)) (length (written (next r.view))) h.bytes i'.bytes);
         view = i'.view;
       })
 
   refusal_then : (r : Run Reg) (next : Action Reg) (w : View Reg) (f : Option Refusal) → r.refusal ≡ None → w ≡ r.view → (next w).refusal ≡ f → (and_then r next).refusal ≡ f
   refusal_then r next w f d h i = ap (λ p. p.refusal) (joined r next d) ∙ ap (λ u. (next u).refusal) (sym h) ∙ i
 
-  -- what breaks off after all that was done before
-  cause_then : (rs front : List (Step Reg)) (step : Step Reg) (part rest : List ℕ) (b m a : Output) (refusal : Refusal) → m.sunk.failures ≡ b.sunk.failures → Passes b.turns (checkpoints rs) m.turns → Passes b.bytes (length (pieces rs)) m.bytes
-      → SinkFails step rest (checkpoints front) (length (pieces front)) m a refusal ⊎ GateRefuses step part (checkpoints front) (length (pieces front)) m a refusal
-      → SinkFails step rest (checkpoints (rs ++ front)) (length (pieces (rs ++ front))) b a refusal ⊎ GateRefuses step part (checkpoints (rs ++ front)) (length (pieces (rs ++ front))) b a refusal
-  cause_then rs front step part rest b m a refusal e t u (inl h) = inl (record {
-    some_left = h.some_left;
-    failures = h.failures ∙ ap (λ n. n + 1) e;
-    turns = passes_at b.turns a.turns (checkpoints rs + checkpoints front) (checkpoints (rs ++ front)) (sym (checkpoints-append rs front)) (passes_then b.turns m.turns a.turns (checkpoints rs) (checkpoints front) t h.turns);
-    bytes = passes_at b.bytes a.bytes (length (pieces rs) + (length (pieces front) + length step.piece)) (length (pieces (rs ++ front)) + length step.piece) (sum_of (length (pieces rs)) (length (pieces front)) (length step.piece) ∙ ap (λ n. n + length step.piece) (sym (bytes-append rs front)))
-        (passes_then b.bytes m.bytes a.bytes (length (pieces rs)) (length (pieces front) + length step.piece) u h.bytes);
-    reason = h.reason;
-  })
-  cause_then rs front step part rest b m a refusal e t u (inr h) = inr (record {
-    nothing = h.nothing;
-    failures = h.failures ∙ e;
-    refused = refused_then h.refused;
-    reason = h.reason;
-  })
-    where
-      refused_then : ((step.checkpoint ≡ true) × Refuses m.turns (checkpoints front) a.turns × Passes m.bytes (length (pieces front)) a.bytes) ⊎ ((0 < length step.piece) × Passes m.turns (checkpoints front) a.turns × Refuses m.bytes (length (pieces front)) a.bytes)
-          → ((step.checkpoint ≡ true) × Refuses b.turns (checkpoints (rs ++ front)) a.turns × Passes b.bytes (length (pieces (rs ++ front))) a.bytes) ⊎ ((0 < length step.piece) × Passes b.turns (checkpoints (rs ++ front)) a.turns × Refuses b.bytes (length (pieces (rs ++ front))) a.bytes)
-      refused_then (inl x) = inl (
-        x.0,
-        refuses_at b.turns a.turns (checkpoints rs + checkpoints front) (checkpoints (rs ++ front)) (sym (checkpoints-append rs front)) (refuses_then b.turns m.turns a.turns (checkpoints rs) (checkpoints front) t x.1),
-        passes_at b.bytes a.bytes (length (pieces rs) + length (pieces front)) (length (pieces (rs ++ front))) (sym (bytes-append rs front)) (passes_then b.bytes m.bytes a.bytes (length (pieces rs)) (length (pieces front)) u x.2),
-      )
-      refused_then (inr x) = inr (
-        x.0,
-        passes_at b.turns a.turns (checkpoints rs + checkpoints front) (checkpoints (rs ++ front)) (sym (checkpoints-append rs front)) (passes_then b.turns m.turns a.turns (checkpoints rs) (checkpoints front) t x.1),
-        refuses_at b.bytes a.bytes (length (pieces rs) + length (pieces front)) (length (pieces (rs ++ front))) (sym (bytes-append rs front)) (refuses_then b.bytes m.bytes a.bytes (length (pieces rs)) (length (pieces front)) u x.2),
-      )
-
-  broken_then : (r : Run Reg) (next : Action Reg) (b m a : Output) (w x : View Reg) (refusal : Refusal) → r.refusal ≡ None → Whole r b m w → BrokenOff (next w) m a x refusal → BrokenOff (and_then r next) b a x refusal
+  broken_then : (r : Run Reg) (next : Action Reg) (b m a : Sunk) (w x : View Reg) (refusal : Refusal) → r.refusal ≡ None → Whole r b m w → BrokenOff (next w) m a x refusal → BrokenOff (and_then r next) b a x refusal
   broken_then r next b m a w x refusal d h i =
       let i' = subst (λ u. BrokenOff (next u) m a x refusal) h.view i in
       subst (λ p. BrokenOff p b a x refusal) (sym (joined r next d)) (record {
@@ -126,50 +70,48 @@ module _ {Reg : Type 0} where
         rest = i'.rest;
         steps = ap (λ t. r.steps ++ t) i'.steps ∙ sym (append_assoc r.steps i'.front (i'.step ∷ i'.later));
         piece = i'.piece;
-        taken = i'.taken ∙ ap (λ t. t ++ (pieces i'.front ++ i'.part)) h.taken ∙ append_assoc b.sunk.taken (written r) (pieces i'.front ++ i'.part)
-            ∙ ap (λ t. b.sunk.taken ++ t) (sym (append_assoc (written r) (pieces i'.front) i'.part) ∙ ap (λ t. t ++ i'.part) (sym (pieces-append r.steps i'.front)));
+        some_left = i'.some_left;
+        taken = i'.taken ∙ ap (λ t. t ++ (pieces i'.front ++ i'.part)) h.taken ∙ append_assoc b.taken (written r) (pieces i'.front ++ i'.part)
+            ∙ ap (λ t. b.taken ++ t) (sym (append_assoc (written r) (pieces i'.front) i'.part) ∙ ap (λ t. t ++ i'.part) (sym (pieces-append r.steps i'.front)));
+        failures = i'.failures ∙ ap (λ n. n + 1) h.failures;
         view = i'.view;
-        cause = cause_then r.steps i'.front i'.step i'.part i'.rest b m a refusal h.failures h.turns h.bytes i'.cause;
+        reason = i'.reason;
       })
 
-  cut_then : (r : Run Reg) (next : Action Reg) (b m a : Output) (w : View Reg) → r.refusal ≡ None → Whole r b m w → Cut (next w) m a → Cut (and_then r next) b a
+  cut_then : (r : Run Reg) (next : Action Reg) (b m a : Sunk) (w : View Reg) → r.refusal ≡ None → Whole r b m w → Cut (next w) m a → Cut (and_then r next) b a
   cut_then r next b m a w d h i =
       let i' = subst (λ u. Cut (next u) m a) h.view i in
       subst (λ p. Cut p b a) (sym (joined r next d)) (record {
         part = written r ++ i'.part;
         rest = i'.rest;
         pieces_are = pieces-append r.steps (next r.view).steps ∙ ap (λ t. written r ++ t) i'.pieces_are ∙ sym (append_assoc (written r) i'.part i'.rest);
-        taken = i'.taken ∙ ap (λ t. t ++ i'.part) h.taken ∙ append_assoc b.sunk.taken (written r) i'.part;
-        failures = at_most_once a.sunk.failures m.sunk.failures b.sunk.failures h.failures i'.failures;
-        turns = some_at b.turns a.turns (checkpoints r.steps + checkpoints (next r.view).steps) (checkpoints (r.steps ++ (next r.view).steps)) (sym (checkpoints-append r.steps (next r.view).steps))
-            (some_then b.turns m.turns a.turns (checkpoints r.steps) (checkpoints (next r.view).steps) h.turns i'.turns);
-        bytes = some_at b.bytes a.bytes (length (written r) + length (written (next r.view))) (length (pieces (r.steps ++ (next r.view).steps))) (sym (bytes-append r.steps (next r.view).steps))
-            (some_then b.bytes m.bytes a.bytes (length (written r)) (length (written (next r.view))) h.bytes i'.bytes);
+        taken = i'.taken ∙ ap (λ t. t ++ i'.part) h.taken ∙ append_assoc b.taken (written r) i'.part;
+        failures = at_most_once a.failures m.failures b.failures h.failures i'.failures;
       })
 
-  stopped_then : (r : Run Reg) (next : Action Reg) (b m a : Output) (w x : View Reg) (refusal : Refusal) → r.refusal ≡ None → Whole r b m w → Stopped (next w) m a x refusal → Stopped (and_then r next) b a x refusal
+  stopped_then : (r : Run Reg) (next : Action Reg) (b m a : Sunk) (w x : View Reg) (refusal : Refusal) → r.refusal ≡ None → Whole r b m w → Stopped (next w) m a x refusal → Stopped (and_then r next) b a x refusal
   stopped_then r next b m a w x refusal d h (inl i) = inl (whole_then r next b m a w x d h i.0, refusal_then r next w (Some refusal) d h.view i.1)
   stopped_then r next b m a w x refusal d h (inr i) = inr (broken_then r next b m a w x refusal d h i)
 
-  told_then : (t : Option Refusal) (r : Run Reg) (next : Action Reg) (b m a : Output) (w x : View Reg) → r.refusal ≡ None → Whole r b m w
+  told_then : (t : Option Refusal) (r : Run Reg) (next : Action Reg) (b m a : Sunk) (w x : View Reg) → r.refusal ≡ None → Whole r b m w
       → MatchOption t (Cut (next w) m a) (Stopped (next w) m a x) → MatchOption t (Cut (and_then r next) b a) (Stopped (and_then r next) b a x)
   told_then None r next b m a w x d h i = cut_then r next b m a w d h i
   told_then (Some refusal) r next b m a w x d h i = stopped_then r next b m a w x refusal d h i
 
-  outcome_then : (r : Run Reg) (next : Action Reg) (b m a : Output) (w x : View Reg) (answer : Result (Unit {0}) Error) → r.refusal ≡ None → Whole r b m w → Outcome (next w) m a x answer → Outcome (and_then r next) b a x answer
+  outcome_then : (r : Run Reg) (next : Action Reg) (b m a : Sunk) (w x : View Reg) (answer : Result (Unit {0}) Error) → r.refusal ≡ None → Whole r b m w → Outcome (next w) m a x answer → Outcome (and_then r next) b a x answer
   outcome_then r next b m a w x (Ok u) d h i = (whole_then r next b m a w x d h i.0, refusal_then r next w None d h.view i.1)
   outcome_then r next b m a w x (Err e) d h i = told_then (told e) r next b m a w x d h i
 
   -- a call that is done, and a call behind it
-  pub renders_then : (r : Run Reg) (next : Action Reg) (v w x : View Reg) (b m a : Output) (u : Unit {0}) (answer : Result (Unit {0}) Error) → RendersWithin r v b m w (Ok u) → RendersWithin (next w) w m a x answer → RendersWithin (and_then r next) v b a x answer
+  pub renders_then : (r : Run Reg) (next : Action Reg) (v w x : View Reg) (b m a : Sunk) (u : Unit {0}) (answer : Result (Unit {0}) Error) → Renders r v b m w (Ok u) → Renders (next w) w m a x answer → Renders (and_then r next) v b a x answer
   renders_then r next v w x b m a u answer h i = record {
     outcome = outcome_then r next b m a w x answer h.outcome.1 h.outcome.0 i.outcome;
     frames = same_frames_then v w x h.frames i.frames;
-    pours = pours_then b.sunk m.sunk a.sunk u answer h.pours i.pours;
+    pours = pours_then b m a u answer h.pours i.pours;
   }
 
   -- what is behind a refusal does not matter
-  cut_first : (f : Option Refusal) (r : Run Reg) (next : Action Reg) (b a : Output) → Cut r b a → Cut (goes_on f r next) b a
+  cut_first : (f : Option Refusal) (r : Run Reg) (next : Action Reg) (b a : Sunk) → Cut r b a → Cut (goes_on f r next) b a
   cut_first (Some refusal) r next b a h = h
   cut_first None r next b a h = record {
     part = h.part;
@@ -177,11 +119,9 @@ module _ {Reg : Type 0} where
     pieces_are = pieces-append r.steps (next r.view).steps ∙ ap (λ t. t ++ written (next r.view)) h.pieces_are ∙ append_assoc h.part h.rest (written (next r.view));
     taken = h.taken;
     failures = h.failures;
-    turns = some_at b.turns a.turns (checkpoints r.steps + checkpoints (next r.view).steps) (checkpoints (r.steps ++ (next r.view).steps)) (sym (checkpoints-append r.steps (next r.view).steps)) (some_more b.turns a.turns (checkpoints r.steps) (checkpoints (next r.view).steps) h.turns);
-    bytes = some_at b.bytes a.bytes (length (written r) + length (written (next r.view))) (length (pieces (r.steps ++ (next r.view).steps))) (sym (bytes-append r.steps (next r.view).steps)) (some_more b.bytes a.bytes (length (written r)) (length (written (next r.view))) h.bytes);
   }
 
-  broken_first : (f : Option Refusal) (r : Run Reg) (next : Action Reg) (b a : Output) (x : View Reg) (refusal : Refusal) → BrokenOff r b a x refusal → BrokenOff (goes_on f r next) b a x refusal
+  broken_first : (f : Option Refusal) (r : Run Reg) (next : Action Reg) (b a : Sunk) (x : View Reg) (refusal : Refusal) → BrokenOff r b a x refusal → BrokenOff (goes_on f r next) b a x refusal
   broken_first (Some own) r next b a x refusal h = h
   broken_first None r next b a x refusal h = record {
     front = h.front;
@@ -191,87 +131,58 @@ module _ {Reg : Type 0} where
     rest = h.rest;
     steps = ap (λ t. t ++ (next r.view).steps) h.steps ∙ append_assoc h.front (h.step ∷ h.later) (next r.view).steps;
     piece = h.piece;
+    some_left = h.some_left;
     taken = h.taken;
+    failures = h.failures;
     view = h.view;
-    cause = h.cause;
+    reason = h.reason;
   }
 
-  stopped_first : (r : Run Reg) (next : Action Reg) (b a : Output) (x : View Reg) (refusal : Refusal) → Stopped r b a x refusal → Stopped (and_then r next) b a x refusal
+  stopped_first : (r : Run Reg) (next : Action Reg) (b a : Sunk) (x : View Reg) (refusal : Refusal) → Stopped r b a x refusal → Stopped (and_then r next) b a x refusal
   stopped_first r next b a x refusal (inl h) = inl (subst (λ p. Whole p b a x × (p.refusal ≡ Some refusal)) (sym (stays r next refusal h.1)) h)
   stopped_first r next b a x refusal (inr h) = inr (broken_first r.refusal r next b a x refusal h)
 
-  told_first : (t : Option Refusal) (r : Run Reg) (next : Action Reg) (b a : Output) (x : View Reg) → MatchOption t (Cut r b a) (Stopped r b a x) → MatchOption t (Cut (and_then r next) b a) (Stopped (and_then r next) b a x)
+  told_first : (t : Option Refusal) (r : Run Reg) (next : Action Reg) (b a : Sunk) (x : View Reg) → MatchOption t (Cut r b a) (Stopped r b a x) → MatchOption t (Cut (and_then r next) b a) (Stopped (and_then r next) b a x)
   told_first None r next b a x h = cut_first r.refusal r next b a h
   told_first (Some refusal) r next b a x h = stopped_first r next b a x refusal h
 
-  pub renders_first : (r : Run Reg) (next : Action Reg) (v x : View Reg) (b a : Output) (e : Error) → RendersWithin r v b a x (Err e) → RendersWithin (and_then r next) v b a x (Err e)
+  pub renders_first : (r : Run Reg) (next : Action Reg) (v x : View Reg) (b a : Sunk) (e : Error) → Renders r v b a x (Err e) → Renders (and_then r next) v b a x (Err e)
   renders_first r next v x b a e h = record { outcome = told_first (told e) r next b a x h.outcome; frames = h.frames; pours = h.pours }
 
   -- nothing is written
-  pub renders_done : (v : View Reg) (b : Output) (u : Unit {0}) → RendersWithin (done v) v b b v (Ok u)
+  pub renders_done : (v : View Reg) (b : Sunk) (u : Unit {0}) → Renders (done v) v b b v (Ok u)
   renders_done v b u = record {
-    outcome = (record { taken = sym (append-nil b.sunk.taken); failures = refl; turns = passes_none b.turns; bytes = passes_none b.bytes; view = refl }, refl);
+    outcome = (record { taken = sym (append-nil b.taken); failures = refl; view = refl }, refl);
     frames = refl;
-    pours = pours_nothing b.sunk u;
+    pours = pours_nothing b u;
   }
 
-  told_refused : (t : Option Refusal) (r : Run Reg) (x : View Reg) (b : Output) → IfSome t (λ refusal. r ≡ refuses refusal x) → MatchOption t (Cut r b b) (Stopped r b b x)
-  told_refused None r x b h = record {
-    part = [];
-    rest = written r;
-    pieces_are = refl;
-    taken = sym (append-nil b.sunk.taken);
-    failures = inl refl;
-    turns = none_pass b.turns (checkpoints r.steps);
-    bytes = none_pass b.bytes (length (written r));
-  }
-  told_refused (Some refusal) r x b h = inl (subst (λ p. Whole p b b x × (p.refusal ≡ Some refusal)) (sym h) (record { taken = sym (append-nil b.sunk.taken); failures = refl; turns = passes_none b.turns; bytes = passes_none b.bytes; view = refl }, refl))
+  told_refused : (t : Option Refusal) (r : Run Reg) (x : View Reg) (b : Sunk) → IfSome t (λ refusal. r ≡ refuses refusal x) → MatchOption t (Cut r b b) (Stopped r b b x)
+  told_refused None r x b h = record { part = []; rest = written r; pieces_are = refl; taken = sym (append-nil b.taken); failures = inl refl }
+  told_refused (Some refusal) r x b h = inl (subst (λ p. Whole p b b x × (p.refusal ≡ Some refusal)) (sym h) (record { taken = sym (append-nil b.taken); failures = refl; view = refl }, refl))
 
   -- a refusal that is the run's own, with nothing written; want of memory says nothing of the run
-  pub renders_refused : (r : Run Reg) (v x : View Reg) (b : Output) (e : Error) → IfSome (told e) (λ refusal. r ≡ refuses refusal x) → SameFrames v x → RendersWithin r v b b x (Err e)
-  renders_refused r v x b e h s = record { outcome = told_refused (told e) r x b h; frames = s; pours = pours_refused b.sunk e }
+  pub renders_refused : (r : Run Reg) (v x : View Reg) (b : Sunk) (e : Error) → IfSome (told e) (λ refusal. r ≡ refuses refusal x) → SameFrames v x → Renders r v b b x (Err e)
+  renders_refused r v x b e h s = record { outcome = told_refused (told e) r x b h; frames = s; pours = pours_refused b e }
 
   -- seen from outside a frame and a trace
   pieces-outside : (restores : Restore Reg) (trace : Option (List ℕ)) (ss : List (Step Reg)) → pieces (map (step_outside restores trace) ss) ≡ pieces ss
   pieces-outside restores trace [] = refl
   pieces-outside restores trace (s ∷ ss) = ap (λ t. s.piece ++ t) (pieces-outside restores trace ss)
 
-  checkpoints-outside : (restores : Restore Reg) (trace : Option (List ℕ)) (ss : List (Step Reg)) → checkpoints (map (step_outside restores trace) ss) ≡ checkpoints ss
-  checkpoints-outside restores trace [] = refl
-  checkpoints-outside restores trace (s ∷ ss) = ap (λ n. one_if s.checkpoint + n) (checkpoints-outside restores trace ss)
-
-  pub map-middle : (f : Step Reg → Step Reg) (front : List (Step Reg)) (s : Step Reg) (later : List (Step Reg)) → map f (front ++ s ∷ later) ≡ map f front ++ f s ∷ map f later
+  map-middle : (f : Step Reg → Step Reg) (front : List (Step Reg)) (s : Step Reg) (later : List (Step Reg)) → map f (front ++ s ∷ later) ≡ map f front ++ f s ∷ map f later
   map-middle f [] s later = refl
   map-middle f (x ∷ front) s later = ap (λ t. f x ∷ t) (map-middle f front s later)
 
   module _ (restores : Restore Reg) (trace : Option (List ℕ)) where
-    whole_outside : (r : Run Reg) (b a : Output) (x : View Reg) → Whole r b a x → Whole (outside restores trace r) b a (ending restores x)
+    whole_outside : (r : Run Reg) (b a : Sunk) (x : View Reg) → Whole r b a x → Whole (outside restores trace r) b a (ending restores x)
     whole_outside r b a x h = record {
-      taken = h.taken ∙ ap (λ t. b.sunk.taken ++ t) (sym (pieces-outside restores trace r.steps));
+      taken = h.taken ∙ ap (λ t. b.taken ++ t) (sym (pieces-outside restores trace r.steps));
       failures = h.failures;
-      turns = passes_at b.turns a.turns (checkpoints r.steps) (checkpoints (map (step_outside restores trace) r.steps)) (sym (checkpoints-outside restores trace r.steps)) h.turns;
-      bytes = passes_at b.bytes a.bytes (length (written r)) (length (pieces (map (step_outside restores trace) r.steps))) (sym (ap length (pieces-outside restores trace r.steps))) h.bytes;
       view = ap (ending restores) h.view;
     }
 
-    cause_outside : (step : Step Reg) (part rest : List ℕ) (t t' n n' : ℕ) (b a : Output) (refusal : Refusal) → t ≡ t' → n ≡ n' → SinkFails step rest t n b a refusal ⊎ GateRefuses step part t n b a refusal
-        → SinkFails (step_outside restores trace step) rest t' n' b a (refused_through trace refusal) ⊎ GateRefuses (step_outside restores trace step) part t' n' b a (refused_through trace refusal)
-    cause_outside step part rest t t' n n' b a refusal i j (inl h) = inl (record {
-      some_left = h.some_left;
-      failures = h.failures;
-      turns = passes_at b.turns a.turns t t' i h.turns;
-      bytes = passes_at b.bytes a.bytes (n + length step.piece) (n' + length step.piece) (ap (λ k. k + length step.piece) j) h.bytes;
-      reason = ap (refused_through trace) h.reason;
-    })
-    cause_outside step part rest t t' n n' b a refusal i j (inr h) = inr (record {
-      nothing = h.nothing;
-      failures = h.failures;
-      refused = subst (λ k. ((step.checkpoint ≡ true) × Refuses b.turns k a.turns × Passes b.bytes n' a.bytes) ⊎ ((0 < length step.piece) × Passes b.turns k a.turns × Refuses b.bytes n' a.bytes)) i
-          (subst (λ k. ((step.checkpoint ≡ true) × Refuses b.turns t a.turns × Passes b.bytes k a.bytes) ⊎ ((0 < length step.piece) × Passes b.turns t a.turns × Refuses b.bytes k a.bytes)) j h.refused);
-      reason = ap (refused_through trace) h.reason;
-    })
-
-    broken_outside : (r : Run Reg) (b a : Output) (x : View Reg) (refusal : Refusal) → BrokenOff r b a x refusal → BrokenOff (outside restores trace r) b a (ending restores x) (refused_through trace refusal)
+    broken_outside : (r : Run Reg) (b a : Sunk) (x : View Reg) (refusal : Refusal) → BrokenOff r b a x refusal → BrokenOff (outside restores trace r) b a (ending restores x) (refused_through trace refusal)
     broken_outside r b a x refusal h = record {
       front = map (step_outside restores trace) h.front;
       step = step_outside restores trace h.step;
@@ -280,83 +191,36 @@ module _ {Reg : Type 0} where
       rest = h.rest;
       steps = ap (map (step_outside restores trace)) h.steps ∙ map-middle (step_outside restores trace) h.front h.step h.later;
       piece = h.piece;
-      taken = h.taken ∙ ap (λ t. b.sunk.taken ++ (t ++ h.part)) (sym (pieces-outside restores trace h.front));
-      view = ap (ending restores) h.view;
-      cause = cause_outside h.step h.part h.rest (checkpoints h.front) (checkpoints (map (step_outside restores trace) h.front)) (length (pieces h.front)) (length (pieces (map (step_outside restores trace) h.front))) b a refusal
-          (sym (checkpoints-outside restores trace h.front)) (sym (ap length (pieces-outside restores trace h.front))) h.cause;
-    }
-
-    cut_outside : (r : Run Reg) (b a : Output) → Cut r b a → Cut (outside restores trace r) b a
-    cut_outside r b a h = record {
-      part = h.part;
-      rest = h.rest;
-      pieces_are = pieces-outside restores trace r.steps ∙ h.pieces_are;
-      taken = h.taken;
+      some_left = h.some_left;
+      taken = h.taken ∙ ap (λ t. b.taken ++ (t ++ h.part)) (sym (pieces-outside restores trace h.front));
       failures = h.failures;
-      turns = some_at b.turns a.turns (checkpoints r.steps) (checkpoints (map (step_outside restores trace) r.steps)) (sym (checkpoints-outside restores trace r.steps)) h.turns;
-      bytes = some_at b.bytes a.bytes (length (written r)) (length (pieces (map (step_outside restores trace) r.steps))) (sym (ap length (pieces-outside restores trace r.steps))) h.bytes;
+      view = ap (ending restores) h.view;
+      reason = ap (refused_through trace) h.reason;
     }
 
-    stopped_outside : (r : Run Reg) (b a : Output) (x : View Reg) (refusal : Refusal) → Stopped r b a x refusal → Stopped (outside restores trace r) b a (ending restores x) (refused_through trace refusal)
+    cut_outside : (r : Run Reg) (b a : Sunk) → Cut r b a → Cut (outside restores trace r) b a
+    cut_outside r b a h = record { part = h.part; rest = h.rest; pieces_are = pieces-outside restores trace r.steps ∙ h.pieces_are; taken = h.taken; failures = h.failures }
+
+    stopped_outside : (r : Run Reg) (b a : Sunk) (x : View Reg) (refusal : Refusal) → Stopped r b a x refusal → Stopped (outside restores trace r) b a (ending restores x) (refused_through trace refusal)
     stopped_outside r b a x refusal (inl h) = inl (whole_outside r b a x h.0, ap (option_map (refused_through trace)) h.1)
     stopped_outside r b a x refusal (inr h) = inr (broken_outside r b a x refusal h)
 
-    -- what passed up to a step, of all that the run asks for
-    turns_in : (front later : List (Step Reg)) (step : Step Reg) → checkpoints (front ++ step ∷ later) ≡ checkpoints front + (one_if step.checkpoint + checkpoints later)
-    turns_in front later step = checkpoints-append front (step ∷ later)
-
-    bytes_in : (front later : List (Step Reg)) (step : Step Reg) → length (pieces (front ++ step ∷ later)) ≡ length (pieces front) + (length step.piece + length (pieces later))
-    bytes_in front later step = bytes-append front (step ∷ later) ∙ ap (λ n. length (pieces front) + n) (length-append step.piece (pieces later))
-
-    cause_failures : (step : Step Reg) (part rest : List ℕ) (t n : ℕ) (b a : Output) (refusal : Refusal) → SinkFails step rest t n b a refusal ⊎ GateRefuses step part t n b a refusal
-        → (a.sunk.failures ≡ b.sunk.failures) ⊎ (a.sunk.failures ≡ b.sunk.failures + 1)
-    cause_failures step part rest t n b a refusal (inl h) = inr h.failures
-    cause_failures step part rest t n b a refusal (inr h) = inl h.failures
-
-    cause_turns : (step : Step Reg) (part rest : List ℕ) (t n k : ℕ) (b a : Output) (refusal : Refusal) → SinkFails step rest t n b a refusal ⊎ GateRefuses step part t n b a refusal → PassesSome b.turns (t + k) a.turns
-    cause_turns step part rest t n k b a refusal (inl h) = all_pass b.turns a.turns t k h.turns
-    cause_turns step part rest t n k b a refusal (inr h) = turns_of h.refused
-      where
-        turns_of : ((step.checkpoint ≡ true) × Refuses b.turns t a.turns × Passes b.bytes n a.bytes) ⊎ ((0 < length step.piece) × Passes b.turns t a.turns × Refuses b.bytes n a.bytes) → PassesSome b.turns (t + k) a.turns
-        turns_of (inl x) = one_refused b.turns a.turns t k x.1
-        turns_of (inr x) = all_pass b.turns a.turns t k x.1
-
-    cause_bytes : (step : Step Reg) (part rest : List ℕ) (t n k : ℕ) (b a : Output) (refusal : Refusal) → SinkFails step rest t n b a refusal ⊎ GateRefuses step part t n b a refusal → PassesSome b.bytes (n + (length step.piece + k)) a.bytes
-    cause_bytes step part rest t n k b a refusal (inl h) = some_at b.bytes a.bytes (n + length step.piece + k) (n + (length step.piece + k)) (sym (sum_of n (length step.piece) k)) (all_pass b.bytes a.bytes (n + length step.piece) k h.bytes)
-    cause_bytes step part rest t n k b a refusal (inr h) = bytes_of h.refused
-      where
-        bytes_of : ((step.checkpoint ≡ true) × Refuses b.turns t a.turns × Passes b.bytes n a.bytes) ⊎ ((0 < length step.piece) × Passes b.turns t a.turns × Refuses b.bytes n a.bytes) → PassesSome b.bytes (n + (length step.piece + k)) a.bytes
-        bytes_of (inl x) = all_pass b.bytes a.bytes n (length step.piece + k) x.2
-        bytes_of (inr x) = one_refused b.bytes a.bytes n (length step.piece + k) x.2
-
     -- a refusal whose trace found no memory is cut
-    broken_cut : (r : Run Reg) (b a : Output) (x : View Reg) (refusal : Refusal) → BrokenOff r b a x refusal → Cut r b a
+    broken_cut : (r : Run Reg) (b a : Sunk) (x : View Reg) (refusal : Refusal) → BrokenOff r b a x refusal → Cut r b a
     broken_cut r b a x refusal h = record {
       part = pieces h.front ++ h.part;
       rest = h.rest ++ pieces h.later;
       pieces_are = ap pieces h.steps ∙ pieces-append h.front (h.step ∷ h.later) ∙ ap (λ t. pieces h.front ++ (t ++ pieces h.later)) h.piece
           ∙ ap (λ t. pieces h.front ++ t) (append_assoc h.part h.rest (pieces h.later)) ∙ sym (append_assoc (pieces h.front) h.part (h.rest ++ pieces h.later));
       taken = h.taken;
-      failures = cause_failures h.step h.part h.rest (checkpoints h.front) (length (pieces h.front)) b a refusal h.cause;
-      turns = some_at b.turns a.turns (checkpoints h.front + (one_if h.step.checkpoint + checkpoints h.later)) (checkpoints r.steps) (sym (ap checkpoints h.steps ∙ turns_in h.front h.later h.step))
-          (cause_turns h.step h.part h.rest (checkpoints h.front) (length (pieces h.front)) (one_if h.step.checkpoint + checkpoints h.later) b a refusal h.cause);
-      bytes = some_at b.bytes a.bytes (length (pieces h.front) + (length h.step.piece + length (pieces h.later))) (length (written r)) (sym (ap (λ ss. length (pieces ss)) h.steps ∙ bytes_in h.front h.later h.step))
-          (cause_bytes h.step h.part h.rest (checkpoints h.front) (length (pieces h.front)) (length (pieces h.later)) b a refusal h.cause);
+      failures = inr h.failures;
     }
 
-    stopped_cut : (r : Run Reg) (b a : Output) (x : View Reg) (refusal : Refusal) → Stopped r b a x refusal → Cut r b a
-    stopped_cut r b a x refusal (inl h) = record {
-      part = written r;
-      rest = [];
-      pieces_are = sym (append-nil (written r));
-      taken = h.0.taken;
-      failures = inl h.0.failures;
-      turns = some_at b.turns a.turns (checkpoints r.steps + 0) (checkpoints r.steps) (and_none (checkpoints r.steps)) (all_pass b.turns a.turns (checkpoints r.steps) 0 h.0.turns);
-      bytes = some_at b.bytes a.bytes (length (written r) + 0) (length (written r)) (and_none (length (written r))) (all_pass b.bytes a.bytes (length (written r)) 0 h.0.bytes);
-    }
+    stopped_cut : (r : Run Reg) (b a : Sunk) (x : View Reg) (refusal : Refusal) → Stopped r b a x refusal → Cut r b a
+    stopped_cut r b a x refusal (inl h) = record { part = written r; rest = []; pieces_are = sym (append-nil (written r)); taken = h.0.taken; failures = inl h.0.failures }
     stopped_cut r b a x refusal (inr h) = broken_cut r b a x refusal h
 
-    told_outside : (t t' : Option Refusal) (r : Run Reg) (b a : Output) (x : View Reg) → IfSome t' (λ refusal. option_map (refused_through trace) t ≡ Some refusal)
+    told_outside : (t t' : Option Refusal) (r : Run Reg) (b a : Sunk) (x : View Reg) → IfSome t' (λ refusal. option_map (refused_through trace) t ≡ Some refusal)
         → MatchOption t (Cut r b a) (Stopped r b a x) → MatchOption t' (Cut (outside restores trace r) b a) (Stopped (outside restores trace r) b a (ending restores x))
     told_outside None None r b a x e h = cut_outside r b a h
     told_outside (Some refusal) None r b a x e h = cut_outside r b a (stopped_cut r b a x refusal h)
@@ -364,78 +228,45 @@ module _ {Reg : Type 0} where
     told_outside (Some refusal) (Some refusal') r b a x e h =
         subst (Stopped (outside restores trace r) b a (ending restores x)) (some_is (refused_through trace refusal) refusal' e) (stopped_outside r b a x refusal h)
 
-    outcome_outside : (answer answer' : Result (Unit {0}) Error) (r : Run Reg) (b a : Output) (x : View Reg) → ErrBecomes (refused_through trace) answer answer' → Outcome r b a x answer → Outcome (outside restores trace r) b a (ending restores x) answer'
+    outcome_outside : (answer answer' : Result (Unit {0}) Error) (r : Run Reg) (b a : Sunk) (x : View Reg) → ErrBecomes (refused_through trace) answer answer' → Outcome r b a x answer → Outcome (outside restores trace r) b a (ending restores x) answer'
     outcome_outside (Ok u) answer' r b a x e h = subst (Outcome (outside restores trace r) b a (ending restores x)) (sym e) (whole_outside r b a x h.0, ap (option_map (refused_through trace)) h.1)
     outcome_outside (Err old) (Ok u) r b a x e h = absurd e
     outcome_outside (Err old) (Err new) r b a x e h = told_outside (told old) (told new) r b a x e h
 
   -- a call under a frame: what was rendered inside, with the trace put on its error, is what rendering under the frame and
   -- the trace comes to
-  pub renders_under : (fresh : Reg) (frame : FrameShape) (trace : Option (List ℕ)) (inner : Action Reg) (v w : View Reg) (b a : Output) (answer answer' : Result (Unit {0}) Error) → ErrBecomes (refused_through trace) answer answer'
-      → RendersWithin (inner (beginning fresh frame v)) (beginning fresh frame v) b a w answer → RendersWithin (under fresh frame trace inner v) v b a (ending (restored_by frame v) w) answer'
+  pub renders_under : (fresh : Reg) (frame : FrameShape) (trace : Option (List ℕ)) (inner : Action Reg) (v w : View Reg) (b a : Sunk) (answer answer' : Result (Unit {0}) Error) → ErrBecomes (refused_through trace) answer answer'
+      → Renders (inner (beginning fresh frame v)) (beginning fresh frame v) b a w answer → Renders (under fresh frame trace inner v) v b a (ending (restored_by frame v) w) answer'
   unfolding under
   renders_under fresh frame trace inner v w b a answer answer' e h = record {
     outcome = outcome_outside (restored_by frame v) trace answer answer' (inner (beginning fresh frame v)) b a w e h.outcome;
     frames = same_frames_ended fresh frame v w h.frames;
-    pours = pours_through (refused_through trace) b.sunk a.sunk answer answer' e h.pours;
+    pours = pours_through (refused_through trace) b a answer answer' e h.pours;
   }
 
-  abbrev put_step : List ℕ → View Reg → Step Reg
-  put_step piece v = record { piece = piece; checkpoint = false; traces = []; at = v }
-
-  put_cause : (piece part rest : List ℕ) (v : View Reg) (b a : Output) (refusal : Refusal) → a.turns ≡ b.turns → PieceFails piece rest b a refusal ⊎ PieceRefused piece part b a refusal
-      → SinkFails (put_step piece v) rest 0 0 b a refusal ⊎ GateRefuses (put_step piece v) part 0 0 b a refusal
-  put_cause piece part rest v b a refusal e (inl h) = inl (record {
-    some_left = h.some_left;
-    failures = h.failures;
-    turns = turns_same b a e;
-    bytes = passes_at b.bytes a.bytes (length piece) (0 + length piece) (sym (none_and (length piece))) h.bytes;
-    reason = h.reason;
-  })
-  put_cause piece part rest v b a refusal e (inr h) = inr (record {
-    nothing = h.nothing;
-    failures = h.failures;
-    refused = inr (h.some_asked, turns_same b a e, h.bytes);
-    reason = h.reason;
-  })
-
-  told_put : (t : Option Refusal) (piece : List ℕ) (v : View Reg) (b a : Output) → a.turns ≡ b.turns → Partial piece b a t
+  told_put : (t : Option Refusal) (piece : List ℕ) (v : View Reg) (b a : Sunk) → Partly piece b a
+      → MatchOption t ((a.failures ≡ b.failures) ⊎ (a.failures ≡ b.failures + 1)) (λ refusal. (a.failures ≡ b.failures + 1) × (refusal ≡ failed_to_render []))
       → MatchOption t (Cut (writes piece v) b a) (Stopped (writes piece v) b a v)
-  told_put None piece v b a e p = record {
-    part = p.part;
-    rest = p.rest;
-    pieces_are = append-nil piece ∙ p.is;
-    taken = p.taken;
-    failures = p.cause.failures;
-    turns = all_pass b.turns a.turns 0 0 (turns_same b a e);
-    bytes = some_at b.bytes a.bytes (length piece) (length (piece ++ [])) (sym (ap length (append-nil piece))) p.cause.bytes;
-  }
-  told_put (Some refusal) piece v b a e p = inr (record {
+  told_put None piece v b a p h = record { part = p.part; rest = p.rest; pieces_are = append-nil piece ∙ p.is; taken = p.taken; failures = h }
+  told_put (Some refusal) piece v b a p h = inr (record {
     front = [];
-    step = put_step piece v;
+    step = record { piece = piece; traces = []; at = v };
     later = [];
     part = p.part;
     rest = p.rest;
     steps = refl;
     piece = p.is;
+    some_left = p.some_left;
     taken = p.taken;
+    failures = h.0;
     view = refl;
-    cause = put_cause piece p.part p.rest v b a refusal e p.cause;
+    reason = h.1;
   })
 
-  outcome_put : (piece : List ℕ) (v : View Reg) (b a : Output) (answer : Result (Unit {0}) Error) → a.turns ≡ b.turns → PieceTaken piece b a answer → Outcome (writes piece v) b a v answer
-  outcome_put piece v b a (Ok u) e h = (
-    record {
-      taken = h.taken ∙ ap (λ t. b.sunk.taken ++ t) (sym (append-nil piece));
-      failures = h.failures;
-      turns = turns_same b a e;
-      bytes = passes_at b.bytes a.bytes (length piece) (length (piece ++ [])) (sym (ap length (append-nil piece))) h.bytes;
-      view = refl;
-    },
-    refl,
-  )
-  outcome_put piece v b a (Err x) e h = told_put (told x) piece v b a e h
+  outcome_put : (piece : List ℕ) (v : View Reg) (b a : Sunk) (answer : Result (Unit {0}) Error) → PieceTaken piece b a answer → Outcome (writes piece v) b a v answer
+  outcome_put piece v b a (Ok u) h = (record { taken = h.0 ∙ ap (λ t. b.taken ++ t) (sym (append-nil piece)); failures = h.1; view = refl }, refl)
+  outcome_put piece v b a (Err e) h = told_put (told e) piece v b a h.0 h.1
 
   -- one piece is put out
-  pub renders_put : (piece : List ℕ) (v : View Reg) (b a : Output) (answer : Result (Unit {0}) Error) → PieceOut piece b a answer → RendersWithin (writes piece v) v b a v answer
-  renders_put piece v b a answer h = record { outcome = outcome_put piece v b a answer h.turns h.taken; frames = refl; pours = h.pours }
+  pub renders_put : (piece : List ℕ) (v : View Reg) (b a : Sunk) (answer : Result (Unit {0}) Error) → PieceOut piece b a answer → Renders (writes piece v) v b a v answer
+  renders_put piece v b a answer h = record { outcome = outcome_put piece v b a answer h.taken; frames = refl; pours = h.pours }

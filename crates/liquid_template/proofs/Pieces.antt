@@ -12,7 +12,7 @@ use Rattle.liquid_error.specs.meaning.Told.{told, told_step}
 use Rattle.liquid_template.specs.meaning.Grows.{Grows}
 use Rattle.liquid_template.specs.meaning.Sunk.{Sunk}
 use Rattle.liquid_template.specs.meaning.Outcome.{failed_to_render}
-use Rattle.liquid_template.specs.steps.PiecePut.{Partly, PiecePut}
+use Rattle.liquid_template.specs.steps.PieceOut.{Partly, PieceOut}
 use Rattle.liquid_template.proofs.Growth.{Grows-start, Grows-both}
 
 -- the sink took a part of the piece, and the rest is left
@@ -53,7 +53,7 @@ nothing_left : (xs : List ℕ) → length xs ≡ 0 → xs ≡ []
 nothing_left [] e = refl
 nothing_left (x ∷ xs) e = cc
 
-pub piece_done : (piece rest : List ℕ) (b a : Sunk) (u : Unit {0}) → length rest ≡ 0 → IsUtf8 piece → SoFar piece rest b a → PiecePut piece b a (Ok u)
+pub piece_done : (piece rest : List ℕ) (b a : Sunk) (u : Unit {0}) → length rest ≡ 0 → IsUtf8 piece → SoFar piece rest b a → PieceOut piece b a (Ok u)
 piece_done piece rest b a u e t s =
     let all : a.taken ≡ b.taken ++ piece = s.taken ∙ ap (λ x. b.taken ++ x) (sym (s.is ∙ ap (λ x. s.part ++ x) (nothing_left rest e) ∙ append-nil s.part)) in
     record {
@@ -70,7 +70,7 @@ failed_cases None m n e h = inr e
 failed_cases (Some r) m n e h = (e, h)
 
 -- the sink failed at a put
-pub piece_failed : (piece rest : List ℕ) (b m a : Sunk) (e : Error) → SoFar piece rest b m → 0 < length rest → PutTook [] 1 m a → IfSome (told e) (λ r. r ≡ failed_to_render []) → PiecePut piece b a (Err e)
+pub piece_failed : (piece rest : List ℕ) (b m a : Sunk) (e : Error) → SoFar piece rest b m → 0 < length rest → PutTook [] 1 m a → IfSome (told e) (λ r. r ≡ failed_to_render []) → PieceOut piece b a (Err e)
 piece_failed piece rest b m a e s h p is = record {
   taken = (partly piece rest b m a 1 s h p, failed_cases (told e) a.failures b.failures (omega (arith, p.failures, s.failures)) is);
   pours = record { grows = put_grows [] 1 b m a s.grows p; lent = p.lent ∙ s.lent; text = tt };
@@ -85,7 +85,7 @@ lost_cases None m n i e = inl e
 lost_cases (Some r) m n i e = cc
 
 -- the sink had no memory for a put
-pub piece_lost : (piece rest : List ℕ) (b m a : Sunk) (e : Error) → SoFar piece rest b m → 0 < length rest → PutTook [] 0 m a → told e ≡ None → PiecePut piece b a (Err e)
+pub piece_lost : (piece rest : List ℕ) (b m a : Sunk) (e : Error) → SoFar piece rest b m → 0 < length rest → PutTook [] 0 m a → told e ≡ None → PieceOut piece b a (Err e)
 piece_lost piece rest b m a e s h p is = record {
   taken = (partly piece rest b m a 0 s h p, lost_cases (told e) a.failures b.failures is (omega (arith, p.failures, s.failures)));
   pours = record { grows = put_grows [] 0 b m a s.grows p; lent = p.lent ∙ s.lent; text = tt };

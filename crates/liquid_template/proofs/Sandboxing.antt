@@ -11,10 +11,9 @@ use Rattle.liquid_plugins.specs.meaning.Nodes.{Nodes}
 use Rattle.liquid_template.specs.meaning.Nodes.{Setting}
 use Rattle.liquid_template.specs.meaning.Rendering.{template_run, sandboxed_run}
 use Rattle.liquid_template.specs.meaning.Sandboxed.{RendersSandboxed, Untouched}
-use Rattle.liquid_template.specs.meaning.Output.{ungated}
 use Rattle.liquid_template.specs.meaning.Sunk.{Sunk}
 use Rattle.liquid_template.specs.meaning.Outcome.{Renders}
-use Rattle.liquid_template.proofs.Framing.{renders_framed, renders_memory, becomes_itself, without_gate, within_no_gate}
+use Rattle.liquid_template.proofs.Framing.{renders_framed, renders_memory, becomes_itself}
 use Rattle.liquid_template.proofs.Isolation.{isolated}
 
 module _ {Reg F T P B Q : Type 0} (s : Setting Reg F T P B Q) (tl : Discreet s.tags) (bl : Discreet s.blocks) (names : Names) (name : Option (List ℕ)) (ns : Nodes F T B) where
@@ -26,7 +25,7 @@ module _ {Reg F T P B Q : Type 0} (s : Setting Reg F T P B Q) (tl : Discreet s.t
   }
 
   pub sandboxed_memory : (v : View Reg) (b : Sunk) (e : Error) → told e ≡ None → RendersSandboxed s.fresh (sandboxed_run s names name ns) v b b v (Err e)
-  sandboxed_memory v b e h = sandboxed v v b b (Err e) (without_gate (sandboxed_run s names name ns v) v v b b (Err e) (renders_memory (sandboxed_run s names name ns v) v (ungated b) e h))
+  sandboxed_memory v b e h = sandboxed v v b b (Err e) (renders_memory (sandboxed_run s names name ns v) v b e h)
 
   -- the name may be told as a text of its own
   pub sandboxed_renders : (own : Option (List ℕ)) (v v1 w x : View Reg) (rs rs1 rs2 rs3 : List (Restore Reg)) (b a : Sunk) (answer : Result (Unit {0}) Error)
@@ -34,7 +33,7 @@ module _ {Reg F T P B Q : Type 0} (s : Setting Reg F T P B Q) (tl : Discreet s.t
       → RendersSandboxed s.fresh (sandboxed_run s names name ns) v b a x answer
   sandboxed_renders own v v1 w x rs rs1 rs2 rs3 b a answer e h i j k r =
       sandboxed v x b a answer (subst (λ n. Renders (sandboxed_run s names n ns v) v b a x answer) e
-      (without_gate (sandboxed_run s names own ns v) v x b a answer (renders_framed s.fresh (sandboxed_frame names own) None (template_run s ns) v v1 w x rs rs1 rs2 rs3 (ungated b) (ungated a) answer answer h i j k (becomes_itself answer) (within_no_gate (template_run s ns v1) v1 w b a answer r))))
+      (renders_framed s.fresh (sandboxed_frame names own) None (template_run s ns) v v1 w x rs rs1 rs2 rs3 b a answer answer h i j k (becomes_itself answer) r))
 
 -- a sandboxed frame gives interrupt and register back when it ends
 module _ {Reg : Type 0} where

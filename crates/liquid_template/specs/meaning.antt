@@ -4,7 +4,6 @@ pub mod Grows
 pub mod Isolated
 pub mod Nodes
 pub mod Outcome
-pub mod Output
 pub mod Partials
 pub mod Pours
 pub mod Put

@@ -3,6 +3,4 @@ pub mod Going
 pub mod NodeTurns
 pub mod PartsOf
 pub mod PieceOut
-pub mod PiecePut
-pub mod Place
 pub mod Sought

@@ -1,5 +1,5 @@
 //! Writing what a chain comes to.
-ghost use Rattle.std.specs.Prelude.{◌≡◌, Ok};
+ghost use Rattle.std.specs.Prelude.{Ok};
 ghost use Rattle.std.specs.Cow.{cow_str_bytes};
 ghost use Rattle.liquid_error.specs.meaning.Told.{Gives};
 ghost use Rattle.liquid_value.specs.meaning.View.{view as tree_of};
@@ -8,11 +8,11 @@ ghost use Rattle.liquid_plugins.specs.meaning.Chain.{chain_value};
 ghost use Rattle.liquid_plugins.specs.meaning.ExpressionOf.{chain_of};
 ghost use Rattle.liquid_plugins.specs.meaning.NodesOf.{name_chain};
 ghost use Rattle.liquid_template.specs.meaning.Actions.{writes_value};
-ghost use Rattle.liquid_template.specs.meaning.Outcome.{RendersWithin};
+ghost use Rattle.liquid_template.specs.meaning.Outcome.{Renders};
 ghost use Rattle.liquid_template.specs.steps.PieceOut.{ValueOut};
-ghost use Rattle.liquid_template.specs.steps.Place.{target, around};
 
-use crate::outlet::Out;
+use crate::piece::write_piece;
+use crate::sink::Sink;
 use liquid_error::Error;
 use liquid_plugins::{Filter, FilterChain, named_value};
 use liquid_runtime::Runtime;
@@ -40,18 +40,17 @@ fn rendered_text(alloc: Global, value: &Value) -> Result<CowStr<'_>, Error>
 
 /// Writes the text that a value renders as, as one piece. A text is written from where it stands, and a number takes no
 /// memory. Where there is no memory for the text, nothing is written.
-fn write_value<O: Out>(alloc: Global, out: &mut O, value: &Value) -> Result<(), Error>
-    ensures out { ValueOut (render (tree_of value.now)) (target (O.place out.old)) (target (O.place out.new)) result }
-    ensures around { around (O.place out.new) ≡ around (O.place out.old) }
+fn write_value<K: Sink>(alloc: Global, sink: &mut K, value: &Value) -> Result<(), Error>
+    ensures { ValueOut (render (tree_of value.now)) (K.sunk sink.old) (K.sunk sink.new) result }
 {
     match value {
         Value::Scalar(ScalarOf::Integer(number)) => {
             let mut digits = itoa::Buffer::new();
-            out.put(alloc, digits.format(*number))
+            write_piece(alloc, sink, digits.format(*number))
         }
-        Value::Scalar(ScalarOf::Str(text)) => out.put(alloc, text.as_str()),
+        Value::Scalar(ScalarOf::Str(text)) => write_piece(alloc, sink, text.as_str()),
         other => match rendered_text(alloc, other) {
-            Ok(text) => out.put(alloc, text.as_str()),
+            Ok(text) => write_piece(alloc, sink, text.as_str()),
             Err(error) => Err(error),
         },
     }
@@ -59,48 +58,46 @@ fn write_value<O: Out>(alloc: Global, out: &mut O, value: &Value) -> Result<(), 
 
 /// Renders a chain: its value's text, as one piece.
 #[inline(never)]
-pub(crate) fn render_chain<X, R, O>(
+pub(crate) fn render_chain<X, R, K>(
     alloc: Global,
     chain: &FilterChain<X>,
-    out: &mut O,
+    sink: &mut K,
     runtime: &R,
 ) -> Result<(), Error>
 where
     X: Filter,
     R: Runtime,
-    O: Out,
-    ensures renders { RendersWithin (writes_value (chain_value X.means (chain_of X.shape chain.now) (R.view runtime.now)) (R.view runtime.now))
-        (R.view runtime.now) (target (O.place out.old)) (target (O.place out.new)) (R.view runtime.now) result }
-    ensures around { around (O.place out.new) ≡ around (O.place out.old) }
+    K: Sink,
+    ensures { Renders (writes_value (chain_value X.means (chain_of X.shape chain.now) (R.view runtime.now)) (R.view runtime.now))
+        (R.view runtime.now) (K.sunk sink.old) (K.sunk sink.new) (R.view runtime.now) result }
 {
     match chain.evaluate(alloc, runtime) {
-        Ok(value) => write_value(alloc, out, value.as_view()),
+        Ok(value) => write_value(alloc, sink, value.as_view()),
         Err(error) => Err(error),
     }
 }
 
 /// Renders a name alone, as its chain is rendered. Where the name has no value, the chain is made and tells the refusal.
 #[inline(never)]
-pub(crate) fn render_name<X, R, O>(
+pub(crate) fn render_name<X, R, K>(
     alloc: Global,
     name: &str,
-    out: &mut O,
+    sink: &mut K,
     runtime: &R,
 ) -> Result<(), Error>
 where
     X: Filter,
     R: Runtime,
-    O: Out,
-    ensures renders { RendersWithin (writes_value (chain_value X.means (name_chain name.now) (R.view runtime.now)) (R.view runtime.now))
-        (R.view runtime.now) (target (O.place out.old)) (target (O.place out.new)) (R.view runtime.now) result }
-    ensures around { around (O.place out.new) ≡ around (O.place out.old) }
+    K: Sink,
+    ensures { Renders (writes_value (chain_value X.means (name_chain name.now) (R.view runtime.now)) (R.view runtime.now))
+        (R.view runtime.now) (K.sunk sink.old) (K.sunk sink.new) (R.view runtime.now) result }
 {
     match named_value(name, runtime) {
-        Some(value) => write_value(alloc, out, value),
+        Some(value) => write_value(alloc, sink, value),
         None => {
             let made: Result<FilterChain<X>, AllocError> = FilterChain::of_name(alloc, name);
             match made {
-                Ok(chain) => render_chain(alloc, &chain, out, runtime),
+                Ok(chain) => render_chain(alloc, &chain, sink, runtime),
                 Err(_) => Err(Error::Memory),
             }
         }

@@ -1,24 +1,22 @@
 //! The renderer's cycle. It keeps no more across a call than the next turn needs: a value of a turn, an error or a
 //! frame is made, taken and let go in functions that have returned before the cycle goes on, so that a level of nesting
 //! takes little native stack.
-ghost use Rattle.std.specs.Prelude.{◌≡◌, ◌-◌, ◌<◌, [], IsOk, length, option_map, string_bytes};
+ghost use Rattle.std.specs.Prelude.{◌≡◌, ◌-◌, ◌<◌, [], IsOk};
 ghost use Rattle.liquid_plugins.specs.meaning.NodesOf.{node_of, nodes_of};
-ghost use Rattle.liquid_runtime.specs.meaning.OpenFrames.{opened};
 ghost use Rattle.liquid_template.specs.meaning.Nodes.{run_parts};
 ghost use Rattle.liquid_template.specs.meaning.Partials.{partials_at, partials_of};
 ghost use Rattle.liquid_template.specs.meaning.Rendering.{nodes_run};
-ghost use Rattle.liquid_template.specs.meaning.Outcome.{RendersWithin};
+ghost use Rattle.liquid_template.specs.meaning.Outcome.{Renders};
 ghost use Rattle.liquid_template.specs.meaning.Runs.{setting, node_run, tag_run, block_run, part_run};
 ghost use Rattle.liquid_template.specs.meaning.TemplateOf.{template_nodes};
 ghost use Rattle.liquid_template.specs.steps.PartsOf.{parts_of};
 ghost use Rattle.liquid_template.specs.steps.Bound.{partials_size};
-ghost use Rattle.liquid_template.specs.steps.Going.{Takes, Captured};
-ghost use Rattle.liquid_template.specs.steps.Place.{target, around};
+ghost use Rattle.liquid_template.specs.steps.Going.{Takes};
 
 use crate::begun::{Going, begun, begun_apart, let_go};
 use crate::leaf::{put_chain, put_name, put_text};
 use crate::opened::{closed, let_partial_go};
-use crate::outlet::Out;
+use crate::sink::Sink;
 use crate::store::PartialStore;
 use crate::template::Template;
 use crate::turn::{Step, turned};
@@ -30,11 +28,11 @@ use std::rc::Rc;
 
 /// Renders nodes, up to a refusal or an interrupt.
 #[cycle(render)]
-pub(crate) fn render_list<X, T, B, S, O>(
+pub(crate) fn render_list<X, T, B, S, K>(
     alloc: Global,
     nodes: &[Node<X, T, B>],
     depth: u32,
-    out: &mut O,
+    sink: &mut K,
     scopes: &mut S,
     answer: &mut Result<(), Error>,
 )
@@ -44,22 +42,21 @@ where
     T: Renderable<S::Register>,
     B: Renderable<S::Register>,
     S::Store: PartialStore<X, T, B>,
-    O: Out,
+    K: Sink,
     requires { IsOk answer.old }
-    ensures renders { RendersWithin (nodes_run
+    ensures renders { Renders (nodes_run
         (setting S.Register.fresh X.means T.means B.means (partials_of S.Store.finds (S.store scopes.old)))
         depth (nodes_of X.shape T.shape B.shape nodes.now)
         (S.view scopes.old))
-        (S.view scopes.old) (target (O.place out.old)) (target (O.place out.new)) (S.view scopes.new) answer.new }
+        (S.view scopes.old) (K.sunk sink.old) (K.sunk sink.new) (S.view scopes.new) answer.new }
     ensures owes { S.restores scopes.new ≡ S.restores scopes.old }
     ensures store { partials_of S.Store.finds (S.store scopes.new) ≡ partials_of S.Store.finds (S.store scopes.old) }
     ensures bound { partials_size (partials_of S.Store.finds (S.store scopes.new))
         ≡ partials_size (partials_of S.Store.finds (S.store scopes.old)) }
     ensures borrows { S.lent scopes.new ≡ S.lent scopes.old }
-    ensures around { around (O.place out.new) ≡ around (O.place out.old) }
 {
     for node in nodes {
-        render_node(alloc, node, depth, out, scopes, answer);
+        render_node(alloc, node, depth, sink, scopes, answer);
         match answer {
             Ok(()) => {}
             Err(_) => return,
@@ -72,11 +69,11 @@ where
 
 /// Renders a node.
 #[cycle(render)]
-fn render_node<X, T, B, S, O>(
+fn render_node<X, T, B, S, K>(
     alloc: Global,
     node: &Node<X, T, B>,
     depth: u32,
-    out: &mut O,
+    sink: &mut K,
     scopes: &mut S,
     answer: &mut Result<(), Error>,
 )
@@ -86,38 +83,37 @@ where
     T: Renderable<S::Register>,
     B: Renderable<S::Register>,
     S::Store: PartialStore<X, T, B>,
-    O: Out,
+    K: Sink,
     requires { IsOk answer.old }
-    ensures renders { RendersWithin (node_run
+    ensures renders { Renders (node_run
         (setting S.Register.fresh X.means T.means B.means (partials_of S.Store.finds (S.store scopes.old)))
         depth (node_of X.shape T.shape B.shape node.now)
         (S.view scopes.old))
-        (S.view scopes.old) (target (O.place out.old)) (target (O.place out.new)) (S.view scopes.new) answer.new }
+        (S.view scopes.old) (K.sunk sink.old) (K.sunk sink.new) (S.view scopes.new) answer.new }
     ensures owes { S.restores scopes.new ≡ S.restores scopes.old }
     ensures store { partials_of S.Store.finds (S.store scopes.new) ≡ partials_of S.Store.finds (S.store scopes.old) }
     ensures bound { partials_size (partials_of S.Store.finds (S.store scopes.new))
         ≡ partials_size (partials_of S.Store.finds (S.store scopes.old)) }
     ensures borrows { S.lent scopes.new ≡ S.lent scopes.old }
-    ensures around { around (O.place out.new) ≡ around (O.place out.old) }
 {
     match node {
-        Node::Text(text) => put_text(alloc, text.as_str(), out, answer),
-        Node::Brief(text) => put_text(alloc, text.as_str(), out, answer),
-        Node::Name(name) => put_name::<X, S, O>(alloc, name.as_str(), out, scopes, answer),
-        Node::Chain(chain) => put_chain(alloc, chain, out, scopes, answer),
-        Node::Tag(tag) => render_tag(alloc, tag, depth, out, scopes, answer),
-        Node::Block(block, parts) => render_block(alloc, block, parts, depth, out, scopes, answer),
+        Node::Text(text) => put_text(alloc, text.as_str(), sink, answer),
+        Node::Brief(text) => put_text(alloc, text.as_str(), sink, answer),
+        Node::Name(name) => put_name::<X, S, K>(alloc, name.as_str(), sink, scopes, answer),
+        Node::Chain(chain) => put_chain(alloc, chain, sink, scopes, answer),
+        Node::Tag(tag) => render_tag(alloc, tag, depth, sink, scopes, answer),
+        Node::Block(block, parts) => render_block(alloc, block, parts, depth, sink, scopes, answer),
     }
 }
 
 /// Renders a tag's node, which has no parts. Tags open partials alone, so what they keep needs no box.
 #[cycle(render)]
 #[inline(never)]
-fn render_tag<X, T, B, S, O>(
+fn render_tag<X, T, B, S, K>(
     alloc: Global,
     tag: &T,
     depth: u32,
-    out: &mut O,
+    sink: &mut K,
     scopes: &mut S,
     answer: &mut Result<(), Error>,
 )
@@ -127,26 +123,25 @@ where
     T: Renderable<S::Register>,
     B: Renderable<S::Register>,
     S::Store: PartialStore<X, T, B>,
-    O: Out,
+    K: Sink,
     requires { IsOk answer.old }
-    ensures renders { RendersWithin (tag_run
+    ensures renders { Renders (tag_run
         (setting S.Register.fresh X.means T.means B.means (partials_of S.Store.finds (S.store scopes.old)))
         depth (T.shape tag.now)
         (S.view scopes.old))
-        (S.view scopes.old) (target (O.place out.old)) (target (O.place out.new)) (S.view scopes.new) answer.new }
+        (S.view scopes.old) (K.sunk sink.old) (K.sunk sink.new) (S.view scopes.new) answer.new }
     ensures owes { S.restores scopes.new ≡ S.restores scopes.old }
     ensures store { partials_of S.Store.finds (S.store scopes.new) ≡ partials_of S.Store.finds (S.store scopes.old) }
     ensures bound { partials_size (partials_of S.Store.finds (S.store scopes.new))
         ≡ partials_size (partials_of S.Store.finds (S.store scopes.old)) }
     ensures borrows { S.lent scopes.new ≡ S.lent scopes.old }
-    ensures around { around (O.place out.new) ≡ around (O.place out.old) }
 {
     let mut going = match begun(alloc, tag, scopes, answer) {
         Some(going) => going,
         None => return,
     };
     for _ in 0..T::turns(&going.progress) {
-        if !take_tag(alloc, tag, &mut going, depth, out, scopes, answer) {
+        if !take_tag(alloc, tag, &mut going, depth, sink, scopes, answer) {
             return;
         }
     }
@@ -154,12 +149,12 @@ where
 
 /// Takes a tag's turn, and tells whether the others come.
 #[cycle(render)]
-fn take_tag<X, T, B, S, O>(
+fn take_tag<X, T, B, S, K>(
     alloc: Global,
     tag: &T,
     going: &mut Going<T::Progress>,
     depth: u32,
-    out: &mut O,
+    sink: &mut K,
     scopes: &mut S,
     answer: &mut Result<(), Error>,
 ) -> bool
@@ -169,32 +164,24 @@ where
     T: Renderable<S::Register>,
     B: Renderable<S::Register>,
     S::Store: PartialStore<X, T, B>,
-    O: Out,
+    K: Sink,
     requires { IsOk answer.old }
     ensures takes { Takes (setting S.Register.fresh X.means T.means B.means (partials_of S.Store.finds (S.store scopes.old)))
         depth T.means (T.shape tag.now) []
         (T.Progress.shape going.old.progress) (T.Progress.shape going.new.progress)
-        (S.view scopes.old) (S.view scopes.new) (target (O.place out.old)) (target (O.place out.new)) answer.new result }
+        (S.view scopes.old) (S.view scopes.new) (K.sunk sink.old) (K.sunk sink.new) answer.new result }
     ensures owes { S.restores scopes.new ≡ S.restores scopes.old }
     ensures store { partials_of S.Store.finds (S.store scopes.new) ≡ partials_of S.Store.finds (S.store scopes.old) }
     ensures bound { partials_size (partials_of S.Store.finds (S.store scopes.new))
         ≡ partials_size (partials_of S.Store.finds (S.store scopes.old)) }
     ensures borrows { S.lent scopes.new ≡ S.lent scopes.old }
-    ensures around { around (O.place out.new) ≡ around (O.place out.old) }
 {
-    match turned(alloc, tag, going, depth, out, scopes, answer) {
+    match turned(alloc, tag, going, depth, sink, scopes, answer) {
         Step::Stop => false,
         Step::Next => true,
         Step::Part(_) => closed(alloc, tag, going, scopes, answer),
-        Step::Captured(_) => {
-            let goes_on = closed(alloc, tag, going, scopes, answer);
-            if goes_on {
-                tag.caught(&mut going.progress, String::new(alloc));
-            }
-            goes_on
-        }
         Step::Partial(template) => {
-            render_partial(alloc, template, depth, out, scopes, answer);
+            render_partial(alloc, template, depth, sink, scopes, answer);
             closed(alloc, tag, going, scopes, answer)
         }
     }
@@ -202,12 +189,12 @@ where
 
 /// Renders a block's node.
 #[cycle(render)]
-fn render_block<X, T, B, S, O>(
+fn render_block<X, T, B, S, K>(
     alloc: Global,
     block: &B,
     parts: &[Vec<Node<X, T, B>>],
     depth: u32,
-    out: &mut O,
+    sink: &mut K,
     scopes: &mut S,
     answer: &mut Result<(), Error>,
 )
@@ -217,26 +204,25 @@ where
     T: Renderable<S::Register>,
     B: Renderable<S::Register>,
     S::Store: PartialStore<X, T, B>,
-    O: Out,
+    K: Sink,
     requires { IsOk answer.old }
-    ensures renders { RendersWithin (block_run
+    ensures renders { Renders (block_run
         (setting S.Register.fresh X.means T.means B.means (partials_of S.Store.finds (S.store scopes.old)))
         depth (B.shape block.now) (parts_of X.shape T.shape B.shape parts.now)
         (S.view scopes.old))
-        (S.view scopes.old) (target (O.place out.old)) (target (O.place out.new)) (S.view scopes.new) answer.new }
+        (S.view scopes.old) (K.sunk sink.old) (K.sunk sink.new) (S.view scopes.new) answer.new }
     ensures owes { S.restores scopes.new ≡ S.restores scopes.old }
     ensures store { partials_of S.Store.finds (S.store scopes.new) ≡ partials_of S.Store.finds (S.store scopes.old) }
     ensures bound { partials_size (partials_of S.Store.finds (S.store scopes.new))
         ≡ partials_size (partials_of S.Store.finds (S.store scopes.old)) }
     ensures borrows { S.lent scopes.new ≡ S.lent scopes.old }
-    ensures around { around (O.place out.new) ≡ around (O.place out.old) }
 {
     let mut going = match begun_apart(alloc, block, scopes, answer) {
         Some(going) => going,
         None => return,
     };
     for _ in 0..B::turns(&going.progress) {
-        if !take_block(alloc, block, parts, &mut going, depth, out, scopes, answer) {
+        if !take_block(alloc, block, parts, &mut going, depth, sink, scopes, answer) {
             let_go(going);
             return;
         }
@@ -246,13 +232,13 @@ where
 
 /// Takes a block's turn, and tells whether the others come.
 #[cycle(render)]
-fn take_block<X, T, B, S, O>(
+fn take_block<X, T, B, S, K>(
     alloc: Global,
     block: &B,
     parts: &[Vec<Node<X, T, B>>],
     going: &mut Going<B::Progress>,
     depth: u32,
-    out: &mut O,
+    sink: &mut K,
     scopes: &mut S,
     answer: &mut Result<(), Error>,
 ) -> bool
@@ -262,7 +248,7 @@ where
     T: Renderable<S::Register>,
     B: Renderable<S::Register>,
     S::Store: PartialStore<X, T, B>,
-    O: Out,
+    K: Sink,
     requires { IsOk answer.old }
     ensures takes { Takes (setting S.Register.fresh X.means T.means B.means (partials_of S.Store.finds (S.store scopes.old)))
         depth B.means (B.shape block.now) (run_parts
@@ -270,88 +256,35 @@ where
         (partials_at (setting S.Register.fresh X.means T.means B.means (partials_of S.Store.finds (S.store scopes.old))) depth)
         (parts_of X.shape T.shape B.shape parts.now))
         (B.Progress.shape going.old.progress) (B.Progress.shape going.new.progress)
-        (S.view scopes.old) (S.view scopes.new) (target (O.place out.old)) (target (O.place out.new)) answer.new result }
+        (S.view scopes.old) (S.view scopes.new) (K.sunk sink.old) (K.sunk sink.new) answer.new result }
     ensures owes { S.restores scopes.new ≡ S.restores scopes.old }
     ensures store { partials_of S.Store.finds (S.store scopes.new) ≡ partials_of S.Store.finds (S.store scopes.old) }
     ensures bound { partials_size (partials_of S.Store.finds (S.store scopes.new))
         ≡ partials_size (partials_of S.Store.finds (S.store scopes.old)) }
     ensures borrows { S.lent scopes.new ≡ S.lent scopes.old }
-    ensures around { around (O.place out.new) ≡ around (O.place out.old) }
 {
-    match turned(alloc, block, going, depth, out, scopes, answer) {
+    match turned(alloc, block, going, depth, sink, scopes, answer) {
         Step::Stop => false,
         Step::Next => true,
         Step::Part(place) => {
-            render_part(alloc, parts, place, depth, out, scopes, answer);
+            render_part(alloc, parts, place, depth, sink, scopes, answer);
             closed(alloc, block, going, scopes, answer)
-        }
-        Step::Captured(place) => {
-            take_captured(
-                alloc, block, parts, place, going, depth, out, scopes, answer,
-            )
         }
         Step::Partial(template) => {
-            render_partial(alloc, template, depth, out, scopes, answer);
+            render_partial(alloc, template, depth, sink, scopes, answer);
             closed(alloc, block, going, scopes, answer)
         }
     }
-}
-
-/// Renders a part into a text of its own, ends its frame, and hands the text to the block, if the part was not refused.
-/// Returns whether the other turns follow.
-#[cycle(render)]
-#[inline(never)]
-fn take_captured<X, T, B, S, O>(
-    alloc: Global,
-    block: &B,
-    parts: &[Vec<Node<X, T, B>>],
-    place: u64,
-    going: &mut Going<B::Progress>,
-    depth: u32,
-    out: &mut O,
-    scopes: &mut S,
-    answer: &mut Result<(), Error>,
-) -> bool
-where
-    X: Filter,
-    S: Scopes,
-    T: Renderable<S::Register>,
-    B: Renderable<S::Register>,
-    S::Store: PartialStore<X, T, B>,
-    O: Out,
-    requires no_error { IsOk answer.old }
-    requires open { 0 < length (opened (S.restores scopes.old)) }
-    ensures captures { Captured B.means (B.shape block.now) (part_run
-        (setting S.Register.fresh X.means T.means B.means (partials_of S.Store.finds (S.store scopes.old)))
-        depth (parts_of X.shape T.shape B.shape parts.now) place)
-        (option_map (λ s. string_bytes s) going.old.trace)
-        (B.Progress.shape going.old.progress) (B.Progress.shape going.new.progress)
-        (S.view scopes.old) (S.view scopes.new) (S.restores scopes.old) (S.restores scopes.new)
-        (target (O.place out.old)) (target (O.place out.new)) answer.new result }
-    ensures store { partials_of S.Store.finds (S.store scopes.new) ≡ partials_of S.Store.finds (S.store scopes.old) }
-    ensures bound { partials_size (partials_of S.Store.finds (S.store scopes.new))
-        ≡ partials_size (partials_of S.Store.finds (S.store scopes.old)) }
-    ensures borrows { S.lent scopes.new ≡ S.lent scopes.old }
-    ensures around { around (O.place out.new) ≡ around (O.place out.old) }
-{
-    let outer = out.open(alloc);
-    render_part(alloc, parts, place, depth, out, scopes, answer);
-    let text = out.close(outer);
-    let goes_on = closed(alloc, block, going, scopes, answer);
-    if goes_on {
-        block.caught(&mut going.progress, text);
-    }
-    goes_on
 }
 
 /// Renders a part, if there is one at that place.
 #[cycle(render)]
-fn render_part<X, T, B, S, O>(
+fn render_part<X, T, B, S, K>(
     alloc: Global,
     parts: &[Vec<Node<X, T, B>>],
     place: u64,
     depth: u32,
-    out: &mut O,
+    sink: &mut K,
     scopes: &mut S,
     answer: &mut Result<(), Error>,
 )
@@ -361,33 +294,32 @@ where
     T: Renderable<S::Register>,
     B: Renderable<S::Register>,
     S::Store: PartialStore<X, T, B>,
-    O: Out,
+    K: Sink,
     requires { IsOk answer.old }
-    ensures renders { RendersWithin (part_run
+    ensures renders { Renders (part_run
         (setting S.Register.fresh X.means T.means B.means (partials_of S.Store.finds (S.store scopes.old)))
         depth (parts_of X.shape T.shape B.shape parts.now) place
         (S.view scopes.old))
-        (S.view scopes.old) (target (O.place out.old)) (target (O.place out.new)) (S.view scopes.new) answer.new }
+        (S.view scopes.old) (K.sunk sink.old) (K.sunk sink.new) (S.view scopes.new) answer.new }
     ensures owes { S.restores scopes.new ≡ S.restores scopes.old }
     ensures store { partials_of S.Store.finds (S.store scopes.new) ≡ partials_of S.Store.finds (S.store scopes.old) }
     ensures bound { partials_size (partials_of S.Store.finds (S.store scopes.new))
         ≡ partials_size (partials_of S.Store.finds (S.store scopes.old)) }
     ensures borrows { S.lent scopes.new ≡ S.lent scopes.old }
-    ensures around { around (O.place out.new) ≡ around (O.place out.old) }
 {
     match parts.get(place as usize) {
-        Some(nodes) => render_list(alloc, nodes, depth, out, scopes, answer),
+        Some(nodes) => render_list(alloc, nodes, depth, sink, scopes, answer),
         None => {}
     }
 }
 
 /// Renders a partial, with one less that may be open inside it.
 #[cycle(render)]
-fn render_partial<X, T, B, S, O>(
+fn render_partial<X, T, B, S, K>(
     alloc: Global,
     template: Rc<Template<X, T, B>>,
     depth: u32,
-    out: &mut O,
+    sink: &mut K,
     scopes: &mut S,
     answer: &mut Result<(), Error>,
 )
@@ -397,21 +329,20 @@ where
     T: Renderable<S::Register>,
     B: Renderable<S::Register>,
     S::Store: PartialStore<X, T, B>,
-    O: Out,
+    K: Sink,
     requires more { 0 < depth }
     requires no_error { IsOk answer.old }
-    ensures renders { RendersWithin (nodes_run
+    ensures renders { Renders (nodes_run
         (setting S.Register.fresh X.means T.means B.means (partials_of S.Store.finds (S.store scopes.old)))
         (depth - 1) (template_nodes X.shape T.shape B.shape template.value)
         (S.view scopes.old))
-        (S.view scopes.old) (target (O.place out.old)) (target (O.place out.new)) (S.view scopes.new) answer.new }
+        (S.view scopes.old) (K.sunk sink.old) (K.sunk sink.new) (S.view scopes.new) answer.new }
     ensures owes { S.restores scopes.new ≡ S.restores scopes.old }
     ensures store { partials_of S.Store.finds (S.store scopes.new) ≡ partials_of S.Store.finds (S.store scopes.old) }
     ensures bound { partials_size (partials_of S.Store.finds (S.store scopes.new))
         ≡ partials_size (partials_of S.Store.finds (S.store scopes.old)) }
     ensures borrows { S.lent scopes.new ≡ S.lent scopes.old }
-    ensures around { around (O.place out.new) ≡ around (O.place out.old) }
 {
-    render_list(alloc, template.nodes(), depth - 1, out, scopes, answer);
+    render_list(alloc, template.nodes(), depth - 1, sink, scopes, answer);
     let_partial_go(template);
 }

@@ -4,12 +4,12 @@ ghost use Rattle.liquid_plugins.specs.meaning.Chain.{chain_value};
 ghost use Rattle.liquid_plugins.specs.meaning.ExpressionOf.{chain_of};
 ghost use Rattle.liquid_plugins.specs.meaning.NodesOf.{name_chain};
 ghost use Rattle.liquid_template.specs.meaning.Actions.{writes_value};
-ghost use Rattle.liquid_template.specs.meaning.Outcome.{RendersWithin};
+ghost use Rattle.liquid_template.specs.meaning.Outcome.{Renders};
 ghost use Rattle.liquid_template.specs.steps.PieceOut.{PieceOut};
-ghost use Rattle.liquid_template.specs.steps.Place.{target, around};
 
 use crate::chain::{render_chain, render_name};
-use crate::outlet::Out;
+use crate::piece::write_piece;
+use crate::sink::Sink;
 use liquid_error::Error;
 use liquid_plugins::{Filter, FilterChain};
 use liquid_runtime::Runtime;
@@ -17,17 +17,16 @@ use std::alloc::Global;
 
 /// Puts a text out.
 #[inline(never)]
-pub(crate) fn put_text<O: Out>(
+pub(crate) fn put_text<K: Sink>(
     alloc: Global,
     text: &str,
-    out: &mut O,
+    sink: &mut K,
     answer: &mut Result<(), Error>,
 )
     requires { IsOk answer.old }
-    ensures out { PieceOut text.now (target (O.place out.old)) (target (O.place out.new)) answer.new }
-    ensures around { around (O.place out.new) ≡ around (O.place out.old) }
+    ensures { PieceOut text.now (K.sunk sink.old) (K.sunk sink.new) answer.new }
 {
-    match out.put(alloc, text) {
+    match write_piece(alloc, sink, text) {
         Ok(()) => {}
         Err(error) => *answer = Err(error),
     }
@@ -35,23 +34,22 @@ pub(crate) fn put_text<O: Out>(
 
 /// Puts out what a chain comes to.
 #[inline(never)]
-pub(crate) fn put_chain<X, R, O>(
+pub(crate) fn put_chain<X, R, K>(
     alloc: Global,
     chain: &FilterChain<X>,
-    out: &mut O,
+    sink: &mut K,
     runtime: &R,
     answer: &mut Result<(), Error>,
 )
 where
     X: Filter,
     R: Runtime,
-    O: Out,
+    K: Sink,
     requires { IsOk answer.old }
-    ensures renders { RendersWithin (writes_value (chain_value X.means (chain_of X.shape chain.now) (R.view runtime.now)) (R.view runtime.now))
-        (R.view runtime.now) (target (O.place out.old)) (target (O.place out.new)) (R.view runtime.now) answer.new }
-    ensures around { around (O.place out.new) ≡ around (O.place out.old) }
+    ensures { Renders (writes_value (chain_value X.means (chain_of X.shape chain.now) (R.view runtime.now)) (R.view runtime.now))
+        (R.view runtime.now) (K.sunk sink.old) (K.sunk sink.new) (R.view runtime.now) answer.new }
 {
-    match render_chain(alloc, chain, out, runtime) {
+    match render_chain(alloc, chain, sink, runtime) {
         Ok(()) => {}
         Err(error) => *answer = Err(error),
     }
@@ -59,23 +57,22 @@ where
 
 /// Puts out what a name comes to.
 #[inline(never)]
-pub(crate) fn put_name<X, R, O>(
+pub(crate) fn put_name<X, R, K>(
     alloc: Global,
     name: &str,
-    out: &mut O,
+    sink: &mut K,
     runtime: &R,
     answer: &mut Result<(), Error>,
 )
 where
     X: Filter,
     R: Runtime,
-    O: Out,
+    K: Sink,
     requires { IsOk answer.old }
-    ensures renders { RendersWithin (writes_value (chain_value X.means (name_chain name.now) (R.view runtime.now)) (R.view runtime.now))
-        (R.view runtime.now) (target (O.place out.old)) (target (O.place out.new)) (R.view runtime.now) answer.new }
-    ensures around { around (O.place out.new) ≡ around (O.place out.old) }
+    ensures { Renders (writes_value (chain_value X.means (name_chain name.now) (R.view runtime.now)) (R.view runtime.now))
+        (R.view runtime.now) (K.sunk sink.old) (K.sunk sink.new) (R.view runtime.now) answer.new }
 {
-    match render_name::<X, R, O>(alloc, name, out, runtime) {
+    match render_name::<X, R, K>(alloc, name, sink, runtime) {
         Ok(()) => {}
         Err(error) => *answer = Err(error),
     }

@@ -4,13 +4,11 @@
 mod begun;
 mod chain;
 mod cycle;
-mod gate;
 mod history;
 mod isolated;
 mod laws;
 mod leaf;
 mod opened;
-mod outlet;
 mod partial;
 mod piece;
 mod render;
@@ -23,7 +21,6 @@ mod trace;
 mod turn;
 mod writer_sink;
 
-pub use crate::gate::{Gate, GatedSink, Limits};
 pub use crate::history::History;
 pub use crate::laws::{
     isolated_outsides_agree, isolated_runs_are_apart, outsides_agree, sandboxed_runs_are_isolated,

@@ -1,6 +1,6 @@
 //! Writing one piece to a sink.
 ghost use Rattle.std.specs.Prelude.{◌≡◌};
-ghost use Rattle.liquid_template.specs.steps.PiecePut.{PiecePut};
+ghost use Rattle.liquid_template.specs.steps.PieceOut.{PieceOut};
 
 use crate::sink::{Sink, SinkFault};
 use liquid_error::Error;
@@ -10,7 +10,7 @@ use std::alloc::Global;
 /// refused as "Failed to render".
 #[inline(always)]
 pub(crate) fn write_piece<K: Sink>(alloc: Global, sink: &mut K, piece: &str) -> Result<(), Error>
-    ensures { PiecePut piece.now (K.sunk sink.old) (K.sunk sink.new) result }
+    ensures { PieceOut piece.now (K.sunk sink.old) (K.sunk sink.new) result }
 {
     let mut rest = piece.as_bytes();
     while !rest.is_empty() {

@@ -2,18 +2,14 @@
 ghost use Rattle.std.specs.Prelude.{◌≡◌, string_bytes};
 ghost use Rattle.liquid_error.specs.meaning.Told.{Gives};
 ghost use Rattle.liquid_runtime.specs.meaning.Written.{SameFrames};
-ghost use Rattle.liquid_template.specs.meaning.Outcome.{Left, Renders, RendersWithin};
-ghost use Rattle.liquid_template.specs.meaning.Output.{gated};
+ghost use Rattle.liquid_template.specs.meaning.Outcome.{Left, Renders};
 ghost use Rattle.liquid_template.specs.meaning.Partials.{partials_of};
 ghost use Rattle.liquid_template.specs.meaning.Rendering.{template_run};
 ghost use Rattle.liquid_template.specs.meaning.Run.{whole_text};
 ghost use Rattle.liquid_template.specs.meaning.Runs.{setting};
 ghost use Rattle.liquid_template.specs.meaning.TemplateOf.{template_nodes};
-ghost use Rattle.liquid_template.specs.steps.Place.{target, around};
 
 use crate::cycle::render_list;
-use crate::gate::{Gate, GatedSink};
-use crate::outlet::{NoGate, Out, Outlet, WithGate};
 use crate::sink::Sink;
 use crate::store::PartialStore;
 use crate::template::Template;
@@ -47,32 +43,9 @@ impl<X: Filter, T, B> Template<X, T, B> {
         ensures store { partials_of S.Store.finds (S.store scopes.new) ≡ partials_of S.Store.finds (S.store scopes.old) }
         ensures borrows { S.lent scopes.new ≡ S.lent scopes.old }
     {
-        let mut out: Outlet<K, NoGate> = Outlet::new(sink);
-        let answer = self.render_out(alloc, &mut out, scopes);
-        let _sink = out.into_sink();
-        answer
-    }
-
-    /// Writes what the template comes to, wherever pieces go.
-    fn render_out<S, O>(&self, alloc: Global, out: &mut O, scopes: &mut S) -> Result<(), Error>
-    where
-        S: Scopes,
-        T: Renderable<S::Register>,
-        B: Renderable<S::Register>,
-        S::Store: PartialStore<X, T, B>,
-        O: Out,
-        ensures renders { RendersWithin (template_run
-            (setting S.Register.fresh X.means T.means B.means (partials_of S.Store.finds (S.store scopes.old)))
-            (template_nodes X.shape T.shape B.shape self.now) (S.view scopes.old))
-            (S.view scopes.old) (target (O.place out.old)) (target (O.place out.new)) (S.view scopes.new) result }
-        ensures owes { S.restores scopes.new ≡ S.restores scopes.old }
-        ensures store { partials_of S.Store.finds (S.store scopes.new) ≡ partials_of S.Store.finds (S.store scopes.old) }
-        ensures borrows { S.lent scopes.new ≡ S.lent scopes.old }
-        ensures around { around (O.place out.new) ≡ around (O.place out.old) }
-    {
         let depth = scopes.depth();
         let mut answer = Ok(());
-        render_list(alloc, self.nodes(), depth, out, scopes, &mut answer);
+        render_list(alloc, self.nodes(), depth, sink, scopes, &mut answer);
         answer
     }
 
@@ -97,67 +70,6 @@ impl<X: Filter, T, B> Template<X, T, B> {
         let mut scopes: FlatScopes<&mut R> = FlatScopes::new(alloc, runtime);
         let answer = self.render_in(alloc, sink, &mut scopes);
         let _base = scopes.into_base();
-        answer
-    }
-
-    /// Writes what the template comes to in the runtime's view, as `render_to` does, while the gate lets it go on. Where the
-    /// gate does not, the rendering is refused as "Rendering was stopped".
-    pub fn render_within<R, K, G>(
-        &self,
-        alloc: Global,
-        page: &mut GatedSink<K, G>,
-        runtime: &mut R,
-    ) -> Result<(), Error>
-    where
-        R: Runtime,
-        T: Renderable<R::Register>,
-        B: Renderable<R::Register>,
-        R::Store: PartialStore<X, T, B>,
-        K: Sink,
-        G: Gate,
-        ensures renders { RendersWithin (template_run
-            (setting R.Register.fresh X.means T.means B.means (partials_of R.Store.finds (R.store runtime.old)))
-            (template_nodes X.shape T.shape B.shape self.now) (R.view runtime.old))
-            (R.view runtime.old)
-            (gated (K.sunk page.old.sink) (G.gated page.old.gate)) (gated (K.sunk page.new.sink) (G.gated page.new.gate))
-            (R.view runtime.new) result }
-        ensures owes { R.restores runtime.new ≡ R.restores runtime.old }
-        ensures store { partials_of R.Store.finds (R.store runtime.new) ≡ partials_of R.Store.finds (R.store runtime.old) }
-        ensures borrows { R.lent runtime.new ≡ R.lent runtime.old }
-    {
-        let mut scopes: FlatScopes<&mut R> = FlatScopes::new(alloc, runtime);
-        let answer = self.render_gated(alloc, page, &mut scopes);
-        let _base = scopes.into_base();
-        answer
-    }
-
-    /// Writes what the template comes to over these scopes, while the gate lets it go on.
-    fn render_gated<S, K, G>(
-        &self,
-        alloc: Global,
-        page: &mut GatedSink<K, G>,
-        scopes: &mut S,
-    ) -> Result<(), Error>
-    where
-        S: Scopes,
-        T: Renderable<S::Register>,
-        B: Renderable<S::Register>,
-        S::Store: PartialStore<X, T, B>,
-        K: Sink,
-        G: Gate,
-        ensures renders { RendersWithin (template_run
-            (setting S.Register.fresh X.means T.means B.means (partials_of S.Store.finds (S.store scopes.old)))
-            (template_nodes X.shape T.shape B.shape self.now) (S.view scopes.old))
-            (S.view scopes.old)
-            (gated (K.sunk page.old.sink) (G.gated page.old.gate)) (gated (K.sunk page.new.sink) (G.gated page.new.gate))
-            (S.view scopes.new) result }
-        ensures owes { S.restores scopes.new ≡ S.restores scopes.old }
-        ensures store { partials_of S.Store.finds (S.store scopes.new) ≡ partials_of S.Store.finds (S.store scopes.old) }
-        ensures borrows { S.lent scopes.new ≡ S.lent scopes.old }
-    {
-        let mut out: Outlet<GatedSink<K, G>, WithGate> = Outlet::new(page);
-        let answer = self.render_out(alloc, &mut out, scopes);
-        let _page = out.into_sink();
         answer
     }
 

@@ -7,11 +7,11 @@ ghost use Rattle.liquid_template.specs.meaning.Runs.{setting};
 ghost use Rattle.liquid_template.specs.meaning.TemplateOf.{template_nodes};
 ghost use Rattle.liquid_template.specs.steps.Bound.{partials_size};
 ghost use Rattle.liquid_template.specs.steps.Going.{Turned, Small, Finds, PartialOpens};
-ghost use Rattle.liquid_template.specs.steps.Place.{target, around};
 
 use crate::begun::Going;
-use crate::outlet::{Out, stopped_error};
 use crate::partial::{find, too_deep_error};
+use crate::piece::write_piece;
+use crate::sink::Sink;
 use crate::store::PartialStore;
 use crate::template::Template;
 use crate::trace::{keep_trace, refuse, with_own_trace};
@@ -29,20 +29,18 @@ pub(crate) enum Step<X, T, B> {
     Next,
     /// The part at this place, under the frame that was pushed.
     Part(u64),
-    /// The part at this place, under the frame that was pushed, into a text of its own.
-    Captured(u64),
     /// This partial, under the frame that was pushed.
     Partial(Rc<Template<X, T, B>>),
 }
 
-/// Makes a turn, if the gate lets it pass: writes its text, or pushes its frame and keeps its trace.
+/// Makes a turn: writes its text, or pushes its frame and keeps its trace.
 #[inline(never)]
-pub(crate) fn turned<X, T, B, N, S, O>(
+pub(crate) fn turned<X, T, B, N, S, K>(
     alloc: Global,
     node: &N,
     going: &mut Going<N::Progress>,
     depth: u32,
-    out: &mut O,
+    sink: &mut K,
     scopes: &mut S,
     answer: &mut Result<(), Error>,
 ) -> Step<X, T, B>
@@ -53,23 +51,18 @@ where
     B: Renderable<S::Register>,
     N: Renderable<S::Register>,
     S::Store: PartialStore<X, T, B>,
-    O: Out,
+    K: Sink,
     requires { IsOk answer.old }
     ensures turned { Turned (setting S.Register.fresh X.means T.means B.means (partials_of S.Store.finds (S.store scopes.old)))
         depth N.means (N.shape node.now) (N.Progress.shape going.old.progress) (N.Progress.shape going.new.progress)
-        (S.view scopes.old) (S.view scopes.new) (target (O.place out.old)) (target (O.place out.new)) X.shape T.shape B.shape
+        (S.view scopes.old) (S.view scopes.new) (K.sunk sink.old) (K.sunk sink.new) X.shape T.shape B.shape
         (option_map (λ s. string_bytes s) going.new.trace) (S.restores scopes.old) (S.restores scopes.new) answer.new result }
-    ensures around { around (O.place out.new) ≡ around (O.place out.old) }
     ensures small { Small X.shape T.shape B.shape depth (partials_size (partials_of S.Store.finds (S.store scopes.old))) result }
     ensures store { partials_of S.Store.finds (S.store scopes.new) ≡ partials_of S.Store.finds (S.store scopes.old) }
     ensures bound { partials_size (partials_of S.Store.finds (S.store scopes.new))
         ≡ partials_size (partials_of S.Store.finds (S.store scopes.old)) }
     ensures borrows { S.lent scopes.new ≡ S.lent scopes.old }
 {
-    if !out.pass_turn() {
-        refuse(answer, stopped_error(alloc));
-        return Step::Stop;
-    }
     let turn = match node.turn(alloc, &mut going.progress, scopes) {
         Ok(turn) => turn,
         Err(error) => {
@@ -78,7 +71,7 @@ where
         }
     };
     match turn {
-        Turn::Text(text) => match out.put(alloc, text.as_str()) {
+        Turn::Text(text) => match write_piece(alloc, sink, text.as_str()) {
             Ok(()) => Step::Next,
             Err(error) => {
                 refuse(answer, error);
@@ -89,16 +82,6 @@ where
             Ok(()) => {
                 keep_trace(&mut going.trace, trace);
                 Step::Part(place)
-            }
-            Err(error) => {
-                refuse(answer, error);
-                Step::Stop
-            }
-        },
-        Turn::Capture(place, frame, trace) => match scopes.push(frame) {
-            Ok(()) => {
-                keep_trace(&mut going.trace, trace);
-                Step::Captured(place)
             }
             Err(error) => {
                 refuse(answer, error);

@@ -1,4 +1,4 @@
-//! The blocks, as plug-ins: those of the library, `stock` with its divider `soldout`, and `twice`.
+//! The blocks, as plug-ins: those of the library, and `stock` with its divider `soldout`.
 ghost use Rattle.std.specs.Prelude.{refl};
 ghost use Rattle.liquid_error.specs.meaning.Told.{Gives};
 ghost use Rattle.liquid_parser.specs.meaning.Handed.{Tokens};
@@ -19,14 +19,11 @@ use std::alloc::Global;
 /// The divider of `stock`.
 static STOCK_DIVIDERS: [&str; 1] = ["soldout"];
 
-static NO_DIVIDERS: [&str; 0] = [];
-
 /// The blocks of the shop's language.
 #[derive(Debug, Clone, Copy, PartialEq, Eq, Drop)]
 pub enum ShopBlocks {
     Library(Blocks),
     Stock,
-    Twice,
 }
 
 /// What is planned while a block is read.
@@ -34,14 +31,12 @@ pub enum ShopBlocks {
 pub enum ShopPlan {
     Library(BlockPlan),
     Stock(Box<Expression>),
-    Twice,
 }
 
 /// Stands for the shape of a plan.
 pub enum ShopPlanShape {
     Library(PlanShape),
     Stock(ExpressionMark),
-    Twice,
 }
 
 impl Meant for ShopPlan {
@@ -57,7 +52,6 @@ impl BlockReflection for ShopBlocks {
         match self {
             ShopBlocks::Library(block) => block.start_tag(),
             ShopBlocks::Stock => "stock",
-            ShopBlocks::Twice => "twice",
         }
     }
 
@@ -65,7 +59,6 @@ impl BlockReflection for ShopBlocks {
         match self {
             ShopBlocks::Library(block) => block.end_tag(),
             ShopBlocks::Stock => "endstock",
-            ShopBlocks::Twice => "endtwice",
         }
     }
 
@@ -74,7 +67,6 @@ impl BlockReflection for ShopBlocks {
             ShopBlocks::Library(block) => block.description(),
             ShopBlocks::Stock =>
                 "Renders its first part where a number is above 0, else what is behind `soldout`.",
-            ShopBlocks::Twice => "Writes the text of its body twice.",
         }
     }
 }
@@ -92,14 +84,13 @@ impl<F: ParseFilter> ParseBlock<F> for ShopBlocks {
         match self {
             ShopBlocks::Library(block) => <Blocks as ParseBlock<F>>::dividers(block),
             ShopBlocks::Stock => &STOCK_DIVIDERS,
-            ShopBlocks::Twice => &NO_DIVIDERS,
         }
     }
 
     fn escapes(&self) -> bool {
         match self {
             ShopBlocks::Library(block) => <Blocks as ParseBlock<F>>::escapes(block),
-            ShopBlocks::Stock | ShopBlocks::Twice => false,
+            ShopBlocks::Stock => false,
         }
     }
 
@@ -119,7 +110,6 @@ impl<F: ParseFilter> ParseBlock<F> for ShopBlocks {
                 Err(error) => Err(error),
             },
             ShopBlocks::Stock => begin_stock(alloc, tokens),
-            ShopBlocks::Twice => alone(alloc, tokens, ShopPlan::Twice),
         }
     }
 
@@ -154,9 +144,8 @@ impl<F: ParseFilter> ParseBlock<F> for ShopBlocks {
                     Err(error) => Err(error),
                 }
             }
-            (_, ShopPlan::Library(plan)) => Ok(ShopBlock::Library(plan.node)),
+            (ShopBlocks::Stock, ShopPlan::Library(plan)) => Ok(ShopBlock::Library(plan.node)),
             (_, ShopPlan::Stock(left)) => Ok(ShopBlock::Stock(left)),
-            (_, ShopPlan::Twice) => Ok(ShopBlock::Twice),
         }
     }
 }

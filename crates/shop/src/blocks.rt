@@ -1,55 +1,34 @@
 //! The nodes of blocks, and how they are rendered.
-ghost use Rattle.std.specs.Prelude.{◌≡◌, ◌++◌, IfOk, option_and_then, string_bytes};
+ghost use Rattle.std.specs.Prelude.{◌≡◌, option_and_then};
 ghost use Rattle.liquid_scalar.specs.meaning.Scalar.{to_integer};
 ghost use Rattle.liquid_value.specs.meaning.Parts.{as_scalar};
 ghost use Rattle.liquid_value.specs.meaning.View.{view as tree_of};
 ghost use Rattle.liquid_plugins.specs.meaning.TurnOf.{turn_of};
-ghost use Rattle.liquid_tags.specs.meaning.Blocks as library;
+ghost use Rattle.liquid_tags.specs.meaning.Blocks.{progress_of};
 ghost use Rattle.shop.specs.laws.BlockLaws.{blocks_hide};
-ghost use Rattle.shop.specs.meaning.Blocks.{block_nodes, block_of, part_for, progress_of, stock_turn};
+ghost use Rattle.shop.specs.meaning.Blocks.{block_nodes, block_of, part_for, stock_turn};
 
 use liquid_core::error::Error;
 use liquid_core::model::{Object, Value};
-use liquid_core::parser::{Bytes, Discreet, Meant};
+use liquid_core::parser::{Discreet, Meant};
 use liquid_core::runtime::{Expression, ExpressionMark, Frame, Fresh, Renderable, Runtime, Turn};
-use liquid_tags::blocks::{BlockShape, ProgressShape};
+use liquid_tags::blocks::BlockShape;
 use liquid_tags::{BlockNode, BlockProgress};
-use std::alloc::{AllocError, Global};
+use std::alloc::Global;
 
 /// What a block of the shop's language is made to.
 #[derive(Drop)]
 pub enum ShopBlock {
     /// A block of the library.
     Library(BlockNode),
-    /// The first part where a number is above 0, and the part after `soldout` where it is not.
+    /// The first part where a number is above 0, and the part behind `soldout` where it is not.
     Stock(Box<Expression>),
-    /// The text of the body, which is rendered once, twice.
-    Twice,
 }
 
 /// Stands for the shape of such a block.
 pub enum ShopBlockShape {
     Library(BlockShape),
     Stock(ExpressionMark),
-    Twice,
-}
-
-/// How far a block is.
-#[derive(Drop)]
-pub enum ShopProgress {
-    /// The progress of a block of the library, or the part that a `stock` renders.
-    Library(BlockProgress),
-    /// The body of a `twice` is to be rendered.
-    Body,
-    /// The body's text is to be written.
-    Text(String),
-}
-
-/// Stands for the shape of a progress.
-pub enum ShopProgressShape {
-    Library(ProgressShape),
-    Body,
-    Text(Bytes),
 }
 
 impl Meant for ShopBlock {
@@ -58,15 +37,9 @@ impl Meant for ShopBlock {
     ghost shape = { block_of };
 }
 
-impl Meant for ShopProgress {
-    type Shape = ShopProgressShape;
-
-    ghost shape = { progress_of };
-}
-
-/// `stock` renders one part. `twice` captures its body, and then writes the text.
+/// The progress is that of the library's blocks; `stock` renders one part.
 impl<V: Fresh> Renderable<V> for ShopBlock {
-    type Progress = ShopProgress;
+    type Progress = BlockProgress;
 
     ghost means = { block_nodes };
 
@@ -74,63 +47,36 @@ impl<V: Fresh> Renderable<V> for ShopBlock {
         &self,
         alloc: Global,
         runtime: &mut R,
-    ) -> Result<ShopProgress, Error> {
+    ) -> Result<BlockProgress, Error> {
         match self {
-            ShopBlock::Library(block) => match block.start(alloc, runtime) {
-                Ok(progress) => Ok(ShopProgress::Library(progress)),
-                Err(error) => Err(error),
-            },
+            ShopBlock::Library(block) => block.start(alloc, runtime),
             ShopBlock::Stock(left) => match left.evaluate(alloc, &*runtime) {
-                Ok(value) => {
-                    let part = part_for(value.as_view());
-                    Ok(ShopProgress::Library(BlockProgress::Once(part)))
-                }
+                Ok(value) => Ok(BlockProgress::Once(part_for(value.as_view()))),
                 Err(error) => Err(error),
             },
-            ShopBlock::Twice => Ok(ShopProgress::Body),
         }
     }
 
-    fn turns(progress: &ShopProgress) -> u64 {
-        match progress {
-            ShopProgress::Library(progress) => progress.turns(),
-            ShopProgress::Body | ShopProgress::Text(_) => 2,
-        }
+    fn turns(progress: &BlockProgress) -> u64 {
+        progress.turns()
     }
 
     fn turn<R: Runtime<Register = V>>(
         &self,
         alloc: Global,
-        progress: &mut ShopProgress,
+        progress: &mut BlockProgress,
         runtime: &mut R,
     ) -> Result<Turn, Error> {
-        match (self, progress) {
-            (ShopBlock::Library(block), ShopProgress::Library(progress)) => {
-                block.turn(alloc, progress, runtime)
-            }
-            (ShopBlock::Stock(_), ShopProgress::Library(progress)) => Ok(stock_turn(&*progress)),
-            (ShopBlock::Twice, ShopProgress::Body) => Ok(Turn::Capture(0, Frame::None, None)),
-            (ShopBlock::Twice, ShopProgress::Text(text)) => Ok(Turn::Text(twice(
-                alloc,
-                text.as_str(),
-            )?)),
-            _ => Ok(Turn::End),
-        }
-    }
-
-    fn caught(&self, progress: &mut ShopProgress, text: String) {
         match self {
-            ShopBlock::Twice => *progress = ShopProgress::Text(text),
-            ShopBlock::Library(_) | ShopBlock::Stock(_) => drop(text),
+            ShopBlock::Library(block) => block.turn(alloc, progress, runtime),
+            ShopBlock::Stock(_) => Ok(stock_turn(&*progress)),
         }
     }
 
-    fn recycle(&self, progress: &mut ShopProgress, names: Object) {
-        match (self, progress) {
-            (ShopBlock::Library(block), ShopProgress::Library(progress)) => {
-                Renderable::<V>::recycle(block, progress, names)
-            }
-            _ => drop(names),
+    fn recycle(&self, progress: &mut BlockProgress, names: Object) {
+        match self {
+            ShopBlock::Library(block) => Renderable::<V>::recycle(block, progress, names),
+            ShopBlock::Stock(_) => {}
         }
     }
 }
@@ -161,19 +107,10 @@ fn number_of(value: &Value) -> Option<i64>
 
 /// The turn of a `stock`.
 fn stock_turn(progress: &BlockProgress) -> Turn
-    ensures { turn_of result ≡ stock_turn (library.progress_of progress.now) }
+    ensures { turn_of result ≡ stock_turn (progress_of progress.now) }
 {
     match progress {
         BlockProgress::Once(part) => Turn::Body(*part, Frame::None, None),
         BlockProgress::Loop(_) => Turn::End,
     }
-}
-
-/// A text, twice.
-fn twice(alloc: Global, text: &str) -> Result<String, AllocError>
-    ensures { IfOk result (λ both. string_bytes both ≡ text.now ++ text.now) }
-{
-    let mut both = String::from_str(alloc, text)?;
-    both.push_str(text)?;
-    Ok(both)
 }

@@ -1,4 +1,4 @@
-//! A shop's page: a program of one's own over the engine, the tag library and the standard filters, with a filter, a tag and a block of its own.
+//! A shop's page: a program of one's own over the engine and the tag library, with a filter, a tag and a block.
 #![tactic(auto)]
 
 pub mod block_plugins;
@@ -19,7 +19,7 @@ use std::process::ExitCode;
 
 /// Two reviews of customers: the second one asks for a name of the shop's.
 const REVIEWS: [&str; 2] = [
-    "<q>{{ item | upcase | quoted }} is fine, says {{ visitor }}.</q>\n",
+    "<q>{{ item | upcase }} is fine, says {{ visitor }}.</q>\n",
     "<q>They pay {{ shop.margin }} for it.</q>\n",
 ];
 

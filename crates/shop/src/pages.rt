@@ -1,6 +1,6 @@
 //! The shop's page, and what its customers write.
 use crate::block_plugins::ShopBlocks;
-use crate::filters::ShopFilters;
+use crate::filters::Upcase;
 use crate::languages::{ShopLanguage, language};
 use crate::tag_plugins::ShopTags;
 use liquid_core::model::{Object, Value, object_from_str};
@@ -30,7 +30,7 @@ const ITEM: &str = "<p>{{ item.name }} {% badge item.mark %}: \
     {% stock item.left %}{{ item.left }} left{% soldout %}sold out{% endstock %}</p>";
 
 /// The store of the shop's partials.
-type ShopStore = LazyStore<InMemorySource, ShopFilters, ShopTags, ShopBlocks>;
+type ShopStore = LazyStore<InMemorySource, Upcase, ShopTags, ShopBlocks>;
 
 /// The shop: its language, and a runtime of its goods, which its pages share.
 #[derive(Drop)]

@@ -66,10 +66,6 @@ impl<X: Filter, V: Fresh> Renderable<V> for ShopTag<X> {
             ShopTag::Badge(value) => badge_turn(alloc, &**value, &*runtime),
         }
     }
-
-    fn caught(&self, _progress: &mut u64, text: String) {
-        drop(text);
-    }
 }
 
 impl<X: Filter, V: Fresh> Discreet<V> for ShopTag<X> {

@@ -27,8 +27,7 @@ fn written(alloc: Global, text: &str, left: i64) -> Result<String, Error> {
 
 /// A text, what `left` is, and what is written.
 const ROWS: &str = r#"["{{ 'rain' | upcase }}", 1, "RAIN"]
-["{{ left | quoted }}", 12, "\"12\""]
-["{{ 'a' | quoted | size }}", 1, "3"]
+["{{ left | upcase }}", 12, "12"]
 ["{% badge 'new' %}", 1, "[new]"]
 ["{% badge left %}", -1, "[-1]"]
 ["{% badge %}", 1, "liquid: Value expected (line 1, column 9)\n"]
@@ -44,15 +43,7 @@ const ROWS: &str = r#"["{{ 'rain' | upcase }}", 1, "RAIN"]
 ["{% if left > 1 %}a{% elsif left == 1 %}b{% else %}c{% endif %}", 1, "b"]
 ["{% if left > 1 %}a{% else %}b{% elsif 1 %}c{% endif %}", 1, "liquid: Divider after else (line 1, column 38)\n"]
 ["{% for i in (1..left) %}{% stock i %}{% badge i %}{% endstock %}{% endfor %}", 3, "[1][2][3]"]
-["{% assign left = 'a' | upcase %}{{ left }}", 1, "A"]
-["{% twice %}a{{ left }}{% endtwice %}", 1, "a1a1"]
-["{% twice %}a{% twice %}b{% endtwice %}{% endtwice %}c", 1, "abbabbc"]
-["{% twice %}{{ left }}{% assign left = 5 %}{% endtwice %}{{ left }}", 1, "115"]
-["{% twice %}{% assign left = 7 %}{% endtwice %}{{ left }}", 1, "7"]
-["{% for i in (1..3) %}{% twice %}{{ i }}{% break %}{% endtwice %}{% endfor %}c", 1, "11c"]
-["a{% twice %}b{{ none }}{% endtwice %}c", 1, "aliquid: Unknown variable\n  with:\n    requested variable=none\n"]
-["{% twice %}{% endtwice %}c", 1, "c"]
-["{% twice 1 %}{% endtwice %}", 1, "liquid: Unexpected token (line 1, column 10)\n"]"#;
+["{% assign left = 'a' | upcase %}{{ left }}", 1, "A"]"#;
 
 #[test]
 fn rows_of_the_language(rt: HostRuntime) -> Result<(), Fail> {
@@ -64,7 +55,7 @@ fn rows_of_the_language(rt: HostRuntime) -> Result<(), Fail> {
         assert_eq!(rt; written.as_str(), row.text(2)?);
         rows = rows.saturating_add(1);
     }
-    assert_eq!(rt; rows, 27);
+    assert_eq!(rt; rows, 18);
     Ok(())
 }
 

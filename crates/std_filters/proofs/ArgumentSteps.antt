@@ -1,15 +1,14 @@
 -- The arguments of a filter, one by one.
-use Rattle.std.proofs.Common.{◌≡◌, List, [], ◌∷◌, ◌++◌, Result, Ok, refl, ap, ◌∙◌}
+use Rattle.std.proofs.Common.{◌≡◌, List, [], ◌∷◌, ◌++◌, Option, None, Some, Result, Ok, Err, refl, ap, ◌∙◌}
+use Rattle.std.specs.Prelude.{IfSome}
 use Rattle.liquid_error.specs.meaning.Refusal.{Refusal, ok_then}
 use Rattle.liquid_runtime.specs.meaning.Erased.{erase}
 use Rattle.liquid_runtime.specs.meaning.View.{View}
 use Rattle.liquid_plugins.specs.meaning.Evaluation.{evaluate}
 use Rattle.liquid_plugins.specs.meaning.Expression.{ExpressionShape}
 use Rattle.liquid_plugins.proofs.ErasedLemmas.{evaluate_erased}
-use Rattle.std_filters.specs.meaning.Calls.{Named, call_answer, evaluate_all, evaluate_arguments, evaluate_named}
-use Rattle.std_filters.specs.meaning.Sense.{FilterSense}
-use Rattle.std_filters.specs.declared.call.CallShape.{CallShape}
-use Rattle.liquid_value.specs.meaning.Tree.{Tree}
+use Rattle.std_filters.specs.meaning.Calls.{Named, evaluate_all, evaluate_arguments, evaluate_named}
+use Rattle.std_filters.specs.meaning.Given.{Given}
 
 -- what follows a front, if nothing fails
 abbrev pub behind : {A : Type 0} → List A → Result (List A) Refusal → Result (List A) Refusal
@@ -33,6 +32,7 @@ evaluate_arguments_erased v es ks =
     ap (λ r. ok_then r (λ ts. ok_then (evaluate_named (erase v) ks) (λ us. Ok (record { positional = ts; keyword = us })))) (evaluate_all_erased v es)
     ∙ ap (λ q. ok_then (evaluate_all v es) (λ ts. ok_then q (λ us. Ok (record { positional = ts; keyword = us })))) (evaluate_named_erased v ks)
 
--- so it is all that a call needs
-pub call_answer_erased : {K Reg : Type 0} (sense : K → FilterSense) (f : CallShape K) (input : Tree) (v : View Reg) → call_answer sense f input (erase v) ≡ call_answer sense f input v
-call_answer_erased sense f input v = ap (λ r. ok_then r ((sense f.kind).answers input)) (evaluate_arguments_erased v f.positional f.keyword)
+-- the first error is that of the whole
+pub first_refusal : {A B : Type 0} (o : Option Refusal) (r s : Result A Refusal) (next : A → Result B Refusal) → r ≡ s → IfSome o (λ refusal. s ≡ Err refusal) → IfSome o (λ refusal. ok_then r next ≡ Err refusal)
+first_refusal None r s next e is = tt
+first_refusal (Some refusal) r s next e is = ap (λ q. ok_then q next) (e ∙ is)

@@ -1,2 +1,1 @@
 pub mod ArgumentSteps
-pub mod DateSteps

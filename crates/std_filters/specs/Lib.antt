@@ -1,2 +1,1 @@
 pub mod meaning
-pub mod laws

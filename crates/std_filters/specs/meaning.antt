@@ -4,6 +4,5 @@ pub mod Rows
 pub mod Calls
 pub mod Values
 pub mod Json
-pub mod Dates
 pub mod Standard
 pub mod Registered

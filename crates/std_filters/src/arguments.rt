@@ -4,7 +4,7 @@ ghost use Rattle.liquid_error.specs.meaning.Told.{Gives};
 ghost use Rattle.liquid_value.specs.meaning.Cow.{cow_view};
 ghost use Rattle.liquid_value.specs.meaning.View.{view as tree_of};
 ghost use Rattle.liquid_plugins.specs.meaning.ExpressionOf.{expression_of};
-ghost use Rattle.std_filters.specs.meaning.Calls.{evaluate_all, evaluate_named, keyword_of, named_expression, named_tree};
+ghost use Rattle.std_filters.specs.meaning.Calls.{evaluate_all, evaluate_arguments, evaluate_named, keyword_of, named_expression, named_tree};
 ghost use Rattle.std_filters.specs.meaning.Given.{given};
 
 use liquid_error::Error;
@@ -14,18 +14,35 @@ use liquid_value::{Value, ValueCow};
 use std::alloc::Global;
 
 /// The values of a filter's arguments: those by place, and those by keyword.
-#[derive(Clone, Copy)]
+#[derive(Drop)]
 pub struct CallArguments<'c> {
-    pub positional: &'c [ValueCow<'c>],
-    pub keyword: &'c [(&'c str, ValueCow<'c>)],
+    pub positional: Vec<ValueCow<'c>>,
+    pub keyword: Vec<(&'c str, ValueCow<'c>)>,
 }
 
 impl<'c> CallArguments<'c> {
+    /// Returns what the expressions come to, those by place first, or the first error.
+    pub fn evaluate<R: Runtime>(
+        alloc: Global,
+        positional: &'c Vec<Expression>,
+        keyword: &'c Vec<(String, Expression)>,
+        runtime: &'c R,
+    ) -> Result<CallArguments<'c>, Error>
+        ensures { Gives given result (evaluate_arguments (R.view runtime.now) (map expression_of positional.now.items) (map named_expression keyword.now.items)) }
+    {
+        let positional = evaluate_all(alloc, positional, runtime)?;
+        let keyword = evaluate_named(alloc, keyword, runtime)?;
+        Ok(CallArguments {
+            positional,
+            keyword,
+        })
+    }
+
     /// Returns the value that is given by this keyword, if one is.
     pub fn keyword(&self, name: &str) -> Option<&Value>
         ensures { option_map (λ v. tree_of v.now) result ≡ keyword_of name.now (given self.now).keyword }
     {
-        find_keyword(self.keyword, name)
+        find_keyword(self.keyword.as_slice(), name)
     }
 }
 
@@ -43,7 +60,7 @@ fn find_keyword<'v>(given: &'v [(&str, ValueCow<'_>)], name: &str) -> Option<&'v
 }
 
 /// Returns what the expressions come to, from left to right, or the first error.
-pub(crate) fn evaluate_all<'c, R: Runtime>(
+fn evaluate_all<'c, R: Runtime>(
     alloc: Global,
     expressions: &'c Vec<Expression>,
     runtime: &'c R,
@@ -58,7 +75,7 @@ pub(crate) fn evaluate_all<'c, R: Runtime>(
 }
 
 /// Returns what the expressions come to, each under its keyword, from left to right, or the first error.
-pub(crate) fn evaluate_named<'c, R: Runtime>(
+fn evaluate_named<'c, R: Runtime>(
     alloc: Global,
     expressions: &'c Vec<(String, Expression)>,
     runtime: &'c R,

@@ -2,7 +2,6 @@
 ghost use Rattle.std_filters.specs.meaning.Standard.{std_sense};
 
 use crate::arguments::CallArguments;
-use crate::date_kind::DateKind;
 use crate::list_kinds::ListKind;
 use crate::number_kinds::NumberKind;
 use crate::row::{FilterKind, FilterRow};
@@ -13,13 +12,12 @@ use liquid_value::Value;
 use std::alloc::Global;
 
 /// A standard filter.
-#[derive(Clone, Copy, Drop)]
+#[derive(Debug, Clone, Copy, PartialEq, Eq, Drop)]
 pub enum StdKind {
     Texts(TextKind),
     Lists(ListKind),
     Numbers(NumberKind),
     Values(ValueKind),
-    Dates(DateKind),
 }
 
 impl FilterKind for StdKind {
@@ -31,7 +29,6 @@ impl FilterKind for StdKind {
             StdKind::Lists(kind) => kind.row(),
             StdKind::Numbers(kind) => kind.row(),
             StdKind::Values(kind) => kind.row(),
-            StdKind::Dates(kind) => kind.row(),
         }
     }
 
@@ -46,7 +43,6 @@ impl FilterKind for StdKind {
             StdKind::Lists(kind) => kind.answer(alloc, input, arguments),
             StdKind::Numbers(kind) => kind.answer(alloc, input, arguments),
             StdKind::Values(kind) => kind.answer(alloc, input, arguments),
-            StdKind::Dates(kind) => kind.answer(alloc, input, arguments),
         }
     }
 }

@@ -71,7 +71,7 @@ impl FilterKind for ListKind {
         input: &Value,
         arguments: &CallArguments<'_>,
     ) -> Result<Value, Error> {
-        let given = arguments.positional;
+        let given = arguments.positional.as_slice();
         match self {
             ListKind::Compact => compact(alloc, input, given),
             ListKind::Concat => concat(alloc, input, given),

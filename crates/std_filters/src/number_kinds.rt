@@ -59,7 +59,7 @@ impl FilterKind for NumberKind {
         input: &Value,
         arguments: &CallArguments<'_>,
     ) -> Result<Value, Error> {
-        let given = arguments.positional;
+        let given = arguments.positional.as_slice();
         match self {
             NumberKind::Abs => abs(alloc, input),
             NumberKind::AtLeast => at_least(alloc, input, given),

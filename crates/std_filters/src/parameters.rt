@@ -110,12 +110,6 @@ pub(crate) static WHERE: [ParameterReflection; 2] = [
     },
 ];
 
-pub(crate) static PATTERN: [ParameterReflection; 1] = [ParameterReflection {
-    name: "pattern",
-    description: "What is printed, with directives for the parts of the date.",
-    is_optional: false,
-}];
-
 pub(crate) static VALUE: [ParameterReflection; 1] = [ParameterReflection {
     name: "value",
     description: "What is returned in place of the input.",

@@ -4,7 +4,6 @@ ghost use Rattle.std_filters.specs.declared.beside.Beside.TheVariants.{Library, 
 ghost use Rattle.std_filters.specs.meaning.Registered.{filters_beside, register, registered, sense_beside, standard_filters};
 
 use crate::beside::Beside;
-use crate::date_kind::DateKind;
 use crate::kinds::StdKind;
 use crate::list_kinds::ListKind;
 use crate::number_kinds::NumberKind;
@@ -12,12 +11,11 @@ use crate::plugin::FilterPlugin;
 use crate::row::FilterKind;
 use crate::text_kinds::TextKind;
 use crate::value_kinds::ValueKind;
-use liquid_dates::DateTime;
 use liquid_plugins::PluginRegistry;
 use std::alloc::{AllocError, Global};
 
-/// All standard filters but `date`.
-const TIMELESS_KINDS: [StdKind; 53] = [
+/// All standard filters.
+const ALL_KINDS: [StdKind; 53] = [
     StdKind::Texts(TextKind::Append),
     StdKind::Texts(TextKind::Base64Decode),
     StdKind::Texts(TextKind::Base64Encode),
@@ -73,33 +71,24 @@ const TIMELESS_KINDS: [StdKind; 53] = [
     StdKind::Values(ValueKind::Size),
 ];
 
-/// Returns the standard filters. To `date`, the texts `now` and `today` are the moment that is given, and no dates without one.
-pub fn filters(
-    alloc: Global,
-    now: Option<DateTime>,
-) -> Result<PluginRegistry<FilterPlugin<StdKind>>, AllocError>
-    ensures { IfOk result (λ r. r ≡ standard_filters now) }
+/// Returns the standard filters.
+pub fn filters(alloc: Global) -> Result<PluginRegistry<FilterPlugin<StdKind>>, AllocError>
+    ensures { IfOk result (λ r. r ≡ standard_filters) }
 {
     let mut filters = PluginRegistry::new(alloc);
-    register_all(&mut filters, &TIMELESS_KINDS)?;
-    register(&mut filters, StdKind::Dates(DateKind { now }))?;
+    register_all(&mut filters, &ALL_KINDS)?;
     Ok(filters)
 }
 
-/// Returns the standard filters, as `filters` does, and a host's own, which replace those of the same name.
+/// Returns the standard filters and a host's own, which replace those of the same name.
 pub fn filters_beside<O: FilterKind>(
     alloc: Global,
-    now: Option<DateTime>,
     own: &[O],
 ) -> Result<PluginRegistry<FilterPlugin<Beside<StdKind, O>>>, AllocError>
-    ensures { IfOk result (λ r. r ≡ filters_beside O.sense now own.now) }
+    ensures { IfOk result (λ r. r ≡ filters_beside O.sense own.now) }
 {
     let mut filters = PluginRegistry::new(alloc);
-    register_library(&mut filters, &TIMELESS_KINDS)?;
-    register(
-        &mut filters,
-        Beside::Library(StdKind::Dates(DateKind { now })),
-    )?;
+    register_library(&mut filters, &ALL_KINDS)?;
     register_own(&mut filters, own)?;
     Ok(filters)
 }

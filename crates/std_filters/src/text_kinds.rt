@@ -155,7 +155,7 @@ impl FilterKind for TextKind {
         input: &Value,
         arguments: &CallArguments<'_>,
     ) -> Result<Value, Error> {
-        let given = arguments.positional;
+        let given = arguments.positional.as_slice();
         match self {
             TextKind::Append => append(alloc, input, given),
             TextKind::Base64Decode => base64_decode(alloc, input),

@@ -19,7 +19,7 @@ pub fn default(alloc: Global, input: &Value, arguments: &CallArguments<'_>) -> R
     ensures { Gives tree_of result (defaulted (tree_of input.now) (given arguments.now)) }
 {
     let missing = is_missing(input, arguments.keyword("allow_false"));
-    match arguments.positional {
+    match arguments.positional.as_slice() {
         [] => if missing {
             Ok(Value::Scalar(ScalarOf::Str(String::new(alloc))))
         } else {

@@ -5,6 +5,5 @@ pub mod HtmlLemmas
 pub mod PieceLemmas
 pub mod PlaceLemmas
 pub mod TagLemmas
-pub mod UrlLemmas
 pub mod Utf8Lemmas
 pub mod WordLemmas

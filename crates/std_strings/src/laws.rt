@@ -1,21 +1,9 @@
 //! Laws of the operations on texts. Each function only states its law.
-ghost use Rattle.std.specs.Prelude.{◌≡◌, ◌++◌, ℕ, List, Some};
-ghost use Rattle.std_strings.specs.meaning.Cases.{lowercased};
+ghost use Rattle.std.specs.Prelude.{◌≡◌, ℕ, List};
 ghost use Rattle.std_strings.specs.meaning.Escape.{escaped, escaped_once};
-ghost use Rattle.std_strings.specs.meaning.Url.{url_decoded, url_encoded};
 
 /// A text that is escaped already is left alone by escaping that leaves entities alone.
 #[tactic(auto, using(crate::proofs::EscapeLemmas::escaped_once_of_escaped))]
 pub fn escaped_is_left_alone()
     ensures { (bytes : List ℕ) → escaped_once (escaped bytes) ≡ escaped bytes }
-{}
-
-/// A text that is written for a URL is read back.
-pub fn url_is_read_back(text: &str)
-    ensures { url_decoded (url_encoded text.now) ≡ Some text.now }
-{}
-
-/// The lower case of two texts in a row is that of the one and that of the other.
-pub fn lower_case_is_by_parts(front: &str, back: &str)
-    ensures { lowercased (front.now ++ back.now) ≡ lowercased front.now ++ lowercased back.now }
 {}

@@ -1,11 +1,10 @@
-//! Calls of values, dates, paths, JSON, errors, registries, expressions, runtimes, scopes and standard filters.
+//! Calls of values, dates, paths, JSON, errors, registries, expressions, runtimes and scopes.
 //!
 //! After want of memory what was to change is as before, but for what an `extend` took, and the next call gives its
 //! answer.
 mod answers;
 mod dates;
 mod errors;
-mod filters;
 mod given;
 mod json;
 mod paths;

@@ -19,8 +19,8 @@ use std::env;
 use std::process::ExitCode;
 
 /// The groups of calls; every other name is a row's.
-const GROUPS: [&str; 9] = [
-    "dates", "errors", "filters", "json", "paths", "plugins", "runtimes", "scopes", "values",
+const GROUPS: [&str; 8] = [
+    "dates", "errors", "json", "paths", "plugins", "runtimes", "scopes", "values",
 ];
 
 /// What a case comes to.

@@ -15,8 +15,6 @@ mod given;
 #[cfg(test)]
 mod hostile_rows;
 #[cfg(test)]
-mod items_by_place;
-#[cfg(test)]
 mod joins;
 #[cfg(test)]
 mod kinds;
@@ -24,8 +22,6 @@ mod kinds;
 mod languages;
 #[cfg(test)]
 mod library_reflections;
-#[cfg(test)]
-mod limits;
 #[cfg(test)]
 mod nested;
 #[cfg(test)]

@@ -8,7 +8,7 @@ use Rattle.liquid_runtime.specs.meaning.Frames.{FrameShape, no_frame, stack_fram
 use Rattle.liquid_plugins.specs.meaning.Evaluation.{evaluate}
 use Rattle.liquid_plugins.specs.meaning.ExpressionOf.{expression_of}
 use Rattle.liquid_plugins.specs.meaning.Turns.{TurnShape, text_turn, body_turn, end_turn, Answered, NodeMeaning}
-use Rattle.liquid_plugins.specs.meaning.Turning.{answers, begins_with, captures_nothing}
+use Rattle.liquid_plugins.specs.meaning.Turning.{answers, begins_with}
 use Rattle.bench.specs.declared.blocks.BlockNode.{BlockNode}
 use Rattle.bench.specs.declared.blocks.BlockNode.TheVariants as block
 use Rattle.bench.specs.declared.blocks.BlockShape.{BlockShape}
@@ -72,4 +72,4 @@ block_takes n stage v = answers (block_answers n stage v) (next_stage stage) v
 
 -- what the nodes mean: each takes three turns at most
 abbrev pub block_nodes : {Reg : Type 0} → NodeMeaning BlockShape Stage Reg
-block_nodes = record { starts = λ n. begins_with First; count = λ stage. 3; takes = block_takes; catches = captures_nothing }
+block_nodes = record { starts = λ n. begins_with First; count = λ stage. 3; takes = block_takes }

@@ -3,7 +3,7 @@ use Rattle.std.specs.Prelude.{ℕ, codes, None, Ok}
 use Rattle.liquid_runtime.specs.meaning.View.{View}
 use Rattle.liquid_runtime.specs.meaning.Frames.{no_frame}
 use Rattle.liquid_plugins.specs.meaning.Turns.{TurnShape, text_turn, body_turn, end_turn, Answered, NodeMeaning}
-use Rattle.liquid_plugins.specs.meaning.Turning.{answers, begins_with, captures_nothing}
+use Rattle.liquid_plugins.specs.meaning.Turning.{answers, begins_with}
 use Rattle.bench.specs.meaning.Tags.{tag_of, tag_takes}
 use Rattle.bench.specs.meaning.Blocks.{block_of, block_takes, once}
 use Rattle.bench.specs.declared.blocks.Stage.{Stage}
@@ -46,7 +46,7 @@ hostile_block_takes block_shape.Far stage v = answers (Ok (once (body_turn 9 no_
 
 -- what the nodes mean
 abbrev pub hostile_tag_nodes : {Reg : Type 0} → NodeMeaning HostileTagShape ℕ Reg
-hostile_tag_nodes = record { starts = λ n. begins_with (turns_said n); count = λ turns. turns; takes = hostile_tag_takes; catches = captures_nothing }
+hostile_tag_nodes = record { starts = λ n. begins_with (turns_said n); count = λ turns. turns; takes = hostile_tag_takes }
 
 abbrev pub hostile_block_nodes : {Reg : Type 0} → NodeMeaning HostileBlockShape Stage Reg
-hostile_block_nodes = record { starts = λ n. begins_with First; count = λ stage. 3; takes = hostile_block_takes; catches = captures_nothing }
+hostile_block_nodes = record { starts = λ n. begins_with First; count = λ stage. 3; takes = hostile_block_takes }

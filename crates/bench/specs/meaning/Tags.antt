@@ -11,7 +11,7 @@ use Rattle.liquid_runtime.specs.meaning.Frames.{no_frame}
 use Rattle.liquid_plugins.specs.meaning.Evaluation.{evaluate}
 use Rattle.liquid_plugins.specs.meaning.ExpressionOf.{expression_of}
 use Rattle.liquid_plugins.specs.meaning.Turns.{TurnShape, text_turn, partial_turn, end_turn, Answered, NodeMeaning}
-use Rattle.liquid_plugins.specs.meaning.Turning.{answers, begins_with, turned, captures_nothing}
+use Rattle.liquid_plugins.specs.meaning.Turning.{answers, begins_with, turned}
 use Rattle.bench.specs.declared.tags.TagNode.{TagNode}
 use Rattle.bench.specs.declared.tags.TagNode.TheVariants as tag
 use Rattle.bench.specs.declared.tags.TagShape.{TagShape}
@@ -54,7 +54,7 @@ leaky_takes (leaky_shape.Leak name e) progress v = turned (λ old. text_turn (re
 
 -- what the nodes mean: each takes one turn
 abbrev pub tag_nodes : {Reg : Type 0} → NodeMeaning TagShape ℕ Reg
-tag_nodes = record { starts = λ n. begins_with 1; count = λ turns. turns; takes = tag_takes; catches = captures_nothing }
+tag_nodes = record { starts = λ n. begins_with 1; count = λ turns. turns; takes = tag_takes }
 
 abbrev pub leaky_tag_nodes : {Reg : Type 0} → NodeMeaning LeakyTagShape ℕ Reg
-leaky_tag_nodes = record { starts = λ n. begins_with 1; count = λ turns. turns; takes = leaky_takes; catches = captures_nothing }
+leaky_tag_nodes = record { starts = λ n. begins_with 1; count = λ turns. turns; takes = leaky_takes }

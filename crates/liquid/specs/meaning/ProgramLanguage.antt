@@ -1,5 +1,5 @@
 -- The language of the program: the tag library with two filters or the standard ones, and what its templates are rendered with.
-use Rattle.std.specs.Prelude.{ℕ, List, [], ◌∷◌, Bool, true, false, codes, Option, None, Result, Ok, Err}
+use Rattle.std.specs.Prelude.{ℕ, List, [], ◌∷◌, Bool, true, false, codes, Option, Result, Ok, Err}
 use Rattle.std.specs.FinMap.{empty}
 use Rattle.liquid_error.specs.meaning.Refusal.{Refusal, plain}
 use Rattle.liquid_runtime.specs.meaning.Maps.{NameMap}
@@ -46,7 +46,7 @@ program_sense = sense_beside std_sense plain_sense
 
 -- the standard filters, or the two
 abbrev pub program_filters : Bool → NameMap (FilterPlugin ProgramKind)
-program_filters true = filters_beside plain_sense None []
+program_filters true = filters_beside plain_sense []
 program_filters false = registered program_sense empty (Own Append ∷ Own Fail ∷ [])
 
 -- what a filter is in a template

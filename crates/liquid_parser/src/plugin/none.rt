@@ -1,6 +1,6 @@
 //! The plug-in that does nothing.
 ghost use Rattle.std.specs.Prelude.{codes, Ok, refl};
-ghost use Rattle.liquid_plugins.specs.meaning.Turning.{answers, begins_with, captures_nothing};
+ghost use Rattle.liquid_plugins.specs.meaning.Turning.{answers, begins_with};
 ghost use Rattle.liquid_plugins.specs.meaning.Turns.{end_turn};
 ghost use Rattle.liquid_parser.specs.laws.NoPluginLaws.{nothing_hides};
 ghost use Rattle.liquid_parser.specs.meaning.NoPlugins.{no_block, no_names};
@@ -171,12 +171,7 @@ impl<F: ParseFilter> ParseBlock<F> for NoPlugin {
 impl<V: Fresh> Renderable<V> for NoPlugin {
     type Progress = NoPlugin;
 
-    ghost means = { record {
-      starts = λ _. begins_with tt;
-      count = λ _. 0;
-      takes = λ _. answers (Ok end_turn);
-      catches = captures_nothing;
-    } };
+    ghost means = { record { starts = λ _. begins_with tt; count = λ _. 0; takes = λ _. answers (Ok end_turn) } };
 
     fn start<R: Runtime<Register = V>>(
         &self,
@@ -197,10 +192,6 @@ impl<V: Fresh> Renderable<V> for NoPlugin {
         _runtime: &mut R,
     ) -> Result<Turn, Error> {
         Ok(Turn::End)
-    }
-
-    fn caught(&self, _progress: &mut NoPlugin, text: String) {
-        drop(text);
     }
 }
 

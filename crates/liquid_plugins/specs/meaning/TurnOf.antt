@@ -5,7 +5,7 @@ use Rattle.liquid_error.specs.meaning.Told.{told}
 use Rattle.liquid_runtime.specs.meaning.View.{View}
 use Rattle.liquid_runtime.specs.meaning.Written.{Written, with_written}
 use Rattle.liquid_runtime.specs.meaning.Calls.{frame_of}
-use Rattle.liquid_plugins.specs.meaning.Turns.{TurnShape, text_turn, body_turn, partial_turn, capture_turn, end_turn}
+use Rattle.liquid_plugins.specs.meaning.Turns.{TurnShape, text_turn, body_turn, partial_turn, end_turn}
 use Rattle.liquid_plugins.specs.declared.render.Turn.{Turn}
 use Rattle.liquid_plugins.specs.declared.render.Turn.TheVariants as turn
 
@@ -14,7 +14,6 @@ abbrev pub turn_of : Turn → TurnShape
 turn_of (turn.Text s) = text_turn (string_bytes s)
 turn_of (turn.Body place frame trace) = body_turn place (frame_of frame) (option_map (λ s. string_bytes s) trace)
 turn_of (turn.Partial name frame trace) = partial_turn (string_bytes name) (frame_of frame) (option_map (λ s. string_bytes s) trace)
-turn_of (turn.Capture place frame trace) = capture_turn place (frame_of frame) (option_map (λ s. string_bytes s) trace)
 turn_of turn.End = end_turn
 
 -- this is left, unless memory ran out

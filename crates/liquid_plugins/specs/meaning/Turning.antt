@@ -1,5 +1,5 @@
 -- What the calls of a node answer, in a few words.
-use Rattle.std.specs.Prelude.{ℕ, List, Result, Ok}
+use Rattle.std.specs.Prelude.{Result, Ok}
 use Rattle.liquid_error.specs.meaning.Refusal.{Refusal, ok_then}
 use Rattle.liquid_runtime.specs.meaning.View.{View}
 use Rattle.liquid_runtime.specs.meaning.Written.{written_of}
@@ -16,7 +16,3 @@ begins_with progress v = answers (Ok progress) tt v
 -- a turn of what a call answers
 abbrev pub turned : {A P Reg : Type 0} → (A → TurnShape) → P → Answered A (Unit {0}) Reg → Answered TurnShape P Reg
 turned turn progress t = record { answer = ok_then t.answer (λ x. Ok (turn x)); progress = progress; written = t.written }
-
--- nodes that capture no part: a text changes nothing
-abbrev pub captures_nothing : {N P : Type 0} → N → P → List ℕ → P
-captures_nothing n progress text = progress

@@ -6,12 +6,11 @@ use Rattle.liquid_runtime.specs.meaning.Written.{Written}
 use Rattle.liquid_runtime.specs.meaning.Frames.{FrameShape}
 
 -- what a turn answers: a text; a part of the node, or the partial of a name, each under a frame, and with a trace for
--- the errors out of it if one is given; a part whose text the node is to have, and not the page; or that the node has ended
+-- the errors out of it if one is given; or that the node has ended
 pub data TurnShape : Type 0 where
   text_turn : List ℕ → TurnShape
   body_turn : ℕ → FrameShape → Option (List ℕ) → TurnShape
   partial_turn : List ℕ → FrameShape → Option (List ℕ) → TurnShape
-  capture_turn : ℕ → FrameShape → Option (List ℕ) → TurnShape
   end_turn : TurnShape
 
 -- what a call answers, the progress that it leaves, and what it has written
@@ -28,5 +27,3 @@ pub record NodeMeaning (N P Reg : Type 0) : Type 0 where
   pub count : P → ℕ
   -- a turn
   pub takes : N → P → View Reg → Answered TurnShape P Reg
-  -- the progress after the node was given the text of the part that its turn captured
-  pub catches : N → P → List ℕ → P

@@ -8,7 +8,7 @@ use Rattle.liquid_plugins.specs.meaning.Turns.{TurnShape, text_turn, body_turn, 
 use Rattle.liquid_tags.specs.meaning.Conditions.{chosen, condition_of}
 use Rattle.liquid_tags.specs.meaning.Loops.{loop_takes, rounds_of}
 use Rattle.liquid_tags.specs.meaning.Series.{items_of, series_of}
-use Rattle.liquid_plugins.specs.meaning.Turning.{answers, captures_nothing}
+use Rattle.liquid_plugins.specs.meaning.Turning.{answers}
 use Rattle.liquid_tags.specs.declared.rounds.RoundsShape.{RoundsShape}
 use Rattle.liquid_tags.specs.declared.blocks.BlockNode.{BlockNode}
 use Rattle.liquid_tags.specs.declared.blocks.BlockNode.TheVariants as block
@@ -60,4 +60,4 @@ block_takes (shape.If cs) (Loop r) v = answers (Ok end_turn) (Loop r) v
 
 -- what the nodes mean
 abbrev pub block_nodes : {Reg : Type 0} → NodeMeaning BlockShape ProgressShape Reg
-block_nodes = record { starts = block_starts; count = block_count; takes = block_takes; catches = captures_nothing }
+block_nodes = record { starts = block_starts; count = block_count; takes = block_takes }

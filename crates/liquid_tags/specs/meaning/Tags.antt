@@ -9,7 +9,7 @@ use Rattle.liquid_plugins.specs.meaning.ExpressionOf.{chain_of, expression_of}
 use Rattle.liquid_plugins.specs.meaning.Turns.{TurnShape, end_turn, Answered, NodeMeaning}
 use Rattle.liquid_tags.specs.meaning.Counters.{increments}
 use Rattle.liquid_tags.specs.meaning.Partials.{included, pair_of}
-use Rattle.liquid_plugins.specs.meaning.Turning.{answers, begins_with, captures_nothing}
+use Rattle.liquid_plugins.specs.meaning.Turning.{answers, begins_with}
 use Rattle.liquid_tags.specs.declared.tags.TagNode.{TagNode}
 use Rattle.liquid_tags.specs.declared.tags.TagNode.TheVariants as tag
 use Rattle.liquid_tags.specs.declared.tags.TagShape.{TagShape}
@@ -36,4 +36,4 @@ tag_takes m (Includes i e ps) p v = answers (included i e ps v) p v
 
 -- what the nodes mean: each takes one turn
 abbrev pub tag_nodes : {F Reg : Type 0} → FilterMeaning F → NodeMeaning (TagShape F) ℕ Reg
-tag_nodes m = record { starts = λ n. begins_with 1; count = λ turns. turns; takes = tag_takes m; catches = captures_nothing }
+tag_nodes m = record { starts = λ n. begins_with 1; count = λ turns. turns; takes = tag_takes m }

@@ -1,5 +1,5 @@
 -- What rendering is made of: a piece, a refusal, one thing after another, a frame.
-use Rattle.std.specs.Prelude.{ℕ, zero, suc, List, [], ◌∷◌, ◌++◌, map, true, false, cond, is_some, Option, None, Some, option_map, Result, Ok, Err}
+use Rattle.std.specs.Prelude.{ℕ, zero, suc, List, [], ◌∷◌, ◌++◌, map, cond, is_some, Option, None, Some, option_map, Result, Ok, Err}
 use Rattle.liquid_error.specs.meaning.Refusal.{Refusal, Note}
 use Rattle.liquid_value.specs.meaning.Tree.{Tree}
 use Rattle.liquid_value.specs.meaning.Render.{render}
@@ -26,11 +26,7 @@ module _ {Reg : Type 0} where
 
   -- one piece is written
   abbrev pub writes : List ℕ → Action Reg
-  writes piece v = record { steps = record { piece = piece; checkpoint = false; traces = []; at = v } ∷ []; refusal = None; view = v }
-
-  -- the checkpoint before a turn
-  abbrev pub asks : Action Reg
-  asks v = record { steps = record { piece = []; checkpoint = true; traces = []; at = v } ∷ []; refusal = None; view = v }
+  writes piece v = record { steps = record { piece = piece; traces = []; at = v } ∷ []; refusal = None; view = v }
 
   -- a value is written as it renders, a refusal ends all
   abbrev pub writes_value : Result Tree Refusal → Action Reg
@@ -52,7 +48,7 @@ module _ {Reg : Type 0} where
 
   -- a step, and a run, as they are seen from outside a frame and a trace
   abbrev pub step_outside : Restore Reg → Option (List ℕ) → Step Reg → Step Reg
-  step_outside restores trace step = record { piece = step.piece; checkpoint = step.checkpoint; traces = traced trace step.traces; at = ending restores step.at }
+  step_outside restores trace step = record { piece = step.piece; traces = traced trace step.traces; at = ending restores step.at }
 
   abbrev pub outside : Restore Reg → Option (List ℕ) → Run Reg → Run Reg
   outside restores trace r = record {
@@ -64,13 +60,6 @@ module _ {Reg : Type 0} where
   -- under a frame, and with a trace for each refusal that comes out of it
   unfoldable pub under : Reg → FrameShape → Option (List ℕ) → Action Reg → Action Reg
   under fresh frame trace inner v = outside (restored_by frame v) trace (inner (beginning fresh frame v))
-
-  -- a run of which nothing is written; its checkpoints stay
-  abbrev pub silent_step : Step Reg → Step Reg
-  silent_step step = record step { piece = [] }
-
-  abbrev pub silent : Run Reg → Run Reg
-  silent r = record { steps = map silent_step r.steps; refusal = r.refusal; view = r.view }
 
   -- one of a list of actions; past the last there is nothing to render
   abbrev pub part_at : List (Action Reg) → ℕ → Action Reg

@@ -3,10 +3,10 @@ use Rattle.std.specs.Prelude.{ℕ, zero, suc, List, [], ◌∷◌, Option, Resul
 use Rattle.liquid_error.specs.meaning.Refusal.{Refusal}
 use Rattle.liquid_runtime.specs.meaning.Written.{with_written}
 use Rattle.liquid_plugins.specs.meaning.Chain.{FilterMeaning, chain_value}
-use Rattle.liquid_plugins.specs.meaning.Turns.{TurnShape, text_turn, body_turn, partial_turn, capture_turn, end_turn, NodeMeaning}
+use Rattle.liquid_plugins.specs.meaning.Turns.{TurnShape, text_turn, body_turn, partial_turn, end_turn, NodeMeaning}
 use Rattle.liquid_plugins.specs.meaning.Nodes.{NodeShape, text_node, chain_node, tag_node, block_node, Nodes, no_nodes, node, Parts, no_parts, part}
-use Rattle.liquid_template.specs.meaning.Run.{Action, written}
-use Rattle.liquid_template.specs.meaning.Actions.{done, refuses, writes, writes_value, asks, and_then, unless_interrupted, under, silent, part_at}
+use Rattle.liquid_template.specs.meaning.Run.{Action}
+use Rattle.liquid_template.specs.meaning.Actions.{done, refuses, writes, writes_value, and_then, unless_interrupted, under, part_at}
 
 -- what rendering stands on: the register's default, what the plug-ins mean, and what each partial's name is read as, where
 -- there is a store
@@ -23,24 +23,20 @@ module _ {Reg F T P B Q : Type 0} (s : Setting Reg F T P B Q) (partials : List �
   performed parts (text_turn piece) = writes piece
   performed parts (body_turn place frame trace) = under s.fresh frame trace (part_at parts place)
   performed parts (partial_turn name frame trace) = under s.fresh frame trace (partials name)
-  performed parts (capture_turn place frame trace) = under s.fresh frame trace (part_at parts place)
   performed parts end_turn = done
 
-  module _ {N R : Type 0} (m : NodeMeaning N R Reg) (n : N) (parts : List (Action Reg)) where
-    -- what comes of a turn's answer and the progress that it leaves, where `rest` are the turns after it. A part that is
-    -- captured writes nothing, and the node is given its text
-    abbrev pub answered : Result TurnShape Refusal → R → (R → Action Reg) → Action Reg
-    answered (Err refusal) progress rest v = refuses refusal v
-    answered (Ok end_turn) progress rest v = done v
-    answered (Ok (capture_turn place frame trace)) progress rest v =
-        let r = performed parts (capture_turn place frame trace) v in and_then (silent r) (rest (m.catches n progress (written r)))
-    answered (Ok turn) progress rest v = and_then (performed parts turn v) (rest progress)
+  -- what comes of a turn's answer, where `rest` are the turns behind it
+  abbrev pub answered : List (Action Reg) → Result TurnShape Refusal → Action Reg → Action Reg
+  answered parts (Err refusal) rest v = refuses refusal v
+  answered parts (Ok end_turn) rest v = done v
+  answered parts (Ok turn) rest v = and_then (performed parts turn v) rest
 
-    -- at most so many turns, each after its checkpoint
+  module _ {N R : Type 0} (m : NodeMeaning N R Reg) (n : N) (parts : List (Action Reg)) where
+    -- at most so many turns
     unfoldable pub turns : ℕ → R → Action Reg
     turns zero progress v = done v
-    turns (suc left) progress v = and_then (asks v)
-        (λ w. answered (m.takes n progress w).answer (m.takes n progress w).progress (turns left) (with_written (m.takes n progress w).written w))
+    turns (suc left) progress v =
+        answered parts (m.takes n progress v).answer (turns left (m.takes n progress v).progress) (with_written (m.takes n progress v).written v)
 
     -- as many turns as the progress asks for, unless the start was refused
     abbrev pub started : Result R Refusal → Action Reg

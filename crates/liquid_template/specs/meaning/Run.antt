@@ -1,14 +1,13 @@
 -- What rendering comes to: a finished list of steps and an end.
-use Rattle.std.specs.Prelude.{ℕ, ◌+◌, List, [], ◌∷◌, Bool, true, false, Option, None, Some, Result, Ok, Err}
+use Rattle.std.specs.Prelude.{ℕ, List, Option, None, Some, Result, Ok, Err}
 use Rattle.std.specs.List.{flat_map}
 use Rattle.liquid_error.specs.meaning.Refusal.{Refusal, Note}
 use Rattle.liquid_runtime.specs.meaning.View.{View}
 
--- a piece of text, or the checkpoint before a turn, whose piece is empty; the traces that are open there, innermost first,
--- and the view at that moment, as ending all frames inside the run would leave it
+-- a piece of text, the traces that are open there, innermost first, and the view at that moment, as ending all frames
+-- inside the run would leave it
 pub record Step (Reg : Type 0) : Type 0 where
   pub piece : List ℕ
-  pub checkpoint : Bool
   pub traces : List Note
   pub at : View Reg
 
@@ -29,15 +28,6 @@ pieces steps = flat_map (λ step. step.piece) steps
 -- all pieces of a run, joined
 abbrev pub written : {Reg : Type 0} → Run Reg → List ℕ
 written r = pieces r.steps
-
--- how many checkpoints there are among steps
-abbrev pub one_if : Bool → ℕ
-one_if true = 1
-one_if false = 0
-
-abbrev pub checkpoints : {Reg : Type 0} → List (Step Reg) → ℕ
-checkpoints [] = 0
-checkpoints (step ∷ steps) = one_if step.checkpoint + checkpoints steps
 
 -- what a run comes to as a text: all of it, or the refusal
 abbrev pub whole_text : {Reg : Type 0} → Run Reg → Result (List ℕ) Refusal

@@ -10,7 +10,7 @@ use Rattle.liquid_parser.specs.meaning.Lang.{Filters}
 use Rattle.liquid_plugins.specs.meaning.Chain.{FilterMeaning}
 use Rattle.liquid_plugins.specs.meaning.Evaluation.{evaluate}
 use Rattle.liquid_plugins.specs.meaning.ExpressionOf.{expression_of}
-use Rattle.liquid_plugins.specs.meaning.Turning.{answers, begins_with, captures_nothing}
+use Rattle.liquid_plugins.specs.meaning.Turning.{answers, begins_with}
 use Rattle.liquid_plugins.specs.meaning.Turns.{TurnShape, text_turn, Answered, NodeMeaning}
 use Rattle.liquid_tags.specs.meaning.TagPlugins as library
 use Rattle.liquid_tags.specs.meaning.Tags as node
@@ -54,4 +54,4 @@ tag_takes m (Badge e) p v = answers (badge_turn (evaluate v e)) p v
 
 -- what the nodes mean: each takes one turn
 abbrev pub tag_nodes : {F Reg : Type 0} → FilterMeaning F → NodeMeaning (ShopTagShape F) ℕ Reg
-tag_nodes m = record { starts = λ n. begins_with 1; count = λ turns. turns; takes = tag_takes m; catches = captures_nothing }
+tag_nodes m = record { starts = λ n. begins_with 1; count = λ turns. turns; takes = tag_takes m }

@@ -54,15 +54,11 @@ evaluate_arguments v es ks = ok_then (evaluate_all v es) (λ ts. ok_then (evalua
 abbrev pub call_of : {K : Type 0} → FilterCall K → CallShape K
 call_of f = record { kind = f.kind; positional = map expression_of f.positional.items; keyword = map named_expression f.keyword.items }
 
--- what a call makes of an input: its kind's answer to what its arguments come to
-abbrev pub call_answer : {K Reg : Type 0} → (K → FilterSense) → CallShape K → Tree → View Reg → Result Tree Refusal
-call_answer sense f input v = ok_then (evaluate_arguments v f.positional f.keyword) ((sense f.kind).answers input)
-
 -- what calls mean, by what their kinds mean
 abbrev pub calls : {K : Type 0} → (K → FilterSense) → FilterMeaning (CallShape K)
 calls sense =
     record {
-      answers = λ f input seen. call_answer sense f input seen;
+      answers = λ f input seen. ok_then (evaluate_arguments seen f.positional f.keyword) ((sense f.kind).answers input);
       label = λ f. (sense f.kind).name;
     }
 

@@ -1,5 +1,5 @@
 -- What a filter is given: the values of its arguments.
-use Rattle.std.specs.Prelude.{ℕ, List, [], map}
+use Rattle.std.specs.Prelude.{ℕ, List, map}
 use Rattle.liquid_value.specs.meaning.Cow.{cow_view}
 use Rattle.liquid_value.specs.meaning.Tree.{Tree}
 use Rattle.std_filters.specs.declared.arguments.CallArguments.{CallArguments}
@@ -11,8 +11,4 @@ pub record Given : Type 0 where
 
 -- those of a call
 abbrev pub given : CallArguments → Given
-given a = record { positional = map cow_view a.positional.now; keyword = map (λ k. (k.0.now, cow_view k.1)) a.keyword.now }
-
--- values by place, and none by keyword
-abbrev pub alone : List Tree → Given
-alone ts = record { positional = ts; keyword = [] }
+given a = record { positional = map cow_view a.positional.items; keyword = map (λ k. (k.0.now, cow_view k.1)) a.keyword.items }

@@ -1,7 +1,6 @@
 -- Filters by their names.
-use Rattle.std.specs.Prelude.{List, [], ◌∷◌, map, Option}
+use Rattle.std.specs.Prelude.{List, [], ◌∷◌, map}
 use Rattle.std.specs.FinMap.{empty, insert}
-use Rattle.liquid_dates.specs.declared.date_time.DateTime.{DateTime}
 use Rattle.liquid_runtime.specs.meaning.Maps.{NameMap}
 use Rattle.std_filters.specs.declared.beside.Beside.{Beside}
 use Rattle.std_filters.specs.declared.beside.Beside.TheVariants.{Library, Own}
@@ -29,9 +28,9 @@ abbrev pub registered : {K : Type 0} → (K → FilterSense) → NameMap (Filter
 registered sense before [] = before
 registered sense before (kind ∷ kinds) = registered sense (register sense before kind) kinds
 
--- all kinds but `date`
-abbrev pub timeless_kinds : List StdKind
-timeless_kinds =
+-- all kinds
+abbrev pub all_kinds : List StdKind
+all_kinds =
     std.Texts texts.Append ∷ std.Texts texts.Base64Decode ∷ std.Texts texts.Base64Encode ∷ std.Texts texts.Capitalize
     ∷ std.Texts texts.Downcase ∷ std.Texts texts.Escape ∷ std.Texts texts.EscapeOnce ∷ std.Texts texts.Lstrip
     ∷ std.Texts texts.NewlineToBr ∷ std.Texts texts.Prepend ∷ std.Texts texts.Remove ∷ std.Texts texts.RemoveFirst
@@ -47,18 +46,10 @@ timeless_kinds =
     ∷ std.Numbers numbers.Round ∷ std.Numbers numbers.Times ∷ std.Values values.Default ∷ std.Values values.Json
     ∷ std.Values values.Size ∷ []
 
--- `date`, to which `now` and `today` are this moment, if there is one
-abbrev pub date_kind : Option DateTime → StdKind
-date_kind now = std.Dates (record { now = now })
-
 -- the standard filters
-abbrev pub standard_filters : Option DateTime → NameMap (FilterPlugin StdKind)
-standard_filters now = register std_sense (registered std_sense empty timeless_kinds) (date_kind now)
-
--- the same, as a part of a table with a host's own
-abbrev pub library_filters : {O : Type 0} → (O → FilterSense) → Option DateTime → NameMap (FilterPlugin (Beside StdKind O))
-library_filters own now = register (sense_beside std_sense own) (registered (sense_beside std_sense own) empty (map Library timeless_kinds)) (Library (date_kind now))
+abbrev pub standard_filters : NameMap (FilterPlugin StdKind)
+standard_filters = registered std_sense empty all_kinds
 
 -- the standard filters, and a host's own, which replace those of the same name
-abbrev pub filters_beside : {O : Type 0} → (O → FilterSense) → Option DateTime → List O → NameMap (FilterPlugin (Beside StdKind O))
-filters_beside own now kinds = registered (sense_beside std_sense own) (library_filters own now) (map Own kinds)
+abbrev pub filters_beside : {O : Type 0} → (O → FilterSense) → List O → NameMap (FilterPlugin (Beside StdKind O))
+filters_beside own kinds = registered (sense_beside std_sense own) (registered (sense_beside std_sense own) empty (map Library all_kinds)) (map Own kinds)

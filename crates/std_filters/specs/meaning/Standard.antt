@@ -16,7 +16,6 @@ use Rattle.std_lists.specs.meaning.Lists as listed
 use Rattle.std_order.specs.meaning.Order as order
 use Rattle.std_lists.specs.meaning.Sums as sums
 use Rattle.std_numbers.specs.meaning.Filters as number
-use Rattle.std_filters.specs.declared.date_kind.DateKind.{DateKind}
 use Rattle.std_filters.specs.declared.kinds.StdKind.{StdKind}
 use Rattle.std_filters.specs.declared.kinds.StdKind.TheVariants as std
 use Rattle.std_filters.specs.declared.text_kinds.TextKind.{TextKind}
@@ -27,7 +26,6 @@ use Rattle.std_filters.specs.declared.number_kinds.NumberKind.{NumberKind}
 use Rattle.std_filters.specs.declared.number_kinds.NumberKind.TheVariants as numbers
 use Rattle.std_filters.specs.declared.value_kinds.ValueKind.{ValueKind}
 use Rattle.std_filters.specs.declared.value_kinds.ValueKind.TheVariants as values
-use Rattle.std_filters.specs.meaning.Dates.{dated}
 use Rattle.std_filters.specs.meaning.Given.{Given}
 use Rattle.std_filters.specs.meaning.Sense.{FilterSense}
 use Rattle.std_filters.specs.meaning.Json.{as_json}
@@ -125,14 +123,9 @@ value_sense values.Default = record { name = codes "default"; optional = one_or_
 value_sense values.Json = alone (codes "json") (λ input. Ok (as_json input))
 value_sense values.Size = alone (codes "size") (λ input. Ok (size input))
 
--- the filter on dates
-abbrev pub date_sense : DateKind → FilterSense
-date_sense kind = placed (codes "date") one (dated kind.now)
-
 -- what each kind means
 abbrev pub std_sense : StdKind → FilterSense
 std_sense (std.Texts kind) = text_sense kind
 std_sense (std.Lists kind) = list_sense kind
 std_sense (std.Numbers kind) = number_sense kind
 std_sense (std.Values kind) = value_sense kind
-std_sense (std.Dates kind) = date_sense kind

@@ -1,6 +1,6 @@
 use crate::calls::answers::{Answer, shown};
 use crate::calls::given::{Given, extended};
-use crate::calls::{dates, errors, filters, json, paths, plugins, runtimes, scopes, values};
+use crate::calls::{dates, errors, json, paths, plugins, runtimes, scopes, values};
 use crate::growths::{MOST, Seen, Told, taken};
 use crate::problem::Problem;
 use std::alloc::Global;
@@ -88,9 +88,6 @@ fn is_among(text: &str, texts: &[&str]) -> bool {
 pub fn tried(alloc: Global, group: &str, word: &str, boxes: usize) -> Result<Seen, Problem> {
     if group == "scopes" {
         return scopes::tried(alloc, word, boxes);
-    }
-    if group == "filters" {
-        return filters::tried(alloc, word, boxes);
     }
     let wanted = wanted(group, word);
     if wanted.is_empty() {

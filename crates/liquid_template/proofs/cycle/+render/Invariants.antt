@@ -7,13 +7,12 @@ use Rattle.liquid_plugins.specs.meaning.Size.{size_node, size_nodes, size_parts}
 use Rattle.liquid_template.specs.meaning.Nodes.{turns, run_parts}
 use Rattle.liquid_template.specs.meaning.Partials.{partials_at}
 use Rattle.liquid_template.specs.meaning.Rendering.{nodes_run}
-use Rattle.liquid_template.specs.meaning.Output.{Output}
-use Rattle.liquid_template.specs.meaning.Outcome.{RendersWithin}
+use Rattle.liquid_template.specs.meaning.Sunk.{Sunk}
+use Rattle.liquid_template.specs.meaning.Outcome.{Renders}
 use Rattle.liquid_template.specs.meaning.Runs.{setting, tag_run, block_run}
 use Rattle.liquid_template.specs.meaning.TemplateOf.{template_nodes}
 use Rattle.liquid_template.specs.steps.PartsOf.{parts_of}
 use Rattle.liquid_template.specs.steps.Bound.{partials_size, work}
-use Rattle.liquid_template.specs.steps.Place.{target, around}
 use Rattle.liquid_template.proofs.cycle.+render.Given as goal
 
 abbrev pub decreases-render_list : goal.decreases-render_list
@@ -34,9 +33,6 @@ decreases-render_part g l = 8 * work l.depth (partials_size (option_map g.S.Stor
 abbrev pub decreases-render_partial : goal.decreases-render_partial
 decreases-render_partial g l = 8 * work (l.depth - 1) (partials_size (option_map g.S.Store.PartialStore.finds (g.S.Runtime.store l.scopes.now))) (size_nodes (template_nodes g.X.Meant.shape g.T.Meant.shape g.B.Meant.shape l.template.value)) + 4
 
-abbrev pub decreases-take_captured : goal.decreases-take_captured
-decreases-take_captured g l = 8 * work l.depth (partials_size (option_map g.S.Store.PartialStore.finds (g.S.Runtime.store l.scopes.now))) (size_parts (parts_of g.X.Meant.shape g.T.Meant.shape g.B.Meant.shape l.parts.now)) + 5
-
 abbrev pub decreases-take_tag : goal.decreases-take_tag
 decreases-take_tag g l = 8 * work l.depth (partials_size (option_map g.S.Store.PartialStore.finds (g.S.Runtime.store l.scopes.now))) 0 + 6
 
@@ -50,10 +46,9 @@ invariant-render_list-loop-node g l = record {
   bound : partials_size (option_map g.S.Store.PartialStore.finds (g.S.Runtime.store l.scopes)) ≡ partials_size (option_map g.S.Store.PartialStore.finds (g.S.Runtime.store l.fn.scopes));
   answer : IsOk l.answer;
   borrows : g.S.Runtime.lent l.scopes ≡ g.S.Runtime.lent l.fn.scopes;
-  around : around (g.O.Out.place l.out) ≡ around (g.O.Out.place l.fn.out);
-  renders : (after : Output) (left : View g.row.S-Register.Denot) (answer : Result (Unit {0}) Error)
-      → RendersWithin (nodes_run (setting g.S.Register.Fresh.fresh g.X.Filter.means g.T.Renderable.means g.B.Renderable.means (option_map g.S.Store.PartialStore.finds (g.S.Runtime.store l.fn.scopes))) l.depth (nodes_of g.X.Meant.shape g.T.Meant.shape g.B.Meant.shape (drop l.node-index l.nodes)) (g.S.Runtime.view l.scopes)) (g.S.Runtime.view l.scopes) (target (g.O.Out.place l.out)) after left answer
-      → RendersWithin (nodes_run (setting g.S.Register.Fresh.fresh g.X.Filter.means g.T.Renderable.means g.B.Renderable.means (option_map g.S.Store.PartialStore.finds (g.S.Runtime.store l.fn.scopes))) l.depth (nodes_of g.X.Meant.shape g.T.Meant.shape g.B.Meant.shape l.nodes) (g.S.Runtime.view l.fn.scopes)) (g.S.Runtime.view l.fn.scopes) (target (g.O.Out.place l.fn.out)) after left answer;
+  renders : (after : Sunk) (left : View g.row.S-Register.Denot) (answer : Result (Unit {0}) Error)
+      → Renders (nodes_run (setting g.S.Register.Fresh.fresh g.X.Filter.means g.T.Renderable.means g.B.Renderable.means (option_map g.S.Store.PartialStore.finds (g.S.Runtime.store l.fn.scopes))) l.depth (nodes_of g.X.Meant.shape g.T.Meant.shape g.B.Meant.shape (drop l.node-index l.nodes)) (g.S.Runtime.view l.scopes)) (g.S.Runtime.view l.scopes) (g.K.Sink.sunk l.sink) after left answer
+      → Renders (nodes_run (setting g.S.Register.Fresh.fresh g.X.Filter.means g.T.Renderable.means g.B.Renderable.means (option_map g.S.Store.PartialStore.finds (g.S.Runtime.store l.fn.scopes))) l.depth (nodes_of g.X.Meant.shape g.T.Meant.shape g.B.Meant.shape l.nodes) (g.S.Runtime.view l.fn.scopes)) (g.S.Runtime.view l.fn.scopes) (g.K.Sink.sunk l.fn.sink) after left answer;
 }
 
 abbrev pub invariant-render_tag-loop : goal.invariant-render_tag-loop
@@ -63,10 +58,9 @@ invariant-render_tag-loop g l = record {
   bound : partials_size (option_map g.S.Store.PartialStore.finds (g.S.Runtime.store l.scopes)) ≡ partials_size (option_map g.S.Store.PartialStore.finds (g.S.Runtime.store l.fn.scopes));
   answer : IsOk l.answer;
   borrows : g.S.Runtime.lent l.scopes ≡ g.S.Runtime.lent l.fn.scopes;
-  around : around (g.O.Out.place l.out) ≡ around (g.O.Out.place l.fn.out);
-  renders : (after : Output) (left : View g.row.S-Register.Denot) (answer : Result (Unit {0}) Error)
-      → RendersWithin (turns (setting g.S.Register.Fresh.fresh g.X.Filter.means g.T.Renderable.means g.B.Renderable.means (option_map g.S.Store.PartialStore.finds (g.S.Runtime.store l.fn.scopes))) (partials_at (setting g.S.Register.Fresh.fresh g.X.Filter.means g.T.Renderable.means g.B.Renderable.means (option_map g.S.Store.PartialStore.finds (g.S.Runtime.store l.fn.scopes))) l.depth) g.T.Renderable.means (g.T.Meant.shape l.tag) [] (l.end - l.counter) (g.T.Progress.Meant.shape l.going.progress) (g.S.Runtime.view l.scopes)) (g.S.Runtime.view l.scopes) (target (g.O.Out.place l.out)) after left answer
-      → RendersWithin (tag_run (setting g.S.Register.Fresh.fresh g.X.Filter.means g.T.Renderable.means g.B.Renderable.means (option_map g.S.Store.PartialStore.finds (g.S.Runtime.store l.fn.scopes))) l.depth (g.T.Meant.shape l.tag) (g.S.Runtime.view l.fn.scopes)) (g.S.Runtime.view l.fn.scopes) (target (g.O.Out.place l.fn.out)) after left answer;
+  renders : (after : Sunk) (left : View g.row.S-Register.Denot) (answer : Result (Unit {0}) Error)
+      → Renders (turns (setting g.S.Register.Fresh.fresh g.X.Filter.means g.T.Renderable.means g.B.Renderable.means (option_map g.S.Store.PartialStore.finds (g.S.Runtime.store l.fn.scopes))) (partials_at (setting g.S.Register.Fresh.fresh g.X.Filter.means g.T.Renderable.means g.B.Renderable.means (option_map g.S.Store.PartialStore.finds (g.S.Runtime.store l.fn.scopes))) l.depth) g.T.Renderable.means (g.T.Meant.shape l.tag) [] (l.end - l.counter) (g.T.Progress.Meant.shape l.going.progress) (g.S.Runtime.view l.scopes)) (g.S.Runtime.view l.scopes) (g.K.Sink.sunk l.sink) after left answer
+      → Renders (tag_run (setting g.S.Register.Fresh.fresh g.X.Filter.means g.T.Renderable.means g.B.Renderable.means (option_map g.S.Store.PartialStore.finds (g.S.Runtime.store l.fn.scopes))) l.depth (g.T.Meant.shape l.tag) (g.S.Runtime.view l.fn.scopes)) (g.S.Runtime.view l.fn.scopes) (g.K.Sink.sunk l.fn.sink) after left answer;
 }
 
 abbrev pub invariant-render_block-loop : goal.invariant-render_block-loop
@@ -76,8 +70,7 @@ invariant-render_block-loop g l = record {
   bound : partials_size (option_map g.S.Store.PartialStore.finds (g.S.Runtime.store l.scopes)) ≡ partials_size (option_map g.S.Store.PartialStore.finds (g.S.Runtime.store l.fn.scopes));
   answer : IsOk l.answer;
   borrows : g.S.Runtime.lent l.scopes ≡ g.S.Runtime.lent l.fn.scopes;
-  around : around (g.O.Out.place l.out) ≡ around (g.O.Out.place l.fn.out);
-  renders : (after : Output) (left : View g.row.S-Register.Denot) (answer : Result (Unit {0}) Error)
-      → RendersWithin (turns (setting g.S.Register.Fresh.fresh g.X.Filter.means g.T.Renderable.means g.B.Renderable.means (option_map g.S.Store.PartialStore.finds (g.S.Runtime.store l.fn.scopes))) (partials_at (setting g.S.Register.Fresh.fresh g.X.Filter.means g.T.Renderable.means g.B.Renderable.means (option_map g.S.Store.PartialStore.finds (g.S.Runtime.store l.fn.scopes))) l.depth) g.B.Renderable.means (g.B.Meant.shape l.block) (run_parts (setting g.S.Register.Fresh.fresh g.X.Filter.means g.T.Renderable.means g.B.Renderable.means (option_map g.S.Store.PartialStore.finds (g.S.Runtime.store l.fn.scopes))) (partials_at (setting g.S.Register.Fresh.fresh g.X.Filter.means g.T.Renderable.means g.B.Renderable.means (option_map g.S.Store.PartialStore.finds (g.S.Runtime.store l.fn.scopes))) l.depth) (parts_of g.X.Meant.shape g.T.Meant.shape g.B.Meant.shape l.parts)) (l.end - l.counter) (g.B.Progress.Meant.shape l.going.value.progress) (g.S.Runtime.view l.scopes)) (g.S.Runtime.view l.scopes) (target (g.O.Out.place l.out)) after left answer
-      → RendersWithin (block_run (setting g.S.Register.Fresh.fresh g.X.Filter.means g.T.Renderable.means g.B.Renderable.means (option_map g.S.Store.PartialStore.finds (g.S.Runtime.store l.fn.scopes))) l.depth (g.B.Meant.shape l.block) (parts_of g.X.Meant.shape g.T.Meant.shape g.B.Meant.shape l.parts) (g.S.Runtime.view l.fn.scopes)) (g.S.Runtime.view l.fn.scopes) (target (g.O.Out.place l.fn.out)) after left answer;
+  renders : (after : Sunk) (left : View g.row.S-Register.Denot) (answer : Result (Unit {0}) Error)
+      → Renders (turns (setting g.S.Register.Fresh.fresh g.X.Filter.means g.T.Renderable.means g.B.Renderable.means (option_map g.S.Store.PartialStore.finds (g.S.Runtime.store l.fn.scopes))) (partials_at (setting g.S.Register.Fresh.fresh g.X.Filter.means g.T.Renderable.means g.B.Renderable.means (option_map g.S.Store.PartialStore.finds (g.S.Runtime.store l.fn.scopes))) l.depth) g.B.Renderable.means (g.B.Meant.shape l.block) (run_parts (setting g.S.Register.Fresh.fresh g.X.Filter.means g.T.Renderable.means g.B.Renderable.means (option_map g.S.Store.PartialStore.finds (g.S.Runtime.store l.fn.scopes))) (partials_at (setting g.S.Register.Fresh.fresh g.X.Filter.means g.T.Renderable.means g.B.Renderable.means (option_map g.S.Store.PartialStore.finds (g.S.Runtime.store l.fn.scopes))) l.depth) (parts_of g.X.Meant.shape g.T.Meant.shape g.B.Meant.shape l.parts)) (l.end - l.counter) (g.B.Progress.Meant.shape l.going.value.progress) (g.S.Runtime.view l.scopes)) (g.S.Runtime.view l.scopes) (g.K.Sink.sunk l.sink) after left answer
+      → Renders (block_run (setting g.S.Register.Fresh.fresh g.X.Filter.means g.T.Renderable.means g.B.Renderable.means (option_map g.S.Store.PartialStore.finds (g.S.Runtime.store l.fn.scopes))) l.depth (g.B.Meant.shape l.block) (parts_of g.X.Meant.shape g.T.Meant.shape g.B.Meant.shape l.parts) (g.S.Runtime.view l.fn.scopes)) (g.S.Runtime.view l.fn.scopes) (g.K.Sink.sunk l.fn.sink) after left answer;
 }

@@ -1,4 +1,0 @@
-pub mod Faults
-pub mod Globals
-pub mod Pages
-pub mod Shown

@@ -1,5 +1,0 @@
-pub mod Deciding
-pub mod Parts
-pub mod Days
-pub mod Forms
-pub mod MomentLemmas
