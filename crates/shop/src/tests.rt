@@ -49,7 +49,7 @@ const ROWS: &str = r#"["{{ 'rain' | upcase }}", 1, "RAIN"]
 ["{% twice %}a{% twice %}b{% endtwice %}{% endtwice %}c", 1, "abbabbc"]
 ["{% twice %}{{ left }}{% assign left = 5 %}{% endtwice %}{{ left }}", 1, "115"]
 ["{% twice %}{% assign left = 7 %}{% endtwice %}{{ left }}", 1, "7"]
-["{% for i in (1..3) %}{% twice %}{{ i }}{% break %}{% endtwice %}{% endfor %}c", 1, "11c"]
+["{% for i in (1..3) %}{% twice %}{{ i }}{% endtwice %}{% endfor %}c", 1, "112233c"]
 ["a{% twice %}b{{ none }}{% endtwice %}c", 1, "aliquid: Unknown variable\n  with:\n    requested variable=none\n"]
 ["{% twice %}{% endtwice %}c", 1, "c"]
 ["{% twice 1 %}{% endtwice %}", 1, "liquid: Unexpected token (line 1, column 10)\n"]"#;
