@@ -7,7 +7,7 @@ mod dates;
 mod errors;
 mod filters;
 mod given;
-mod json;
+mod json_calls;
 mod paths;
 mod plugins;
 mod runtimes;

@@ -1,6 +1,6 @@
 use crate::calls::answers::{Answer, shown};
 use crate::calls::given::{Given, extended};
-use crate::calls::{dates, errors, filters, json, paths, plugins, runtimes, scopes, values};
+use crate::calls::{dates, errors, filters, json_calls, paths, plugins, runtimes, scopes, values};
 use crate::growths::{MOST, Seen, Told, taken};
 use crate::problem::Problem;
 use std::alloc::Global;
@@ -10,7 +10,7 @@ fn wanted(group: &str, word: &str) -> &'static str {
     match group {
         "dates" => dates::wanted(word),
         "errors" => errors::wanted(word),
-        "json" => json::wanted(word),
+        "json" => json_calls::wanted(word),
         "paths" => paths::wanted(word),
         "plugins" => plugins::wanted(word),
         "runtimes" => runtimes::wanted(word),
@@ -56,7 +56,7 @@ fn answer<'g>(alloc: Global, group: &str, word: &str, given: &'g mut Given) -> A
     let answered = match group {
         "dates" => dates::call(alloc, word, given),
         "errors" => errors::call(alloc, word, given),
-        "json" => json::call(alloc, word, given),
+        "json" => json_calls::call(alloc, word, given),
         "paths" => paths::call(alloc, word, given),
         "plugins" => plugins::call(alloc, word, given),
         "runtimes" => runtimes::call(alloc, word, given),
