@@ -71,7 +71,10 @@ fn count_frame<S: Scopes>(alloc: Global, scopes: &mut S) -> Result<(), Error>
     ensures { S.restores scopes.new ≡ S.restores scopes.old }
 {
     let count = match made::get_index(scopes, "n") {
-        Some(value) => value.as_scalar().and_then(|n| n.to_integer()).unwrap_or(0),
+        Some(value) => match value.as_scalar() {
+            Some(number) => number.to_integer().unwrap_or(0),
+            None => 0,
+        },
         None => 0,
     };
     let next = Value::scalar(count.checked_add(1).unwrap_or(0));
