@@ -10,8 +10,6 @@ mod framed;
 #[cfg(test)]
 mod frames;
 #[cfg(test)]
-mod isolated;
-#[cfg(test)]
 mod lenient;
 #[cfg(test)]
 mod made;

@@ -14,8 +14,8 @@ use tests_lines::holds;
 
 /// A register of a user's own.
 #[derive(Drop)]
-pub(crate) struct Marks {
-    pub(crate) count: u8,
+struct Marks {
+    count: u8,
 }
 
 impl Fresh for Marks {
