@@ -50,106 +50,112 @@ type Row<'a> = (
     &'a [u8],
 );
 
+static ROWS: [Row<'static>; 13] = [
+    (
+        b"a{{ x }}c",
+        b"{\"x\": 7}",
+        b"",
+        b"b",
+        false,
+        "whole",
+        b"a7c",
+    ),
+    (
+        b"{{ x }}",
+        b"{\"x\": 1, \"x\": 2}",
+        b"",
+        b"a",
+        false,
+        "whole",
+        b"2",
+    ),
+    (b"ab{{ x }}", b"{}", b"", b"b", false, "refused", b"ab"),
+    (b"ab{{ x }}", b"{}", b"", b"b", true, "whole", b"ab"),
+    (b"ab{{ x | }}", b"{}", b"", b"b", false, "unparsed", b""),
+    (
+        b"ab{{ x | }}",
+        b"{}",
+        b"\xff",
+        b"\x80",
+        false,
+        "the text of partial 0 is no text",
+        b"",
+    ),
+    (
+        b"ab{{ x | }}",
+        b"{}",
+        b"",
+        b"\x80",
+        false,
+        "the name of partial 1 is no text",
+        b"",
+    ),
+    (
+        b"ab{{ x | }}",
+        b"[]",
+        b"\xff",
+        b"b",
+        false,
+        "no globals",
+        b"",
+    ),
+    (b"ab", b"{\"x\": 1.5}", b"", b"b", false, "no globals", b""),
+    (b"ab{{ x | }}", b"{", b"\xff", b"b", false, "bad JSON", b""),
+    (
+        b"ab",
+        b"\xff",
+        b"\xff",
+        b"b",
+        false,
+        "the globals are no text",
+        b"",
+    ),
+    (
+        b"\xffab",
+        b"\xff",
+        b"\xff",
+        b"b",
+        false,
+        "the template is no text",
+        b"",
+    ),
+    (
+        b"\xffab",
+        b"{}",
+        b"",
+        b"b",
+        false,
+        "the template is no text",
+        b"",
+    ),
+];
+
+/// Whether a row's page ends as the row says, with what it says written.
+fn is_shown(alloc: Global, language: &Rc<PlainLanguage>, row: &Row<'_>) -> bool {
+    let (text, globals, first_text, second_name, lenient, end, output) = *row;
+    let options = PageOptions {
+        sandboxed: lenient,
+        lenient,
+    };
+    let partials = [
+        PartialBytes {
+            name: b"a",
+            text: first_text,
+        },
+        PartialBytes {
+            name: second_name,
+            text: b"",
+        },
+    ];
+    let page = render_page(alloc, language, options, text, globals, &partials);
+    end_of(&page) == end && page.output.as_bytes() == output
+}
+
 #[test]
 fn pages_show_their_text_or_the_first_fault(rt: HostRuntime) -> Result<(), Fail> {
     let language = language(rt.alloc())?;
-    let rows: [Row<'_>; 13] = [
-        (
-            b"a{{ x }}c",
-            b"{\"x\": 7}",
-            b"",
-            b"b",
-            false,
-            "whole",
-            b"a7c",
-        ),
-        (
-            b"{{ x }}",
-            b"{\"x\": 1, \"x\": 2}",
-            b"",
-            b"a",
-            false,
-            "whole",
-            b"2",
-        ),
-        (b"ab{{ x }}", b"{}", b"", b"b", false, "refused", b"ab"),
-        (b"ab{{ x }}", b"{}", b"", b"b", true, "whole", b"ab"),
-        (b"ab{{ x | }}", b"{}", b"", b"b", false, "unparsed", b""),
-        (
-            b"ab{{ x | }}",
-            b"{}",
-            b"\xff",
-            b"\x80",
-            false,
-            "the text of partial 0 is no text",
-            b"",
-        ),
-        (
-            b"ab{{ x | }}",
-            b"{}",
-            b"",
-            b"\x80",
-            false,
-            "the name of partial 1 is no text",
-            b"",
-        ),
-        (
-            b"ab{{ x | }}",
-            b"[]",
-            b"\xff",
-            b"b",
-            false,
-            "no globals",
-            b"",
-        ),
-        (b"ab", b"{\"x\": 1.5}", b"", b"b", false, "no globals", b""),
-        (b"ab{{ x | }}", b"{", b"\xff", b"b", false, "bad JSON", b""),
-        (
-            b"ab",
-            b"\xff",
-            b"\xff",
-            b"b",
-            false,
-            "the globals are no text",
-            b"",
-        ),
-        (
-            b"\xffab",
-            b"\xff",
-            b"\xff",
-            b"b",
-            false,
-            "the template is no text",
-            b"",
-        ),
-        (
-            b"\xffab",
-            b"{}",
-            b"",
-            b"b",
-            false,
-            "the template is no text",
-            b"",
-        ),
-    ];
-    for (text, globals, line, name, lenient, end, output) in &rows {
-        let options = PageOptions {
-            sandboxed: *lenient,
-            lenient: *lenient,
-        };
-        let partials = [
-            PartialBytes {
-                name: b"a",
-                text: *line,
-            },
-            PartialBytes {
-                name: *name,
-                text: b"",
-            },
-        ];
-        let page = render_page(rt.alloc(), &language, options, *text, *globals, &partials);
-        assert_eq!(rt; end_of(&page), *end);
-        assert!(rt; page.output.as_bytes() == *output);
+    for row in &ROWS {
+        assert!(rt; is_shown(rt.alloc(), &language, row));
     }
     Ok(())
 }
