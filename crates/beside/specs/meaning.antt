@@ -1,0 +1,3 @@
+pub mod Nodes
+pub mod OneOf
+pub mod Plugins

@@ -1,0 +1,76 @@
+//! Nodes of two types as nodes of one.
+ghost use Rattle.beside.specs.laws.Hiding.{hides_beside};
+ghost use Rattle.beside.specs.meaning.Nodes.{nodes_beside};
+
+use crate::one_of::Beside;
+use liquid_error::Error;
+use liquid_plugins::{Discreet, Renderable, Turn};
+use liquid_runtime::{Fresh, Runtime};
+use liquid_value::Object;
+use std::alloc::Global;
+
+impl<V: Fresh, L: Renderable<V>, O: Renderable<V>> Renderable<V> for Beside<L, O> {
+    type Progress = Beside<L::Progress, O::Progress>;
+
+    ghost means = { nodes_beside L.means O.means };
+
+    fn start<R: Runtime<Register = V>>(
+        &self,
+        alloc: Global,
+        runtime: &mut R,
+    ) -> Result<Beside<L::Progress, O::Progress>, Error> {
+        match self {
+            Beside::Library(node) => match node.start(alloc, runtime) {
+                Ok(progress) => Ok(Beside::Library(progress)),
+                Err(error) => Err(error),
+            },
+            Beside::Own(node) => match node.start(alloc, runtime) {
+                Ok(progress) => Ok(Beside::Own(progress)),
+                Err(error) => Err(error),
+            },
+        }
+    }
+
+    fn turns(progress: &Beside<L::Progress, O::Progress>) -> u64 {
+        match progress {
+            Beside::Library(progress) => L::turns(progress),
+            Beside::Own(progress) => O::turns(progress),
+        }
+    }
+
+    // A node is handed the progress that it has made. With one of the other type it ends.
+    fn turn<R: Runtime<Register = V>>(
+        &self,
+        alloc: Global,
+        progress: &mut Beside<L::Progress, O::Progress>,
+        runtime: &mut R,
+    ) -> Result<Turn, Error> {
+        match (self, progress) {
+            (Beside::Library(node), Beside::Library(progress)) => {
+                node.turn(alloc, progress, runtime)
+            }
+            (Beside::Own(node), Beside::Own(progress)) => node.turn(alloc, progress, runtime),
+            _ => Ok(Turn::End),
+        }
+    }
+
+    fn caught(&self, progress: &mut Beside<L::Progress, O::Progress>, text: String) {
+        match (self, progress) {
+            (Beside::Library(node), Beside::Library(progress)) => node.caught(progress, text),
+            (Beside::Own(node), Beside::Own(progress)) => node.caught(progress, text),
+            _ => drop(text),
+        }
+    }
+
+    fn recycle(&self, progress: &mut Beside<L::Progress, O::Progress>, names: Object) {
+        match (self, progress) {
+            (Beside::Library(node), Beside::Library(progress)) => node.recycle(progress, names),
+            (Beside::Own(node), Beside::Own(progress)) => node.recycle(progress, names),
+            _ => drop(names),
+        }
+    }
+}
+
+impl<V: Fresh, L: Discreet<V>, O: Discreet<V>> Discreet<V> for Beside<L, O> {
+    ghost hides = { hides_beside L.hides O.hides };
+}

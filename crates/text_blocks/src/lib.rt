@@ -1,0 +1,10 @@
+//! Blocks that transform the text of their body. Each kind of such a block is its names and one function of a text.
+#![tactic(auto)]
+
+pub mod kind;
+pub mod node;
+pub mod plugin;
+
+pub use kind::TextBlock;
+pub use node::TextBlockNode;
+pub use plugin::TextBlockPlugin;
