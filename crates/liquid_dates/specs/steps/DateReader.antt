@@ -1,4 +1,5 @@
--- Readers of date texts. They are a bridge between the code and the forms of `DateText`: what they read is proved to be what those forms relate.
+-- Readers of date texts. They connect the code to the forms of `DateText`: what they read is proved to be what those
+-- forms relate.
 use Rattle.std.specs.Prelude.{true, false, ◌≡◌, ℕ, zero, suc, ◌+◌, ◌-◌, ◌*◌, ◌^◌, Bool, ◌&&◌, ◌==◌, nat_lt, if◌then◌else◌, ℤ, pos, neg_ℤ, List, [], ◌∷◌, take, drop, length, Option, Some, None, option_map, option_and_then}
 use Rattle.std.specs.Borrow.{Bor}
 use Rattle.std.specs.Str.{bytes_eq}

@@ -1,4 +1,5 @@
--- A reader of patterns, item by item. It is a bridge between the code and the relation of `Pattern`: what it reads is proved to be what that relation says.
+-- A reader of patterns, item by item. It connects the code to the relation of `Pattern`: what it reads is proved to be
+-- what that relation says.
 use Rattle.std.specs.Prelude.{ℕ, ◌+◌, ◌-◌, ◌*◌, ◌^◌, Bool, nat_lt, ◌==◌, if◌then◌else◌, List, [], ◌∷◌, ◌++◌, Result, Ok, Err, ◌≡◌}
 use Rattle.std.specs.Prelude.{Option, Some, None}
 use Rattle.liquid_dates.specs.declared.date_time.DateTime.{DateTime}
