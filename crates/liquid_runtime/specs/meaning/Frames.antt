@@ -7,7 +7,8 @@ use Rattle.liquid_runtime.specs.declared.registers.Interrupt.{Interrupt}
 use Rattle.liquid_runtime.specs.meaning.View.{View, Floor, unsealed, sealed}
 use Rattle.liquid_runtime.specs.meaning.NamesSeen.{upper_names}
 
--- no frame, a stack frame, a sandboxed frame or an isolated frame of data, each with a name if one is set, or a global frame
+-- no frame, a stack frame, a sandboxed frame or an isolated frame of data, each with a name if one is set, or a global
+-- frame
 pub data FrameShape : Type 0 where
   no_frame : FrameShape
   stack_frame : Names → Option (List ℕ) → FrameShape
