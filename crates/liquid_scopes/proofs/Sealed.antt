@@ -1,4 +1,5 @@
--- Whether a name is the own name of a sandboxed frame: its last place, the last sandboxed frame and the base are enough.
+-- Whether a name is the own name of a sandboxed frame: its last place, the last sandboxed frame and the base are
+-- enough.
 use Rattle.std.proofs.Common.{◌≡◌, ℕ, zero, suc, ◌<◌, ◌≤◌, List, [], ◌∷◌, length, map, get_or, Option, None, Some, Bool, true, false, cond, refl, sym, ap, ◌∙◌, arith, subst}
 use Rattle.std.proofs.lemmas.Bool.Decides.{nat_tests}
 use Rattle.std.proofs.lemmas.Option.{same_Some}

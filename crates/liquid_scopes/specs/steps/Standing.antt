@@ -44,8 +44,8 @@ two_looks None (Some s) value below = None
 two_looks (Some i) None value below = value
 two_looks (Some i) (Some s) value below = cond (nat_lt i s) None value
 
--- whether a name is the own name of a sandboxed frame, by its last place, the last sandboxed frame, what that frame seals,
--- and the base
+-- whether a name is the own name of a sandboxed frame, by its last place, the last sandboxed frame, what that frame
+-- seals, and the base
 abbrev pub sealed_by : Option ℕ → Option ℕ → (ℕ → Bool) → Bool → Bool
 sealed_by None None seals below = below
 sealed_by None (Some s) seals below = seals s
