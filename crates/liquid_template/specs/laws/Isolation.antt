@@ -10,7 +10,7 @@ use Rattle.liquid_template.specs.meaning.Nodes.{Setting}
 use Rattle.liquid_template.specs.meaning.Rendering.{sandboxed_run}
 use Rattle.liquid_template.specs.meaning.Sandboxed.{HasGlobals, run_over_outside}
 
--- two runs are the same one, over the one outside and over the other
+-- two runs are the same one, over one outside and over the other
 pub record SameRun {Reg : Type 0} (o p : View Reg) (r q : Run Reg) : Type 0 where
   pub run : Run Reg
   pub over_one : r ≡ run_over_outside o run
@@ -24,7 +24,8 @@ module _ {Reg F T P B Q : Type 0} (s : Setting Reg F T P B Q) where
       (names : Names) (name : Option (List ℕ)) (ns : Nodes F T B) (outside : View Reg) → HasGlobals outside →
       sandboxed_run s names name ns outside ≡ run_over_outside outside (sandboxed_run s names name ns (emptied s.fresh outside))
 
-  -- so over two outsides that agree on depth, leniency, index variables and name the text, the refusal and the writes are the same
+  -- so over two outsides that agree on depth, leniency, index variables and name, the text, the refusal and the writes
+  -- are the same
   abbrev pub OutsidesAgree : Type 0
   OutsidesAgree =
       Discreet s.tags → Discreet s.blocks →
