@@ -4,7 +4,8 @@ use Rattle.std.specs.declared.alloc.Global.{Global}
 use Rattle.liquid_template.specs.meaning.Sunk.{Sunk}
 use Rattle.liquid_template.specs.meaning.Output.{Output, Passed, Passes, Refuses}
 
--- the caller's sink and what its gate was asked, the innermost open text, if there is one, and the ghost name of the sink
+-- the caller's sink and what its gate was asked, the innermost open text, if there is one, and the ghost name of the
+-- sink
 pub record Place : Type 0 where
   pub output : Output
   pub text : Option (List ℕ)
