@@ -15,8 +15,8 @@ use Rattle.liquid_parser.proofs.ElementLemmas.{unchecked_step}
 use Rattle.liquid_parser.proofs.EscapeLemmas.{past_then}
 
 module _ {F T P B : Type 0} (l : Lang F T P B) (s : List ℕ) where
-  -- what came before `rest` leads to this state: whatever covers the rest ends a cover of the text whose answer is the rest's from
-  -- this state
+  -- what came before `rest` leads to this state: whatever covers the rest ends a cover of the text whose result is the
+  -- rest's from this state
   abbrev pub Goes : List ℕ → State F T P B → Type 0
   Goes rest st = (es : List Element) → Cover rest es → (all : List Element) × Cover s all × (answer l s all ≡ read l s 0 st es)
 
