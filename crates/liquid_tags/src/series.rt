@@ -93,7 +93,6 @@ fn no_items(alloc: Global) -> Items
 }
 
 /// Returns the pairs of an object as items.
-
 fn pairs_of(alloc: Global, members: &Object) -> Result<Items, AllocError>
     ensures { IfOk result (λ items. items_left items ≡ pairs (members_view members.now.entries)) }
 {
