@@ -18,7 +18,7 @@ const ROWS: &str = r#"["sort", [3, null, 1], [], "[1, 3, , ]"]
 ["sort_natural", [10, 9, "x"], [], "[10, 9, x, ]"]
 ["sort_natural", [1, 2], ["a", "b"], "liquid: Unexpected arguments\n"]"#;
 
-/// Returns what a filter answers.
+/// Returns the result of a filter.
 fn answered(
     alloc: Global,
     filter: &str,
@@ -40,7 +40,7 @@ fn values_of<'a>(alloc: Global, list: &[Json]) -> Result<Vec<ValueCow<'a>>, Erro
     Ok(values)
 }
 
-/// Returns whether a filter answers what its row says.
+/// Returns `true` if a filter returns what its row says.
 fn is_answered(alloc: Global, row: &Line) -> Result<bool, Fail> {
     let input = to_value(alloc, row.member(1)?)?;
     let arguments = values_of(alloc, row.list(2)?.as_slice())?;
