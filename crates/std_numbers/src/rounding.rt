@@ -2,7 +2,7 @@
 ghost use Rattle.std.specs.Prelude.{◌≡◌, pos, ◌^◌, ◌≤◌, ◌<◌};
 ghost use Rattle.std_numbers.specs.meaning.Rounding.{nearest_multiple, rounded, rounded_to};
 
-/// The greatest power of ten whose half is no greater than each number.
+/// The exponent of the greatest power of ten whose half some number reaches.
 const GREATEST_POWER: u64 = 19;
 
 /// Returns the number rounded to that many digits after the point.
