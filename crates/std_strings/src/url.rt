@@ -17,8 +17,8 @@ pub const ESCAPED: AsciiSet = ascii_set!(
         .remove(b' ')
 );
 
-/// Returns the text as a part of a URL: ASCII letters, digits and `_.-~` are kept, a space is `+`, and each other byte is `%`
-/// and two hexadecimal digits.
+/// Returns the text as a part of a URL: ASCII letters, digits and `_.-~` are kept, a space is `+`, and each other byte
+/// is `%` and two hexadecimal digits.
 pub fn url_encode(alloc: Global, text: &str) -> Result<String, AllocError>
     ensures { IfOk result (λ t. string_bytes t ≡ url_encoded text.now) }
 {
