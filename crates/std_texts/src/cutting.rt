@@ -111,8 +111,8 @@ fn words_truncated(
     }
 }
 
-/// Returns the characters of the text, or the items of an array, from the place of the first argument on, as many as the
-/// second argument says, or 1. A place below 0 counts from the end.
+/// Returns the characters of the text, or the items of an array, from the place of the first argument on, as many as
+/// the second argument says, or 1. A place below 0 counts from the end.
 pub fn slice(alloc: Global, input: &Value, arguments: &[ValueCow<'_>]) -> Result<Value, Error>
     ensures { Gives tree_of result (slice (tree_of input.now) (map cow_view arguments.now)) }
 {
