@@ -12,7 +12,7 @@ use std::alloc::Global;
 
 /// Returns the scalar of a truth value, a text or a whole number. A text is copied.
 ///
-/// A whole number past 2^63 - 1 is the error "Cannot fit number", and any other number that is not a whole one is
+/// A whole number from 2^63 to 2^64 - 1 is the error "Cannot fit number", and a number that is kept as a float is
 /// "Fractional number". Null, an array and an object are "Scalar must be a string.".
 pub fn to_scalar(alloc: Global, json: &Json) -> Result<Scalar>
     ensures { Gives (scal string_bytes) result (scalar_given (json_view json.now)) }

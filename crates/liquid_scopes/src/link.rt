@@ -164,8 +164,7 @@ impl<V> Link<V> {
         }
     }
 
-    // Called if the frame at this place was not given a value for the name. The name leaves the index, unless the frame
-    // gives it another value.
+    // Removes this place from the name's places in the index, unless the frame gives the name a value.
     pub(crate) fn forget_absent(&self, index: &mut Index, name: &str, place: usize)
         ensures { Forgotten (λ q. bytes_eq name.now q && is_none (own (layer_of self.now) name.now)) place index.old.places index.new.places }
     {

@@ -44,8 +44,7 @@ pub(crate) fn roots_over<V>(
     Ok(names)
 }
 
-// Called if the frame at this place was not given a value for the name. The name leaves the index, unless the frame
-// gives it another value.
+// Removes this place from the name's places in the index, unless the frame there gives the name a value.
 pub(crate) fn forget_absent<V>(links: &[Link<V>], index: &mut Index, name: &str, place: usize)
     ensures { Forgotten (λ q. bytes_eq name.now q && is_none (own_at place (layers_of links.now) name.now)) place
         index.old.places index.new.places }

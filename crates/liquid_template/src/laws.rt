@@ -8,14 +8,14 @@ use liquid_runtime::Fresh;
 
 /// Under a sandboxed frame, a list of discreet nodes has the same run as over an outside without names: the same steps
 /// and the same end. The outside's own names, interrupt and register are as they were, and its globals are overlaid by
-/// those that the run leaves.
+/// those that the run leaves. The outside must have a global frame.
 #[tactic(auto, using(crate::proofs::Isolation::isolated))]
 pub fn sandboxed_runs_are_isolated<V: Fresh, F, T, P, B, Q>()
     ensures { (s : Setting V F T P B Q) → Isolated s }
 {}
 
-/// So two outsides that agree on partials, depth, index variables and name get the same text, the same error and the
-/// same writes.
+/// So two such outsides that agree on partials, depth, leniency, index variables and name get the same text, the same
+/// error and the same writes.
 pub fn outsides_agree<V: Fresh, F, T, P, B, Q>()
     ensures { (s : Setting V F T P B Q) → OutsidesAgree s }
 {}
@@ -27,8 +27,8 @@ pub fn isolated_runs_are_apart<V: Fresh, F, T, P, B, Q>()
     ensures { (s : Setting V F T P B Q) → IsolatedFromOutside s }
 {}
 
-/// So two outsides that agree on partials, depth, index variables and name get the same text, the same error and the
-/// same writes.
+/// So two outsides that agree on partials, depth, leniency, index variables and name get the same text, the same error
+/// and the same writes.
 pub fn isolated_outsides_agree<V: Fresh, F, T, P, B, Q>()
     ensures { (s : Setting V F T P B Q) → IsolatedOutsidesAgree s }
 {}

@@ -19,7 +19,7 @@ pub struct WriterSink<'w, W: Write> {
 }
 
 impl<'w, W: Write> WriterSink<'w, W> {
-    /// Returns a sink that has taken nothing yet. Its destination is the content of the writer.
+    /// Returns a sink that has taken nothing yet. The bytes in its destination are the writer's content.
     pub fn new(writer: &'w mut W) -> WriterSink<'w, W>
         ensures taken { (⟦<WriterSink<'w, W> as Sink>⟧.sunk result).taken ≡ [] }
         ensures failures { (⟦<WriterSink<'w, W> as Sink>⟧.sunk result).failures ≡ 0 }

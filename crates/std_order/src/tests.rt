@@ -9,7 +9,7 @@ use std::alloc::Global;
 use std::test::Fail;
 use tests_lines::{Line, rows_hold};
 
-/// A filter, its input, its arguments, and the source of what it answers.
+/// A filter, its input, its arguments, and the source of what it returns.
 const ROWS: &str = r#"["sort", [3, null, 1], [], "[1, 3, , ]"]
 ["sort", [{"k": 2, "n": 1}, {"n": 2}, {"k": 1, "n": 3}, {"k": 2, "n": 4}], ["k"], "[k1n3, k2n1, k2n4, n2, ]"]
 ["sort", ["b", "a", "b", 3], [], "liquid: Values without an order\n  with:\n    first=\"b\"\n    second=3\n"]

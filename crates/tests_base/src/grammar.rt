@@ -284,7 +284,7 @@ fn whole_numbers_of_64_bits_are_numbers(_rt: HostRuntime) -> Result<(), Fail> {
     holds(integer_of("7a").is_none(), "no number")
 }
 
-/// This text so often, and then the other.
+/// Returns this text, repeated, and then the other.
 fn repeated(alloc: Global, text: &str, times: usize, end: &str) -> Result<String, AllocError> {
     let mut whole = String::new(alloc);
     for _ in 0..times {

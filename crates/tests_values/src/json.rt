@@ -145,14 +145,14 @@ fn is_read(alloc: Global, row: &Line) -> std::result::Result<bool, Fail> {
     Ok(read_told(alloc, row.text(1)?)?.as_str() == row.text(0)?)
 }
 
-/// As many arrays in one another as the name of an object.
+/// Returns that many nested arrays, as a member of an object.
 fn nested(alloc: Global, arrays: usize) -> std::result::Result<String, AllocError> {
     let opened = "[".repeat(alloc, arrays)?;
     let closed = "]".repeat(alloc, arrays)?;
     format!(in alloc; "{{\"a\": {opened}{closed}}}")
 }
 
-// With 126 arrays in an object, 127 nest; `serde_json` reads no more.
+// With 126 arrays in an object, 127 are nested, and `serde_json` reads no more.
 #[test]
 fn texts_are_objects(rt: HostRuntime) -> std::result::Result<(), Fail> {
     let alloc = rt.alloc();

@@ -12,7 +12,7 @@ pub record Sunk : Type 0 where
 abbrev pub sunk : List ℕ → ℕ → Option (List ℕ) → List ℕ → Sunk
 sunk taken failures behind lent = record { taken = taken; failures = failures; behind = behind; lent = lent }
 
--- a sink whose destination isn't known, and which borrows nothing
+-- a sink for which the bytes in its destination aren't known, and which borrows nothing
 abbrev pub alone : List ℕ → ℕ → Sunk
 alone taken failures = sunk taken failures None []
 

@@ -23,7 +23,7 @@ pub fn wanted(word: &str) -> &'static str {
     }
 }
 
-/// The calls of scalars.
+/// Makes the calls of scalars.
 fn of_scalars<'g>(alloc: Global, word: &str, member: Value) -> Answered<'g> {
     let number = ScalarCow::from(7i64);
     match word {
