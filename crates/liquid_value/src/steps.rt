@@ -1,4 +1,4 @@
-//! Walks over an object: each says how many items are left, and ends after them.
+//! Walks over an object. Each step returns how many items are left before and after it.
 ghost use Rattle.std.specs.Prelude.{◌≡◌, length};
 ghost use Rattle.std.specs.Map.Iter.{TakesFirst, deref, deref_pair};
 ghost use Rattle.liquid_value.specs.laws.Steps.{CountsDown};

@@ -16,7 +16,7 @@ use liquid_dates::DateTime;
 use liquid_plugins::PluginRegistry;
 use std::alloc::{AllocError, Global};
 
-/// All standard filters but `date`.
+/// All standard filters except `date`.
 const TIMELESS_KINDS: [StdKind; 53] = [
     StdKind::Texts(TextKind::Append),
     StdKind::Texts(TextKind::Base64Decode),

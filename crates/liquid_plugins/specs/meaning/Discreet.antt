@@ -1,4 +1,4 @@
--- Nodes that do not look at hidden globals.
+-- Nodes whose result does not depend on hidden globals.
 use Rattle.std.specs.Prelude.{◌≡◌, false, Some, unwrap_or}
 use Rattle.std.specs.FinMap.{empty}
 use Rattle.liquid_runtime.specs.meaning.Maps.{Names, over}

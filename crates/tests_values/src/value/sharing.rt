@@ -40,7 +40,7 @@ fn is_alone(value: &mut Value) -> bool {
     }
 }
 
-/// Returns `true` if a write to a value that shares its content leaves the other value as it was.
+/// Fails unless a write to a value that shares its content leaves the other value as it was.
 fn shares(alloc: Global, mut first: Value, before: &str, after: &str) -> Result<(), Fail> {
     holds(is_alone(&mut first), "one value is alone")?;
     let mut second = first.clone()?;
@@ -80,7 +80,7 @@ fn taken_object(value: &Value) -> Result<Object, Fail> {
     }
 }
 
-/// Returns `true` if the content can be taken while another value shares it, which keeps it.
+/// Fails unless the content can be taken while another value shares it, which keeps it.
 fn is_taken(alloc: Global) -> Result<(), Fail> {
     let (items, members) = (array(alloc)?, object(alloc)?);
     let mut taken = taken_array(&items)?;
