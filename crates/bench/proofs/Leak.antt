@@ -40,7 +40,7 @@ Says t (Ok (text_turn piece)) = piece ≡ t
 Says t other = ⊥
 
 module _ {Reg : Type 0} where
-  -- what `leak` tells where these globals are hidden
+  -- what `leak` returns if these globals are hidden
   abbrev leaked : View Reg → Names → Answered TurnShape ℕ Reg
   leaked v names = leaky_tag_nodes.takes (shape.Leak s (literal nil)) 1 (hiding names v)
 

@@ -1,4 +1,4 @@
-//! What the test tags and blocks ask of their tokens.
+//! What the test tags and blocks expect of their tokens.
 ghost use Rattle.std.specs.Prelude.{string_bytes};
 ghost use Rattle.liquid_error.specs.meaning.Told.{Gives};
 ghost use Rattle.liquid_plugins.specs.meaning.ExpressionOf.{expression_of};
@@ -14,7 +14,7 @@ use std::alloc::Global;
 /// The message of a token that is missing.
 const TOKEN_EXPECTED: &str = "Token expected";
 
-/// This node, where there is no token.
+/// Returns this node, if there is no token.
 pub(crate) fn alone<N: Meant + Drop>(
     alloc: Global,
     tokens: TagTokenIter<'_>,
@@ -28,7 +28,7 @@ pub(crate) fn alone<N: Meant + Drop>(
     }
 }
 
-/// A name, and no token behind it.
+/// Reads a name, and no token after it.
 pub(crate) fn name_alone(alloc: Global, tokens: TagTokenIter<'_>) -> Result<String, Error>
     ensures { (ts : Tokens) → AreTokens tokens.entry ts → Gives (λ name. string_bytes name) result (name_alone ts) }
 {
@@ -42,8 +42,8 @@ pub(crate) fn name_alone(alloc: Global, tokens: TagTokenIter<'_>) -> Result<Stri
     }
 }
 
-/// A name and a value, and no token behind them. The value stands apart, since every node has
-/// room for the largest one.
+/// Reads a name and a value, and no token after them. The value is in a box, since every node has room for the largest
+/// one.
 pub(crate) fn name_and_value(
     alloc: Global,
     tokens: TagTokenIter<'_>,

@@ -28,7 +28,7 @@ static MID: [&str; 1] = ["mid"];
 
 static NO_DIVIDERS: [&str; 0] = [];
 
-/// The blocks of the program's language.
+/// The blocks of the plain language.
 #[derive(Debug, Clone, Copy, PartialEq, Eq)]
 pub enum Blocks {
     Box,
@@ -39,8 +39,8 @@ pub enum Blocks {
     Glob,
 }
 
-/// These blocks, and three of bad will. `Odd` is a box, and tells the names of one, whatever name it
-/// is registered by. `Early` is a `swap` whose end is called as its divider is.
+/// These blocks, and three malicious ones. `Odd` is a box and has the names of one, whatever name it is registered
+/// under. `Early` is a `swap` whose end has the name of its divider.
 #[derive(Debug, Clone, Copy, PartialEq, Eq)]
 pub enum HostileBlocks {
     Plain(Blocks),
@@ -142,7 +142,7 @@ impl<F: ParseFilter> ParseBlock<F> for Blocks {
     }
 }
 
-/// What a block of the program's language plans: the node that it will be.
+/// Returns the plan of a block of the plain language: the node that it will be.
 fn plain_block(alloc: Global, block: Blocks, tokens: TagTokenIter<'_>) -> Result<BlockNode, Error>
     ensures { (ts : Tokens) → AreTokens tokens.entry ts → Gives block_of result (begun block ts) }
 {
@@ -159,7 +159,7 @@ fn plain_block(alloc: Global, block: Blocks, tokens: TagTokenIter<'_>) -> Result
     }
 }
 
-/// The node of a plan: a plan of a text takes the text of its body.
+/// Returns the node of a plan. A plan of a text takes the text of its body.
 fn finished(alloc: Global, plan: BlockNode, body: BlockBody<'_>) -> Result<BlockNode, Error>
     ensures { Gives block_of result (finished (block_of plan) (body_of body.entry)) }
 {

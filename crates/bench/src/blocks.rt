@@ -1,4 +1,4 @@
-//! Blocks for tests: what they are made to, and how that is rendered.
+//! Blocks for tests: what they are made into, and how that is rendered.
 ghost use Rattle.std.specs.FinMap.{empty, insert};
 ghost use Rattle.std.specs.Prelude.{◌≡◌, IfOk, string_bytes};
 ghost use Rattle.liquid_error.specs.meaning.Told.{Gives};
@@ -16,7 +16,7 @@ use liquid_runtime::{Frame, Fresh, Runtime};
 use liquid_value::{Object, Value};
 use std::alloc::{AllocError, Global};
 
-/// What a block is made to.
+/// What a block is made into.
 #[derive(Drop)]
 pub enum BlockNode {
     /// `[`, the body without a frame, and `]`.
@@ -25,15 +25,15 @@ pub enum BlockNode {
     Sbox,
     /// The second part, and then the first, without a frame.
     Swap,
-    /// A text as it stands.
+    /// A text that is written unchanged.
     Raw(String),
-    /// The body under a stack frame of one name, which has what an expression comes to.
+    /// The body under a stack frame of one name, whose value is that of an expression.
     With(String, Box<Expression>),
     /// The body under a global frame.
     Glob,
 }
 
-/// Stands for the shape of a block.
+/// Marks the shape of a block.
 pub enum BlockShape {
     Box,
     Sbox,
@@ -43,7 +43,7 @@ pub enum BlockShape {
     Glob,
 }
 
-/// Which turn of a block comes next.
+/// The next turn of a block.
 #[derive(Debug, Clone, Copy, PartialEq, Eq)]
 pub enum Stage {
     First,
@@ -119,7 +119,7 @@ impl<V: Fresh> Discreet<V> for BlockNode {
     ghost hides = { blocks_hide };
 }
 
-/// The turn behind a turn.
+/// Returns the turn after a turn.
 fn next_stage(stage: Stage) -> Stage
     ensures { result ≡ next_stage stage }
 {
@@ -130,7 +130,7 @@ fn next_stage(stage: Stage) -> Stage
     }
 }
 
-/// A stack frame of one name, which has what the expression comes to.
+/// Returns a stack frame of one name, with the value of the expression.
 fn bound<R: Runtime>(
     alloc: Global,
     name: &String,
@@ -148,7 +148,7 @@ fn bound<R: Runtime>(
     }
 }
 
-/// An object of one name, which has this value.
+/// Returns an object of one name, which has this value.
 #[tactic(auto, using(liquid_runtime::proofs::ObjectNames::changed_objects))]
 fn one_name(alloc: Global, name: &String, value: Value) -> Result<Object, AllocError>
     ensures { IfOk result (λ object. names_of object ≡ insert empty (string_bytes name.now) (tree_of value)) }
@@ -158,7 +158,7 @@ fn one_name(alloc: Global, name: &String, value: Value) -> Result<Object, AllocE
     Ok(names)
 }
 
-/// An object without names.
+/// Returns an object without names.
 #[tactic(auto, using(liquid_runtime::proofs::ObjectNames::changed_objects))]
 fn no_names(alloc: Global) -> Object
     ensures { names_of result ≡ empty }

@@ -1,3 +1,4 @@
+//! A sink that takes one byte at a time, and fails.
 ghost use Rattle.std.specs.Prelude.{◌≡◌, ◌+◌, ◌<◌, ◌≤◌, [], ◌++◌, length, IfOk};
 ghost use Rattle.liquid_template.specs.meaning.Put.{taken_part, failure_count};
 ghost use Rattle.liquid_template.specs.meaning.Sunk.{alone};
@@ -6,7 +7,7 @@ ghost use Rattle.bench.specs.meaning.Drips.{puts_left, Drips};
 use liquid_template::{History, Sink, SinkFault};
 use std::alloc::Global;
 
-/// A sink that takes one byte a put, and fails from a chosen put on.
+/// A sink that takes one byte with each put, and fails from a chosen put on.
 #[derive(Drop)]
 pub struct Dripping {
     bytes: Vec<u8>,
@@ -15,7 +16,7 @@ pub struct Dripping {
 }
 
 impl Dripping {
-    /// A sink that takes `puts` bytes, one a put, and then fails at each put.
+    /// Returns a sink that takes `puts` bytes, one with each put, and then fails at each put.
     pub fn new(alloc: Global, puts: u64) -> Dripping
         ensures taken { (⟦<Dripping as Sink>⟧.sunk result).taken ≡ [] }
         ensures failures { (⟦<Dripping as Sink>⟧.sunk result).failures ≡ 0 }
@@ -28,7 +29,7 @@ impl Dripping {
         }
     }
 
-    /// The bytes taken so far.
+    /// Returns the bytes taken so far.
     pub fn as_bytes(&self) -> &[u8]
         ensures { result.now ≡ (⟦<Dripping as Sink>⟧.sunk self.now).taken }
     {

@@ -1,4 +1,4 @@
-//! Filters for tests: `append`, and `fail`, which refuses.
+//! Filters for tests: `append`, and `fail`, which always fails.
 ghost use Rattle.std.specs.Prelude.{◌≡◌, ◌++◌, IfOk, IfSome, string_bytes};
 ghost use Rattle.liquid_error.specs.meaning.Told.{told};
 ghost use Rattle.liquid_scalar.specs.meaning.Scalar.{text};
@@ -85,7 +85,7 @@ impl FilterParameters for AppendParameters {
     }
 }
 
-/// The filter `append`: the input's text, and the text of a value behind it.
+/// The filter `append`: the input's text, and the text of a value after it.
 #[derive(Drop)]
 pub struct Append {
     pub parameters: AppendParameters,
@@ -122,7 +122,7 @@ impl Filter for Append {
     }
 }
 
-/// The texts of two values, joined. Those of texts and numbers are known before, and need no writer.
+/// Returns the joined texts of two values. Those of texts and numbers have a known length, and need no writer.
 fn joined(alloc: Global, front: &Value, back: &Value) -> Result<Value, AllocError>
     ensures { IfOk result (λ v. tree_of v ≡ scalar (text (render (tree_of front.now) ++ render (tree_of back.now)))) }
 {
@@ -146,7 +146,7 @@ fn joined(alloc: Global, front: &Value, back: &Value) -> Result<Value, AllocErro
     Ok(Value::Scalar(ScalarOf::Str(text)))
 }
 
-/// A text, and another one behind it.
+/// Returns a text, and another one after it.
 fn joined_texts(alloc: Global, front: &str, back: &str) -> Result<String, AllocError>
     ensures { IfOk result (λ text. string_bytes text ≡ front.now ++ back.now) }
 {
@@ -163,7 +163,7 @@ pub enum AnyFilter {
     Fail,
 }
 
-/// Stands for the shape of either filter.
+/// Marks the shape of either filter.
 pub enum AnyShape {
     Append(ExpressionMark),
     Fail,
@@ -198,7 +198,7 @@ impl Filter for AnyFilter {
     }
 }
 
-/// What makes either filter of its arguments: `append` takes one value, and `fail` takes none.
+/// Makes either filter from its arguments: `append` takes one value, and `fail` takes none.
 #[derive(Debug, Clone, Copy, PartialEq, Eq)]
 pub enum Filters {
     Append,
@@ -254,7 +254,7 @@ impl ParseFilter for Filters {
     }
 }
 
-/// The refusal of arguments that a filter doesn't take.
+/// Returns the error for arguments that a filter doesn't take.
 fn unexpected_arguments(alloc: Global) -> Error
     ensures { IfSome (told result) (λ refusal. refusal ≡ unexpected_arguments) }
 {

@@ -8,11 +8,11 @@ use std::alloc::{AllocError, Global};
 /// Scopes of linked frames over a built runtime with this store.
 pub type Chained<P> = ChainedScopes<BuiltRuntime<(), P>>;
 
-/// Scopes with an index of names over the same.
+/// Scopes with an index of names over the same runtime.
 pub type Flat<P> = FlatScopes<BuiltRuntime<(), P>>;
 
-/// What nodes write over scopes of one form, with the error's text behind it. `None` where a frame is
-/// left open, or where what is written is no text.
+/// Returns what nodes write over scopes of one form, with the error's text after it. Returns `None` if a frame is left
+/// open, or if what is written is not text.
 pub fn written_in<S, X, T, B>(
     alloc: Global,
     nodes: Vec<Node<X, T, B>>,

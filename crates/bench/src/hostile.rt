@@ -1,4 +1,4 @@
-//! Tags and blocks of bad will: they ask for turns and parts that there are not.
+//! Malicious tags and blocks: they request turns and parts that don't exist.
 ghost use Rattle.bench.specs.meaning.Hostile.{
   hostile_block_nodes,
   hostile_block_of,
@@ -13,10 +13,10 @@ use liquid_plugins::{Meant, Renderable, Turn};
 use liquid_runtime::{Frame, Fresh, Runtime};
 use std::alloc::Global;
 
-/// What a tag is made to where there are tags of bad will.
+/// What a tag is made into in a language with malicious tags.
 #[derive(Drop)]
 pub enum HostileTagNode {
-    /// A tag of the program's language.
+    /// A tag of the plain language.
     Plain(TagNode),
     /// Says that it has three turns, and writes `s` at every turn that it is given.
     Spin,
@@ -24,23 +24,23 @@ pub enum HostileTagNode {
     Mute,
 }
 
-/// Stands for the shape of such a tag.
+/// Marks the shape of such a tag.
 pub enum HostileTagShape {
     Plain(TagShape),
     Spin,
     Mute,
 }
 
-/// What a block is made to where there are blocks of bad will.
+/// What a block is made into in a language with malicious blocks.
 #[derive(Drop)]
 pub enum HostileBlockNode {
-    /// A block of the program's language.
+    /// A block of the plain language.
     Plain(BlockNode),
-    /// Asks for a tenth part, and then ends.
+    /// Requests a tenth part, and then ends.
     Far,
 }
 
-/// Stands for the shape of such a block.
+/// Marks the shape of such a block.
 pub enum HostileBlockShape {
     Plain(BlockShape),
     Far,

@@ -17,8 +17,8 @@ use liquid_parser::Language;
 use liquid_plugins::PluginRegistry;
 use std::alloc::{AllocError, Global};
 
-/// The program's language: the filters, tags and blocks that hide nothing and leak nothing, each
-/// under the name that it tells.
+/// Returns the plain language: the filters, tags and blocks that hide nothing and leak nothing, each under its own
+/// name.
 pub fn language(alloc: Global) -> Result<Language<Filters, Tags, Blocks>, AllocError>
     ensures registered { IfOk result (λ l. (l.filters ≡ the_filters) × (l.tags ≡ plain_tags) × (l.blocks ≡ plain_blocks)) }
     ensures means { IfOk result (λ l. meaning_of l ≡ program_language) }
@@ -34,7 +34,7 @@ pub fn language(alloc: Global) -> Result<Language<Filters, Tags, Blocks>, AllocE
     })
 }
 
-/// The same language with the tag `leak`.
+/// Returns the same language with the tag `leak`.
 pub fn leaky_language(alloc: Global) -> Result<Language<Filters, LeakyTags, Blocks>, AllocError>
     ensures { IfOk result (λ l. (l.filters ≡ the_filters) × (l.tags ≡ leaky_tags) × (l.blocks ≡ plain_blocks)) }
 {
@@ -50,8 +50,7 @@ pub fn leaky_language(alloc: Global) -> Result<Language<Filters, LeakyTags, Bloc
     })
 }
 
-/// The program's language with the tags `spin` and `mute` and the blocks `far` and `b`, which are of
-/// bad will.
+/// Returns the plain language with the malicious tags `spin` and `mute` and the malicious blocks `far` and `b`.
 pub fn hostile_language(
     alloc: Global,
 ) -> Result<Language<Filters, HostileTags, HostileBlocks>, AllocError>
@@ -79,7 +78,7 @@ pub fn hostile_language(
     })
 }
 
-/// The filters of each language.
+/// Returns the filters of each language.
 pub fn filters(alloc: Global) -> Result<PluginRegistry<Filters>, AllocError>
     ensures { IfOk result (λ r. r ≡ the_filters) }
 {
@@ -89,7 +88,7 @@ pub fn filters(alloc: Global) -> Result<PluginRegistry<Filters>, AllocError>
     Ok(filters)
 }
 
-/// The blocks of the program's language.
+/// Returns the blocks of the plain language.
 fn blocks(alloc: Global) -> Result<PluginRegistry<Blocks>, AllocError>
     ensures { IfOk result (λ r. r ≡ plain_blocks) }
 {

@@ -3,9 +3,8 @@ ghost use Rattle.bench.specs.laws.LeakLaw.{LeakIsNotDiscreet};
 
 use liquid_runtime::Fresh;
 
-/// What `leak` writes depends on a global that is hidden from the template: of two views that
-/// differ in that global alone it makes different texts. So a language with `leak` is not rendered
-/// in a sandbox.
+/// What `leak` writes depends on a global that is hidden from the template. For two views that differ only in that
+/// global, it makes different texts. So a language with `leak` is not rendered in a sandbox.
 pub fn leak_is_not_discreet<V: Fresh>()
     ensures { LeakIsNotDiscreet V }
 {}

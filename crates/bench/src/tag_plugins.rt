@@ -13,7 +13,7 @@ use liquid_parser::{ParseTag, TagReflection, TagTokenIter};
 use liquid_plugins::{ParseFilter, PluginRegistry};
 use std::alloc::Global;
 
-/// The tags of the program's language.
+/// The tags of the plain language.
 #[derive(Debug, Clone, Copy, PartialEq, Eq)]
 pub enum Tags {
     Set,
@@ -28,7 +28,7 @@ pub enum LeakyTags {
     Leak,
 }
 
-/// The tags of the program's language, and two of bad will.
+/// The tags of the plain language, and two malicious ones.
 #[derive(Debug, Clone, Copy, PartialEq, Eq)]
 pub enum HostileTags {
     Plain(Tags),
@@ -69,7 +69,7 @@ impl<F: ParseFilter> ParseTag<F> for Tags {
     }
 }
 
-/// The node of a tag of the program's language.
+/// Returns the node of a tag of the plain language.
 fn plain_tag(alloc: Global, tag: Tags, tokens: TagTokenIter<'_>) -> Result<TagNode, Error>
     ensures { (ts : Tokens) → AreTokens tokens.entry ts → Gives tag_of result (tag_given tag ts) }
 {

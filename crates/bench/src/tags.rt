@@ -1,4 +1,4 @@
-//! Tags for tests: what they are made to, and how that is rendered.
+//! Tags for tests: what they are made into, and how that is rendered.
 ghost use Rattle.std.specs.Prelude.{◌≡◌, IfOk, option_map, string_bytes};
 ghost use Rattle.liquid_error.specs.meaning.Told.{Gives};
 ghost use Rattle.liquid_value.specs.meaning.View.{view as tree_of};
@@ -16,18 +16,18 @@ use liquid_value::Value;
 use liquid_value::render::ValueRender;
 use std::alloc::{AllocError, Global};
 
-/// What a tag of the program's language is made to.
+/// What a tag of the plain language is made into.
 #[derive(Drop)]
 pub enum TagNode {
-    /// Sets the global of a name to what an expression comes to.
+    /// Sets the global of a name to the value of an expression.
     Set(String, Box<Expression>),
     /// Renders the partial of a name, without a frame.
     Inc(String),
-    /// Lets the interrupt `Break` stand.
+    /// Sets the interrupt `Break`.
     Brk,
 }
 
-/// Stands for the shape of a tag.
+/// Marks the shape of a tag.
 pub enum TagShape {
     Set(Bytes, ExpressionMark),
     Inc(Bytes),
@@ -86,16 +86,16 @@ impl<V: Fresh> Discreet<V> for TagNode {
     ghost hides = { tags_hide };
 }
 
-/// What a tag is made to where there is `leak` too.
+/// What a tag is made into in a language with `leak`.
 #[derive(Drop)]
 pub enum LeakyTagNode {
-    /// A tag of the program's language.
+    /// A tag of the plain language.
     Plain(TagNode),
-    /// Sets a global as `set` does, and writes the render of its old value.
+    /// Sets a global as `set` does, and writes the rendered text of its old value.
     Leak(String, Box<Expression>),
 }
 
-/// Stands for the shape of such a tag.
+/// Marks the shape of such a tag.
 pub enum LeakyTagShape {
     Plain(TagShape),
     Leak(Bytes, ExpressionMark),
@@ -147,7 +147,7 @@ impl<V: Fresh> Renderable<V> for LeakyTagNode {
     }
 }
 
-/// Sets a global to what the expression comes to, and answers its old value.
+/// Sets a global to the value of the expression, and returns its old value.
 fn assign<R: Runtime>(
     alloc: Global,
     name: &String,
@@ -170,7 +170,7 @@ fn assign<R: Runtime>(
     runtime.set_global(name.clone()?, value)
 }
 
-/// The render of a value, empty where there is none.
+/// Returns the rendered text of a value, empty if there is none.
 fn rendered(alloc: Global, value: Option<Value>) -> Result<String, AllocError>
     ensures { IfOk result (λ text. string_bytes text ≡ render_old (option_map tree_of value)) }
 {

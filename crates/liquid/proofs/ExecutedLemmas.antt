@@ -1,4 +1,4 @@
--- From what each step of a command answers to what the program says of it.
+-- From what each step of a command returns to what the program says about it.
 use Rattle.std.proofs.Common.{◌≡◌, ℕ, List, Option, Result, Ok, Err, String, Global, BTreeMap, string_bytes, refl, ap, subst, inl, inr, rules, ◌∙◌}
 use Rattle.liquid_error.specs.declared.error.Error.{Error, the_lemmas, roll-Error}
 use Rattle.liquid_error.specs.declared.error.Error.TheOpen.{Error-F}

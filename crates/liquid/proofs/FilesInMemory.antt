@@ -1,4 +1,4 @@
--- What an insertion makes of the files in memory.
+-- How an insertion changes the files in memory.
 use Rattle.std.proofs.Common.{◌≡◌, ℕ, Bool, true, false, cond, List, Option, Some, refl, ap, ◌∙◌, string_bytes}
 use Rattle.std.specs.Prelude.{String, map, option_map, if◌then◌else◌}
 use Rattle.std.specs.Global.{Vec}
@@ -12,7 +12,7 @@ choose : {A B : Type 0} (f : A → B) (b : Bool) (x : A) (rest : Option A) → o
 choose f true x rest = refl
 choose f false x rest = refl
 
--- the file stands at its path, and all others where they stood
+-- the file is at its path, and all others are where they were
 pub bytes_at-insert : (old new : BTreeMap (String Global) (Vec ℕ)) (k : String Global) (file : Vec ℕ) → Updates string_cmp old new k (Some file)
     → (p : List ℕ) → option_map (λ v. v.items) (get_by_text new p) ≡ (if bytes_eq (string_bytes k) p then Some file.items else option_map (λ v. v.items) (get_by_text old p))
 bytes_at-insert old new k file updates p =

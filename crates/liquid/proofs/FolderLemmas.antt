@@ -1,4 +1,4 @@
--- The files of a folder, one after the other.
+-- The files of a folder, one after another.
 use Rattle.std.proofs.Common.{Bor, option_map, ◌≡◌, ◌∙◌, ℕ, List, [], ◌∷◌, ◌++◌, Option, Some, Ok, Err, String, Global, BTreeMap, string_bytes, sym, ap, subst, inr, append_assoc}
 use Rattle.std.proofs.lemmas.List.{append-nil}
 use Rattle.std.specs.FinMap.{empty, insert, keys}
@@ -22,7 +22,7 @@ ReadSoFar known folder names rest source = (front : List (List ℕ)) × (names �
 pub nothing_read : (known : Files) (folder : List ℕ) (names rest : List (List ℕ)) (source : Texts) → names ≡ rest → source ≡ empty → ReadSoFar known folder names rest source
 nothing_read known folder names rest source same none = ([], same, none)
 
--- after the front come the files behind it
+-- after the front come the files after it
 read_on : (known : Files) (folder : List ℕ) (front rest : List (List ℕ)) (texts source : Texts) (stop : Type 0) (next : Texts → Type 0)
     → Read known folder front texts source → WithFiles known folder rest source stop next → WithFiles known folder (front ++ rest) texts stop next
 read_on known folder [] rest texts source stop next read with = subst (λ t. WithFiles known folder rest t stop next) read with
@@ -58,7 +58,7 @@ read_stops known folder name names rest source fault so_far step =
     (text_follows (known (path_in folder name)) (Stops {A = String Global} (Err fault)) (Stops {A = Texts} (Err fault)) (λ bytes. fault_status fault ≡ 1) _ (λ stops. stops)
     (λ text memory. files_anyhow known folder rest (insert source name text) _ _ (inr memory) (λ texts. memory)) step)
 
--- want of memory
+-- memory ran out
 pub read_memory : (known : Files) (folder : List ℕ) (names rest : List (List ℕ)) (source : Texts) (fault : Fault)
     → ReadSoFar known folder names rest source → fault_status fault ≡ 1
     → WithFiles known folder names empty (Stops {A = Texts} (Err fault)) (λ texts. Brings (λ (s : Texts). s) texts (Err fault))

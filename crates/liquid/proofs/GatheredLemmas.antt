@@ -1,4 +1,4 @@
--- What follows from what a command comes to, and what holds of anything that it may come to.
+-- What follows from the result of a command, and what is true of every such result.
 use Rattle.std.proofs.Common.{◌≡◌, ◌∙◌, ℕ, List, [], ◌∷◌, Option, None, Some, Result, Ok, Err, String, Global, string_bytes, subst}
 use Rattle.std.specs.Global.{Vec}
 use Rattle.std.proofs.lemmas.Str.{IsUtf8-string_bytes}
@@ -86,7 +86,7 @@ pub partials_anyhow : (known : Files) (listed : Folders) (words : List (List ℕ
 partials_anyhow known listed [] stop next stops goes = goes None
 partials_anyhow known listed (folder ∷ words) stop next stops goes = names_anyhow _ _ _ stops (λ names. files_anyhow known folder (in_order names) empty stop _ stops (λ texts. goes (Some texts)))
 
--- a text that was read of what is known
+-- a text that was read from what is known
 pub text_brought : (file : Option (Option (List ℕ))) (bytes : Vec ℕ) (text : String Global) → Reads (λ (b : Vec ℕ). b.items) file (Ok bytes) → string_bytes text ≡ bytes.items
     → WithText file ⊥ (λ b. string_bytes text ≡ b)
 text_brought None bytes text read same = tt

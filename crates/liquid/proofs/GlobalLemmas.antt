@@ -1,4 +1,4 @@
--- An object's names by its members.
+-- An object's names, from its members.
 use Rattle.std.proofs.Common.{◌≡◌, List, [], ◌∷◌, Some, Result, Ok, String, Global, BTreeMap, map, string_bytes, refl, sym, ap, subst}
 use Rattle.std.specs.FinMap.{from_entries}
 use Rattle.liquid_error.specs.meaning.Refusal.{Refusal}

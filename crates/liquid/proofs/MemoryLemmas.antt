@@ -1,4 +1,4 @@
--- Where memory runs out before anything is written, that is an outcome of each rendering.
+-- Memory that runs out before anything is written is an outcome of each rendering.
 use Rattle.std.proofs.Common.{◌≡◌, ℕ, List, Option, None, Ok, Err, refl, sym, subst}
 use Rattle.std.specs.Prelude.{IfSome}
 use Rattle.liquid_error.specs.declared.error.Error.{Error}

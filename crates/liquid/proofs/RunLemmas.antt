@@ -1,4 +1,4 @@
--- From the contracts of the calls below to what the program says of a rendering and of its output.
+-- From the contracts of the calls below to what the program says about a rendering and its output.
 use Rattle.std.proofs.Common.{◌≡◌, ℕ, Bool, List, [], ◌++◌, Option, None, Some, Result, sym, ap, subst, ◌∙◌}
 use Rattle.std.specs.Io.KnownBytes.{Appends, Keeps}
 use Rattle.liquid_error.specs.declared.error.Error.{Error}
@@ -71,7 +71,7 @@ Prints-settled words known listed start stop before between after answered statu
       status_is = is;
     }
 
--- a store that was compiled of the partials
+-- a store that was compiled from the partials
 pub found_in : (standard : Bool) (partials : Option Texts) (source texts : Texts) (l : ProgramLang) (found : ProgramFound)
     → partials ≡ Some source → texts ≡ source → l ≡ program_language standard → Compiled l texts found → IsFoundIn standard partials (Some found)
 found_in standard partials source texts l found is same_texts same_l compiled =

@@ -45,7 +45,7 @@ shown_whole : (r : EndedRun) (output : List ℕ) (flushed : Bool) → output ≡
 shown_whole r output true is done = inl (refl, (is, done))
 shown_whole r output false is done = inr (refl, whole_begins r output is)
 
--- what lies behind a sink before and behind the call, and what it borrows
+-- the content of a sink's destination before and after the call, and what the sink borrows
 module _ (behind behind_after : Option (List ℕ)) (lent : List ℕ) where
   -- a sink that has taken nothing yet
   abbrev fresh : Sunk

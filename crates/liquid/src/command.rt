@@ -1,3 +1,4 @@
+//! The command line of the program.
 ghost use Rattle.std.specs.Prelude.{◌≡◌, ◌∷◌, IfSome, is_some, map, option_map, string_bytes};
 ghost use Rattle.liquid.specs.meaning.Command.{
   are_paths,
@@ -71,7 +72,7 @@ fn first_of(words: &[String]) -> Option<&str>
 }
 
 impl<'w> Paths<'w> {
-    /// The paths that the words are; none where they are not.
+    /// Returns the paths that the words are, and `None` for other words.
     fn from_words(words: &'w [String]) -> Option<Paths<'w>>
         ensures test { is_some result ≡ are_paths (map string_bytes words.now) }
         ensures words { IfSome result (λ p. map string_bytes words.now
@@ -91,7 +92,8 @@ impl<'w> Paths<'w> {
     }
 }
 
-/// Returns the options with the one that a word is. There are none where it is no option, or one that is there.
+/// Returns the options with the one that a word is. Returns `None` if the word is not an option, or is one that is
+/// already set.
 fn with_option(word: &str, options: Options) -> Option<Options>
     ensures { result ≡ with_option word.now options }
 {
@@ -130,7 +132,7 @@ fn split_options(options: Options, words: &[String]) -> (Options, &[String])
 }
 
 impl<'w> Command<'w> {
-    /// The command that the words behind the program's name give; none where they are no command.
+    /// Returns the command that the words after the program's name give, and `None` if they are not a command.
     pub fn from_words(words: &'w [String]) -> Option<Command<'w>>
         ensures test { is_some result ≡ is_command (map string_bytes words.now) }
         ensures options { IfSome result (λ c. c.options ≡ options_of (map string_bytes words.now)) }

@@ -1,3 +1,4 @@
+//! Why the program stops, and the exit status for that.
 ghost use Rattle.std.specs.Prelude.{◌≡◌};
 
 use liquid_core::Error;
@@ -5,22 +6,22 @@ use liquid_core::Error;
 /// Why the program stops before it is done.
 #[derive(Debug, Drop, thiserror::Error)]
 pub enum Fault<'w> {
-    /// A template was refused, or memory ran out.
+    /// A template had an error, or memory ran out.
     #[error("{0}")]
     Refused(Error),
-    /// The words are no command.
+    /// The words are not a command.
     #[error("usage: liquid render [--sandboxed] [--lenient] TEMPLATE GLOBALS.json [DIR]\n")]
     Usage,
-    /// The file at this path can't be read as text, or no list of the folder at it.
+    /// The file at this path can't be read as text, or the folder at it can't be listed.
     #[error("liquid: cannot read {0}\n")]
     Unreadable(&'w str),
-    /// The same of a file in a folder.
+    /// The same for a file in a folder.
     #[error("liquid: cannot read {0}\n")]
     UnreadableInFolder(String),
-    /// The text of the file at this path is no JSON.
+    /// The text of the file at this path is not JSON.
     #[error("liquid: bad JSON in {0}\n")]
     BadJson(&'w str),
-    /// The JSON of the globals is no object of values.
+    /// The JSON of the globals is not an object of values.
     #[error("{0}")]
     NoGlobals(Error),
 }
@@ -28,7 +29,7 @@ pub enum Fault<'w> {
 impl Fault<'_> {
     ghost use Rattle.liquid.specs.meaning.Status.{fault_status};
 
-    /// The exit status that tells the fault.
+    /// Returns the exit status for the fault.
     pub fn status(&self) -> u8
         ensures { result ≡ fault_status self.now }
     {

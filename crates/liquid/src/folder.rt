@@ -1,3 +1,4 @@
+//! Where the program's files come from.
 ghost use Rattle.std.specs.Prelude.{◌≡◌, ℕ, List, Option, None, map, string_bytes};
 ghost use Rattle.liquid.specs.meaning.Files.{Reads};
 
@@ -12,28 +13,27 @@ pub enum Unread {
 
 /// Files by their paths.
 pub trait Folder {
-    /// What is known of the file at a path: nothing, its bytes, or that there are none to be read.
+    /// What is known of the file at a path: nothing, its bytes, or that it can't be read.
     ghost known: { Self → List ℕ → Option (Option (List ℕ)) } = { λ _ _. None };
 
     /// What is known of the folder at a path: nothing, the names of the files directly in it, or that
     /// they can't be read.
     ghost listed: { Self → List ℕ → Option (Option (List (List ℕ))) } = { λ _ _. None };
 
-    /// The bytes of the file at `path`.
+    /// Returns the bytes of the file at `path`.
     ///
-    /// Where something is known of the file, bytes that are answered are those that are known. Which
-    /// fault is answered, and want of memory at a file that could be read, is left open. What is
-    /// known of files and folders stays as it is.
+    /// If something is known of the file, the returned bytes are those that are known. Which fault is returned is
+    /// unspecified, and so is an out-of-memory error for a file that could be read. What is known of files and folders
+    /// stays as it is.
     fn read(&mut self, alloc: Global, path: &str) -> Result<Vec<u8>, Unread>
         ensures reads { Reads (λ bytes. bytes.items) (known self.old path.now) result }
         ensures same { known self.new ≡ known self.old }
         ensures listed { listed self.new ≡ listed self.old };
 
-    /// The names of the files directly in the folder at `path`, in any order; folders in it are passed
-    /// over. A name that is not UTF-8 is a fault.
+    /// Returns the names of the files directly in the folder at `path`, in any order. Folders in it are left out. A
+    /// name that is not UTF-8 is a fault.
     ///
-    /// Where something is known of the folder, names that are answered are those that are known, and
-    /// the rest is as for `read`.
+    /// If something is known of the folder, the returned names are those that are known, and the rest is as for `read`.
     fn list(&mut self, alloc: Global, path: &str) -> Result<Vec<String>, Unread>
         ensures lists { Reads (λ names. map string_bytes names.items) (listed self.old path.now) result }
         ensures same { known self.new ≡ known self.old }

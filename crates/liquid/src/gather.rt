@@ -1,4 +1,4 @@
-//! Reading what a command names.
+//! Reading the files that a command names.
 ghost use Rattle.std.specs.Prelude.{◌≡◌, ◌≢◌, Some, IfOk, IfErr, map, option_map, string_bytes};
 ghost use Rattle.std.specs.FinMap.{empty, keys};
 ghost use Rattle.liquid_runtime.specs.meaning.Maps.{names_of};
@@ -27,7 +27,7 @@ use serde_json::Category;
 use std::alloc::{AllocError, Global};
 use std::collections::BTreeMap;
 
-/// The text of the file at a path.
+/// Returns the text of the file at a path.
 pub(crate) fn text_of<'w, F: Folder>(
     alloc: Global,
     files: &mut F,
@@ -45,7 +45,7 @@ pub(crate) fn text_of<'w, F: Folder>(
     }
 }
 
-/// The text of a file in a folder.
+/// Returns the text of a file in a folder.
 pub(crate) fn text_in<'w, F: Folder>(
     alloc: Global,
     files: &mut F,
@@ -85,7 +85,7 @@ fn read_text<F: Folder>(alloc: Global, files: &mut F, path: &str) -> Result<Stri
     }
 }
 
-/// The names of the files in a folder, in byte order.
+/// Returns the names of the files in a folder, in byte order.
 fn names_in<'w, F: Folder>(
     alloc: Global,
     files: &mut F,
@@ -116,7 +116,7 @@ fn in_order(alloc: Global, names: Vec<String>) -> Result<BTreeMap<String, ()>, A
     Ok(set)
 }
 
-/// The partials of the command's folder, if it names one.
+/// Returns the partials of the command's folder, if it names one.
 pub(crate) fn partials_of<'w, F: Folder>(
     alloc: Global,
     files: &mut F,
@@ -132,7 +132,7 @@ pub(crate) fn partials_of<'w, F: Folder>(
     }
 }
 
-/// The partials of a folder: the text of each of its files, under the file's name.
+/// Returns the partials of a folder: the text of each of its files, under the file's name.
 fn partials_in<'w, F: Folder>(
     alloc: Global,
     files: &mut F,
@@ -146,7 +146,7 @@ fn partials_in<'w, F: Folder>(
     texts_of(alloc, files, folder, names)
 }
 
-/// The texts of the files of these names in a folder, each under its name.
+/// Returns the texts of the files of these names in a folder, each under its name.
 fn texts_of<'w, F: Folder>(
     alloc: Global,
     files: &mut F,
@@ -167,7 +167,7 @@ fn texts_of<'w, F: Folder>(
     Ok(source)
 }
 
-/// The globals that a text of JSON, which stood at this path, gives.
+/// Returns the globals of a text of JSON, which was read from this path.
 pub(crate) fn globals_of<'w>(alloc: Global, text: &str, path: &'w str) -> Result<Object, Fault<'w>>
     ensures globals { WithGlobals (object_read text.now) (Stops result) (λ names. Brings names_of names result) }
     ensures command { IfErr result (λ fault. fault_status fault ≢ 2) }

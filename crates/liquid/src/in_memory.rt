@@ -9,8 +9,8 @@ use crate::run::run;
 use std::alloc::{AllocError, Global};
 use std::collections::BTreeMap;
 
-/// Files in memory, and lists of the names in folders, by their paths. What they hold is known, so
-/// what is proved of a run over them names their bytes.
+/// Files in memory, and lists of the names in folders, by their paths. Their content is known, so the contract of a run
+/// over them names their bytes.
 #[derive(Drop)]
 pub struct InMemoryFolder {
     files: BTreeMap<String, Vec<u8>>,
@@ -18,7 +18,7 @@ pub struct InMemoryFolder {
 }
 
 impl InMemoryFolder {
-    /// A folder without files and lists. Takes no memory.
+    /// Returns a folder without files and lists. It takes no memory.
     pub fn new(alloc: Global) -> InMemoryFolder
         ensures files { (path : List ℕ) → bytes_at result path ≡ None }
         ensures folders { (path : List ℕ) → names_at result path ≡ None }
@@ -29,8 +29,7 @@ impl InMemoryFolder {
         }
     }
 
-    /// Puts a file of these bytes at a path, in place of the one that stands there. Where memory
-    /// runs out the files stay as they were.
+    /// Puts a file of these bytes at a path, in place of any other. If memory runs out, the files stay as they were.
     pub fn add(&mut self, alloc: Global, path: &str, bytes: &[u8]) -> Result<(), AllocError>
         ensures added { OnOk result ((p : List ℕ) → bytes_at self.new p
             ≡ (if bytes_eq path.now p then Some bytes.now else bytes_at self.old p)) }
@@ -42,8 +41,8 @@ impl InMemoryFolder {
         Ok(())
     }
 
-    /// Puts the list of the names in a folder at its path, in place of the one that stands there; the
-    /// files themselves are added by `add`. Where memory runs out the lists stay as they were.
+    /// Puts the list of the names in a folder at its path, in place of any other. The files themselves are added by
+    /// `add`. If memory runs out, the lists stay as they were.
     pub fn add_list(
         &mut self,
         alloc: Global,
@@ -90,8 +89,7 @@ fn copied(alloc: Global, names: &Vec<String>) -> Result<Vec<String>, AllocError>
     Ok(copies)
 }
 
-/// What a run of the program came to: its status, and what it wrote to its output and to its error
-/// stream.
+/// The result of a run of the program: its status, and what it wrote to its output and to its error stream.
 #[derive(Debug, Drop)]
 pub struct Ran {
     pub status: u8,

@@ -8,13 +8,13 @@ use std::fs::{self, DirEntry, File, OpenFile};
 use std::io::{self, ErrorKind, Read};
 use std::rt::Files;
 
-/// The files of the machine that the runtime stands for.
+/// The files of the machine, by the runtime.
 #[derive(Drop)]
 pub struct Machine<'a, R> {
     pub rt: &'a R,
 }
 
-// Want of memory is told apart from every other fault.
+// Running out of memory is kept apart from every other fault.
 fn unread(error: io::Error) -> Unread
     ensures { (result ≡ Unread.Memory) ↔ (error_kind error ≡ ErrorKind.OutOfMemory) }
 {
@@ -24,8 +24,8 @@ fn unread(error: io::Error) -> Unread
     }
 }
 
-// Room for the bytes of the open file by what the machine says of its length, which is no promise:
-// whatever it says, the file is read to its end.
+// Room for the bytes of the open file by the length that the machine reports. The length is only a hint: whatever it
+// is, the file is read to its end.
 fn room_for<F: OpenFile>(alloc: Global, file: &F) -> Vec<u8>
     ensures { result.items ≡ [] }
 {
@@ -33,15 +33,14 @@ fn room_for<F: OpenFile>(alloc: Global, file: &F) -> Vec<u8>
         return Vec::new(alloc);
     };
     let length = usize::try_from(metadata.len()).unwrap_or(0);
-    // One byte more, so that the end is seen without more room.
+    // One more byte, so that the end is found without more room.
     match Vec::with_capacity(alloc, length.saturating_add(1)) {
         Ok(room) => room,
         Err(_) => Vec::new(alloc),
     }
 }
 
-// Whether the entry is no file. One of which nothing is told counts as a file, so that it is its read
-// that is refused.
+// Whether the entry is not a file. An entry of unknown type counts as a file, so that reading it is what fails.
 fn is_passed_over<R: Files>(rt: &R, entry: &DirEntry<R>) -> bool {
     match fs::metadata(rt, entry.path()) {
         Ok(metadata) => !metadata.is_file(),

@@ -21,7 +21,7 @@ use std::io::BufWriter;
 use std::process::ExitCode;
 use std::{env, io};
 
-/// The words behind the program's name.
+/// Returns the words after the program's name.
 fn words(rt: &HostRuntime) -> Result<Vec<String>, Fault<'static>> {
     match env::args(rt) {
         Ok(args) => match args.skip(1).collect(rt.alloc()) {
@@ -35,7 +35,7 @@ fn words(rt: &HostRuntime) -> Result<Vec<String>, Fault<'static>> {
     }
 }
 
-/// Runs the words over the machine's files and streams, with the output gathered in a buffer.
+/// Runs the words over the machine's files and streams, with the output collected in a buffer.
 fn serve(rt: &HostRuntime) -> Result<u8, Fault<'static>> {
     let words = words(rt)?;
     let output = rt.stdout();

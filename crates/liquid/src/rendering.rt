@@ -26,7 +26,7 @@ type ProgramLanguage = Language<ProgramFilters, Tags, Blocks>;
 /// The program's store of partials.
 type Store = LazyStore<InMemorySource, ProgramFilters, Tags, Blocks>;
 
-/// Writes what the text comes to over these globals and these partials, by these options.
+/// Renders the text over these globals and these partials, with these options, and writes the result.
 #[tactic(auto, using(crate::proofs::UntouchedSinks::untouched))]
 pub fn render_over<K: Sink>(
     alloc: Global,
@@ -55,7 +55,7 @@ fn shared_language(alloc: Global, standard: bool) -> Result<Rc<ProgramLanguage>,
     Ok(Rc::new(alloc, language(alloc, program_filters(alloc, standard)?)?)?)
 }
 
-/// Writes what the text comes to in the program's language.
+/// Renders the text in the program's language and writes the result.
 #[tactic(auto, using(crate::proofs::UntouchedSinks::untouched))]
 fn render_in_language<K: Sink>(
     alloc: Global,
@@ -89,7 +89,7 @@ fn render_in_language<K: Sink>(
     }
 }
 
-/// Writes what the text comes to in the program's language, in a sandbox of these names over the runtime.
+/// Renders the text in the program's language, in a sandbox of these names over the runtime, and writes the result.
 #[tactic(auto, using(crate::proofs::UntouchedSinks::untouched))]
 fn render_sandboxed_source<K: Sink>(
     alloc: Global,
@@ -115,14 +115,14 @@ fn render_sandboxed_source<K: Sink>(
     }
 }
 
-/// The same language once more.
+/// Returns the same language, shared.
 fn shared(language: &Rc<ProgramLanguage>) -> Result<Rc<ProgramLanguage>, AllocError>
     ensures { IfOk result (λ copy. meaning_of copy.value ≡ meaning_of language.now.value) }
 {
     language.clone()
 }
 
-/// A store of the partials, if there are any, in this language.
+/// Returns a store of the partials, if there are any, in this language.
 fn store_of(
     alloc: Global,
     standard: bool,
@@ -139,7 +139,7 @@ fn store_of(
     }
 }
 
-/// The runtime over these globals and this store, if there is one, lenient or not.
+/// Returns the runtime over these globals and this store, if there is one, lenient or not.
 fn runtime_of(
     alloc: Global,
     lenient: bool,

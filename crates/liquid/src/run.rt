@@ -1,3 +1,4 @@
+//! Running a command.
 ghost use Rattle.std.specs.Prelude.{◌≡◌, ◌≢◌, ◌↔◌, false, is_ok, map, option_map, string_bytes};
 ghost use Rattle.liquid_template.specs.meaning.Grows.{Grows};
 ghost use Rattle.liquid.specs.meaning.Command.{is_command, path_words};
@@ -13,27 +14,26 @@ use liquid_core::{Error, Sink, WriterSink};
 use std::alloc::Global;
 use std::io::{self, Write};
 
-/// Runs the command that the words behind the program's name give: `render [--standard] [--sandboxed]
-/// [--lenient] TEMPLATE GLOBALS.json [DIR]` writes the template at that path to `out`, over the globals
-/// that the JSON object gives. Each file directly in the folder DIR is a partial under its file name.
-/// With `--standard` the template has the standard filters in place of `append` and `fail`. With
-/// `--sandboxed` the object is the data of a sandbox without a name, over a runtime that has no
-/// globals. With `--lenient` a name or an index without a value is nil, and no refusal. The options
-/// stand in any order.
+/// Runs the command that the words after the program's name give.
 ///
-/// It answers the exit status: 0 where the template was rendered; 1 where parsing or rendering was
-/// refused, with the error's text on `err`; 2 where the words are no command, with the usage on
-/// `err`; 3 where a file can't be read as UTF-8 text, or the globals are no JSON, with the path on
-/// `err`, and where the JSON is no object of values, with the error's text. The files are read in
-/// their order, each is turned into what it stands for before the next is read, and the first fault
-/// is answered. What was written before a refusal stays written. A fault of `err` changes no status,
-/// and with status 0 nothing is written to `err`.
+/// `render [--standard] [--sandboxed] [--lenient] TEMPLATE GLOBALS.json [DIR]` renders the template at that path to
+/// `out`, over the globals of the JSON object. Each file directly in the folder DIR is a partial under its file name.
+/// With `--standard` the template has the standard filters in place of `append` and `fail`. With `--sandboxed` the
+/// object is the data of a sandbox without a name, over a runtime that has no globals. With `--lenient` a name or an
+/// index without a value is nil instead of an error. The options are in any order.
 ///
-/// Want of memory has status 1, wherever it strikes. When it does is left open, and so is which of 3
-/// and 1 is answered where a file can't be read as what it is to be.
+/// Returns the exit status: 0 if the template was rendered; 1 if parsing or rendering had an error, with the error's
+/// text on `err`; 2 if the words are not a command, with the usage on `err`; 3 if a file can't be read as UTF-8 text,
+/// or the globals are not JSON, with the path on `err`, and if the JSON is not an object of values, with the error's
+/// text. The files are read in order, each is turned into what it means before the next is read, and the first fault is
+/// returned. What was written before an error stays written. A fault of `err` changes no status, and with status 0
+/// nothing is written to `err`.
 ///
-/// `out` is flushed before anything is written to `err`. Where that fails, a template that was
-/// rendered or refused is answered as at a sink that fails: with status 1 and "Failed to render".
+/// Running out of memory has status 1, wherever it happens. When it happens is unspecified, and so is which of 3 and 1
+/// is returned if a file can't be read as what it should be.
+///
+/// `out` is flushed before anything is written to `err`. If that fails, the result for a template that was rendered or
+/// had an error is that of a sink that fails: status 1 and "Failed to render".
 pub fn run<F: Folder, W: Write, E: Write>(
     alloc: Global,
     words: &[String],
@@ -70,7 +70,7 @@ pub fn run_to<F: Folder, K: Sink, E: Write>(
     tell(attempt(alloc, words, files, sink), err)
 }
 
-/// The status of an answer, whose fault is written to `err`.
+/// Returns the status of an answer, and writes its fault to `err`.
 fn tell<E: Write>(answer: Result<(), Fault<'_>>, err: &mut E) -> u8
     ensures status { result ≡ exit_status answer.entry }
     ensures quiet { result ≡ 0 → err.new ≡ err.old }
@@ -84,8 +84,8 @@ fn tell<E: Write>(answer: Result<(), Fault<'_>>, err: &mut E) -> u8
     }
 }
 
-/// What is answered once the output was flushed. Where that failed, what was rendered, or written
-/// before a refusal, is refused as at a sink that fails.
+/// Returns the answer after the output was flushed. If that failed, what was rendered, or written before an error, has
+/// the error of a sink that fails.
 fn settle<'w>(
     alloc: Global,
     answer: Result<(), Fault<'w>>,
@@ -120,7 +120,7 @@ fn attempt<'w, F: Folder, K: Sink>(
     }
 }
 
-/// Reads what the command names, and writes what its template comes to.
+/// Reads the files that the command names, renders its template and writes the result.
 #[tactic(auto, using(crate::proofs::UntouchedSinks::untouched))]
 fn execute<'w, F: Folder, K: Sink>(
     alloc: Global,

@@ -22,7 +22,7 @@ fn words_of(alloc: Global, words: &[&str]) -> Result<Vec<String>, AllocError> {
 
 const RENDER: &[&str] = &["render", "t", "g.json"];
 
-/// The template at the path `t`, and its globals at `g.json`.
+/// Returns the template at the path `t`, and its globals at `g.json`.
 fn folder(alloc: Global, template: &[u8], globals: &[u8]) -> Result<InMemoryFolder, AllocError> {
     let mut files = InMemoryFolder::new(alloc);
     files.add(alloc, "t", b"this file is replaced")?;
@@ -38,10 +38,10 @@ fn ran(alloc: Global, template: &[u8], globals: &[u8], words: &[&str]) -> Result
     Ok(run_in_memory(alloc, words.as_slice(), &mut files))
 }
 
-/// The bytes of the template and of its globals, the status, and what both streams say.
+/// The bytes of the template and of its globals, the status, and what both streams have.
 type Row = (&'static [u8], &'static [u8], u8, &'static str, &'static str);
 
-/// Refuses a run with another status, or with other bytes on one of both streams.
+/// Fails for a run with another status, or with other bytes on one of both streams.
 fn answers(ran: &Ran, status: u8, out: &str, err: &str) -> Result<(), Fail> {
     let is_out = ran.out.as_slice() == out.as_bytes();
     let is_err = ran.err.as_slice() == err.as_bytes();

@@ -1,9 +1,9 @@
 //! Liquid templates: parsed, and rendered over names that a caller sets.
 //!
-//! All that users need is named here, at the paths of Rust's liquid-core: errors in `error`, values
-//! in `model`, `parse` in `parser`, frames and templates in `runtime`. At the root stand the most used
-//! names of that crate's root, and the names that a host or an author of plug-ins needs and that the
-//! crate does not have: sinks, scopes, turns, and the functions that make values.
+//! All that users need is exported here, at the paths of Rust's liquid-core: errors in `error`, values in `model`,
+//! `parse` in `parser`, frames and templates in `runtime`. At the root are the most used names of that crate's root,
+//! and the names that a host or an author of plug-ins needs and that the crate does not have: sinks, scopes, turns, and
+//! the functions that make values.
 #![tactic(auto)]
 
 /// Errors.
@@ -33,7 +33,7 @@ pub mod model {
         ViewRender, ViewSource, array_of, object_of, scalar_of,
     };
 
-    /// An object, its entries and its walks.
+    /// An object, its entries and its iterators.
     pub mod map {
         pub use liquid_value::Object;
         pub use liquid_value::map::{
@@ -45,7 +45,7 @@ pub mod model {
     }
 }
 
-/// Laws: functions that do nothing, whose contracts say what holds of all values, texts and frames.
+/// Laws: functions that do nothing, whose contracts state what is true of all values, texts and frames.
 pub mod laws {
     /// Of the grammar: covers, elements and matches.
     pub mod grammar {
@@ -107,7 +107,7 @@ pub mod laws {
         pub use liquid_partials::{few_readings, one_store, stores_agree};
     }
 
-    /// Of readings.
+    /// Of parsing.
     pub mod parser {
         pub use liquid_parser::one_reading;
     }
@@ -132,8 +132,7 @@ pub mod laws {
     }
 }
 
-/// From text to nodes, and the plug-ins that a language has: what they are made of and how they tell
-/// what they are.
+/// From text to nodes, and the plug-ins of a language: what they are made of and how they describe themselves.
 pub mod parser {
     pub use liquid_parser::{
         BLOCK_LIMIT, BRIEF_LIMIT, BlockBody, BlockElement, BlockReflection, Brief, Exp,
@@ -147,7 +146,7 @@ pub mod parser {
     };
 }
 
-/// Partials: sources of texts, and the stores that are compiled of them.
+/// Partials: sources of texts, and the stores that are compiled from them.
 pub mod partials {
     pub use liquid_partials::{
         EagerCompiler, EagerStore, InMemorySource, LazyCompiler, LazyStore, OnDemandCompiler,

@@ -21,7 +21,7 @@ ascii_at (x ∷ xs) (suc i) h l = ascii_at xs i (tail_ascii _ _ h) (omega arith)
 pub upper_ascii : (c : ℕ) → c < 128 → to_ascii_uppercase c < 128
 upper_ascii c h = grind (arith, nat_tests)
 
--- one character more of a text written in upper case
+-- one more character of a text written in upper case
 pub upper_more : (new out old encoded items : List ℕ) (i c : ℕ) → i < length items → is_ascii_text items ≡ true → c ≡ to_ascii_uppercase (get_or items i 0) → (c < 128 → encoded ≡ c ∷ []) → new ≡ out ++ encoded → out ≡ old ++ map to_ascii_uppercase (take i items) → new ≡ old ++ map to_ascii_uppercase (take (i + 1) items)
 upper_more new out old encoded items i c l h e one is so_far =
     let small : c < 128 = rw e (upper_ascii _ (ascii_at items i h l)) in

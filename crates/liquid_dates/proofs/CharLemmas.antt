@@ -8,7 +8,7 @@ pub chars_of_empty : (text : List ℕ) → length text ≡ 0 → chars text ≡ 
 chars_of_empty [] e = chars-nil
 chars_of_empty (c ∷ cs) e = absurd (omega arith)
 
--- `:` stands for nothing
+-- `:` means nothing
 pub colon_letter : letter_directive 58 ≡ None
 unfolding letter_directive number_letter name_letter composite_letter fraction_letter
 colon_letter = refl

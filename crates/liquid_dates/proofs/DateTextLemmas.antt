@@ -13,12 +13,13 @@ use Rattle.liquid_dates.specs.meaning.Pattern.{begins}
 use Rattle.liquid_dates.proofs.PairForms.{joined, two_below, year_form, month_form, weekday_form, dashed, day_month, slashed, clock}
 use Rattle.liquid_dates.specs.steps.DateReader.{Read, after_byte, two_at, four_at, year_behind, year_at, joined_at, whole_of, find_name, short_name_at, behind_text, month_at, short_month_at, weekday_at, dashed_at, long_at, short_at, slashed_at, clock_at}
 
--- a reader reads a form: what it reads is of that form, and what is of that form is read before a rest that begins with no digit
+-- a reader reads a form: what it reads has that form, and a text of that form is read before a rest that does not begin
+-- with a digit
 pub record Reads {A : Type 0} (F : List ℕ → A → Type 0) (r : List ℕ → Read A) : Type 0 where
   pub sound : (text : List ℕ) (a : A) (rest : List ℕ) → r text ≡ Some (a, rest) → (front : List ℕ) × (text ≡ front ++ rest) × F front a
   pub complete : (front : List ℕ) (a : A) (rest : List ℕ) → F front a → begins is_digit rest ≡ false → r (front ++ rest) ≡ Some (a, rest)
 
--- what was read, of two ways to write it
+-- the value that was read, or another one
 abbrev value_or : {A : Type 0} → A → Read A → A
 value_or other None = other
 value_or other (Some p) = p.0
@@ -88,7 +89,7 @@ two_reads limit h = record {
   complete = λ front n rest f ends. rw f.1 (two_at_digits limit n rest h f.0);
 }
 
--- a form, a byte that is no digit, and a form behind it
+-- a form, a byte that is not a digit, and a form after it
 joined_sound : {A B : Type 0} (F : List ℕ → A → Type 0) (r : List ℕ → Read A) (byte : ℕ) (G : List ℕ → B → Type 0) (q : List ℕ → Read B) → Reads F r → Reads G q → (text : List ℕ) (a : A) (b : B) (rest : List ℕ) → joined_at r byte q text ≡ Some ((a, b), rest) → (front : List ℕ) × (text ≡ front ++ rest) × joined F byte G front (a, b)
 joined_sound {A = A} {B = B} F r byte G q hf hg text a b rest e =
     let (x, ex, e1) = bind_some (r text) _ _ e in

@@ -17,7 +17,7 @@ use Rattle.liquid_dates.specs.meaning.Pattern.{Item, literal, directive, spellin
 use Rattle.liquid_dates.specs.steps.PatternReader.{ItemRead, directive_at, IsReadAs, IsPrinted, HasRest, conversion_of, conversion_print}
 use Rattle.liquid_dates.proofs.PatternLemmas.{Describes, directive_describes, front_more, one_reading, shorter}
 
--- behind its per cent a directive has the rest at its end
+-- after its per cent a directive has the rest at its end
 pub spelled : (cs : List ℕ) (conversion : Conversion) (rest : Bor (List ℕ)) → IsReadAs (Ok (conversion, rest)) (directive_at cs) → HasRest cs (chars rest.now)
 unfolding spelling
 spelled cs conversion rest h = by_cases _ (directive_describes cs) h
@@ -75,7 +75,7 @@ read_refused cs e h = by_cases (directive_at cs) h
     by_cases (Ok q) h = absurd h
     by_cases (Err r) h = on_refusal e (Err r ≡ Err e) (ap Err (sym h))
 
--- the print of one item more
+-- the print of one more item
 pub print_more : (dt : DateTime) (items : List Item) (i : Item) → print dt (items ++ (i ∷ [])) ≡ print dt items ++ item_print dt i
 unfolding print
 print_more dt [] i = append-nil (item_print dt i)
@@ -97,7 +97,7 @@ printed_directive dt cs rest old new h = by_cases (directive_at cs) (directive_d
         record { item = item; joined = rw h.0 at d.0; is = rw h.0 at d.1; prints = h.1 }
     by_cases (Err r) d h = absurd h
 
--- one item more of what is printed
+-- one more item of what is printed
 abbrev pub IsPrintedFront : DateTime → List ℕ → List ℕ → List ℕ → Type 0
 IsPrintedFront dt text rest out = (items : List Item) × IsFront text items rest × (out ≡ print dt items)
 
@@ -111,7 +111,7 @@ printed_more dt text rest next old new items front bytes p = (
 pub printed_shorter : (dt : DateTime) (rest next old new : List ℕ) → Printed dt rest next old new → length next < length rest
 printed_shorter dt rest next old new p = rw p.joined (shorter p.item next)
 
--- characters that are no per cent, each copied
+-- characters that are not a per cent, each copied
 pub copied_front : (dt : DateTime) (text cs more old : List ℕ) (items : List Item) → IsFront text items (cs ++ more) → NonePass (λ c. c == 37) cs → old ≡ print dt items → IsPrintedFront dt text more (old ++ encode_utf8_all cs)
 unfolding item_print spelling
 copied_front dt text [] more old items front none e = (items, front, append-nil old ∙ e)
@@ -125,7 +125,7 @@ copied_front dt text (c ∷ cs) more old items front none e =
     other : (c : ℕ) → (c == 37) ≡ false → c ≢ 37
     other c h = grind (arith, nat_tests)
 
--- the characters of a text of which none passes
+-- the characters of a text, none of which passes
 chars_pass : (p : ℕ → Bool) (bs : List ℕ) → IsUtf8 bs → NoCharPasses p bs → NonePass p (chars bs)
 chars_pass p bs u (cs, e, none) = subst (NonePass p) (chars_from_encodes cs bs u e) none
 
@@ -153,7 +153,7 @@ cut_at text (Some x) u h =
       utf8 = behind;
     }
 
--- what stands before the per cent, copied
+-- the text before the per cent, copied
 pub cut_front : (dt : DateTime) (text rest copied behind old : List ℕ) (items : List Item) → IsFront text items (chars rest) → old ≡ print dt items → Cut rest copied behind → IsPrintedFront dt text (37 ∷ chars behind) (old ++ copied)
 cut_front dt text rest copied behind old items front bytes cut =
     let p = copied_front dt text (chars copied) (37 ∷ chars behind) old items (subst (IsFront text items) cut.joined front) cut.none bytes in
@@ -172,7 +172,7 @@ copied_rest dt text rest old items front bytes utf8 none =
     let p = copied_front dt text (chars rest) [] old items (subst (IsFront text items) (sym (append-nil (chars rest))) front) none bytes in
     prints dt text [] (old ++ rest) p.0 p.1 (ap (λ t. old ++ t) (sym (encodes-chars rest utf8)) ∙ p.2) refl
 
--- a refusal of a directive is a refusal of the text
+-- an error of a directive is an error of the text
 refused_directive : (cs : List ℕ) (e : DateFormatError) (r : ItemRead) → Describes (37 ∷ cs) r → r ≡ Err e → IsRefused e (37 ∷ cs)
 refused_directive cs e r d is = rw is at d
 

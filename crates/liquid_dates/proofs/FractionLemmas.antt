@@ -6,12 +6,12 @@ use Rattle.liquid_dates.specs.meaning.Printed.{fraction_digits}
 tenth : (k j : ℕ) → k ≡ suc j → 10 ^ k ≡ 10 * 10 ^ j
 tenth k j e = rw e (omega (arith, pow-suc 10 j))
 
--- nothing is left behind the last place that is not 0
+-- nothing is left after the last place that is not 0
 pub fraction_digits_last : (k n place : ℕ) → place ≡ 10 ^ k → n % place ≡ 0 → fraction_digits (suc k) n ≡ (48 + n / place) ∷ []
 unfolding fraction_digits
 fraction_digits_last k n place e none = rw (← e) (rw (eq-eqb _ _ none))
 
--- where something is left, a place is left for it
+-- if something is left, there is a place for it
 pub fraction_digits_more : (k n place : ℕ) → place ≡ 10 ^ k → (n % place ≡ 0 → ⊥)
     → (j : ℕ) × (place ≡ 10 * 10 ^ j) × (fraction_digits (suc k) n ≡ (48 + n / place) ∷ fraction_digits (suc j) (n % place))
 unfolding fraction_digits

@@ -15,7 +15,7 @@ use Rattle.jiff_core.proofs.CalendarLemmas.{days_from_civil-day_count, day_count
 use Rattle.jiff_core.proofs.IsoWeekLemmas.{weeks_in_year-next, iso_year_start_near, in_year_before, in_year_after, in_year_last}
 use Rattle.liquid_dates.specs.meaning.IsoWeek.{iso_year, iso_week}
 
--- the day lies in the weeks of the year
+-- the day is in the weeks of the year
 pub record IsInYear (y day : ℤ) : Type 0 where
   pub year : IsYear y
   pub start : iso_year_start y ≤ℤ day
@@ -38,7 +38,7 @@ start_later a b ya yb h =
     let e : a +ℤ pos 1 ≡ b = omega (arith, signed_arith) in
     rw e (omega (arith, signed_arith)))
 
--- so a day lies in the weeks of one year
+-- so a day is in the weeks of one year
 year_only : (a b day : ℤ) → IsInYear a day → IsInYear b day → a ≡ b
 year_only a b day h k =
     by_lt_z a b

@@ -10,7 +10,7 @@ use Rattle.liquid_dates.specs.meaning.Pattern.{Item, literal, directive, spellin
 use Rattle.liquid_dates.specs.steps.PatternReader.{front, behind, after_second_colon, behind_second_colon, after_colon, behind_colon, letter_front, letter_behind, ItemRead, letter_at, behind_modifier, modifier_at, behind_width, directive_at, item_at}
 use Rattle.liquid_dates.proofs.PatternReaderLemmas.{behind_width_fits, behind_width_great}
 
--- the front and what is behind it are the text
+-- the front and the rest after it are the text
 front_join_test : (p : ℕ → Bool) (c : ℕ) (cs : List ℕ) (b : Bool) → front p cs ++ behind p cs ≡ cs → cond b (c ∷ front p cs) [] ++ cond b (behind p cs) (c ∷ cs) ≡ c ∷ cs
 front_join_test p c cs true e = ap (λ t. c ∷ t) e
 front_join_test p c cs false e = refl
@@ -47,7 +47,7 @@ run_front p (c ∷ cs) rest passes ends =
     let more = run_front p cs rest (and_second _ _ passes) ends in
     (rw first (ap (λ t. c ∷ t) more.0), rw first more.1)
 
--- the letter and what is behind it are the text
+-- the letter and the rest after it are the text
 abbrev IsSplit : List ℕ → List ℕ → List ℕ → Type 0
 IsSplit letter rest text = (letter ++ rest ≡ text) × IsLetter letter rest
 
@@ -94,7 +94,7 @@ letter_read (a ∷ b ∷ c ∷ []) rest h =
     record { first = a; more = b ∷ c ∷ rest; is = refl; front_is = rw (h.0, h.1) refl; behind_is = rw (h.0, h.1) refl }
 letter_read (a ∷ b ∷ c ∷ d ∷ ds) rest h = absurd h
 
--- what the reader says of a text is so
+-- what the reader says about a text is true
 abbrev pub Describes : List ℕ → ItemRead → Type 0
 Describes text (Ok (item, rest)) = (text ≡ spelling item ++ rest) × IsItem item rest
 Describes text (Err e) = IsRefused e text
@@ -155,7 +155,7 @@ pub item_describes : (c : ℕ) (cs : List ℕ) → Describes (c ∷ cs) (item_at
 unfolding item_at
 item_describes c cs = item_describes_test c cs _ refl
 
--- what the reader says of a text that is not empty
+-- what the reader says about a text that is not empty
 abbrev pub read_at : List ℕ → Option ItemRead
 read_at [] = None
 read_at (c ∷ cs) = Some (item_at c cs)
@@ -203,7 +203,7 @@ refused_read InvalidWidth text h =
     rw h.is (ap Some (rw (flags.0, flags.1, digits.0, digits.1, behind_width_great h.flags h.digits h.next h.rest h.of_width) refl))
 refused_read Memory text h = absurd h
 
--- a reading's first step, as the reader says it
+-- a reading's first step, as the reader gives it
 abbrev Begins : List ℕ → List Item → Option DateFormatError → Type 0
 Begins text [] None = read_at text ≡ None
 Begins text [] (Some e) = read_at text ≡ Some (Err e)
@@ -285,7 +285,7 @@ reading_below (suc n) (c ∷ cs) h =
 pub some_reading : (text : List ℕ) → Reading text
 some_reading text = reading_below (length text) text (omega arith)
 
--- one item more of a front
+-- one more item of a front
 pub front_more : (text : List ℕ) (items : List Item) (rest : List ℕ) (i : Item) (more : List ℕ) → IsFront text items rest → rest ≡ spelling i ++ more → IsItem i more → IsFront text (items ++ (i ∷ [])) more
 unfolding IsFront
 front_more text [] rest i more front is item = (more, front ∙ is, item, refl)

@@ -22,7 +22,7 @@ pub flags_from_none : (cs : List ℕ) → flags_from no_flags cs ≡ flags_of (f
 unfolding flags_of
 flags_from_none cs = flags_from_is no_flags cs
 
--- one digit more of a number
+-- one more digit of a number
 abbrev pub add_digit : ℕ → ℕ → ℕ
 add_digit n c = n * 10 + (c - 48)
 
@@ -58,7 +58,7 @@ pub width_from_unset : (cs : List ℕ) → width_from Unset cs ≡ width_read (f
 width_from_unset [] = refl
 width_from_unset (c ∷ cs) = width_first c cs _ refl (width_from_bounded (add_digit 0 c) cs)
 
--- what a width that was read says of its digits
+-- what a width that was read says about its digits
 bounded_given : (n k : ℕ) → bounded_width n ≡ Given k → (n ≡ k) × (n < 2 ^ 64)
 bounded_given n k e = by_test n k _ refl e
   where

@@ -38,7 +38,7 @@ dashed_printed d =
     let day : d.day < 100 = omega (arith, d.day_in, days_in_month_bounds d.year d.month) in
     (year_text d.year, two_digits d.month ++ (45 ∷ two_digits d.day), refl, year_printed d.year d.year_in, (two_digits d.month, two_digits d.day, refl, (month, refl), (day, refl)))
 
--- where a form writes a day first, the third character is a space, and the first a digit
+-- if a form writes a day first, the third character is a space, and the first a digit
 day_first : (name : ℕ → List ℕ) (text : List ℕ) (v : ℕ × (ℕ × ℤ)) → day_month name text v → (get_or text 2 0 ≡ 32) × (48 ≤ get_or text 0 0)
 day_first name text v (front, back, is, (small, two), more) =
     let e : text ≡ two_digits v.0 ++ (32 ∷ back) = is ∙ ap (λ t. t ++ (32 ∷ back)) two in
@@ -161,7 +161,7 @@ fraction_printed_at (suc k) n some small =
     let q = quotient k n (10 ^ k) refl positive small in
     fraction_test k n (n / 10 ^ k) (n % 10 ^ k) (10 ^ k) _ refl refl q.1 q.0 (λ r. fraction_printed_at k (n % 10 ^ k) r q.2)
 
--- a text that begins with a digit or `-` is no `now`
+-- a text that begins with a digit or `-` is not `now`
 chars_first : (c : ℕ) (cs : List ℕ) → c < 128 → (more : List ℕ) × (chars (c ∷ cs) ≡ c ∷ more)
 unfolding chars
 chars_first c [] h = let t : nat_lt c 128 ≡ true = grind (arith, nat_tests) in ([], rw t refl)
@@ -200,7 +200,7 @@ not_now_first c cs low high now =
     apart : (c w : ℕ) → (c < w) → c ≡ w → ⊥
     apart c w h e = omega arith
 
--- nor a whole number: behind the year stands `-`
+-- nor a whole number: a `-` is after the year
 four_no_number : (a b c d : ℕ) (rest : List ℕ) → ¬ (AllDigits 10 (a ∷ b ∷ c ∷ d ∷ 45 ∷ rest))
 four_no_number a b c d rest h = omega (arith, h.1.1.1.1.0)
 
@@ -251,7 +251,7 @@ seconds_printed dt small whole none =
     let text : date_time_text dt ≡ (d ++ (32 ∷ c)) ++ o = ap (λ t. d ++ (32 ∷ (c ++ (t ++ o)))) (no_fraction (nanosecond dt) none) ∙ all in
     ((d ++ (32 ∷ c), offset_text (offset_seconds dt), text, stamp_printed (civil_date dt) (civil_time dt), offset_printed (offset_seconds dt) small whole), none)
 
--- other times in the form with a fraction, and no dashed form is there
+-- other times have the form with a fraction, and not the dashed form
 fraction_is : (nano : ℕ) (ds : List ℕ) → IsFraction 9 nano ds → fraction_form ds nano
 unfolding digits_number
 fraction_is nano ds f = (f.passes, (f.some, f.short), f.value)

@@ -65,7 +65,7 @@ offset_reads = record {
   complete = λ front z rest f ends. offset_complete front z rest f.0 f.1 f.2 f.3 f.4;
 }
 
--- a day of one digit or two
+-- a day of one or two digits
 one_digit_sound : (c n : ℕ) (cs rest : List ℕ) (t : Bool) → is_digit c ≡ t → cond {A = Read ℕ} t (Some (c - 48, cs)) None ≡ Some (n, rest) → (n < 10) × (c ∷ cs ≡ (48 + n) ∷ rest)
 one_digit_sound c n cs rest false t e = cc
 one_digit_sound c n cs rest true t e =
@@ -202,7 +202,7 @@ timed_weekday_reads =
     (joined_reads short_day short_day_at 32 (joined clock 32 year_form) (joined_at clock_at 32 year_at) short_day_reads
     (joined_reads clock clock_at 32 year_form year_at clock_reads year_reads refl) refl) refl) refl
 
--- two texts with ends of one length
+-- two texts with ends of the same length
 append_cancel : (xs us ys vs : List ℕ) → xs ++ ys ≡ us ++ vs → length ys ≡ length vs → (xs ≡ us) × (ys ≡ vs)
 append_cancel [] [] ys vs e l = (refl, e)
 append_cancel [] (u ∷ us) ys vs e l = absurd (omega (arith, ap length e, length-append us vs))
@@ -216,7 +216,7 @@ append_cancel (x ∷ xs) (u ∷ us) ys vs e l =
 signs_apart : (a b : ℕ) → a ≡ b → a ≡ 43 → b ≡ 45 → ⊥
 signs_apart a b e f g = omega arith
 
--- the offset that is put behind a text is 0
+-- the offset that is added to a text is 0
 zero_offset : (z : ℤ) → offset_form (codes "+0000") z → z ≡ pos 0
 zero_offset z (h, m, a, b, inl (is, value)) =
     let h0 : 48 ≡ 48 + h / 10 = cc in
@@ -228,7 +228,7 @@ zero_offset z (h, m, a, b, inl (is, value)) =
 zero_offset z (h, m, a, b, inr (is, value)) =
     absurd (signs_apart 43 45 (ap (λ (t : List ℕ). get_or t 0 0) is) refl refl)
 
--- a stamp and its offset are the joined form of the text, with its offset or the one put behind it
+-- a stamp and its offset are the joined form of the text, with its own offset or the one added to it
 pub stamped_found : {A : Type 0} (F : List ℕ → A → Type 0) (r : List ℕ → Read A) → Reads F r → (given : Bool) (text : List ℕ) (a : A) (rest : List ℕ) (z : ℤ) → r text ≡ Some (a, rest) → offset_end given rest ≡ Some z → joined F 32 offset_form (with_given_offset given text) (a, z)
 stamped_found F r reads true text a rest z e o =
     let (s, is, f) = reads.sound text a rest e in

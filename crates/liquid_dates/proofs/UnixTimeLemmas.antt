@@ -26,7 +26,7 @@ unix_civil dt z h = omega (arith, signed_arith, instant_is dt, h.0, h.1, h.2)
 pub unix_range : (dt : DateTime) (z : ℤ) → IsUnixTime z dt → IsCivilNanos (nanos_of_seconds z)
 unix_range dt z h = rw (← unix_civil dt z h) (civil_nanos_range dt.local)
 
--- the same seconds are the same date time
+-- the same number of seconds is the same date time
 pub unix_once : (a b : DateTime) (z : ℤ) → IsUnixTime z a → IsUnixTime z b → SameDateTime a b
 unix_once a b z h k =
     let same = civil_nanos_injective a.local b.local (unix_civil a z h ∙ sym (unix_civil b z k)) in

@@ -6,7 +6,7 @@ use Rattle.jiff_core.proofs.SignedLemmas.{signed_arith}
 use Rattle.std.proofs.lemmas.Bool.Decides.{nat_tests}
 use Rattle.liquid_dates.specs.meaning.Numbers.{weekdays_passed}
 
--- one day more, n days back: it is that weekday exactly where n leaves the remainder of the days since one
+-- one more day, n days back: it is that weekday exactly if n is the remainder of the days since one
 step : (n s w x today : ℕ) → w < 7 → x < 7 → today ≡ (x + n) % 7 → s ≡ (today + 7 - w) % 7 → (n + 6 - s) / 7 + cond (eqb x w) 1 0 ≡ (suc n + 6 - s) / 7
 step n s w x today hw hx e f = grind (arith, nat_tests)
 

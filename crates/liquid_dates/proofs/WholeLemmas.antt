@@ -42,7 +42,7 @@ whole_by_year r (Some (ymd, rest)) d e h =
     let w = whole_some (ymd.year, (ymd.month, ymd.day)) (year_first d) rest.now (ap whole_of e ∙ h) in
     (w.0, ap (λ p. p.0) w.1, ap (λ p. p.1.0) w.1, ap (λ p. p.1.1) w.1)
 
--- the date that was read is of the form, and a date of the form is the one that was read
+-- the date that was read has the form, and a date of the form is the one that was read
 pub long_found : (text : List ℕ) (read : Option (Ymd × Bor (List ℕ))) (d : CivilDate) → option_map by_day (read_of read) ≡ long_at text → IsWholeDate read d → long_date text d
 unfolding long_date
 long_found text read d e h = whole_sound (day_month month_name) long_at long_reads text (day_first d) (by_day_whole (long_at text) read d e h)
@@ -98,7 +98,7 @@ date_once text a b (inr (_, inl h)) (inr (_, inr (no_short, k))) = absurd (no_sh
 date_once text a b (inr (_, inr (no_short, h))) (inr (_, inl k)) = absurd (no_short b k)
 date_once text a b (inr (_, inr (_, h))) (inr (_, inr (_, k))) = dashed_once text a b h k
 
--- what holds of a value that was found, or of every value where none was
+-- a fact about a value that was found, or about every value if none was
 pub found_weaker : {A : Type 0} (o : Option A) (P Q : A → Type 0) → ((a : A) → P a → Q a) → IfSome o P → IfSome o Q
 found_weaker None P Q f h = h
 found_weaker (Some a) P Q f h = f a h

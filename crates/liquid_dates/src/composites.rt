@@ -1,3 +1,4 @@
+//! The composites of patterns, such as `%F` and `%T`.
 ghost use Rattle.std.specs.Prelude.{◌≡◌, ◌<◌, ◌++◌, OnOk, pos};
 ghost use Rattle.std.specs.String.{string_bytes};
 ghost use Rattle.liquid_dates.specs.meaning.DirectiveText as Spec;
@@ -14,7 +15,7 @@ use crate::numbers::hour_of_12;
 use crate::writing::{fill, write_cased, write_number};
 use std::alloc::AllocError;
 
-/// Appends a composite as its flags and its width say.
+/// Appends a composite, following its flags and its width.
 #[tactic(auto, unfolding(crate::specs::meaning::DirectiveText::composite_text, crate::specs::meaning::Filling::filled_text))]
 pub(crate) fn composite_text(
     out: &mut String,
@@ -66,7 +67,7 @@ fn composite_of(
     }
 }
 
-/// Appends a number, filled by zeros to two characters.
+/// Appends a number, padded with zeros to two characters.
 pub(crate) fn write_two(out: &mut String, number: u8) -> Result<(), AllocError>
     ensures { OnOk result (string_bytes out.new ≡ string_bytes out.old ++ Spec.two number) }
 {
@@ -85,7 +86,7 @@ fn write_year(out: &mut String, date_time: &DateTime) -> Result<(), AllocError>
     )
 }
 
-// Appends the remainder of the year by 100, filled by zeros to two characters.
+// Appends the remainder of the year by 100, padded with zeros to two characters.
 #[tactic(auto, unfolding(crate::specs::meaning::DirectiveText::year_of_two))]
 fn write_short_year(out: &mut String, date_time: &DateTime) -> Result<(), AllocError>
     ensures { OnOk result

@@ -1,3 +1,4 @@
+//! A day of the calendar.
 ghost use Rattle.std.specs.Prelude.{◌≡◌, ◌↔◌, IsOk, IfOk, IfErr};
 ghost use Rattle.jiff_core.specs.declared.civil.date.Date.{Date as CivilDate};
 ghost use Rattle.jiff_core.specs.Calendar.{IsCivilDate};
@@ -23,7 +24,7 @@ impl Model for Date {
 }
 
 impl Date {
-    /// The date with these parts, if the calendar has it.
+    /// Returns the date with these parts. Fails if the calendar doesn't have it.
     pub fn from_ymd(year: i32, month: u8, day: u8) -> Result<Date, DateError>
         ensures succeeds { IsOk result ↔ IsCivilDate year month day }
         ensures value { IfOk result
@@ -41,35 +42,35 @@ impl Date {
         Ok(Date::from_civil(civil::Date::from_plain(plain)))
     }
 
-    /// The year.
+    /// Returns the year.
     pub fn year(&self) -> i32
         ensures { result ≡ self.now.year }
     {
         i32::from(self.inner.year())
     }
 
-    /// The month, from 1.
+    /// Returns the month, from 1.
     pub fn month(&self) -> u8
         ensures { result ≡ self.now.month }
     {
         self.inner.to_plain().month
     }
 
-    /// The day of the month, from 1.
+    /// Returns the day of the month, from 1.
     pub fn day(&self) -> u8
         ensures { result ≡ self.now.day }
     {
         self.inner.to_plain().day
     }
 
-    /// The place in the year, from 1.
+    /// Returns the day of the year, from 1.
     pub fn ordinal(&self) -> u16
         ensures { result ≡ ordinal self.now }
     {
         self.inner.to_plain().day_of_year()
     }
 
-    /// The week of the ISO 8601 year, from 1.
+    /// Returns the week of the ISO 8601 year, from 1.
     #[tactic(auto, using(crate::proofs::IsoWeekLemmas::week_date_is))]
     pub fn iso_week(&self) -> u8
         ensures { result ≡ iso_week self.now }
@@ -77,14 +78,14 @@ impl Date {
         self.inner.iso_week_date().to_plain().week
     }
 
-    /// From the civil date that it is.
+    /// Returns the date of a civil date.
     pub(crate) fn from_civil(inner: civil::Date) -> Date
         ensures { result ≡ inner }
     {
         Date { inner }
     }
 
-    /// The civil date that it is.
+    /// Returns the civil date of the date.
     pub(crate) fn to_civil(self) -> civil::Date
         ensures { result ≡ self }
     {

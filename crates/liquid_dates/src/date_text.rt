@@ -1,3 +1,4 @@
+//! The dates that texts write.
 ghost use Rattle.std.specs.Prelude.{◌≡◌, codes, IfSome, IfNone, IsSomeAnd};
 ghost use Rattle.jiff_core.specs.declared.civil.date.Date.{Date as CivilDate};
 ghost use Rattle.liquid_dates.specs.steps.DateReader.{IsWholeDate};
@@ -8,13 +9,15 @@ use crate::reading::{Ymd, dashed_at, long_at, short_at};
 use crate::{Date, DateTime};
 
 impl Date {
-    /// The date that a text writes: `today` is the date of the moment, and else the text is
-    /// `DD Month YYYY`, `DD Mon YYYY` or `YYYY-MM-DD`, where the year may stand behind `-`.
+    /// Returns the date that a text writes.
+    ///
+    /// `today` is the date of the moment. Any other text is `DD Month YYYY`, `DD Mon YYYY` or `YYYY-MM-DD`, where the
+    /// year may follow a `-`.
     #[allow(clippy::should_implement_trait)]
     pub fn from_str(text: &str, moment: DateTime) -> Option<Date>
         ensures fits { IfSome result (λ d. IsDateText text.now moment d) }
 
-        // Whatever date the text writes is the answer.
+        // If the text writes a date, that date is returned.
         ensures only { (d : CivilDate) → IsDateText text.now moment d
             → IsSomeAnd result (λ r. SameDate r d) }
     {
@@ -25,7 +28,7 @@ impl Date {
     }
 }
 
-// The date of the first form that fits.
+// Returns the date of the first form that fits.
 fn first_date(text: &[u8]) -> Option<Date>
     ensures fits { IfSome result (λ d. date_forms text.now d) }
     ensures none { IfNone result ((d : CivilDate) → ¬ (date_forms text.now d)) }
@@ -39,7 +42,7 @@ fn first_date(text: &[u8]) -> Option<Date>
     }
 }
 
-// `DD Month YYYY`.
+// Reads `DD Month YYYY`.
 fn long_date(text: &[u8]) -> Option<Date>
     ensures fits { IfSome result (λ d. Form.long_date text.now d) }
     ensures none { IfNone result ((d : CivilDate) → ¬ (Form.long_date text.now d)) }
@@ -48,7 +51,7 @@ fn long_date(text: &[u8]) -> Option<Date>
     date_of(read)
 }
 
-// `DD Mon YYYY`.
+// Reads `DD Mon YYYY`.
 fn short_date(text: &[u8]) -> Option<Date>
     ensures fits { IfSome result (λ d. Form.short_date text.now d) }
     ensures none { IfNone result ((d : CivilDate) → ¬ (Form.short_date text.now d)) }
@@ -57,7 +60,7 @@ fn short_date(text: &[u8]) -> Option<Date>
     date_of(read)
 }
 
-// `YYYY-MM-DD`.
+// Reads `YYYY-MM-DD`.
 fn dashed_date(text: &[u8]) -> Option<Date>
     ensures fits { IfSome result (λ d. Form.dashed_date text.now d) }
     ensures none { IfNone result ((d : CivilDate) → ¬ (Form.dashed_date text.now d)) }
@@ -66,7 +69,7 @@ fn dashed_date(text: &[u8]) -> Option<Date>
     date_of(read)
 }
 
-// The date of a whole text that was read, if the calendar has it.
+// Returns the date of a whole text that was read, if the calendar has it.
 fn date_of(read: Option<(Ymd, &[u8])>) -> Option<Date>
     ensures found { IfSome result (λ d. IsWholeDate read.entry d) }
     ensures none { IfNone result ((d : CivilDate) → ¬ (IsWholeDate read.entry d)) }

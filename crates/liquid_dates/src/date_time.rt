@@ -1,3 +1,4 @@
+//! A date, a time of day and an offset.
 ghost use Rattle.std.specs.Prelude.{◌≡◌, ◌↔◌, ◌<◌, pos, neg_ℤ, ◌+ℤ◌, ◌*ℤ◌, IsOk, IfOk, IfErr, MatchResult};
 ghost use Rattle.std.proofs.Common.{rules};
 ghost use Rattle.std.specs.Cmp.{partial_order_from_own_ties};
@@ -22,15 +23,15 @@ use std::alloc::Global;
 use std::cmp::Ordering;
 use std::hash::{Hash, Hasher};
 
-/// A date, a time of day to the nanosecond and an offset from UTC: an instant, and how a clock at
-/// that offset shows it. Comparisons go by the instant.
+/// A date, a time of day to the nanosecond and an offset from UTC: an instant, and how a clock at that offset shows it.
+/// Comparisons use the instant.
 #[derive(Clone, Copy)]
 pub struct DateTime {
     local: civil::DateTime,
     offset: Offset,
 }
 
-// What a clock at the offset shows at the instant, in nanoseconds.
+// Returns what a clock at the offset shows at the instant, in nanoseconds.
 fn shifted(date_time: DateTime, offset: Offset) -> i128
     ensures value { result ≡ instant date_time +ℤ nanos_of_seconds offset.seconds }
     ensures bound { IsWithin 1_000_000_000_000_000_000_000 result }
@@ -39,7 +40,7 @@ fn shifted(date_time: DateTime, offset: Offset) -> i128
 }
 
 impl DateTime {
-    /// Midnight of the day at offset 0, if the calendar has the day.
+    /// Returns midnight of the day at offset 0. Fails if the calendar doesn't have the day.
     pub fn from_ymd(year: i32, month: u8, day: u8) -> Result<DateTime, DateError>
         ensures succeeds { IsOk result ↔ IsCivilDate year month day }
         ensures date { IfOk result (λ dt. ((civil_date dt).year ≡ year)
@@ -55,7 +56,7 @@ impl DateTime {
         })
     }
 
-    /// The date time with these parts. The offset is in seconds, and below 26 hours either way.
+    /// Returns the date time with these parts. The offset is in seconds, and below 26 hours either way.
     pub fn from_parts(
         date: Date,
         hour: u8,
@@ -89,8 +90,8 @@ impl DateTime {
         }
     }
 
-    /// The instant that many nanoseconds after 1970-01-01 00:00:00 +0000, at offset 0, if its
-    /// year is from -9999 to 9999.
+    /// Returns the instant that many nanoseconds after 1970-01-01 00:00:00 +0000, at offset 0. Fails if its year is not
+    /// from -9999 to 9999.
     #[tactic(auto, using(crate::proofs::InstantLemmas::instant_is))]
     pub fn now(unix_nanoseconds: i128) -> Result<DateTime, DateError>
         ensures succeeds { IsOk result ↔ IsCivilNanos unix_nanoseconds }
@@ -107,7 +108,7 @@ impl DateTime {
         }
     }
 
-    /// The same time of day and offset on another date.
+    /// Returns the same time of day and offset on another date.
     pub fn with_date(self, date: Date) -> DateTime
         ensures date { civil_date result ≡ date }
         ensures time { civil_time result ≡ civil_time self }
@@ -119,8 +120,10 @@ impl DateTime {
         }
     }
 
-    /// The same instant at another offset, in seconds. An offset of 26 hours or more is a part out
-    /// of range, asked before whether the years have the civil time there.
+    /// Returns the same instant at another offset, in seconds.
+    ///
+    /// An offset of 26 hours or more is an out-of-range part. This is checked before whether the years have the civil
+    /// time at that offset.
     #[tactic(auto, using(crate::proofs::InstantLemmas::instant_is))]
     pub fn with_offset(self, seconds: i32) -> Result<DateTime, DateError>
         ensures succeeds { IsOk result ↔ (IsOffsetSeconds seconds
@@ -153,8 +156,8 @@ impl DateTime {
         }
     }
 
-    /// The form of RFC 2822, as `Tue, 16 Feb 2016 10:00:00 +0100`. There is none for a year below
-    /// 1900 and for an offset with seconds.
+    /// Returns the form of RFC 2822, such as `Tue, 16 Feb 2016 10:00:00 +0100`. A year below 1900 and an offset with
+    /// seconds have no such form.
     pub fn to_rfc2822(self, alloc: Global) -> Result<String, DateError>
         ensures text { IfOk result (λ s. string_bytes s ≡ rfc2822_text self) }
         ensures has_form { IsOk result → HasRfc2822Form self }
@@ -166,7 +169,7 @@ impl DateTime {
         Ok(Rfc2822 { date_time: self }.to_string(alloc)?)
     }
 
-    /// Nanoseconds since 1970-01-01 00:00:00 +0000.
+    /// Returns nanoseconds since 1970-01-01 00:00:00 +0000.
     #[tactic(auto, using(crate::proofs::InstantLemmas::instant_is))]
     pub fn instant(self) -> i128
         ensures value { result ≡ instant self }
@@ -175,7 +178,7 @@ impl DateTime {
         self.local.to_plain().to_nanosecond() - self.offset.to_plain().to_nanosecond()
     }
 
-    /// Whole seconds since 1970-01-01 00:00:00 +0000.
+    /// Returns whole seconds since 1970-01-01 00:00:00 +0000.
     #[tactic(auto, using(crate::proofs::InstantLemmas::unix_seconds_is))]
     pub(crate) fn unix_seconds(self) -> i64
         ensures { result ≡ unix_seconds self }
@@ -183,77 +186,77 @@ impl DateTime {
         self.local.to_plain().to_second() - i64::from(self.offset.to_plain().seconds)
     }
 
-    /// The civil date.
+    /// Returns the civil date.
     pub fn date(self) -> Date
         ensures { result ≡ civil_date self }
     {
         Date::from_civil(self.local.date())
     }
 
-    /// The year.
+    /// Returns the year.
     pub fn year(&self) -> i32
         ensures { result ≡ (civil_date self.now).year }
     {
         i32::from(self.local.year())
     }
 
-    /// The month, from 1.
+    /// Returns the month, from 1.
     pub fn month(&self) -> u8
         ensures { result ≡ (civil_date self.now).month }
     {
         self.local.to_plain().date.month
     }
 
-    /// The day of the month, from 1.
+    /// Returns the day of the month, from 1.
     pub fn day(&self) -> u8
         ensures { result ≡ (civil_date self.now).day }
     {
         self.local.to_plain().date.day
     }
 
-    /// The place in the year, from 1.
+    /// Returns the day of the year, from 1.
     pub fn ordinal(&self) -> u16
         ensures { result ≡ ordinal (civil_date self.now) }
     {
         self.local.to_plain().date.day_of_year()
     }
 
-    /// The week of the ISO 8601 year, from 1.
+    /// Returns the week of the ISO 8601 year, from 1.
     pub fn iso_week(&self) -> u8
         ensures { result ≡ iso_week (civil_date self.now) }
     {
         self.date().iso_week()
     }
 
-    /// The hour of the day, to 23.
+    /// Returns the hour of the day, to 23.
     pub fn hour(&self) -> u8
         ensures { result ≡ (civil_time self.now).hour }
     {
         self.local.to_plain().time.hour
     }
 
-    /// The minute of the hour.
+    /// Returns the minute of the hour.
     pub fn minute(&self) -> u8
         ensures { result ≡ (civil_time self.now).minute }
     {
         self.local.to_plain().time.minute
     }
 
-    /// The second of the minute.
+    /// Returns the second of the minute.
     pub fn second(&self) -> u8
         ensures { result ≡ (civil_time self.now).second }
     {
         self.local.to_plain().time.second
     }
 
-    /// The nanosecond of the second.
+    /// Returns the nanosecond of the second.
     pub fn nanosecond(&self) -> u32
         ensures { result ≡ nanosecond self.now }
     {
         self.local.to_plain().time.subsec_nanosecond
     }
 
-    /// How far the clock is ahead of UTC, in seconds.
+    /// Returns how far the clock is ahead of UTC, in seconds.
     pub fn offset(&self) -> i32
         ensures value { result ≡ offset_seconds self.now }
         ensures bound { IsOffsetSeconds result }
@@ -261,7 +264,7 @@ impl DateTime {
         self.offset.to_plain().seconds
     }
 
-    /// What the clock shows.
+    /// Returns what the clock shows.
     pub(crate) fn local(&self) -> civil::DateTime
         ensures date { result.date ≡ civil_date self.now }
         ensures time { result.time ≡ civil_time self.now }
@@ -273,7 +276,7 @@ impl DateTime {
 impl Default for DateTime {
     ghost is_default = { λ dt. (instant dt ≡ pos 0) × (offset_seconds dt ≡ pos 0) };
 
-    /// 1970-01-01 00:00:00 +0000.
+    /// Returns 1970-01-01 00:00:00 +0000.
     #[tactic(auto, using(crate::proofs::InstantLemmas::instant_is))]
     fn default() -> DateTime {
         DateTime {

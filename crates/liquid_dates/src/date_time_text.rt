@@ -1,3 +1,4 @@
+//! The date times that texts write.
 ghost use Rattle.std.specs.Prelude.{◌≡◌, ℤ, IfSome, IfNone, IsSomeAnd, IsTrue, ◌↔◌, option_map};
 ghost use Rattle.jiff_core.specs.Calendar.{IsWithin};
 ghost use Rattle.jiff_core.specs.Timestamp.{nanos_of_seconds};
@@ -16,7 +17,7 @@ use crate::stamps::{
 };
 use crate::{Date, DateTime};
 
-// Whether a text ends in a sign, `0` or `1`, and three digits.
+// Returns `true` if a text ends in a sign, `0` or `1`, and three digits.
 fn ends_in_offset(text: &[u8]) -> bool
     ensures { result ≡ ends_in_offset text.now }
 {
@@ -37,7 +38,7 @@ fn is_offset_end(end: &[u8]) -> bool
     }
 }
 
-// The offset of what is left behind a date with a time: given there, or 0 where nothing is left.
+// Returns the offset of what is left after a date with a time: the one given there, or 0 if nothing is left.
 fn offset_end(given: bool, rest: &[u8]) -> Option<i32>
     ensures { result ≡ offset_end given rest.now }
 {
@@ -55,7 +56,7 @@ fn whole_offset(text: &[u8]) -> Option<i32>
     if rest.is_empty() { Some(seconds) } else { None }
 }
 
-// The date time of a stamp at an offset, if the calendar and the offsets have them.
+// Returns the date time of a stamp at an offset, if the calendar and the offsets have them.
 fn at_stamp(stamp: Stamp, offset: i32) -> Option<DateTime>
     ensures found { IfSome result
         (λ dt. (offset ≡ Instant.offset_seconds dt) × HasStamp stamp dt) }
@@ -85,7 +86,7 @@ fn at_stamp(stamp: Stamp, offset: i32) -> Option<DateTime>
     }
 }
 
-// The date time of a whole text that was read.
+// Returns the date time of a whole text that was read.
 fn date_time_of(given: bool, read: Option<(Stamp, &[u8])>) -> Option<DateTime>
     ensures found { IfSome result (λ dt. IsStamped given read.entry dt) }
     ensures none { IfNone result ((dt : DateTime) → ¬ (IsStamped given read.entry dt)) }
@@ -99,7 +100,7 @@ fn date_time_of(given: bool, read: Option<(Stamp, &[u8])>) -> Option<DateTime>
     }
 }
 
-// `YYYY-MM-DD HH:MM:SS off`.
+// Reads `YYYY-MM-DD HH:MM:SS off`.
 fn dashed_date_time(given: bool, text: &[u8]) -> Option<DateTime>
     ensures fits { IfSome result
         (λ dt. Form.dashed_date_time (with_given_offset given text.now) dt) }
@@ -110,7 +111,7 @@ fn dashed_date_time(given: bool, text: &[u8]) -> Option<DateTime>
     date_time_of(given, read)
 }
 
-// `YYYY-MM-DD HH:MM:SS.fraction off`.
+// Reads `YYYY-MM-DD HH:MM:SS.fraction off`.
 fn fraction_date_time(given: bool, text: &[u8]) -> Option<DateTime>
     ensures fits { IfSome result
         (λ dt. Form.fraction_date_time (with_given_offset given text.now) dt) }
@@ -121,7 +122,7 @@ fn fraction_date_time(given: bool, text: &[u8]) -> Option<DateTime>
     date_time_of(given, read)
 }
 
-// `DD Month YYYY HH:MM:SS off`.
+// Reads `DD Month YYYY HH:MM:SS off`.
 fn long_date_time(given: bool, text: &[u8]) -> Option<DateTime>
     ensures fits { IfSome result
         (λ dt. Form.long_date_time (with_given_offset given text.now) dt) }
@@ -132,7 +133,7 @@ fn long_date_time(given: bool, text: &[u8]) -> Option<DateTime>
     date_time_of(given, read)
 }
 
-// `DD Mon YYYY HH:MM:SS off`.
+// Reads `DD Mon YYYY HH:MM:SS off`.
 fn short_date_time(given: bool, text: &[u8]) -> Option<DateTime>
     ensures fits { IfSome result
         (λ dt. Form.short_date_time (with_given_offset given text.now) dt) }
@@ -143,7 +144,7 @@ fn short_date_time(given: bool, text: &[u8]) -> Option<DateTime>
     date_time_of(given, read)
 }
 
-// `MM/DD/YYYY HH:MM:SS off`.
+// Reads `MM/DD/YYYY HH:MM:SS off`.
 fn slashed_date_time(given: bool, text: &[u8]) -> Option<DateTime>
     ensures fits { IfSome result
         (λ dt. Form.slashed_date_time (with_given_offset given text.now) dt) }
@@ -154,7 +155,7 @@ fn slashed_date_time(given: bool, text: &[u8]) -> Option<DateTime>
     date_time_of(given, read)
 }
 
-// `Www Mon D HH:MM:SS YYYY off`.
+// Reads `Www Mon D HH:MM:SS YYYY off`.
 fn weekday_date_time(given: bool, text: &[u8]) -> Option<DateTime>
     ensures fits { IfSome result
         (λ dt. Form.weekday_date_time (with_given_offset given text.now) dt) }
@@ -175,7 +176,7 @@ fn forget_weekday(read: Option<((u8, Stamp), &[u8])>) -> Option<(Stamp, &[u8])>
     }
 }
 
-// The date time of the first of the forms that begin with a day, a month or a weekday.
+// Returns the date time of the first of the forms that begin with a day, a month or a weekday.
 fn day_date_time(given: bool, text: &[u8]) -> Option<DateTime>
     ensures fits { IfSome result (λ dt. day_forms (with_given_offset given text.now) dt) }
     ensures none { IfNone result ((dt : DateTime)
@@ -193,7 +194,7 @@ fn day_date_time(given: bool, text: &[u8]) -> Option<DateTime>
     }
 }
 
-// The date time of the first form that fits.
+// Returns the date time of the first form that fits.
 fn first_date_time(given: bool, text: &[u8]) -> Option<DateTime>
     ensures fits { IfSome result (λ dt. date_time_forms (with_given_offset given text.now) dt) }
     ensures none { IfNone result ((dt : DateTime)
@@ -208,7 +209,7 @@ fn first_date_time(given: bool, text: &[u8]) -> Option<DateTime>
     }
 }
 
-// Whether a text is `now` or `today`, in any case and between white space.
+// Returns `true` if a text is `now` or `today`, in any case and between white space.
 fn is_now(text: &str) -> bool
     ensures { IsTrue result ↔ IsNow text.now }
 {
@@ -216,7 +217,7 @@ fn is_now(text: &str) -> bool
     word.eq_ignore_ascii_case(b"now") || word.eq_ignore_ascii_case(b"today")
 }
 
-// The date time of so many seconds since 1970 at offset 0, if the years have it.
+// Returns the date time of that many seconds since 1970 at offset 0, if the years have it.
 fn at_unix_seconds(seconds: i64) -> Option<DateTime>
     ensures found { IfSome result (λ dt. IsUnixTime seconds dt) }
     ensures none { IfNone result ((dt : DateTime) → ¬ (IsUnixTime seconds dt)) }
@@ -236,17 +237,17 @@ fn in_nanoseconds(seconds: i64) -> i128
 }
 
 impl DateTime {
-    /// The date time that a text writes. `now` and `today` are the moment, in any case and between
-    /// white space. A whole number is the seconds since 1970 at offset 0. Else the text is one of
-    /// `YYYY-MM-DD HH:MM:SS off`, `YYYY-MM-DD HH:MM:SS.fraction off`,
+    /// Returns the date time that a text writes.
+    ///
+    /// `now` and `today` are the moment, in any case and between white space. A whole number is the seconds since 1970
+    /// at offset 0. Any other text is one of `YYYY-MM-DD HH:MM:SS off`, `YYYY-MM-DD HH:MM:SS.fraction off`,
     /// `DD Month YYYY HH:MM:SS off`, `DD Mon YYYY HH:MM:SS off`, `MM/DD/YYYY HH:MM:SS off` and
-    /// `Www Mon D HH:MM:SS YYYY off`, and ` +0000` is put behind a text that ends in no offset
-    /// below 20 hours.
+    /// `Www Mon D HH:MM:SS YYYY off`, and ` +0000` is added to a text that ends in no offset below 20 hours.
     #[allow(clippy::should_implement_trait)]
     pub fn from_str(text: &str, moment: DateTime) -> Option<DateTime>
         ensures fits { IfSome result (λ dt. IsDateTimeText text.now moment dt) }
 
-        // Whatever date time the text writes is the answer.
+        // If the text writes a date time, that date time is returned.
         ensures only { (dt : DateTime) → IsDateTimeText text.now moment dt
             → IsSomeAnd result (λ r. SameDateTime r dt) }
     {

@@ -1,3 +1,4 @@
+//! The directives of patterns, and their letters.
 ghost use Rattle.std.specs.Prelude.{◌≡◌, codes};
 ghost use Rattle.liquid_dates.specs.meaning.Letters as Spec;
 
@@ -75,16 +76,16 @@ pub(crate) enum Offset {
 /// What a directive prints.
 #[derive(Clone, Copy)]
 pub(crate) enum Directive {
-    /// A number, and what fills it where no flag says otherwise.
+    /// A number, and what pads it if no flag says otherwise.
     OfNumber(Number, NumberFilling),
     OfName(Name),
     OfComposite(Composite),
-    /// The fraction, and how many digits of it where no width is given.
+    /// The fraction, and the number of its digits if no width is given.
     OfFraction(usize),
     OfOffset(Offset),
 }
 
-/// What a letter stands for, if for anything.
+/// Returns the directive that a letter means, if it means any.
 #[tactic(auto, unfolding(crate::specs::meaning::Letters::letter_directive))]
 #[inline(always)]
 pub(crate) fn letter_directive(letter: char) -> Option<Directive>

@@ -1,3 +1,4 @@
+//! The text that a directive prints.
 ghost use Rattle.std.specs.Prelude.{◌≡◌, ◌-◌, ◌^◌, ◌<◌, ◌++◌, OnOk, true};
 ghost use Rattle.std.specs.Int.{IsInRange};
 ghost use Rattle.std.specs.String.{string_bytes};
@@ -15,7 +16,7 @@ use crate::writing::{fill, write_cased, write_number};
 use jiff_core::civil::Time;
 use std::alloc::AllocError;
 
-/// Appends what a directive prints of a date time.
+/// Appends what a directive prints for a date time.
 #[tactic(auto, unfolding(crate::specs::meaning::DirectiveText::directive_text))]
 pub(crate) fn write_directive(
     out: &mut String,
@@ -69,7 +70,7 @@ fn number_width(flags: Flags, width: Option<usize>, number: Number, value: i64) 
     width.unwrap_or(if value < 0 { default + 1 } else { default })
 }
 
-// What a number is filled by: by what its letter says where no flag does.
+// Returns what a number is padded with: what its letter says, unless a flag is given.
 fn number_filling(filling: Filling, default: NumberFilling) -> NumberFilling
     ensures { result ≡ number_filling filling default }
 {
@@ -80,7 +81,7 @@ fn number_filling(filling: Filling, default: NumberFilling) -> NumberFilling
     }
 }
 
-/// What a text is filled by.
+/// Returns what a text is padded with.
 pub(crate) fn text_filler(filling: Filling) -> char
     ensures value { result ≡ text_filler filling }
     ensures ascii { result < 128 }
@@ -114,7 +115,7 @@ fn name_text(
     write_cased(out, text, case)
 }
 
-// A name's text, and the case in which it is written.
+// Returns a name's text, and the case in which it is written.
 #[tactic(auto, unfolding(crate::specs::meaning::DirectiveText::name_of))]
 fn name_of(case: Case, name: Name, date_time: DateTime) -> (&'static str, Case)
     ensures value { cased result.1 result.0.now ≡ Spec.name_of case name date_time }
@@ -134,7 +135,7 @@ fn name_of(case: Case, name: Name, date_time: DateTime) -> (&'static str, Case)
     }
 }
 
-/// `AM` before noon, `PM` from then on.
+/// Returns `AM` before noon, and `PM` from noon on.
 pub(crate) fn upper_half(time: Time) -> &'static str
     ensures value { result.now ≡ Spec.upper_half time.hour }
     ensures ascii { is_ascii_text result.now ≡ true }
@@ -186,7 +187,7 @@ fn fraction_of(out: &mut String, digits: usize, nanosecond: u32) -> Result<(), A
     fill(out, digits.saturating_sub(9), '0')
 }
 
-// What the last of so many digits of the fraction counts, in nanoseconds.
+// Returns what the last of that many digits of the fraction counts, in nanoseconds.
 fn unit_of(digits: usize) -> u32
     ensures value { result ≡ 10 ^ (9 - digits) }
     ensures bound { IsInRange 1 1_000_000_000 result }

@@ -1,3 +1,4 @@
+//! The errors of dates and of patterns.
 ghost use Rattle.std.specs.Prelude.{◌≡◌, Some};
 ghost use Rattle.liquid_dates.specs.meaning.ErrorText.{date_error_text, date_format_error_text};
 
@@ -8,14 +9,13 @@ use std::fmt;
 /// Why a date or a date time can't be made, changed or written.
 #[derive(Clone, Copy, Debug, PartialEq, Eq)]
 pub enum DateError {
-    /// A date that the calendar lacks, a time that a clock doesn't show, or an offset of 26 hours
-    /// or more.
+    /// A date that the calendar doesn't have, a time that a clock doesn't show, or an offset of 26 hours or more.
     PartOutOfRange,
     /// The result is before the year -9999 or after the year 9999.
     OutsideYears,
     /// The year is below 1900, or the offset has seconds.
     NoRfc2822Form,
-    /// No memory was there for the text.
+    /// There was no memory for the text.
     Memory,
 }
 
@@ -47,13 +47,13 @@ impl From<AllocError> for DateError {
 /// Why a pattern can't be printed.
 #[derive(Clone, Copy, Debug, PartialEq, Eq)]
 pub enum DateFormatError {
-    /// The pattern ends behind a `%`, its flags or its width.
+    /// The pattern ends after a `%`, its flags or its width.
     NoFormatSpecifier,
-    /// The pattern ends behind the modifier `E` or `O`.
+    /// The pattern ends after the modifier `E` or `O`.
     NoFormatSpecifierAfterModifier,
-    /// A width that no `usize` holds.
+    /// A width that is too great for a `usize`.
     InvalidWidth,
-    /// No memory was there for the text.
+    /// There was no memory for the text.
     Memory,
 }
 

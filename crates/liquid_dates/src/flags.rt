@@ -1,7 +1,8 @@
+//! The flags of a directive.
 ghost use Rattle.std.specs.Prelude.{◌≡◌};
 ghost use Rattle.liquid_dates.specs.meaning.Flags.{is_flag, with_flag, no_flags, is_digit};
 
-/// What a directive is filled by: the last of its flags `_` and `0`.
+/// What a directive is padded with: the last of its flags `_` and `0`.
 #[derive(Clone, Copy)]
 pub(crate) enum Filling {
     /// Neither flag is given.
@@ -10,14 +11,14 @@ pub(crate) enum Filling {
     Spaces,
 }
 
-/// What a number is filled by up to its width, and on which side of its sign.
+/// What a number is padded with up to its width, and on which side of its sign.
 #[derive(Clone, Copy)]
 pub(crate) enum NumberFilling {
     SpacesBeforeSign,
     ZerosBehindSign,
 }
 
-/// In which case a directive prints letters: the last of its flags `^` and `#`.
+/// The case in which a directive prints letters: the last of its flags `^` and `#`.
 #[derive(Clone, Copy)]
 pub(crate) enum Case {
     /// Neither flag is given.
@@ -43,7 +44,7 @@ impl Flags {
         case: Case::Plain,
     };
 
-    /// The flags with one more behind them.
+    /// Returns the flags with one more after them.
     pub fn with(self, flag: char) -> Flags
         ensures { result ≡ with_flag self flag }
     {
@@ -72,14 +73,14 @@ impl Flags {
     }
 }
 
-/// Whether a character is one of `0` to `9`.
+/// Returns `true` if a character is one of `0` to `9`.
 pub(crate) fn is_digit(c: char) -> bool
     ensures { result ≡ is_digit c }
 {
     c >= '0' && c <= '9'
 }
 
-/// Whether a character is a flag.
+/// Returns `true` if a character is a flag.
 pub(crate) fn is_flag(c: char) -> bool
     ensures { result ≡ is_flag c }
 {

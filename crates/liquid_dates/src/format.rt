@@ -1,3 +1,4 @@
+//! Printing a date time by a `strftime` pattern.
 ghost use Rattle.std.specs.Prelude.{◌≡◌, ℕ, List, ◌∷◌, ◌++◌, Ok, Err, Result, IfOk, IfErr, OnOk, MatchResult, encode_utf8_all};
 ghost use Rattle.std.specs.Str.{chars, IsUtf8};
 ghost use Rattle.std.specs.String.{string_bytes};
@@ -9,24 +10,26 @@ use crate::pattern::{Conversion, read_conversion};
 use crate::{DateFormatError, DateTime};
 use std::alloc::{AllocError, Global};
 
-// Directives mostly print more than they are spelled by: so much room spares the usual pattern a
-// second allocation.
+// Most directives print more characters than they are written with. This much extra room saves a second allocation for
+// the usual pattern.
 const ROOM: usize = 16;
 
 impl DateTime {
-    /// What the date time prints by a `strftime` pattern, as `%Y-%m-%d`: a directive is a `%`, flags
-    /// of `-`, `_`, `0`, `^` and `#`, a width, `E` or `O`, and a letter. All else is copied.
+    /// Prints the date time by a `strftime` pattern such as `%Y-%m-%d`.
     ///
-    /// A pattern that ends inside a directive, and a width that no `usize` holds, are refused. Room
-    /// for what fills a directive up to its width is made before any of it is written, so a width
-    /// that memory can't hold is want of memory.
+    /// A directive is a `%`, flags of `-`, `_`, `0`, `^` and `#`, a width, `E` or `O`, and a letter. Everything else is
+    /// copied.
+    ///
+    /// A pattern that ends inside a directive and a width that is too great for a `usize` are errors. Room for the
+    /// padding of a directive is made before any of it is written, so a width that memory can't hold is an
+    /// out-of-memory error.
     pub fn format(&self, alloc: Global, pattern: &str) -> Result<String, DateFormatError>
         ensures text { IfOk result
             (λ s. FormatsTo self.now (chars pattern.now) (Ok (string_bytes s))) }
         ensures refused { IfErr result
             (λ e. OnRefusal e (FormatsTo self.now (chars pattern.now) (Err e))) }
 
-        // Whatever the pattern's reading answers is the answer.
+        // The result is the pattern's own answer.
         ensures only { (answer : Result (List ℕ) DateFormatError)
             → FormatsTo self.now (chars pattern.now) answer → IsAnswer result answer }
     {
@@ -44,7 +47,7 @@ impl DateTime {
     }
 }
 
-// Appends what stands between directives, which is often nothing.
+// Appends the text between directives, which is often empty.
 fn write_copied(out: &mut String, copied: &str) -> Result<(), AllocError>
     ensures { OnOk result (string_bytes out.new ≡ string_bytes out.old ++ copied.now) }
 {
@@ -54,8 +57,7 @@ fn write_copied(out: &mut String, copied: &str) -> Result<(), AllocError>
     out.push_str(copied)
 }
 
-// Appends what the directive at the front of a text prints, and answers what is behind it. Its per
-// cent is taken.
+// Appends what the directive at the front of a text prints, and returns the rest. The text begins after the per cent.
 fn write_directive_at<'a>(
     out: &mut String,
     date_time: &DateTime,
@@ -72,8 +74,8 @@ fn write_directive_at<'a>(
     Ok(rest)
 }
 
-// Appends what a directive prints: its own spelling where its letter stands for nothing. The
-// spelling is what stands behind the per cent.
+// Appends what a directive prints: its own spelling if its letter means nothing. The spelling is the text after the per
+// cent.
 fn write_conversion(
     out: &mut String,
     date_time: DateTime,
@@ -100,7 +102,7 @@ fn write_conversion(
     }
 }
 
-// What stands in a text before a rest of it.
+// Returns the part of a text before a rest of it.
 fn front_of<'a>(text: &'a str, rest: &str) -> &'a str
     requires { HasRest (chars text.now) (chars rest.now) }
     ensures { (front : List ℕ) → chars text.now ≡ front ++ chars rest.now

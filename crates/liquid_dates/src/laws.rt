@@ -2,8 +2,8 @@
 ghost use Rattle.std.specs.Prelude.{◌≡◌, ℕ, List, Option};
 ghost use Rattle.liquid_dates.specs.laws.Laws.{PatternsHaveReadings, PatternsHaveOneReading, PrintedDatesAreRead, PrintedDateTimesAreRead};
 
-/// A pattern has exactly one reading: the items whose spellings joined are the text, or such items
-/// for a beginning and a rest that is refused.
+/// A pattern has exactly one reading: the items whose joined spellings are the text, or such items for a beginning,
+/// followed by a rest that is an error.
 pub fn patterns_have_one_reading()
     ensures some { PatternsHaveReadings }
     ensures one { PatternsHaveOneReading }
@@ -14,8 +14,8 @@ pub fn printed_dates_are_read_back()
     ensures { PrintedDatesAreRead }
 {}
 
-/// A printed date time is read back as itself, where its offset is whole minutes below 20 h: of
-/// other offsets what is printed is another one, or is not seen as one.
+/// A printed date time is read back as itself if its offset is whole minutes below 20 h. Any other offset is printed as
+/// another one, or is not recognized.
 pub fn printed_date_times_are_read_back()
     ensures { PrintedDateTimesAreRead }
 {}

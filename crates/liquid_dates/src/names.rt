@@ -1,9 +1,10 @@
+//! The English names of months and weekdays.
 ghost use Rattle.std.specs.Prelude.{◌≡◌, ◌<◌, ◌≤◌, length, true};
 ghost use Rattle.liquid_dates.specs.meaning.Filling.{is_ascii_text};
 ghost use Rattle.std.specs.Int.{IsInRange};
 ghost use Rattle.liquid_dates.specs.meaning.Names as Spec;
 
-/// The English name of a month, from 1.
+/// Returns the English name of a month, from 1.
 #[tactic(auto, unfolding(crate::specs::meaning::Names::month_name))]
 pub(crate) fn month_name(month: u8) -> &'static str
     requires { IsInRange 1 12 month }
@@ -27,7 +28,7 @@ pub(crate) fn month_name(month: u8) -> &'static str
     }
 }
 
-/// Its first three letters.
+/// Returns its first three letters.
 #[tactic(auto, unfolding(crate::specs::meaning::Names::short_month_name, crate::specs::meaning::Names::month_name))]
 pub(crate) fn short_month_name(month: u8) -> &'static str
     requires { IsInRange 1 12 month }
@@ -50,7 +51,7 @@ pub(crate) fn short_month_name(month: u8) -> &'static str
     }
 }
 
-/// The English name of a weekday, from 0 for Monday.
+/// Returns the English name of a weekday, from 0 for Monday.
 #[tactic(auto, unfolding(crate::specs::meaning::Names::weekday_name))]
 pub(crate) fn weekday_name(weekday: u8) -> &'static str
     requires { weekday < 7 }
@@ -68,7 +69,7 @@ pub(crate) fn weekday_name(weekday: u8) -> &'static str
     }
 }
 
-/// Its first three letters.
+/// Returns its first three letters.
 #[tactic(auto, unfolding(crate::specs::meaning::Names::short_weekday_name, crate::specs::meaning::Names::weekday_name))]
 pub(crate) fn short_weekday_name(weekday: u8) -> &'static str
     requires { weekday < 7 }

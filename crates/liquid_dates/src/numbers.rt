@@ -1,3 +1,4 @@
+//! The numbers that directives print.
 ghost use Rattle.std.specs.Prelude.{◌≡◌, ◌<◌, ◌≤◌};
 ghost use Rattle.jiff_core.specs.Date.{epoch_day, ordinal};
 ghost use Rattle.liquid_dates.specs.meaning.IsoWeek as Iso;
@@ -8,7 +9,7 @@ use crate::DateTime;
 use crate::directive::Number;
 use jiff_core::civil::{Date, ISOWeekDate, Time};
 
-/// The value of a number of a date time.
+/// Returns the value of a number for a date time.
 #[tactic(auto, unfolding(crate::specs::meaning::Numbers::number_value))]
 pub(crate) fn number_value(number: Number, date_time: DateTime) -> i64
     ensures { result ≡ Spec.number_value number date_time }
@@ -36,7 +37,7 @@ pub(crate) fn number_value(number: Number, date_time: DateTime) -> i64
     }
 }
 
-/// The hour on a clock of twelve hours, with 12 for 0.
+/// Returns the hour on a clock of twelve hours, with 12 for 0.
 pub(crate) fn hour_of_12(time: Time) -> u8
     ensures { result ≡ Spec.hour_of_12 time.hour }
 {
@@ -44,7 +45,7 @@ pub(crate) fn hour_of_12(time: Time) -> u8
     if hour == 0 { 12 } else { hour }
 }
 
-// The week of the year, where weeks begin on that weekday, counted from Monday.
+// Returns the week of the year, where weeks begin on that weekday. Weekdays are counted from Monday.
 fn week_from(weekday: u8, date: Date) -> u16
     requires { weekday < 7 }
     ensures { result ≡ Spec.weekdays_passed weekday (epoch_day date) (ordinal date) }
@@ -53,7 +54,7 @@ fn week_from(weekday: u8, date: Date) -> u16
     (date.day_of_year() + 6 - u16::from(since)) / 7
 }
 
-// The ISO 8601 year.
+// Returns the ISO 8601 year.
 fn iso_year(date: Date) -> i16
     ensures { result ≡ Iso.iso_year date }
 {
@@ -61,7 +62,7 @@ fn iso_year(date: Date) -> i16
     week_date.year
 }
 
-/// The width of a number that is not negative, where none is given.
+/// Returns the width of a number that is not negative, if no width is given.
 pub(crate) fn default_width(number: Number) -> usize
     ensures { result ≡ Spec.default_width number }
 {

@@ -1,3 +1,4 @@
+//! The text of an offset.
 ghost use Rattle.std.specs.Prelude.{◌≡◌, ◌/◌, ◌++◌, OnOk, [], ◌∷◌, pos, unsigned_abs};
 ghost use Rattle.std.specs.String.{string_bytes};
 ghost use Rattle.jiff_core.specs.Timestamp.{IsOffsetSeconds};
@@ -13,7 +14,7 @@ use crate::flags::{Filling, Flags, NumberFilling};
 use crate::writing::{fill, write_number};
 use std::alloc::AllocError;
 
-/// Appends the offset as its flags and its width say.
+/// Appends the offset, following its flags and its width.
 #[tactic(auto, unfolding(crate::specs::meaning::DirectiveText::offset_of))]
 pub(crate) fn offset_of(
     out: &mut String,

@@ -1,3 +1,4 @@
+//! Reading a directive of a pattern.
 ghost use Rattle.std.specs.Prelude.{◌≡◌, ℕ, List, ◌+◌, ◌*◌, ◌<◌, ◌==◌, if◌then◌else◌, true, [], ◌∷◌, length, IfSome, MatchOption};
 ghost use Rattle.std.specs.Str.{chars, IsUtf8};
 ghost use Rattle.liquid_dates.specs.meaning.Flags.{is_flag, is_digit, is_modifier, no_flags, flags_of, width_of};
@@ -15,12 +16,11 @@ pub(crate) enum Width {
     /// No digit is given.
     Unset,
     Given(usize),
-    /// No `usize` holds the number.
+    /// The number is too great for a `usize`.
     TooGreat,
 }
 
-/// A directive as its flags, its width and its letter say. There is no directive for a letter
-/// that stands for nothing.
+/// A directive with its flags and its width. There is no directive for a letter that means nothing.
 #[derive(Clone, Copy)]
 pub(crate) struct Conversion {
     pub flags: Flags,
@@ -28,7 +28,7 @@ pub(crate) struct Conversion {
     pub directive: Option<Directive>,
 }
 
-/// The first character of a text, and what is behind it.
+/// Returns the first character of a text, and the rest after it.
 pub(crate) fn split_first(text: &str) -> Option<(char, &str)>
     ensures cases { MatchOption result (chars text.now ≡ [])
         (λ p. chars text.now ≡ p.0 ∷ chars p.1.now) }
@@ -42,7 +42,7 @@ pub(crate) fn split_first(text: &str) -> Option<(char, &str)>
     }
 }
 
-// The flags at the front, and what is behind them.
+// Returns the flags at the front, and the rest after them.
 fn read_flags(text: &str) -> (Flags, &str)
     ensures flags { result.0 ≡ Reader.flags_from no_flags (chars text.now) }
     ensures rest { chars result.1.now ≡ Reader.behind is_flag (chars text.now) }
@@ -61,7 +61,7 @@ fn read_flags(text: &str) -> (Flags, &str)
 }
 
 impl Width {
-    // The width with one digit more.
+    // Returns the width with one more digit.
     fn with(self, digit: char) -> Width
         requires { is_digit digit ≡ true }
         ensures { result ≡ Reader.with_digit self digit }
@@ -88,7 +88,7 @@ fn with_value(number: usize, value: usize) -> Width
     }
 }
 
-// The digits at the front, and what is behind them.
+// Returns the width that the digits at the front write, and the rest after them.
 fn read_width(text: &str) -> (Width, &str)
     ensures width { result.0 ≡ Reader.width_from Width.Unset (chars text.now) }
     ensures rest { chars result.1.now ≡ Reader.behind is_digit (chars text.now) }
@@ -106,8 +106,8 @@ fn read_width(text: &str) -> (Width, &str)
     (width, rest)
 }
 
-// What a letter stands for, and what is behind it. A `:` takes the next character, and a second
-// one takes one more.
+// Returns the directive that a letter means, and the rest after it. A `:` takes the next character, and a second one
+// takes one more.
 #[tactic(auto, unfolding(crate::specs::meaning::Letters::directive_of), using(crate::proofs::CharLemmas::colon_letter))]
 #[inline(always)]
 fn read_letter(first: char, text: &str) -> (Option<Directive>, &str)
@@ -145,7 +145,7 @@ fn is_modifier(c: char) -> bool
     c == 'E' || c == 'O'
 }
 
-// A directive from its letter on, and what is behind it.
+// Returns a directive read from its letter on, and the rest after it.
 #[inline(always)]
 fn with_letter(flags: Flags, width: Option<usize>, letter: char, text: &str) -> (Conversion, &str)
     ensures flags { result.0.flags ≡ flags }
@@ -164,7 +164,7 @@ fn with_letter(flags: Flags, width: Option<usize>, letter: char, text: &str) -> 
     (conversion, rest)
 }
 
-// A directive from behind its width on, where its first character is taken.
+// Returns a directive read from after its width on, with its first character already taken.
 #[inline(always)]
 fn from_modifier(
     flags: Flags,
@@ -184,7 +184,7 @@ fn from_modifier(
     Ok(with_letter(flags, width, letter, after))
 }
 
-/// A directive, from behind its per cent on, and what is behind it.
+/// Reads a directive that begins after its per cent. Returns it and the rest after it.
 pub(crate) fn read_conversion(text: &str) -> Result<(Conversion, &str), DateFormatError>
     ensures { IsReadAs result (Reader.directive_at (chars text.now)) }
 {

@@ -1,3 +1,4 @@
+//! The texts that dates and date times print.
 ghost use Rattle.std.specs.Prelude.{◌+◌, ◌<◌, [], ◌∷◌, Some};
 ghost use Rattle.std.specs.Fmt.{WritesOnOk};
 ghost use Rattle.jiff_core.specs.Calendar.{IsYear};

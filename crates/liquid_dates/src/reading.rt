@@ -1,3 +1,4 @@
+//! Readers of the parts of dates.
 ghost use Rattle.std.specs.Prelude.{◌≡◌, ◌<◌, pos, neg_ℤ, option_map, IfSome};
 ghost use Rattle.std.specs.Int.{IsInRange};
 ghost use Rattle.std.specs.Option.{option_copied};
@@ -9,7 +10,7 @@ ghost use Rattle.liquid_dates.specs.meaning.Names.{short_month_name, short_weekd
 use crate::flags::is_digit;
 use crate::names::{month_name, short_month_name, short_weekday_name};
 
-/// The parts of a date that a text writes. The calendar need not have the day.
+/// The parts of a date that a text writes. The calendar may not have the day.
 #[derive(Clone, Copy)]
 pub(crate) struct Ymd {
     pub year: i16,
@@ -17,7 +18,7 @@ pub(crate) struct Ymd {
     pub day: u8,
 }
 
-/// What is behind a byte at the front.
+/// Returns the rest after a byte at the front.
 pub(crate) fn after_byte(byte: u8, text: &[u8]) -> Option<&[u8]>
     ensures { option_copied result ≡ Reader.after_byte byte text.now }
 {
@@ -27,7 +28,7 @@ pub(crate) fn after_byte(byte: u8, text: &[u8]) -> Option<&[u8]>
     }
 }
 
-/// Two digits of a number below a limit.
+/// Reads two digits of a number below a limit.
 #[tactic(auto, unfolding(crate::specs::steps::DateReader::two_at))]
 pub(crate) fn two_at(limit: u8, text: &[u8]) -> Option<(u8, &[u8])>
     ensures value { read_of result ≡ Reader.two_at limit text.now }
@@ -46,7 +47,7 @@ pub(crate) fn two_at(limit: u8, text: &[u8]) -> Option<(u8, &[u8])>
     Some((number, rest))
 }
 
-// Four digits.
+// Reads four digits.
 #[tactic(auto, unfolding(crate::specs::steps::DateReader::four_at))]
 fn four_at(text: &[u8]) -> Option<(u16, &[u8])>
     ensures value { read_of result ≡ Reader.four_at text.now }
@@ -57,7 +58,7 @@ fn four_at(text: &[u8]) -> Option<(u16, &[u8])>
     Some((100 * u16::from(century) + u16::from(year), rest))
 }
 
-// A year, which may stand behind `-`.
+// Reads a year, which may follow a `-`.
 #[tactic(auto, unfolding(crate::specs::steps::DateReader::year_at))]
 pub(crate) fn year_at(text: &[u8]) -> Option<(i16, &[u8])>
     ensures value { read_of result ≡ Reader.year_at text.now }
@@ -88,14 +89,14 @@ fn not_negative(number: u16) -> i16
     number as i16
 }
 
-// Whether two texts are the same.
+// Returns `true` if two texts are the same.
 fn is_same(left: &[u8], right: &[u8]) -> bool
     ensures { result ≡ bytes_eq left.now right.now }
 {
     left == right
 }
 
-// The month whose short name that is.
+// Returns the month with that short name.
 fn find_month(name: &[u8]) -> Option<u8>
     ensures value { result ≡ Reader.find_name short_month_name name.now 12 1 }
     ensures bound { IfSome result (λ m. IsInRange 1 12 m) }
@@ -108,7 +109,7 @@ fn find_month(name: &[u8]) -> Option<u8>
     None
 }
 
-// The weekday whose short name that is, from 0 for Monday.
+// Returns the weekday with that short name, from 0 for Monday.
 fn find_weekday(name: &[u8]) -> Option<u8>
     ensures { result ≡ Reader.find_name short_weekday_name name.now 7 0 }
 {
@@ -120,7 +121,7 @@ fn find_weekday(name: &[u8]) -> Option<u8>
     None
 }
 
-// The short name of a month.
+// Reads the short name of a month.
 #[tactic(auto, unfolding(crate::specs::steps::DateReader::short_name_at))]
 pub(crate) fn short_month_at(text: &[u8]) -> Option<(u8, &[u8])>
     ensures value { read_of result ≡ Reader.short_month_at text.now }
@@ -133,7 +134,7 @@ pub(crate) fn short_month_at(text: &[u8]) -> Option<(u8, &[u8])>
     Some((month, rest))
 }
 
-/// The short name of a weekday.
+/// Reads the short name of a weekday.
 #[tactic(auto, unfolding(crate::specs::steps::DateReader::short_name_at))]
 pub(crate) fn weekday_at(text: &[u8]) -> Option<(u8, &[u8])>
     ensures value { read_of result ≡ Reader.weekday_at text.now }
@@ -145,7 +146,7 @@ pub(crate) fn weekday_at(text: &[u8]) -> Option<(u8, &[u8])>
     Some((weekday, rest))
 }
 
-// What is behind a text at the front.
+// Returns the rest after a text at the front.
 #[tactic(auto, unfolding(crate::specs::steps::DateReader::behind_text))]
 fn behind_text<'a>(front: &[u8], text: &'a [u8]) -> Option<&'a [u8]>
     ensures { option_copied result ≡ Reader.behind_text front.now text.now }
@@ -156,7 +157,7 @@ fn behind_text<'a>(front: &[u8], text: &'a [u8]) -> Option<&'a [u8]>
     Some(&text[front.len()..])
 }
 
-// The name of a month.
+// Reads the name of a month.
 #[tactic(auto, unfolding(crate::specs::steps::DateReader::month_at))]
 fn month_at(text: &[u8]) -> Option<(u8, &[u8])>
     ensures value { read_of result ≡ Reader.month_at text.now }
@@ -167,7 +168,7 @@ fn month_at(text: &[u8]) -> Option<(u8, &[u8])>
     Some((month, behind))
 }
 
-/// `YYYY-MM-DD`.
+/// Reads `YYYY-MM-DD`.
 #[tactic(auto, unfolding(crate::specs::steps::DateReader::dashed_at))]
 pub(crate) fn dashed_at(text: &[u8]) -> Option<(Ymd, &[u8])>
     ensures value { option_map by_year (read_of result) ≡ Reader.dashed_at text.now }
@@ -180,7 +181,7 @@ pub(crate) fn dashed_at(text: &[u8]) -> Option<(Ymd, &[u8])>
     Some((Ymd { year, month, day }, rest))
 }
 
-/// `DD Month YYYY`.
+/// Reads `DD Month YYYY`.
 #[tactic(auto, unfolding(crate::specs::steps::DateReader::long_at))]
 pub(crate) fn long_at(text: &[u8]) -> Option<(Ymd, &[u8])>
     ensures value { option_map by_day (read_of result) ≡ Reader.long_at text.now }
@@ -193,7 +194,7 @@ pub(crate) fn long_at(text: &[u8]) -> Option<(Ymd, &[u8])>
     Some((Ymd { year, month, day }, rest))
 }
 
-/// `DD Mon YYYY`.
+/// Reads `DD Mon YYYY`.
 #[tactic(auto, unfolding(crate::specs::steps::DateReader::short_at))]
 pub(crate) fn short_at(text: &[u8]) -> Option<(Ymd, &[u8])>
     ensures value { option_map by_day (read_of result) ≡ Reader.short_at text.now }
@@ -206,7 +207,7 @@ pub(crate) fn short_at(text: &[u8]) -> Option<(Ymd, &[u8])>
     Some((Ymd { year, month, day }, rest))
 }
 
-/// `MM/DD/YYYY`.
+/// Reads `MM/DD/YYYY`.
 #[tactic(auto, unfolding(crate::specs::steps::DateReader::slashed_at))]
 pub(crate) fn slashed_at(text: &[u8]) -> Option<(Ymd, &[u8])>
     ensures value { option_map by_month (read_of result) ≡ Reader.slashed_at text.now }

@@ -1,3 +1,4 @@
+//! Readers of dates with a time.
 ghost use Rattle.std.specs.Prelude.{◌≡◌, ◌-◌, ◌*◌, ◌^◌, ◌<◌, pos, neg_ℤ, option_map, IfSome};
 ghost use Rattle.std.specs.Int.{IsInRange};
 ghost use Rattle.liquid_dates.specs.steps.DateReader as Reader;
@@ -17,7 +18,7 @@ pub(crate) struct Clock {
     pub second: u8,
 }
 
-/// A date and a time of day that a text writes. The calendar need not have the day.
+/// A date and a time of day that a text writes. The calendar may not have the day.
 #[derive(Clone, Copy)]
 pub(crate) struct Stamp {
     pub date: Ymd,
@@ -25,7 +26,7 @@ pub(crate) struct Stamp {
     pub nanosecond: u32,
 }
 
-// `HH:MM:SS`.
+// Reads `HH:MM:SS`.
 #[tactic(auto, unfolding(crate::specs::steps::DateReader::clock_at))]
 fn clock_at(text: &[u8]) -> Option<(Clock, &[u8])>
     ensures value { option_map by_clock (read_of result) ≡ Reader.clock_at text.now }
@@ -45,7 +46,7 @@ fn clock_at(text: &[u8]) -> Option<(Clock, &[u8])>
     ))
 }
 
-// An offset behind its sign, in seconds.
+// Reads an offset after its sign, in seconds.
 #[tactic(auto, unfolding(crate::specs::steps::DateReader::hours_at))]
 fn hours_at(text: &[u8]) -> Option<(u32, &[u8])>
     ensures value { read_of result ≡ Reader.hours_at text.now }
@@ -56,7 +57,7 @@ fn hours_at(text: &[u8]) -> Option<(u32, &[u8])>
     Some((u32::from(hours) * 3600 + u32::from(minutes) * 60, rest))
 }
 
-/// An offset, in seconds.
+/// Reads an offset, in seconds.
 #[tactic(auto, unfolding(crate::specs::steps::DateReader::offset_at))]
 pub(crate) fn offset_at(text: &[u8]) -> Option<(i32, &[u8])>
     ensures value { read_of result ≡ Reader.offset_at text.now }
@@ -88,7 +89,7 @@ fn behind_utc(seconds: u32) -> i32
     -(seconds as i32)
 }
 
-// A day of one digit or two.
+// Reads a day of one or two digits.
 #[tactic(auto, unfolding(crate::specs::steps::DateReader::short_day_at))]
 fn short_day_at(text: &[u8]) -> Option<(u8, &[u8])>
     ensures value { read_of result ≡ Reader.short_day_at text.now }
@@ -111,7 +112,7 @@ fn one_digit_at(text: &[u8]) -> Option<(u8, &[u8])>
     Some((*digit - b'0', rest))
 }
 
-/// `YYYY-MM-DD HH:MM:SS`.
+/// Reads `YYYY-MM-DD HH:MM:SS`.
 #[tactic(auto, unfolding(crate::specs::steps::DateReader::timed_dashed_at))]
 pub(crate) fn timed_dashed_at(text: &[u8]) -> Option<(Stamp, &[u8])>
     ensures value { option_map stamp_by_year (read_of result) ≡ Reader.timed_dashed_at text.now }
@@ -135,7 +136,7 @@ fn whole_second(date: Ymd, clock: Clock) -> Stamp
     }
 }
 
-/// `DD Month YYYY HH:MM:SS`.
+/// Reads `DD Month YYYY HH:MM:SS`.
 #[tactic(auto, unfolding(crate::specs::steps::DateReader::timed_long_at))]
 pub(crate) fn timed_long_at(text: &[u8]) -> Option<(Stamp, &[u8])>
     ensures value { option_map stamp_by_day (read_of result) ≡ Reader.timed_long_at text.now }
@@ -147,7 +148,7 @@ pub(crate) fn timed_long_at(text: &[u8]) -> Option<(Stamp, &[u8])>
     Some((whole_second(date, clock), rest))
 }
 
-/// `DD Mon YYYY HH:MM:SS`.
+/// Reads `DD Mon YYYY HH:MM:SS`.
 #[tactic(auto, unfolding(crate::specs::steps::DateReader::timed_short_at))]
 pub(crate) fn timed_short_at(text: &[u8]) -> Option<(Stamp, &[u8])>
     ensures value { option_map stamp_by_day (read_of result) ≡ Reader.timed_short_at text.now }
@@ -159,7 +160,7 @@ pub(crate) fn timed_short_at(text: &[u8]) -> Option<(Stamp, &[u8])>
     Some((whole_second(date, clock), rest))
 }
 
-/// `MM/DD/YYYY HH:MM:SS`.
+/// Reads `MM/DD/YYYY HH:MM:SS`.
 #[tactic(auto, unfolding(crate::specs::steps::DateReader::timed_slashed_at))]
 pub(crate) fn timed_slashed_at(text: &[u8]) -> Option<(Stamp, &[u8])>
     ensures value { option_map stamp_by_month (read_of result) ≡ Reader.timed_slashed_at text.now }
@@ -171,7 +172,7 @@ pub(crate) fn timed_slashed_at(text: &[u8]) -> Option<(Stamp, &[u8])>
     Some((whole_second(date, clock), rest))
 }
 
-/// `YYYY-MM-DD HH:MM:SS.fraction`.
+/// Reads `YYYY-MM-DD HH:MM:SS.fraction`.
 #[tactic(auto, unfolding(crate::specs::steps::DateReader::timed_fraction_at))]
 pub(crate) fn timed_fraction_at(text: &[u8]) -> Option<(Stamp, &[u8])>
     ensures value { option_map stamp_by_fraction (read_of result)
@@ -190,7 +191,7 @@ pub(crate) fn timed_fraction_at(text: &[u8]) -> Option<(Stamp, &[u8])>
     Some((stamp, rest))
 }
 
-/// `Www Mon D HH:MM:SS YYYY`, with the weekday.
+/// Reads `Www Mon D HH:MM:SS YYYY`, with the weekday.
 #[tactic(auto, unfolding(crate::specs::steps::DateReader::timed_weekday_at))]
 pub(crate) fn timed_weekday_at(text: &[u8]) -> Option<((u8, Stamp), &[u8])>
     ensures value { option_map stamp_by_weekday (read_of result)
@@ -210,7 +211,7 @@ pub(crate) fn timed_weekday_at(text: &[u8]) -> Option<((u8, Stamp), &[u8])>
     Some(((weekday, stamp), rest))
 }
 
-// How many digits there are, up to ten, the number that they write, and what is behind them.
+// Returns the number of digits at the front, up to ten, the number that they write, and the rest after them.
 fn digits_from(text: &[u8]) -> (usize, u64, &[u8])
     ensures count { result.0 ≡ (Reader.digits_from 0 0 text.now).0.0 }
     ensures number { result.1 ≡ (Reader.digits_from 0 0 text.now).0.1 }
@@ -231,7 +232,7 @@ fn digits_from(text: &[u8]) -> (usize, u64, &[u8])
     (count, number, rest)
 }
 
-// One to nine digits of a fraction, in nanoseconds.
+// Reads one to nine digits of a fraction, in nanoseconds.
 #[tactic(auto, unfolding(crate::specs::steps::DateReader::fraction_at))]
 fn fraction_at(text: &[u8]) -> Option<(u32, &[u8])>
     ensures value { read_of result ≡ Reader.fraction_at text.now }

@@ -1,3 +1,4 @@
+//! Padding, numbers and cased texts.
 ghost use Rattle.std.specs.Prelude.{◌≡◌, ◌<◌, ◌≤◌, ◌++◌, OnOk, length, replicate, unsigned_abs};
 ghost use Rattle.std.specs.Fmt.{decimal};
 ghost use Rattle.std.specs.String.{string_bytes};
@@ -20,7 +21,7 @@ pub(crate) fn fill(out: &mut String, count: usize, filler: char) -> Result<(), A
     Ok(())
 }
 
-/// Appends a number filled up to a width: by spaces before its sign, or by zeros behind it.
+/// Appends a number padded to a width: with spaces before its sign, or with zeros after it.
 #[tactic(auto, unfolding(crate::specs::meaning::Filling::filled_number))]
 pub(crate) fn write_number(
     out: &mut String,
@@ -47,7 +48,7 @@ pub(crate) fn write_number(
     out.push_str(digits)
 }
 
-// How many characters a number with so many digits lacks to a width.
+// Returns the number of characters that a number with that many digits is short of a width.
 fn missing(width: usize, value: i64, digits: usize) -> usize
     requires count { digits ≡ length (decimal (unsigned_abs value)) }
     requires bound { digits ≤ 40 }
@@ -68,7 +69,7 @@ fn write_minus(out: &mut String, value: i64) -> Result<(), AllocError>
     Ok(())
 }
 
-/// Appends an ASCII text, in upper case where a flag asks for it.
+/// Appends an ASCII text, in upper case if a flag says so.
 pub(crate) fn write_cased(out: &mut String, text: &str, case: Case) -> Result<(), AllocError>
     requires { is_ascii_text text.now ≡ true }
     ensures { OnOk result

@@ -1,4 +1,4 @@
--- What an error with a cause tells, and what a list of clones stands for.
+-- What an error with a cause says, and what a list of clones means.
 use Rattle.std.proofs.Common.{◌≡◌, rules, Option, Some, None, option_map, List, [], ◌∷◌, map, refl, sym, ◌∙◌, ap₂}
 use Rattle.std.specs.List.{AllZip}
 use Rattle.liquid_error.specs.declared.cause.CauseOf.{CauseOf}
@@ -18,14 +18,14 @@ told_recaused report None r = search (rules, the_lemmas)
 told_recaused report (Some (cause_of.Error e)) r = search (rules, the_lemmas)
 told_recaused report (Some (cause_of.Cloneable e)) r = search (rules, the_lemmas)
 
--- an error whose report and cause stand for the same tells the same
+-- two errors whose reports and causes mean the same say the same
 pub copied_cause : (old new : Report) (a b : CauseOf Error) → refusal_of new ≡ refusal_of old → reason_of b ≡ reason_of a → told (Liquid new (Some b)) ≡ told (Liquid old (Some a))
 copied_cause old new a b reports causes =
     told_caused new b
     ∙ ap₂ (λ (r : Refusal) (reason : Reason). Some (with_cause reason r)) reports causes
     ∙ sym (told_caused old a)
 
--- clones that stand for the same, place by place, stand for the same list
+-- clones that mean the same, one by one, make lists that mean the same
 pub same_clones : {A B : Type 0} (f : A → B) (xs ys : List A) → AllZip (λ x y. f y ≡ f x) xs ys → map f ys ≡ map f xs
 same_clones f [] [] h = refl
 same_clones f [] (y ∷ ys) h = absurd h

@@ -1,4 +1,4 @@
--- What a context does to a list of traces whose last is named.
+-- What adding a context does to a list of traces whose last one is given.
 use Rattle.std.proofs.Common.{◌≡◌, List, [], ◌∷◌, ◌++◌, refl, ap, map}
 use Rattle.std.proofs.lemmas.List.{map-append}
 use Rattle.liquid_error.specs.declared.report.Trace.{Trace}

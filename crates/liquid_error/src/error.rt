@@ -1,3 +1,4 @@
+//! The error type of the engine, and what can be added to an error.
 ghost use Rattle.std.specs.Prelude.{◌≡◌, ◌↔◌, IsTrue, IsNone, None, Some, IfSome, option_map, option_and_then, string_bytes};
 ghost use Rattle.liquid_error.specs.meaning.Refusal.{plain, located, or_placed, with_trace, with_context, with_cause, cause_of_told, chained};
 ghost use Rattle.liquid_error.specs.meaning.ErrorText.{lossy_chained};
@@ -8,10 +9,10 @@ use crate::place::Place;
 use crate::report::Report;
 use std::alloc::{AllocError, AllocFailed, Global};
 
-/// The answer of a call that a Liquid error may end.
+/// The result of a call that can fail with a Liquid error.
 pub type Result<T> = std::result::Result<T, Error>;
 
-/// A Liquid error with its direct cause, if it has one, or want of memory.
+/// A Liquid error with its direct cause, if it has one, or an out-of-memory error.
 #[derive(Debug, Drop)]
 pub enum Error {
     Memory,
@@ -36,7 +37,7 @@ impl<T: Drop> From<AllocFailed<T>> for Error {
 }
 
 impl Error {
-    /// An error with this message.
+    /// Returns an error with this message.
     pub fn with_msg(alloc: Global, message: &str) -> Error
         ensures { IfSome (told result) (λ r. r ≡ plain message.now) }
     {
@@ -46,14 +47,14 @@ impl Error {
         }
     }
 
-    /// An error with this message, which it takes over.
+    /// Returns an error with this message, which it takes over.
     pub fn with_text(alloc: Global, message: String) -> Error
         ensures { told result ≡ Some (plain (string_bytes message)) }
     {
         Error::Liquid(Report::new(alloc, message), None)
     }
 
-    /// An error about a place in a text. Its message ends in ` (line L, column C)`.
+    /// Returns an error about a place in a text. Its message ends in ` (line L, column C)`.
     pub fn at_place(alloc: Global, message: &str, place: Place) -> Error
         ensures { IfSome (told result) (λ r. r ≡ located message.now place) }
     {
@@ -63,7 +64,7 @@ impl Error {
         }
     }
 
-    /// Adds a trace: what was being done when the error came.
+    /// Adds a trace: what was being done when the error occurred.
     pub fn trace(self, alloc: Global, text: &str) -> Error
         ensures { Becomes (with_trace text.now) self result }
     {
@@ -85,7 +86,7 @@ impl Error {
         }
     }
 
-    /// Adds a context to the newest trace, or to the message where there is no trace.
+    /// Adds a context to the newest trace, or to the message if there is no trace.
     pub fn context(self, alloc: Global, key: &str, value: &str) -> Error
         ensures { Becomes (with_context key.now value.now) self result }
     {
@@ -111,7 +112,7 @@ impl Error {
         }
     }
 
-    /// Sets the direct cause of the error, in place of any other. Want of memory has no cause.
+    /// Sets the direct cause of the error, in place of any other. An out-of-memory error has no cause.
     pub fn cause(self, cause: Cause) -> Error
         ensures { told result ≡ option_map (with_cause (reason_of cause)) (told self) }
     {
@@ -121,7 +122,7 @@ impl Error {
         }
     }
 
-    /// The direct cause of the error, if it has one.
+    /// Returns the direct cause of the error, if it has one.
     pub fn source(&self) -> Option<&Cause>
         ensures { source_reason result ≡ cause_of_told (told self.now) }
     {
@@ -167,14 +168,14 @@ impl Error {
         }
     }
 
-    /// The error as an `Err`.
+    /// Returns the error as an `Err`.
     pub fn into_err<T>(self) -> Result<T>
         ensures { result ≡ Rattle.std.specs.Prelude.Err self }
     {
         Err(self)
     }
 
-    /// Whether this is want of memory.
+    /// Returns `true` if this is an out-of-memory error.
     pub fn is_memory(&self) -> bool
         ensures { IsTrue result ↔ IsNone (told self.now) }
     {
@@ -184,7 +185,7 @@ impl Error {
         }
     }
 
-    /// The same error at its own place, and at this one where it has none. The message stays as it is.
+    /// Sets the place of the error if it has none. The message stays as it is.
     pub fn or_place(self, place: Place) -> Error
         ensures { told result ≡ option_map (or_placed place) (told self) }
     {
@@ -194,7 +195,7 @@ impl Error {
         }
     }
 
-    /// Where in a text the error lies, if it is about a place.
+    /// Returns the place in a text that the error is about, if there is one.
     pub fn place(&self) -> Option<Place>
         ensures { result ≡ option_and_then (λ r. r.place) (told self.now) }
     {

@@ -1,4 +1,4 @@
--- What stands behind a value or a filter of an expression, and what an expression lacks that is none.
+-- What follows a value or a filter of an expression, and what a text that is not an expression is missing.
 use Rattle.std.proofs.Common.{◌≡◌, ℕ, List, ◌∷◌, Some, None, option_map, refl, sym, ap, ◌∙◌, subst}
 use Rattle.std.proofs.lemmas.Bool.{eqb-true}
 use Rattle.liquid_grammar.specs.declared.parts.FilterStart.{FilterStart}
@@ -36,7 +36,7 @@ bar_between s at behind place w b v =
     let whole : (White ▷ Byte 124 ▷ White) s place after.0 = record { from = (bar.0, after.0); match = record { middle = behind; before = front; after = after.1 }; is = refl } in
     sym (ap (option_map (λ p. p.1)) ((exact-right (exact-right exact-white (exact-byte 124)) exact-white).complete s place after.0 whole))
 
--- where a bar stands no expression ends
+-- no expression ends where a bar is next
 barred : (s at behind : List ℕ) → Some at ≡ option_map (λ p. p.1) (white s) → Some behind ≡ option_map (λ p. p.1) (byte 124 at) → ¬ (Begins (White ▷ Closer 125) s)
 barred s at behind w b c =
     let before = found exact-white s at w in
@@ -49,7 +49,7 @@ pub nameless : (s at behind place rest : List ℕ) (filters : List Filter) → S
 nameless s at behind place rest filters w b v i m =
     record { none = none_left s rest filters m (none_behind 124 s place (bar_between s at behind place w b v) (no_filter_name place i)); endless = barred s at behind w b }
 
--- where no bar stands no filter begins
+-- no filter begins where no bar is next
 pub barless : (s at : List ℕ) → Some at ≡ option_map (λ p. p.1) (white s) → None ≡ option_map (λ p. p.1) (byte 124 at) → ¬ (Begins (Behind 124 FilterRule) s)
 barless s at w b f =
     let before = found exact-white s at w in
@@ -72,14 +72,14 @@ start_of : (s start : List ℕ) → OpensExpression s start → (b : Begins Expr
 start_of s start o b =
     ap (λ (x : List ℕ × List ℕ). x.1) (same_match (exact-right (exact-opener 123) exact-white) s _ start _ o.white b.match.match.before.match.before.match.before o.match)
 
--- no expression stands where no value follows its beginning
+-- there is no expression where no value follows its beginning
 pub valueless : (s start : List ℕ) → OpensExpression s start → ¬ (Begins ValueRule start) → ¬ (Begins ExpressionRule s)
 valueless s start o none b =
     let chain = b.match.match.before.match.before.match.after in
     let what = b.match.match.before.match.before.from.1.what in
     none (record { rest = chain.match.middle; shape = what.0; match = subst (λ t. ValueRule t chain.match.middle what.0) (start_of s start o b) chain.match.before })
 
--- no expression stands where its chain is not followed by an end
+-- there is no expression where its chain is not followed by an end
 pub endless : (s start end : List ℕ) (c : Chain) → OpensExpression s start → ChainRule start end c → ¬ (Begins (White ▷ Closer 125) end) → ¬ (Begins ExpressionRule s)
 endless s start end c o m none b =
     let inside = b.match.match.before in
@@ -88,7 +88,7 @@ endless s start end c o m none b =
     let same = ap (λ (x : Chain × List ℕ). x.1) (same_match exact-chain start inside.match.middle end shape c chain m) in
     none (subst (λ t. Begins (White ▷ Closer 125) t) same (record { rest = b.rest; shape = b.match.from.1; match = record { from = (inside.from.1, b.match.from.1); match = record { middle = b.match.match.middle; before = inside.match.after; after = b.match.match.after }; is = refl } }))
 
--- where an expression opens and none stands, the element is the white space and one brace
+-- where an expression opens but there is none, the element is the white space and one brace
 pub opens_invalid : (s start : List ℕ) → OpensExpression s start → ¬ (Begins ExpressionRule s) → (behind text : List ℕ) × IsElement s behind (invalid text)
 opens_invalid s start o none =
     let opens : Opens s = record { rest = o.match.match.middle; shape = o.match.from.0; match = here o.match.match.before } in

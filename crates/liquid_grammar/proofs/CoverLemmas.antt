@@ -1,4 +1,4 @@
--- The elements of a text: one stands at each place, and so each text has one cover.
+-- The elements of a text: there is one at each place, and so each text has one cover.
 use Rattle.std.proofs.Common.{◌≡◌, ℕ, zero, suc, ◌-◌, ◌<◌, ◌≤◌, Bool, true, false, List, [], ◌∷◌, ◌++◌, length, take, drop, Option, Some, None, is_some, option_map, refl, sym, ap, ap₂, ◌∙◌, inl, inr, subst, arith, take_at, drop_at, length-append, append_assoc, eqb-true, take-append-drop, length-take-le, length-drop}
 use Rattle.std.proofs.lemmas.Bool.{cases_lt}
 use Rattle.std.proofs.lemmas.List.{append_cancel_right}
@@ -55,7 +55,7 @@ opener_brace kind s rest b (instead h m) =
     let e = braces_front kind s rest b m in
     lone_brace_from s s m.match.middle [] m.from.0 (ends (not_white s e.0 e.1)) m.match.before
 
--- an opener has a brace behind its white space
+-- an opener has a brace after its white space
 pub brace_begins : (s : List ℕ) → Opens s → Begins LoneBrace s
 brace_begins s o = go o.match
   where
@@ -112,7 +112,7 @@ raw_closed s rest text a o = a.closed 0 a.some o
 abbrev taken : Element → List ℕ → Taken
 taken e rest = (e, rest)
 
--- at most one element stands at a place
+-- at most one element begins at a place
 pub same_element : (s r₁ r₂ : List ℕ) (e₁ e₂ : Element) → IsElement s r₁ e₁ → IsElement s r₂ e₂ → ◌≡◌ {A = Taken} (e₁, r₁) (e₂, r₂)
 same_element s r₁ r₂ (raw t₁) (raw t₂) a b = let q = same_raw s r₁ r₂ t₁ t₂ a.joined b.joined a.kind b.kind in ap₂ (λ x y. taken (raw x) y) q.0 q.1
 same_element s r₁ r₂ (raw t₁) (tag_element n₂ t₂) a b = absurd (raw_closed s r₁ t₁ a.kind (tag_opens s r₂ n₂ b.kind))
@@ -233,7 +233,7 @@ opened_next s o = by_tag (read_tag s) refl
     by_tag (Some x) e = record { element = tag_element x.0 (take (length s - length x.1) s); rest = x.1; is = tag_element_is s x.1 x.0 (exact-tag.sound s x.1 x.0 e) }
     by_tag None e = by_expression (none_begins exact-tag s e) (full_expression s) refl
 
--- what raw text is, but for the cut between characters
+-- what raw text is, except that it is cut between characters
 record EndsAt (s : List ℕ) (n : ℕ) : Type 0 where
   within : n ≤ length s
   closed : (k : ℕ) → k < n → ¬ (Opens (drop k s))
@@ -266,7 +266,7 @@ element_some s rest (tag_element tag text) m = shrinks-tag s rest tag m.kind
 element_some s rest (expression chain text) m = shrinks-full_expression s rest chain m.kind.match
 element_some s rest (invalid text) m = shrinks-lone_brace s rest text m.kind.brace
 
--- some element stands at each text but the empty one
+-- some element begins each text but the empty one
 next_of : (s : List ℕ) → 0 < length s → Next s
 next_of s some = go (raw_ends s)
   where
@@ -290,12 +290,12 @@ cover_by (suc fuel) (b ∷ s) h =
     let more_of = cover_by fuel n.rest (omega arith) in
     (n.element ∷ more_of.0, next n.is more_of.1)
 
--- no element stands in the empty text
+-- no element begins the empty text
 pub cover_empty : (es : List Element) → Cover [] es → es ≡ []
 cover_empty es done = refl
 cover_empty es (next {rest = rest} {e = e} m ms) = absurd (let h = element_some [] rest e m in omega arith)
 
--- what covers a text begins with the element there, and goes on as a cover of the rest
+-- what covers a text begins with the element there, and continues as a cover of the rest
 pub cover_after : (s rest : List ℕ) (e : Element) (es : List Element) → IsElement s rest e → Cover s es → (after : List Element) × (es ≡ e ∷ after) × Cover rest after
 cover_after s rest e es m done = absurd (let h = element_some [] rest e m in omega arith)
 cover_after s rest e es m (next {rest = r} {e = d} {es = ds} a c) =
@@ -317,7 +317,7 @@ pub joined_cover : (s : List ℕ) (es : List Element) → Cover s es → joined 
 joined_cover s es done = refl
 joined_cover s es (next {rest = r} {e = e} {es = more_of} a c) = ap (λ x. text_of e ++ x) (joined_cover r more_of c) ∙ sym a.joined
 
--- what was found stands for whatever stands there
+-- what was found means whatever is there
 pub only_element : (s r : List ℕ) (c : CodeElement) (found : Element) → IsElement s r found → Means c found → (rest : List ℕ) (e : Element) → IsElement s rest e → Means c e × (r ≡ rest)
 only_element s r c found is means rest e m =
     let q = same_element s r rest found e is m in

@@ -1,4 +1,4 @@
--- A reader is exact for a rule where it finds just what the rule relates.
+-- A reader is exact for a rule if it finds just what the rule relates.
 use Rattle.std.proofs.Common.{◌≡◌, ℕ, ◌-◌, ◌<◌, ◌≤◌, Bool, true, false, cond, ◌==◌, List, [], ◌∷◌, ◌++◌, length, take, Option, Some, None, is_some, option_map, option_and_then, refl, sym, ap, ◌∙◌, subst, arith, append_assoc, take_at, length-append}
 use Rattle.std.proofs.lemmas.Option.{same_Some, none-some, option_and_then_some, cond_some}
 use Rattle.std.specs.Option.{option_or}
@@ -14,7 +14,7 @@ pub record Exact {A : Type 0} (f : Reader A) (R : Rule A) : Type 0 where
   pub complete : (s rest : List ℕ) (a : A) → R s rest a → f s ≡ Some (a, rest)
   pub cuts : Cuts R
 
--- a value is there, or none is
+-- there is a value, or there is none
 pub option_cases : {A B : Type 0} (o : Option A) → ((x : A) → o ≡ Some x → B) → (o ≡ None → B) → B
 option_cases (Some x) f g = f x refl
 option_cases None f g = g refl
@@ -140,7 +140,7 @@ only_complete {A} p F s rest a m =
 pub exact-only : {A : Type 0} (p : A → Bool) {f : Reader A} {R : Rule A} → Exact f R → Exact (only p f) (Where p R)
 exact-only p F = record { sound = only_sound p F; complete = only_complete p F; cuts = λ s rest a m. F.cuts s rest a m.match }
 
--- the front of a text is what stands before its end
+-- the front of a text is the part before its end
 pub front_of : (s front rest : List ℕ) → s ≡ front ++ rest → take (length s - length rest) s ≡ front
 front_of s front rest e =
     let n : length front ≡ length s - length rest = omega (arith, ap length e, length-append front rest) in

@@ -1,4 +1,4 @@
--- What stands before and behind the chain of an expression.
+-- What is before and after the chain of an expression.
 use Rattle.std.proofs.Common.{◌≡◌, ℕ, true, false, ◌==◌, List, ◌∷◌, Option, Some, None, option_map, IfSome, Bor, refl, sym, ap, ◌∙◌, subst}
 use Rattle.std.proofs.lemmas.Bool.{eqb-true}
 use Rattle.std.specs.Option.{option_or}
@@ -17,7 +17,7 @@ use Rattle.liquid_grammar.proofs.IndexPartLemmas.{same_byte}
 use Rattle.liquid_grammar.proofs.PartLemmas.{after_begins}
 use Rattle.liquid_grammar.proofs.TokenExact.{exact-full_expression}
 
--- behind two braces an opener ends at its dash, or at once where there is none; and no tag's opener stands there
+-- after two braces an opener ends at its dash, or at once if there is none; and no tag's opener is there
 dashed : (b : ℕ) (t rest : List ℕ) → byte 45 t ≡ Some (b, rest) → opener 123 (123 ∷ 123 ∷ t) ≡ Some (b, rest)
 unfolding opener dashed_opener braces white
 dashed b t rest e =
@@ -89,7 +89,7 @@ first_of s rest byte b t e dash brace (instead none m) =
     let is : (b == 125) ≡ true = subst (λ x. (x == 125) ≡ true) (same_byte s _ _ _ b first.front e) first.passes in
     cc (is, brace)
 
--- no closer, behind white space or none, begins with another byte
+-- nothing that begins with another byte is a closer, after white space or none
 closes_by : (s rest t : List ℕ) (b : ℕ) → s ≡ b ∷ t → is_white b ≡ false → (b == 45) ≡ false → (b == 125) ≡ false → ClosesExpression s rest → ⊥
 closes_by s rest t b e black dash brace c = go c.match.match.middle c.match.from.0 c.match.match.before c.match.match.after
   where

@@ -30,7 +30,7 @@ Separated byte = White ▷ Byte byte ▷ White
 exact-separated : (byte : ℕ) → Exact (separated byte) (Separated byte)
 exact-separated byte = exact-right (exact-right exact-white (exact-byte byte)) exact-white
 
--- what stands behind a separator
+-- what is after a separator
 pub behind_begins : {A : Type 0} {R : Rule A} (byte : ℕ) (s place rest : List ℕ) (a : A) → Some place ≡ option_map (λ p. p.1) (separated byte s) → R place rest a → Behind byte R s rest a
 behind_begins byte s place rest a e m = after_begins (exact-separated byte) s place rest a e m
 
@@ -73,7 +73,7 @@ pub no_filter_name : (s : List ℕ) → None ≡ identifier s → ¬ (Begins Fil
 no_filter_name s e b =
     none_begins exact-identifier s (sym e) (record { rest = b.match.match.match.middle; shape = b.match.match.from.0; match = b.match.match.match.before })
 
--- no argument is left where none begins behind the separator
+-- no argument is left where none begins after the separator
 pub no_argument_left : (is_first : Bool) (s rest : List ℕ) (found : List Argument) → ¬ (Begins (Behind (separator is_first) ArgumentRule) s) → ArgumentsFrom is_first s rest found → NoneLeft s rest found
 no_argument_left true s rest found none m = go m.from m.match m.is
   where
@@ -82,7 +82,7 @@ no_argument_left true s rest found none m = go m.from m.match m.is
     go o (instead unmatched x) e = record { none = e ∙ ap arguments_of x.is; ends = x.stays }
 no_argument_left false s rest found none m = none_left s rest found m none
 
--- the arguments begin with the one that is matched behind the separator
+-- the arguments begin with the one that is matched after the separator
 pub argument_first : (a : ArgumentStart) (is_first : Bool) (s middle rest : List ℕ) (part_here : Argument) (found : List Argument) → Behind (separator is_first) ArgumentRule s middle part_here → IsArgument a middle part_here
     → ArgumentsFrom is_first s rest found → First (IsArgument a) (ArgumentsFrom false) rest found
 argument_first a true s middle rest part_here found n is m = go m.from m.match m.is
@@ -114,7 +114,7 @@ argument_first a true s middle rest part_here found n is m = go m.from m.match m
         }))
 argument_first a false s middle rest part_here found n is m = first_part (exact-behind 44 exact-argument) (IsArgument a) s middle rest part_here found n is m
 
--- what the value behind a colon begins with
+-- how the value after a colon begins
 pub colon_head : (s place : List ℕ) (r : Option (Head × Bor (List ℕ))) → Some place ≡ option_map (λ p. p.1) (separated 58 s) → MatchOption r (¬ (Begins ValueRule place)) (λ p. HasHead place p.0 p.1.now)
     → MatchOption r (¬ (Begins (Behind 58 ValueRule) s)) (λ p. HasColon s p.0 p.1.now)
 colon_head s place None e none = none_behind 58 s place e none
@@ -123,7 +123,7 @@ colon_head s place (Some p) e has =
     let colon = (exact-separated 58).sound s x.0.1 x.0.0 x.1 in
     record { place = place; white = x.0.0; colon = subst (λ t. Separated 58 s t x.0.0) x.2 colon; head = has }
 
--- a name and a colon behind it
+-- a name and a colon after it
 keyword_start_here : (s behind place white name : List ℕ) → Some (name, behind) ≡ identifier s → Separated 58 behind place white → KeywordStart s place name
 keyword_start_here s behind place white name e colon =
     let before = colon.match.before in
@@ -135,7 +135,7 @@ keyword_start_here s behind place white name e colon =
     in
     record { from = (name, colon.from.1); match = record { middle = colon.match.middle; before = named; after = colon.match.after }; is = refl }
 
--- no keyword argument begins where no identifier does, nor where no colon with a value stands behind it
+-- no keyword argument begins where no identifier does, or where no colon with a value follows it
 pub no_keyword_name : (s : List ℕ) → None ≡ identifier s → ¬ (Begins KeywordRule s)
 no_keyword_name s e b =
     let word = b.match.match.before.match.before.match.before in
@@ -159,7 +159,7 @@ no_keyword_value s behind name e none b =
     in
     none (subst (λ t. Begins (Behind 58 ValueRule) t) (ap (λ (p : List ℕ × List ℕ). p.1) same) (record { rest = b.rest; shape = b.match.from.1; match = all }))
 
--- the value that an argument is, by its first word, and by what is no word
+-- the value of an argument, by its first word, or by something that is not a word
 word_head : (s word : List ℕ) (h : Head) (rest : Bor (List ℕ)) → Some (word, rest.now) ≡ identifier s → IsHeadOf word h → HasHead s h rest.now
 word_head s word h rest e is = head_found s (Some (h, rest)) (literal_of_word s word h rest e is) (name_of_word s word h rest e is)
 

@@ -1,4 +1,4 @@
--- What can stand where a text begins, by its first byte.
+-- What a text can begin with, by its first byte.
 use Rattle.std.proofs.Common.{◌≡◌, ℕ, ◌==◌, ◌||◌, ◌⊎◌, inl, inr, Bool, true, false, cond, List, [], ◌∷◌, Option, Some, None, option_map, slice_index, take, drop, eqb-true, refl, sym, ap, ap₂, ◌∙◌, subst, arith}
 use Rattle.std.proofs.lemmas.Bool.Decides.{nat_tests}
 use Rattle.std.proofs.lemmas.Option.{same_Some}
@@ -21,7 +21,7 @@ use Rattle.liquid_grammar.proofs.Exact.{none_begins}
 use Rattle.liquid_grammar.proofs.TokenExact.{exact-value, exact-index}
 use Rattle.liquid_grammar.proofs.ValueScan.{scan_none, no_value_scan}
 
--- the first byte, of what was read on the way
+-- the first byte, of bytes that were read on the way
 pub first_byte : (s bytes : List ℕ) (b : ℕ) → bytes ≡ s → b ≡ slice_index bytes 0 → b ≡ slice_index s 0
 first_byte s bytes b same first = first ∙ ap (λ x. slice_index x 0) same
 
@@ -191,7 +191,7 @@ no_symbol_at_parenthesis s b first h =
 pub no_rest : (s : List ℕ) → symbol_of s ≡ None → None ≡ option_map (λ p. p.1) (symbol_of s)
 no_rest s e = sym (ap (option_map (λ p. p.1)) e)
 
--- a filter begins with `|` behind white space
+-- a filter begins with `|` after white space
 pub bar_behind : (s place : List ℕ) → Some place ≡ option_map (λ p. p.1) (white s) → (slice_index place 0 == 124) ≡ begins_filter s
 unfolding white
 bar_behind s place e = ap (λ t. slice_index t 0 == 124) (same_Some _ _ e)

@@ -1,4 +1,4 @@
--- Brackets inside one another, matched by a count of those that are open.
+-- Nested brackets, matched with a count of those that are open.
 use Rattle.std.proofs.Common.{◌≡◌, ℕ, zero, suc, pred, ◌+◌, ◌-◌, ◌<◌, Bool, true, false, cond, ◌==◌, List, [], ◌∷◌, Option, Some, None, option_map, option_and_then, MatchOption, refl, sym, ap, ap₂, ◌∙◌, subst, arith, eqb-true}
 use Rattle.std.proofs.lemmas.Option.{same_Some, none-some}
 use Rattle.std.specs.Option.{option_or}
@@ -37,7 +37,7 @@ or_none None = refl
 abbrev inside : Reader Value
 inside t = option_and_then (λ v. option_map (λ c. (v.0, c.1)) (close_bracket v.1)) (value t)
 
--- brackets, from what opens them, what stands in them, and what closes them
+-- brackets: their opening, their content and their closing
 close_shape : (v : Value × List ℕ) (o : Option (ℕ × List ℕ))
     → let pair : ℕ × List ℕ → (Value × ℕ) × List ℕ = λ b. ((v.0, b.0), b.1) in
     let keep : (Value × ℕ) × List ℕ → Value × List ℕ = λ a. (a.0.0, a.1) in
@@ -101,7 +101,7 @@ scan_none s e =
     let make : Placed Value × List ℕ → Index × List ℕ = λ a. (placed_bracket a.0, a.1) in
     ap (λ o. scan (index_fault 0) (option_map make (option_map (placed s) o))) (bracketed_none s e)
 
--- a literal stands inside the brackets
+-- a literal is inside the brackets
 pub starts_literal : (depth : ℕ) (s : List ℕ) (x : Literal × List ℕ) → literal s ≡ Some x → starts (suc depth) s ≡ adds (literal_fault s x.0) (closing (resume depth) x.1)
 unfolding starts
 starts_literal depth s x e =
@@ -109,7 +109,7 @@ starts_literal depth s x e =
     let next : Value × List ℕ → Option Scanned = λ v. adds (fault_within (suc depth) v.0) (closing (resume depth) v.1) in
     ap (option_and_then next) (value_reads s) ∙ ap (λ o. option_and_then next (option_or (option_map make (option_map (placed s) o)) (variable_over value s))) e
 
--- a variable stands inside the brackets
+-- a variable is inside the brackets
 variable_shape : (depth : ℕ) (s : List ℕ) (n : List ℕ × List ℕ) (o : Option (List Index × List ℕ))
     → let pair : List Index × List ℕ → (List ℕ × List Index) × List ℕ = λ b. ((n.0, b.0), b.1) in
     let make : Placed (List ℕ × List Index) × List ℕ → Value × List ℕ = λ a. (placed_variable a.0, a.1) in
@@ -142,7 +142,7 @@ starts_none depth s none e =
     ∙ ap (λ o. option_and_then next (option_or (option_map make (option_map (placed s) o)) (variable_over value s))) none
     ∙ ap (λ o. option_and_then next (option_map make_variable (option_map (placed s) (option_and_then and_indexes o)))) e
 
--- indexes behind a name, inside the brackets: a named one
+-- indexes after a name, inside the brackets: a named one
 named_shape : (depth : ℕ) (n : List ℕ) (o : Option (List Index × List ℕ))
     → let cons : List Index × List ℕ → List Index × List ℕ = λ b. (named_index n ∷ b.0, b.1) in
     let more_of : List Index × List ℕ → Option Scanned = λ b. adds (indexes_fault (suc depth) (gather b.0)) (closing (resume depth) b.1) in
@@ -162,7 +162,7 @@ resume_named depth s n e =
     ap (option_and_then more_of) (repeated_more (exact-index exact-value) (shrinks-index exact-value) s (named_index n.0, n.1) (index_named s n e))
     ∙ named_shape depth n.0 (indexes n.1)
 
--- none: a close bracket has to follow
+-- none: a close bracket must follow
 index_none : (s : List ℕ) → named s ≡ None → bracketed_over value s ≡ None → index s ≡ None
 index_none s none e =
     let make : Placed Value × List ℕ → Index × List ℕ = λ a. (placed_bracket a.0, a.1) in
@@ -178,7 +178,7 @@ resume_end depth s none =
 pub resume_close : (depth : ℕ) (s : List ℕ) → named s ≡ None → open_bracket s ≡ None → resume (suc depth) s ≡ closing (resume depth) s
 resume_close depth s none e = resume_end depth s (index_none s none (bracketed_none s e))
 
--- a bracket that opens doesn't close
+-- a bracket that opens is not one that closes
 open_shape : (t : Bool) (b : ℕ) (s : List ℕ) (x : List ℕ × List ℕ)
     → let y : Option (ℕ × List ℕ) = Some (b, s) in
     let k : ℕ × List ℕ → Option ((ℕ × List ℕ) × List ℕ) = λ a. option_map (λ b. ((a.0, b.0), b.1)) (white a.1) in

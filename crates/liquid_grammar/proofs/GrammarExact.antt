@@ -124,7 +124,7 @@ pub is_some-map : {A B : Type 0} (f : A → B) (o : Option A) → is_some (optio
 is_some-map f (Some x) = refl
 is_some-map f None = refl
 
--- a byte of one class, or of another with something ahead
+-- a byte of one class, or of another with something following it
 either_flags : (t d : Bool) (g : Reader (Unit {0})) (b : ℕ) (s : List ℕ)
     → let x : Option (ℕ × List ℕ) = Some (b, s) in
     let k : ℕ × List ℕ → Option ((ℕ × Unit {0}) × List ℕ) = λ a. option_map (λ c. ((a.0, c.0), c.1)) (g a.1) in

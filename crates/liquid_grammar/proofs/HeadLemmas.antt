@@ -1,4 +1,4 @@
--- What a text begins with, from its identifier: a word, or what is no word.
+-- What a text begins with, by its identifier: a word, or something else.
 use Rattle.std.proofs.Common.{◌≡◌, ℕ, ◌-◌, ◌==◌, ◌||◌, Bool, true, false, not, cond, List, [], ◌∷◌, length, take, Option, Some, None, option_map, option_and_then, refl, sym, ap, ap₂, ◌∙◌, arith}
 use Rattle.std.proofs.lemmas.Bool.Decides.{nat_tests}
 use Rattle.std.proofs.lemmas.Option.{none-some}
@@ -72,7 +72,7 @@ unfolding number
 number_none s e = left_none (either (seen decimal fractional) (seen integer whole)) (not_ahead (one starts_name)) s
     (either_none (seen decimal fractional) (seen integer whole) s (seen_none decimal fractional s (fractional_none s e)) (seen_none integer whole s e))
 
--- what begins with a byte that begins a name is no text between quotes, and no number
+-- a text that begins with a byte of a name is neither a text between quotes nor a number
 at_name_byte : (b : ℕ) (t : List ℕ) → starts_name b ≡ true → text_or_number (b ∷ t) ≡ None
 at_name_byte b t e = either_none (seen text_literal text_of_quotes) number (b ∷ t)
     (seen_none text_literal text_of_quotes (b ∷ t) (either_none (quoted 39) (quoted 34) (b ∷ t) (quoted_none 39 b t (not_39 b e)) (quoted_none 34 b t (not_34 b e))))

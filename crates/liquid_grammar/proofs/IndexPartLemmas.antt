@@ -30,7 +30,7 @@ some_left s rest parts b (more m ms) left = let e = left.none in cc
 pub same_byte : (s r t : List ℕ) (a b : ℕ) → s ≡ a ∷ r → s ≡ b ∷ t → a ≡ b
 same_byte s r t a b e f = cc
 
--- no close bracket begins with another byte
+-- no close bracket begins with any other byte
 closes_by : (s t : List ℕ) (b : ℕ) → s ≡ b ∷ t → is_white b ≡ false → (b == 93) ≡ false → Begins CloseBracket s → ⊥
 closes_by s t b e black other c = go s c.match.match.middle c.rest c.match.from.0 c.match.from.1 e c.match.match.before c.match.match.after
   where
@@ -38,13 +38,13 @@ closes_by s t b e black other c = go s c.match.match.middle c.rest c.match.from.
     go s middle rest white byte e (ends none) close = let h : (b == 93) ≡ true = subst (λ x. (x == 93) ≡ true) (same_byte s _ _ byte b close.front e) close.passes in cc (h, other)
     go s middle rest white byte e (more {shape = w} m ms) close = let h : is_white b ≡ true = subst (λ x. is_white x ≡ true) (same_byte s _ _ w b m.front e) m.passes in cc (h, black)
 
--- an open bracket closes none
+-- an open bracket is not a close bracket
 pub open_or_close : (s : List ℕ) → Begins OpenBracket s → Begins CloseBracket s → ⊥
 open_or_close s o c =
     let first = o.match.match.before in
     closes_by s o.match.match.middle 91 (first.front ∙ ap (λ b. b ∷ o.match.match.middle) (eqb-true _ 91 first.passes)) refl refl c
 
--- no index begins where a close bracket does
+-- no index begins where a close bracket begins
 pub close_or_index : (s : List ℕ) → Begins CloseBracket s → ¬ (Begins IndexRule s)
 close_or_index s c b = go b.match
   where
@@ -92,7 +92,7 @@ bracket_begins s none b =
       match = instead (λ (n : Begins (Seen named_index (Byte 46 ▷ Identifier)) s). none_begins exact-named s (sym none) (record { rest = n.rest; shape = n.match.from; match = n.match.match })) b.match;
     }
 
--- inside brackets an index is left where no bracket closes them
+-- inside brackets an index is left if no bracket closes them
 pub inside_left : (s rest inner : List ℕ) (is : List Index) → Some inner ≡ option_map (λ p. p.1) (open_bracket s) → Begins CloseBracket rest → ¬ (NoneLeft s rest is)
 inside_left s rest inner is e close left =
     let x = left_some (open_bracket s) inner e in
@@ -119,7 +119,7 @@ no_brackets s none unmatched b = go b.match
 exact-bracket_index : Exact bracket_index (Seen placed_bracket (At (Bracketed ValueRule)))
 exact-bracket_index = exact-seen placed_bracket (exact-at (exact-bracketed exact-value))
 
--- what the match of brackets tells
+-- what the match of brackets says
 pub index_begins : (s : List ℕ) (g : Scanned) → None ≡ named s → Some g ≡ scan (index_fault 0) (bracket_index s) → Begins IndexRule s
 index_begins s g none e =
     let x = scan_some (index_fault 0) (bracket_index s) g.0 g.1 e in

@@ -11,7 +11,7 @@ use Rattle.liquid_grammar.specs.meaning.Faults.{is_numeral, fits_integer, intege
 own : IsNumeralModel (λ ds. all_ascii_digits ds ≡ true) (digits_value 10)
 own = numerals_by_value _ (search rules)
 
--- a test decides what the answer depends on
+-- a test decides what the result depends on
 by_test : {E : Type 0} (t : Bool) (C : Type 0) (x : ℤ) (r : Result ℤ E) → (t ≡ true → C) → (C → t ≡ true) → OkIff r C x → cond t (Some x) None ≡ result_ok r
 by_test true C x (Ok y) f g h = ap (λ z. Some z) (sym h.1)
 by_test true C x (Err e) f g h = absurd (h (f refl))
@@ -39,7 +39,7 @@ signed negative n = cond negative (neg_ℤ (pos n)) (pos n)
 abbrev read_integer : Bool → List ℕ → Option ℤ
 read_integer negative ds = cond (test negative ds) (Some (signed negative (digits_value 10 ds))) None
 
--- what `parse` answers is the number that the text writes
+-- what `parse` returns is the number that the text writes
 pub integer_from_parse : {E : Type 0} (bs : List ℕ) (r : Result ℤ E) → ParsesSigned w64 10 bs r → integer_of bs ≡ result_ok r
 integer_from_parse {E} bs r h = go (get_or bs 0 0 == 45) (get_or bs 0 0 == 43) refl refl
   where

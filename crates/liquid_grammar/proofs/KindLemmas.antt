@@ -1,4 +1,4 @@
--- The kind of a token, from what begins it.
+-- The kind of a token, by its beginning.
 use Rattle.std.proofs.Common.{◌≡◌, ℕ, List, [], ◌∷◌, Option, Some, None, option_map, option_and_then, MatchOption, refl, sym, ap, ◌∙◌}
 use Rattle.std.proofs.lemmas.Option.{same_Some, none-some}
 use Rattle.std.specs.Option.{option_or}
@@ -29,7 +29,7 @@ use Rattle.liquid_grammar.proofs.Exact.{none_begins}
 abbrev KindFound : Type 0
 KindFound = Kind × List ℕ
 
--- what a call answers of a value or a chain
+-- what a call returns for a value or a chain
 abbrev pub Answered : Type 0
 Answered = Option (TokenKind × Option CodeFault × Bor (List ℕ))
 
@@ -130,7 +130,7 @@ pub no_chain : (s : List ℕ) → None ≡ kind_in (value s) → None ≡ chain_
 unfolding chain_of
 no_chain s e = sym (ap (λ o. chain_kind_in (option_map (placed s) o)) (both_none value (repeated next_filter) s (no_kind_found (value s) e)))
 
--- the kind of the token that stands there
+-- the kind of the token that begins there
 abbrev pub as_range : Placed (Value × Value) × List ℕ → Token × List ℕ
 as_range a = (range a.0, a.1)
 
@@ -184,7 +184,7 @@ symbol_has_kind s rest none e h =
 pub no_token : (s : List ℕ) → None ≡ scan range_fault (ranged s) → None ≡ chain_kind_in (chain_of s) → None ≡ option_map (λ p. p.1) (symbol_of s) → ¬ (Begins TokenRule s)
 no_token s none e h = none_begins exact-token s (neither s none e ∙ ap (λ o. option_map as_symbol (option_map (placed s) o)) (left_none (symbol_of s) h))
 
--- a public call's answer, from what the reader found
+-- a public call's result, from what the reader found
 pub chain_kind_found : (s : List ℕ) (r : Option TokenKind) → option_map token_kind_of r ≡ chain_kind_in (chain_of s) → MatchOption r (¬ (Begins ChainRule s)) (HasChainKind s)
 chain_kind_found s None e = none_begins exact-chain s (kind_none (chain_of s) e)
 chain_kind_found s (Some kind) e =

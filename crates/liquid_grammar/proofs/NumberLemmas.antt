@@ -1,4 +1,4 @@
--- A number, from its whole part and the fraction behind it.
+-- A number, from its whole part and the fraction after it.
 use Rattle.std.proofs.Common.{◌≡◌, ℕ, ◌-◌, List, length, take, Option, Some, None, option_map, option_and_then, refl, sym, ap, ◌∙◌}
 use Rattle.std.specs.Option.{option_or}
 use Rattle.liquid_grammar.specs.meaning.Literals.{Literal, decimal, integer}

@@ -68,7 +68,7 @@ pub head_only : (s : List ℕ) (r : Option (Head × Bor (List ℕ))) → MatchOp
 head_only s None none rest v m = none (record { rest = rest; shape = v; match = m })
 head_only s (Some p) has rest v m = subst (λ (x : Value × List ℕ). IsHead s x.1 p.0 p.1.now x.0) (same_match exact-value s has.rest rest has.value v has.match m) has.head
 
--- what a call found of a rule, by the reader's rest alone
+-- what a call found for a rule, by the reader's rest alone
 pub rest_found : {A : Type 0} {f : Reader A} {R : Rule A} → Exact f R → (s : List ℕ) (r : Option (Bor (List ℕ))) → option_map (λ rest. rest.now) r ≡ option_map (λ p. p.1) (f s)
     → MatchOption r (¬ (Begins R s)) (λ rest. (a : A) × R s rest.now a)
 rest_found {f = f} F s None e = none_begins F s (left_none (f s) e)
@@ -87,7 +87,7 @@ rest_only {A} {f = f} F s (Some after) e rest a m =
 pub returned_none : {A : Type 0} {P : Type 0} (r : Option A) (Q : A → Type 0) → r ≡ None → P → MatchOption r P Q
 returned_none {P = P} r Q e p = subst (λ o. MatchOption o P Q) (sym e) p
 
--- what stands behind a match
+-- what is after a match
 pub after_begins : {A B : Type 0} {f : Reader B} {P : Rule B} {R : Rule A} → Exact f P → (s place rest : List ℕ) (a : A) → Some place ≡ option_map (λ p. p.1) (f s) → R place rest a → (P ▷ R) s rest a
 after_begins {f = f} {P = P} F s place rest a e m =
     let x = left_some (f s) place e in

@@ -17,11 +17,11 @@ use Rattle.liquid_grammar.proofs.GrammarExact.{is_some-map, exact-any_opener}
 abbrev pub opens : List ℕ → Bool
 opens s = is_some (any_opener s)
 
--- a dashed opener begins here, behind any white space
+-- a dashed opener begins here, after any white space
 abbrev pub dashed : List ℕ → Bool
 dashed s = is_some (dashed_opener 123 s) || is_some (dashed_opener 37 s)
 
--- braces of the kind with a dash behind them
+-- braces of the kind with a dash after them
 abbrev marked : ℕ → List ℕ → Bool
 marked kind s = is_some (right (braces kind) (byte 45) s)
 
@@ -46,7 +46,7 @@ dashed_shape : (before : List ℕ) (o : Option (ℕ × List ℕ))
 dashed_shape before (Some x) = refl
 dashed_shape before None = refl
 
--- a dashed opener stands where its braces do, behind white space
+-- a dashed opener begins where its braces follow white space
 dashed_behind : (kind : ℕ) (s : List ℕ) → is_some (dashed_opener kind s) ≡ marked kind (drop (prefix_len is_white s) s)
 unfolding dashed_opener white
 dashed_behind kind s = dashed_shape (take (prefix_len is_white s) s) (braces kind (drop (prefix_len is_white s) s))
@@ -151,7 +151,7 @@ dashed_or_not true false false true = refl
 dashed_or_not true false false false = refl
 dashed_or_not false x y d = refl
 
--- what one byte says of openers before and behind it
+-- what one byte says about openers before and after it
 turn_white : (b : ℕ) (s : List ℕ) → is_white b ≡ true → (opens (b ∷ s) ≡ dashed s) × (dashed (b ∷ s) ≡ dashed s)
 turn_white b s e =
     let other : (b == 123) ≡ false = grind (arith, nat_tests) in
@@ -203,7 +203,7 @@ other_at s i h e =
     (subst (λ (b : ℕ). P (drop i s) b (get_or (drop (i + 1) s) 1 0)) (next_byte s i)
     (subst (λ (x : List ℕ). P x (get_or (drop (i + 1) s) 0 0) (get_or (drop (i + 1) s) 1 0)) m t))
 
--- no opener begins before `white`, and from there to `at` one begins where a dashed one begins behind
+-- no opener begins before `white`, and from there to `at` one begins only where a dashed one follows
 pub record Passed (s : List ℕ) (white at : ℕ) : Type 0 where
   pub order : white ≤ at
   pub closed : (k : ℕ) → k < white → opens (drop k s) ≡ false
@@ -239,11 +239,11 @@ passed_other s white at h p e none =
       same = λ k l u. absurd (omega arith);
     }
 
--- no open brace stands from `from` up to `at`
+-- there is no open brace from `from` up to `at`
 abbrev pub Braceless : List ℕ → ℕ → ℕ → Type 0
 Braceless s from at = (k : ℕ) → from ≤ k → k < at → ¬ ((slice_index s k == 123) ≡ true)
 
--- one more byte that is no open brace
+-- one more byte that is not an open brace
 passed_step : (s : List ℕ) (white at : ℕ) → at < length s → ¬ ((slice_index s at == 123) ≡ true) → Passed s white at → Passed s (cond (is_white (slice_index s at)) white (at + 1)) (at + 1)
 passed_step s white at h none p = go (is_white (slice_index s at)) refl
   where
@@ -255,7 +255,7 @@ passed_step s white at h none p = go (is_white (slice_index s at)) refl
     go true e = passed_white s white at h p e
     go false e = passed_other s white at h p e (no_braces (slice_index s at == 123) refl)
 
--- what was passed behind `from` without an open brace
+-- what was passed after `from` without an open brace
 passed_on : (s : List ℕ) (from n : ℕ) → from + n ≤ length s → Passed s from from → Braceless s from (from + n) → Passed s (white_start s from n) (from + n)
 unfolding white_start
 passed_on s from zero h p none = let same : from ≡ from + 0 = omega arith in subst (λ x. Passed s from x) same p
@@ -269,7 +269,7 @@ passed_to s from at l h p none =
     let same : from + (at - from) ≡ at = omega (arith, l) in
     subst (λ x. Passed s (white_start s from (at - from)) x) same (passed_on s from (at - from) (omega (arith, l, h)) p (λ k lo hi. none k lo (omega (arith, l, hi))))
 
--- behind an open brace that begins no opener
+-- after an open brace that begins no opener
 pub passed_brace : (s : List ℕ) (from at : ℕ) → from ≤ at → at < length s → Passed s from from → Braceless s from at → (slice_index s at == 123) ≡ true → begins_braces s at ≡ false → Passed s (at + 1) (at + 1)
 passed_brace s from at l h p none e other =
     let b : slice_index s at ≡ 123 = eqb-true (slice_index s at) 123 e in

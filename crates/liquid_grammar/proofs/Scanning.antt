@@ -1,4 +1,4 @@
--- The faults of lists of parts, and of parts behind something else.
+-- The faults of lists of parts, and of parts after something else.
 use Rattle.std.proofs.Common.{◌≡◌, ℕ, List, ◌∷◌, Option, Some, None, option_map, option_and_then, Bor, refl, sym, ap, ap₂, ◌∙◌}
 use Rattle.std.specs.Option.{option_or}
 use Rattle.liquid_grammar.specs.meaning.Rules.{Rule}
@@ -33,7 +33,7 @@ repeated_scan_more {f = f} F less fault s rest g e =
 pub repeated_scan_end : {A : Type 0} (f : Reader A) (fault : A → Option Fault) (s : List ℕ) → None ≡ scan fault (f s) → scan (first_fault fault) (repeated f s) ≡ Some (None, s)
 repeated_scan_end f fault s e = ap (scan (first_fault fault)) (repeated_end f s (scan_none fault (f s) e))
 
--- what readers one behind the other find
+-- what two readers, one after the other, find
 pub both_some : {A B : Type 0} (f : Reader A) (g : Reader B) (s : List ℕ) (a : A × List ℕ) (b : B × List ℕ) → f s ≡ Some a → g a.1 ≡ Some b → both f g s ≡ Some ((a.0, b.0), b.1)
 both_some {A} {B} f g s a b e h =
     let next : A × List ℕ → Option ((A × B) × List ℕ) = λ x. option_map (λ y. ((x.0, y.0), y.1)) (g x.1) in
@@ -49,7 +49,7 @@ left_found {A} {B} f g s a b e h =
     let first : (A × B) × List ℕ → A × List ℕ = λ x. (x.0.0, x.1) in
     ap (option_map first) (both_some f g s a b e h)
 
--- an argument, and those behind commas
+-- an argument, and those after commas
 pub arguments_scan : (s r₀ r₁ r₂ : List ℕ) (g h : Option Fault) → Some r₀ ≡ option_map (λ p. p.1) (separated 58 s) → Some (g, r₁) ≡ scan argument_fault (argument r₀)
     → Some (h, r₂) ≡ scan (first_fault argument_fault) (repeated (behind 44 argument) r₁) → Some (option_or g h, r₂) ≡ scan (first_fault argument_fault) (arguments s)
 unfolding arguments
@@ -64,7 +64,7 @@ arguments_scan s r₀ r₁ r₂ g h e₀ e₁ e₂ =
     sym (ap (λ o. scan (first_fault argument_fault) (option_map make o)) both_found ∙ ap (λ t. w (argument_fault x₁.0.0) (first_fault argument_fault x₂.0.0) t) x₂.3
     ∙ ap₂ (λ a b. w a b r₂) x₁.2 x₂.2)
 
--- a value, and filters behind it
+-- a value, and filters after it
 pub chain_scan : (s r₁ r₂ : List ℕ) (g h : Option Fault) → Some (g, r₁) ≡ scan value_fault (value s)
     → Some (h, r₂) ≡ scan (first_fault filter_fault) (repeated (behind 124 filter) r₁) → Some (option_or g h, r₂) ≡ scan chain_fault (chain_of s)
 unfolding chain_of
@@ -114,7 +114,7 @@ right_of_none {A} {B} f g s e = let second : (A × B) × List ℕ → B × List 
 left_of_none : {A B : Type 0} (f : Reader A) (g : Reader B) (s : List ℕ) → both f g s ≡ None → left f g s ≡ None
 left_of_none {A} {B} f g s e = let first : (A × B) × List ℕ → A × List ℕ = λ x. (x.0.0, x.1) in ap (option_map first) e
 
--- what stands between the parentheses of a range
+-- the values between the parentheses of a range
 abbrev range_values : Reader (Value × Value)
 range_values = both (left value dots) value
 
@@ -164,7 +164,7 @@ range_no_end s r₀ r₁ r₂ r₃ g h e₀ e₁ e₂ e₃ e₄ =
     let inner = right_some range_start range_values s x₀.0 ((v.0.0, x₃.0.0), x₃.0.1) x₀.1 (ap range_values x₀.2 ∙ values) in
     sym (ap (scan range_fault) (left_of_none (right range_start range_values) range_end s (both_none_behind (right range_start range_values) range_end s ((v.0.0, x₃.0.0), x₃.0.1) inner (ap range_end x₃.3 ∙ left_none (range_end r₃) e₄))))
 
--- what an early return of None tells of a range
+-- what an early return of None says about a range
 pub no_range : (s : List ℕ) (r : Option (Bor (List ℕ) × Bor (List ℕ) × Option CodeFault × Bor (List ℕ))) → r ≡ None → None ≡ scan range_fault (ranged s) → Scans range_fault (option_map (λ p. (p.2, p.3)) r) (ranged s)
 no_range s r e h =
     let seen : Option (Bor (List ℕ) × Bor (List ℕ) × Option CodeFault × Bor (List ℕ)) → Option Scanned = λ r. option_map scanned_of (option_map (λ p. (p.2, p.3)) r) in

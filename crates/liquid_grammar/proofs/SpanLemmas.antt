@@ -1,4 +1,4 @@
--- Each rule leaves text behind, and the spans of its shape are slices of the text.
+-- Each rule leaves a text as its rest, and the spans of its shape are slices of the text.
 use Rattle.std.proofs.Common.{◌≡◌, ℕ, ◌<◌, Bool, true, ◌==◌, List, [], ◌∷◌, ◌++◌, Option, Some, None, IsUtf8, refl, sym, ap, ◌∙◌, subst, arith, append_assoc, length-append, eqb-true}
 use Rattle.std.proofs.lemmas.List.{append-nil}
 use Rattle.std.proofs.lemmas.Str.{IsCharBoundary-after_ascii, IsCharBoundary-at_seam, IsUtf8-drop}
@@ -7,7 +7,7 @@ use Rattle.std.specs.Str.{IsCharBoundary}
 use Rattle.liquid_grammar.specs.meaning.Rules.{Rule, One, Then, Else, here, instead, Repeated, ends, more, Seen, Where, Text, Ahead, Not, Nothing, Placed, At, Byte, Optional, ◌▷◌, ◌◁◌}
 use Rattle.liquid_grammar.specs.laws.Spans.{Span, IsSlice, AreSlices, spans_of_all}
 
--- what is left is an end of the text, and text
+-- the rest is an end of the text, and is a text itself
 pub record Reaches (s rest : List ℕ) : Type 0 where
   pub front : List ℕ
   pub is : s ≡ front ++ rest
@@ -23,11 +23,11 @@ reach_on s m rest a b = record {
   text = b.text;
 }
 
--- behind an ASCII byte stands text
+-- what follows an ASCII byte is text
 pub after_ascii : (b : ℕ) (rest : List ℕ) → b < 128 → IsUtf8 (b ∷ rest) → IsUtf8 rest
 after_ascii b rest low u = IsUtf8-drop (b ∷ rest) 1 u (IsCharBoundary-after_ascii (b ∷ rest) 0 u (omega arith) low)
 
--- a place and a place behind it make a slice
+-- a place and a place after it make a slice
 pub slice_of : (s place behind : List ℕ) → Reaches s place → Reaches place behind → IsSlice s (place, behind)
 slice_of s place behind a b =
     let joined = a.is ∙ ap (λ x. a.front ++ x) b.is in
@@ -41,7 +41,7 @@ slice_of s place behind a b =
       ends = subst (λ n. IsCharBoundary s n) (length-append a.front b.front) (IsCharBoundary-at_seam s (a.front ++ b.front) behind whole b.text);
     }
 
--- the place is an end of the text, and the place behind it an end of that
+-- the place is an end of the text, and the place after it an end of that
 abbrev pub Inside : List ℕ → Span → Type 0
 Inside s span = Reaches s span.0 × Reaches span.0 span.1
 
@@ -61,7 +61,7 @@ join_all : (s : List ℕ) (xs ys : List Span) → AllInside s xs → AllInside s
 join_all s [] ys i j = j
 join_all s (x ∷ xs) ys i j = (i.0, join_all s xs ys i.1 j)
 
--- a match of R leaves text, and the spans of its shape are inside of the text
+-- a match of R leaves text, and the spans of its shape are inside the text
 pub record Spans {A : Type 0} (R : Rule A) (f : A → List Span) : Type 0 where
   pub of : (s rest : List ℕ) (a : A) → R s rest a → IsUtf8 s → Reaches s rest × AllInside s (f a)
 
@@ -140,7 +140,7 @@ spans-at R = record {
       (r.0, ((place, behind), r.1));
 }
 
--- two rules of which one shape is kept, where the other has no spans
+-- two rules, one of whose shapes is kept, where the other has no spans
 pub spans-right : {A B : Type 0} {R : Rule A} {S : Rule B} {g : B → List Span} → Spans R no_spans → Spans S g → Spans (R ▷ S) g
 spans-right R S = spans-seen (λ p. p.1) (λ a. refl) (spans-then R S)
 

@@ -56,7 +56,7 @@ spans-identifier = spans-text (spans-then (spans-one starts_name starts_name_low
 spans-name : Spans Name no_spans
 spans-name = spans-where (λ word. not (is_literal_word word)) spans-identifier
 
--- behind an ASCII byte anywhere in a text stands text
+-- what follows an ASCII byte anywhere in a text is text
 text_behind : (s front rest : List ℕ) (b : ℕ) → s ≡ front ++ b ∷ rest → b < 128 → IsUtf8 s → IsUtf8 rest
 text_behind s front rest b e low u =
     let within : length front < length s = omega (arith, ap length e, length-append front (b ∷ rest)) in

@@ -78,7 +78,7 @@ name_len-le-length (b ∷ xs) = go (is_name_byte b xs) (name_len-le-length xs)
 starts_name_ascii : (b : ℕ) → starts_name b ≡ true → (0 < b) × (b < 128)
 starts_name_ascii b e = (grind (arith, nat_tests), grind (arith, nat_tests))
 
--- a text may be cut behind its identifier
+-- a text may be cut after its identifier
 pub IsCharBoundary-identifier : (s : List ℕ) → IsUtf8 s → starts_name (get_or s 0 0) ≡ true → IsCharBoundary s (1 + name_len (drop 1 s))
 IsCharBoundary-identifier s utf8 e = go (name_len (drop 1 s)) refl
   where
@@ -100,7 +100,7 @@ IsCharBoundary-before_rest s rest utf8 e =
     let l : length (take n s) ≡ n = omega (arith, length-take-le n s (omega arith)) in
     subst (IsCharBoundary s) l (IsCharBoundary-at_seam s (take n s) rest e utf8)
 
--- the same, of what was read on the way
+-- the same, for bytes that were read on the way
 pub identifier_cut : (s bytes tail : List ℕ) (n : ℕ) → IsUtf8 s → bytes ≡ s → tail ≡ drop 1 bytes → n ≡ name_len tail → starts_name (get_or bytes 0 0) ≡ true → IsCharBoundary s (1 + n)
 identifier_cut s bytes tail n utf8 same rest len start =
     let count : name_len (drop 1 s) ≡ n = ap (λ x. name_len (drop 1 x)) (sym same) ∙ ap name_len (sym rest) ∙ sym len in
@@ -114,7 +114,7 @@ IsCharBoundary-wide_run p bs ascii =
       | inr past ↦ subst (IsCharBoundary bs) (omega (arith, prefix_len-le-length p bs)) (IsCharBoundary-end bs)
     ]
 
--- the same, of what was read on the way
+-- the same, for bytes that were read on the way
 pub quoted_cut : (s bytes : List ℕ) (quote n : ℕ) → quote < 128 → bytes ≡ s → n ≡ prefix_len (λ b. not (b == quote)) bytes → IsCharBoundary s n
 quoted_cut s bytes quote n low same len =
     let stop : (c : ℕ) → not (c == quote) ≡ false → c < 128 = λ c e. quote_ascii c quote low e in
@@ -130,7 +130,7 @@ digits_cut s bytes n utf8 same len =
     digit_ascii : (c : ℕ) → is_ascii_digit c ≡ true → c < 128
     digit_ascii c e = grind (arith, nat_tests)
 
--- a text may be cut behind a symbol
+-- a text may be cut after a symbol
 pub symbol_cut : (s bytes : List ℕ) → IsUtf8 s → bytes ≡ s → 0 < length bytes → is_single (get_or bytes 0 0) ≡ true → IsCharBoundary s 1
 symbol_cut s bytes utf8 same some e =
     let low : get_or bytes 0 0 < 128 = single_ascii (get_or bytes 0 0) e in

@@ -50,7 +50,7 @@ range_token s rest start stop has =
 no_range_token : (s : List ℕ) → None ≡ scan range_fault (ranged s) → ¬ (Begins (Seen range (At RangeRule)) s)
 no_range_token s none b = none_begins exact-range s (scan_none range_fault (ranged s) none) (record { rest = b.rest; shape = b.match.from.what; match = b.match.match.match })
 
--- one that is a chain
+-- a token that is a chain
 pub chain_token : (s rest : List ℕ) (k : Kind) (g : Option Fault) → None ≡ scan range_fault (ranged s) → Some k ≡ option_map (λ a. chain_kind a.0.what.0 a.0.what.1) (chain_of s) → Some (g, rest) ≡ scan chain_fault (chain_of s)
     → (token : Token) × TokenRule s rest token × IsChainToken k s rest token
 chain_token s rest k g none e h =
@@ -64,7 +64,7 @@ chain_token s rest k g none e h =
 no_chain_token : (s : List ℕ) → None ≡ scan chain_fault (chain_of s) → ¬ (Begins (Seen chain ChainRule) s)
 no_chain_token s none b = none_begins exact-chain s (scan_none chain_fault (chain_of s) none) (record { rest = b.rest; shape = b.match.from; match = b.match.match })
 
--- and one that is a symbol
+-- and a token that is a symbol
 pub symbol_ends : (s rest : List ℕ) → Some rest ≡ option_map (λ p. p.1) (symbol_of s) → s ≡ take (length s - length rest) s ++ rest
 symbol_ends s rest e = before_end s rest (leaves_end exact-symbol s rest e)
 
@@ -92,7 +92,7 @@ no_token s none chainless symbolless b = go b.match
     go (instead _ (here m)) = no_chain_token s chainless (record { rest = b.rest; shape = b.shape; match = m })
     go (instead _ (instead _ m)) = none_begins exact-symbol s (left_none (symbol_of s) symbolless) (record { rest = b.rest; shape = m.from.what; match = m.match.match })
 
--- the tokens from here on begin with the one behind the white space
+-- the tokens from here on begin with the one after the white space
 pub no_token_first : (s place rest : List ℕ) (tokens : List Token) → Some place ≡ option_map (λ p. p.1) (white s) → ¬ (Begins TokenRule place) → Repeated (White ▷ TokenRule) s rest tokens → NoneLeft s rest tokens
 no_token_first s place rest tokens e none m = none_left s rest tokens m (none_after exact-white s place e none)
 

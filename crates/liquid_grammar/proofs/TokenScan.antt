@@ -1,4 +1,4 @@
--- The fault of a token, from the part that its first byte tells.
+-- The fault of a token, by the part that its first byte decides.
 use Rattle.std.proofs.Common.{◌≡◌, ℕ, List, Option, Some, None, option_map, refl, sym, ap, ap₂, ◌∙◌}
 use Rattle.std.specs.Option.{option_or}
 use Rattle.liquid_grammar.specs.meaning.Values.{Value}

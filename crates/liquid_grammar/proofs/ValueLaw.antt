@@ -1,4 +1,4 @@
--- The rule of values is the rule over itself: how often brackets stand in one another doesn't matter.
+-- The rule of values is the rule over itself, no matter how deep brackets are nested.
 use Rattle.std.proofs.Common.{◌≡◌, ℕ, zero, suc, ◌<◌, ◌≤◌, List, ◌∷◌, length, Option, Some, None, option_map, option_and_then, refl, sym, ap, ◌∙◌, arith, ◌↔◌}
 use Rattle.std.specs.Option.{option_or}
 use Rattle.liquid_grammar.specs.meaning.Rules.{Rule, Placed}
@@ -13,7 +13,7 @@ use Rattle.liquid_grammar.proofs.TokenExact.{exact-index, exact-nested, exact-va
 abbrev Agree : {A : Type 0} → ℕ → Reader A → Reader A → Type 0
 Agree m f g = (t : List ℕ) → length t < m → f t ≡ g t
 
--- a shape, and what f finds behind it
+-- a shape, and what f finds after it
 abbrev pub and_behind : {A B : Type 0} → Reader A → B × List ℕ → Option ((B × A) × List ℕ)
 and_behind f a = option_map (λ b. ((a.0, b.0), b.1)) (f a.1)
 
@@ -39,7 +39,7 @@ agree_repeated {A} m f g G agree (suc n) s h =
         let l = cuts_le G.cuts s x.1 x.0 (G.sound s x.1 x.0 e) in
         ap (option_map (λ b. (x.0 ∷ b.0, b.1))) (rec x.1 (omega arith))
 
--- what closes brackets behind what was found in them
+-- what closes brackets after what was found in them
 abbrev closed : Option (Value × List ℕ) → Option (Value × List ℕ)
 closed o = option_map (λ a. (a.0.0, a.1)) (option_and_then (and_behind close_bracket) o)
 

@@ -44,7 +44,7 @@ indexes_more s rest g e =
 pub indexes_end : (s : List ℕ) → None ≡ scan (index_fault 0) (index s) → scan list_fault (indexes s) ≡ Some (None, s)
 indexes_end s e = ap (scan list_fault) (repeated_end index s (scan_none (index_fault 0) (index s) e))
 
--- a literal, and else a variable
+-- a literal, otherwise a variable
 pub value_literal : (s rest : List ℕ) (l : Literal) (g : Option Fault) → Some (l, rest) ≡ literal s → g ≡ literal_fault s l → Some (g, rest) ≡ scan value_fault (value s)
 value_literal s rest l g e f =
     let make : Placed Literal × List ℕ → Value × List ℕ = λ a. (placed_literal a.0, a.1) in
@@ -79,7 +79,7 @@ no_variable s e =
 pub no_value_scan : (s : List ℕ) → None ≡ literal s → None ≡ name s → None ≡ scan value_fault (value s)
 no_value_scan s none e = value_variable s None none (no_variable s e)
 
--- a name without an index, and one with an index and what indexes stand behind it
+-- a name without an index, and a name with an index and all indexes after it
 pub variable_end : (s rest n : List ℕ) → None ≡ literal s → Some (n, rest) ≡ name s → None ≡ scan (index_fault 0) (index rest) → ◌≡◌ {A = Option Scanned} (Some (None, rest)) (scan value_fault (value s))
 variable_end s rest n none e f = value_variable s _ none (variable_scan s rest n _ e (sym (indexes_end rest f)))
 

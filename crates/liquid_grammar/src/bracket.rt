@@ -1,4 +1,4 @@
-//! Brackets inside one another, matched one after the other with a count of those that are open.
+//! Nested brackets, matched in a loop with a count of those that are open.
 ghost use Rattle.std.specs.Prelude.{◌≡◌, ◌+◌, ◌*◌, ◌^◌, ◌<◌, ◌≤◌, length, Some, IfSome, MatchOption, None};
 ghost use Rattle.liquid_grammar.specs.meaning.Faults.{index_fault, deep_fault};
 ghost use Rattle.liquid_grammar.specs.meaning.Meanings.{Scans, faults_of};
@@ -11,7 +11,7 @@ use crate::head::{Head, read_head};
 use crate::text::{eat, skip_white};
 use crate::value::named;
 
-/// How many brackets may be open at once.
+/// The greatest number of brackets that may be open at once.
 pub const BRACKET_LIMIT: usize = 100;
 
 /// What comes next inside the brackets.
@@ -22,7 +22,7 @@ pub(crate) enum Await {
     Close,
 }
 
-/// Brackets that are open, and the text behind what was matched in them.
+/// Brackets that are open, and the text after what was matched in them.
 #[derive(Clone, Copy)]
 pub(crate) struct Open<'a> {
     rest: &'a str,
@@ -31,7 +31,7 @@ pub(crate) struct Open<'a> {
     awaits: Await,
 }
 
-/// The first fault of an index in brackets, and what follows it.
+/// Matches an index in brackets. Returns its first fault and what follows it.
 pub(crate) fn bracketed<'a>(s: &'a str) -> Option<(Option<Fault<'a>>, &'a str)>
     ensures value { Scans (index_fault 0) result (bracket_index s.now) }
     ensures shorter { IfSome result (λ x. length x.1.now < length s.now) }
@@ -48,7 +48,7 @@ pub(crate) fn bracketed<'a>(s: &'a str) -> Option<(Option<Fault<'a>>, &'a str)>
     Some((state.fault, state.rest))
 }
 
-/// One step inside the brackets.
+/// Takes one step inside the brackets.
 fn turn<'a>(state: Open<'a>) -> Option<Open<'a>>
     requires some { 0 < state.depth }
     requires fits { state.depth + length state.rest.now < 2 ^ 64 }
@@ -74,7 +74,7 @@ fn turn<'a>(state: Open<'a>) -> Option<Open<'a>>
     }
 }
 
-/// The step over the value that is awaited.
+/// Takes the step over the value that is awaited.
 fn at_value<'a>(state: Open<'a>) -> Option<Open<'a>>
     requires some { 0 < state.depth }
     requires value { state.awaits ≡ Await.Value }
@@ -100,7 +100,7 @@ fn at_value<'a>(state: Open<'a>) -> Option<Open<'a>>
     }
 }
 
-/// The step over the index that may stand here, or to the close bracket.
+/// Takes the step over an index, if one begins here, or to the close bracket.
 fn at_index<'a>(state: Open<'a>) -> Open<'a>
     requires some { 0 < state.depth }
     requires index { state.awaits ≡ Await.Index }
@@ -132,7 +132,7 @@ fn at_index<'a>(state: Open<'a>) -> Open<'a>
     }
 }
 
-/// The fault of a bracket that opens inside so many open ones.
+/// Returns the fault of a bracket that opens inside this many open ones.
 fn depth_fault<'a>(place: &'a str, depth: usize) -> Option<Fault<'a>>
     ensures { faults_of result ≡ deep_fault depth place.now }
 {
@@ -146,7 +146,7 @@ fn depth_fault<'a>(place: &'a str, depth: usize) -> Option<Fault<'a>>
     }
 }
 
-/// What follows `[` and white space.
+/// Returns what follows `[` and white space.
 #[tactic(auto, unfolding(crate::specs::steps::TokenSteps::open_bracket))]
 pub(crate) fn open_bracket(s: &str) -> Option<&str>
     ensures value { Leaves result (read.open_bracket s.now) }
@@ -155,7 +155,7 @@ pub(crate) fn open_bracket(s: &str) -> Option<&str>
     Some(skip_white(eat(s, b'[')?))
 }
 
-/// What follows white space and `]`.
+/// Returns what follows white space and `]`.
 #[tactic(auto, unfolding(crate::specs::steps::TokenSteps::close_bracket))]
 pub(crate) fn close_bracket(s: &str) -> Option<&str>
     ensures value { Leaves result (read.close_bracket s.now) }

@@ -16,7 +16,7 @@ static WORD_BYTES: [u8; 256] = [
     0, 0, 0, 0, 0, 0, 0, 0, 0, 0, 0, 0, 0, 0, 0, 0, 0, 0, 0, 0, 0, 0, 0, 0, 0, 0, 0, 0, 0, 0, 0, 0,
 ];
 
-/// The byte at `index`, or 0 past the end.
+/// Returns the byte at `index`, or 0 past the end.
 #[inline]
 pub(crate) fn byte_at(bytes: &[u8], index: usize) -> u8
     ensures { result ≡ slice_index bytes.now index }
@@ -24,7 +24,7 @@ pub(crate) fn byte_at(bytes: &[u8], index: usize) -> u8
     bytes.get(index).copied().unwrap_or(0)
 }
 
-/// A space, a tab, a carriage return or a line feed.
+/// Returns `true` for a space, a tab, a carriage return or a line feed.
 #[inline]
 pub(crate) fn is_white(byte: u8) -> bool
     ensures { result ≡ spec.is_white byte }
@@ -32,7 +32,7 @@ pub(crate) fn is_white(byte: u8) -> bool
     byte == b' ' || byte == b'\t' || byte == b'\r' || byte == b'\n'
 }
 
-/// A letter or `_`.
+/// Returns `true` for a letter or `_`.
 #[inline]
 pub(crate) fn starts_name(byte: u8) -> bool
     ensures { result ≡ spec.starts_name byte }
@@ -40,7 +40,7 @@ pub(crate) fn starts_name(byte: u8) -> bool
     byte.is_ascii_alphabetic() || byte == b'_'
 }
 
-/// A letter, a digit or `_`. Each byte of a name is asked, so the answers stand in a table.
+/// Returns `true` for a letter, a digit or `_`. This is called for each byte of a name, so the answers are in a table.
 #[inline]
 pub(crate) fn is_word(byte: u8) -> bool
     ensures { result ≡ spec.is_word byte }
@@ -48,7 +48,7 @@ pub(crate) fn is_word(byte: u8) -> bool
     byte_at(&WORD_BYTES, usize::from(byte)) == 1
 }
 
-/// Whether a literal or a name may begin with the byte.
+/// Returns `true` if a literal or a name may begin with the byte.
 #[inline]
 pub(crate) fn begins_value(byte: u8) -> bool
     ensures { result ≡ read.begins_value byte }
@@ -61,7 +61,7 @@ pub(crate) fn begins_value(byte: u8) -> bool
         || byte == b'+'
 }
 
-/// Whether an index begins with the byte.
+/// Returns `true` if an index begins with the byte.
 #[inline]
 pub(crate) fn begins_index(byte: u8) -> bool
     ensures { result ≡ read.begins_index byte }

@@ -19,7 +19,7 @@ pub struct TagText<'a> {
     /// The text from the name on.
     pub place: &'a str,
     pub name: &'a str,
-    /// The text from behind the name on, past the tag's end.
+    /// The text from after the name on, past the tag's end.
     pub tokens: &'a str,
     /// The whole text of the tag.
     pub text: &'a str,
@@ -40,18 +40,18 @@ pub struct ChainText<'a> {
     pub fault: Option<Fault<'a>>,
 }
 
-/// A part of a template: text to be written as it stands, a tag, an expression, or what is neither.
+/// A part of a template: text that is written unchanged, a tag, an expression, or an opener of neither.
 #[derive(Clone, Copy, Debug, PartialEq, Eq)]
 pub enum Element<'a> {
     /// Text without an opener.
     Raw(&'a str),
     Tag(TagText<'a>),
     Expression(ChainText<'a>),
-    /// An opener's white space and one `{`, where an opener begins and neither a tag nor an expression does.
+    /// The white space and one `{` of an opener that begins neither a tag nor an expression.
     Invalid(&'a str),
 }
 
-/// The element at the beginning of the text, and what it leaves. An empty text has none.
+/// Returns the element at the beginning of the text, and the rest of the text. An empty text has none.
 #[inline(always)]
 pub fn next_element<'a>(text: &'a str) -> Option<(Element<'a>, &'a str)>
     ensures found { MatchOption result (text.now ≡ [])
@@ -105,7 +105,7 @@ fn marked<'a>(s: &'a str) -> (Element<'a>, &'a str)
     }
 }
 
-/// White space and one `{`, and what follows them.
+/// Returns white space with one `{`, and what follows them.
 #[tactic(auto, unfolding(crate::specs::steps::Steps::lone_brace, crate::specs::steps::Steps::white))]
 fn lone_brace(s: &str) -> Option<(&str, &str)>
     ensures { Splits result (read.lone_brace s.now) }

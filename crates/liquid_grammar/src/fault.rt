@@ -23,7 +23,8 @@ pub struct Fault<'a> {
     pub place: &'a str,
 }
 
-/// The number that a sign and digits write. None if the text is none of these, or the number is no `i64`.
+/// Returns the number that a sign and digits write. Returns `None` for any other text, and for a number that does not
+/// fit an `i64`.
 #[inline]
 pub fn integer_of(text: &str) -> Option<i64>
     ensures { result ≡ spec.integer_of text.now }
@@ -31,7 +32,7 @@ pub fn integer_of(text: &str) -> Option<i64>
     text.parse::<i64>().ok()
 }
 
-/// The fault of a literal that stands at this place, if it has one.
+/// Returns the fault of a literal at this place, if it has one.
 #[inline(always)]
 pub(crate) fn literal_fault<'a>(place: &'a str, literal: Literal) -> Option<Fault<'a>>
     ensures { faults_of result ≡ spec.literal_fault place.now (literal_of literal.entry) }

@@ -13,7 +13,7 @@ use crate::name::identifier;
 use crate::text::{eat, skip_white};
 use crate::value::{value, value_and_kind};
 
-/// The first fault of the chain that the text begins with, and what follows it.
+/// Matches a chain at the beginning of the text. Returns its first fault and what follows it.
 pub(crate) fn chain<'a>(s: &'a str) -> Option<(Option<Fault<'a>>, &'a str)>
     ensures value { Scans chain_fault result (read.chain_of s.now) }
     ensures shorter { IfSome result (λ x. length x.1.now < length s.now) }
@@ -22,7 +22,7 @@ pub(crate) fn chain<'a>(s: &'a str) -> Option<(Option<Fault<'a>>, &'a str)>
     Some((fault, rest))
 }
 
-/// The same with the kind of the chain.
+/// Does the same, and also returns the kind of the chain.
 #[inline(always)]
 pub(crate) fn chain_and_kind<'a>(s: &'a str) -> Option<(TokenKind<'a>, Option<Fault<'a>>, &'a str)>
     ensures kind { FindsKind (option_map (λ p. p.0) result) (read.chain_of s.now) }
@@ -37,9 +37,10 @@ pub(crate) fn chain_and_kind<'a>(s: &'a str) -> Option<(TokenKind<'a>, Option<Fa
     }
 }
 
-/// The kind and the first fault of the chain that begins with a value of this kind and fault, and what follows it.
+/// Matches the filters after a value of this kind and fault. Returns the kind and the first fault of the chain, and
+/// what follows it.
 ///
-/// It stands apart, so that no room is made for filters where a value has none.
+/// It is a function of its own, so that no room is made for filters if a value has none.
 #[inline(never)]
 fn filtered<'a>(
     kind: TokenKind<'a>,
@@ -61,7 +62,7 @@ fn filtered<'a>(
     }
 }
 
-/// Whether `|` stands here behind white space, as before each filter.
+/// Returns `true` if `|` comes next after white space, as before each filter.
 #[inline]
 fn begins_filter(s: &str) -> bool
     ensures { result ≡ read.begins_filter s.now }
@@ -69,7 +70,7 @@ fn begins_filter(s: &str) -> bool
     byte_at(skip_white(s).as_bytes(), 0) == b'|'
 }
 
-/// The first fault of all filters that stand here, each behind `|`.
+/// Matches all filters, each after `|`. Returns their first fault and what follows them.
 fn filters<'a>(s: &'a str) -> (Option<Fault<'a>>, &'a str)
     ensures value { Scans (first_fault filter_fault) (Some result) (read.repeated (read.behind 124 read.filter) s.now) }
     ensures shorter { length result.1.now ≤ length s.now }
@@ -112,7 +113,7 @@ fn arguments<'a>(s: &'a str) -> Option<(Option<Fault<'a>>, &'a str)>
     Some((first.or(others), rest))
 }
 
-/// The first fault of all further arguments, each behind a comma.
+/// Matches all further arguments, each after a comma. Returns their first fault and what follows them.
 fn more_arguments<'a>(s: &'a str) -> (Option<Fault<'a>>, &'a str)
     ensures value { Scans (first_fault argument_fault) (Some result) (read.repeated (read.behind 44 read.argument) s.now) }
     ensures shorter { length result.1.now ≤ length s.now }
@@ -151,7 +152,7 @@ fn keyword<'a>(s: &'a str) -> Option<(Option<Fault<'a>>, &'a str)>
     value(keyword_start(s)?.1)
 }
 
-/// The identifier before `:`, and what follows the colon and its white space.
+/// Returns the identifier before `:`, and what follows the colon and its white space.
 #[tactic(auto, unfolding(crate::specs::steps::TokenSteps::keyword_start))]
 fn keyword_start(s: &str) -> Option<(&str, &str)>
     ensures value { Splits result (read.keyword_start s.now) }
@@ -161,7 +162,7 @@ fn keyword_start(s: &str) -> Option<(&str, &str)>
     Some((name, skip_white(eat(skip_white(rest), b':')?)))
 }
 
-/// What follows a separator between white space.
+/// Returns what follows a separator between white space.
 pub(crate) fn behind(s: &str, separator: u8) -> Option<&str>
     requires { separator < 128 }
     ensures value { Leaves result (read.separated separator s.now) }

@@ -1,4 +1,4 @@
-//! What a value begins with: a literal, or the name of a variable.
+//! How a value begins: with a literal, or with the name of a variable.
 ghost use Rattle.std.specs.Prelude.{◌≡◌, ◌<◌, length, option_and_then, IfSome};
 ghost use Rattle.liquid_grammar.specs.steps.Heads.{literal_in, name_in, IsHeadOf};
 ghost use Rattle.liquid_grammar.specs.meaning.Meanings.{FindsLiteral};
@@ -15,7 +15,7 @@ pub enum Head<'a> {
     Name(&'a str),
 }
 
-/// The literal that the text begins with, and what follows it.
+/// Returns the literal that the text begins with, and what follows it.
 pub(crate) fn read_literal(s: &str) -> Option<(Literal<'_>, &str)>
     ensures value { FindsLiteral result (read.literal s.now) }
     ensures shorter { IfSome result (λ x. length x.1.now < length s.now) }
@@ -26,7 +26,7 @@ pub(crate) fn read_literal(s: &str) -> Option<(Literal<'_>, &str)>
     }
 }
 
-/// The literal or the name that the text begins with, and what follows it.
+/// Returns the literal or the name that the text begins with, and what follows it.
 ///
 /// Its identifier is read once: no other literal begins with a byte that begins an identifier.
 pub(crate) fn read_head(s: &str) -> Option<(Head<'_>, &str)>
@@ -43,7 +43,7 @@ pub(crate) fn read_head(s: &str) -> Option<(Head<'_>, &str)>
     }
 }
 
-/// What a value begins with whose first word this is.
+/// Returns the literal or the name that a word at the beginning of a value is.
 #[inline(always)]
 pub(crate) fn head_of_word(word: &str) -> Head<'_>
     ensures { IsHeadOf word.now result }

@@ -24,7 +24,7 @@ pub enum TokenKind<'a> {
 }
 
 impl<'a> TokenKind<'a> {
-    /// The identifier, where the token is one.
+    /// Returns the identifier, if the token is one.
     pub fn identifier(self) -> Option<&'a str>
         ensures { option_map (λ name. name.now) result ≡ identifier_of (token_kind_of self.entry) }
     {
@@ -39,7 +39,7 @@ impl<'a> TokenKind<'a> {
     }
 }
 
-/// What the token is that the text begins with.
+/// Returns the kind of the token that the text begins with.
 pub fn token_kind(s: &str) -> Option<TokenKind<'_>>
     ensures { MatchOption result (¬ (Begins TokenRule s.now)) (HasKind s.now) }
 {
@@ -55,7 +55,7 @@ pub fn token_kind(s: &str) -> Option<TokenKind<'_>>
     }
 }
 
-/// What the chain is that the text begins with: filtered, a literal, a variable or an identifier.
+/// Returns the kind of the chain that the text begins with: filtered, a literal, a variable or an identifier.
 pub fn chain_kind(s: &str) -> Option<TokenKind<'_>>
     ensures { MatchOption result (¬ (Begins ChainRule s.now)) (HasChainKind s.now) }
 {

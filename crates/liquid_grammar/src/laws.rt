@@ -17,7 +17,7 @@ pub fn one_cover()
     ensures { (s : List ℕ) → OnlyCover s }
 {}
 
-/// At most one element stands at a place, and it leaves one rest.
+/// At most one element begins at a place, and it leaves one rest.
 #[tactic(auto, using(crate::proofs::CoverLemmas::same_element))]
 pub fn one_element()
     ensures { (s r₁ r₂ : List ℕ) (e₁ e₂ : Element) → IsElement s r₁ e₁ → IsElement s r₂ e₂ → ◌≡◌ {A = Taken} (e₁, r₁) (e₂, r₂) }
@@ -50,13 +50,13 @@ pub fn one_match()
     ensures tags { Single TagRule }
 {}
 
-/// A value is a literal or a variable over values: how often brackets stand in one another doesn't matter.
+/// A value is a literal or a variable over values, no matter how deep brackets are nested.
 #[tactic(auto, using(crate::proofs::ValueLaw::value_law))]
 pub fn value_law()
     ensures { (s rest : List ℕ) (v : Value) → ValueRule s rest v ↔ ValueOver ValueRule s rest v }
 {}
 
-/// Each match of these rules takes one byte at least.
+/// Each match of these rules takes at least one byte.
 pub fn matches_take_bytes()
     ensures identifiers { Takes Identifier }
     ensures values { Takes ValueRule }
@@ -65,7 +65,7 @@ pub fn matches_take_bytes()
     ensures tokens { Takes TokenRule }
 {}
 
-/// No index begins where a close bracket does.
+/// No index begins where a close bracket begins.
 #[tactic(auto, using(crate::proofs::IndexPartLemmas::close_or_index))]
 pub fn no_index_at_close_bracket()
     ensures { (s : List ℕ) → Begins CloseBracket s → ¬ (Begins IndexRule s) }
@@ -78,7 +78,7 @@ pub fn parts_are_matches()
     ensures tags { (s rest : List ℕ) (tag : Tag) → TagRule s rest tag → Repeated (White ▷ TokenRule) tag.1.place tag.1.behind tag.1.what }
 {}
 
-/// Each part of an expression or a tag is a slice of the text, and stands between characters.
+/// Each part of an expression or a tag is a slice of the text, and lies between characters.
 pub fn spans_are_slices(text: &str)
     ensures expressions { (rest : List ℕ) (chain : Chain) → ExpressionRule text.now rest chain → AreSlices text.now (chain_spans chain) }
     ensures tags { (rest : List ℕ) (tag : Tag) → TagRule text.now rest tag → AreSlices text.now (tag_spans tag) }

@@ -11,7 +11,7 @@ ghost use Rattle.liquid_grammar.specs.steps.TokenSteps as read;
 use crate::bytes::{byte_at, starts_name};
 use crate::text::{before, eat};
 
-/// A literal. A number stands as its text, with its sign.
+/// A literal. A number is kept as its text, with its sign.
 #[derive(Clone, Copy, Debug, PartialEq, Eq)]
 pub enum Literal<'a> {
     Nil,
@@ -23,7 +23,8 @@ pub enum Literal<'a> {
     Decimal(&'a str),
 }
 
-/// The text or the number that the text begins with, and what follows it. Its first byte tells which of them it can be.
+/// Returns the text or the number that the text begins with, and what follows it. The first byte decides which of them
+/// it can be.
 #[inline(always)]
 pub(crate) fn text_or_number(s: &str) -> Option<(Literal, &str)>
     ensures value { FindsLiteral result (read.text_or_number s.now) }
@@ -38,7 +39,7 @@ pub(crate) fn text_or_number(s: &str) -> Option<(Literal, &str)>
     }
 }
 
-/// What the word stands for, where it is a literal word. Its first byte leaves at most two of these.
+/// Returns the literal that the word means, if it is a literal word. Its first byte leaves at most two of them.
 #[inline(always)]
 pub(crate) fn literal_word(word: &str) -> Option<Literal<'_>>
     ensures { MatchOption result (is_literal_word word.now ≡ false)
@@ -54,7 +55,7 @@ pub(crate) fn literal_word(word: &str) -> Option<Literal<'_>>
     }
 }
 
-/// The text between two quotes.
+/// Returns the text between two quotes.
 #[tactic(auto, unfolding(crate::specs::steps::TokenSteps::quoted))]
 fn quoted(s: &str, quote: u8) -> Option<(&str, &str)>
     requires { quote < 128 }
@@ -86,7 +87,7 @@ fn number(s: &str) -> Option<(Literal, &str)>
     }
 }
 
-/// The whole number that the text begins with, with the fraction behind it if there is one.
+/// Returns the whole number that the text begins with, with the fraction after it if there is one.
 fn longest_number(s: &str) -> Option<(Literal, &str)>
     ensures value { FindsLiteral result (read.longest_number s.now) }
     ensures shorter { IfSome result (λ x. length x.1.now < length s.now) }
@@ -98,7 +99,7 @@ fn longest_number(s: &str) -> Option<(Literal, &str)>
     }
 }
 
-/// What follows `.` and digits.
+/// Returns what follows `.` and digits.
 fn fraction(s: &str) -> Option<&str>
     ensures value { Leaves result (read.fraction s.now) }
     ensures shorter { IfSome result (λ rest. length rest.now < length s.now) }

@@ -18,7 +18,7 @@ use crate::text::split_white;
 use crate::token::{expression, tag, token};
 use crate::value::{index, value, variable};
 
-/// The white space that the text begins with, and what follows it.
+/// Returns the white space that the text begins with, and what follows it.
 pub fn match_white(s: &str) -> (&str, &str)
     ensures value { White s.now result.1.now result.0.now }
     ensures within { length result.1.now ≤ length s.now }
@@ -26,7 +26,7 @@ pub fn match_white(s: &str) -> (&str, &str)
     split_white(s)
 }
 
-/// The longest identifier that the text begins with, and what follows it.
+/// Returns the longest identifier that the text begins with, and what follows it.
 pub fn match_identifier(s: &str) -> Option<(&str, &str)>
     ensures value { Finds Identifier (λ x. x.now) s.now result }
     ensures shorter { IfSome result (λ x. length x.1.now < length s.now) }
@@ -34,7 +34,7 @@ pub fn match_identifier(s: &str) -> Option<(&str, &str)>
     identifier(s)
 }
 
-/// The literal that the text begins with, and what follows it.
+/// Returns the literal that the text begins with, and what follows it.
 pub fn match_literal(s: &str) -> Option<(Literal<'_>, &str)>
     ensures value { Finds LiteralRule literal_of s.now result }
     ensures shorter { IfSome result (λ x. length x.1.now < length s.now) }
@@ -42,7 +42,7 @@ pub fn match_literal(s: &str) -> Option<(Literal<'_>, &str)>
     read_literal(s)
 }
 
-/// The value that the text begins with: its first fault, and what follows it.
+/// Matches the value that the text begins with. Returns its first fault and what follows it.
 pub fn match_value<'a>(s: &'a str) -> Option<(Option<Fault<'a>>, &'a str)>
     ensures value { Matches ValueRule value_fault s.now result }
     ensures shorter { IfSome result (λ x. length x.1.now < length s.now) }
@@ -50,7 +50,7 @@ pub fn match_value<'a>(s: &'a str) -> Option<(Option<Fault<'a>>, &'a str)>
     value(s)
 }
 
-/// The variable that the text begins with: its first fault, and what follows it.
+/// Matches the variable that the text begins with. Returns its first fault and what follows it.
 pub fn match_variable<'a>(s: &'a str) -> Option<(Option<Fault<'a>>, &'a str)>
     ensures value { Matches VariableRule value_fault s.now result }
     ensures shorter { IfSome result (λ x. length x.1.now < length s.now) }
@@ -58,7 +58,7 @@ pub fn match_variable<'a>(s: &'a str) -> Option<(Option<Fault<'a>>, &'a str)>
     variable(s)
 }
 
-/// The index that the text begins with: its first fault, and what follows it.
+/// Matches the index that the text begins with. Returns its first fault and what follows it.
 pub fn match_index<'a>(s: &'a str) -> Option<(Option<Fault<'a>>, &'a str)>
     ensures value { Matches IndexRule (index_fault 0) s.now result }
     ensures shorter { IfSome result (λ x. length x.1.now < length s.now) }
@@ -66,7 +66,7 @@ pub fn match_index<'a>(s: &'a str) -> Option<(Option<Fault<'a>>, &'a str)>
     index(s)
 }
 
-/// The argument that the text begins with: its first fault, and what follows it.
+/// Matches the argument that the text begins with. Returns its first fault and what follows it.
 pub fn match_argument<'a>(s: &'a str) -> Option<(Option<Fault<'a>>, &'a str)>
     ensures value { Matches ArgumentRule argument_fault s.now result }
     ensures shorter { IfSome result (λ x. length x.1.now < length s.now) }
@@ -74,7 +74,7 @@ pub fn match_argument<'a>(s: &'a str) -> Option<(Option<Fault<'a>>, &'a str)>
     argument(s)
 }
 
-/// The filter that the text begins with: its first fault, and what follows it.
+/// Matches the filter that the text begins with. Returns its first fault and what follows it.
 pub fn match_filter<'a>(s: &'a str) -> Option<(Option<Fault<'a>>, &'a str)>
     ensures value { Matches FilterRule filter_fault s.now result }
     ensures shorter { IfSome result (λ x. length x.1.now < length s.now) }
@@ -82,7 +82,7 @@ pub fn match_filter<'a>(s: &'a str) -> Option<(Option<Fault<'a>>, &'a str)>
     filter(s)
 }
 
-/// The chain that the text begins with: its first fault, and what follows it.
+/// Matches the chain that the text begins with. Returns its first fault and what follows it.
 pub fn match_chain<'a>(s: &'a str) -> Option<(Option<Fault<'a>>, &'a str)>
     ensures value { Matches ChainRule chain_fault s.now result }
     ensures shorter { IfSome result (λ x. length x.1.now < length s.now) }
@@ -90,7 +90,7 @@ pub fn match_chain<'a>(s: &'a str) -> Option<(Option<Fault<'a>>, &'a str)>
     chain(s)
 }
 
-/// The token that the text begins with: its first fault, and what follows it.
+/// Matches the token that the text begins with. Returns its first fault and what follows it.
 pub fn match_token<'a>(s: &'a str) -> Option<(Option<Fault<'a>>, &'a str)>
     ensures value { Matches TokenRule token_fault s.now result }
     ensures shorter { IfSome result (λ x. length x.1.now < length s.now) }
@@ -98,7 +98,7 @@ pub fn match_token<'a>(s: &'a str) -> Option<(Option<Fault<'a>>, &'a str)>
     token(s)
 }
 
-/// The expression that the text begins with: its first fault, and what follows it.
+/// Matches the expression that the text begins with. Returns its first fault and what follows it.
 pub fn match_expression<'a>(s: &'a str) -> Option<(Option<Fault<'a>>, &'a str)>
     ensures value { Matches ExpressionRule chain_fault s.now result }
     ensures shorter { IfSome result (λ x. length x.1.now < length s.now) }
@@ -109,7 +109,7 @@ pub fn match_expression<'a>(s: &'a str) -> Option<(Option<Fault<'a>>, &'a str)>
     }
 }
 
-/// The tag that the text begins with: its first fault, and what follows it.
+/// Matches the tag that the text begins with. Returns its first fault and what follows it.
 pub fn match_tag<'a>(s: &'a str) -> Option<(Option<Fault<'a>>, &'a str)>
     ensures value { Matches TagRule tag_fault s.now result }
     ensures shorter { IfSome result (λ x. length x.1.now < length s.now) }

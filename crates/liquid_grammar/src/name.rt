@@ -6,7 +6,7 @@ ghost use Rattle.liquid_grammar.specs.steps.Steps.{Splits};
 use crate::bytes::{byte_at, is_word, starts_name};
 use crate::literal::literal_word;
 
-/// The longest identifier that the text begins with, and what follows it.
+/// Returns the longest identifier that the text begins with, and what follows it.
 #[tactic(auto, unfolding(crate::specs::steps::Steps::identifier))]
 pub(crate) fn identifier(s: &str) -> Option<(&str, &str)>
     ensures value { Splits result (read.identifier s.now) }
@@ -20,7 +20,7 @@ pub(crate) fn identifier(s: &str) -> Option<(&str, &str)>
     }
 }
 
-/// An identifier that is no literal word.
+/// Returns an identifier that is not a literal word, and what follows it.
 #[tactic(auto, unfolding(crate::specs::steps::Steps::name))]
 pub(crate) fn name(s: &str) -> Option<(&str, &str)>
     ensures value { Splits result (read.name s.now) }
@@ -33,7 +33,7 @@ pub(crate) fn name(s: &str) -> Option<(&str, &str)>
     }
 }
 
-/// How many name bytes there are in front: a dash counts only where a word byte follows it.
+/// Returns the number of name bytes at the front. A dash counts only if a word byte follows it.
 #[tactic(auto, using(crate::proofs::TextLemmas::name_len_turn, crate::proofs::TextLemmas::name_len_end))]
 fn name_len(bytes: &[u8]) -> usize
     ensures len { result ≡ read.name_len bytes.now }

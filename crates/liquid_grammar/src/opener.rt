@@ -5,7 +5,7 @@ ghost use Rattle.liquid_grammar.specs.steps.Steps.{Leaves};
 
 use crate::text::{eat, skip_white};
 
-/// What follows `{{` or `{%`.
+/// Returns what follows `{{` or `{%`.
 #[tactic(auto, unfolding(crate::specs::steps::Steps::braces))]
 pub(crate) fn braces(s: &str, kind: u8) -> Option<&str>
     requires { kind < 128 }
@@ -24,7 +24,7 @@ fn dashed_opener(s: &str, kind: u8) -> Option<&str>
     eat(braces(skip_white(s), kind)?, b'-')
 }
 
-/// What follows an opener.
+/// Returns what follows an opener.
 #[tactic(auto, unfolding(crate::specs::steps::Steps::opener))]
 pub(crate) fn opener(s: &str, kind: u8) -> Option<&str>
     requires { kind < 128 }
@@ -46,7 +46,7 @@ fn dashed_closer(s: &str, kind: u8) -> Option<&str>
     Some(skip_white(eat(eat(eat(s, b'-')?, kind)?, b'}')?))
 }
 
-/// What follows a closer.
+/// Returns what follows a closer.
 #[tactic(auto, unfolding(crate::specs::steps::Steps::closer))]
 pub(crate) fn closer(s: &str, kind: u8) -> Option<&str>
     requires { kind < 128 }

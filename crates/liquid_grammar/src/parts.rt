@@ -1,4 +1,4 @@
-//! The parts of a matched text, handed out from left to right, so that a builder walks the text once.
+//! The parts of a matched text, returned from left to right, so that a builder walks the text once.
 ghost use Rattle.std.specs.Prelude.{◌≡◌, ℕ, false, List, ◌<◌, ◌++◌, length, IfSome, MatchOption};
 ghost use Rattle.liquid_grammar.specs.meaning.Rules.{Begins, Repeated, ◌▷◌};
 ghost use Rattle.liquid_grammar.specs.meaning.Grammar.{White};
@@ -25,9 +25,9 @@ use crate::value::named_index;
 /// How an index begins.
 #[derive(Clone, Copy, Debug, PartialEq, Eq)]
 pub enum IndexStart<'a> {
-    /// A name behind `.`.
+    /// A name after `.`.
     Named(&'a str),
-    /// `[`, with the value of the index behind it.
+    /// `[`, with the value of the index after it.
     Bracket,
 }
 
@@ -41,7 +41,7 @@ pub struct FilterStart<'a> {
     pub rest: &'a str,
 }
 
-/// What stands behind a value or a filter of an expression.
+/// What follows a value or a filter of an expression.
 #[derive(Clone, Copy, Debug, PartialEq, Eq)]
 pub enum ChainStep<'a> {
     /// The next filter.
@@ -55,7 +55,7 @@ pub enum ChainStep<'a> {
 pub struct ArgumentStart<'a> {
     /// The name of a keyword argument.
     pub name: Option<&'a str>,
-    /// What the argument's value begins with.
+    /// How the argument's value begins.
     pub head: Head<'a>,
     /// What follows that.
     pub rest: &'a str,
@@ -84,7 +84,8 @@ pub struct TokenText<'a> {
     pub rest: &'a str,
 }
 
-/// What follows `{{`, the dash behind it if there is one, and white space. None where the text doesn't begin with `{{`.
+/// Returns what follows `{{`, the dash after it if there is one, and white space. Returns `None` if the text doesn't
+/// begin with `{{`.
 pub fn expression_start(s: &str) -> Option<&str>
     ensures opens { IfSome result (λ start. OpensExpression s.now start.now) }
     ensures shorter { IfSome result (λ start. length start.now < length s.now) }
@@ -96,7 +97,7 @@ pub fn expression_start(s: &str) -> Option<&str>
     }
 }
 
-/// What follows an expression's end and the white space before it. None where none stands here.
+/// Returns what follows an expression's end and the white space before it. Returns `None` if no expression ends here.
 pub fn expression_end(s: &str) -> Option<&str>
     ensures closes { IfSome result (λ rest. ClosesExpression s.now rest.now) }
     ensures shorter { IfSome result (λ rest. length rest.now < length s.now) }
@@ -104,7 +105,8 @@ pub fn expression_end(s: &str) -> Option<&str>
     closer(skip_white(s), b'}')
 }
 
-/// The literal or the name that a value begins with, and what follows it. None where no value begins.
+/// Returns the literal or the name that a value begins with, and what follows it. Returns `None` if no value begins
+/// here.
 pub fn value_head(s: &str) -> Option<(Head<'_>, &str)>
     ensures found { MatchOption result (¬ (Begins ValueRule s.now)) (λ p. HasHead s.now p.0 p.1.now) }
     ensures only { (rest : List ℕ) (v : Value) → ValueRule s.now rest v
@@ -114,8 +116,8 @@ pub fn value_head(s: &str) -> Option<(Head<'_>, &str)>
     read_head(s)
 }
 
-/// The beginning of the next index of a variable inside as many open brackets, and what follows it.
-/// None where no index is left.
+/// Returns the beginning of the next index of a variable inside this many open brackets, and what follows it. Returns
+/// `None` if no index is left.
 pub fn next_index<'a>(s: &'a str, depth: usize) -> Option<(IndexStart<'a>, &'a str)>
     ensures only { (rest : List ℕ) (is : List Index) → Repeated IndexRule s.now rest is
         → (0 < depth → Begins CloseBracket rest)
@@ -132,12 +134,12 @@ pub fn next_index<'a>(s: &'a str, depth: usize) -> Option<(IndexStart<'a>, &'a s
             let _ = bracketed(s)?;
             Some((IndexStart::Bracket, bracket::open_bracket(s)?))
         }
-        // Inside brackets what begins with one is an index: else nothing would close them.
+        // Inside brackets, a bracket here begins an index: otherwise nothing would close the open ones.
         None => Some((IndexStart::Bracket, bracket::open_bracket(s)?)),
     }
 }
 
-/// What follows a close bracket and the white space before it.
+/// Returns what follows a close bracket and the white space before it.
 pub fn close_bracket(s: &str) -> Option<&str>
     ensures found { MatchOption result (¬ (Begins CloseBracket s.now)) (λ rest. (byte : ℕ) × CloseBracket s.now rest.now byte) }
     ensures only { (rest : List ℕ) (byte : ℕ) → CloseBracket s.now rest byte → MatchOption result ⊥ (λ after. after.now ≡ rest) }
@@ -146,7 +148,7 @@ pub fn close_bracket(s: &str) -> Option<&str>
     bracket::close_bracket(s)
 }
 
-/// The beginning of the next filter of a chain. None where no filter is left.
+/// Returns the beginning of the next filter of a chain. Returns `None` if no filter is left.
 pub fn next_filter(s: &str) -> Option<FilterStart<'_>>
     ensures only { (rest : List ℕ) (filters : List Filter) → Repeated (Behind 124 FilterRule) s.now rest filters
         → MatchOption result (NoneLeft s.now rest filters)
@@ -158,7 +160,8 @@ pub fn next_filter(s: &str) -> Option<FilterStart<'_>>
     Some(FilterStart { place, name, rest })
 }
 
-/// The beginning of the next filter of an expression's chain, or the expression's end. None where neither stands here.
+/// Returns the beginning of the next filter of an expression's chain, or the expression's end. Returns `None` if
+/// neither is here.
 ///
 /// The white space before both is walked once.
 pub fn chain_step(s: &str) -> Option<ChainStep<'_>>
@@ -177,11 +180,11 @@ pub fn chain_step(s: &str) -> Option<ChainStep<'_>>
     }
 }
 
-/// The beginning of the next argument of a filter, and of its first one behind the filter's name.
-/// None where no argument is left.
+/// Returns the beginning of the next argument of a filter, or of its first one, which follows the filter's name.
+/// Returns `None` if no argument is left.
 ///
-/// The identifier that it begins with is read once: it is the argument's name where a colon and a value stand behind it,
-/// and else what the value begins with.
+/// The identifier that it begins with is read once. It is the argument's name if a colon and a value follow it;
+/// otherwise the value begins with it.
 pub fn next_argument(s: &str, is_first: bool) -> Option<ArgumentStart<'_>>
     ensures only { (rest : List ℕ) (arguments : List Argument) → ArgumentsFrom is_first s.now rest arguments
         → MatchOption result (NoneLeft s.now rest arguments)
@@ -220,7 +223,7 @@ fn separator(is_first: bool) -> u8
     if is_first { b':' } else { b',' }
 }
 
-/// What the value behind a colon begins with, and what follows that.
+/// Returns how the value after a colon begins, and what follows that.
 fn head_behind_colon(s: &str) -> Option<(Head<'_>, &str)>
     ensures value { MatchOption result (¬ (Begins (Behind 58 ValueRule) s.now)) (λ p. HasColon s.now p.0 p.1.now) }
     ensures shorter { IfSome result (λ p. length p.1.now < length s.now) }
@@ -228,7 +231,7 @@ fn head_behind_colon(s: &str) -> Option<(Head<'_>, &str)>
     value_head(behind(s, b':')?)
 }
 
-/// The next token of a tag. None where no token is left.
+/// Returns the next token of a tag. Returns `None` if no token is left.
 pub fn next_token(s: &str) -> Option<TokenText<'_>>
     ensures only { (rest : List ℕ) (tokens : List Token) → Repeated (White ▷ TokenRule) s.now rest tokens
         → MatchOption result (NoneLeft s.now rest tokens)
@@ -246,7 +249,8 @@ pub fn next_token(s: &str) -> Option<TokenText<'_>>
     })
 }
 
-/// What the token that stands here is made of, and what follows it. Its first byte tells which of them it can be.
+/// Returns the parts of the token that begins here, and what follows it. The first byte decides which of them it can
+/// be.
 fn token_parts(place: &str) -> Option<(TokenParts<'_>, &str)>
     ensures value { MatchOption result (¬ (Begins TokenRule place.now))
         (λ p. (token : Token) × TokenRule place.now p.1.now token × HasParts p.0 place.now p.1.now token) }

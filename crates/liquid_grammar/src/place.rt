@@ -2,7 +2,8 @@
 ghost use Rattle.std.specs.Prelude.{◌≡◌};
 ghost use Rattle.liquid_grammar.specs.meaning.Place as spec;
 
-/// The line and the column of the place behind this text, both from 1. Lines are counted by line feeds, columns in characters.
+/// Returns the line and the column of the place after this text, both from 1. Lines are counted by line feeds, columns
+/// in characters.
 pub fn line_and_column(front: &str) -> (usize, usize)
     ensures { result ≡ spec.line_and_column front.now }
 {

@@ -7,7 +7,7 @@ ghost use Rattle.memchr.specs.Find.{IsFirst, Passes, is_byte};
 use crate::bytes::{byte_at, is_white};
 use memchr::memchr;
 
-/// How many bytes stand before the first place where an opener begins, or all.
+/// Returns the number of bytes before the first place where an opener begins, or of all bytes.
 ///
 /// The bytes between two open braces are passed once, by vectors, and those of the white space before a dashed opener
 /// once more.
@@ -16,14 +16,14 @@ pub(crate) fn raw_len(s: &str) -> usize
     ensures ends { EndsRaw s.now result }
 {
     let bytes = s.as_bytes();
-    // Most calls follow an element, behind which an opener stands at once.
+    // Most calls follow an element, and an opener often comes next at once.
     if !bytes.is_empty() && begins_braces(bytes, 0) {
         return 0;
     }
     let mut from = 0;
     'braces: while let Some(brace) = next_brace(bytes, from) {
         if begins_braces(bytes, brace) {
-            // White space before an opener is the opener's where a dash follows the braces.
+            // White space before an opener belongs to the opener if a dash follows the braces.
             if byte_at(bytes, brace + 2) == b'-' {
                 return white_start(bytes, from, brace);
             }
@@ -34,7 +34,7 @@ pub(crate) fn raw_len(s: &str) -> usize
     bytes.len()
 }
 
-/// The first `{` at this place or behind it.
+/// Returns the first `{` at this place or after it.
 fn next_brace(bytes: &[u8], from: usize) -> Option<usize>
     requires { from ≤ length bytes.now }
     ensures first { IsFirst (Passes (is_byte 123) bytes.now) from (length bytes.now) result }
@@ -44,7 +44,7 @@ fn next_brace(bytes: &[u8], from: usize) -> Option<usize>
     Some(from + brace)
 }
 
-/// Where the white space that ends at `end` begins, not before `from`.
+/// Returns where the white space that ends at `end` begins, not before `from`.
 fn white_start(bytes: &[u8], from: usize, end: usize) -> usize
     requires order { from ≤ end }
     requires fits { end ≤ length bytes.now }

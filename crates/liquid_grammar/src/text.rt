@@ -7,7 +7,7 @@ ghost use Rattle.liquid_grammar.specs.steps.Steps.{Splits, Leaves};
 
 use crate::bytes::is_white;
 
-/// What follows this byte, where the text begins with it.
+/// Returns what follows this byte, if the text begins with it.
 #[inline]
 pub(crate) fn eat(s: &str, byte: u8) -> Option<&str>
     requires { byte < 128 }
@@ -22,7 +22,7 @@ pub(crate) fn eat(s: &str, byte: u8) -> Option<&str>
     }
 }
 
-/// The white space that the text begins with, and what follows it.
+/// Returns the white space that the text begins with, and what follows it.
 #[inline]
 #[tactic(auto, unfolding(crate::specs::steps::Steps::white))]
 pub(crate) fn split_white(s: &str) -> (&str, &str)
@@ -32,7 +32,7 @@ pub(crate) fn split_white(s: &str) -> (&str, &str)
     s.split_at(white_len(s.as_bytes()))
 }
 
-/// What follows white space.
+/// Returns what follows white space.
 #[inline]
 pub(crate) fn skip_white(s: &str) -> &str
     ensures value { Leaves (Some result) (read.white s.now) }
@@ -41,7 +41,7 @@ pub(crate) fn skip_white(s: &str) -> &str
     split_white(s).1
 }
 
-/// The beginning of the text before this end of it.
+/// Returns the beginning of the text before this end of it.
 #[inline]
 pub(crate) fn before<'a>(s: &'a str, rest: &str) -> &'a str
     requires within { length rest.now ≤ length s.now }

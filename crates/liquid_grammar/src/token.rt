@@ -18,7 +18,7 @@ use crate::opener::{closer, opener};
 use crate::text::{eat, skip_white};
 use crate::value::value;
 
-/// A tag that was matched: the texts from its name on and from behind it on, its first fault, and what follows it.
+/// A tag that was matched: the text from its name on, the text after its name, its first fault, and what follows it.
 #[derive(Clone, Copy)]
 pub(crate) struct TagMatch<'a> {
     pub(crate) place: &'a str,
@@ -28,7 +28,7 @@ pub(crate) struct TagMatch<'a> {
     pub(crate) rest: &'a str,
 }
 
-/// The tag that the text begins with.
+/// Matches the tag that the text begins with.
 #[tactic(auto, unfolding(crate::specs::steps::TokenSteps::tag))]
 pub(crate) fn tag<'a>(s: &'a str) -> Option<TagMatch<'a>>
     ensures value { SeesTag (option_map (λ t. (t.name, t.tokens, t.fault, t.rest)) result) (read.tag s.now) }
@@ -46,7 +46,7 @@ pub(crate) fn tag<'a>(s: &'a str) -> Option<TagMatch<'a>>
     })
 }
 
-/// The text from the name on of the tag that may begin here, the name, and what follows it.
+/// Returns the text from the name on of a tag that may begin here, the name, and what follows it.
 #[tactic(auto, unfolding(crate::specs::steps::TokenSteps::tag_start), using(crate::proofs::PartLemmas::identifier_joined))]
 fn tag_start(s: &str) -> Option<(&str, &str, &str)>
     ensures value { Splits (option_map (λ p. (p.1, p.2)) result) (read.tag_start s.now) }
@@ -58,8 +58,8 @@ fn tag_start(s: &str) -> Option<(&str, &str, &str)>
     Some((place, name, rest))
 }
 
-/// The expression that the text begins with: the text from its chain on, the chain's kind, its first fault, and what
-/// follows it.
+/// Matches the expression that the text begins with. Returns the text from its chain on, the chain's kind, its first
+/// fault, and what follows it.
 #[inline(always)]
 #[tactic(auto, unfolding(crate::specs::steps::TokenSteps::full_expression, crate::specs::steps::TokenSteps::chain_of))]
 pub(crate) fn expression<'a>(
@@ -82,7 +82,7 @@ fn expression_start(s: &str) -> Option<&str>
     Some(skip_white(opener(s, b'{')?))
 }
 
-/// The first fault of all tokens that stand here, each behind white space or none.
+/// Matches all tokens, each after white space or none. Returns their first fault and what follows them.
 fn tokens<'a>(s: &'a str) -> (Option<Fault<'a>>, &'a str)
     ensures value { Scans (first_fault token_fault) (Some result) (read.repeated (step.right step.white read.token) s.now) }
     ensures shorter { length result.1.now ≤ length s.now }
@@ -103,7 +103,7 @@ fn next_token<'a>(s: &'a str) -> Option<(Option<Fault<'a>>, &'a str)>
     token(skip_white(s))
 }
 
-/// The first fault of the token that stands here, and what follows it. Its first byte tells which of them it can be.
+/// Matches a token. Returns its first fault and what follows it. The first byte decides which token it can be.
 pub(crate) fn token<'a>(s: &'a str) -> Option<(Option<Fault<'a>>, &'a str)>
     ensures value { Scans token_fault result (read.token s.now) }
     ensures shorter { IfSome result (λ x. length x.1.now < length s.now) }
@@ -126,7 +126,7 @@ pub(crate) fn range<'a>(s: &'a str) -> Option<(Option<Fault<'a>>, &'a str)>
     Some((fault, rest))
 }
 
-/// The texts from the two values of a range on, its first fault, and what follows it.
+/// Returns the texts from the two values of a range on, its first fault, and what follows it.
 #[inline(always)]
 pub(crate) fn range_parts<'a>(s: &'a str) -> Option<(&'a str, &'a str, Option<Fault<'a>>, &'a str)>
     ensures value { Scans range_fault (option_map (λ p. (p.2, p.3)) result) (read.ranged s.now) }
@@ -165,7 +165,7 @@ fn dots(s: &str) -> Option<&str>
     Some(skip_white(eat(eat(skip_white(s), b'.')?, b'.')?))
 }
 
-/// What follows the longest symbol that stands here.
+/// Returns what follows the longest symbol that the text begins with.
 #[tactic(auto, unfolding(crate::specs::steps::TokenSteps::symbol_of))]
 pub(crate) fn symbol(s: &str) -> Option<&str>
     ensures value { Leaves result (read.symbol_of s.now) }

@@ -16,7 +16,7 @@ use crate::kind::TokenKind;
 use crate::name::{identifier, name};
 use crate::text::eat;
 
-/// The first fault of the value that the text begins with, and what follows it.
+/// Matches the value that the text begins with. Returns its first fault and what follows it.
 #[inline(always)]
 pub(crate) fn value<'a>(s: &'a str) -> Option<(Option<Fault<'a>>, &'a str)>
     ensures value { Scans value_fault result (read.value s.now) }
@@ -26,7 +26,7 @@ pub(crate) fn value<'a>(s: &'a str) -> Option<(Option<Fault<'a>>, &'a str)>
     Some((fault, rest))
 }
 
-/// The same with the kind of the value.
+/// Does the same, and also returns the kind of the value.
 #[inline(always)]
 pub(crate) fn value_and_kind<'a>(s: &'a str) -> Option<(TokenKind<'a>, Option<Fault<'a>>, &'a str)>
     ensures kind { FindsValueKind (option_map (λ p. (p.0, p.2)) result) (read.value s.now) }
@@ -49,9 +49,10 @@ pub(crate) fn value_and_kind<'a>(s: &'a str) -> Option<(TokenKind<'a>, Option<Fa
     }
 }
 
-/// The kind and the first fault of the variable with this name, and what follows it.
+/// Matches the indexes of the variable with this name. Returns the kind and the first fault of the variable, and what
+/// follows it.
 ///
-/// It stands apart, so that no room is made for indexes where a name has none.
+/// It is a function of its own, so that no room is made for indexes if a name has none.
 #[inline(never)]
 fn indexed<'a>(name: &'a str, rest: &'a str) -> (TokenKind<'a>, Option<Fault<'a>>, &'a str)
     ensures kind { (s : List ℕ) → None ≡ read.literal s → Some (name.now, rest.now) ≡ step.name s
@@ -76,7 +77,7 @@ pub(crate) fn variable<'a>(s: &'a str) -> Option<(Option<Fault<'a>>, &'a str)>
     Some(indexes(name(s)?.1))
 }
 
-/// The first fault of all indexes that stand here, and what follows them.
+/// Matches all indexes that begin here. Returns their first fault and what follows them.
 fn indexes<'a>(s: &'a str) -> (Option<Fault<'a>>, &'a str)
     ensures value { Scans (λ x. indexes_fault 0 (gather x)) (Some result) (read.repeated (read.index_over read.value) s.now) }
     ensures shorter { length result.1.now ≤ length s.now }
@@ -104,7 +105,7 @@ pub(crate) fn index<'a>(s: &'a str) -> Option<(Option<Fault<'a>>, &'a str)>
     }
 }
 
-/// What follows `.` and an identifier.
+/// Returns what follows `.` and an identifier.
 pub(crate) fn named(s: &str) -> Option<&str>
     ensures value { Leaves result (read.named s.now) }
     ensures shorter { IfSome result (λ rest. length rest.now < length s.now) }
@@ -112,7 +113,7 @@ pub(crate) fn named(s: &str) -> Option<&str>
     Some(named_index(s)?.1)
 }
 
-/// The identifier behind `.`, and what follows it.
+/// Returns the identifier after `.`, and what follows it.
 #[tactic(auto, unfolding(crate::specs::steps::TokenSteps::named))]
 pub(crate) fn named_index(s: &str) -> Option<(&str, &str)>
     ensures value { Splits result (read.named s.now) }

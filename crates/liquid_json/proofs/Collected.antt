@@ -41,7 +41,7 @@ none_later name x xs h at = lookup-none _ xs (none_past_head (eq_by_cmp_equiv st
 none_earlier : {V : Type 0} (name : String Global) (x : Entry V) (xs : List (Entry V)) → Ascend (x ∷ xs) → string_cmp name x.0 ≡ Less → found (x ∷ xs) name ≡ None
 none_earlier name x xs h before = lookup-none _ (x ∷ xs) (none_below_head string_cmp_total name x xs h before)
 
--- where each name has the same value in both, the first names are the same
+-- if each name has the same value in both, the first names are the same
 first_name : {V : Type 0} (o : Ordering) (x y : Entry V) (xs ys : List (Entry V)) → string_cmp x.0 y.0 ≡ o → Ascend (x ∷ xs) → Ascend (y ∷ ys) → SameFound (x ∷ xs) (y ∷ ys) → string_cmp x.0 y.0 ≡ Equal
 first_name Less x y xs ys is h k same = absurd (none-some x.1 (sym (none_earlier x.0 y ys k is) ∙ sym (same x.0) ∙ found_first x xs))
 first_name Equal x y xs ys is h k same = is

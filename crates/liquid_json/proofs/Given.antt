@@ -1,4 +1,4 @@
--- A walk over the items of an array, or the members of an object, of which some are values by now.
+-- A walk over the items of an array, or the members of an object, some of which are values already.
 use Rattle.std.proofs.Common.{◌≡◌, ℕ, List, [], ◌∷◌, ◌++◌, Result, Ok, Err, Option, Some, None, String, Global, map, length, string_bytes, refl, sym, ap, ◌∙◌, arith}
 use Rattle.std.specs.Map.{keys_of}
 use Rattle.std.specs.Prelude.{IfSome}
@@ -22,7 +22,7 @@ pub joined : List Tree → Items → Items
 joined [] ts = ts
 joined (x ∷ xs) ts = item x (joined xs ts)
 
--- what the items left come to, behind those that are values by now
+-- what the items that are left give, after those that are values already
 pub after_items : List Tree → Result Items Refusal → Result Items Refusal
 after_items done rest = ok_then rest (λ ts. Ok (joined done ts))
 

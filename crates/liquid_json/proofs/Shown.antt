@@ -29,7 +29,7 @@ unfolding members_of
 members_shown_of [] = refl
 members_shown_of (e ∷ es) = ap (json.member (string_bytes e.0) (value_shown (view e.1))) (members_shown_of es)
 
--- entries that are by name the same have the same members
+-- entries that are the same by name have the same members
 pub json_members_by_name : (xs ys : List (String Global × Json)) → map named xs ≡ map named ys → json_members xs ≡ json_members ys
 json_members_by_name xs ys same =
     json_members_of xs ∙ ap members_of (sym (map-map viewed named xs) ∙ ap (map viewed) same ∙ map-map viewed named ys) ∙ sym (json_members_of ys)

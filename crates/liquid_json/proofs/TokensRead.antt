@@ -1,4 +1,4 @@
--- The tokens of a text, of which some are values by now.
+-- The tokens of a text, some of which are values already.
 use Rattle.std.proofs.Common.{◌≡◌, ℕ, ℤ, pos, negsuc, ◌^◌, SFits, w64, lt-ltb, List, [], ◌∷◌, ◌++◌, Option, Some, None, Result, Ok, Err, Ordering, Less, Equal, Greater, nat_cmp, map, option_and_then, String, BTreeMap, Global, string_bytes, refl, sym, ap, ◌∙◌, arith, rules}
 use Rattle.std.proofs.lemmas.List.{map-append}
 use Rattle.std.specs.Cmp.Lexicographic.{slice_cmp}
@@ -24,7 +24,7 @@ use Rattle.liquid_json.proofs.Given.{joined, joined_none, joined_last, joined_al
 
 -- ---- the items of an array
 
--- items behind others
+-- items after others
 abbrev pub behind : List json.Json → json.Items → json.Items
 behind [] rest = rest
 behind (j ∷ js) rest = json.item j (behind js rest)
@@ -60,7 +60,7 @@ all_made js vs made = rw (← joined_all (map view vs)) (made json.no_items no_i
 
 -- ---- the members of an object
 
--- members behind others
+-- members after others
 abbrev pub put_behind : List (List ℕ × json.Json) → json.Members → json.Members
 put_behind [] rest = rest
 put_behind (e ∷ es) rest = json.member e.0 e.1 (put_behind es rest)
@@ -78,7 +78,7 @@ pub put_behind_more : (es : List (List ℕ × json.Json)) (k : List ℕ) (j : js
 put_behind_more es k j None = refl
 put_behind_more es k j (Some p) = ap (λ more. Some (more, p.1)) (put_behind_one_more es k j p.0)
 
--- whatever follows them, the members read are put in as these
+-- whatever follows them, the members that were read are put in as these
 abbrev pub ArePut : List (List ℕ × json.Json) → read.Members → Type 0
 ArePut es ds = (rest : json.Members) → of_members (put_behind es rest) read.no_members ≡ of_members rest ds
 
@@ -114,7 +114,7 @@ in_order_made Less a b c x y z first second third = first
 in_order_made Equal a b c x y z first second third = second
 in_order_made Greater a b c x y z first second third = third
 
--- a member that is put into those that are values by now
+-- a member that is put into those that are values already
 pub put_made : (k : List ℕ) (d : read.Data) (t : Tree) (ds : read.Members) (ts : Members) → value_given d ≡ Ok t → members_given ds ≡ Ok ts → members_given (put k d ds) ≡ Ok (put_member k t ts)
 put_made k d t read.no_members ts is done = member_made k d t read.no_members no_members is refl ∙ ap (λ us. Ok (put_member k t us)) (ok_is no_members ts _ refl done)
 put_made k d t (read.member l e ds) ts is done =
@@ -123,7 +123,7 @@ put_made k d t (read.member l e ds) ts is done =
     (member_made l e p.0 (put k d ds) (put_member k t p.1) p.2 (put_made k d t ds p.1 is p.3)) in
     all ∙ ap (λ us. Ok (put_member k t us)) p.4
 
--- ---- a whole number of 64 bits with a sign is given as itself
+-- ---- a signed whole number of 64 bits is given as itself
 
 pub whole_given : (n : ℤ) → SFits w64 n → value_given (read.number (of_integer n)) ≡ Ok (scalar (integer n))
 whole_given (pos n) fits = rw (lt-ltb n (2 ^ 63) (grind arith)) refl

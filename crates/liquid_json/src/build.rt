@@ -21,11 +21,11 @@ pub(crate) fn object_in_order(
     entries.into_iter().collect(alloc)
 }
 
-/// Up to how many items of an array stay the value's own.
+/// The greatest number of items with which an array stays the value's own.
 pub(crate) const FEW_ITEMS: usize = 2;
 
-/// Returns an array as a value whose copies share it. One of few items stays the value's own: the block of memory that it
-/// takes to share them is dearer than they are.
+/// Returns the array as a value whose copies share it. An array of few items stays the value's own: a block of memory
+/// to share them costs more than they do.
 #[inline(always)]
 pub(crate) fn value_of_array(alloc: Global, items: Array) -> Result<Value, AllocError>
     ensures { IfOk result (λ value. view value ≡ array (items_view items.items)) }

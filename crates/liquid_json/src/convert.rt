@@ -1,4 +1,4 @@
-//! JSON as values, from its kinds to the kinds of values.
+//! Conversions from JSON to values, from kind to kind.
 ghost use Rattle.std.specs.Prelude.{◌≡◌, IfOk, map, string_bytes};
 ghost use Rattle.serde_json.specs.View.{view as json_view, items_view as json_items, members_view as json_members};
 ghost use Rattle.liquid_error.specs.meaning.Told.{Gives};
@@ -13,21 +13,22 @@ use liquid_value::{Array, Object, SharedObject, Value};
 use serde_json::{Map, Value as Json};
 use std::alloc::Global;
 
-/// The value that JSON is: null is nil, and truth values, texts, arrays and objects are the values of
-/// their kind. Texts are copied.
+/// Returns the value of JSON: null is nil, and truth values, texts, arrays and objects are the values of their kind.
+/// Texts are copied.
 ///
-/// Refuses a whole number past 2^63 - 1 with "Cannot fit number" and any other number with
-/// "Fractional number": the first one, where items go in order and members in the order of their keys.
+/// A whole number from 2^63 to 2^64 - 1 is the error "Cannot fit number", and a number that is kept as a float is
+/// "Fractional number". The first error is returned: items are converted in order, and members in the order of their
+/// keys.
 pub fn to_value(alloc: Global, json: &Json) -> Result<Value>
     ensures { Gives view result (value_given (json_view json.now)) }
 {
     into_value(alloc, json.clone()?)
 }
 
-/// The object of an object's members, as `to_value` gives them. Texts are copied.
+/// Returns the object of an object's members, as `to_value` gives them. Texts are copied.
 ///
-/// Refuses what `to_value` refuses of a member, an array with "Object cannot be an array.", and
-/// anything else with "Object cannot be a scalar.".
+/// The errors of members are those of `to_value`. An array is the error "Object cannot be an array.", and anything else
+/// is "Object cannot be a scalar.".
 pub fn to_object(alloc: Global, json: &Json) -> Result<Object>
     ensures { Gives (λ object. members_view object.entries) result (object_given (json_view json.now)) }
 {
@@ -38,7 +39,7 @@ pub fn to_object(alloc: Global, json: &Json) -> Result<Object>
     }
 }
 
-/// The value that JSON is, as `to_value` gives it, with the texts of the JSON that it takes apart.
+/// Returns the value of JSON, as `to_value` gives it, with the texts of the JSON that it takes apart.
 #[cycle(convert)]
 pub fn into_value(alloc: Global, json: Json) -> Result<Value>
     ensures { Gives view result (value_given (json_view json)) }
@@ -59,8 +60,7 @@ pub fn into_value(alloc: Global, json: Json) -> Result<Value>
     }
 }
 
-/// The object of an object's members, as `to_object` gives it, with the texts of the JSON that it
-/// takes apart.
+/// Returns the object of an object's members, as `to_object` gives it, with the texts of the JSON that it takes apart.
 pub fn into_object(alloc: Global, json: Json) -> Result<Object>
     ensures { Gives (λ object. members_view object.entries) result (object_given (json_view json)) }
 {

@@ -1,4 +1,4 @@
-//! JSON texts as objects, each token turned into its value as it is read.
+//! JSON texts read as objects. Each token is turned into its value as it is read.
 ghost use Rattle.std.specs.Prelude.{◌≡◌, ◌<◌, ◌==◌, [], ◌∷◌, ◌++◌, Some, None, Result, Ok, true, false, length, slice_index};
 ghost use Rattle.std.specs.Prelude.{IfOk, IfErr, IfSome, IsTrue, OnOk};
 ghost use Rattle.json.specs.Json.{value as json_value, items as json_items, members as json_members};
@@ -22,7 +22,7 @@ use liquid_value::{Array, Object, SharedObject, Value};
 use serde_json::{Error, Value as Json};
 use std::alloc::{AllocError, AllocFailed, Global};
 
-/// How many arrays and objects may stand in one another, as `serde_json` has it.
+/// The greatest number of nested arrays and objects, as in `serde_json`.
 const MOST_NESTED: usize = 127;
 
 /// Why a text is not read token by token.
@@ -50,12 +50,13 @@ impl<T: Drop> From<AllocFailed<T>> for Unread {
     }
 }
 
-/// The object that a text of JSON is, as `to_object` gives it of what `serde_json` reads: where a name comes
-/// twice, its last value stays. The inner answer is a refusal of `to_object`; the outer one says that the text
-/// is no JSON, and where.
+/// Reads the object of a text of JSON, as `to_object` gives it for what `serde_json` reads.
 ///
-/// Each value is made as its text is read, with no `serde_json::Value` before it. A text in which there is
-/// anything to refuse is read again from its beginning, for the refusal.
+/// If a name occurs twice, its last value is kept. The inner result has an error of `to_object`. The outer error says
+/// that the text is not JSON, and where.
+///
+/// Each value is made as its text is read, with no `serde_json::Value` before it. A text with an error is read again
+/// from its beginning, to find the error.
 pub fn object_from_str(alloc: Global, text: &str) -> Result<Answer<Object>, Error>
     ensures read { IfOk result (λ answer. (meant : Result Members Refusal) × (object_read text.now ≡ Some meant)
         × Gives (λ object. members_view object.entries) answer meant) }
@@ -69,7 +70,7 @@ pub fn object_from_str(alloc: Global, text: &str) -> Result<Answer<Object>, Erro
     }
 }
 
-/// The object that the whole text is.
+/// Reads the object that the whole text is.
 fn read_object(alloc: Global, text: &str, scratch: &mut Scratch) -> Result<Object, Unread>
     ensures { IfOk result (λ object. object_read text.now ≡ Some (Ok (members_view object.entries))) }
 {
@@ -84,9 +85,9 @@ fn read_object(alloc: Global, text: &str, scratch: &mut Scratch) -> Result<Objec
     }
 }
 
-/// The value that begins at the next token, in which at most `depth` arrays and objects stand in one another.
+/// Reads the value that begins at the next token, with at most `depth` nested arrays and objects.
 ///
-/// It is inlined, so that an item or a member is made where it is wanted and moved no further.
+/// It is inlined, so that an item or a member is made in its place and not moved.
 #[inline(always)]
 #[cycle(read)]
 fn read_value(alloc: Global, reader: &mut Reader<'_>, depth: usize) -> Result<Value, Unread>
@@ -120,7 +121,7 @@ fn read_value(alloc: Global, reader: &mut Reader<'_>, depth: usize) -> Result<Va
     }
 }
 
-/// The items up to the bracket that closes their array.
+/// Reads the items up to the bracket that closes their array.
 #[cycle(read)]
 fn read_items(alloc: Global, reader: &mut Reader<'_>, depth: usize) -> Result<Array, Unread>
     ensures read { IfOk result
@@ -135,7 +136,7 @@ fn read_items(alloc: Global, reader: &mut Reader<'_>, depth: usize) -> Result<Ar
     Ok(values)
 }
 
-/// Puts an item behind the others. The first one makes room for no more than `FEW_ITEMS`.
+/// Adds an item after the others. The first one makes room for no more than `FEW_ITEMS`.
 #[inline(always)]
 fn push_item(values: &mut Array, value: Value) -> Result<(), Unread>
     ensures { OnOk result (values.new.items ≡ values.old.items ++ value ∷ []) }
@@ -147,7 +148,7 @@ fn push_item(values: &mut Array, value: Value) -> Result<(), Unread>
     Ok(())
 }
 
-/// The members up to the brace that closes their object.
+/// Reads the members up to the brace that closes their object.
 #[cycle(read)]
 fn read_members(alloc: Global, reader: &mut Reader<'_>, depth: usize) -> Result<Object, Unread>
     ensures read { IfOk result
@@ -164,7 +165,7 @@ fn read_members(alloc: Global, reader: &mut Reader<'_>, depth: usize) -> Result<
     Ok(object)
 }
 
-/// The whole number that a token of JSON writes, where it is one of 64 bits with a sign. `-0` is none.
+/// Returns the whole number that a token of JSON writes, if it is a signed one of 64 bits. `-0` is not.
 fn whole_number(text: &str) -> Option<i64>
     ensures { IfSome result (λ n. number_of text.now ≡ Some (of_integer n)) }
 {

@@ -1,4 +1,4 @@
-//! JSON as scalars.
+//! Conversions from JSON to scalars.
 ghost use Rattle.std.specs.Prelude.{ℤ, string_bytes};
 ghost use Rattle.serde_json.specs.View.{view as json_view, number_view};
 ghost use Rattle.liquid_error.specs.meaning.Told.{Gives};
@@ -10,10 +10,10 @@ use liquid_scalar::Scalar;
 use serde_json::{Number, Value as Json};
 use std::alloc::Global;
 
-/// The scalar of a truth value, a text or a whole number, whose text is copied.
+/// Returns the scalar of a truth value, a text or a whole number. A text is copied.
 ///
-/// Refuses a whole number past 2^63 - 1 with "Cannot fit number", any other number with "Fractional
-/// number", and null, an array and an object with "Scalar must be a string.".
+/// A whole number from 2^63 to 2^64 - 1 is the error "Cannot fit number", and a number that is kept as a float is
+/// "Fractional number". Null, an array and an object are "Scalar must be a string.".
 pub fn to_scalar(alloc: Global, json: &Json) -> Result<Scalar>
     ensures { Gives (scal string_bytes) result (scalar_given (json_view json.now)) }
 {
@@ -27,7 +27,7 @@ pub fn to_scalar(alloc: Global, json: &Json) -> Result<Scalar>
     }
 }
 
-/// The whole number that a number is. Refuses one past 2^63 - 1, and every other number.
+/// Returns the whole number that a number is. Fails for one past 2^63 - 1, and for every other number.
 pub(crate) fn integer(alloc: Global, number: &Number) -> Result<i64>
     ensures { Gives (λ (n : ℤ). n) result (number_given (number_view number.now)) }
 {

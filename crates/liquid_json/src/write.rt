@@ -1,4 +1,4 @@
-//! Values as JSON.
+//! Conversions from values to JSON.
 ghost use Rattle.std.specs.Prelude.{◌≡◌, IfOk, map, string_bytes};
 ghost use Rattle.std.specs.List.Sorted.{IsStrictlySortedBy};
 ghost use Rattle.std.specs.Map.{keys_of};
@@ -15,9 +15,10 @@ use liquid_value::{Array, Object, Value};
 use serde_json::{Map, Value as Json};
 use std::alloc::{AllocError, Global};
 
-/// The JSON that shows a value: a scalar whose `to_integer` is there is that number, so the text `42`
-/// is the number 42; a truth value is itself, and every other scalar its text; arrays and objects go
-/// item by item; states and nil are null.
+/// Returns the JSON that shows a value.
+///
+/// A scalar with a `to_integer` is that number, so the text `42` is the number 42. A truth value is itself, and every
+/// other scalar is its text. Arrays and objects are converted item by item. States and nil are null.
 #[cycle(write)]
 pub fn from_value(alloc: Global, value: &Value) -> Result<Json, AllocError>
     ensures { IfOk result (λ json. json_view json ≡ value_shown (view value.now)) }
@@ -66,7 +67,7 @@ fn from_members(alloc: Global, members: &Object) -> Result<Map<String, Json>, Al
     map_in_order(alloc, from_entries(alloc, members)?)
 }
 
-// The entries, shown, in the order of their names.
+// Shows the entries in the order of their names.
 #[cycle(write)]
 fn from_entries(alloc: Global, members: &Object) -> Result<Vec<(String, Json)>, AllocError>
     ensures shown { IfOk result (λ entries. map json_entry entries.items ≡ map shown_entry members.now.entries) }

@@ -1,4 +1,4 @@
--- From the contracts of the calls below to what a page comes to.
+-- From the contracts of the calls below to the result of a page.
 use Rattle.std.proofs.Common.{◌≡◌, ℕ, Bool, List, Option, None, Some, Result, Ok, Err, refl, sym, ap, subst, ◌∙◌}
 use Rattle.std.specs.Prelude.{IfSome}
 use Rattle.liquid_error.specs.declared.error.Error.{Error}
@@ -42,12 +42,12 @@ module _ {F T P L B Q : Type 0} (s : Settings F T P B Q) (l : Lang F T L B) wher
             (subst (λ t. RenderedBy (page_action s sandboxed t names) answer v before after left result) (same_stored ∙ one_found partials found other is_found is_other) given));
       }
 
-  -- an answer that is these nodes
+  -- a result that is these nodes
   pub nodes_over : (options : PageOptions) (answer nodes : PageAnswer F T B) (names : Names) (partials : Option Texts) (before after : Sunk) (result : Result (Unit {0}) Error)
       → answer ≡ nodes → RendersAnswer s l options nodes names partials before after result → RendersAnswer s l options answer names partials before after result
   nodes_over options answer nodes names partials before after result is renders = subst (λ a. RendersAnswer s l options a names partials before after result) (sym is) renders
 
-  -- where memory runs out before anything is written, that is an outcome of each rendering
+  -- memory that runs out before anything is written is an outcome of each rendering
   nothing_comes : (options : PageOptions) (names : Names) (at : Sunk) (error : Error) → told error ≡ None → (answer : PageAnswer F T B) (found : Option (Found F T B))
       → RenderedBy (page_action s options.sandboxed found names) answer (first_view options names) at at (first_view options names) (Err error)
   nothing_comes options names at error memory (Ok nodes) found =
@@ -60,12 +60,12 @@ module _ {F T P L B Q : Type 0} (s : Settings F T P B Q) (l : Lang F T L B) wher
   nothing_rendered options answer names partials at error memory =
       record { left = first_view options names; rendered = λ found is_found. nothing_comes options names at error memory answer found }
 
-  -- a text that is refused is refused alike
+  -- a text that is refused has the same refusal
   pub refused_alike : (options : PageOptions) (answer : PageAnswer F T B) (names : Names) (partials : Option Texts) (at : Sunk) (error : Error) → IfSome (told error) (λ refusal. answer ≡ Err refusal) → RendersAnswer s l options answer names partials at at (Err error)
   refused_alike options answer names partials at error only =
       record { left = first_view options names; rendered = λ found is_found. RenderedBy-refused (page_action s options.sandboxed found names) answer (first_view options names) at error only }
 
--- a store that was compiled of the partials
+-- a store that was compiled from the partials
 pub found_in : {F T L B : Type 0} (partials : Option Texts) (source texts : Texts) (l k : Lang F T L B) (found : Found F T B)
     → partials ≡ Some source → texts ≡ source → k ≡ l → Compiled k texts found → IsFoundIn l partials (Some found)
 found_in partials source texts l k found is same_texts same_l compiled =

@@ -22,7 +22,7 @@ use Rattle.liquid_pages.specs.meaning.Faults.{Fault, no_text, refused, fault_tol
 use Rattle.liquid_pages.specs.meaning.Pages.{RendersAnswer, Settings}
 use Rattle.liquid_pages.specs.meaning.Shown.{Begins, NodesComeTo, Page, Shows, ended, page_of_run, page_run, stopped}
 
--- bytes that are a text, and bytes that are none
+-- bytes that are a text, and bytes that are not
 pub text_is : (which : PageText) (bytes : List ℕ) → IsUtf8 bytes → text_read which bytes ≡ Ok bytes
 text_is which bytes is = rw (is_utf8-from_IsUtf8 bytes is) refl
 

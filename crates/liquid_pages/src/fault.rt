@@ -23,8 +23,7 @@ impl fmt::Display for PageText {
     }
 }
 
-/// Why a page is not rendered, or not to its end. An `Error` that is out of memory says so wherever it
-/// stands.
+/// Why a page is not rendered, or not to its end. An `Error` that is out of memory says so in whichever variant it is.
 #[derive(Debug, Drop)]
 pub enum PageFault {
     /// This text is not UTF-8.
@@ -33,9 +32,9 @@ pub enum PageFault {
     BadJson(serde_json::Error),
     /// The JSON of the globals is not an object of values.
     NoGlobals(Error),
-    /// The template can't be read.
+    /// The template can't be parsed.
     Unparsed(Error),
-    /// Rendering was refused, or memory ran out.
+    /// Rendering had an error, or memory ran out.
     Refused(Error),
 }
 

@@ -33,7 +33,7 @@ pub fn text_of(bytes: &[u8], which: PageText) -> Result<&str, PageFault>
     }
 }
 
-/// Returns the globals that these bytes give, which are to be a text of JSON.
+/// Returns the globals of these bytes, which must be a text of JSON.
 pub fn globals_in(alloc: Global, bytes: &[u8]) -> Result<Object, PageFault>
     ensures { Returns names_of result (names_read bytes.now) }
 {
@@ -43,7 +43,7 @@ pub fn globals_in(alloc: Global, bytes: &[u8]) -> Result<Object, PageFault>
     }
 }
 
-/// Returns a source of these partials. Of two of one name the later stays.
+/// Returns a source of these partials. Of two with one name the later is kept.
 pub fn partials_in(
     alloc: Global,
     partials: &[PartialBytes<'_>],
@@ -67,7 +67,7 @@ pub fn partials_in(
     Ok(source)
 }
 
-/// Puts a copy of the text under the name, in place of any other there.
+/// Adds a copy of the text under the name, in place of any other there.
 fn put(alloc: Global, source: &mut InMemorySource, name: &str, text: &str) -> Result<(), AllocError>
     ensures { OnOk result (source.new ≡ insert source.old name.now text.now) }
 {

@@ -10,10 +10,10 @@ use liquid_value::Object;
 use serde_json::Category;
 use std::alloc::Global;
 
-/// Returns the globals that a text of JSON gives: the members of its object.
+/// Returns the globals of a text of JSON: the members of its object.
 ///
-/// A text that is not JSON is `BadJson`, and JSON that is not an object of values `NoGlobals`. If memory
-/// runs out, the error is `Refused`.
+/// A text that is not JSON is `BadJson`, and JSON that is not an object of values `NoGlobals`. If memory runs out, the
+/// error is `Refused`.
 pub fn globals_of(alloc: Global, text: &str) -> Result<Object, PageFault>
     ensures { Returns names_of result (globals_read text.now) }
 {

@@ -1,5 +1,5 @@
-//! Pages: a template's text rendered over globals of JSON and partials by their names, in any language
-//! whose tags and blocks may be rendered in a sandbox.
+//! Pages: a template's text, rendered over globals from JSON and named partials, in any language whose tags and blocks
+//! may be rendered in a sandbox.
 #![tactic(auto)]
 
 pub mod fault;

@@ -41,9 +41,9 @@ pub struct Rendered {
 
 /// Renders a page: its template in this language, over globals that are a JSON object, with these partials.
 ///
-/// The texts are read in this order, and the first fault is returned: the template, the globals, and each
-/// partial's name and text are to be UTF-8, and the globals a JSON object of values; then the template is
-/// read, and rendered. What was rendered before an error is in the output.
+/// The texts are read in this order, and the first fault is returned. The template, the globals, and each partial's
+/// name and text must be UTF-8, and the globals a JSON object of values. Then the template is parsed, and rendered.
+/// What was rendered before an error is in the output.
 pub fn render_page<F, T, B>(
     alloc: Global,
     language: &Rc<Language<F, T, B>>,
@@ -124,7 +124,7 @@ where
     }
 }
 
-/// Reads a template and renders it.
+/// Parses a template and renders it.
 fn render_parts<F, T, B>(
     alloc: Global,
     language: &Rc<Language<F, T, B>>,
@@ -151,7 +151,7 @@ where
     }
 }
 
-/// Renders a template that was read.
+/// Renders a parsed template.
 fn render_read<F, T, B>(
     alloc: Global,
     language: &Rc<Language<F, T, B>>,
@@ -188,7 +188,7 @@ where
     }
 }
 
-/// Returns how a page ends whose rendering ended so.
+/// Returns how a page ends when its rendering ends in this way.
 fn ended(answer: Result<(), Error>) -> Result<(), PageFault>
     ensures { result ≡ ended answer }
 {

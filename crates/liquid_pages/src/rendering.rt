@@ -32,7 +32,7 @@ pub type PageTemplate<F, T, B> = Template<
 /// A runtime over a store of partials.
 type PageRuntime<S, F, T, B> = BuiltRuntime<(), LazyStore<S, F, T, B>>;
 
-/// Returns the template that a text is read as.
+/// Returns the template of a text.
 pub fn read_template<F, T, B>(
     alloc: Global,
     text: &str,
@@ -52,10 +52,10 @@ where
     }
 }
 
-/// Writes what a text comes to in this language, over these globals and these partials, by these options.
+/// Renders a text in this language, over these globals and these partials, with these options, and writes the result.
 ///
-/// A text that can't be read is refused before anything is written. What was written before any other
-/// error stays written, and a failure of the sink is the error "Failed to render".
+/// A text that can't be parsed is an error before anything is written. What was written before any other error stays
+/// written, and a failure of the sink is the error "Failed to render".
 #[tactic(auto, using(crate::proofs::UntouchedSinks::untouched))]
 pub fn render_text<F, T, B, S, K>(
     alloc: Global,
@@ -89,7 +89,7 @@ where
     }
 }
 
-/// Writes what a template of this language comes to, as `render_text` does of a text.
+/// Renders a template of this language and writes the result, as `render_text` does for a text.
 #[tactic(auto, using(crate::proofs::UntouchedSinks::untouched))]
 pub fn render_template<F, T, B, S, K>(
     alloc: Global,
@@ -129,7 +129,7 @@ where
     }
 }
 
-/// A store of the partials, if there are any, in this language.
+/// Returns a store of the partials, if there are any, in this language.
 fn store_of<F, T, B, S>(
     alloc: Global,
     language: &Rc<Language<F, T, B>>,
@@ -149,7 +149,7 @@ where
     }
 }
 
-/// The runtime over these globals and this store, if there is one, lenient or not.
+/// Returns the runtime over these globals and this store, if there is one, lenient or not.
 fn runtime_of<F, T, B, S>(
     alloc: Global,
     lenient: bool,

@@ -1,4 +1,4 @@
-//! Pages of bytes: what they come to, and which fault comes first.
+//! Pages from bytes: their results, and which fault comes first.
 use crate::fault::{PageFault, PageText};
 use crate::gather::PartialBytes;
 use crate::options::PageOptions;
@@ -38,8 +38,8 @@ fn end_of(rendered: &Rendered) -> &'static str {
     }
 }
 
-/// A row: a template, its globals, the text of partial 0, the name of partial 1, whether names may be
-/// without a value, how the page ends and what is written.
+/// A row: a template, its globals, the text of partial 0, the name of partial 1, whether names may be without a value,
+/// how the page ends and what is written.
 type Row<'a> = (
     &'a [u8],
     &'a [u8],
@@ -130,7 +130,7 @@ static ROWS: [Row<'static>; 13] = [
     ),
 ];
 
-/// Whether a row's page ends as the row says, with what it says written.
+/// Returns `true` if a row's page ends as the row says, with the output of the row.
 fn is_shown(alloc: Global, language: &Rc<PlainLanguage>, row: &Row<'_>) -> bool {
     let (text, globals, first_text, second_name, lenient, end, output) = *row;
     let options = PageOptions {

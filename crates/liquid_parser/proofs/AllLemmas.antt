@@ -22,7 +22,7 @@ module _ {F T P B : Type 0} (l : Lang F T P B) (source end_name : List ℕ) (out
   abbrev Reads : List Element → Result (List (NodeShape F T B) × List Element) Refusal → Type 0
   Reads = AllRead l source end_name outside
 
-  -- what the next node says of all
+  -- what the next node says about all of them
   abbrev Then : Result (Option (List (NodeShape F T B)) × List Element) Refusal → Result (List (NodeShape F T B) × List Element) Refusal → Type 0
   Then (Err r) a = a ≡ Err r
   Then (Ok (None, left)) a = a ≡ Ok ([], left)
@@ -40,12 +40,12 @@ module _ {F T P B : Type 0} (l : Lang F T P B) (source end_name : List ℕ) (out
       let t = subst (λ x. Then x b) h (then_of other) in
       ap (in_front nodes) (same_all more t.1) ∙ sym t.2
 
-  -- how far all are read: in an open block what follows makes the answer, and in a closed one it is there
+  -- how far all are read: in an open block what follows makes the result, and in a closed one the result is there
   abbrev pub Progress : Bool → (es left : List Element) → List (NodeShape F T B) → Type 0
   Progress false es left done = (a : Result (List (NodeShape F T B) × List Element) Refusal) → AllRead l source end_name outside left a → AllRead l source end_name outside es (in_front done a)
   Progress true es left done = AllRead l source end_name outside es (Ok (done, left))
 
-  -- the same of all that covers a text
+  -- the same for all that covers a text
   abbrev pub Onward : List ℕ → Bool → List ℕ → List (NodeShape F T B) → Type 0
   Onward text closed rest done = (es : List Element) → Cover text es → (left : List Element) × Cover rest left × Progress closed es left done
 
@@ -104,7 +104,7 @@ only_ok of l outside nodes block es source end_name s n found a all =
     let here : AllRead l source end_name outside es (Ok (of nodes, found.0)) = subst (λ x. AllRead l x end_name outside es (Ok (of nodes, found.0))) s (subst (λ x. AllRead l block.source.now x outside es (Ok (of nodes, found.0))) n found.2) in
     (found.0, found.1, same_all l source end_name outside all here)
 
--- the same of calls on a cursor, from the one at first to the one now and the next
+-- the same for calls on a cursor, from the one at first to the one now and the next
 module _ {F T P B A : Type 0} (l : Lang F T P B) (outside : ℕ) (of : A → NodeShape F T B) (old now : TagBlock) (passes : Passes old now) where
   here : (es : List Element) (r : Result (Option (List (NodeShape F T B)) × List Element) Refusal) → next_read l now.source.now now.end_name.now outside es ≡ r → next_read l old.source.now old.end_name.now outside es ≡ r
   here es r h =
@@ -150,6 +150,6 @@ module _ {F T P B A : Type 0} (l : Lang F T P B) (outside : ℕ) (of : A → Nod
       let w = Onward-all l old.source.now old.end_name.now outside old.rest.now now.rest.now now.is_closed (all_of found) goes shut es c in
       (w.0, w.1, here_too es _ w.2, shut)
 
--- an open block is no closed one
+-- an open block is not closed
 pub still_closed : {A : Type 0} (old now : TagBlock) → now.is_closed ≡ false → now ≡ old → old.is_closed ≡ true → A
 still_closed old now is_open same shut = let both : false ≡ true = sym is_open ∙ (ap (λ b. TagBlock.is_closed b) same ∙ shut) in cc

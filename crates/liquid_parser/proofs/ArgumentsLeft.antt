@@ -1,4 +1,4 @@
--- What is left of the arguments of a filter, behind those that were built.
+-- What is left of the arguments of a filter, after those that were built.
 use Rattle.std.proofs.Common.{◌≡◌, ℕ, Bool, false, List, [], ◌∷◌, ◌++◌, Option, None, Some, Bor, refl, sym, ap, ◌∙◌, subst}
 use Rattle.std.specs.Prelude.{option_map}
 use Rattle.std.specs.Option.{option_or}
@@ -18,7 +18,7 @@ use Rattle.liquid_parser.proofs.Indexes.{first_none}
 abbrev pub join : Arguments → Arguments → Arguments
 join a b = record { positional = a.positional ++ b.positional; keyword = a.keyword ++ b.keyword }
 
--- one more behind those that were built
+-- one more after those that were built
 abbrev pub with_last : Option (List ℕ) → ExpressionShape → Arguments → Arguments
 with_last (Some name) e a = record a { keyword = a.keyword ++ (name, e) ∷ [] }
 with_last None e a = record a { positional = a.positional ++ e ∷ [] }

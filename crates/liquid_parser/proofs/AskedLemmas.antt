@@ -1,4 +1,4 @@
--- What a tag is asked, from the steps of the parser.
+-- The classification of a tag, from the steps of the parser.
 use Rattle.std.proofs.Common.{◌≡◌, ◌+◌, ◌<◌, arith, ℕ, true, false, List, [], ◌∷◌, ◌++◌, length, Option, Some, None, Result, Ok, Err, refl, sym, ap, ◌∙◌, subst}
 use Rattle.std.specs.Prelude.{IfSome, bytes_eq, map, reverse, nat_lt, codes}
 use Rattle.std.proofs.lemmas.List.{map_push, reverse-append, length-reverse, length-map}
@@ -22,7 +22,7 @@ module _ {F T P B : Type 0} (l : Lang F T P B) (source : List ℕ) (outside : �
   pub other_read : bytes_eq t.0 b.kind.names.end_name ≡ false → list_any (bytes_eq t.0) b.kind.means.dividers ≡ false → tag_read l source outside (b ∷ blocks) nodes t ≡ outer_read l source outside t (b ∷ blocks) nodes
   other_read differs none = rw (differs, none) refl
 
--- an answer that comes of another
+-- a result that follows from another
 pub then_ok : {A C : Type 0} (r : Result C Refusal) (m : Result A Refusal) (k : A → Result C Refusal) (x : A) → r ≡ ok_then m k → m ≡ Ok x → r ≡ k x
 then_ok r m k x e h = e ∙ ap (λ n. ok_then n k) h
 
@@ -35,7 +35,7 @@ pub err_now : {C : Type 0} (told : Option Refusal) (r : Result C Refusal) (x : R
 err_now None r x e h = tt
 err_now (Some y) r x e h = e ∙ ap (λ z. Err z) (sym h)
 
--- the answer of another call
+-- the result of another call
 pub with_outer : {A C : Type 0} (f : A → C) (r m : Result C Refusal) (result : Result A Error) → r ≡ m → Gives f result m → Gives f result r
 with_outer f r m result e h = subst (λ x. Gives f result x) (sym e) h
 

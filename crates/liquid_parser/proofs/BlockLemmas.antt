@@ -1,4 +1,4 @@
--- What the cursor over a block's elements hands out.
+-- What the cursor over a block's elements returns.
 use Rattle.std.proofs.Common.{◌≡◌, ℕ, true, List, [], ◌∷◌, Option, Some, None, Result, Ok, Err, sym, ap, ◌∙◌, subst}
 use Rattle.std.specs.Prelude.{IfSome, if◌then◌else◌, bytes_eq}
 use Rattle.liquid_error.specs.meaning.Refusal.{Refusal, ok_then}
@@ -15,7 +15,7 @@ use Rattle.liquid_parser.specs.meaning.Plugins.{AreTokens}
 use Rattle.liquid_parser.specs.meaning.Reading.{unclosed_by}
 use Rattle.liquid_parser.proofs.EscapeLemmas.{taken}
 
--- an element that is an end tag, or is none
+-- an element that is an end tag, or is not
 module _ (source end_name behind : List ℕ) where
   pub end_tag : (x : Tag) (e : Element) → StandsFor (cursor.Tag x) source behind e → bytes_eq x.name.now end_name ≡ true
       → (t : token.Tag) × AreTokens x.tokens (handed source t) × (or_end source end_name e ≡ ok_then (expect_nothing (handed source t)) (λ _. Ok None))
@@ -58,7 +58,7 @@ none_out source end_name place es o empty c h =
     go None is h = tt
     go (Some r) is h = ap (handed_out source end_name) is ∙ ap (λ x. Err x) (sym h)
 
--- an answer behind an equal one
+-- a result after an equal one
 pub same_fault : {A : Type 0} (o : Option Refusal) (m n : Result A Refusal) → m ≡ n → IfSome o (λ r. n ≡ Err r) → IfSome o (λ r. m ≡ Err r)
 same_fault None m n e h = tt
 same_fault (Some r) m n e h = e ∙ h

@@ -1,4 +1,4 @@
--- Elements that are read up to where no block is open.
+-- Elements that are read until no block is open.
 use Rattle.std.proofs.Common.{◌≡◌, ◌<◌, arith, ℕ, List, [], ◌∷◌, ◌++◌, length, Option, None, Some, Result, Ok, Err, Bor, append_assoc, refl, sym, ap, ◌∙◌, subst}
 use Rattle.std.specs.Prelude.{IfSome, IfOk}
 use Rattle.liquid_error.specs.declared.error.Error.{Error}
@@ -15,7 +15,7 @@ use Rattle.liquid_parser.proofs.ElementLemmas.{unchecked_step}
 use Rattle.liquid_parser.proofs.EscapeLemmas.{past_then, taken}
 
 module _ {F T P B : Type 0} (l : Lang F T P B) (s : List ℕ) (outside : ℕ) where
-  -- the first element, where a block is open
+  -- the first element, if a block is open
   closed_first : (behind : List ℕ) (e : Element) (blocks : List (Open F T P B)) (nodes : List (NodeShape F T B)) (es : List Element) → 0 < length blocks → Cover behind es
       → read_closed l s outside (among blocks nodes) (e ∷ es) ≡ ok_then (advanced l s outside (among blocks nodes) s behind e es) (λ p. read_closed l s outside p.0 p.1)
   closed_first behind e [] nodes es some c = absurd (omega (arith, some))

@@ -1,4 +1,4 @@
--- The elements of the program, as they are handed out and read.
+-- The elements of the program, as they are returned and read.
 use Rattle.std.proofs.Common.{◌≡◌, ℕ, List, [], ◌∷◌, ◌++◌, Option, Some, None, Result, Ok, Err, Bor, refl, sym, ap, ◌∙◌, subst}
 use Rattle.std.specs.Prelude.{IfSome, codes, option_map}
 use Rattle.std.proofs.lemmas.Bool.{eqb-true}
@@ -59,14 +59,14 @@ invalid_text x source behind (raw text) m = absurd m
 invalid_text x source behind (tag_element t text) m = absurd m
 invalid_text x source behind (expression c text) m = absurd m
 
--- what is neither a tag nor an expression has its brace behind its white space
+-- what is neither a tag nor an expression has its brace after its white space
 pub lone_brace_at : (s behind text brace white : List ℕ) → IsElement s behind (invalid text) → White s brace white → brace ≡ 123 ∷ behind
 lone_brace_at s behind text brace white is w =
     let lone = is.kind.brace.match in
     let same : lone.middle ≡ brace = same_rest s lone.middle brace _ _ lone.before w in
     sym same ∙ (lone.after.front ∙ ap (λ b. b ∷ behind) (eqb-true _ 123 lone.after.passes))
 
--- elements are handed over
+-- elements are returned
 module _ (source : Bor (List ℕ)) (s behind : List ℕ) where
   pub raw_over : (t : Bor (List ℕ)) (e : Element) → Means (found.Raw t) e → HandsOver (Ok (cursor.Raw (record { text = t }))) source.now behind e
   raw_over t (raw text) m = (refl, m)

@@ -10,13 +10,13 @@ use Rattle.liquid_parser.specs.meaning.Lang.{Lang, escaped}
 use Rattle.liquid_parser.specs.meaning.Reading.{State, Open, among, inside, step, escape, level_behind, escape_read, finished, unclosed_by}
 use Rattle.liquid_parser.specs.steps.Views.{escaped_body, past_escaped}
 
--- `rest` is left of the body, behind this text, and so many starts wait for their ends
+-- `rest` is left of the body, after this text, and this many starts are without their ends
 pub record Going (body end_name start_name : List ℕ) (nests : Bool) (rest : List ℕ) (level : ℕ) : Type 0 where
   pub so_far : List ℕ
   pub whole : body ≡ so_far ++ rest
   pub onward : (es : List Element) → Cover body es → (left : List Element) × Cover rest left × (escape end_name start_name nests 0 [] es ≡ escape end_name start_name nests level so_far left)
 
--- the first element of what is left, and those behind it
+-- the first element of what is left, and those after it
 pub record Taken (rest behind : List ℕ) (e : Element) (left : List Element) : Type 0 where
   pub others : List Element
   pub is : left ≡ e ∷ others
@@ -72,7 +72,7 @@ module _ (body end_name start_name : List ℕ) (nests : Bool) where
       let none : w.0 ≡ [] = r.only w.0 (subst (λ x. Cover x w.0) empty w.1) ∙ sym (r.only [] done) in
       w.2 ∙ ap (escape end_name start_name nests level g.so_far) none
 
--- a reading that goes on behind each element goes on behind the end of an escaped body
+-- a reading that continues after each element continues after the end of an escaped body
 module _ {F T P B A : Type 0} (l : Lang F T P B) (source : List ℕ) (outside : ℕ) (k : State F T P B → List Element → Result A Refusal)
     (ends : (b : Open F T P B) (blocks : List (Open F T P B)) (level : ℕ) (so_far : List ℕ) → k (inside b blocks level so_far) [] ≡ Err (unclosed_by source b.kind.names.end_name))
     (steps : (b : Open F T P B) (blocks : List (Open F T P B)) (level : ℕ) (so_far : List ℕ) (e : Element) (es : List Element) → k (inside b blocks level so_far) (e ∷ es) ≡ ok_then (step l source outside (inside b blocks level so_far) e (joined es)) (λ n. k n es)) where
@@ -97,7 +97,7 @@ module _ {F T P B A : Type 0} (l : Lang F T P B) (source : List ℕ) (outside : 
   past_then (Ok (among blocks nodes)) es = refl
   past_then (Ok (inside b blocks level so_far)) es = past_read b blocks level so_far es
 
--- the answers of a call that reads an escaped body
+-- the results of a call that reads an escaped body
 module _ {F T P B : Type 0} (source : List ℕ) (b : Open F T P B) (blocks : List (Open F T P B)) where
   pub escaped_ok : (o : Option (List ℕ × List Element)) (left : List Element) (text : List ℕ) (nodes : List (NodeShape F T B)) → o ≡ Some (text, left) → finished b (escaped text) [] ≡ Ok nodes
       → escaped_body source b blocks o ≡ Ok (among blocks nodes, left)

@@ -43,7 +43,7 @@ values_are (literal_value p b l) = refl
 values_are (variable_value p b n no_index) = refl
 values_are (variable_value p b n (more_indexes i is)) = refl
 
--- a chain of such a kind has no filters, and one of another kind is no value
+-- a chain of such a kind has no filters, and one of another kind is not a value
 no_filters : (v : Value) (fs : List token.Filter) → is_value_kind (chain_kind v fs) ≡ true → fs ≡ []
 unfolding is_value_kind
 no_filters v [] e = refl

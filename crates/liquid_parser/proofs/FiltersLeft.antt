@@ -1,4 +1,4 @@
--- What is left of the filters of a chain, behind those that were made.
+-- What is left of the filters of a chain, after those that were made.
 use Rattle.std.proofs.Common.{◌≡◌, ℕ, List, [], ◌∷◌, ◌++◌, Option, Some, None, Result, Ok, Err, refl, sym, ap, ◌∙◌, subst}
 use Rattle.std.specs.Prelude.{IfSome, option_map}
 use Rattle.std.specs.Option.{option_or}
@@ -18,7 +18,7 @@ use Rattle.liquid_parser.specs.meaning.Reading.{filters_read, filter_or, filter_
 use Rattle.liquid_parser.proofs.Slices.{front_ends}
 use Rattle.liquid_parser.proofs.Indexes.{first_none}
 
--- filters behind others
+-- filters after others
 abbrev pub behind_all : {F : Type 0} → List F → Result (List F) Refusal → Result (List F) Refusal
 behind_all xs r = ok_then r (λ ys. Ok (xs ++ ys))
 
@@ -38,7 +38,7 @@ append_none : {A : Type 0} (xs : List A) → xs ++ [] ≡ xs
 append_none [] = refl
 append_none (x ∷ xs) = ap (λ ys. x ∷ ys) (append_none xs)
 
--- the first of these filters stands between its places
+-- the first of these filters is between its places
 pub filter_here : (s rest : List ℕ) (f : token.Filter) (fs : List token.Filter) → Repeated (Behind 124 FilterRule) s rest (f ∷ fs) → FilterRule f.place f.behind f
 filter_here s rest f fs (more {middle = middle} m ms) =
     let inner = m.match.after in
@@ -55,7 +55,7 @@ module _ {F : Type 0} (filters : Filters F) (source : List ℕ) where
   pub left_all : (s rest : List ℕ) (fs : List token.Filter) → Repeated (Behind 124 FilterRule) s rest fs → Left s rest [] (filters_read filters source fs) (first_fault filter_fault fs)
   left_all s rest fs m = record { filters_left = fs; match = m; fault = refl; joined = sym (behind_none _) }
 
-  -- one more filter, and what is left behind it where it has no fault
+  -- one more filter, and what is left after it if it has no fault
   pub record Next (s : List ℕ) (start : FilterStart) (rest : List ℕ) (made : List F) (meant : Result (List F) Refusal) (whole : Option Fault) : Type 0 where
     pub middle : List ℕ
     pub filter : token.Filter
@@ -91,7 +91,7 @@ module _ {F : Type 0} (filters : Filters F) (source : List ℕ) where
     left.joined ∙ (ap (λ fs. behind_all made (filters_read filters source fs)) n.none ∙ ap (λ xs. Ok xs) (append_none made)),
   )
 
-  -- what a filter makes of its arguments
+  -- what a filter makes from its arguments
   pub made_ok : (make : Arguments → Result F Refusal) (f : token.Filter) (a : Arguments) (x : F) → filters.get f.what.0 ≡ Some make → a ≡ arguments_meant f.what.1 → make a ≡ Ok x
       → filter_or filters source (filters.get f.what.0) f ≡ Ok x
   made_ok make f a x has same is =

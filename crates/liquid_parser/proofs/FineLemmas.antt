@@ -26,7 +26,7 @@ use Rattle.liquid_parser.specs.steps.Built.{MakesNode}
 use Rattle.liquid_parser.specs.steps.Views.{advanced, past_escaped}
 use Rattle.liquid_parser.proofs.NameLemmas.{name_read}
 
--- the chain whose value begins so
+-- the chain whose value has this beginning
 pub record IsHeaded (start : List ℕ) (h : Head) (after : List ℕ) : Type 0 where
   pub middle : List ℕ
   pub end : List ℕ

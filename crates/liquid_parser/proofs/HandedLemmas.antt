@@ -1,4 +1,4 @@
--- The first token of a tag, as the cursor hands it out.
+-- The first token of a tag, as the cursor returns it.
 use Rattle.std.proofs.Common.{◌≡◌, ℕ, List, ◌∷◌, ◌++◌, map, Some, None, Ok, Err, refl, sym, ap, ◌∙◌, subst}
 use Rattle.std.specs.Prelude.{ok_or}
 use Rattle.liquid_error.specs.meaning.Refusal.{located}
@@ -20,7 +20,7 @@ use Rattle.liquid_parser.specs.meaning.Plugins.{AreTokens}
 use Rattle.liquid_parser.proofs.Indexes.{first_none, second_none}
 use Rattle.liquid_parser.proofs.TokenLemmas.{place_of, behind_of, handed_behind, handed_text, rule_place, rule_behind}
 
--- a token stands where its parts say
+-- a token is at the place that its parts give
 parts_place : (p : TokenParts) (s rest : List ℕ) (t : token.Token) → HasParts p s rest t → place_of t ≡ s
 unfolding place_of
 parts_place (parts.Range start stop) s rest t h = ap place_of h.is
@@ -45,7 +45,7 @@ tokens_of t ts a = subst (λ p. Repeated (White ▷ TokenRule) p a.tag.1.behind 
 pub cursor_tokens : (t : TagTokenIter) (ts : Tokens) (a : AreTokens t ts) → Repeated (White ▷ TokenRule) t.rest.now a.tag.1.behind a.tag.1.what
 cursor_tokens t ts a = tokens_of t ts a
 
--- the cursor stands just behind what came before
+-- the cursor is just after what came before
 pub cursor_place : (t : TagTokenIter) (ts : Tokens) → AreTokens t ts → ts.behind ≡ place_in t.source.now t.rest.now
 cursor_place t ts a = ap (λ x. Tokens.behind x) a.is ∙ ap (place_in t.source.now) a.begins
 
@@ -53,7 +53,7 @@ cursor_place t ts a = ap (λ x. Tokens.behind x) a.is ∙ ap (place_in t.source.
 pub none_handed : (t : TagTokenIter) (ts : Tokens) (a : AreTokens t ts) → NoneLeft t.rest.now a.tag.1.behind a.tag.1.what → next ts ≡ None
 none_handed t ts a n = ap (λ x. first_of (Tokens.left x)) a.is ∙ ap (λ xs. first_of (map (handed_token t.source.now) xs)) n.none
 
--- a token is handed out
+-- a token is returned
 pub one_handed : (t : TagTokenIter) (ts : Tokens) (text : TokenText) → text.place.now ≡ text.text.now ++ text.rest.now → (a : AreTokens t ts) → First (part.IsToken text) (Repeated (White ▷ TokenRule)) a.tag.1.behind a.tag.1.what
     → (given : Token × Tokens) × (next ts ≡ Some given) × IsHandedOut (record { source = t.source; text = text }) (record { source = t.source; rest = text.rest }) given
 one_handed t ts text cut a f =
@@ -86,7 +86,7 @@ one_handed t ts text cut a f =
       },
     )
 
--- the same of `expect_next`
+-- the same for `expect_next`
 pub or_handed : (message : List ℕ) (ts : Tokens) (given : Token × Tokens) → next ts ≡ Some given → expect_next message ts ≡ Ok given
 or_handed message ts given e = ap (λ found. ok_or found (located message ts.behind)) e
 

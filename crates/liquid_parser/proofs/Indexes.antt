@@ -1,4 +1,4 @@
--- What is left of the indexes of a variable, behind those that were built.
+-- What is left of the indexes of a variable, after those that were built.
 use Rattle.std.proofs.Common.{◌≡◌, ℕ, List, [], ◌∷◌, ◌++◌, Option, None, Some, refl, sym, ap, ◌∙◌}
 use Rattle.std.specs.Option.{option_or}
 use Rattle.liquid_grammar.specs.declared.parts.IndexStart.{IndexStart}
@@ -40,7 +40,7 @@ pub record Left (depth : ℕ) (s rest : List ℕ) (built : List ExpressionShape)
 pub left_all : (depth : ℕ) (s rest : List ℕ) (is : List Index) → Repeated IndexRule s rest is → Left depth s rest [] (indexes_meant (gather is)) (indexes_fault depth (gather is))
 left_all depth s rest is m = record { indexes = is; match = m; fault = refl; joined = refl }
 
--- one more index, and what is left behind it where it has no fault
+-- one more index, and what is left after it if it has no fault
 pub record Next (depth : ℕ) (s : List ℕ) (start : IndexStart) (after rest : List ℕ) (built : List ExpressionShape) (meant : Indexes) (whole : Option Fault) : Type 0 where
   pub middle : List ℕ
   pub index_here : Index

@@ -1,4 +1,4 @@
--- The innermost of the blocks that are open, which stands last in the program.
+-- The innermost of the blocks that are open, which is the last one in the program.
 use Rattle.std.proofs.Common.{◌≡◌, ◌-◌, ℕ, List, [], ◌∷◌, ◌++◌, length, map, Option, Some, None, Ok, Err, get_or, refl, sym, ap, ◌∙◌, arith}
 use Rattle.std.specs.Prelude.{reverse, slice_get, slice_set, IfSome}
 use Rattle.std.proofs.lemmas.List.{length-append}
@@ -10,7 +10,7 @@ use Rattle.liquid_plugins.specs.meaning.Nodes.{NodeShape}
 use Rattle.liquid_parser.specs.meaning.Reading.{Open, State, among, closed, parted}
 use Rattle.liquid_parser.proofs.AskedLemmas.{push_block, then_err}
 
--- a list that means this innermost item inside of others: its last item means the one, and the items before it the others
+-- a list that means this innermost item inside others: its last item means the one, and the items before it the others
 pub record Innermost {A C : Type 0} (f : A → C) (xs : List A) (y : C) (ys : List C) : Type 0 where
   pub front : List A
   pub last : A
@@ -29,13 +29,13 @@ innermost f (x ∷ xs) y ys e =
     let whole = sym (push_block f w.0 w.1 w.2) ∙ e in
     record { front = w.0; last = w.1; is = w.2; last_is = cc; around_is = cc }
 
--- no item, no innermost one
+-- without items there is no innermost one
 pub none_innermost : {A C : Type 0} (f : A → C) (xs : List A) (y : C) (ys : List C) → xs ≡ [] → reverse (map f xs) ≡ y ∷ ys → ⊥
 none_innermost f xs y ys none e =
     let both : [] ≡ y ∷ ys = sym (ap (λ l. reverse (map f l)) none) ∙ e in
     cc
 
--- the item at the end of a list of so many
+-- the item at the end of a list of that length
 at_end : {A : Type 0} (xs front : List A) (last : A) (n : ℕ) → n ≡ length xs → xs ≡ front ++ last ∷ [] → (d : A) → get_or xs (n - 1) d ≡ last
 at_end xs front last n count is d =
     let place : n - 1 ≡ length front = omega (arith, count, ap length is, length-append front (last ∷ [])) in

@@ -55,7 +55,7 @@ module _ {A M : Type 0} (of : A → M) (expect : Token → Option M) (message : 
       subst (λ q. IfSome o (λ r. ok_then {B = M × Tokens} q (λ given. ok_then {B = M × Tokens} (or_unexpected given.0 (expect given.0)) (λ y. Ok (y, given.1))) ≡ Err r)) (sym h.1)
       (then_refused {B = M × Tokens} o (or_unexpected h.0.0 (expect h.0.0)) (λ y. Ok (y, h.0.1)) (value_refused of expect h.0.0 token attempt o h.2.token_is (tries h.0.0 h.2.token_is) gives))
 
-  -- the answer of an attempt to read the next token is what was meant
+  -- the result of an attempt to read the next token is what was meant
   pub next_given : (token : TagToken) (cursor : TagTokenIter) (attempt : TryMatchToken A) (r : Result A Error)
       → HandsOutOr (Ok token) cursor ts (expect_next message ts)
       → ((t : Token) → IsToken token t → Tries of token attempt (expect t))
@@ -64,6 +64,6 @@ module _ {A M : Type 0} (of : A → M) (expect : Token → Option M) (message : 
   next_given token cursor attempt (Ok x) h tries gives = next_taken token cursor attempt x h tries gives
   next_given token cursor attempt (Err e) h tries gives = next_refused token cursor attempt (told e) h tries gives
 
-  -- where no token is left the answer is the refusal
+  -- if no token is left, the result is the refusal
   pub none_given : (cursor : TagTokenIter) (e : Error) → HandsOutOr (Err e) cursor ts (expect_next message ts) → IfSome (told e) (λ r. next_as message expect ts ≡ Err r)
   none_given cursor e h = then_refused (told e) (expect_next message ts) (λ given. ok_then (or_unexpected given.0 (expect given.0)) (λ y. Ok (y, given.1))) h.0

@@ -154,7 +154,7 @@ module _ {F T P B : Type 0} (l : Lang F T P B) (source : List ℕ) (outside : �
       (one_escaped b blocks so_far (text_of e) (level_behind b.kind.names.end_name b.kind.names.start_name b.kind.means.nests level e) h)
 
 module _ {F T P B : Type 0} (l : Lang F T P B) (source : List ℕ) (outside : ℕ) where
-  -- a tag gives one node, whatever text it stands in
+  -- a tag gives one node, whatever text it is in
   pub tag_one : (own : List ℕ) (t : token.Tag) (es : List Element) → AllOne l source outside (tag_node_read l source outside own t es)
   tag_one own t es = then_one l source outside (tag_read l own outside [] [] t) es (closed_one l source outside es) (one_first_tag l own outside t)
 

@@ -35,7 +35,7 @@ module _ {F T P B : Type 0} (l : Lang F T P B) (source end_name : List ℕ) (out
       ap (λ r. ok_then r (λ found. element_or_end l source end_name outside found (behind_first es))) out
       ∙ ap (λ b. ok_then (node_read l source outside source b e (behind_first es)) (λ p. Ok (Some p.0, p.1))) (joined_cover rest (behind_first es) c)
 
-  -- the next element was handed out, and parsed
+  -- the next element was returned, and parsed
   pub next_node : {A : Type 0} (of : A → NodeShape F T B) (n : A) (x : BlockElement) (between block : TagBlock) (es : List Element)
       → between.source.now ≡ source → block.is_closed ≡ between.is_closed
       → HandsOut (Ok (Some x)) between (handed_out source end_name es) → Cover between.rest.now (behind_first es)

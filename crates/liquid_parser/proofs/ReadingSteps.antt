@@ -1,4 +1,4 @@
--- The reading of a text, element by element: what an unfinished reading keeps, how it goes on, and how it ends.
+-- The reading of a text, element by element: what an unfinished reading keeps, how it continues, and how it ends.
 use Rattle.std.proofs.Common.{◌≡◌, ℕ, List, [], ◌∷◌, Option, None, Some, Result, Ok, Err, refl, sym, ap, ◌∙◌}
 use Rattle.std.specs.Prelude.{IfSome}
 use Rattle.liquid_error.specs.declared.error.Error.{Error}
@@ -15,15 +15,15 @@ use Rattle.liquid_parser.proofs.ElementLemmas.{unchecked_step}
 use Rattle.liquid_parser.proofs.EscapeLemmas.{past_then}
 
 module _ {F T P B : Type 0} (l : Lang F T P B) (s : List ℕ) where
-  -- what came before `rest` leads to this state: whatever covers the rest ends a cover of the text whose answer is the rest's from
-  -- this state
+  -- what came before `rest` leads to this state: whatever covers the rest ends a cover of the text whose result is the
+  -- rest's from this state
   abbrev pub Goes : List ℕ → State F T P B → Type 0
   Goes rest st = (es : List Element) → Cover rest es → (all : List Element) × Cover s all × (answer l s all ≡ read l s 0 st es)
 
   pub Goes-begin : (st : State F T P B) → st ≡ beginning → Goes s st
   Goes-begin st e es c = (es, c, ap (λ x. read l s 0 x es) (sym e))
 
-  -- what the reading of the rest gives where its first element is read
+  -- what the reading of the rest gives if its first element is read
   read_first : (behind : List ℕ) (e : Element) (blocks : List (Open F T P B)) (nodes : List (NodeShape F T B)) (es : List Element) → Cover behind es
       → read l s 0 (among blocks nodes) (e ∷ es) ≡ ok_then (advanced l s 0 (among blocks nodes) s behind e es) (λ p. read l s 0 p.0 p.1)
   read_first behind e blocks nodes es c =

@@ -3,7 +3,7 @@ use Rattle.std.proofs.Common.{◌≡◌, ℕ, ◌-◌, List, ◌++◌, length, t
 use Rattle.std.proofs.lemmas.List.{append_cancel_right}
 use Rattle.liquid_grammar.proofs.Exact.{before_end}
 
--- what is left of a text is behind the text before it
+-- the rest of a text is after the text before it
 pub front_ends : (s front rest : List ℕ) → s ≡ front ++ rest → s ≡ take (length s - length rest) s ++ rest
 front_ends s front rest is = before_end s rest (front, is)
 

@@ -113,6 +113,6 @@ module _ {X N K F T B : Type 0} (filter : X → F) (tag : N → T) (block : K �
 pub count_parts : {A C : Type 0} (f : A → C) (old : List A) (a : A) {new : List A} → new ≡ old ++ a ∷ [] → length new ≡ length (map f old) + 1
 count_parts f old a e = ap length e ∙ (length-append old (a ∷ []) ∙ ap (λ n. n + 1) (sym (length-map old f)))
 
--- one more node behind others
+-- one more node after others
 pub last_node : {A C : Type 0} (f : A → C) (before : List A) (n : A) (shape : C) {new : List A} → new ≡ before ++ n ∷ [] → f n ≡ shape → map f new ≡ map f before ++ shape ∷ []
 last_node f before n shape e is = ap (map f) e ∙ (map_push f before n ∙ ap (λ c. map f before ++ c ∷ []) is)

@@ -44,7 +44,7 @@ handed_text source (range r) = refl
 handed_text source (chain c) = refl
 handed_text source (symbol s) = refl
 
--- a token stands where its rule says
+-- a token is at the place that its rule gives
 pub rule_place : {s rest : List ℕ} {t : Token} → TokenRule s rest t → place_of t ≡ s
 unfolding place_of
 rule_place (here m) = ap place_of m.is ∙ m.match.begins
@@ -57,14 +57,14 @@ rule_behind (here m) = ap behind_of m.is ∙ m.match.ends
 rule_behind (instead none (here m)) = ap behind_of m.is ∙ m.match.ends
 rule_behind (instead none (instead none' m)) = ap behind_of m.is ∙ m.match.ends
 
--- where no token begins behind the white space, there are none
+-- if no token begins after the white space, there are none
 pub no_tokens : {s behind rest white : List ℕ} {ts : List Token} → White s rest white → ¬ (Begins TokenRule rest) → Repeated (White ▷ TokenRule) s behind ts → ts ≡ []
 no_tokens w none (ends n) = refl
 no_tokens {s = s} {rest = rest} {white = white} w none (more {middle = middle} {shape = shape} m ms) =
     let first : TokenRule m.match.middle middle m.from.1 = m.match.after in
     absurd (none (record { rest = middle; shape = m.from.1; match = subst (λ p. TokenRule p middle m.from.1) (same_rest s m.match.middle rest _ _ m.match.before w) first }))
 
--- where one does, it is the first, and is refused where none is expected
+-- if one does, it is the first, and is refused if none is expected
 pub some_token : {s behind rest left white : List ℕ} {shape : Token} (ts : List Token) (source : List ℕ) → White s rest white → TokenRule rest left shape → Repeated (White ▷ TokenRule) s behind ts
     → none_left (map (handed_token source) ts) ≡ Err (located (codes "Unexpected token") (place_in source rest))
 some_token [] source w t (ends n) = absurd (n (record { rest = _; shape = _; match = record { from = (_, _); match = record { middle = _; before = w; after = t }; is = refl } }))
@@ -73,7 +73,7 @@ some_token {s = s} {rest = rest} (x ∷ ts) source w t (more {middle = middle} m
     let at_rest : place_of x ≡ rest = ap place_of m.is ∙ (rule_place first ∙ same_rest s m.match.middle rest _ _ m.match.before w) in
     ap (λ p. Err (located (codes "Unexpected token") p)) (handed_place source x ∙ ap (place_in source) at_rest)
 
--- the same of a cursor
+-- the same for a cursor
 pub none_expected : (t : TagTokenIter) (ts : Tokens) (rest white : List ℕ) → AreTokens t ts → White t.rest.now rest white → ¬ (Begins TokenRule rest) → expect_nothing ts ≡ Ok tt
 none_expected t ts rest white a w none =
     let tokens : Repeated (White ▷ TokenRule) t.rest.now a.tag.1.behind a.tag.1.what = subst (λ p. Repeated (White ▷ TokenRule) p a.tag.1.behind a.tag.1.what) a.begins a.match in

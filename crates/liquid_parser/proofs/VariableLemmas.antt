@@ -21,7 +21,7 @@ pub checked_none : (source : List ℕ) (o : Option Fault) → checked source o �
 checked_none source None e = refl
 checked_none source (Some fault) e = cc
 
--- a variable by its name and the indexes behind it
+-- a variable by its name and the indexes after it
 pub record IsWhole (rest name : List ℕ) (v : Value) : Type 0 where
   pub indexes : List Index
   pub match : Repeated IndexRule rest [] indexes

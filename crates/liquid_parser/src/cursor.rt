@@ -1,4 +1,4 @@
-//! What a plug-in is handed: tags, tokens, and the elements of a block.
+//! What a plug-in is given: tags, tokens, and the elements of a block.
 
 pub(crate) mod block;
 pub(crate) mod element;

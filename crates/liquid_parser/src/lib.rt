@@ -1,4 +1,4 @@
-//! From template text to nodes: the reading of a text.
+//! The parser: from the text of a template to its nodes.
 #![tactic(auto)]
 
 mod chain;

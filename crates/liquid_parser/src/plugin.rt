@@ -1,4 +1,4 @@
-//! What a caller writes: plug-ins of tags and blocks, and the language that holds them.
+//! What a caller writes: plug-ins of tags and blocks, and the language that contains them.
 
 pub(crate) mod block;
 pub(crate) mod language;

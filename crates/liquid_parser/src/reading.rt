@@ -1,4 +1,4 @@
-//! The reading of a text, from element to node.
+//! The parsing of a text, from element to node.
 
 pub(crate) mod advance;
 pub(crate) mod asked;

@@ -1,4 +1,4 @@
--- Stores that find the same answer the same.
+-- Stores that find the same return the same.
 use Rattle.std.proofs.Common.{◌≡◌, List, [], ◌∷◌, Option, Some, None, Result, Ok, Err, refl, sym, ap, ◌∙◌, subst, arith}
 use Rattle.std.specs.Prelude.{IfOk, IfSome, option_map}
 use Rattle.std.specs.Result.{result_ok}

@@ -31,7 +31,7 @@ module _ {X Y : Type 0} (f : X → Y) where
   find-made q [] = refl
   find-made q (e ∷ es) = made_or (eq_by_cmp (slice_cmp nat_cmp) q e.0) e.1 _ _ (find-made q es)
 
-  -- a name has what its value makes
+  -- a name has what its value gives
   pub get-each : (m : NameMap X) (q : List ℕ) → get (each f m) q ≡ option_map f (get m q)
   unfolding each
   get-each m q = get-from_entries nat_list_cmp_total (map made (entries m)) q ∙ find-made q (entries m) ∙ ap (option_map f) (sym (get-entries m q))
@@ -77,7 +77,7 @@ module _ {X Y : Type 0} (f : X → Y) where
       ∙ sym (made_or (eq_by_cmp (slice_cmp nat_cmp) q k) x (get m q) (get (each f m) q) (get-each m q))
       ∙ sym (get-insert nat_list_cmp_total (each f m) k (f x) q))
 
--- the same of the entries of a map of the program
+-- the same for the entries of a map of the program
 module _ {X Y : Type 0} (f : X → Y) where
   pub get-named : (m : BTreeMap (String Global) X) (q : List ℕ) → get (each f (by_name m)) q ≡ option_map f (get_by_text m q)
   get-named m q = get-each f (by_name m) q ∙ ap (option_map f) (get-by_name m q)

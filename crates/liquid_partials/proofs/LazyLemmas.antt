@@ -1,4 +1,4 @@
--- What a store that keeps its answers finds, has kept and reads.
+-- What a store that keeps its results finds, has kept and parses.
 use Rattle.std.proofs.Common.{◌≡◌, ℕ, suc, ◌+◌, ◌≤◌, Bool, true, false, cond, List, [], ◌∷◌, ◌++◌, length, Option, Some, None, is_some, Result, map, refl, sym, ap, ◌∙◌, subst, arith, append_assoc}
 use Rattle.std.specs.Prelude.{String, option_map, not, ◌&&◌, ◌||◌, Ok, Err, OnOk, OnErr}
 use Rattle.std.specs.BTreeMap.{BTreeMap, IsEmpty}
@@ -61,7 +61,7 @@ module _ {X : Type 0} where
   cond_same true v r h = sym (h refl)
   cond_same false v r h = refl
 
-  -- to give a name the value that it has changes nothing
+  -- giving a name the value that it has changes nothing
   pub insert-again : (m : NameMap X) (q : List ℕ) (a : X) → get m q ≡ Some a → insert m q a ≡ m
   insert-again m q a e = same_names _ m (λ r. get-insert nat_list_cmp_total m q a r ∙ cond_same (names_eq r q) (Some a) (get m r) (λ t. same_name m r q t ∙ e))
 
@@ -83,7 +83,7 @@ module _ {X : Type 0} where
   kept_stays false kept found q a e = refl
   kept_stays true kept found q a e = sym (insert-again kept q a (sym e)) ∙ ap (after kept q) (sym (found_kept kept found q a e))
 
-  -- nor does one for a name that is not there
+  -- nor does one for an unknown name
   pub absent_stays : (b : Bool) (finds kept : NameMap X) (q : List ℕ) → get finds q ≡ None → kept ≡ kept_after b finds q kept
   absent_stays false finds kept q e = refl
   absent_stays true finds kept q e = ap (after kept q) (sym e)
@@ -96,11 +96,11 @@ module _ {X : Type 0} where
   len-found None kept q = omega arith
   len-found (Some a) kept q = len-insert nat_list_cmp_total kept q a ∙ cond_once (contains_key kept q) (len kept)
 
-  -- an answered request keeps one more where it reads a text
+  -- a request with a result keeps one more if it parses a text
   pub len-kept_after : (finds kept : NameMap X) (q : List ℕ) → len (kept_after true finds q kept) ≡ len kept + once (is_read finds kept q)
   len-kept_after finds kept q = len-found (get finds q) kept q
 
-  -- a request reads no more texts than it keeps and than it meets want of memory
+  -- a request parses no more texts than it keeps and than it is out of memory
   pub reads_few : (b : Bool) (finds kept : NameMap X) (q : List ℕ) → len kept + once (is_read finds kept q) ≤ len (kept_after b finds q kept) + once (not b)
   reads_few true finds kept q = let e = len-kept_after finds kept q in omega (arith, e)
   reads_few false finds kept q = once_most (is_read finds kept q) (len kept)
@@ -121,7 +121,7 @@ module _ {X : Type 0} where
   still_kept true finds kept name q e = still_found (get finds name) kept name q e
   still_kept false finds kept name q e = e
 
-  -- an answered request for a name that is there keeps it
+  -- a request with a result keeps a name that the source has
   pub now_kept : (finds kept : NameMap X) (name : List ℕ) → contains_key finds name ≡ true → contains_key (kept_after true finds name kept) name ≡ true
   now_kept finds kept name e = go (get finds name) e
     where
@@ -129,7 +129,7 @@ module _ {X : Type 0} where
       go None t = absurd (subst Untrue t tt)
       go (Some a) t = ap is_some (get-insert nat_list_cmp_total kept name a name) ∙ ap (λ b. is_some (cond b (Some a) (get kept name))) (ap is_eq (tied_itself nat_list_cmp_total name))
 
-  -- nothing is read of a name that is kept
+  -- nothing is parsed for a name that is kept
   pub not_read : (finds kept : NameMap X) (q : List ℕ) (a : X) (n : ℕ) → Some a ≡ get kept q → n ≡ n + once (is_read finds kept q)
   not_read finds kept q a n e = none_more (is_some (get finds q)) n ∙ ap (λ o. n + once (is_some (get finds q) && not (is_some o))) e
     where
@@ -169,7 +169,7 @@ any_here test (y ∷ xs) x ys e = go (test y) (any_here test xs x ys e)
     go true k = refl
     go false k = k
 
--- what holds of the front and of the last name
+-- a property of the front and of the last name
 by_last : (last front c : Bool) → (front || last) ≡ true → (front ≡ true → c ≡ true) → (last ≡ true → c ≡ true) → c ≡ true
 by_last last true c t f g = f refl
 by_last last false c t f g = g t
@@ -216,9 +216,9 @@ is_some-or (Some x) p c e h = sym (h refl)
 contains-all_kept : {A F T B : Type 0} (of : A → Nodes F T B) (kept : BTreeMap (String Global) (Result A Error)) (q : List ℕ) → contains_key (all_kept of kept) q ≡ contains_key (by_name kept) q
 contains-all_kept of kept q = contains-each (kept_as of) (by_name kept) q
 
--- what was read while all names of a source are requested one after the other
+-- what was parsed while all names of a source are requested one after another
 module _ {A F T B : Type 0} (of : A → Nodes F T B) (texts : Texts) where
-  -- these names are kept, the rest is left, and as many texts were read as names are kept
+  -- these names are kept, the rest is left, and as many texts were parsed as names are kept
   pub record ReadSoFar (kept : BTreeMap (String Global) (Result A Error)) (count : ℕ) (rest : List (List ℕ)) : Type 0 where
     pub front : List (List ℕ)
     pub whole : front ++ rest ≡ keys texts
@@ -262,7 +262,7 @@ module _ {A F T P B : Type 0} (of : A → Nodes F T B) (l : Lang F T P B) (texts
   pub compiled-empty : (kept : BTreeMap (String Global) (Result A Error)) → IsEmpty kept → Compiled l texts (kept_or_read of l kept texts)
   compiled-empty kept none = subst (Compiled l texts) (sym (ap (λ m. over m (readings l texts)) (empty-named (kept_as of) kept none) ∙ empty-over (readings l texts))) (compiled l texts)
 
-  -- the names that are kept are the source's, after a name more
+  -- the names that are kept are the source's, after one more name
   pub known-insert : (old new : BTreeMap (String Global) (Result A Error)) (name : List ℕ) (answer : Result (Nodes F T B) Refusal) → Known old texts
       → all_kept of new ≡ insert (all_kept of old) name answer → contains_key texts name ≡ true → Known new texts
   known-insert old new name answer known e there q t = go (names_eq q name) refl (sym (ap is_some (ap (λ m. get m q) e ∙ get-insert nat_list_cmp_total (all_kept of old) name answer q)) ∙ contains-all_kept of new q ∙ t)
@@ -279,7 +279,8 @@ module _ {A F T P B : Type 0} (of : A → Nodes F T B) (l : Lang F T P B) (texts
   known-kept old new name answer (Ok u) known ok err read = known-insert old new name (kept_as of answer) known ok (sym (contains-readings l texts name) ∙ ap is_some (sym read))
   known-kept old new name answer (Err e) known ok err read = known-same old new known err
 
-  -- of a name of which nothing is kept, what its text is read as is found, and one text is read where the name is there
+  -- for a name for which nothing is kept, the result of parsing its text is found, and one text is parsed if the source
+  -- has the name
   module _ (old : BTreeMap (String Global) (Result A Error)) (known : Known old texts) (name : List ℕ) (no : contains_key (all_kept of old) name ≡ false) where
     pub read_found : (o : Option (Result (Nodes F T B) Refusal)) → o ≡ get (readings l texts) name → o ≡ get (kept_or_read of l old texts) name
     read_found o e = e ∙ sym (found_unkept (all_kept of old) (readings l texts) name (unkept (all_kept of old) name no))
@@ -291,7 +292,7 @@ module _ {A F T P B : Type 0} (of : A → Nodes F T B) (l : Lang F T P B) (texts
         and_true true = refl
         and_true false = refl
 
-    -- then its answer is kept
+    -- then its result is kept
     module _ (new : BTreeMap (String Global) (Result A Error)) (copy answer : Result A Error) (e : all_kept of new ≡ insert (all_kept of old) name (kept_as of copy)) (same : kept_as of copy ≡ kept_as of answer)
         (read : Some (kept_as of answer) ≡ get (readings l texts) name) where
       inserted : all_kept of new ≡ insert (all_kept of old) name (kept_as of answer)
@@ -312,7 +313,7 @@ module _ {A F T P B : Type 0} (of : A → Nodes F T B) (l : Lang F T P B) (texts
   has-after old new b name has e q t =
       sym (contains-all_kept of new q) ∙ ap (λ m. contains_key m q) e ∙ still_kept b (kept_or_read of l old texts) (all_kept of old) name q (contains-all_kept of old q ∙ has q t)
 
-  -- where all names of the source are kept, no request reads a text
+  -- if all names of the source are kept, no request parses a text
   none_read : (kept : BTreeMap (String Global) (Result A Error)) (name : List ℕ) → Known kept texts → HasAll kept texts → is_read (kept_or_read of l kept texts) (all_kept of kept) name ≡ false
   none_read kept name known has = go (contains_key (kept_or_read of l kept texts) name) (contains-known kept known name)
     where

@@ -1,4 +1,4 @@
--- From what a text is read as to what rendering it comes to.
+-- From what a text is read as to the result of rendering it.
 use Rattle.std.proofs.Common.{◌≡◌, List, Option, None, Some, Result, Ok, Err, refl}
 use Rattle.std.specs.Prelude.{IfSome}
 use Rattle.liquid_error.specs.declared.error.Error.{Error}
@@ -19,7 +19,7 @@ module _ {Reg F T B : Type 0} (action : List (NodeShape F T B) → Action Reg) w
   abbrev Answer : Type 0
   Answer = Result (List (NodeShape F T B)) Refusal
 
-  -- a text that is read as nodes comes to what they come to
+  -- a text that is read as nodes is rendered as they are
   pub RenderedBy-read : (answer : Answer) (nodes : List (NodeShape F T B)) (v left : View Reg) (before after : Sunk) (result : Result (Unit {0}) Error)
       → answer ≡ Ok nodes → Renders (action nodes v) v before after left result → RenderedBy action answer v before after left result
   RenderedBy-read answer nodes v left before after result is r = rw is r
@@ -32,7 +32,7 @@ module _ {Reg F T B : Type 0} (action : List (NodeShape F T B) → Action Reg) w
   same_refusal refusal None h = h
   same_refusal refusal (Some reason) h = cc h
 
-  -- a text that is refused, or whose reading ran out of memory, leaves the sink and the view as they were
+  -- a text that is refused, or whose parsing ran out of memory, leaves the sink and the view as they were
   pub RenderedBy-refused : (answer : Answer) (v : View Reg) (b : Sunk) (e : Error) → IfSome (told e) (λ refusal. answer ≡ Err refusal) → RenderedBy action answer v b b v (Err e)
   RenderedBy-refused (Ok nodes) v b e h =
       without_gate (action nodes v) v v b b (Err e) (renders_refused (action nodes v) v v (ungated b) e (not_read nodes (action nodes v) v (told e) h) refl)

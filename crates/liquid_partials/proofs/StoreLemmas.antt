@@ -1,4 +1,4 @@
--- What a store finds by its source and its language, and what a request is answered by it.
+-- What a store finds, by its source and its language, and what it returns for a request.
 use Rattle.std.proofs.Common.{◌≡◌, ℕ, Bool, true, false, List, Option, Some, None, is_some, Result, Ok, Err, refl, ap, sym, ◌∙◌, subst}
 use Rattle.std.specs.Prelude.{option_map, option_and_then, IfOk, IfSome}
 use Rattle.std.specs.FinMap.{get, keys}
@@ -57,12 +57,12 @@ module _ {F T P B : Type 0} (l : Lang F T P B) where
   nothing_there None e = refl
   nothing_there (Some x) e = absurd (subst IsTrueBool e tt)
 
-  -- nothing is read of a name that is not there
+  -- nothing is read for an unknown name
   pub absent : (texts : Texts) (name : List ℕ) → is_some (get texts name) ≡ false → tried (readings l texts) name ≡ Ok None
   absent texts name e =
       ap tried_of (get-each (λ text. as_tree (reading l text)) texts name ∙ ap (option_map (λ text. as_tree (reading l text))) (nothing_there (get texts name) e))
 
-  -- of another name its text is read
+  -- for a known name its text is read
   pub present : (texts : Texts) (name text : List ℕ) (a : Result (Nodes F T B) Refusal) → get texts name ≡ Some text → as_tree (reading l text) ≡ a → tried (readings l texts) name ≡ ok_then a (λ tree. Ok (Some tree))
   present texts name text a e r =
       ap tried_of (get-each (λ text. as_tree (reading l text)) texts name ∙ ap (option_map (λ text. as_tree (reading l text))) e ∙ ap (λ x. Some x) r)
@@ -73,7 +73,7 @@ module _ {F T P B : Type 0} (l : Lang F T P B) where
   pub keys-readings : (texts : Texts) → keys (readings l texts) ≡ keys texts
   keys-readings texts = keys-each (λ text. as_tree (reading l text)) texts
 
--- what a request is answered, by what was read of its name
+-- the result of a request, by what was read for its name
 module _ {A : Type 0} (finds : NameMap (Result A Refusal)) (name : List ℕ) where
   abbrev tried_as : Option (Result A Refusal) → Result (Option A) Refusal
   tried_as found = elim found [ None ↦ Ok None | Some answer ↦ ok_then answer (λ tree. Ok (Some tree)) ]

@@ -10,7 +10,7 @@ use liquid_template::PartialStore;
 use std::alloc::{AllocError, Global};
 use std::rc::Rc;
 
-/// What makes a store of a source's texts, read in a language.
+/// Makes a store of a source's texts, parsed in a language.
 pub trait PartialCompiler<F: ParseFilter, T: ParseTag<F>, B: ParseBlock<F>> {
     /// The store that it makes.
     type Store: PartialStore<F::Filter, T::Node, B::Node>;
@@ -18,8 +18,8 @@ pub trait PartialCompiler<F: ParseFilter, T: ParseTag<F>, B: ParseBlock<F>> {
     // the texts of its source
     ghost texts: { Self → Texts };
 
-    /// The store of the compiler's source in this language. A text with a fault is no refusal here:
-    /// the store answers the fault where the text's name is asked for. An `Err` is want of memory.
+    /// Returns the store of the compiler's source in this language. A text with a fault is not an error here: the store
+    /// returns the fault when the text's name is requested. An `Err` means out of memory.
     fn compile(
         self,
         alloc: Global,

@@ -1,4 +1,4 @@
-//! Partials that are all read beforehand.
+//! Partials that are all parsed beforehand.
 ghost use Rattle.std.specs.Prelude.{◌≡◌, map, option_map, string_bytes, IfOk};
 ghost use Rattle.std.specs.Borrow.{sem, Lends};
 ghost use Rattle.std.specs.FinMap.{keys, len};
@@ -21,28 +21,28 @@ use std::alloc::{AllocError, Global};
 use std::default::MadeWith;
 use std::rc::Rc;
 
-/// Makes stores that read every text at once.
+/// Makes stores that parse every text at once.
 #[derive(Drop)]
 pub struct EagerCompiler<S> {
     source: S,
 }
 
 impl<S: PartialSource> EagerCompiler<S> {
-    /// A compiler of this source.
+    /// Returns a compiler of this source.
     pub fn new(source: S) -> EagerCompiler<S>
         ensures { result.source ≡ source }
     {
         EagerCompiler { source }
     }
 
-    /// The source.
+    /// Returns the source.
     pub fn source(&self) -> &S
         ensures { result.now ≡ self.now.source }
     {
         &self.source
     }
 
-    /// The source, to be changed in place.
+    /// Returns the source, to be changed in place.
     pub fn source_mut(&mut self) -> &mut S
         ensures* writes_back { sem 𝓛 (Lends (the_row S.row) S.row self.entry result (λ source. record { source = source })) }
         ensures value { result.now ≡ self.old.source }
@@ -52,7 +52,7 @@ impl<S: PartialSource> EagerCompiler<S> {
 }
 
 impl<S: PartialSource + MadeWith<Global>> EagerCompiler<S> {
-    /// A compiler of an empty source.
+    /// Returns a compiler of an empty source.
     pub fn empty(alloc: Global) -> EagerCompiler<S>
         ensures { S.is_made_with result.source }
     {
@@ -73,7 +73,7 @@ where
 
     ghost texts = { λ compiler. S.texts compiler.source };
 
-    /// Requests every name once, so that its text is read and kept.
+    /// Requests every name once, so that its text is parsed and kept.
     fn compile(
         self,
         alloc: Global,
@@ -93,7 +93,7 @@ where
     }
 }
 
-/// The names of a source, each as a text of its own.
+/// Returns the names of a source, each as an owned text.
 fn owned_names<S, F, T, B>(
     alloc: Global,
     texts: &Texts<S, F, T, B>,
@@ -113,7 +113,7 @@ where
     Ok(owned)
 }
 
-/// A store of which every text was read and kept when it was made. It reads nothing any more.
+/// A store of which every text was parsed and kept when it was made. It no longer parses anything.
 #[derive(Drop)]
 pub struct EagerStore<S, F, T, B>
 where

@@ -9,7 +9,7 @@ use std::collections::BTreeMap;
 use std::default::MadeWith;
 use std::marker::Model;
 
-/// Texts under names, held in memory.
+/// Texts with names, held in memory.
 #[derive(Drop)]
 pub struct InMemorySource {
     texts: BTreeMap<String, String>,
@@ -28,7 +28,7 @@ impl Model for InMemorySource {
 }
 
 impl InMemorySource {
-    /// A source without texts. Takes no memory.
+    /// Returns a source without texts. It takes no memory.
     #[tactic(auto, using(crate::proofs::EachLemmas::sources))]
     pub fn new(alloc: Global) -> InMemorySource
         ensures { result ≡ empty }
@@ -38,9 +38,9 @@ impl InMemorySource {
         }
     }
 
-    /// Puts the text under the name, and answers whether another stood there, which is dropped.
+    /// Adds the text under the name, and returns whether it replaced another, which is dropped.
     ///
-    /// Where memory is refused the source is as before, and the name and the text are dropped.
+    /// If memory runs out, the source is left as it was, and the name and the text are dropped.
     #[tactic(auto, using(crate::proofs::EachLemmas::sources))]
     pub fn add(&mut self, name: String, source: String) -> Result<bool, AllocError>
         ensures replaced { IfOk result (λ replaced. replaced ≡ is_some (get self.old (string_bytes name))) }

@@ -8,15 +8,15 @@ use liquid_parser::{Language, ParseBlock, ParseTag};
 use liquid_plugins::ParseFilter;
 use liquid_template::PartialStore;
 
-/// What a store finds is told by its source and its language.
+/// What a store finds is determined by its source and its language.
 pub fn one_store<F: ParseFilter + Drop, T: ParseTag<F> + Drop, B: ParseBlock<F> + Drop>(
     language: &Language<F, T, B>,
 )
     ensures { OneStore (language_of F.makes T.gives B.block language.now) }
 {}
 
-/// Any list of requests has the same answers from two stores that were compiled of one source in one
-/// language, want of memory aside.
+/// Any list of requests has the same results from two stores that were compiled from one source in one language, except
+/// for results that are out of memory.
 pub fn stores_agree<F, T, B, S, R>(language: &Language<F, T, B>, store: &S, other: &R)
 where
     F: ParseFilter + Drop,
@@ -27,8 +27,8 @@ where
     ensures { StoresAgree (language_of F.makes T.gives B.block language.now) S.finds R.finds }
 {}
 
-/// Over any list of requests a store that keeps its answers reads at most as many texts as it keeps
-/// more names, and as requests meet want of memory.
+/// Over any list of requests, a store that keeps its results parses at most as many texts as it keeps new names and as
+/// requests are out of memory.
 pub fn few_readings<F: ParseFilter + Drop, T: ParseTag<F> + Drop, B: ParseBlock<F> + Drop>(
     _language: &Language<F, T, B>,
 )

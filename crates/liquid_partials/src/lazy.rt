@@ -1,4 +1,4 @@
-//! Partials that are read when they are first requested, and kept.
+//! Partials that are parsed when they are first requested, and kept.
 ghost use Rattle.std.specs.Prelude.{◌≡◌, ◌+◌, true, false, is_ok, option_map, string_bytes, IfOk, IfSome, OnOk, OnErr};
 ghost use Rattle.std.specs.Borrow.{sem, Lends};
 ghost use Rattle.std.specs.FinMap.{contains_key, empty, get, insert};
@@ -22,28 +22,28 @@ use std::collections::BTreeMap;
 use std::default::MadeWith;
 use std::rc::Rc;
 
-/// Makes stores that read a text when its name is first requested, and keep what it is read as.
+/// Makes stores that parse a text when its name is first requested, and keep the result.
 #[derive(Drop)]
 pub struct LazyCompiler<S> {
     source: S,
 }
 
 impl<S: PartialSource> LazyCompiler<S> {
-    /// A compiler of this source.
+    /// Returns a compiler of this source.
     pub fn new(source: S) -> LazyCompiler<S>
         ensures { result.source ≡ source }
     {
         LazyCompiler { source }
     }
 
-    /// The source.
+    /// Returns the source.
     pub fn source(&self) -> &S
         ensures { result.now ≡ self.now.source }
     {
         &self.source
     }
 
-    /// The source, to be changed in place.
+    /// Returns the source, to be changed in place.
     pub fn source_mut(&mut self) -> &mut S
         ensures* writes_back { sem 𝓛 (Lends (the_row S.row) S.row self.entry result (λ source. record { source = source })) }
         ensures value { result.now ≡ self.old.source }
@@ -53,7 +53,7 @@ impl<S: PartialSource> LazyCompiler<S> {
 }
 
 impl<S: PartialSource + MadeWith<Global>> LazyCompiler<S> {
-    /// A compiler of an empty source.
+    /// Returns a compiler of an empty source.
     pub fn empty(alloc: Global) -> LazyCompiler<S>
         ensures { S.is_made_with result.source }
     {
@@ -74,7 +74,7 @@ where
 
     ghost texts = { λ compiler. S.texts compiler.source };
 
-    /// Reads no text yet, keeps nothing yet, and takes no memory.
+    /// Parses no text yet, keeps nothing yet, and takes no memory.
     fn compile(
         self,
         alloc: Global,
@@ -97,8 +97,8 @@ where
 /// What is kept of a text: its template, or its fault.
 type Kept<X, T, B> = Result<Rc<Template<X, T, B>>, Error>;
 
-/// A store that reads a text when its name is first requested, and keeps its template or its fault
-/// under the name. It keeps no want of memory and no name that is not there.
+/// A store that parses a text when its name is first requested, and keeps its template or its fault under the name. It
+/// keeps no out-of-memory error and no unknown name.
 #[derive(Drop)]
 pub struct LazyStore<S, F, T, B>
 where
@@ -119,7 +119,7 @@ where
     T: ParseTag<F> + Drop,
     B: ParseBlock<F> + Drop,
 {
-    /// Whether the answer for this name is kept. Takes no memory.
+    /// Returns `true` if the result for this name is kept. It takes no memory.
     #[tactic(auto, using(crate::proofs::EachLemmas::sources))]
     pub fn is_kept(&self, name: &str) -> bool
         ensures { result ≡ contains_key (all_kept (shared_nodes F.Filter.shape T.Node.shape B.Node.shape) self.now.kept) name.now }
@@ -127,14 +127,14 @@ where
         self.kept.contains_key(name)
     }
 
-    /// The texts that it reads.
+    /// Returns the texts that it parses.
     pub(crate) fn texts(&self) -> &Texts<S, F, T, B>
         ensures { result.now ≡ self.now.texts }
     {
         &self.texts
     }
 
-    /// What is kept under a name.
+    /// Returns what is kept under a name.
     #[tactic(auto, using(crate::proofs::EachLemmas::sources))]
     fn under(&self, name: &str) -> Option<&Kept<F::Filter, T::Node, B::Node>>
         ensures { option_map (λ kept. kept_as (shared_nodes F.Filter.shape T.Node.shape B.Node.shape) kept.now) result
@@ -143,8 +143,8 @@ where
         self.kept.get(name)
     }
 
-    /// Reads the text of a name of which nothing is kept, and keeps what it is read as; `None` where
-    /// the name is not there. An `Err` is want of memory, and then nothing more is kept.
+    /// Parses the text of a name for which nothing is kept, and keeps the result. Returns `None` if the source doesn't
+    /// have the name. An `Err` means out of memory, and then nothing more is kept.
     fn read(
         &mut self,
         alloc: Global,
@@ -204,7 +204,7 @@ where
         self.texts.names(alloc)
     }
 
-    /// Reads a text only where the name is there and nothing is kept of it, and then one.
+    /// Parses a text only if the source has the name and nothing is kept for it, and then one.
     fn try_get(
         &mut self,
         alloc: Global,
@@ -243,7 +243,7 @@ where
         }
     }
 
-    /// Reads a text only where the name is there and nothing is kept of it, and then one.
+    /// Parses a text only if the source has the name and nothing is kept for it, and then one.
     fn get(
         &mut self,
         alloc: Global,
@@ -283,7 +283,7 @@ where
     }
 }
 
-/// What is to be kept of a name's text, and `None` where the name is not there. An `Err` is want of
+/// Returns what has to be kept for a name, and `None` if the source doesn't have the name. An `Err` means out of
 /// memory.
 fn kept_of<S, F, T, B>(
     alloc: Global,
@@ -315,7 +315,7 @@ where
     }
 }
 
-/// Keeps what a name's text is read as.
+/// Keeps the result of parsing a name's text.
 #[tactic(auto, using(crate::proofs::EachLemmas::insert_kept, crate::proofs::EachLemmas::unchanged_kept))]
 fn keep<X: Filter, T: Meant + Drop, B: Meant + Drop>(
     kept: &mut BTreeMap<String, Kept<X, T, B>>,
@@ -335,7 +335,7 @@ fn keep<X: Filter, T: Meant + Drop, B: Meant + Drop>(
     }
 }
 
-/// What is kept, as an answer of its own.
+/// Returns what is kept, as an owned result.
 fn kept_answer<X: Filter, T: Meant + Drop, B: Meant + Drop>(
     kept: &Kept<X, T, B>,
 ) -> Result<Rc<Template<X, T, B>>, Error>
@@ -347,7 +347,7 @@ fn kept_answer<X: Filter, T: Meant + Drop, B: Meant + Drop>(
     }
 }
 
-/// The template that is kept, or `None` for a fault.
+/// Returns the template that is kept, or `None` for a fault.
 fn kept_tree<X: Filter, T: Meant + Drop, B: Meant + Drop>(
     kept: &Kept<X, T, B>,
 ) -> Result<Option<Rc<Template<X, T, B>>>, AllocError>
@@ -361,7 +361,7 @@ fn kept_tree<X: Filter, T: Meant + Drop, B: Meant + Drop>(
     }
 }
 
-/// A copy of what is to be kept.
+/// Returns a copy of what has to be kept.
 fn copied<X: Filter, T: Meant + Drop, B: Meant + Drop>(
     kept: &Kept<X, T, B>,
 ) -> Result<Kept<X, T, B>, AllocError>

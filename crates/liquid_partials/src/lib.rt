@@ -1,5 +1,5 @@
-//! From texts to written bytes: sources of partials, the stores that are compiled of them, and the
-//! rendering of a text at once.
+//! From texts to written bytes: sources of partials, the stores that are compiled from them, and the rendering of a
+//! text in one call.
 #![tactic(auto)]
 
 mod compiler;

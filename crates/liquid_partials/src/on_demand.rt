@@ -1,4 +1,4 @@
-//! Partials that are read at each request.
+//! Partials that are parsed at each request.
 ghost use Rattle.std.specs.Prelude.{◌≡◌, ◌+◌, option_map, IfOk};
 ghost use Rattle.std.specs.Borrow.{sem, Lends};
 ghost use Rattle.std.specs.FinMap.{contains_key};
@@ -20,28 +20,28 @@ use std::alloc::{AllocError, Global};
 use std::default::MadeWith;
 use std::rc::Rc;
 
-/// Makes stores that read a text whenever its name is requested.
+/// Makes stores that parse a text whenever its name is requested.
 #[derive(Drop)]
 pub struct OnDemandCompiler<S> {
     source: S,
 }
 
 impl<S: PartialSource> OnDemandCompiler<S> {
-    /// A compiler of this source.
+    /// Returns a compiler of this source.
     pub fn new(source: S) -> OnDemandCompiler<S>
         ensures { result.source ≡ source }
     {
         OnDemandCompiler { source }
     }
 
-    /// The source.
+    /// Returns the source.
     pub fn source(&self) -> &S
         ensures { result.now ≡ self.now.source }
     {
         &self.source
     }
 
-    /// The source, to be changed in place.
+    /// Returns the source, to be changed in place.
     pub fn source_mut(&mut self) -> &mut S
         ensures* writes_back { sem 𝓛 (Lends (the_row S.row) S.row self.entry result (λ source. record { source = source })) }
         ensures value { result.now ≡ self.old.source }
@@ -51,7 +51,7 @@ impl<S: PartialSource> OnDemandCompiler<S> {
 }
 
 impl<S: PartialSource + MadeWith<Global>> OnDemandCompiler<S> {
-    /// A compiler of an empty source.
+    /// Returns a compiler of an empty source.
     pub fn empty(alloc: Global) -> OnDemandCompiler<S>
         ensures { S.is_made_with result.source }
     {
@@ -72,7 +72,7 @@ where
 
     ghost texts = { λ compiler. S.texts compiler.source };
 
-    /// Reads no text yet, and takes no memory.
+    /// Parses no text yet, and takes no memory.
     fn compile(
         self,
         _alloc: Global,
@@ -88,7 +88,7 @@ where
     }
 }
 
-/// A store that reads a text whenever its name is requested.
+/// A store that parses a text whenever its name is requested.
 #[derive(Drop)]
 pub struct OnDemandStore<S, F, T, B> {
     texts: Texts<S, F, T, B>,

@@ -1,11 +1,10 @@
-//! How many texts were read, for clauses alone.
+//! How many texts were parsed, used only by clauses.
 ghost use Rattle.std.specs.Prelude.{◌≡◌, ℕ, ◌+◌};
 ghost use Rattle.std.specs.Borrow.{ftrue};
 
 use std::marker::{Model, PhantomData};
 
-/// The count of readings, which has no top. It takes no memory, and its methods do nothing at run
-/// time.
+/// The number of parsed texts, which has no limit. It takes no memory, and its methods do nothing at run time.
 #[derive(Drop)]
 pub struct Readings {
     marker: PhantomData<u8>,
@@ -17,7 +16,7 @@ impl Model for Readings {
 }
 
 impl Readings {
-    /// Nothing was read yet.
+    /// Returns the count of no parsed texts.
     #[inline(always)]
     pub fn none() -> Readings
         ensures { result.count ≡ 0 }
@@ -27,7 +26,7 @@ impl Readings {
         }
     }
 
-    /// One more text is read.
+    /// Counts one more parsed text.
     #[inline(always)]
     pub fn one_more(&mut self)
         ensures { self.new ≡ record self.old { count = self.old.count + 1 } }

@@ -1,4 +1,4 @@
-//! Rendering a text at once.
+//! Rendering a text in one call.
 ghost use Rattle.std.specs.Prelude.{◌≡◌, List, Result};
 ghost use Rattle.liquid_error.specs.meaning.Refusal.{Refusal};
 ghost use Rattle.liquid_parser.specs.meaning.Plugins.{language_of};
@@ -16,11 +16,10 @@ use liquid_runtime::Runtime;
 use liquid_template::{PartialStore, Sink, Template};
 use std::alloc::Global;
 
-/// Parses a text and writes what it comes to in the runtime's view.
+/// Parses a text, renders it in the runtime's view and writes the result.
 ///
-/// A text that is no template is refused before anything is written or changed. What was written
-/// before any other refusal stays written, and a failure of the sink is refused as "Failed to
-/// render".
+/// A text that is not a template is an error before anything is written or changed. What was written before any other
+/// error stays written. If the sink fails, the error is "Failed to render".
 pub fn render_source<F, T, B, R, K>(
     alloc: Global,
     text: &str,

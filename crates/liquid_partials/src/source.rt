@@ -15,20 +15,20 @@ use std::borrow::CowStr;
 pub trait PartialSource {
     ghost texts: { Self → Texts };
 
-    /// Whether there is a text of this name.
+    /// Returns `true` if there is a text of this name.
     fn contains(&self, name: &str) -> bool
         ensures { result ≡ is_some (get (texts self.now) name.now) };
 
-    /// The names, in byte order. An `Err` is want of memory.
+    /// Returns the names, in byte order. An `Err` means out of memory.
     fn names(&self, alloc: Global) -> Result<Vec<&str>, AllocError>
         ensures { IfOk result (λ names. map (λ name. name.now) names.items ≡ keys (texts self.now)) };
 
-    /// The text of a name, or `None` where there is none of this name. An `Err` is want of memory.
+    /// Returns the text of a name, or `None` if there is none of this name. An `Err` means out of memory.
     fn try_get(&self, alloc: Global, name: &str) -> Result<Option<CowStr<'_>>, AllocError>
         ensures { IfOk result (λ text. option_map cow_str_bytes text ≡ get (texts self.now) name.now) };
 
-    /// The text of a name. A name that is not there is refused as "Unknown partial-template", with
-    /// the contexts `requested partial` and `available partials`.
+    /// Returns the text of a name. For an unknown name the error is "Unknown partial-template", with the contexts
+    /// `requested partial` and `available partials`.
     fn get(&self, alloc: Global, name: &str) -> Result<CowStr<'_>, Error>
         ensures { Gives cow_str_bytes result (ok_or (get (texts self.now) name.now) (unknown_partial name.now (keys (texts self.now)))) }
     {

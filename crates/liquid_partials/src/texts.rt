@@ -1,4 +1,4 @@
-//! The texts of a source, read in a language.
+//! The texts of a source, parsed in a language.
 ghost use Rattle.std.specs.Prelude.{◌≡◌, ◌+◌, is_some, map, option_map, Ok, IfOk, IfSome};
 ghost use Rattle.std.specs.FinMap.{contains_key, get, keys};
 ghost use Rattle.liquid_error.specs.meaning.Told.{told, Gives};
@@ -17,10 +17,10 @@ use liquid_template::{Template, unknown_partial};
 use std::alloc::{AllocError, Global};
 use std::rc::Rc;
 
-/// A source and the language that its texts are read in.
+/// A source and the language that its texts are parsed in.
 ///
-/// Both are private to it. `read` alone reads a text: it runs the parser and counts that. The other
-/// calls answer names, or whether a name is there.
+/// Both are private to it. Only `read` parses a text: it runs the parser and counts that. The other calls return names,
+/// or whether the source has a name.
 #[derive(Drop)]
 pub struct Texts<S, F, T, B> {
     source: S,
@@ -35,7 +35,7 @@ where
     T: ParseTag<F> + Drop,
     B: ParseBlock<F> + Drop,
 {
-    /// The texts of a source, of which none was read yet.
+    /// Returns the texts of a source, of which none is parsed yet.
     pub fn new(source: S, language: Rc<Language<F, T, B>>) -> Texts<S, F, T, B>
         ensures source { result.source ≡ source }
         ensures language { result.language ≡ language }
@@ -48,21 +48,21 @@ where
         }
     }
 
-    /// Whether the source has a text of this name.
+    /// Returns `true` if the source has a text of this name.
     pub fn contains(&self, name: &str) -> bool
         ensures { result ≡ is_some (get (S.texts self.now.source) name.now) }
     {
         self.source.contains(name)
     }
 
-    /// The names of the texts, in byte order.
+    /// Returns the names of the texts, in byte order.
     pub fn names(&self, alloc: Global) -> Result<Vec<&str>, AllocError>
         ensures { IfOk result (λ names. map (λ name. name.now) names.items ≡ keys (S.texts self.now.source)) }
     {
         self.source.names(alloc)
     }
 
-    /// The refusal of a name that the source doesn't have.
+    /// Returns the error for a name that the source doesn't have.
     pub fn unknown(&self, alloc: Global, name: &str) -> Error
         ensures { IfSome (told result) (λ refusal. refusal ≡ unknown_partial name.now (keys (S.texts self.now.source))) }
     {
@@ -72,8 +72,7 @@ where
         }
     }
 
-    /// The template that a name's text is read as, or its fault, and `None` where the source doesn't
-    /// have the name.
+    /// Returns the template of a name's text, or its fault, and `None` if the source doesn't have the name.
     pub fn read(
         &mut self,
         alloc: Global,
@@ -99,7 +98,7 @@ where
         }
     }
 
-    /// How many texts were read.
+    /// Returns the number of parsed texts.
     pub fn into_readings(self) -> Readings
         ensures { result ≡ self.readings }
     {
@@ -107,7 +106,7 @@ where
     }
 }
 
-/// The template of a text, or the text's fault.
+/// Returns the template of a text, or the text's fault.
 fn parsed<F: ParseFilter + Drop, T: ParseTag<F> + Drop, B: ParseBlock<F> + Drop>(
     alloc: Global,
     text: &str,

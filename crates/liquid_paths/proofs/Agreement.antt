@@ -1,4 +1,4 @@
--- The call that may refuse agrees with the one that need not.
+-- The call that can fail agrees with the one that can't.
 use Rattle.std.proofs.Common.{◌≡◌, [], ◌∷◌, ◌++◌, Option, Some, None, Result, Ok, Err, refl, ap, ◌∙◌}
 use Rattle.std.specs.Prelude.{ok_or, option_and_then}
 use Rattle.std.specs.Result.{result_ok}
@@ -8,7 +8,7 @@ use Rattle.liquid_paths.specs.meaning.Step.{step}
 use Rattle.liquid_paths.specs.meaning.Walk.{Path, walk, find_behind, unknown_index}
 use Rattle.liquid_paths.specs.laws.Laws.{FindAgrees}
 
--- an answer and what comes of it
+-- a result and what follows from it
 pub ok_then-agrees : {A B : Type 0} (r : Result A Refusal) (f : A → Result B Refusal) (o : Option A) (h : A → Option B) → result_ok r ≡ o → ((x : A) → result_ok (f x) ≡ h x) → result_ok (ok_then r f) ≡ option_and_then h o
 ok_then-agrees (Ok x) f o h e k = k x ∙ ap (option_and_then h) e
 ok_then-agrees (Err refusal) f o h e k = ap (option_and_then h) e

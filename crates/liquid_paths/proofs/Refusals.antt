@@ -1,4 +1,4 @@
--- The refusal of an index that is not there.
+-- The refusal of an index that a value does not have.
 use Rattle.std.proofs.Common.{◌≡◌, ℕ, List, codes, length, Option, None, Some, IfSome, sym, ap, ◌∙◌}
 use Rattle.std.specs.Prelude.{option_map}
 use Rattle.liquid_error.specs.declared.error.Error.{Error}
@@ -20,7 +20,7 @@ known_after change meant old None p q = tt
 known_after change meant None (Some r) p q = cc
 known_after change meant (Some o) (Some r) p q = let e : change o ≡ r = cc in sym e ∙ ap change p
 
--- an error whose refusal is known, changed
+-- an error whose refusal is given, changed
 pub becomes_known : (change : Refusal → Refusal) (meant : Refusal) (old new : Error) → IfSome (told old) (λ r. r ≡ meant) → Becomes change old new → IfSome (told new) (λ r. r ≡ change meant)
 becomes_known change meant old new p q = known_after change meant (told old) (told new) p q
 

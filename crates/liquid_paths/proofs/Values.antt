@@ -1,4 +1,4 @@
--- A list of values beside the items that it means, and a map's entries beside the members.
+-- A list of values and the items that it means, and a map's entries and its members.
 use Rattle.std.proofs.Common.{Bor, ◌≡◌, ℕ, ℤ, zero, suc, ◌<◌, ◌≤◌, List, [], ◌∷◌, length, get_or, Option, None, Some, refl, ap, arith, String, Global}
 use Rattle.std.specs.Prelude.{string_bytes, option_map, option_and_then, cond}
 use Rattle.std.specs.BTreeMap.{is_at}
@@ -54,7 +54,7 @@ pub value_of_member : (name : List ℕ) (es : List (String Global × Value)) →
 value_of_member name [] = refl
 value_of_member name (e ∷ es) = found_or (slice_cmp nat_cmp name (string_bytes e.0)) e.1 _ _ (value_of_member name es)
 
--- a number that is made stands nowhere else
+-- a number that is made is not borrowed
 pub made_in_place : (cow : ValueCow) (n : ℤ) → cow_view cow ≡ scalar (integer n) → InPlace cow
 made_in_place (Owned value) n is = (n, is)
 made_in_place (Borrowed value) n is = tt

@@ -1,3 +1,4 @@
+//! A path: a list of indexes.
 ghost use Rattle.std.specs.Prelude.{◌≡◌, ◌++◌, [], ◌∷◌, List, length, Some, IfOk, IfSome, OnOk, OnErr};
 ghost use Rattle.std.specs.Iterator.{UpTo, at_most};
 ghost use Rattle.std.specs.Iterator.SizeHint.{IsExactHint, IsWithinCount};
@@ -19,7 +20,7 @@ pub struct Path<'s> {
 }
 
 impl<'s> Path<'s> {
-    /// The path of one index.
+    /// Returns the path of one index.
     pub fn with_index<I: Into<ScalarCow<'s>>>(
         alloc: Global,
         value: I,
@@ -31,7 +32,7 @@ impl<'s> Path<'s> {
         Ok(Path { indexes })
     }
 
-    /// Adds an index behind the others.
+    /// Adds an index after the others. On an error the path is left as it was.
     pub fn push<I: Into<ScalarCow<'s>>>(&mut self, value: I) -> Result<(), AllocError>
         ensures ok { OnOk result ((x : _) × I.converts value x × (path_of self.new ≡ path_of self.old ++ index_of x ∷ [])) }
         ensures err { OnErr result (path_of self.new ≡ path_of self.old) }
@@ -47,14 +48,14 @@ impl<'s> Path<'s> {
         self.indexes.reserve(additional)
     }
 
-    /// The indexes.
+    /// Returns the indexes.
     pub fn as_slice(&self) -> &[ScalarCow<'s>]
         ensures { indexes_of result.now ≡ path_of self.now }
     {
         self.indexes.as_slice()
     }
 
-    /// A walk over the indexes.
+    /// Returns an iterator over the indexes.
     pub fn iter(&self) -> PathIter<'_, 's>
         ensures { indexes_of (path_iter_rest result) ≡ path_of self.now }
     {
@@ -64,7 +65,7 @@ impl<'s> Path<'s> {
     }
 }
 
-/// A walk over the indexes of a path.
+/// An iterator over the indexes of a path.
 #[derive(Drop)]
 pub struct PathIter<'p, 's> {
     indexes: slice::Iter<'p, ScalarCow<'s>>,
@@ -81,7 +82,7 @@ impl<'p, 's> Iterator for PathIter<'p, 's> {
         self.indexes.next()
     }
 
-    /// How many indexes are left, as both bounds.
+    /// Returns the number of indexes that are left, as both bounds.
     fn size_hint(&self) -> (usize, Option<usize>)
         ensures lower { IsWithinCount result.0 (at_most (length (path_iter_rest self.now))) }
         ensures upper { IfSome result.1 (UpTo (at_most (length (path_iter_rest self.now)))) }
@@ -118,7 +119,7 @@ impl<'s> Clone for Path<'s> {
     }
 }
 
-/// The indexes as they render, joined by `.`.
+/// Writes the indexes as they render, joined by `.`.
 impl fmt::Display for Path<'_> {
     ghost output = { λ p. Some (path_text (path_of p)) };
 
@@ -127,7 +128,7 @@ impl fmt::Display for Path<'_> {
     }
 }
 
-/// Displays a list of indexes as a path.
+/// Prints a list of indexes as a path.
 #[derive(Clone, Copy)]
 pub struct PathText<'p, 's> {
     pub indexes: &'p [ScalarCow<'s>],

@@ -1,3 +1,4 @@
+//! One step from a value by an index.
 ghost use Rattle.std.specs.Prelude.{◌≡◌, ◌<◌, ◌^◌, IfOk, IfSome, Some, length, option_map, pos, string_bytes};
 ghost use Rattle.std.specs.Option.{option_or};
 ghost use Rattle.liquid_value.specs.meaning.Cow.{cow_view};
@@ -14,12 +15,11 @@ use liquid_scalar::{Scalar, ScalarCow, ScalarOf};
 use liquid_value::{Object, Value, ValueCow};
 use std::alloc::{AllocError, Global};
 
-/// One step from a value by an index, or `None` where the value has nothing there.
+/// Takes one step from a value by an index. Returns `None` if the value has nothing at the index.
 ///
-/// An array has the item at the index's number, from the end where it is negative; else the words
-/// `first`, `last` and `size`. An object has its own keys, else the word `size`. A scalar has the
-/// `size` of its text in bytes. What is found is borrowed; only a size is made. An `Err` is want of
-/// memory.
+/// An array has the item at the index's number, counted from the end if it is negative; otherwise the words `first`,
+/// `last` and `size`. An object has its own keys, otherwise the word `size`. A scalar has the `size` of its text in
+/// bytes. What is found is borrowed, and only a size is made. An `Err` means out of memory.
 pub fn step<'v>(
     alloc: Global,
     value: &'v Value,
@@ -38,7 +38,7 @@ pub fn step<'v>(
 
 /// Returns the member of an object at a text, or the item of an array at a whole number. It takes no memory.
 ///
-/// Where it returns `None`, a step by the index may still lead somewhere: to a size, to `first` or `last`, or by a scalar
+/// If it returns `None`, a step by the index may still lead somewhere: to a size, to `first` or `last`, or by a scalar
 /// of another kind.
 pub fn own_part<'v>(value: &'v Value, index: &Scalar) -> Option<&'v Value>
     ensures part { option_map (λ part. view part.now) result ≡ own_part (view value.now) (scal string_bytes index.now) }
@@ -88,7 +88,7 @@ fn number<'v>(count: usize) -> ValueCow<'v>
     ValueCow::Owned(Value::Scalar(ScalarOf::Integer(count as i64)))
 }
 
-/// The place that an index from the front, or a negative one from the end, names in a list.
+/// Returns the place in a list that an index names, counted from the front, or from the end if it is negative.
 fn place_at(index: i64, length: usize) -> Option<usize>
     ensures { result ≡ place_at index length }
 {
@@ -167,7 +167,7 @@ fn step_scalar<'v>(
     Ok(size_asked(word.as_str(), text_size(alloc, subject)?))
 }
 
-/// The size of a scalar's text. That of a number takes no memory.
+/// Returns the size of a scalar's text. A number's size takes no memory.
 fn text_size(alloc: Global, scalar: &Scalar) -> Result<usize, AllocError>
     ensures { IfOk result (λ size. (size ≡ length (render_scalar (scal string_bytes scalar.now))) × (size < 2 ^ 63)) }
 {

@@ -1,3 +1,4 @@
+//! Walks from a value along a path.
 ghost use Rattle.std.specs.Prelude.{◌≡◌, take, drop, Some, IfOk, IfSome, option_map, string_bytes};
 ghost use Rattle.liquid_value.specs.meaning.Cow.{cow_view};
 ghost use Rattle.liquid_value.specs.meaning.View.{view, items_view, members_view};
@@ -16,9 +17,8 @@ use liquid_scalar::ScalarCow;
 use liquid_value::{Object, Value, ValueCow};
 use std::alloc::{AllocError, Global};
 
-/// The value at the end of a path, or `None` where an index on the way has nothing there. The empty
-/// path leads to the value itself. What is found is borrowed where it stands; only a `size` is made.
-/// An `Err` is want of memory.
+/// Returns the value at the end of a path, or `None` if an index on the way has nothing at it. The empty path leads to
+/// the value itself. What is found is borrowed in place, and only a `size` is made. An `Err` means out of memory.
 pub fn try_find<'v>(
     alloc: Global,
     value: &'v Value,
@@ -37,7 +37,7 @@ pub fn try_find<'v>(
     Ok(Some(at))
 }
 
-/// One step on: from a borrowed value to where its part stands, and from an owned one to an owned one.
+/// Takes one more step: from a borrowed value to its borrowed part, and from an owned one to an owned one.
 fn step_on<'v>(
     alloc: Global,
     at: &ValueCow<'v>,
@@ -69,9 +69,10 @@ fn step_owned(
     }
 }
 
-/// The value at the end of a path, borrowed as by `try_find`. Where an index on the way has nothing,
-/// the path is refused as "Unknown index", with the contexts `variable` (the indexes before that one,
-/// joined by `.`, unless it is the path's first), `requested index` (its text) and `available indexes`
+/// Returns the value at the end of a path, borrowed as by `try_find`.
+///
+/// If an index on the way has nothing at it, the error is "Unknown index", with the contexts `variable` (the indexes
+/// before that one, joined by `.`, unless it is the path's first), `requested index` (its text) and `available indexes`
 /// (those that the value before it has, joined by `, `).
 pub fn find<'v>(
     alloc: Global,
@@ -84,8 +85,8 @@ pub fn find<'v>(
     find_behind(alloc, 0, value, path)
 }
 
-/// The same of a path whose first `front` indexes have led to `value`: the walk begins behind them,
-/// and a refusal shows them in `variable`. Where the path has no index behind them, it is `value`.
+/// Does the same for a path whose first `front` indexes have led to `value`. The walk begins after them, and an error
+/// shows them in `variable`. If the path has no index after them, the result is `value`.
 pub fn find_behind<'v>(
     alloc: Global,
     front: usize,
@@ -107,7 +108,7 @@ pub fn find_behind<'v>(
     Ok(at)
 }
 
-/// The refusal of an index that the value behind the front does not have.
+/// Returns the error for an index that the value after the front does not have.
 fn unknown_index(
     alloc: Global,
     front: &[ScalarCow<'_>],

@@ -1,4 +1,4 @@
--- The calls that may refuse agree with those that need not.
+-- The calls that can fail agree with those that can't.
 use Rattle.std.proofs.Common.{◌≡◌, ◌∷◌, [], Bool, true, false, Option, Some, None, Result, Ok, Err, refl, ap, ◌∙◌, option_map}
 use Rattle.std.specs.Prelude.{ok_or, option_and_then, unwrap_or}
 use Rattle.std.specs.Result.{result_ok}
@@ -26,7 +26,7 @@ came_to (Err refusal) t e = cc
 same_value : {A : Type 0} (x y : A) → Some x ≡ Some y → x ≡ y
 same_value x y e = cc
 
--- what is given where each step is
+-- the result if each step has one
 ok_then-gives : {A B : Type 0} (r : Result A Refusal) (f : A → Result B Refusal) (o : Option A) (g : A → Option B) (u : B)
     → ((x : A) → o ≡ Some x → r ≡ Ok x) → ((x : A) (y : B) → g x ≡ Some y → f x ≡ Ok y) → option_and_then g o ≡ Some u → ok_then r f ≡ Ok u
 ok_then-gives r f None g u first more h = cc
@@ -62,7 +62,7 @@ module _ {Reg : Type 0} where
   pub paths_agree : (v : View Reg) (name : Scal) (is : Indexes) → v.lenient ≡ false → result_ok (named_path v name is) ≡ try_named_path v name is
   paths_agree v name is strict = ok_then-map name (path_of v is) (try_path_of v is) (path_agrees v is strict)
 
-  -- a path that has a value comes to it in any view
+  -- a path that has a value gives it in any view
   found_where : (v : View Reg) (path : Path) (t : Tree) (lenient : Bool) → v.lenient ≡ lenient → try_path v path ≡ Some t → found v path ≡ Ok t
   found_where v path t true e h = lenient_get_agrees v path e ∙ ap (λ o. Ok (unwrap_or o nil)) h
   found_where v path t false e h = came_to (found v path) t (get_agrees v path e ∙ h)

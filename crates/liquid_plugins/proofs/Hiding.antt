@@ -19,7 +19,7 @@ module _ {Reg : Type 0} where
   pub try_hidden : (g : Names) (v : View Reg) (e : ExpressionShape) → try_evaluate (hiding g v) e ≡ try_evaluate (hiding empty v) e
   try_hidden g v e = sym (try_erased (hiding g v) e) ∙ try_erased (hiding empty v) e
 
-  -- nor does an answer that leaves the globals as they are, whatever else of the view it changes
+  -- nor does a result that leaves the globals as they are, whatever else of the view it changes
   pub answers_hide : {A P : Type 0} (answer : Result A Refusal) (p : P) (change : View Reg → View Reg)
       → ((g : Names) (v : View Reg) → change (hiding g v) ≡ hiding g (change v))
       → (g : Names) (v : View Reg) → answers answer p (change (hiding g v)) ≡ overlaid g (answers answer p (change (hiding empty v)))

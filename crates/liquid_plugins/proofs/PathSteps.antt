@@ -8,11 +8,11 @@ use Rattle.liquid_plugins.specs.meaning.Expression.{index}
 use Rattle.liquid_plugins.specs.meaning.ExpressionOf.{expression_of, expressions_of}
 use Rattle.liquid_plugins.specs.declared.expression.Expression.{Expression}
 
--- a path behind a front, if there is one
+-- a path after a front, if there is one
 abbrev pub try_behind : Path → Option Path → Option Path
 try_behind front o = option_map (λ path. front ++ path) o
 
--- a path behind a front
+-- a path after a front
 abbrev pub behind : Path → Result Path Refusal → Result Path Refusal
 behind front r = ok_then r (λ path. Ok (front ++ path))
 

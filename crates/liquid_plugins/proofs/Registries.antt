@@ -1,4 +1,4 @@
--- What the map of a registry answers, and what a change to its entries makes of it.
+-- What the map of a registry gives, and how a change to its entries changes it.
 use Rattle.std.proofs.Common.{◌≡◌, ℕ, Bool, true, false, cond, ◌&&◌, List, [], ◌∷◌, Some, map, refl, ap, sym, ◌∙◌, subst}
 use Rattle.std.specs.Prelude.{T, String, string_bytes}
 use Rattle.std.specs.BTreeMap.{BTreeMap, IsEmpty, IsUnchanged, IsOrdered, IsClone, get_by_text, Updates}
@@ -31,7 +31,7 @@ module _ {X : Type 0} where
   find-named q [] = refl
   find-named q (e ∷ es) = ap (cond (is_eq (slice_cmp nat_cmp q (string_bytes e.0))) (Some e.1)) (find-named q es)
 
-  -- a registry answers as its entries do
+  -- a registry gives what its entries give
   pub get-by_name : (m : BTreeMap (String Global) X) (q : List ℕ) → get (by_name m) q ≡ get_by_text m q
   unfolding by_name
   get-by_name m q = get-from_entries nat_list_cmp_total (map named m.entries) q ∙ find-named q m.entries
@@ -44,7 +44,7 @@ module _ {X : Type 0} where
   unfolding by_name
   by_name-unchanged old new e = ap (λ es. from_entries (map named es)) e
 
-  -- to give a name a plug-in in the entries is to insert it
+  -- giving a name a plug-in in the entries is inserting it
   pub by_name-insert : (old new : BTreeMap (String Global) X) (k : String Global) (x : X) → Updates string_cmp old new k (Some x) → by_name new ≡ insert (by_name old) (string_bytes k) x
   by_name-insert old new k x updates = same_names _ _ (λ q.
       let same : bytes_eq (string_bytes k) q ≡ eq_by_cmp (slice_cmp nat_cmp) q (string_bytes k) =

@@ -1,4 +1,4 @@
--- What an expression comes to where each value on the way stands.
+-- The value of an expression if each value on the way exists.
 use Rattle.std.proofs.Common.{◌≡◌, ℕ, List, ◌∷◌, Option, Some, None, Ok, refl, ap, ◌∙◌, option_map}
 use Rattle.std.specs.Prelude.{option_and_then}
 use Rattle.std.proofs.lemmas.Option.{option_and_then_some, none-some}
@@ -15,7 +15,7 @@ use Rattle.liquid_plugins.specs.meaning.Evaluation.{evaluate, try_evaluate, try_
 use Rattle.liquid_plugins.specs.steps.LiteralWalk.{literal_part, literal_walk}
 use Rattle.liquid_plugins.proofs.Agreement.{evaluate_gives}
 
--- what a path that is known, if it is, leads to from a value
+-- where a path leads from a value, if the path is known
 abbrev pub from_here : Tree → Option Path → Option Tree
 from_here t o = option_and_then (λ path. walk t path) o
 
@@ -24,7 +24,7 @@ stepped t next s None h = refl
 stepped t next s (Some path) h = ap (option_and_then (λ u. walk u path)) h
 
 module _ {Reg : Type 0} where
-  -- the call that may refuse comes to what is known to stand
+  -- the call that can fail gives the value that is known to exist
   pub stands : (v : View Reg) (e : ExpressionShape) (t : Tree) → try_evaluate v e ≡ Some t → evaluate v e ≡ Ok t
   stands v e t h = evaluate_gives v e t h
 
@@ -32,15 +32,15 @@ module _ {Reg : Type 0} where
   named v name t None h = refl
   named v name t (Some path) h = ap (option_and_then (λ u. walk u path)) h
 
-  -- a variable leads on from the value of its name
+  -- a variable leads from the value of its name
   pub begins_at : (v : View Reg) (name : Scal) (is : Indexes) (t : Tree) → lookup v (render_scalar name) ≡ Some t → try_evaluate v (variable name is) ≡ from_here t (try_path_of v is)
   begins_at v name is t h = named v name t (try_path_of v is) h
 
-  -- a name alone comes to the value that it has
+  -- a name alone gives the value that it has
   pub named_stands : (v : View Reg) (name : List ℕ) (t : Tree) → lookup v name ≡ Some t → evaluate v (variable (text name) no_indexes) ≡ Ok t
   named_stands v name t h = stands v (variable (text name) no_indexes) t (begins_at v (text name) no_indexes t h)
 
-  -- an index that is known to be a scalar leads one step on
+  -- an index that is known to be a scalar leads one step further
   pub goes_on : (v : View Reg) (t next i : Tree) (s : Scal) (e : ExpressionShape) (es : Indexes) → try_evaluate v e ≡ Some i → i ≡ scalar s → step t s ≡ Some next → from_here t (try_path_of v (index e es)) ≡ from_here next (try_path_of v es)
   goes_on v t next i s e es h j k =
       ap (λ o. from_here t (option_and_then (λ u. option_and_then (λ x. option_map (λ path. x ∷ path) (try_path_of v es)) (as_scalar u)) o)) (h ∙ ap Some j)
@@ -62,7 +62,7 @@ module _ {Reg : Type 0} where
       option_and_then_some (λ x. step t x) (as_scalar i) next at_index (λ s is_scalar at_part.
       leads_on v t i next s e es (comes_to v e i is_literal) is_scalar at_part))
 
-  -- literal indexes lead where they do in every view
+  -- literal indexes lead to the same value in every view
   pub literals_lead : (v : View Reg) (t u : Tree) (es : Indexes) → literal_walk t es ≡ Some u → option_and_then (λ path. walk t path) (try_path_of v es) ≡ Some u
   literals_lead v t u no_indexes h = h
   literals_lead v t u (index e es) h =

@@ -1,4 +1,4 @@
--- Indexes of different numbers are unequal.
+-- Lists of indexes of different lengths are unequal.
 use Rattle.std.proofs.Common.{◌≡◌, suc, List, [], ◌∷◌, length, Bool, true, false, ◌&&◌, refl, ap, ◌∙◌}
 use Rattle.liquid_plugins.specs.meaning.ExpressionOf.{expression_of, expressions_of}
 use Rattle.liquid_plugins.specs.meaning.Same.{same_expression, same_indexes}

@@ -1,4 +1,4 @@
-//! What chains come to over a runtime, and the text that they display.
+//! The evaluation of chains over a runtime, and the text that they print.
 ghost use Rattle.std.specs.Prelude.{◌≡◌, ◌++◌, [], codes, map, IfOk, Some};
 ghost use Rattle.std.specs.Fmt.{WritesOnOk};
 ghost use Rattle.std.specs.List.{flat_map, join_by};
@@ -22,14 +22,14 @@ use std::alloc::{AllocError, Global};
 use std::fmt;
 
 impl<X: Filter> FilterChain<X> {
-    /// A chain of an expression and filters.
+    /// Returns a chain of an expression and filters.
     pub fn new(entry: Expression, filters: Vec<X>) -> FilterChain<X>
         ensures { chain_of X.shape result ≡ record { entry = expression_of entry; filters = map X.shape filters.items } }
     {
         FilterChain { entry, filters }
     }
 
-    /// The chain of a name alone.
+    /// Returns the chain of a name alone.
     pub fn of_name(alloc: Global, name: &str) -> Result<FilterChain<X>, AllocError>
         ensures { IfOk result (λ chain. chain_of X.shape chain ≡ record { entry = variable (text name.now) no_indexes; filters = [] }) }
     {
@@ -37,9 +37,9 @@ impl<X: Filter> FilterChain<X> {
         Ok(FilterChain::new(Expression::Variable(name), Vec::new(alloc)))
     }
 
-    /// What the chain comes to, or the first refusal from the left.
+    /// Returns the value of the chain, or the first error from the left.
     ///
-    /// The refusal of a filter gets the trace `Filter error` with the filter's label and the source of its input.
+    /// The error of a filter gets the trace `Filter error` with the filter's label and the source of its input.
     pub fn evaluate<'s, R: Runtime>(
         &'s self,
         alloc: Global,
@@ -54,7 +54,7 @@ impl<X: Filter> FilterChain<X> {
     }
 }
 
-/// The value through the filters, from left to right.
+/// Applies the filters to a value, from left to right.
 fn apply<'s, X: Filter, R: Runtime>(
     alloc: Global,
     value: ValueCow<'s>,
@@ -73,7 +73,7 @@ fn apply<'s, X: Filter, R: Runtime>(
     Ok(current)
 }
 
-/// The refusal of a filter, with its label and its input.
+/// Returns the error of a filter, with its label and its input.
 fn filter_refused<X: Filter>(alloc: Global, filter: &X, input: &ValueCow<'_>, error: Error) -> Error
     ensures { Becomes (from_filter (X.means.label (X.shape filter.now)) (source (cow_view input.now))) error result }
 {
@@ -84,7 +84,7 @@ fn filter_refused<X: Filter>(alloc: Global, filter: &X, input: &ValueCow<'_>, er
     with_filter(alloc, error, filter.label(), source.as_str())
 }
 
-/// The refusal with the trace of a filter, its label and its input's source.
+/// Returns the error with the trace of a filter, its label and its input's source.
 fn with_filter(alloc: Global, error: Error, label: &str, source: &str) -> Error
     ensures { Becomes (from_filter label.now source.now) error result }
 {
@@ -94,7 +94,7 @@ fn with_filter(alloc: Global, error: Error, label: &str, source: &str) -> Error
         .context(alloc, "input", source)
 }
 
-/// The entry, ` | `, and the labels with ` | ` between.
+/// Writes the entry, ` | `, and the labels with ` | ` between them.
 impl<X: Filter> fmt::Display for FilterChain<X> {
     ghost output = { λ c. Some (chain_text X.means (chain_of X.shape c)) };
 

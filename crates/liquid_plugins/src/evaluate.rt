@@ -1,4 +1,4 @@
-//! What expressions come to over a runtime.
+//! The evaluation of expressions over a runtime.
 ghost use Rattle.std.specs.Prelude.{ok_or, ◌≡◌, string_bytes, IfOk, IfSome, option_map};
 ghost use Rattle.liquid_error.specs.meaning.Told.{told, Gives};
 ghost use Rattle.liquid_scalar.specs.meaning.Scalar.{scal};
@@ -23,8 +23,8 @@ use std::alloc::{AllocError, Global};
 use std::borrow::CowStr;
 
 impl Expression {
-    /// What the expression comes to, or the first refusal from the left: a literal's value, and
-    /// what the runtime has at a variable's path, by `get`. A value that stands in either is borrowed.
+    /// Returns the value of the expression, or the first error from the left: a literal's value, or what the runtime
+    /// has at a variable's path, by `get`. A value that exists in either is borrowed.
     #[tactic(auto, using(crate::proofs::StandingValues::stands))]
     pub fn evaluate<'c, R: Runtime>(
         &'c self,
@@ -40,7 +40,7 @@ impl Expression {
         }
     }
 
-    /// What the expression comes to, if it comes to a value. An `Err` is want of memory.
+    /// Returns the value of the expression, if it has one. An `Err` means out of memory.
     pub fn try_evaluate<'c, R: Runtime>(
         &'c self,
         alloc: Global,
@@ -57,7 +57,7 @@ impl Expression {
 }
 
 impl VariableOf<Expression> {
-    /// The path of the variable, or the first refusal of an index from the left.
+    /// Returns the path of the variable, or the first error of an index from the left.
     pub fn evaluate<'c, R: Runtime>(
         &'c self,
         alloc: Global,
@@ -68,7 +68,7 @@ impl VariableOf<Expression> {
         named_path(alloc, &self.variable, &self.indexes, runtime)
     }
 
-    /// The path of the variable, if each index comes to a scalar. An `Err` is want of memory.
+    /// Returns the path of the variable, if the value of each index is a scalar. An `Err` means out of memory.
     pub fn try_evaluate<'c, R: Runtime>(
         &'c self,
         alloc: Global,
@@ -80,7 +80,7 @@ impl VariableOf<Expression> {
     }
 }
 
-/// What the expression comes to, or the first refusal from the left.
+/// Returns the value of the expression, or the first error from the left.
 #[cycle(evaluate)]
 fn evaluate<'c, R: Runtime>(
     alloc: Global,
@@ -104,7 +104,7 @@ fn evaluate<'c, R: Runtime>(
     }
 }
 
-/// The path of a name, and of what the indexes come to, from left to right.
+/// Returns the path of a name and of the values of the indexes, from left to right.
 #[cycle(evaluate)]
 fn named_path<'c, R: Runtime>(
     alloc: Global,
@@ -127,7 +127,7 @@ fn named_path<'c, R: Runtime>(
     Ok(path)
 }
 
-/// What the expression comes to, if it comes to a value.
+/// Returns the value of the expression, if it has one.
 #[cycle(try_evaluate)]
 fn try_evaluate<'c, R: Runtime>(
     alloc: Global,
@@ -148,7 +148,7 @@ fn try_evaluate<'c, R: Runtime>(
     }
 }
 
-/// The path of a name, and of what the indexes come to, if each comes to a scalar.
+/// Returns the path of a name and of the values of the indexes, if each is a scalar.
 #[cycle(try_evaluate)]
 fn try_named_path<'c, R: Runtime>(
     alloc: Global,
@@ -171,7 +171,7 @@ fn try_named_path<'c, R: Runtime>(
     Ok(Some(path))
 }
 
-/// The scalar that a value is, if it is one.
+/// Returns the scalar of a value, if it is one.
 fn scalar_of<'c>(value: ValueCow<'c>) -> Option<ScalarCow<'c>>
     ensures { option_map index_of result ≡ as_scalar (cow_view value.entry) }
 {
@@ -187,7 +187,7 @@ fn scalar_of<'c>(value: ValueCow<'c>) -> Option<ScalarCow<'c>>
     }
 }
 
-/// The scalar of an index's value, or the refusal where it is none.
+/// Returns the scalar of an index's value, or the error if it is not a scalar.
 fn index_of<'c>(alloc: Global, value: ValueCow<'c>) -> Result<ScalarCow<'c>, Error>
     ensures { Gives index_of result (ok_or (as_scalar (cow_view value.entry)) (expected_scalar (cow_view value.entry))) }
 {
@@ -203,7 +203,7 @@ fn index_of<'c>(alloc: Global, value: ValueCow<'c>) -> Result<ScalarCow<'c>, Err
     }
 }
 
-/// The refusal of an index that is no scalar.
+/// Returns the error for an index that is not a scalar.
 fn expected_scalar(alloc: Global, value: &Value) -> Error
     ensures { IfSome (told result) (λ r. r ≡ expected_scalar (tree_of value.now)) }
 {
@@ -217,7 +217,7 @@ fn expected_scalar(alloc: Global, value: &Value) -> Error
     }
 }
 
-/// The same scalar with a text that may be borrowed.
+/// Returns the same scalar with a text that may be borrowed.
 fn owned_index<'c>(scalar: Scalar) -> ScalarCow<'c>
     ensures { index_of result ≡ scal string_bytes scalar }
 {

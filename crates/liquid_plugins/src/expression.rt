@@ -1,4 +1,4 @@
-//! Expressions and chains, and the markers that stand for their shapes.
+//! Expressions and chains, and the markers of their shapes.
 ghost use Rattle.std.specs.Prelude.{◌≡◌, map, string_bytes, option_map};
 ghost use Rattle.liquid_scalar.specs.meaning.Scalar.{scal};
 ghost use Rattle.liquid_value.specs.meaning.Tree.{scalar};
@@ -12,7 +12,7 @@ use liquid_scalar::Scalar;
 use liquid_value::Value;
 use std::marker::{Model, PhantomData};
 
-/// A name and its indexes, over what an index is.
+/// A name and its indexes, for any type of index.
 #[derive(Drop)]
 pub struct VariableOf<E> {
     pub variable: Scalar,
@@ -70,14 +70,14 @@ impl Meant for Expression {
 }
 
 impl Expression {
-    /// A literal scalar.
+    /// Returns a literal scalar.
     pub fn with_literal<S: Into<Scalar>>(value: S) -> Expression
         ensures { (s : _) × S.converts value s × (expression_of result ≡ literal (scalar (scal string_bytes s))) }
     {
         Expression::Literal(Value::Scalar(value.into()))
     }
 
-    /// The variable of a name and indexes.
+    /// Returns the variable of a name and indexes.
     pub fn of_parts(name: Scalar, indexes: Vec<Expression>) -> Expression
         ensures { expression_of result ≡ variable (scal string_bytes name) (expressions_of indexes.items) }
     {
@@ -87,7 +87,7 @@ impl Expression {
         })
     }
 
-    /// The value of a literal.
+    /// Returns the value of a literal.
     pub fn into_literal(self) -> Option<Value>
         ensures { option_map tree_of result ≡ as_literal (expression_of self) }
     {
@@ -97,7 +97,7 @@ impl Expression {
         }
     }
 
-    /// The variable.
+    /// Returns the variable.
     pub fn into_variable(self) -> Option<Variable>
         ensures { option_map variable_of result ≡ as_variable (expression_of self) }
     {

@@ -1,4 +1,4 @@
-//! Filters, and what makes them.
+//! Filters, and the plug-ins that make them.
 ghost use Rattle.std.specs.Prelude.{◌≡◌, Result};
 ghost use Rattle.liquid_error.specs.meaning.Refusal.{Refusal};
 ghost use Rattle.liquid_error.specs.meaning.Told.{Gives};
@@ -19,13 +19,13 @@ use std::alloc::Global;
 
 /// A filter of a chain.
 ///
-/// It reads the runtime and can't write to it. What it answers is a function of itself, its input
-/// and what it sees of the names: globals that are hidden from a template are hidden from it too.
+/// It reads the runtime and can't write to it. Its result is a function of the filter, its input and the names that it
+/// sees. Globals that are hidden from a template are hidden from it too.
 pub trait Filter: Meant + Drop {
-    // what it answers, by its input and what it sees of the view, and its label
+    // its result, by its input and what it sees of the view, and its label
     ghost means: { FilterMeaning Self.Shape };
 
-    /// The value that the filter makes of the input, or its refusal.
+    /// Returns the value that the filter makes of the input, or its error.
     fn evaluate<'s, R: Runtime>(
         &'s self,
         alloc: Global,
@@ -34,24 +34,24 @@ pub trait Filter: Meant + Drop {
     ) -> Result<Value, Error>
         ensures { Gives tree_of result (means.answers (Self.shape self.now) (cow_view input.now) (erase (R.view runtime.now))) };
 
-    /// The text that stands for the filter where a chain is shown and in the errors out of it.
+    /// Returns the text that shows the filter in a chain and in the errors of the chain.
     fn label(&self) -> &str
         ensures { result.now ≡ means.label (Self.shape self.now) };
 }
 
-/// Makes the filters of a name, each of its arguments.
+/// Makes the filters of a name, one for each list of arguments.
 pub trait ParseFilter: FilterReflection + Drop {
     type Filter: Filter;
 
     // the shape of the filter that arguments make, or the refusal
     ghost makes: { Self → Arguments → Result Self.Filter.Shape Refusal };
 
-    /// The filter that the arguments make, or the refusal of arguments that don't fit.
+    /// Returns the filter that the arguments make. Fails if the arguments don't fit.
     fn parse(&self, alloc: Global, arguments: FilterArguments<'_>) -> Result<Self::Filter, Error>
         ensures { Gives Self.Filter.shape result (makes self.now (arguments_of arguments.entry)) };
 }
 
-/// What the filter of these arguments makes of the input, over a runtime that has no names.
+/// Returns what the filter with these arguments makes of the input, over a runtime that has no names.
 pub fn call_filter<P: ParseFilter>(
     alloc: Global,
     filter: &P,

@@ -3,35 +3,34 @@ ghost use Rattle.liquid_plugins.specs.laws.Laws.{EvaluateAgrees, EvaluateGives, 
 
 use liquid_runtime::Fresh;
 
-/// Where names are strict, `evaluate` of an expression gives a value exactly where `try_evaluate` has
-/// one, and then the same.
+/// If names are strict, `evaluate` of an expression returns a value exactly if `try_evaluate` has one, and then the
+/// same one.
 #[tactic(auto, using(crate::proofs::Agreement::evaluate_agrees))]
 pub fn evaluate_agrees_with_try_evaluate<V: Fresh>()
     ensures { EvaluateAgrees V }
 {}
 
-/// Whether names are strict or lenient, `evaluate` of an expression gives the value of `try_evaluate`
-/// where that has one.
+/// Whether names are strict or lenient, `evaluate` of an expression returns the value of `try_evaluate` if that has
+/// one.
 #[tactic(auto, using(crate::proofs::Agreement::evaluate_gives))]
 pub fn evaluate_gives_what_is_tried<V: Fresh>()
     ensures { EvaluateGives V }
 {}
 
-/// Where names are strict, `evaluate` of a variable gives a path exactly where `try_evaluate` has
-/// one, and then the same.
+/// If names are strict, `evaluate` of a variable returns a path exactly if `try_evaluate` has one, and then the same
+/// one.
 #[tactic(auto, using(crate::proofs::Agreement::paths_agree))]
 pub fn paths_agree_with_tried_paths<V: Fresh>()
     ensures { PathsAgree V }
 {}
 
-/// Whether names are strict or lenient, `evaluate` of a variable gives the path of `try_evaluate`
-/// where that has one.
+/// Whether names are strict or lenient, `evaluate` of a variable returns the path of `try_evaluate` if that has one.
 #[tactic(auto, using(crate::proofs::Agreement::paths_give))]
 pub fn variables_give_tried_paths<V: Fresh>()
     ensures { PathsGive V }
 {}
 
-/// An expression comes to the same in what a filter sees of the names as in all of them.
+/// An expression has the same result with the names that a filter sees as with all of them.
 #[tactic(auto, using(crate::proofs::ErasedLemmas::evaluate_erased))]
 pub fn filters_see_enough<V: Fresh>()
     ensures { EvaluatesErased V }

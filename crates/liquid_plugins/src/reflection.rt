@@ -1,4 +1,4 @@
-//! What filters say of themselves, for documentation.
+//! What filters say about themselves, for documentation.
 
 /// A parameter of a filter.
 #[derive(Debug, Clone, Copy, PartialEq, Eq)]
@@ -10,10 +10,10 @@ pub struct ParameterReflection {
 
 /// The parameters that a filter takes.
 pub trait FilterParametersReflection {
-    /// Those by place, in order.
+    /// Returns the positional ones, in order.
     fn positional_parameters() -> &'static [ParameterReflection];
 
-    /// Those by keyword.
+    /// Returns those with a keyword.
     fn keyword_parameters() -> &'static [ParameterReflection];
 }
 
@@ -23,9 +23,9 @@ pub trait FilterReflection {
 
     fn description(&self) -> &str;
 
-    /// The parameters by place, in order.
+    /// Returns the positional parameters, in order.
     fn positional_parameters(&self) -> &'static [ParameterReflection];
 
-    /// The parameters by keyword.
+    /// Returns the parameters with a keyword.
     fn keyword_parameters(&self) -> &'static [ParameterReflection];
 }

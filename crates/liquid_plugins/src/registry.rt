@@ -32,7 +32,7 @@ impl<P> Model for PluginRegistry<P> {
 }
 
 impl<P: Drop> PluginRegistry<P> {
-    /// A registry without plug-ins.
+    /// Returns a registry without plug-ins.
     #[tactic(auto, using(crate::proofs::Registries::registries))]
     pub fn new(alloc: Global) -> PluginRegistry<P>
         ensures { result ≡ empty }
@@ -43,9 +43,9 @@ impl<P: Drop> PluginRegistry<P> {
         }
     }
 
-    /// Puts the plug-in under the name, and answers whether another stood there, which is dropped.
+    /// Registers the plug-in under the name, and returns whether it replaced another, which is dropped.
     ///
-    /// Where memory is refused the registry is as before, and the plug-in is dropped.
+    /// If memory runs out, the registry is left as it was, and the plug-in is dropped.
     #[tactic(auto, using(crate::proofs::Registries::registries))]
     pub fn register(&mut self, name: &str, plugin: P) -> Result<bool, AllocError>
         ensures replaced { IfOk result (λ replaced. replaced ≡ is_some (get self.old name.now)) }
@@ -57,7 +57,7 @@ impl<P: Drop> PluginRegistry<P> {
         Ok(old.is_some())
     }
 
-    /// The plug-in of the name.
+    /// Returns the plug-in of the name.
     #[tactic(auto, using(crate::proofs::Registries::registries))]
     pub fn get(&self, name: &str) -> Option<&P>
         ensures { option_copied result ≡ get self.now name.now }
@@ -65,7 +65,7 @@ impl<P: Drop> PluginRegistry<P> {
         self.plugins.get(name)
     }
 
-    /// The names, in byte order.
+    /// Returns an iterator over the names, in byte order.
     #[tactic(auto, using(crate::proofs::Registries::registries))]
     pub fn plugin_names(&self) -> PluginNames<'_, P>
         ensures { result ≡ keys self.now }
@@ -75,7 +75,7 @@ impl<P: Drop> PluginRegistry<P> {
         }
     }
 
-    /// The plug-ins, in byte order of their names.
+    /// Returns an iterator over the plug-ins, in byte order of their names.
     #[tactic(auto, using(crate::proofs::Registries::registries))]
     pub fn plugins(&self) -> Plugins<'_, P>
         ensures { result ≡ values self.now }
@@ -98,7 +98,7 @@ impl<P: Clone> Clone for PluginRegistry<P> {
     }
 }
 
-/// The names of a registry that are left, in byte order.
+/// An iterator over the names of a registry, in byte order.
 #[derive(Drop)]
 pub struct PluginNames<'r, P> {
     names: btree_map::Keys<'r, String, P>,
@@ -126,7 +126,7 @@ impl<'r, P> Iterator for PluginNames<'r, P> {
         }
     }
 
-    /// How many names are left, as both bounds.
+    /// Returns the number of names that are left, as both bounds.
     fn size_hint(&self) -> (usize, Option<usize>)
         ensures lower { IsWithinCount result.0 (at_most (length self.now)) }
         ensures upper { IfSome result.1 (UpTo (at_most (length self.now))) }
@@ -143,7 +143,7 @@ impl<P> ExactSizeIterator for PluginNames<'_, P> {
     }
 }
 
-/// The plug-ins of a registry that are left, in byte order of their names.
+/// An iterator over the plug-ins of a registry, in byte order of their names.
 #[derive(Drop)]
 pub struct Plugins<'r, P> {
     plugins: btree_map::Values<'r, String, P>,
@@ -168,7 +168,7 @@ impl<'r, P> Iterator for Plugins<'r, P> {
         self.plugins.next()
     }
 
-    /// How many plug-ins are left, as both bounds.
+    /// Returns the number of plug-ins that are left, as both bounds.
     fn size_hint(&self) -> (usize, Option<usize>)
         ensures lower { IsWithinCount result.0 (at_most (length self.now)) }
         ensures upper { IfSome result.1 (UpTo (at_most (length self.now))) }

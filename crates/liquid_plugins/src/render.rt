@@ -13,8 +13,8 @@ use liquid_runtime::{Frame, Fresh, Runtime};
 use liquid_value::Object;
 use std::alloc::Global;
 
-/// What a turn returns. A part is a number, from 0; a frame begins before it and ends after it; a trace, if one is given, is
-/// put on an error out of it.
+/// What a turn returns. A part is a number, from 0. A frame begins before it and ends after it. A trace, if one is
+/// given, is added to an error of the part.
 #[derive(Drop)]
 pub enum Turn {
     /// A text, which is written.
@@ -33,7 +33,7 @@ pub enum Turn {
 pub trait Renderable<V: Fresh>: Meant + Drop {
     type Progress: Meant + Drop;
 
-    // what each call answers and leaves, by the node's shape, the progress's and the view
+    // what each call returns and leaves, by the shapes of the node and of the progress, and the view
     ghost means: { NodeMeaning Self.Shape Self.Progress.Shape V };
 
     fn start<R: Runtime<Register = V>>(
@@ -70,14 +70,14 @@ pub trait Renderable<V: Fresh>: Meant + Drop {
         ensures owes { R.restores runtime.new ≡ R.restores runtime.old }
         ensures borrows { R.lent runtime.new ≡ R.lent runtime.old };
 
-    /// Takes the text of the part that the last turn captured. The next turn follows. Nothing is caught where the part was
-    /// refused. A node that returns no `Turn::Capture` drops the text.
+    /// Takes the text of the part that the last turn captured. The next turn follows. This is not called if the part
+    /// had an error. A node that returns no `Turn::Capture` drops the text.
     fn caught(&self, progress: &mut Self::Progress, text: String)
         ensures { Self.Progress.shape progress.new
             ≡ means.catches (Self.shape self.now) (Self.Progress.shape progress.old) (string_bytes text) };
 
-    /// Takes back the object of the frame of the turn that has ended, for the next turn to write over. The meaning of the
-    /// progress stays. A node that has no use for it leaves this out.
+    /// Takes back the object of the frame of the turn that has ended, so that the next turn can write over it. The
+    /// meaning of the progress does not change. A node that has no use for it keeps the default.
     fn recycle(&self, progress: &mut Self::Progress, names: Object)
         ensures { Self.Progress.shape progress.new ≡ Self.Progress.shape progress.old }
     {
@@ -87,6 +87,6 @@ pub trait Renderable<V: Fresh>: Meant + Drop {
 
 /// A node whose meaning does not depend on hidden globals.
 pub trait Discreet<V: Fresh>: Renderable<V> {
-    // each start and each turn is such
+    // each start and each turn is discreet
     ghost hides: { Discreet Self.means };
 }

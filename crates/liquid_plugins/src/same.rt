@@ -1,4 +1,4 @@
-// Strict equality of expressions.
+//! Strict equality of expressions.
 ghost use Rattle.std.specs.Prelude.{◌≡◌};
 ghost use Rattle.std.specs.Cmp.{on_equiv, on_per, partial_equiv_from_equiv};
 ghost use Rattle.liquid_plugins.specs.meaning.ExpressionOf.{expression_of, expressions_of, variable_of};
@@ -7,7 +7,7 @@ ghost use Rattle.liquid_plugins.specs.laws.SameLaws.{same_expression_equiv};
 
 use crate::expression::{Expression, Variable, VariableOf};
 
-/// Strict equality: the same literal, or the same name and the same indexes.
+/// Compares strictly: equal expressions are the same literal, or the same name with the same indexes.
 impl PartialEq for Expression {
     ghost eq = { λ e f. same_expression (expression_of e) (expression_of f) };
 

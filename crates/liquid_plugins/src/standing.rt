@@ -1,4 +1,4 @@
-//! Values that stand where an expression leads.
+//! Values that are borrowed in place where an expression leads.
 ghost use Rattle.std.specs.Prelude.{◌≡◌, IfSome, Ok, Some, option_and_then, option_map, string_bytes};
 ghost use Rattle.liquid_scalar.specs.meaning.Scalar.{Scal, render_scalar, scal, text};
 ghost use Rattle.liquid_value.specs.meaning.Tree.{scalar};
@@ -21,7 +21,7 @@ use liquid_scalar::{Scalar, ScalarCow, ScalarOf};
 use liquid_value::{Value, ValueCow};
 use std::alloc::Global;
 
-/// Returns the value of a name, which is what the variable of the name alone comes to, or `None` where it has none.
+/// Returns the value of a name, which is the value of the variable of the name alone. Returns `None` if it has none.
 #[tactic(auto, using(crate::proofs::StandingValues::named_stands))]
 pub fn named_value<'c, R: Runtime>(name: &str, runtime: &'c R) -> Option<&'c Value>
     ensures value { option_map (λ value. tree_of value.now) result ≡ lookup (R.view runtime.now) name.now }
@@ -30,8 +30,8 @@ pub fn named_value<'c, R: Runtime>(name: &str, runtime: &'c R) -> Option<&'c Val
     runtime.try_get_name(name)
 }
 
-/// The value that the expression comes to, if it and each index on the way stand, or are sizes. No
-/// list is made for the path. `None` tells nothing of what the expression comes to.
+/// Returns the value of the expression, if it and each index on the way are borrowed in place, or are sizes. No list is
+/// made for the path. `None` says nothing about the value of the expression.
 #[cycle(standing)]
 #[inline(always)]
 pub(crate) fn standing<'c, R: Runtime>(
@@ -54,8 +54,8 @@ pub(crate) fn standing<'c, R: Runtime>(
     }
 }
 
-/// The value that these indexes lead to from a value that stands, if each index and each value on the way stands, or
-/// is a size.
+/// Returns the value that these indexes lead to from a borrowed value, if each index and each value on the way is
+/// borrowed in place, or is a size.
 #[cycle(standing)]
 fn standing_behind<'c, R: Runtime>(
     alloc: Global,
@@ -79,8 +79,8 @@ fn standing_behind<'c, R: Runtime>(
     Some(at)
 }
 
-/// The value that literal indexes lead to from a value, each of them to a member or an item: most paths are such.
-/// `None` tells nothing of what the indexes lead to.
+/// Returns the value that literal indexes lead to from a value, each of them to a member or an item, as in most paths.
+/// `None` says nothing about where the indexes lead.
 #[inline(always)]
 fn own_value<'c>(indexes: &Vec<Expression>, value: &'c Value) -> Option<&'c Value>
     ensures { IfSome result (λ found. literal_walk (tree_of value.now) (expressions_of indexes.now.items) ≡ Some (tree_of found.now)) }
@@ -92,7 +92,7 @@ fn own_value<'c>(indexes: &Vec<Expression>, value: &'c Value) -> Option<&'c Valu
     Some(at)
 }
 
-/// The member or the item of a value that a literal index asks for. `None` tells nothing of what it asks for.
+/// Returns the member or the item of a value at a literal index. `None` says nothing about where the index leads.
 fn own_part_of<'c>(value: &'c Value, index: &Expression) -> Option<&'c Value>
     ensures { IfSome result (λ part. literal_part (tree_of value.now) (expression_of index.now) ≡ Some (tree_of part.now)) }
 {
@@ -102,7 +102,7 @@ fn own_part_of<'c>(value: &'c Value, index: &Expression) -> Option<&'c Value>
     }
 }
 
-/// The value of a name that is a text.
+/// Returns the value of a name that is a text.
 fn value_of<'c, R: Runtime>(name: &Scalar, runtime: &'c R) -> Option<&'c Value>
     ensures { IfSome result (λ value. lookup (R.view runtime.now) (render_scalar (scal string_bytes name.now)) ≡ Some (tree_of value.now)) }
 {
@@ -112,7 +112,8 @@ fn value_of<'c, R: Runtime>(name: &Scalar, runtime: &'c R) -> Option<&'c Value>
     }
 }
 
-/// The part of a value at an index that is a scalar. The part of a value that stands stands, or is a size.
+/// Returns the part of a value at an index that is a scalar. The part of a borrowed value is borrowed in place, or is a
+/// size.
 fn part_of<'v>(alloc: Global, value: &ValueCow<'v>, index: &Value) -> Option<ValueCow<'v>>
     ensures gives { IfSome result (λ part.
         (x : Scal) × (tree_of index.now ≡ scalar x) × (step (cow_view value.now) x ≡ Some (cow_view part))) }
@@ -124,7 +125,7 @@ fn part_of<'v>(alloc: Global, value: &ValueCow<'v>, index: &Value) -> Option<Val
     stepped(alloc, value, &scalar.as_ref())
 }
 
-/// The part of a value at an index.
+/// Returns the part of a value at an index.
 fn stepped<'v>(alloc: Global, value: &ValueCow<'v>, index: &ScalarCow<'_>) -> Option<ValueCow<'v>>
     ensures gives { IfSome result (λ part. step (cow_view value.now) (index_of index.now) ≡ Some (cow_view part)) }
     ensures in_place { InPlace value.now → IfSome result InPlace }

@@ -1,4 +1,4 @@
-// The texts that expressions display.
+//! The texts that expressions print.
 ghost use Rattle.std.specs.Prelude.{Some, ◌++◌, codes};
 ghost use Rattle.std.specs.Fmt.{WritesOnOk};
 ghost use Rattle.liquid_plugins.specs.meaning.Expression.{expression_text, indexes_text};
@@ -9,7 +9,7 @@ use liquid_value::render::ValueSource;
 use std::fmt;
 use std::fmt::Display;
 
-/// A literal displays its source, a variable its name and each index in brackets.
+/// Writes a literal as its source, and a variable as its name with each index in brackets.
 impl fmt::Display for Expression {
     ghost output = { λ e. Some (expression_text (expression_of e)) };
 

@@ -3,26 +3,27 @@
 use crate::expression::FilterChain;
 use arrayvec::ArrayString;
 
-/// How many bytes a text or a name may have that lies in its node. A node is no larger by it: a chain takes as much.
+/// The greatest number of bytes of a text or a name that is stored in its node. A node is no larger for it: a chain
+/// takes as much.
 pub const BRIEF_LIMIT: usize = 80;
 
-/// A text or a name that lies in its node, so that it takes no memory of its own.
+/// A text or a name that is stored in its node, so that it takes no memory of its own.
 pub type Brief = ArrayString<80>;
 
-/// A part of a template that is rendered by itself: over the filters `X` of its chains, what tags are made to, `T`, and what
-/// blocks are made to, `B`.
+/// A part of a template that is rendered by itself. `X` is the type of the filters of its chains, `T` of what tags are
+/// made into, and `B` of what blocks are made into.
 #[derive(Drop)]
 pub enum Node<X, T, B> {
-    /// Text that is written as it stands.
+    /// Text that is written unchanged.
     Text(String),
-    /// Short text that is written as it stands.
+    /// Short text that is written unchanged.
     Brief(Brief),
     /// The variable of a short name, without indexes and filters.
     Name(Brief),
     /// An expression, and the filters that its value goes through.
     Chain(FilterChain<X>),
-    /// What a tag made of its tokens.
+    /// What a tag made from its tokens.
     Tag(T),
-    /// What a block made of its own, with its parts.
+    /// What a block made from its tokens, with its parts.
     Block(B, Vec<Vec<Node<X, T, B>>>),
 }

@@ -1,4 +1,4 @@
-//! Variables: a name, and indexes that lead from its value to one inside.
+//! Variables: a name, and indexes that lead from its value to a value inside it.
 ghost use Rattle.std.specs.Prelude.{◌≡◌, [], ◌∷◌, map, string_bytes, IfOk};
 ghost use Rattle.liquid_scalar.specs.meaning.Scalar.{scal};
 ghost use Rattle.liquid_plugins.specs.meaning.Expression.{variable, no_indexes};
@@ -9,7 +9,7 @@ use liquid_scalar::Scalar;
 use std::alloc::{AllocError, Global};
 
 impl VariableOf<Expression> {
-    /// The variable of this name, without indexes.
+    /// Returns the variable of this name, without indexes.
     pub fn with_literal<S: Into<Scalar>>(alloc: Global, value: S) -> Variable
         ensures { (s : _) × S.converts value s × (variable_of result ≡ variable (scal string_bytes s) no_indexes) }
     {
@@ -19,7 +19,7 @@ impl VariableOf<Expression> {
         }
     }
 
-    /// The variable with one more index, a literal. Where memory is refused the variable is dropped.
+    /// Returns the variable with one more index, a literal. If memory runs out, the variable is dropped.
     pub fn push_literal<S: Into<Scalar>>(self, value: S) -> Result<Variable, AllocError>
         ensures { IfOk result (λ v. (s : _) × S.converts value s
             × (variable_of v ≡ with_more self (literal_of (scal string_bytes s) ∷ []))) }
@@ -30,7 +30,7 @@ impl VariableOf<Expression> {
     }
 }
 
-/// Adds indexes behind the others. Where memory is refused a beginning of them is added.
+/// Adds indexes after the others. If memory runs out, only the first of them are added.
 impl Extend<Expression> for VariableOf<Expression> {
     ghost extend_gives = { λ v indexes w. variable_of w ≡ with_more v (map expression_of indexes) };
 
@@ -39,7 +39,7 @@ impl Extend<Expression> for VariableOf<Expression> {
     }
 }
 
-/// Adds literals behind the indexes. Where memory is refused a beginning of them is added.
+/// Adds literals after the indexes. If memory runs out, only the first of them are added.
 impl Extend<Scalar> for VariableOf<Expression> {
     ghost extend_gives = { λ v scalars w. variable_of w ≡ with_more v (map (λ s. literal_of (scal string_bytes s)) scalars) };
 

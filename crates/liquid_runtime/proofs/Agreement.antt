@@ -41,7 +41,7 @@ module _ {Reg : Type 0} where
       (ok_or-agrees (lookup v (render_scalar name)) (unknown_variable (render_scalar name)))
       (λ t. sealed_answer-agrees (comes_from_seal v (render_scalar name)) (render_scalar name) (find_behind (name ∷ []) t path) ∙ find_behind-agrees (name ∷ []) t path)
 
-  -- in a strict view a path comes to its value or its refusal
+  -- in a strict view a path gives its value or its refusal
   pub found_strict : (v : View Reg) (path : Path) → v.lenient ≡ false → found v path ≡ strictly_found v path
   found_strict v path e = ap (λ lenient. or_nil lenient (strictly_found v path)) e ∙ strict_answer (strictly_found v path)
 

@@ -59,7 +59,7 @@ module _ {Reg : Type 0} where
   seal_sandboxed fresh names name v q =
       ap (λ m. is_none (get m q)) (empty-over (over empty empty) ∙ empty-over empty) ∙ ap is_none (get-empty (slice_cmp nat_cmp) q)
 
-  -- a global frame within a sandboxed one
+  -- a global frame inside a sandboxed one
   pub lookup_isolated : (assigned : Names) (fresh : Reg) (names : Names) (name : Option (List ℕ)) (v : View Reg) (q : List ℕ) → lookup (assigned_view assigned (begin_sandboxed fresh names name v)) q ≡ option_or (get assigned q) (get names q)
   lookup_isolated assigned fresh names name v q = lookup_global assigned (begin_sandboxed fresh names name v) q ∙ ap (option_or (get assigned q)) (lookup_sandboxed fresh names name v q)
 

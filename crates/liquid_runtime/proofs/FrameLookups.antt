@@ -1,4 +1,4 @@
--- What the calls of frames answer.
+-- What the calls of frames return.
 use Rattle.std.proofs.Common.{◌≡◌, ℕ, List, Bool, true, false, ◌&&◌, Option, None, Some, refl, sym, ap, ◌∙◌}
 use Rattle.std.specs.Prelude.{Result, Ok, Err, IfOk, String, string_bytes, is_none, is_some, ◌||◌}
 use Rattle.std.specs.Option.{option_or}

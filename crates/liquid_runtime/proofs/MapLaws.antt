@@ -1,4 +1,4 @@
--- What a map laid over another answers, and the laws of laying maps over one another.
+-- What a map laid over another gives, and the laws of laying maps over one another.
 use Rattle.std.proofs.Common.{◌≡◌, ℕ, Bool, true, false, cond, List, [], ◌∷◌, ◌++◌, Option, Some, None, refl, ap, sym, ◌∙◌}
 use Rattle.std.specs.Option.{option_or}
 use Rattle.std.specs.Ordering.{nat_cmp, eq_by_cmp}
@@ -21,12 +21,12 @@ find-append q (e ∷ front) back =
     ap (cond (eq_by_cmp (slice_cmp nat_cmp) q e.0) (Some e.1)) (find-append q front back)
     ∙ cond-option_or (eq_by_cmp (slice_cmp nat_cmp) q e.0) e.1 (find (slice_cmp nat_cmp) q front) (find (slice_cmp nat_cmp) q back)
 
--- two maps that answer alike are one
+-- two maps that give the same for each name are the same
 pub same_names : {X : Type 0} (m n : NameMap X) → ((q : List ℕ) → get m q ≡ get n q) → m ≡ n
 same_names m n alike = same_map nat_list_cmp_total names_apart m n alike
 
 module _ {X : Type 0} where
-  -- a name has its value in the left map, else that in the right one
+  -- a name has its value in the left map, otherwise that in the right one
   pub get-over : (front back : NameMap X) (q : List ℕ) → get (over front back) q ≡ option_or (get front q) (get back q)
   unfolding over
   get-over front back q =
@@ -57,7 +57,7 @@ module _ {X : Type 0} where
   pub over-same : (m : NameMap X) → over m m ≡ m
   over-same m = same_names _ m (λ q. get-over m m q ∙ option_or-same (get m q))
 
-  -- what lies over what doesn't depend on the grouping
+  -- laying maps over one another doesn't depend on the grouping
   pub over-over : (a b c : NameMap X) → over (over a b) c ≡ over a (over b c)
   over-over a b c = same_names _ _ (λ q.
       get-over (over a b) c q
@@ -66,7 +66,7 @@ module _ {X : Type 0} where
       ∙ ap (option_or (get a q)) (sym (get-over b c q))
       ∙ sym (get-over a (over b c) q))
 
-  -- to give a name a value in the left map is to give it that value in the whole
+  -- giving a name a value in the left map is giving it that value in the whole
   pub insert-over : (front back : NameMap X) (k : List ℕ) (x : X) → over (insert front k x) back ≡ insert (over front back) k x
   insert-over front back k x = same_names _ _ (λ q.
       get-over (insert front k x) back q

@@ -1,4 +1,4 @@
--- What the names of an object answer, and what a change to the object makes of them.
+-- What the names of an object give, and how a change to the object changes them.
 use Rattle.std.proofs.Common.{◌≡◌, ℕ, Bool, true, false, cond, List, [], ◌∷◌, Option, Some, None, map, refl, ap, sym, ◌∙◌}
 use Rattle.std.specs.Prelude.{String, string_bytes}
 use Rattle.std.specs.Option.{option_or, option_map}
@@ -29,7 +29,7 @@ find_as_lookup q (e ∷ es) =
     ap (cond (is_eq (slice_cmp nat_cmp q (string_bytes e.0))) (Some (view e.1))) (find_as_lookup q es)
     ∙ option_map-cond view (is_eq (slice_cmp nat_cmp q (string_bytes e.0))) e.1 _
 
--- an object's names answer as the object does
+-- an object's names give what the object gives
 pub get-names_of : (object : BTreeMap (String Global) Value) (q : List ℕ) → get (names_of object) q ≡ option_map view (get_by_text object q)
 unfolding names_of
 get-names_of object q = get-from_entries nat_list_cmp_total (map (λ e. (string_bytes e.0, view e.1)) object.entries) q ∙ find_as_lookup q object.entries
@@ -39,7 +39,7 @@ pub names_of-empty : (object : BTreeMap (String Global) Value) → IsEmpty objec
 unfolding names_of
 names_of-empty object none = ap (λ es. from_entries (map (λ e. (string_bytes e.0, view e.1)) es)) none
 
--- to give a name a value in the object is to give it that value in its names
+-- giving a name a value in the object is giving it that value in its names
 pub names_of-insert : (old new : BTreeMap (String Global) Value) (k : String Global) (x : Value) → Updates string_cmp old new k (Some x) → names_of new ≡ insert (names_of old) (string_bytes k) (view x)
 names_of-insert old new k x updates = same_names _ _ (λ q.
     let same : bytes_eq (string_bytes k) q ≡ eq_by_cmp (slice_cmp nat_cmp) q (string_bytes k) =
@@ -51,11 +51,11 @@ names_of-insert old new k x updates = same_names _ _ (λ q.
     ∙ ap (λ b. cond b (Some (view x)) (get (names_of old) q)) same
     ∙ sym (get-insert nat_list_cmp_total (names_of old) (string_bytes k) (view x) q))
 
--- a name that the object has is found there, whatever lies below
+-- a name that the object has is found there, whatever is below
 pub found_in_object : (object : BTreeMap (String Global) Value) (q : List ℕ) (x : Value) (below : Option Tree) → Some x ≡ get_by_text object q → option_or (get (names_of object) q) below ≡ Some (view x)
 found_in_object object q x below is = ap (λ o. option_or o below) (get-names_of object q ∙ ap (option_map view) (sym is))
 
--- a name that the object lacks is looked up below
+-- a name that the object does not have is looked up below
 pub found_below_object : (object : BTreeMap (String Global) Value) (q : List ℕ) (below : Option Tree) → None ≡ get_by_text object q → option_or (get (names_of object) q) below ≡ below
 found_below_object object q below is = ap (λ o. option_or o below) (get-names_of object q ∙ ap (option_map view) (sym is))
 

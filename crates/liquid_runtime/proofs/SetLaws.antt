@@ -1,4 +1,4 @@
--- To set a name changes nothing of other names; the roots are the names that are seen.
+-- Setting a name changes nothing about other names; the roots are the names that are seen.
 use Rattle.std.proofs.Common.{◌≡◌, ◌≢◌, ℕ, List, Bool, true, false, cond, Option, Some, None, is_some, refl, sym, ap, ◌∙◌}
 use Rattle.std.specs.Prelude.{unwrap_or, option_map, option_and_then}
 use Rattle.std.specs.Option.{option_or}

@@ -1,3 +1,4 @@
+//! A builder of runtimes.
 ghost use Rattle.std.specs.Prelude.{◌≡◌, [], false, None, Some};
 ghost use Rattle.std.specs.FinMap.{empty};
 ghost use Rattle.liquid_runtime.specs.meaning.Frames.{built_view, leniently};
@@ -17,8 +18,8 @@ use std::marker::PhantomData;
 /// over an index frame over a core.
 pub type BuiltRuntime<V, S> = GlobalFrame<StackFrame<IndexFrame<V, S>>>;
 
-/// Gathers what a runtime begins with. `V` is the register of what it builds, and `S` the type of its
-/// store of partial templates.
+/// Collects what a runtime begins with. `V` is the register of what it builds, and `S` the type of its store of partial
+/// templates.
 #[derive(Drop)]
 pub struct RuntimeBuilder<V, S> {
     alloc: Global,
@@ -32,8 +33,8 @@ pub struct RuntimeBuilder<V, S> {
 impl<V: Fresh, S: Drop> RuntimeBuilder<V, S> {
     ghost use Rattle.liquid_runtime.specs.meaning.Built.{globals_of, store_of, depth_of, lenient_of};
 
-    /// A builder without globals and without a store, with a depth of 32, of a runtime that refuses a
-    /// path without a value. What it builds takes its memory from `alloc`.
+    /// Returns a builder without globals and without a store, with a depth of 32, for a runtime in which a path without
+    /// a value is an error. What it builds takes its memory from `alloc`.
     #[tactic(auto, using(crate::proofs::FrameLookups::frame_lookups))]
     pub fn new(alloc: Global) -> Self
         ensures globals { globals_of result ≡ empty }
@@ -51,7 +52,7 @@ impl<V: Fresh, S: Drop> RuntimeBuilder<V, S> {
         }
     }
 
-    /// The builder with these globals in place of those that it had.
+    /// Sets the globals, in place of those that the builder had.
     pub fn set_globals(mut self, globals: Object) -> Self
         ensures globals { globals_of result ≡ names_of globals }
         ensures store { store_of result ≡ store_of self }
@@ -62,7 +63,7 @@ impl<V: Fresh, S: Drop> RuntimeBuilder<V, S> {
         self
     }
 
-    /// The builder with this store of partial templates in place of any other.
+    /// Sets the store of partial templates, in place of any other.
     pub fn set_partials(mut self, store: S) -> Self
         ensures globals { globals_of result ≡ globals_of self }
         ensures store { store_of result ≡ Some store }
@@ -73,7 +74,7 @@ impl<V: Fresh, S: Drop> RuntimeBuilder<V, S> {
         self
     }
 
-    /// The builder with this many partial templates that may be open inside one another.
+    /// Sets the number of partial templates that may be nested.
     pub fn set_depth(mut self, depth: u32) -> Self
         ensures globals { globals_of result ≡ globals_of self }
         ensures store { store_of result ≡ store_of self }
@@ -84,7 +85,7 @@ impl<V: Fresh, S: Drop> RuntimeBuilder<V, S> {
         self
     }
 
-    /// The builder of a runtime in which `get` answers nil for a path without a value, or refuses it.
+    /// Sets whether `get` returns nil for a path without a value, or an error.
     pub fn set_lenient(mut self, lenient: bool) -> Self
         ensures globals { globals_of result ≡ globals_of self }
         ensures store { store_of result ≡ store_of self }
@@ -95,7 +96,7 @@ impl<V: Fresh, S: Drop> RuntimeBuilder<V, S> {
         self
     }
 
-    /// The runtime in which a template sees the builder's globals.
+    /// Returns the runtime in which a template sees the builder's globals.
     pub fn build(self) -> BuiltRuntime<V, S>
         ensures view { ⟦<BuiltRuntime<V, S> as Runtime>⟧.view result
             ≡ leniently (lenient_of self) (built_view V.fresh (depth_of self) (globals_of self)) }

@@ -1,3 +1,4 @@
+//! A frame that takes what a template assigns.
 ghost use Rattle.std.specs.Prelude.{◌≡◌, ◌∷◌};
 ghost use Rattle.liquid_runtime.specs.meaning.Frames.{begin_global, restored_by, global_frame};
 ghost use Rattle.liquid_runtime.specs.steps.FrameViews.{assigned_view};
@@ -11,7 +12,7 @@ use liquid_value::{Object, Value};
 use std::alloc::{AllocError, Global};
 use std::collections::BTreeSet;
 
-/// A frame that takes the names which a template assigns: they hide those below.
+/// A frame that takes the names that a template assigns. They hide those below.
 #[derive(Drop)]
 pub struct GlobalFrame<P> {
     parent: P,
@@ -19,7 +20,7 @@ pub struct GlobalFrame<P> {
 }
 
 impl<P: Runtime> GlobalFrame<P> {
-    /// A frame over `parent` in which nothing is assigned yet.
+    /// Returns a frame over `parent` in which nothing is assigned yet.
     #[tactic(auto, using(crate::proofs::FrameLookups::frame_lookups))]
     pub fn new(alloc: Global, parent: P) -> Self
         ensures view { ⟦<GlobalFrame<P> as Runtime>⟧.view result ≡ begin_global (P.view parent) }

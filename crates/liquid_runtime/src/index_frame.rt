@@ -1,3 +1,4 @@
+//! The frame of the index variables.
 ghost use Rattle.std.specs.Prelude.{◌≡◌, [], Some};
 ghost use Rattle.liquid_runtime.specs.meaning.Frames.{begin_index};
 ghost use Rattle.liquid_runtime.specs.steps.FrameViews.{core_with, indexed_view};
@@ -20,7 +21,7 @@ pub struct IndexFrame<V, S> {
 }
 
 impl<V: Fresh, S: Drop> IndexFrame<V, S> {
-    /// A frame without index variables.
+    /// Returns a frame without index variables.
     #[tactic(auto, using(crate::proofs::FrameLookups::frame_lookups))]
     pub(crate) fn new(alloc: Global, parent: RuntimeCore<V, S>) -> Self
         ensures view { ⟦<IndexFrame<V, S> as Runtime>⟧.view result ≡ begin_index (⟦<RuntimeCore<V, S> as Runtime>⟧.view parent) }

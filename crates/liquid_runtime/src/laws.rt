@@ -17,50 +17,49 @@ ghost use Rattle.liquid_runtime.specs.laws.Laws.{
 
 use crate::registers::Fresh;
 
-/// Of two maps of names laid over one another the left one has the first word.
+/// Of two maps of names laid over one another, the left one comes first.
 #[tactic(auto, using(crate::proofs::SetLaws::laws))]
 pub fn left_names_first()
     ensures { LeftNamesFirst }
 {}
 
-/// Where names are strict, `get` gives a value exactly where `try_get` does, and then the same one.
+/// If names are strict, `get` returns a value exactly if `try_get` does, and then the same one.
 #[tactic(auto, using(crate::proofs::SetLaws::laws))]
 pub fn get_agrees_with_try_get<V: Fresh>()
     ensures { GetAgrees V }
 {}
 
-/// Where names are lenient, `get` gives the value of `try_get`, or nil where that gives none.
+/// If names are lenient, `get` returns the value of `try_get`, or nil if that returns none.
 #[tactic(auto, using(crate::proofs::SetLaws::laws))]
 pub fn lenient_get_agrees_with_try_get<V: Fresh>()
     ensures { LenientGetAgrees V }
 {}
 
-/// A path of one text leads to a value exactly if that text is among the names that `Runtime::roots`
-/// answers.
+/// A path of one text leads to a value exactly if that text is among the names that `Runtime::roots` returns.
 #[tactic(auto, using(crate::proofs::SetLaws::laws))]
 pub fn roots_are_the_names_seen<V: Fresh>()
     ensures { RootsAreSeen V }
 {}
 
-/// To set a global changes no other name, and no index variable.
+/// Setting a global changes no other name, and no index variable.
 #[tactic(auto, using(crate::proofs::SetLaws::laws))]
 pub fn set_global_changes_no_other_name<V: Fresh>()
     ensures { SetGlobalKeepsOthers V }
 {}
 
-/// To set an index variable changes no other name, and no global.
+/// Setting an index variable changes no other name, and no global.
 #[tactic(auto, using(crate::proofs::SetLaws::laws))]
 pub fn set_index_changes_no_other_name<V: Fresh>()
     ensures { SetIndexKeepsOthers V }
 {}
 
-/// In a stack frame a name has its value in the frame's data, else the value that it has below.
+/// In a stack frame a name has its value in the frame's data, otherwise the value that it has below.
 #[tactic(auto, using(crate::proofs::SetLaws::laws))]
 pub fn stack_names_first<V: Fresh>()
     ensures { StackNamesFirst V }
 {}
 
-/// A global frame that begins hides no name and adds none.
+/// A new global frame hides no name and adds none.
 #[tactic(auto, using(crate::proofs::SetLaws::laws))]
 pub fn global_frame_keeps_names<V: Fresh>()
     ensures { GlobalFrameKeepsNames V }
@@ -72,8 +71,8 @@ pub fn isolated_frames_show_their_names<V: Fresh>()
     ensures assigned { IsolatedFrameShowsAssigned V }
 {}
 
-/// An isolated frame ends as a global frame within a sandboxed one does: of the view below it only index
-/// variables may have changed.
+/// An isolated frame ends as a global frame inside a sandboxed one does. In the view below it, only index variables may
+/// have changed.
 #[tactic(auto, using(crate::proofs::SetLaws::laws))]
 pub fn isolated_frames_end_with_their_names<V: Fresh>()
     ensures both { IsolatedEndsBoth V }

@@ -11,7 +11,7 @@ use liquid_value::{Object, Value};
 use std::alloc::{AllocError, Global};
 use std::collections::BTreeSet;
 
-/// The name of a frame, if it has one.
+/// Returns the name of a frame, if it has one.
 pub fn own_name(name: &Option<String>) -> Option<&str>
     ensures { option_map (λ r. r.now) result ≡ option_map (λ s. string_bytes s) name.now }
 {
@@ -21,7 +21,7 @@ pub fn own_name(name: &Option<String>) -> Option<&str>
     }
 }
 
-/// An object without names. It takes no memory.
+/// Returns an object without names. It takes no memory.
 #[tactic(auto, using(crate::proofs::Objects::changed_objects))]
 pub fn no_names(alloc: Global) -> Object
     ensures { names_of result ≡ empty }
@@ -29,7 +29,7 @@ pub fn no_names(alloc: Global) -> Object
     Object::new(alloc)
 }
 
-/// The value of a name in an object.
+/// Returns the value of a name in an object.
 #[tactic(auto, using(crate::proofs::Objects::value_of_name))]
 pub fn value_of<'o>(object: &'o Object, name: &str) -> Option<&'o Value>
     ensures { option_map (λ r. tree_of r.now) result ≡ get (names_of object.now) name.now }
@@ -37,7 +37,7 @@ pub fn value_of<'o>(object: &'o Object, name: &str) -> Option<&'o Value>
     object.get(name)
 }
 
-/// Gives a name a value, and answers its old one.
+/// Gives a name a value, and returns its old one.
 #[tactic(auto, using(crate::proofs::Objects::changed_objects))]
 pub fn set_name(object: &mut Object, name: String, value: Value) -> Result<Option<Value>, Error>
     ensures old { IfOk result (λ old. option_map tree_of old ≡ get (names_of object.old) (string_bytes name)) }
@@ -52,7 +52,7 @@ pub fn set_name(object: &mut Object, name: String, value: Value) -> Result<Optio
     }
 }
 
-/// The names of an object beside those below it.
+/// Returns the names of an object together with those below it.
 pub fn add_names(object: &Object, below: BTreeSet<String>) -> Result<BTreeSet<String>, AllocError>
     ensures { IfOk result (λ names. NamesOver (names_of object.now) below names) }
 {
@@ -63,7 +63,7 @@ pub fn add_names(object: &Object, below: BTreeSet<String>) -> Result<BTreeSet<St
     Ok(names)
 }
 
-/// The names of an object alone.
+/// Returns the names of an object.
 pub fn only_names(alloc: Global, object: &Object) -> Result<BTreeSet<String>, AllocError>
     ensures { IfOk result (λ names. NamesOf (names_of object.now) names) }
 {

@@ -1,14 +1,14 @@
+//! The interrupt and the caller's register.
 ghost use Rattle.std.specs.Prelude.{◌≡◌, ◌↔◌, IsTrue, IsSome, None, Some};
 
-/// What a node asks of the list of elements around it: to go on with the next turn of a loop, or to
-/// leave the loop.
+/// What a node tells the list of elements around it: to continue with the next turn of a loop, or to leave the loop.
 #[derive(Debug, Clone, Copy, PartialEq, Eq, Drop)]
 pub enum Interrupt {
     Continue,
     Break,
 }
 
-/// Holds the interrupt that stands, if one does.
+/// Holds the interrupt that is set, if there is one.
 #[derive(Debug, Clone, PartialEq, Eq, Drop)]
 pub struct InterruptRegister {
     pub(crate) current: Option<Interrupt>,
@@ -17,21 +17,21 @@ pub struct InterruptRegister {
 impl InterruptRegister {
     ghost use Rattle.liquid_runtime.specs.meaning.Calls.{interrupt_of};
 
-    /// Whether an interrupt stands.
+    /// Returns `true` if an interrupt is set.
     pub fn interrupted(&self) -> bool
         ensures { IsTrue result ↔ IsSome (interrupt_of self.now) }
     {
         self.current.is_some()
     }
 
-    /// Lets this interrupt stand, in place of any other.
+    /// Sets this interrupt, in place of any other.
     pub fn set(&mut self, interrupt: Interrupt)
         ensures { interrupt_of self.new ≡ Some interrupt }
     {
         self.current = Some(interrupt);
     }
 
-    /// Answers the interrupt that stands, and lets none stand.
+    /// Returns the interrupt that is set, and clears it.
     pub fn reset(&mut self) -> Option<Interrupt>
         ensures answers { result ≡ interrupt_of self.old }
         ensures leaves { interrupt_of self.new ≡ None }
@@ -40,7 +40,7 @@ impl InterruptRegister {
     }
 }
 
-/// No interrupt.
+/// Returns a register without an interrupt.
 impl Default for InterruptRegister {
     ghost use Rattle.liquid_runtime.specs.meaning.Calls.{interrupt_of};
 
@@ -51,7 +51,7 @@ impl Default for InterruptRegister {
     }
 }
 
-/// A register's first value, which is always the same.
+/// The first value of a register, which is always the same.
 pub trait Fresh: Drop {
     ghost fresh: { Self };
 
@@ -59,14 +59,14 @@ pub trait Fresh: Drop {
         ensures { result ≡ fresh };
 }
 
-/// A register for callers that need none.
+/// A register for callers that don't need one.
 impl Fresh for () {
     ghost fresh = { tt };
 
     fn fresh() {}
 }
 
-/// The interrupt, and one register of the caller's type. A sandboxed frame has registers of its own.
+/// The interrupt, and one register of the caller's type. A sandboxed frame has its own registers.
 #[derive(Drop)]
 pub struct Registers<V> {
     pub interrupt: InterruptRegister,
@@ -86,7 +86,7 @@ impl<V: Fresh> Registers<V> {
     }
 }
 
-/// No interrupt, and the register's first value.
+/// Returns no interrupt, and the register's first value.
 impl<V: Fresh> Default for Registers<V> {
     ghost use Rattle.liquid_runtime.specs.meaning.Calls.{fresh_registers};
 

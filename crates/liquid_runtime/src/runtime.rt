@@ -1,3 +1,4 @@
+//! The trait of what a template sees and changes while it is rendered.
 ghost use Rattle.std.specs.Prelude.{◌≡◌, ℕ, List, ◌∷◌, Option, Some, IsSome, IfOk, IfSome, OnOk, OnErr, string_bytes, option_map};
 ghost use Rattle.std.specs.Borrow.{sem, LendsIf};
 ghost use denote.Ref.{at_last};
@@ -23,11 +24,11 @@ use liquid_value::{Value, ValueCow};
 use std::alloc::{AllocError, Global};
 use std::collections::BTreeSet;
 
-/// What a template sees and changes while it is rendered: names with their values, index variables,
-/// the interrupt and one register of the caller's type, and the store of partial templates.
+/// What a template sees and changes while it is rendered: names with their values, index variables, the interrupt and
+/// one register of the caller's type, and the store of partial templates.
 ///
-/// Looking up never changes anything. `Register` is the caller's register, and `Store` any type of
-/// store that a caller sets.
+/// A lookup never changes anything. `Register` is the caller's register, and `Store` any type of store that a caller
+/// sets.
 pub trait Runtime {
     type Register: Fresh;
 
@@ -39,36 +40,37 @@ pub trait Runtime {
 
     ghost store: { Self → Option Self.Store };
 
-    // what it is once the registers, or the store, that it lends have changed
+    // the runtime after the registers, or the store, that it lends have changed
     ghost relent: { Self → Registers Self.Register → Self };
 
     ghost restored: { Self → Self.Store → Self };
 
-    // what the endings of its frames restore, the innermost first
+    // what its frames restore when they end, the innermost first
     ghost restores: { Self → List (Restore Self.Register) };
 
-    // the references that it stands on, the outermost first: no call puts another in its place
+    // the references that it is built on, the outermost first: no call replaces one of them
     ghost lent: { Self → List ℕ };
 
-    /// The name of the template, if one is set.
+    /// Returns the name of the template, if one is set.
     fn name(&self) -> Option<&str>
         ensures { option_map (λ r. r.now) result ≡ (view self.now).name };
 
-    /// The value of one name, where it stands, or `None` where the name has none.
+    /// Returns the value of one name, borrowed in place, or `None` if the name has none.
     fn try_get_name(&self, name: &str) -> Option<&Value>
         ensures { option_map (λ r. tree_of r.now) result ≡ lookup (view self.now) name.now };
 
-    /// Whether the name, if it has a value, is the own name of a sandboxed frame.
+    /// Returns `true` if the name, if it has a value, is the own name of a sandboxed frame.
     fn seals(&self, name: &str) -> bool
         ensures { result ≡ comes_from_seal (view self.now) name.now };
 
-    /// The names that have a value. An `Err` is want of memory.
+    /// Returns the names that have a value. An `Err` means out of memory.
     fn roots(&self, alloc: Global) -> Result<BTreeSet<String>, AllocError>
         ensures { IfOk result (λ names. NamesOf (names_seen (view self.now)) names) };
 
-    /// The value of a path, whose first index is a name, or `None` where the path leads to none. The
-    /// empty path leads to none. The value is borrowed where it stands; only a `size` is made. An
-    /// `Err` is want of memory.
+    /// Returns the value of a path, whose first index is a name, or `None` if the path leads to none.
+    ///
+    /// The empty path leads to none. The value is borrowed in place, and only a `size` is made. An `Err` means out of
+    /// memory.
     fn try_get(
         &self,
         alloc: Global,
@@ -89,11 +91,12 @@ pub trait Runtime {
         }
     }
 
-    /// The value of a path, borrowed as by `try_get`. A name without a value is refused as "Unknown
-    /// variable", with the context `requested variable`; the empty path asks for `nil`. Where the
-    /// name has a value and the rest leads nowhere, a sandboxed frame's own name is refused in the
-    /// same way, and another as "Unknown index" with the contexts that `find` puts on it. A lenient
-    /// runtime answers nil in place of these refusals.
+    /// Returns the value of a path, borrowed as by `try_get`.
+    ///
+    /// A name without a value is the error "Unknown variable", with the context `requested variable`. For the empty
+    /// path this context is `nil`. If the name has a value and the rest leads nowhere, the error is the same for a
+    /// sandboxed frame's own name, and "Unknown index", with the contexts that `find` adds to it, for any other name. A
+    /// lenient runtime returns nil in place of these errors.
     #[tactic(auto, using(crate::proofs::Agreement::get_answers))]
     fn get(&self, alloc: Global, path: &[ScalarCow<'_>]) -> Result<ValueCow<'_>, Error>
         ensures gives { Gives cow_view result (found (view self.now) (indexes_of path.now)) }
@@ -127,12 +130,12 @@ pub trait Runtime {
         }
     }
 
-    /// The value of an index variable, whether templates see it or not. It takes no memory.
+    /// Returns the value of an index variable, whether templates see it or not. It takes no memory.
     fn get_index(&self, name: &str) -> Option<&Value>
         ensures { option_map (λ r. tree_of r.now) result ≡ value_in (view self.now).index name.now };
 
-    /// Assigns a name in the nearest global frame, and answers its old value there. Refused as "No
-    /// global frame" where there is none. An `Err` changes nothing.
+    /// Assigns a name in the nearest global frame, and returns its old value there. Without a global frame the error is
+    /// "No global frame". An `Err` changes nothing.
     fn set_global(&mut self, name: String, value: Value) -> Result<Option<Value>, Error>
         ensures gives { Gives (option_map tree_of) result (old_global (view self.old) (string_bytes name)) }
         ensures sets { OnOk result (view self.new ≡ put_global (view self.old) (string_bytes name) (tree_of value)) }
@@ -141,8 +144,8 @@ pub trait Runtime {
         ensures owes { restores self.new ≡ restores self.old }
         ensures borrows { lent self.new ≡ lent self.old };
 
-    /// Sets an index variable, and answers its old value. Refused as "No index frame" where there is
-    /// no frame for them. An `Err` changes nothing.
+    /// Sets an index variable, and returns its old value. Without a frame for index variables the error is "No index
+    /// frame". An `Err` changes nothing.
     fn set_index(&mut self, name: String, value: Value) -> Result<Option<Value>, Error>
         ensures gives { Gives (option_map tree_of) result (old_index (view self.old) (string_bytes name)) }
         ensures sets { OnOk result (view self.new ≡ put_index (view self.old) (string_bytes name) (tree_of value)) }
@@ -151,11 +154,11 @@ pub trait Runtime {
         ensures owes { restores self.new ≡ restores self.old }
         ensures borrows { lent self.new ≡ lent self.old };
 
-    /// The interrupt and the register, of the nearest sandboxed frame if there is one.
+    /// Returns the interrupt and the register, those of the nearest sandboxed frame if there is one.
     fn registers(&self) -> &Registers<Self::Register>
         ensures { result.now ≡ registers_of (view self.now) };
 
-    /// The same to write to.
+    /// Returns the same registers, to be changed.
     fn registers_mut(&mut self) -> &mut Registers<Self::Register>
         ensures* lends { sem 𝓛 (LendsRegisters Self.row Self.Register.row self.entry result (relent self.old)) }
         ensures after { (w : Registers Self.Register) → view (relent self.old w) ≡ with_registers w (view self.old) }
@@ -164,7 +167,7 @@ pub trait Runtime {
         ensures borrows { (w : Registers Self.Register) → lent (relent self.old w) ≡ lent self.old }
         ensures value { result.now ≡ registers_of (view self.old) };
 
-    /// The store of partial templates, to write to, if one was set.
+    /// Returns the store of partial templates, to be changed, if one was set.
     fn partials(&mut self) -> Option<&mut Self::Store>
         ensures* lends { sem 𝓛 (LendsIf Self.row Self.Store.row self.entry result (restored self.old) self.old) }
         ensures after { (w : Self.Store) → IsSome (store self.old) → store (restored self.old w) ≡ Some w }
@@ -173,12 +176,11 @@ pub trait Runtime {
         ensures borrows { (w : Self.Store) → IsSome (store self.old) → lent (restored self.old w) ≡ lent self.old }
         ensures value { option_map (λ r. r.now) result ≡ store self.old };
 
-    /// How many partial templates may be open inside one another.
+    /// Returns the number of partial templates that may be nested.
     fn depth(&self) -> u32
         ensures { result ≡ (view self.now).depth };
 
-    /// Whether `get` answers nil for a path without a value, and doesn't refuse it. It takes no
-    /// memory.
+    /// Returns `true` if `get` returns nil for a path without a value, instead of an error. It takes no memory.
     fn is_lenient(&self) -> bool
         ensures { result ≡ (view self.now).lenient };
 }
@@ -249,7 +251,7 @@ impl<R: Runtime> Runtime for &mut R {
     }
 }
 
-/// The refusal of a name that has no value.
+/// Returns the error for a name that has no value.
 fn unknown_variable(alloc: Global, name: &str) -> Error
     ensures { IfSome (told result) (λ refusal. refusal ≡ unknown_variable_refusal name.now) }
 {

@@ -1,3 +1,4 @@
+//! The lowest runtime, over which frames are laid.
 ghost use Rattle.std.specs.Prelude.{◌≡◌, [], None, Some};
 ghost use Rattle.liquid_runtime.specs.meaning.Frames.{core_view, leniently};
 ghost use Rattle.liquid_runtime.specs.steps.FrameViews.{core_with};
@@ -9,10 +10,10 @@ use liquid_value::Value;
 use std::alloc::{AllocError, Global};
 use std::collections::BTreeSet;
 
-/// How many partials may be open inside one another where no builder says it.
+/// The number of partials that may be nested unless a builder sets another.
 pub(crate) const DEFAULT_DEPTH: u32 = 32;
 
-/// The lowest runtime: it has no names, and nowhere to set one.
+/// The lowest runtime. It has no names, and nowhere to set one.
 #[derive(Drop)]
 pub struct RuntimeCore<V, S> {
     registers: Registers<V>,
@@ -22,8 +23,7 @@ pub struct RuntimeCore<V, S> {
 }
 
 impl<V: Fresh, S: Drop> RuntimeCore<V, S> {
-    /// A core without a store, under which 32 partials may be open inside one another and a path
-    /// without a value is refused.
+    /// Returns a core without a store, on which 32 partials may be nested and a path without a value is an error.
     pub fn new() -> Self
         ensures view { ⟦<RuntimeCore<V, S> as Runtime>⟧.view result ≡ core_view V.fresh 32 }
         ensures store { ⟦<RuntimeCore<V, S> as Runtime>⟧.store result ≡ None }
@@ -31,8 +31,7 @@ impl<V: Fresh, S: Drop> RuntimeCore<V, S> {
         RuntimeCore::with(None, DEFAULT_DEPTH, false)
     }
 
-    /// A core over this store, under which so many partials may be open inside one another, lenient
-    /// or not.
+    /// Returns a core over this store, on which that many partials may be nested, lenient or not.
     pub(crate) fn with(store: Option<S>, depth: u32, lenient: bool) -> Self
         ensures view { ⟦<RuntimeCore<V, S> as Runtime>⟧.view result ≡ leniently lenient (core_view V.fresh depth) }
         ensures store { ⟦<RuntimeCore<V, S> as Runtime>⟧.store result ≡ store }
@@ -46,7 +45,7 @@ impl<V: Fresh, S: Drop> RuntimeCore<V, S> {
     }
 }
 
-/// A core as `new` makes it.
+/// Returns a core as `new` makes it.
 impl<V: Fresh, S: Drop> Default for RuntimeCore<V, S> {
     ghost is_default = { λ core.
         (⟦<RuntimeCore<V, S> as Runtime>⟧.view core ≡ core_view V.fresh 32)

@@ -1,3 +1,4 @@
+//! A frame that hides all names below it.
 ghost use Rattle.std.specs.Prelude.{◌≡◌, ◌∷◌, None, string_bytes, option_map};
 ghost use Rattle.liquid_runtime.specs.meaning.Calls.{named};
 ghost use Rattle.liquid_runtime.specs.meaning.Frames.{begin_sandboxed, restored_by, sandboxed_frame};
@@ -12,8 +13,7 @@ use liquid_value::{Object, Value};
 use std::alloc::{AllocError, Global};
 use std::collections::BTreeSet;
 
-/// A frame of names that hides all names below, with registers of its own. What is set in it goes to
-/// the frames below.
+/// A frame of names that hides all names below, with its own registers. What is set in it is set in the frames below.
 #[derive(Drop)]
 pub struct SandboxedStackFrame<P: Runtime> {
     parent: P,
@@ -23,7 +23,7 @@ pub struct SandboxedStackFrame<P: Runtime> {
 }
 
 impl<P: Runtime> SandboxedStackFrame<P> {
-    /// A frame of the names in `data` alone, over `parent`.
+    /// Returns a frame of the names in `data` alone, over `parent`.
     pub fn new(parent: P, data: Object) -> Self
         ensures view { ⟦<SandboxedStackFrame<P> as Runtime>⟧.view result
             ≡ begin_sandboxed P.Register.fresh (names_of «data») None (P.view parent) }
@@ -40,7 +40,7 @@ impl<P: Runtime> SandboxedStackFrame<P> {
         }
     }
 
-    /// The frame with this name of the template, in place of any other.
+    /// Sets the name of the template, in place of any other.
     pub fn with_name(mut self, name: String) -> Self
         ensures view { ⟦<SandboxedStackFrame<P> as Runtime>⟧.view result
             ≡ named (string_bytes name) (⟦<SandboxedStackFrame<P> as Runtime>⟧.view self) }

@@ -1,3 +1,4 @@
+//! Frames as values, and runtimes on which they are pushed and popped.
 ghost use Rattle.std.specs.Prelude.{◌≡◌, ℕ, List, [], ◌∷◌, ◌<◌, length, None, IfErr, OnOk, OnErr};
 ghost use Rattle.liquid_error.specs.meaning.Told.{told};
 ghost use Rattle.liquid_runtime.specs.meaning.View.{View};
@@ -16,12 +17,12 @@ use std::alloc::Global;
 pub enum Frame {
     /// No frame. It is pushed and popped like any other.
     None,
-    /// Names that stand before those below, with the name of the template if it sets one.
+    /// Names that hide those below, with the name of the template if it sets one.
     Stack(Object, Option<String>),
-    /// The same names alone, with a fresh interrupt and a fresh register. What is assigned goes to the
-    /// frames below, and is not seen.
+    /// These names alone, with a fresh interrupt and a fresh register. What is assigned goes to the frames below, and
+    /// is not seen.
     Sandboxed(Object, Option<String>),
-    /// The same as a sandboxed frame, but what is assigned is seen in the frame, and ends with it.
+    /// A sandboxed frame in which what is assigned is seen, and ends with the frame.
     Isolated(Object, Option<String>),
     /// A frame that takes what a template assigns.
     Global,
@@ -31,15 +32,15 @@ pub enum Frame {
 pub trait Scopes: Runtime {
     type Base: Runtime<Register = Self::Register, Store = Self::Store>;
 
-    /// Scopes over this base, without a frame of their own.
+    /// Returns scopes over this base, without a frame of their own.
     fn new(alloc: Global, base: Self::Base) -> Self
         ensures view { Self.view result ≡ Self.Base.view base }
         ensures store { Self.store result ≡ Self.Base.store base }
         ensures owes { Self.restores result ≡ scope_base ∷ Self.Base.restores base }
         ensures borrows { Self.lent result ≡ Self.Base.lent base };
 
-    /// Begins a frame. A none frame changes nothing and counts like any other. An `Err` is want of
-    /// memory, and leaves everything as it was.
+    /// Begins a frame. A `None` frame changes nothing and counts like any other. An `Err` means out of memory, and
+    /// leaves everything as it was.
     fn push(&mut self, frame: Frame) -> Result<(), Error>
         ensures ok { OnOk result (Self.view self.new ≡ beginning Self.Register.fresh (frame_of frame) (Self.view self.old)) }
         ensures opens { OnOk result (Self.restores self.new ≡ restored_by (frame_of frame) (Self.view self.old) ∷ Self.restores self.old) }
@@ -49,14 +50,14 @@ pub trait Scopes: Runtime {
         ensures store { Self.store self.new ≡ Self.store self.old }
         ensures borrows { Self.lent self.new ≡ Self.lent self.old };
 
-    /// Ends the frame that was begun last; the caller has pushed one that it has not popped.
+    /// Ends the frame that was begun last. The caller has pushed one that it has not popped.
     fn pop(&mut self)
         requires { 0 < length (opened (Self.restores self.old)) }
         ensures ends { EndsFirst (Self.restores self.old) (Self.view self.old) (Self.restores self.new) (Self.view self.new) }
         ensures store { Self.store self.new ≡ Self.store self.old }
         ensures borrows { Self.lent self.new ≡ Self.lent self.old };
 
-    /// Ends the frame that was begun last, as `pop` does, and returns its object if that is to be had without a copy.
+    /// Ends the frame that was begun last, as `pop` does, and returns its object if this takes no copy.
     fn pop_names(&mut self) -> Option<Object>
         requires { 0 < length (opened (Self.restores self.old)) }
         ensures ends { EndsFirst (Self.restores self.old) (Self.view self.old) (Self.restores self.new) (Self.view self.new) }
@@ -67,11 +68,11 @@ pub trait Scopes: Runtime {
         None
     }
 
-    /// How many frames are open.
+    /// Returns the number of open frames.
     fn frames(&self) -> usize
         ensures { result ≡ length (opened (Self.restores self.now)) };
 
-    /// The base again; the caller has popped every frame.
+    /// Returns the base. The caller has popped every frame.
     fn into_base(self) -> Self::Base
         requires { opened (Self.restores self) ≡ [] }
         ensures view { Self.Base.view result ≡ Self.view self }

@@ -1,3 +1,4 @@
+//! A frame of names over another runtime.
 ghost use Rattle.std.specs.Prelude.{◌≡◌, ◌∷◌, None, string_bytes, option_map};
 ghost use Rattle.liquid_runtime.specs.meaning.Calls.{named};
 ghost use Rattle.liquid_runtime.specs.meaning.Frames.{begin_stack, restored_by, stack_frame};
@@ -11,7 +12,7 @@ use liquid_value::{Object, Value};
 use std::alloc::{AllocError, Global};
 use std::collections::BTreeSet;
 
-/// A frame of names over another runtime: its own names hide those below.
+/// A frame of names over another runtime. Its own names hide those below.
 #[derive(Drop)]
 pub struct StackFrame<P> {
     parent: P,
@@ -20,7 +21,7 @@ pub struct StackFrame<P> {
 }
 
 impl<P: Runtime> StackFrame<P> {
-    /// A frame of the names in `data` over `parent`.
+    /// Returns a frame of the names in `data` over `parent`.
     pub fn new(parent: P, data: Object) -> Self
         ensures view { ⟦<StackFrame<P> as Runtime>⟧.view result ≡ begin_stack (names_of «data») None (P.view parent) }
         ensures store { ⟦<StackFrame<P> as Runtime>⟧.store result ≡ P.store parent }
@@ -35,7 +36,7 @@ impl<P: Runtime> StackFrame<P> {
         }
     }
 
-    /// The frame with this name of the template, in place of any other.
+    /// Sets the name of the template, in place of any other.
     pub fn with_name(mut self, name: String) -> Self
         ensures view { ⟦<StackFrame<P> as Runtime>⟧.view result ≡ named (string_bytes name) (⟦<StackFrame<P> as Runtime>⟧.view self) }
         ensures store { ⟦<StackFrame<P> as Runtime>⟧.store result ≡ ⟦<StackFrame<P> as Runtime>⟧.store self }

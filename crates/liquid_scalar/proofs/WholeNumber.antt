@@ -1,4 +1,4 @@
--- What `parse` reads as an i64 is the whole number that the text writes.
+-- What `parse` reads as an `i64` is the whole number that the text writes.
 use Rattle.std.proofs.Common.{◌≡◌, ℕ, zero, suc, ◌-◌, ◌^◌, ◌<◌, refl, sym, ap, List, Bool, true, false, true≢false, cond, ◌&&◌, ℤ, pos, neg_ℤ, Some, None, Result, Ok, Err, length, leb, ltb, lit<, arith}
 use Rattle.std.specs.Prelude.{FitsSigned}
 use Rattle.std.specs.Int.{w64}
@@ -10,7 +10,7 @@ use Rattle.std.proofs.lemmas.Str.Parse.{IsNumeralModel, numerals_by_value, tells
 use Rattle.std.proofs.lemmas.Bool.Decides.{Decides-and, Decides-ltb, Decides-like, nat_tests}
 use Rattle.liquid_scalar.specs.meaning.Scalar.{is_whole_number, whole_number_of_text, greatest_magnitude}
 
--- a result that is `Ok x` exactly where Q holds, beside a test that decides Q
+-- a result that is `Ok x` exactly if Q holds, together with a test that decides Q
 ok_by_test : {E : Type 0} (r : Result ℤ E) (Q : Type 0) (t : Bool) (x : ℤ) → OkIff r Q x → Decides t Q → result_ok r ≡ cond t (Some x) None
 ok_by_test (Ok y) Q true x h d = ap Some h.1
 ok_by_test (Ok y) Q false x h d = absurd (true≢false (sym (d.1 h.0)))

@@ -1,3 +1,4 @@
+//! A scalar: a whole number, a truth value, a text, a date or a date time.
 ghost use Rattle.std.specs.Prelude.{◌≡◌, IfOk};
 ghost use Rattle.std.specs.Cow.{cow_str_bytes};
 ghost use Rattle.liquid_scalar.specs.meaning.Scalar.{scal, to_integer, to_bool};
@@ -37,7 +38,7 @@ pub type Scalar = ScalarOf<String>;
 pub type ScalarCow<'s> = ScalarOf<CowStr<'s>>;
 
 impl<T> ScalarOf<T> {
-    /// The scalar that a number, a truth value, a text, a date or a date time is.
+    /// Returns the scalar of a number, a truth value, a text, a date or a date time.
     pub fn new<V: Into<ScalarOf<T>>>(value: V) -> ScalarOf<T>
         ensures { V.converts value result }
     {
@@ -46,7 +47,7 @@ impl<T> ScalarOf<T> {
 }
 
 impl<T: AsStr> ScalarOf<T> {
-    /// The same scalar with its text borrowed.
+    /// Returns the same scalar with its text borrowed.
     pub fn as_ref(&self) -> ScalarCow<'_>
         ensures { scal cow_str_bytes result ≡ scal T.text self.now }
     {
@@ -59,8 +60,8 @@ impl<T: AsStr> ScalarOf<T> {
         }
     }
 
-    /// The number itself, or the whole number that a text writes: an optional sign and digits, from -2^63 to
-    /// 2^63 - 1. None for every other scalar.
+    /// Returns the number itself, or the whole number that a text writes: an optional sign and digits, from -2^63 to
+    /// 2^63 - 1. Returns `None` for every other scalar.
     pub fn to_integer(&self) -> Option<i64>
         ensures { result ≡ to_integer (scal T.text self.now) }
     {
@@ -73,7 +74,7 @@ impl<T: AsStr> ScalarOf<T> {
         }
     }
 
-    /// The truth value itself, and none for every other scalar.
+    /// Returns the truth value itself, and `None` for every other scalar.
     pub fn to_bool(&self) -> Option<bool>
         ensures { result ≡ to_bool (scal T.text self.now) }
     {

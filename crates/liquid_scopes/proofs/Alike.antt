@@ -1,4 +1,4 @@
--- The same calls have the same answers, and leave the same.
+-- The same calls have the same results, and leave the same.
 use Rattle.std.proofs.Common.{◌≡◌, List, [], ◌∷◌, map, refl, sym, ap, ◌∙◌, subst}
 use Rattle.liquid_runtime.specs.meaning.View.{View}
 use Rattle.liquid_runtime.specs.meaning.Frames.{Restore, ending}

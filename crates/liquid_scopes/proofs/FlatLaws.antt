@@ -59,7 +59,7 @@ and_no : (b : Bool) → (b && false) ≡ false
 and_no true = refl
 and_no false = refl
 
--- one place more, which is not listed
+-- one more place, which is not listed
 over_new : (A o e : Bool) → (A && e) ≡ false → A ≡ ((A || (o && e)) && not e)
 over_new true o true h = absurd (cc)
 over_new true o false h = refl
@@ -82,7 +82,7 @@ part_undone true true false = refl
 part_undone true false false = refl
 part_undone false o e = refl
 
--- a listed place goes
+-- a listed place is removed
 taken : (A o e w : Bool) → (A && e) ≡ false → (((A || (o && e)) && not w) && not (o && e)) ≡ (A && not w)
 taken true o true w h = absurd (cc)
 taken true true false true h = refl
@@ -94,7 +94,7 @@ taken false true true false h = refl
 taken false true false w h = refl
 taken false false e w h = refl
 
--- a name more at a listed place, and at the unlisted one
+-- one more name at a listed place, and at the unlisted one
 put_listed : (A b e w : Bool) → (e ≡ true → w ≡ false) → ((A && not w) || (b && e)) ≡ ((A || (b && e)) && not w)
 put_listed true b true true h = let k = h refl in absurd (cc)
 put_listed true true false true h = refl
@@ -119,7 +119,7 @@ at_that (Some u) n j h = let k : u ≡ n = grind (arith, nat_tests) in ap (nat_e
 same_at : (U : Option ℕ) (i j : ℕ) (b : Bool) → is_at U i ≡ b → nat_eq j i ≡ true → is_at U j ≡ b
 same_at U i j b h e = let k : j ≡ i = grind (arith, nat_tests) in ap (is_at U) k ∙ h
 
--- a value that lies over another one
+-- a value over another one
 put_over : (a b : Option Tree) (c : Bool) (a' : Option Tree) → is_some a' ≡ (is_some a || c) → is_some (option_or a' b) ≡ (is_some (option_or a b) || c)
 put_over (Some t) b c (Some u) e = refl
 put_over (Some t) b c None e = absurd (cc)
@@ -136,7 +136,7 @@ unchanged true false n = refl
 unchanged false true n = refl
 unchanged false false n = refl
 
--- a noted name goes if the frame doesn't have it
+-- a noted name is removed if the frame doesn't have it
 kept_or_dropped : (o : Option Tree) (A w b e : Bool) → (b ≡ true → e ≡ true → A ≡ is_some o) → (e ≡ true → w ≡ false) → (((A && not w) || (b && e)) && not ((b && is_none o) && e)) ≡ (A && not w)
 kept_or_dropped o A w b false h k = unchanged (A && not w) b (is_none o)
 kept_or_dropped o true true b true h k = let m = k refl in absurd (cc)
@@ -148,7 +148,7 @@ kept_or_dropped (Some t) false w true true h k = let m = h refl refl in absurd (
 kept_or_dropped o false w false true h k = refl
 
 module _ {Reg : Type 0} where
-  -- no frame stands yet at the place of the next one
+  -- no frame is at the place of the next one yet
   nothing_there : (ls : List (Layer Reg)) (q : List ℕ) (j n : ℕ) → n ≡ length ls → (has_at ls q j && nat_eq j n) ≡ false
   nothing_there ls q j n e = same_place (nat_eq j n) j n refl (has_at ls q) (ap (has_at ls q) e ∙ nothing_behind ls q)
 
@@ -160,7 +160,7 @@ module _ {Reg : Type 0} where
       fit ∙ ap (λ u. A && not (is_at u j)) none ∙ sym (and_all A) ∙ over_new A o (nat_eq j n) (nothing_there ls q j n e)
       ∙ ap (λ b. b && not (nat_eq j n)) (ap (λ i. A || (o && nat_eq j i)) e ∙ sym (has_at-push ls l q j))
 
-  -- the next frame is the unlisted one, and doesn't stand there yet
+  -- the next frame is the unlisted one, and isn't there yet
   pub fits_next : (ls : List (Layer Reg)) (U : Option ℕ) (q : List ℕ) (j n : ℕ) (S : Bool) → n ≡ length ls → U ≡ None → S ≡ listed_at ls U q j → S ≡ listed_at ls (Some n) q j
   fits_next ls U q j n S e none fit =
       fit ∙ ap (λ u. has_at ls q j && not (is_at u j)) none ∙ sym (and_all (has_at ls q j)) ∙ sym (absent (has_at ls q) n j (nat_eq j n) refl (ap (has_at ls q) e ∙ nothing_behind ls q))
@@ -178,7 +178,7 @@ module _ {Reg : Type 0} where
   put_own (sandboxed_layer d n s) k q t e = absurd (cc)
   put_own (isolated_layer d g n s) k q t e = put_over (get g q) (get d q) (bytes_eq k q && nat_eq 0 0) (get (insert g k t) q) (put_name g k q t)
 
-  -- a global frame with one value more
+  -- a global frame with one more value
   has_at-put : (before after : List (Layer Reg)) (l : Layer Reg) (k q : List ℕ) (t : Tree) (j : ℕ) → is_global l ≡ true
       → has_at (before ++ assigning (insert (assigned l) k t) l ∷ after) q j ≡ (has_at (before ++ l ∷ after) q j || (bytes_eq k q && nat_eq j (length before)))
   has_at-put [] after l k q t zero e = put_own l k q t e
@@ -211,7 +211,7 @@ module _ {Reg : Type 0} where
         noted ∙ ap (λ b. b || (is_some (own (f x) q) && nat_eq j i)) fit
         ∙ listed_now (has_at (map f xs) q j) (is_some (own (f x) q)) (nat_eq j i) (λ e. let k : j ≡ i = grind (arith, nat_tests) in ap (has_at (map f xs) q) k ∙ ap is_some (sym own_is))
 
-    -- no frame stands at the unlisted place
+    -- no frame is at the unlisted place
     pub fits_past : (xs : List X) (q : List ℕ) (j i : ℕ) (S : Bool) → length xs ≤ i → S ≡ listed_at (map f xs) (Some i) q j → S ≡ listed_at (map f xs) None q j
     fits_past xs q j i S h fit = fit ∙ absent (has_at (map f xs) q) i j (nat_eq j i) refl (ap is_some (sym (own_past xs i q h))) ∙ and_all (has_at (map f xs) q j)
 
@@ -261,7 +261,7 @@ module _ {Reg : Type 0} where
   fits_put_unlisted ls ms U i k q j S here more fit = fit ∙ put_unlisted (has_at ls q j) (bytes_eq k q) (nat_eq j i) (is_at U j) (same_at U i j true here)
       ∙ ap (λ b. b && not (is_at U j)) (sym more)
 
-  -- the place that was noted for a name that was not given a value: it goes unless the frame had the name before
+  -- the place that was noted for a name that was not given a value: it is removed unless the frame had the name before
   pub fits_kept : (ls ms : List (Layer Reg)) (U : Option ℕ) (i : ℕ) (k q : List ℕ) (j : ℕ) (S T V : Bool) → is_at U i ≡ false → ms ≡ ls → S ≡ listed_at ls U q j
       → T ≡ (S || (bytes_eq k q && nat_eq j i)) → V ≡ (T && not ((bytes_eq k q && is_none (own_at i ms k)) && nat_eq j i)) → V ≡ listed_at ms U q j
   fits_kept ls ms U i k q j S T V apart same fit noted dropped =

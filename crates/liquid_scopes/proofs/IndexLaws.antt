@@ -85,7 +85,7 @@ left_out : (b : Bool) (w v : Frames) (old : Option Frames) (j : ℕ) (e : Bool) 
 left_out true w v old j e h alone = sym alone ∙ ap (λ o. is_among o j && not e) (sym (h refl))
 left_out false w v old j e h alone = sym (and_true (is_among old j))
 
--- a name whose only frame goes leaves the index
+-- a name whose only frame is removed leaves the index
 pub emptied_name : (m n o : Places) (bs q : List ℕ) (v w : Frames) (j : ℕ) (e : Bool) → Some v ≡ get_by_text m bs → get_by_text n q ≡ cond (bytes_eq bs q) (Some w) (get_by_text m q) → get_by_text o q ≡ cond (bytes_eq bs q) None (get_by_text n q) → (is_place v.last v.earlier j && not e) ≡ false → stands o q j ≡ (stands m q j && not (bytes_eq bs q && e))
 emptied_name m n o bs q v w j e is up gone alone =
     ap (λ k. is_among k j) (gone ∙ ap (cond (bytes_eq bs q) None) up) ∙ left_out (bytes_eq bs q) w v (get_by_text m q) j e (at_same m bs q (Some v) is) alone
@@ -102,7 +102,7 @@ cond-or : (b : Bool) (v : Value) (o : Option Value) → is_some (cond b (Some v)
 cond-or true v o = refl
 cond-or false v o = refl
 
--- one entry more
+-- one more entry
 pub has_more : (k : String Global) (v : Value) (es : List (String Global × Value)) (q : List ℕ) → has_name q ((k, v) ∷ es) ≡ (bytes_eq (string_bytes k) q || has_name q es)
 has_more k v es q =
     let same : eq_by_cmp (slice_cmp nat_cmp) q (string_bytes k) ≡ bytes_eq (string_bytes k) q =

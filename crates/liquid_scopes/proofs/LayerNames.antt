@@ -1,4 +1,4 @@
--- The names that are seen under a layer.
+-- The names that are seen in a layer.
 use Rattle.std.proofs.Common.{◌≡◌, Option, None, Some, refl, ap, sym, ◌∙◌}
 use Rattle.std.specs.Prelude.{String, is_some, ◌||◌}
 use Rattle.std.specs.Option.{option_or}

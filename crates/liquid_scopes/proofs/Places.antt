@@ -78,7 +78,7 @@ module _ {Reg : Type 0} (P : Layer Reg → Bool) where
         let m = insert (assigned p.layer) k t in
         ap (places_where P 0) (set_put f xs i x k t p a) ∙ places-same 0 p.before p.after (assigning m p.layer) p.layer (s m p.layer) ∙ sym (ap (places_where P 0) p.is)
 
--- what is assigned makes a layer neither global nor sandboxed
+-- assigning in a layer makes it neither global nor sandboxed
 pub assigning_sandboxed : {Reg : Type 0} (m : Names) (l : Layer Reg) → is_sandboxed (assigning m l) ≡ is_sandboxed l
 assigning_sandboxed m none_layer = refl
 assigning_sandboxed m (stack_layer d n) = refl

@@ -1,4 +1,5 @@
--- Whether a name is the own name of a sandboxed frame: its last place, the last sandboxed frame and the base are enough.
+-- Whether a name is the own name of a sandboxed frame: its last place, the last sandboxed frame and the base are
+-- enough.
 use Rattle.std.proofs.Common.{◌≡◌, ℕ, zero, suc, ◌<◌, ◌≤◌, List, [], ◌∷◌, length, map, get_or, Option, None, Some, Bool, true, false, cond, refl, sym, ap, ◌∙◌, arith, subst}
 use Rattle.std.proofs.lemmas.Bool.Decides.{nat_tests}
 use Rattle.std.proofs.lemmas.Option.{same_Some}
@@ -44,7 +45,7 @@ later_own true None i seals low below = ap (λ c. not c && seals 0) (sym (zero_b
 later_own false None i seals low below = refl
 later_own b (Some s) i seals low below = ap (λ c. not c && seals (suc s)) (sym (suc_below s i))
 
--- what stands under a hidden place is hidden too
+-- what is under a hidden place is hidden too
 hidden_alike : (listed S : Option ℕ) (u : ℕ) (seals : ℕ → Bool) (b : Bool) → is_under u S ≡ true → is_under u listed ≡ false → sealed_by (Some u) S seals b ≡ sealed_by listed S seals b
 hidden_alike listed None u seals b e f = absurd (cc)
 hidden_alike None (Some s) u seals b e f = ap (λ c. not c && seals s) (not_later u s e)
@@ -91,7 +92,7 @@ module _ {Reg : Type 0} where
       by_top (layer_view l v) ls q (Some i) (tail_top l ls q i h)
       ∙ later_own (is_sandboxed l) (last_seal ls) i (seals_at (l ∷ ls) q) (comes_from_seal (layer_view l v) q) (comes_from_seal v q)
 
-  -- an unlisted frame that may be asked, and has the name, is the name's last one
+  -- an unlisted frame that may be searched, and has the name, is the name's last one
   asked : (ls : List (Layer Reg)) (q : List ℕ) (listed : Option ℕ) (u i : ℕ) (a b : Bool) → is_under u listed ≡ b → cond (a || b) None (Some u) ≡ Some i
       → TopOf (listed_at ls (Some u) q) listed → has_at ls q i ≡ true → TopOf (has_at ls q) (Some i)
   asked ls q listed u i true b eb e h has = absurd (cc)
@@ -111,7 +112,7 @@ module _ {Reg : Type 0} where
   missed v ls q listed u i true e h none = absurd (cc)
   missed v ls q listed u i false e h none = by_top v ls q listed (absent_top ls q listed u (ap (has_at ls q) (same_Some u i e) ∙ none) h)
 
-  -- the unlisted frame hasn't the name
+  -- the unlisted frame doesn't have the name
   pub sealed_past : (v : View Reg) (ls : List (Layer Reg)) (q : List ℕ) (listed U O : Option ℕ) (i : ℕ) → O ≡ seen_over listed (last_seal ls) U → O ≡ Some i
       → TopOf (listed_at ls U q) listed → has_at ls q i ≡ false → comes_from_seal (shown_over v ls) q ≡ sealed_by listed (last_seal ls) (seals_at ls q) (comes_from_seal v q)
   sealed_past v ls q listed None O i over is h none = absurd (cc)
@@ -133,7 +134,7 @@ module _ {Reg : Type 0} where
   unasked v ls q listed u true false ea eb e h = under_seal v ls q listed u (has_at ls q u) refl ea eb h
   unasked v ls q listed u false false ea eb e h = absurd (cc)
 
-  -- no unlisted frame stands over the last listed place and every sandboxed frame
+  -- no unlisted frame is over the last listed place and every sandboxed frame
   pub sealed_unasked : (v : View Reg) (ls : List (Layer Reg)) (q : List ℕ) (listed U O : Option ℕ) → O ≡ seen_over listed (last_seal ls) U → O ≡ None
       → TopOf (listed_at ls U q) listed → comes_from_seal (shown_over v ls) q ≡ sealed_by listed (last_seal ls) (seals_at ls q) (comes_from_seal v q)
   sealed_unasked v ls q listed None O over is h = by_top v ls q listed (top_same (listed_at ls None q) (has_at ls q) listed (λ j. and_true (has_at ls q j)) h)

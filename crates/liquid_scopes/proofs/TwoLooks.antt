@@ -99,7 +99,7 @@ module _ {Reg : Type 0} where
   own_found (sandboxed_layer d n s) q below e = refl
   own_found (isolated_layer d g n s) q below e = refl
 
-  -- one that has it not passes what is below, unless it is sandboxed
+  -- a layer that doesn't have it passes what is below, unless it is sandboxed
   passes : (l : Layer Reg) (q : List ℕ) (below : Option Tree) → is_some (own l q) ≡ false → layer_found l q below ≡ cond (is_sandboxed l) None below
   passes none_layer q below e = refl
   passes (stack_layer d n) q below e = or_of_none (get d q) below e
@@ -133,7 +133,7 @@ module _ {Reg : Type 0} where
   lookup_over v [] q = refl
   lookup_over v (l ∷ ls) q = lookup_over (layer_view l v) ls q ∙ ap (found_over ls q) (lookup_link l v q)
 
-  -- the names of the list with one more
+  -- the names of the list with one more layer
   pub has_at-push : (ls : List (Layer Reg)) (l : Layer Reg) (q : List ℕ) (j : ℕ) → has_at (ls ++ l ∷ []) q j ≡ (has_at ls q j || (is_some (own l q) && nat_eq j (length ls)))
   has_at-push [] l q zero = sym (and_true (is_some (own l q)))
   has_at-push [] l q (suc j) = sym (ap (λ b. is_some (own l q) && b) (suc_not_zero j) ∙ and_false (is_some (own l q)))

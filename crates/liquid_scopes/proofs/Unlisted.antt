@@ -50,7 +50,7 @@ hidden : (S : Option ℕ) (i : ℕ) (w o : Option Tree) → is_under i S ≡ tru
 hidden None i w o e = absurd (cc)
 hidden (Some s) i w o e = ap (λ b. cond b None w) e
 
--- what stands under a hidden place is hidden
+-- what is under a hidden place is hidden
 hidden_too : (listed S : Option ℕ) (i : ℕ) (w o : Option Tree) → is_under i S ≡ true → is_under i listed ≡ false → two_looks listed S w o ≡ None
 hidden_too listed None i w o e f = absurd (cc)
 hidden_too None (Some s) i w o e f = refl
@@ -86,7 +86,7 @@ module _ {Reg : Type 0} where
       let k : u ≡ i = same_Some u i e in
       at_listed v ls q listed S w (absent_top ls q listed u (ap (has_at ls q) k ∙ sym (ap is_some none)) h) s is
 
-  -- the unlisted frame hasn't the name
+  -- the unlisted frame doesn't have the name
   pub passed_unlisted : (v : View Reg) (ls : List (Layer Reg)) (q : List ℕ) (listed S U O : Option ℕ) (i : ℕ) (w : Option Tree) → O ≡ seen_over listed S U → O ≡ Some i
       → TopOf (listed_at ls U q) listed → S ≡ last_seal ls → None ≡ own_at i ls q → w ≡ two_looks listed S (own_at_top listed ls q) (lookup v q) → w ≡ lookup (shown_over v ls) q
   passed_unlisted v ls q listed S None O i w over is h s none e = absurd (cc)
@@ -111,7 +111,7 @@ module _ {Reg : Type 0} where
   unseen v ls q listed S u false true w ea eb e h s is = under_listed v ls q listed S u w eb h s is
   unseen v ls q listed S u false false w ea eb e h s is = absurd (cc)
 
-  -- no unlisted frame stands over the last listed place and every sandboxed frame
+  -- no unlisted frame is over the last listed place and every sandboxed frame
   pub no_unlisted : (v : View Reg) (ls : List (Layer Reg)) (q : List ℕ) (listed S U O : Option ℕ) (w : Option Tree) → O ≡ seen_over listed S U → O ≡ None
       → TopOf (listed_at ls U q) listed → S ≡ last_seal ls → w ≡ two_looks listed S (own_at_top listed ls q) (lookup v q) → w ≡ lookup (shown_over v ls) q
   no_unlisted v ls q listed S None O w over is h s e = at_listed v ls q listed S w (top_same (listed_at ls None q) (has_at ls q) listed (λ j. and_true (has_at ls q j)) h) s e

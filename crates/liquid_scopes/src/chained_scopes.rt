@@ -1,3 +1,4 @@
+//! Scopes whose names are looked up frame by frame.
 ghost use Rattle.std.specs.Prelude.{◌≡◌, ◌∷◌, option_map};
 ghost use Rattle.liquid_value.specs.meaning.View.{view as tree_of};
 ghost use Rattle.liquid_runtime.specs.meaning.View.{View};
@@ -15,7 +16,7 @@ use liquid_value::{Object, Value};
 use std::alloc::{AllocError, Global};
 use std::collections::BTreeSet;
 
-/// Scopes whose frames stand in a list over their base. A name is looked up frame by frame.
+/// Scopes whose frames are in a list over their base. A name is looked up frame by frame.
 pub struct ChainedScopes<R: Runtime> {
     alloc: Global,
     base: R,
@@ -23,7 +24,7 @@ pub struct ChainedScopes<R: Runtime> {
 }
 
 impl<R: Runtime> ChainedScopes<R> {
-    // The place of the innermost global frame.
+    // Returns the place of the innermost global frame.
     fn last_global(&self) -> Option<usize>
         ensures { LastGlobal (layers_of self.now.links.items) result }
     {
@@ -168,7 +169,7 @@ impl<R: Runtime> Scopes for ChainedScopes<R> {
     }
 }
 
-// A walk over the links asks each of them, so that only chained scopes have one.
+// A walk over all links looks in each of them, so only chained scopes have one.
 impl<V> Link<V> {
     #[tactic(auto, using(liquid_runtime::proofs::FrameLookups::own_first))]
     fn found<'a>(&'a self, name: &str, below: Option<&'a Value>) -> Option<&'a Value>
@@ -213,7 +214,7 @@ impl<V> Link<V> {
     }
 }
 
-// Whether the name, if it has a value, is the own name of a sandboxed frame.
+// Returns `true` if the name, if it has a value, is the own name of a sandboxed frame.
 fn seals_over<V>(links: &[Link<V>], name: &str, below: bool) -> bool
     ensures { (v : View V) → below ≡ comes_from_seal v name.now → result ≡ comes_from_seal (view_over v links.now) name.now }
 {

@@ -1,4 +1,4 @@
-//! Scopes whose names are found in at most two looks.
+//! Scopes that find a name in at most two frame lookups.
 ghost use Rattle.std.specs.Prelude.{◌≡◌, ◌≤◌, ◌<◌, ◌+◌, ◌^◌, ◌∷◌, ℕ, IfOk, IfSome, option_map};
 ghost use Rattle.liquid_paths.specs.meaning.InPlace.{InPlace};
 ghost use Rattle.liquid_paths.specs.meaning.PathOf.{indexes_of};
@@ -19,7 +19,7 @@ use std::alloc::{AllocError, Global};
 use std::collections::BTreeSet;
 use std::marker::Model;
 
-/// Counts how often a lookup asks a place, or the base, for the value of a name.
+/// Counts how often the search for a name looks in a frame, or in the base.
 #[derive(Drop)]
 pub struct Looks {
     count: Count,
@@ -32,7 +32,7 @@ impl Model for Looks {
 }
 
 impl Looks {
-    /// No look yet.
+    /// Returns a count of zero.
     pub fn new() -> Looks
         ensures { result ≡ 0 }
     {
@@ -41,7 +41,7 @@ impl Looks {
         }
     }
 
-    /// The looks that were counted.
+    /// Returns the number of frame lookups.
     pub fn count(&self) -> u64
         ensures { result ≡ self.now }
     {
@@ -57,15 +57,15 @@ impl Default for Looks {
     }
 }
 
-/// What the frames count their looks by. It is made here alone, and here no frame can be asked by
-/// itself: so what asks a frame counts the look where the caller of the lookup reads it.
+/// What the frames count their lookups by. It is made only here, and no frame can be searched here without it. So
+/// whatever looks in a frame counts the lookup where the caller of `seek` reads it.
 #[derive(Drop)]
 pub(crate) struct Count {
     looks: u64,
 }
 
 impl Count {
-    // One look more.
+    // Counts one more frame lookup.
     pub(crate) fn tick(&mut self)
         requires { self.old.looks + 1 < 2 ^ 64 }
         ensures { self.new.looks ≡ self.old.looks + 1 }
@@ -74,10 +74,11 @@ impl Count {
     }
 }
 
-/// Scopes whose frames stand beside an index of their names. A name is found in at most two looks,
-/// however many frames are open: the last frame that can hold names isn't listed in the index as long
-/// as no other such frame is open over it, and is asked itself; the other look is one at the name's
-/// last place by the index, or at the base.
+/// Scopes whose frames are kept with an index of their names.
+///
+/// A name is found in at most two frame lookups, however many frames are open. The last frame that can hold names isn't
+/// listed in the index until another such frame is opened over it, and is searched itself. The other lookup is at the
+/// name's last place by the index, or in the base.
 pub struct FlatScopes<R: Runtime> {
     alloc: Global,
     base: R,
@@ -85,8 +86,8 @@ pub struct FlatScopes<R: Runtime> {
 }
 
 impl<R: Runtime> FlatScopes<R> {
-    /// The value of a path, as by `try_get`, with the looks that it took counted: at most two, and one
-    /// at least where there is a value.
+    /// Returns the value of a path, as by `try_get`, and counts the frame lookups: at most two, and at least one if
+    /// there is a value.
     ///
     /// The caller's count has room for two more.
     pub fn seek(

@@ -1,4 +1,4 @@
-//! Where the frames of one name stand.
+//! The places of the frames that have one name.
 ghost use Rattle.std.specs.Prelude.{◌≡◌, ◌<◌, ◌&&◌, ◌||◌, ℕ, true, false, not, nat_eq, Some, None, IfErr, OnOk, OnErr};
 ghost use Rattle.std.specs.Ordering.{nat_cmp};
 ghost use Rattle.std.specs.BTreeSet.{contains};
@@ -9,8 +9,8 @@ use liquid_error::Error;
 use std::alloc::Global;
 use std::collections::BTreeSet;
 
-/// The places of the frames that give a name a value, of which there is one at least. The last one
-/// stands apart: a name that one frame has takes no memory for its places.
+/// The places of the frames that give a name a value, of which there is at least one. The last one is kept apart: a
+/// name that only one frame has takes no memory for its places.
 #[derive(Drop)]
 pub(crate) struct Frames {
     last: usize,
@@ -53,7 +53,7 @@ impl Frames {
         }
     }
 
-    // Takes a place out, and answers whether another one is left. A place that is alone stays.
+    // Removes a place, and returns whether another one is left. A place that is the only one stays.
     pub(crate) fn leave(&mut self, place: usize) -> bool
         ensures left { result ≡ true → (j : ℕ) → is_place self.new.last self.new.earlier j
             ≡ (is_place self.old.last self.old.earlier j && not (nat_eq j place)) }

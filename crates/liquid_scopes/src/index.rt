@@ -12,7 +12,7 @@ use liquid_value::Object;
 use std::alloc::Global;
 use std::collections::BTreeMap;
 
-/// For each name the places of the listed frames that give it a value. A name without them isn't there.
+/// The places of the listed frames that give a value, for each name. A name without such frames has no entry.
 #[derive(Drop)]
 pub(crate) struct Index {
     places: BTreeMap<String, Frames>,
@@ -27,7 +27,7 @@ impl Index {
         }
     }
 
-    // The last frame of the name.
+    // Returns the last frame of the name.
     pub(crate) fn top(&self, name: &str) -> Option<usize>
         ensures { TopOf (stands self.now.places name.now) result }
     {
@@ -37,7 +37,7 @@ impl Index {
         }
     }
 
-    // The frame gives the name a value.
+    // Records that the frame gives the name a value.
     #[inline(always)]
     pub(crate) fn note(&mut self, alloc: Global, name: &str, frame: usize) -> Result<(), Error>
         ensures noted { OnOk result (Noted (λ q. bytes_eq name.now q) frame self.old.places self.new.places) }
@@ -58,7 +58,7 @@ impl Index {
         }
     }
 
-    // The frame gives the name no value. A name that no frame has any more leaves the index.
+    // Records that the frame no longer gives the name a value. A name without frames is removed from the index.
     #[inline(always)]
     pub(crate) fn forget(&mut self, name: &str, frame: usize)
         ensures { Forgotten (λ q. bytes_eq name.now q) frame self.old.places self.new.places }
@@ -74,7 +74,7 @@ impl Index {
         self.places.remove(name);
     }
 
-    // The frame gives these names a value; where memory is wanting, some of them.
+    // Records that the frame gives these names a value. If memory runs out, some of them are recorded.
     #[inline(always)]
     pub(crate) fn note_all(
         &mut self,
@@ -95,7 +95,7 @@ impl Index {
         Ok(())
     }
 
-    // The frame gives none of these names a value.
+    // Records that the frame no longer gives any of these names a value.
     #[inline(always)]
     pub(crate) fn forget_all(&mut self, names: &Object, frame: usize)
         ensures { Forgotten (λ q. is_some (get (names_of names.now) q)) frame self.old.places self.new.places }

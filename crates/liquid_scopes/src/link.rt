@@ -1,3 +1,4 @@
+//! A frame over the base.
 ghost use Rattle.std.specs.Prelude.{
   ◌≡◌,
   ◌<◌,
@@ -42,20 +43,20 @@ use std::alloc::{AllocError, Global};
 use std::collections::BTreeSet;
 use std::mem;
 
-/// A frame that stands over the base, with what it holds.
+/// A frame over the base, with what it holds.
 #[derive(Drop)]
 pub(crate) enum Link<V> {
     None,
     Stack(Object, Option<String>),
     Global(Object),
-    // With the registers that its ending gives back.
+    // With the registers that are given back when it ends.
     Sandboxed(Object, Option<String>, Registers<V>),
     // The same, with what is assigned in it.
     Isolated(Object, Object, Option<String>, Registers<V>),
 }
 
 impl<V> Link<V> {
-    // The names that are seen under the link, from those that are seen below it.
+    // Returns the names that are seen in the link, from those that are seen below it.
     pub(crate) fn roots_over(
         &self,
         alloc: Global,
@@ -89,7 +90,7 @@ impl<V> Link<V> {
         }
     }
 
-    // The value that the frame itself gives a name: one look.
+    // Returns the value that the frame itself gives a name. This is one frame lookup.
     pub(crate) fn look(&self, name: &str, count: &mut Count) -> Option<&Value>
         requires { count.old.looks + 1 < 2 ^ 64 }
         ensures value { option_map (λ r. tree_of r.now) result ≡ own (layer_of self.now) name.now }
@@ -105,7 +106,8 @@ impl<V> Link<V> {
         }
     }
 
-    // Whether the frame, if it is a sandboxed one, seals a name that no frame over it gives: one look.
+    // Returns `true` if the frame, if it is sandboxed, seals a name that no frame over it gives. This is one frame
+    // lookup.
     pub(crate) fn seals_own(&self, name: &str, looks: &mut Count) -> bool
         requires { looks.old.looks + 1 < 2 ^ 64 }
         ensures seals { result ≡ seals_own (layer_of self.now) name.now }
@@ -118,7 +120,7 @@ impl<V> Link<V> {
         }
     }
 
-    // Whether the frame gives a name a value, or may come to.
+    // Returns `true` if the frame gives a name a value, or may do so later.
     pub(crate) fn can_hold_names(&self) -> bool
         ensures { result ≡ false → (q : List ℕ) → own (layer_of self.now) q ≡ None }
     {
@@ -129,7 +131,7 @@ impl<V> Link<V> {
         }
     }
 
-    // The frame at this place gives its names a value; where memory is wanting, some of them.
+    // Records that the frame at this place gives its names a value. If memory runs out, some of them are recorded.
     #[inline(always)]
     #[tactic(auto, using(crate::proofs::FlatLaws::no_names_stand))]
     pub(crate) fn note(&self, index: &mut Index, alloc: Global, place: usize) -> Result<(), Error>
@@ -147,7 +149,7 @@ impl<V> Link<V> {
         }
     }
 
-    // The frame at this place gives none of its names a value any more.
+    // Records that the frame at this place no longer gives any of its names a value.
     #[inline(always)]
     #[tactic(auto, using(crate::proofs::FlatLaws::no_names_stand))]
     pub(crate) fn forget(&self, index: &mut Index, place: usize)
@@ -162,8 +164,7 @@ impl<V> Link<V> {
         }
     }
 
-    // The frame at this place was not given a value for the name: the name leaves the index, unless the frame
-    // gives it another value.
+    // Removes this place from the name's places in the index, unless the frame gives the name a value.
     pub(crate) fn forget_absent(&self, index: &mut Index, name: &str, place: usize)
         ensures { Forgotten (λ q. bytes_eq name.now q && is_none (own (layer_of self.now) name.now)) place index.old.places index.new.places }
     {
@@ -222,7 +223,7 @@ impl<V> Link<V> {
     }
 }
 
-// The names of both objects.
+// Returns the names of both objects.
 fn both_names(
     alloc: Global,
     names: &Object,
@@ -233,7 +234,7 @@ fn both_names(
     add_names(assigned, only_names(alloc, names)?)
 }
 
-// The value that a name has in the first object, else in the second.
+// Returns the value that a name has in the first object, otherwise in the second.
 fn first_value<'a>(first: &'a Object, second: &'a Object, name: &str) -> Option<&'a Value>
     ensures { option_map (λ r. tree_of r.now) result ≡ option_or (get (names_of first.now) name.now) (get (names_of second.now) name.now) }
 {
@@ -243,7 +244,8 @@ fn first_value<'a>(first: &'a Object, second: &'a Object, name: &str) -> Option<
     }
 }
 
-// The frame at this place gives the names of both objects a value; where memory is wanting, some of them.
+// Records that the frame at this place gives the names of both objects a value. If memory runs out, some of them are
+// recorded.
 fn note_both(
     index: &mut Index,
     alloc: Global,
@@ -262,7 +264,7 @@ fn note_both(
     }
 }
 
-// The frame at this place gives the names of both objects no value any more.
+// Records that the frame at this place no longer gives the names of both objects a value.
 fn forget_both(index: &mut Index, names: &Object, assigned: &Object, place: usize)
     ensures { Forgotten (λ q. is_some (option_or (get (names_of assigned.now) q) (get (names_of names.now) q)))
         place index.old.places index.new.places }
@@ -277,7 +279,8 @@ fn has_names(names: &Object) -> bool
     !names.is_empty()
 }
 
-// The link of a frame that begins over the base: a sandboxed or isolated one takes the base's registers into the link.
+// Returns the link of a frame that begins over the base. A sandboxed or isolated one takes the base's registers into
+// the link.
 #[inline(always)]
 #[tactic(auto, using(liquid_runtime::proofs::Objects::changed_objects))]
 pub(crate) fn opening<R: Runtime>(alloc: Global, base: &mut R, frame: Frame) -> Link<R::Register>
@@ -305,7 +308,7 @@ pub(crate) fn opening<R: Runtime>(alloc: Global, base: &mut R, frame: Frame) -> 
     }
 }
 
-// Gives back to the base what the ending of a link's frame gives back, and returns the names of a stack frame.
+// Gives back to the base what a link's frame gives back when it ends, and returns the names of a stack frame.
 #[inline(always)]
 pub(crate) fn closing<R: Runtime>(base: &mut R, link: Link<R::Register>) -> Option<Object>
     ensures registers { R.view base.new ≡ with_registers (registers_of (R.view base.new)) (R.view base.old) }

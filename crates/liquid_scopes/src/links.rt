@@ -1,4 +1,4 @@
-//! What links over one another show, the oldest first, from what is shown below them, and a value set in one of them.
+//! What links over one another show, the oldest first, given what is shown below them, and a value set in one of them.
 ghost use Rattle.std.specs.Prelude.{◌≡◌, ◌&&◌, ◌||◌, ℕ, List, false, nat_eq, bytes_eq, is_none, map, IfOk, OnOk, OnErr, option_map, string_bytes};
 ghost use Rattle.liquid_error.specs.meaning.Told.{Gives};
 ghost use Rattle.liquid_value.specs.meaning.View.{view as tree_of};
@@ -18,7 +18,7 @@ use liquid_value::Value;
 use std::alloc::{AllocError, Global};
 use std::collections::BTreeSet;
 
-// The name of the template.
+// Returns the name of the template.
 pub(crate) fn name_over<'a, V>(links: &'a [Link<V>], below: Option<&'a str>) -> Option<&'a str>
     ensures { (v : View V) → option_map (λ r. r.now) below.entry ≡ v.name → option_map (λ r. r.now) result ≡ (view_over v links.now).name }
 {
@@ -29,7 +29,7 @@ pub(crate) fn name_over<'a, V>(links: &'a [Link<V>], below: Option<&'a str>) -> 
     name
 }
 
-// The names that have a value.
+// Returns the names that have a value.
 pub(crate) fn roots_over<V>(
     alloc: Global,
     links: &[Link<V>],
@@ -44,8 +44,7 @@ pub(crate) fn roots_over<V>(
     Ok(names)
 }
 
-// The frame at this place was not given a value for the name: the name leaves the index, unless the frame
-// gives it another value.
+// Removes this place from the name's places in the index, unless the frame there gives the name a value.
 pub(crate) fn forget_absent<V>(links: &[Link<V>], index: &mut Index, name: &str, place: usize)
     ensures { Forgotten (λ q. bytes_eq name.now q && is_none (own_at place (layers_of links.now) name.now)) place
         index.old.places index.new.places }

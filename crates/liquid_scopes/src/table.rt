@@ -26,10 +26,11 @@ use liquid_value::Value;
 use std::alloc::{AllocError, Global};
 use std::collections::BTreeSet;
 
-/// The open frames, the oldest first. The index tells for each name the places of the frames that
-/// give it a value, but that of the unlisted frame: the last frame that can hold names is listed only
-/// when another such frame begins over it, so that a frame with none over it costs no entry. The
-/// places of sandboxed frames, and those of global ones, stand in their order.
+/// The open frames, the oldest first.
+///
+/// The index has the places of the frames that give a name a value, except that of the unlisted frame. The last frame
+/// that can hold names is listed only when another such frame begins over it, so that a frame with none over it costs
+/// no entry. The places of sandboxed frames, and those of global ones, are in their order.
 #[derive(Drop)]
 pub(crate) struct Table<V> {
     links: Vec<Link<V>>,
@@ -55,14 +56,14 @@ impl<V> Table<V> {
         }
     }
 
-    // How many frames there are.
+    // Returns the number of frames.
     pub(crate) fn frames(&self) -> usize
         ensures { result ≡ length self.now.links.items }
     {
         self.links.len()
     }
 
-    // The name of the template over that of the base.
+    // Returns the name of the template over that of the base.
     pub(crate) fn name_over<'a>(&'a self, below: Option<&'a str>) -> Option<&'a str>
         ensures { (v : View V) → option_map (λ r. r.now) below.entry ≡ v.name
             → option_map (λ r. r.now) result ≡ (view_over v self.now.links.items).name }
@@ -70,7 +71,7 @@ impl<V> Table<V> {
         name_over(self.links.as_slice(), below)
     }
 
-    // The names that have a value, over those of the base.
+    // Returns the names that have a value, over those of the base.
     pub(crate) fn roots_over(
         &self,
         alloc: Global,
@@ -82,8 +83,8 @@ impl<V> Table<V> {
         roots_over(alloc, self.links.as_slice(), below)
     }
 
-    // Whether the name, if it has a value, is the own name of a sandboxed frame, where `below` says so
-    // of the base. It takes two looks at most.
+    // Returns `true` if the name, if it has a value, is the own name of a sandboxed frame, where `below` says so for
+    // the base. It takes at most two frame lookups.
     pub(crate) fn seals_over(&self, name: &str, below: bool, count: &mut Count) -> bool
         requires { count.old.looks + 2 < 2 ^ 64 }
         ensures seals { (v : View V) → below ≡ comes_from_seal v name.now
@@ -100,8 +101,7 @@ impl<V> Table<V> {
         }
     }
 
-    // The last place of the name, or, where a sandboxed frame stands over all its places, one of these
-    // or none.
+    // Returns the last place of the name. If a sandboxed frame is over all its places, returns one of these or none.
     fn top(&self, name: &str, count: &mut Count) -> Option<usize>
         requires { count.old.looks + 1 < 2 ^ 64 }
         ensures seals { (v : View V) → comes_from_seal (view_over v self.now.links.items) name.now
@@ -119,7 +119,8 @@ impl<V> Table<V> {
         }
     }
 
-    // Whether the sandboxed frame at this place seals the name, if no frame over it gives it a value: one look at most.
+    // Returns `true` if the sandboxed frame at this place seals the name, if no frame over it gives it a value. This
+    // takes at most one frame lookup.
     fn seals_at(&self, place: usize, name: &str, count: &mut Count) -> bool
         requires { count.old.looks + 1 < 2 ^ 64 }
         ensures seals { result ≡ seals_at (layers_of self.now.links.items) name.now place }
@@ -131,14 +132,14 @@ impl<V> Table<V> {
         }
     }
 
-    // The last listed place of the name.
+    // Returns the last listed place of the name.
     fn listed(&self, name: &str) -> Option<usize>
         ensures { TopOf (listed_at (layers_of self.now.links.items) self.now.unlisted name.now) result }
     {
         self.index.top(name)
     }
 
-    // The place of the unlisted frame, unless it stands under this place or under a sandboxed frame.
+    // Returns the place of the unlisted frame, unless it is under this place or under a sandboxed frame.
     fn unlisted_over(&self, place: Option<usize>) -> Option<usize>
         ensures { result ≡ seen_over place (last_seal (layers_of self.now.links.items)) self.now.unlisted }
     {
@@ -154,21 +155,22 @@ impl<V> Table<V> {
         }
     }
 
-    // The place of the last sandboxed frame.
+    // Returns the place of the last sandboxed frame.
     fn sealed(&self) -> Option<usize>
         ensures { result ≡ last_seal (layers_of self.now.links.items) }
     {
         last_of(&self.seals)
     }
 
-    // The place of the last global frame.
+    // Returns the place of the last global frame.
     pub(crate) fn last_global(&self) -> Option<usize>
         ensures { LastGlobal (layers_of self.now.links.items) result }
     {
         last_of(&self.globals)
     }
 
-    // The value that the frame at this place itself gives the name: one look, where there is a frame.
+    // Returns the value that the frame at this place itself gives the name. This is one frame lookup, if there is a
+    // frame.
     fn look_at(&self, place: usize, name: &str, count: &mut Count) -> Option<&Value>
         requires { count.old.looks + 1 < 2 ^ 64 }
         ensures value { option_map (λ r. tree_of r.now) result ≡ own_at place (layers_of self.now.links.items) name.now }
@@ -182,7 +184,7 @@ impl<V> Table<V> {
         }
     }
 
-    // One frame more; it comes back where memory is wanting.
+    // Adds a frame. It is returned if memory runs out.
     #[inline(always)]
     pub(crate) fn add(&mut self, alloc: Global, link: Link<V>) -> Result<(), Link<V>>
         ensures added { OnOk result (self.new.links.items ≡ self.old.links.items ++ link ∷ []) }
@@ -203,7 +205,7 @@ impl<V> Table<V> {
         Ok(())
     }
 
-    // The next frame is the unlisted one, if it can hold names, and the one before it is listed.
+    // Makes the next frame the unlisted one, if it can hold names, and lists the one before it.
     fn next_unlisted(&mut self, alloc: Global, next: &Link<V>) -> Result<(), Error>
         ensures links { self.new.links ≡ self.old.links }
         ensures seals { self.new.seals ≡ self.old.seals }
@@ -222,7 +224,7 @@ impl<V> Table<V> {
         Ok(())
     }
 
-    // The unlisted frame is listed.
+    // Lists the unlisted frame.
     fn list(&mut self, alloc: Global) -> Result<(), Error>
         ensures links { self.new.links ≡ self.old.links }
         ensures seals { self.new.seals ≡ self.old.seals }
@@ -252,7 +254,7 @@ impl<V> Table<V> {
         }
     }
 
-    // Makes room for one frame more, and answers whether there is some.
+    // Makes room for one more frame, and returns whether there is room.
     fn make_room(&mut self, next: &Link<V>) -> bool
         ensures links { self.new.links.items ≡ self.old.links.items }
         ensures room { result ≡ true → vec_len self.new.links < vec_capacity self.new.links }
@@ -264,7 +266,7 @@ impl<V> Table<V> {
             && (!next.is_global() || self.globals.reserve(1).is_ok())
     }
 
-    // The last frame is taken out, and the names that it masked are found again.
+    // Removes the last frame. The names that it masked are found again.
     #[inline(always)]
     pub(crate) fn take(&mut self) -> Option<Link<V>>
         ensures items { self.old.links.items ≡ self.new.links.items ++ option_to_list result }
@@ -324,8 +326,8 @@ impl<V> Table<V> {
     }
 }
 
-// The value of a name over this base: a look at the unlisted frame, where it may be the name's last
-// one, and one at its last listed place or at the base.
+// Returns the value of a name over this base. One lookup is in the unlisted frame, if it may be the name's last one,
+// and one is at its last listed place or in the base.
 pub(crate) fn look_up<'a, R: Runtime>(
     table: &'a Table<R::Register>,
     base: &'a R,
@@ -348,8 +350,8 @@ pub(crate) fn look_up<'a, R: Runtime>(
     }
 }
 
-// The value that the name has at this place, or at the base where it has none. What stands below the
-// last sandboxed frame is not seen.
+// Returns the value that the name has at this place, or in the base if it has none. Frames below the last sandboxed
+// frame are not seen.
 fn look_listed<'a, R: Runtime>(
     table: &'a Table<R::Register>,
     base: &'a R,

@@ -1,9 +1,8 @@
-//! The command `liquid_speed`, which times single calls of the library by the machine's clock.
+//! The command `liquid_speed`, which measures the time of single calls of the library by the machine's clock.
 //!
-//! `parse` and `render` time a site with a list of posts, apart from each other; `over-flat` and
-//! `over-chained` its rendering over both forms of scopes, which pushes a frame a post; `flat` and
-//! `chained` the look-up of a name under frames. Each word is one measure, and its table goes to
-//! standard output.
+//! `parse` and `render` measure a site with a list of posts, each by itself. `over-flat` and `over-chained` measure its
+//! rendering over both forms of scopes, which pushes a frame for each post. `flat` and `chained` measure the lookup of
+//! a name under frames. Each word is one measure, and its table goes to standard output.
 #![tactic(auto)]
 
 mod names;
@@ -17,13 +16,13 @@ use std::env;
 use std::io::Write;
 use std::process::ExitCode;
 
-/// How many posts a site has.
+/// The number of posts of a site.
 const POSTS: [u32; 4] = [1250, 2500, 5000, 10_000];
 
-/// How many frames are open.
+/// The number of open frames.
 const FRAMES: [u32; 4] = [1, 10, 100, 1000];
 
-/// Prints a line of a table: what was measured, and in how many nanoseconds.
+/// Prints a line of a table: what was measured, and how many nanoseconds it took.
 fn told(
     rt: &HostRuntime,
     measure: &str,

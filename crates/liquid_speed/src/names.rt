@@ -1,4 +1,4 @@
-//! The look-up of names of the base under frames.
+//! The lookup of names of the base under frames.
 ghost use Rattle.std.specs.Prelude.{◌≡◌};
 
 use crate::problem::Problem;
@@ -8,13 +8,13 @@ use liquid_core::{Object, Value};
 use std::alloc::{AllocError, Global};
 use std::time::{Clock, Instant};
 
-/// How many names the base has, each of which is looked up once for one time.
+/// The number of names of the base. Each of them is looked up once for one measurement.
 const NAMES: u32 = 1000;
 
-/// How often the time is taken; the least counts.
+/// The number of measurements. The least time counts.
 const ROUNDS: u32 = 20;
 
-/// The names of the base.
+/// Returns the names of the base.
 fn names(alloc: Global) -> Result<Vec<String>, AllocError> {
     let mut names = Vec::new(alloc);
     for number in 0..NAMES {
@@ -23,7 +23,7 @@ fn names(alloc: Global) -> Result<Vec<String>, AllocError> {
     Ok(names)
 }
 
-/// A runtime with these names.
+/// Returns a runtime with these names.
 pub fn base(alloc: Global) -> Result<BuiltRuntime<(), ()>, AllocError> {
     let mut globals = Object::new(alloc);
     for name in names(alloc)? {
@@ -32,20 +32,20 @@ pub fn base(alloc: Global) -> Result<BuiltRuntime<(), ()>, AllocError> {
     Ok(RuntimeBuilder::new(alloc).set_globals(globals).build())
 }
 
-/// A frame with another name.
+/// Returns a frame with another name.
 fn frame(alloc: Global, number: u32) -> Result<Frame, AllocError> {
     let mut names = Object::new(alloc);
     names.insert(format!(in alloc; "other{number}")?, Value::scalar(1))?;
     Ok(Frame::Stack(names, None))
 }
 
-/// How many nanoseconds a look-up takes under the frames that are open.
+/// Returns how many nanoseconds a lookup takes under the frames that are open.
 fn look_up<S: Scopes, C: Clock>(alloc: Global, clock: &C, scopes: &S) -> Result<u128, Problem> {
     let names = names(alloc)?;
     let mut best = u128::MAX;
     for _ in 0..ROUNDS {
         let start = Instant::now(clock)?;
-        // Each answer decides how the loop goes on, so that the compiler leaves no look-up out.
+        // Each result decides how the loop continues, so that the compiler drops no lookup.
         for name in &names {
             let path = [ScalarCow::from(name.as_str())];
             if scopes.try_get(alloc, &path)?.is_none() {
@@ -57,7 +57,7 @@ fn look_up<S: Scopes, C: Clock>(alloc: Global, clock: &C, scopes: &S) -> Result<
     Ok(best / u128::from(NAMES))
 }
 
-/// The same under so many frames more.
+/// Measures the same under that many more frames.
 fn under<S: Scopes, C: Clock>(
     alloc: Global,
     clock: &C,
@@ -75,7 +75,7 @@ fn under<S: Scopes, C: Clock>(
     answer
 }
 
-/// The same over a base without frames.
+/// Measures the same over a base without frames.
 pub fn time<S: Scopes>(rt: &HostRuntime, base: S::Base, frames: u32) -> Result<u128, Problem>
 where
     S::Base: Drop,

@@ -1,8 +1,9 @@
+//! Why a time was not measured.
 use liquid_core::Error;
 use std::alloc::AllocError;
 use std::io;
 
-/// Why a time was not taken.
+/// Why a time was not measured.
 #[derive(Debug, Drop, thiserror::Error)]
 pub enum Problem {
     /// A word names no measure.
@@ -11,7 +12,7 @@ pub enum Problem {
     /// A name that the base has was not found.
     #[error("liquid_speed: a name was not found\n")]
     Lost,
-    /// A template was refused.
+    /// A template had an error.
     #[error("{0}")]
     Refused(#[from] Error),
     /// The clock or an output failed.

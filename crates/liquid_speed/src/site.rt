@@ -15,7 +15,7 @@ use std::alloc::{AllocError, Global};
 use std::rc::Rc;
 use std::time::Instant;
 
-/// How often each time is taken; the least counts.
+/// The number of measurements of each time. The least time counts.
 const ROUNDS: u32 = 5;
 
 const CARD: &str = "<h2>{{ post.title }}</h2>\n<p>{{ post.words | append: \" words\" }}</p>\n";
@@ -29,7 +29,7 @@ type Base = BuiltRuntime<(), Store>;
 
 type Page = Template<AnyFilter, TagNode<AnyFilter>, BlockNode>;
 
-/// The text of a page with so many posts.
+/// Returns the text of a page with that many posts.
 fn page_text(alloc: Global, posts: u32) -> Result<String, AllocError> {
     let mut text = String::from_str(alloc, "<h1>{{ title }}</h1>\n")?;
     for number in 0..posts {
@@ -48,7 +48,7 @@ fn post(alloc: Global, number: u32) -> Result<Value, AllocError> {
     Ok(Value::Object(SharedObject::shared(alloc, post)?))
 }
 
-/// The title of a site, and its list of so many posts.
+/// Returns the title of a site, and its list of that many posts.
 fn globals(alloc: Global, posts: u32) -> Result<Object, AllocError> {
     let mut list = Vec::new(alloc);
     for number in 0..posts {
@@ -77,13 +77,13 @@ fn store(alloc: Global, language: &Rc<TheLanguage>) -> Result<Store, AllocError>
     EagerCompiler::new(source).compile(alloc, language.clone()?)
 }
 
-/// The page of so many posts.
+/// Returns the page of that many posts.
 fn page(alloc: Global, posts: u32, language: &TheLanguage) -> Result<Page, Problem> {
     let text = page_text(alloc, posts)?;
     Ok(Template::new(parse(alloc, text.as_str(), language)?))
 }
 
-/// A runtime with the globals and the partials of a site of so many posts.
+/// Returns a runtime with the globals and the partials of a site of that many posts.
 fn base(alloc: Global, posts: u32, language: &Rc<TheLanguage>) -> Result<Base, AllocError> {
     Ok(
         RuntimeBuilder::new(alloc)
@@ -93,7 +93,7 @@ fn base(alloc: Global, posts: u32, language: &Rc<TheLanguage>) -> Result<Base, A
     )
 }
 
-/// How many nanoseconds the page of so many posts takes to be parsed.
+/// Returns how many nanoseconds the page of that many posts takes to be parsed.
 pub fn parse_time(rt: &HostRuntime, posts: u32) -> Result<u128, Problem> {
     let alloc = rt.alloc();
     let language = shared_language(alloc)?;
@@ -109,7 +109,7 @@ pub fn parse_time(rt: &HostRuntime, posts: u32) -> Result<u128, Problem> {
     Ok(best)
 }
 
-/// How many nanoseconds the parsed page of so many posts takes to be rendered.
+/// Returns how many nanoseconds the parsed page of that many posts takes to be rendered.
 pub fn render_time(rt: &HostRuntime, posts: u32) -> Result<u128, Problem> {
     let alloc = rt.alloc();
     let language = shared_language(alloc)?;
@@ -133,7 +133,7 @@ pub enum Form {
     Chained,
 }
 
-/// The same by `render_in`, over scopes of this form.
+/// Measures the same by `render_in`, over scopes of this form.
 pub fn time_over(rt: &HostRuntime, posts: u32, form: Form) -> Result<u128, Problem> {
     let alloc = rt.alloc();
     let language = shared_language(alloc)?;
@@ -150,7 +150,7 @@ pub fn time_over(rt: &HostRuntime, posts: u32, form: Form) -> Result<u128, Probl
     Ok(best)
 }
 
-/// How many nanoseconds a page takes to be rendered over this base.
+/// Returns how many nanoseconds a page takes to be rendered over this base.
 fn once_over<S, X, T, B>(
     rt: &HostRuntime,
     page: &Template<X, T, B>,

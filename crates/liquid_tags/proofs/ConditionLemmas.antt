@@ -1,4 +1,4 @@
--- What stands behind the first value of a condition.
+-- What follows the first value of a condition.
 use Rattle.std.proofs.Common.{◌≡◌, List, [], ◌∷◌, Option, None, Some, Result, Ok, Err, refl, sym, ap, ◌∙◌}
 use Rattle.std.specs.Prelude.{IfSome}
 use Rattle.liquid_error.specs.meaning.Refusal.{Refusal, ok_then}
@@ -14,7 +14,7 @@ pub nothing_behind : (e : ExpressionShape) (ts : List Token) → first_of ts ≡
 nothing_behind e [] none = refl
 nothing_behind e (t ∷ more) none = cc
 
--- what a comparison and what stands behind it make
+-- what a comparison and what follows it make
 abbrev pub compared_with : ExpressionShape → Comparison → Tokens → Result ConditionShape Refusal
 compared_with e op ts = ok_then (next_as expect_value ts) (λ value. alone (Compares e op value.0) value.1)
 

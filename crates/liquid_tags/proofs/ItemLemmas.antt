@@ -1,4 +1,4 @@
--- What is taken out of the items of a loop, and what is left.
+-- What is removed from the items of a loop, and what is left.
 use Rattle.std.proofs.Common.{◌≡◌, ℕ, zero, suc, ℤ, pos, ◌+◌, ◌-◌, ◌<◌, ◌≤◌, ◌+ℤ◌, List, [], ◌∷◌, None, Some, option_map, map, length, drop, refl, sym, ap, ◌∙◌, add-one, arith}
 use Rattle.std.specs.Prelude.{slice_get}
 use Rattle.std.proofs.lemmas.List.{length-drop, length-map}
@@ -61,7 +61,7 @@ module _ (values : List Value) (items : Items) (place : ℕ) (e : items_view val
   pub none_left : slice_get values place ≡ None → drop place (trees items) ≡ drop 1 (drop place (trees items))
   none_left none = none_after (trees items) place (at_item ∙ ap (option_map view) none)
 
--- one of so many numbers, and those behind it
+-- the first of that many numbers, and those after it
 counted_first : (from : ℤ) (size behind : ℕ) → size ≡ behind + 1 → counted from size ≡ scalar (integer from) ∷ counted (from +ℤ pos 1) behind
 counted_first from size behind e = ap (counted from) (e ∙ add-one behind)
 

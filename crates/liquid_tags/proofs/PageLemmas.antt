@@ -1,4 +1,4 @@
--- From the contracts of the calls below to what a page comes to.
+-- From the contracts of the calls below to the result of a page.
 use Rattle.std.proofs.Common.{◌≡◌, ℕ, List, Option, None, Some, Result, Ok, Err, refl, sym, ap, subst, ◌∙◌}
 use Rattle.std.specs.Prelude.{IfSome}
 use Rattle.liquid_error.specs.declared.error.Error.{Error}
@@ -27,7 +27,7 @@ use Rattle.liquid_tags.specs.meaning.Languages.{tags_and_blocks}
 use Rattle.liquid_tags.specs.meaning.Pages.{PageAnswer, RendersPage, page_depth}
 use Rattle.liquid_tags.specs.meaning.Library.{library}
 
--- what a store finds that was compiled of the same texts in a language of the same meaning
+-- what a store finds that was compiled from the same texts in a language of the same meaning
 pub compiled_alike : {F : Type 0} (l k : Lang F (TagShape F) PlanShape BlockShape) (texts others : Texts) (found : Found F (TagShape F) BlockShape)
     → l ≡ k → texts ≡ others → Compiled l texts found → Compiled k others found
 compiled_alike l k texts others found same_l same_texts compiled =
@@ -47,7 +47,7 @@ module _ {F : Type 0} (m : FilterMeaning F) (filters : Filters F) (text : List �
         (given answer (subst (λ k. Reads k text answer) (sym same_l) reads)));
   }
 
-  -- where memory runs out before anything is written, that is an outcome of each page
+  -- memory that runs out before anything is written is an outcome of each page
   nothing_comes : (at : Sunk) (error : Error) → told error ≡ None → (answer : PageAnswer F) (finds : Found F (TagShape F) BlockShape)
       → Rendered (library (tt {0}) m (Some finds)) answer (built_view (tt {0}) page_depth globals) at at (built_view (tt {0}) page_depth globals) (Err error)
   nothing_comes at error memory (Ok nodes) finds =

@@ -1,4 +1,4 @@
--- How the pairs of a call go on.
+-- How the pairs of a call continue.
 use Rattle.std.proofs.Common.{◌≡◌, ℕ, List, [], ◌∷◌, ◌++◌, Option, None, Some, Result, Ok, Err, refl, sym, ap, subst, ◌∙◌, append_assoc}
 use Rattle.std.specs.Prelude.{IfSome}
 use Rattle.std.proofs.lemmas.List.{append-nil}
@@ -70,14 +70,14 @@ on_comma : {A : Type 0} (r : Result (Unit {0}) Refusal) (x y : Result A Refusal)
 on_comma (Ok u) x y e = e
 on_comma (Err refusal) x y e = refl
 
--- behind a comma there is one pair, and the pairs behind it
+-- after a comma there is one pair, and the pairs after it
 pub pairs_step : (c : Token) (more : List Token) → pairs_given (c ∷ more) ≡ ok_then (comma c) (λ u. ok_then (pair_given (behind c more)) going_on)
 pairs_step c [] = refl
 pairs_step c (n ∷ []) = on_comma (comma c) _ _ (named_last n (or_unexpected n (expect_identifier n)))
 pairs_step c (n ∷ d ∷ []) = on_comma (comma c) _ _ (named_two n d (or_unexpected n (expect_identifier n)))
 pairs_step c (n ∷ d ∷ e ∷ more) = on_comma (comma c) _ _ (named_on n d e more (or_unexpected n (expect_identifier n)))
 
--- the token that is handed out, and those behind it, are the list
+-- the token that is returned, and those after it, are the list
 first_is : (ts : List Token) (given : Token × Tokens) → first_of ts ≡ Some given → ts ≡ given.0 ∷ given.1.left
 first_is [] given e = cc
 first_is (t ∷ more) given e = ap (λ o. elim o [ None ↦ t ∷ more | Some g ↦ g.0 ∷ g.1.left ]) e
@@ -86,7 +86,7 @@ first_stands : (ts : List Token) (given : Token × Tokens) → first_of ts ≡ S
 first_stands [] given e = cc
 first_stands (t ∷ more) given e = sym (ap (λ o. elim o [ None ↦ behind t more | Some g ↦ behind g.0 g.1.left ]) e) ∙ ap (λ o. elim o [ None ↦ behind t more | Some g ↦ g.1 ]) e
 
--- what a token that is handed out makes of the pairs
+-- what a returned token makes of the pairs
 pub pairs_of_first : (ts : List Token) (given : Token × Tokens) → first_of ts ≡ Some given → pairs_given ts ≡ ok_then (comma given.0) (λ u. ok_then (pair_given given.1) going_on)
 pairs_of_first ts given e =
     ap pairs_given (first_is ts given e) ∙ pairs_step given.0 given.1.left ∙ ap (λ rest. ok_then (comma given.0) (λ u. ok_then (pair_given rest) going_on)) (first_stands ts given e)
@@ -101,14 +101,14 @@ pair_taken ts named signed valued name text u e is_named is_signed is_valued sam
     ∙ ap (λ r. ok_then r (with_name name)) is_valued
     ∙ ap (λ (n : List ℕ). with_name n (e, valued)) (sym same)
 
--- what a token answers where a comma is expected
+-- the result for a token where a comma is expected
 pub comma_given : (t : Token) (token : TagToken) (attempt : TryMatchToken (Unit {0})) (r : Result (Unit {0}) Error) → IsToken token t → Tries (λ u. u) token attempt (expect_comma t)
     → ((u : Token) → FailedToken attempt u → Gives (λ x. x) r (or_unexpected u (matched_of attempt))) → Gives (λ u. u) r (comma t)
 comma_given t token (Matches y) r is tries gives = subst (λ m. Gives (λ u. u) r (or_unexpected t m)) (sym tries) (gives t tt)
 comma_given t token (Fails u) r is tries gives =
     subst (λ m. Gives (λ u. u) r (or_unexpected t m)) (sym tries.0) (gives t (subst (λ k. IsToken k t) (sym tries.1) is))
 
--- the pairs that are read, and those that the tokens behind them make
+-- the pairs that were read, and those that the tokens after them make
 abbrev pub read_on : List Pair → List Token → Result (List Pair) Refusal
 read_on done ts = ok_then (pairs_given ts) (λ qs. Ok (done ++ qs))
 
@@ -117,7 +117,7 @@ joined : (done : List Pair) (pair : Pair) (r : Result (List Pair) Refusal)
 joined done pair (Ok qs) = ap (λ ps. Ok ps) (sym (append_assoc done (pair ∷ []) qs))
 joined done pair (Err refusal) = refl
 
--- behind a comma one pair more is read
+-- after a comma one more pair is read
 pub pair_read : (done after : List Pair) (ts : List Token) (given : Token × Tokens) (pair : Pair) (rest : Tokens) (u : Unit {0}) (meant : Result (List Pair) Refusal)
     → meant ≡ read_on done ts → first_of ts ≡ Some given → comma given.0 ≡ Ok u → pair_given given.1 ≡ Ok (pair, rest) → after ≡ done ++ pair ∷ []
     → meant ≡ read_on after rest.left
@@ -127,14 +127,14 @@ pair_read done after ts given pair rest u meant so_far first is_comma is_pair pu
     ∙ joined done pair (pairs_given rest.left)
     ∙ ap (λ ps. read_on ps rest.left) (sym pushed)
 
--- the refusal of a token that is no comma
+-- the refusal of a token that is not a comma
 pub comma_refused : (done : List Pair) (ts : List Token) (given : Token × Tokens) (o : Option Refusal) (meant : Result (List Pair) Refusal)
     → meant ≡ read_on done ts → first_of ts ≡ Some given → IfSome o (λ r. comma given.0 ≡ Err r) → IfSome o (λ r. meant ≡ Err r)
 comma_refused done ts given o meant so_far first refused =
     subst (λ q. IfSome o (λ r. q ≡ Err r)) (sym (so_far ∙ ap (λ r. ok_then r (λ qs. Ok (done ++ qs))) (pairs_of_first ts given first)))
     (then_refused o (ok_then (comma given.0) (λ u. ok_then (pair_given given.1) going_on)) (λ qs. Ok (done ++ qs)) (then_refused o (comma given.0) (λ u. ok_then (pair_given given.1) going_on) refused))
 
--- the refusal of what stands behind a comma
+-- the refusal of what follows a comma
 pub pair_refused : (done : List Pair) (ts : List Token) (given : Token × Tokens) (u : Unit {0}) (o : Option Refusal) (meant : Result (List Pair) Refusal)
     → meant ≡ read_on done ts → first_of ts ≡ Some given → comma given.0 ≡ Ok u → IfSome o (λ r. pair_given given.1 ≡ Err r) → IfSome o (λ r. meant ≡ Err r)
 pair_refused done ts given u o meant so_far first is_comma refused =
@@ -145,6 +145,6 @@ no_token : (ts : List Token) → first_of ts ≡ None → ts ≡ []
 no_token [] none = refl
 no_token (t ∷ more) none = cc
 
--- where no token is left the pairs that are read are all
+-- if no token is left, the pairs that were read are all
 pub all_read : (done : List Pair) (ts : List Token) (meant : Result (List Pair) Refusal) → meant ≡ read_on done ts → first_of ts ≡ None → meant ≡ Ok done
 all_read done ts meant so_far none = so_far ∙ ap (read_on done) (no_token ts none) ∙ ap (λ ps. Ok ps) (append-nil done)

@@ -39,14 +39,14 @@ pub enum Blocks {
     Raw,
 }
 
-/// What is planned while a block is read: the node so far, and whether its `else` has come.
+/// What is planned while a block is read: the node so far, and whether its `else` was read.
 #[derive(Drop)]
 pub struct BlockPlan {
     pub node: BlockNode,
     pub is_closed: bool,
 }
 
-/// Stands for the shape of a plan.
+/// Marks the shape of a plan.
 pub struct PlanShape {
     pub node: BlockShape,
     pub is_closed: bool,
@@ -161,7 +161,7 @@ impl<F: ParseFilter> ParseBlock<F> for Blocks {
     }
 }
 
-/// What a block's start tag plans.
+/// Returns the plan of a block's start tag.
 fn begun(alloc: Global, block: Blocks, tokens: TagTokenIter<'_>) -> Result<BlockPlan, Error>
     ensures { (ts : Tokens) → AreTokens tokens.entry ts → Gives plan_of result (begun block ts) }
 {
@@ -237,7 +237,7 @@ pub fn next_series(alloc: Global, tokens: &mut TagTokenIter<'_>) -> Result<Serie
     }
 }
 
-/// A range, or a value without filters.
+/// Reads a range, or a value without filters.
 #[tactic(auto, using(crate::proofs::SeriesTokens::range_as_series, crate::proofs::SeriesTokens::value_as_series))]
 fn expect_series<'a>(
     alloc: Global,

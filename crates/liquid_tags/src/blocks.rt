@@ -15,41 +15,41 @@ use liquid_runtime::{Frame, Fresh, Runtime};
 use liquid_value::Object;
 use std::alloc::{AllocError, Global};
 
-/// What a block is made to.
+/// What a block is made into.
 #[derive(Drop)]
 pub enum BlockNode {
-    /// The part behind the first condition that holds, and the part behind them all where none does.
+    /// The part after the first condition that holds, or the part after them all if none does.
     If(Vec<Condition>),
-    /// The first part for each item, under a name; the second where there is no item.
+    /// The first part for each item, under a name, or the second part if there is no item.
     For(String, Box<Series>),
-    /// A text as it stands.
+    /// A text that is written unchanged.
     Raw(String),
 }
 
-/// Stands for the shape of a block.
+/// Marks the shape of a block.
 pub enum BlockShape {
     If(ListOf<ConditionShape>),
     For(Bytes, SeriesShape),
     Raw(Bytes),
 }
 
-/// How far a block is.
+/// The progress of a block.
 #[derive(Drop)]
 pub enum BlockProgress {
-    /// This part comes, or the block's text, and no turn behind it.
+    /// This part is next, or the block's text, and no turn follows it.
     Once(u64),
     /// A loop. It is in a box, so that the progress of the other blocks is small.
     Loop(Box<Rounds>),
 }
 
-/// Stands for the shape of a block's progress.
+/// Marks the shape of a block's progress.
 pub enum ProgressShape {
     Once(u64),
     Loop(RoundsShape),
 }
 
 impl BlockProgress {
-    /// Returns how many turns there are at most.
+    /// Returns the greatest number of turns.
     pub fn turns(&self) -> u64
         ensures { result ≡ block_count (progress_of self.now) }
     {
@@ -131,7 +131,7 @@ impl<V: Fresh> Discreet<V> for BlockNode {
     ghost hides = { blocks_hide };
 }
 
-/// The progress of a loop over these items; without items the `else` part comes.
+/// Returns the progress of a loop over these items. Without items, the `else` part is next.
 #[inline(never)]
 fn over_items(alloc: Global, items: Items) -> Result<BlockProgress, AllocError>
     ensures { IfOk result (λ p. progress_of p ≡ over_items (items_left items)) }

@@ -1,4 +1,4 @@
-//! The items that a loop still goes over.
+//! The items that a loop has left.
 ghost use Rattle.std.specs.Prelude.{◌≡◌, drop, length, option_map, slice_get, IfOk, OnOk};
 ghost use Rattle.liquid_scalar.specs.meaning.Scalar.{integer};
 ghost use Rattle.liquid_value.specs.meaning.Tree.{scalar};
@@ -10,7 +10,7 @@ ghost use Rattle.liquid_tags.specs.meaning.Items.{items_left};
 use liquid_value::{SharedArray, Value};
 use std::alloc::AllocError;
 
-/// The items that a loop still goes over.
+/// The items that a loop has left.
 ///
 /// The numbers of a range are made one by one: a list of a million of them takes some 50 MB.
 #[derive(Drop)]
@@ -28,7 +28,7 @@ pub struct Listed {
     pub(crate) place: usize,
 }
 
-/// So many numbers, from the next one on.
+/// That many numbers, from the next one on.
 #[derive(Drop)]
 pub struct Numbers {
     pub(crate) next: i64,
@@ -43,14 +43,14 @@ impl Items {
         Items::Listed(Listed { array, place: 0 })
     }
 
-    /// So many numbers, from this one on.
+    /// Returns that many numbers, from this one on.
     pub(crate) fn counted(next: i64, size: u64) -> Items
         ensures { items_left result ≡ counted next size }
     {
         Items::Counted(Numbers { next, size })
     }
 
-    /// Returns how many there are.
+    /// Returns the number of items.
     pub fn len(&self) -> u64
         ensures { result ≡ length (items_left self.now) }
     {
@@ -73,7 +73,7 @@ impl Items {
         }
     }
 
-    /// Takes out the first one, if there is one.
+    /// Removes the first one and returns it, if there is one.
     pub(crate) fn take_first(&mut self) -> Result<Option<Value>, AllocError>
         ensures first { IfOk result (λ item. option_map tree_of item ≡ slice_get (items_left self.old) 0) }
         ensures behind { OnOk result (items_left self.new ≡ drop 1 (items_left self.old)) }
@@ -89,7 +89,7 @@ impl Items {
 }
 
 impl Listed {
-    /// Returns how many items are left.
+    /// Returns the number of items that are left.
     fn len(&self) -> usize
         ensures { result ≡ length (drop self.now.place (trees (array_view self.now.array))) }
     {
@@ -113,7 +113,7 @@ impl Listed {
         }
     }
 
-    /// Takes out the first item, if there is one.
+    /// Removes the first item and returns it, if there is one.
     fn take_first(&mut self) -> Result<Option<Value>, AllocError>
         ensures first { IfOk result (λ item. option_map tree_of item
             ≡ slice_get (drop self.old.place (trees (array_view self.old.array))) 0) }
@@ -147,7 +147,7 @@ impl Numbers {
         }
     }
 
-    /// Takes out the first one, if there is one. One behind the greatest number doesn't come, since a
+    /// Removes the first one and returns it, if there is one. A number after the greatest one is never reached, since a
     /// range ends at a number.
     fn take_first(&mut self) -> Result<Option<i64>, AllocError>
         ensures first { IfOk result (λ number. option_map (λ n. scalar (integer n)) number

@@ -9,7 +9,7 @@ use liquid_value::{Object, SharedObject, Value};
 use std::alloc::{AllocError, Global};
 use std::marker::Model;
 
-/// What `forloop` says of an item.
+/// What `forloop` says about an item.
 #[derive(Clone, Copy, Drop)]
 pub(crate) struct Numbers {
     is_first: bool,
@@ -22,7 +22,7 @@ pub(crate) struct Numbers {
 }
 
 impl Numbers {
-    /// Returns what `forloop` says of the item at a place.
+    /// Returns what `forloop` says about the item at a place.
     fn at(place: u64, size: u64) -> Result<Numbers, AllocError>
         ensures { IfOk result (λ numbers. AreNumbers numbers place size) }
     {
@@ -56,7 +56,7 @@ impl Numbers {
     }
 }
 
-/// Returns a count as a number of a value. No memory has room for so many items that this fails.
+/// Returns a count as a number of a value. Memory never has room for so many items that this fails.
 fn number(count: u64) -> Result<i64, AllocError>
     ensures { IfOk result (λ n. n ≡ pos count) }
 {
@@ -66,14 +66,14 @@ fn number(count: u64) -> Result<i64, AllocError>
     }
 }
 
-/// Returns the place after a place, and the last one after itself.
+/// Returns the place after a place, and for the last one that place itself.
 fn next_place(place: usize) -> usize
     ensures { result ≡ next_place place }
 {
     if place < 7 { place + 1 } else { place }
 }
 
-/// Writes what `forloop` says of an item over the values of an object, in one walk.
+/// Writes what `forloop` says about an item over the values of an object, in one walk.
 fn write_members(object: &mut Object, numbers: &Numbers)
     ensures { members_view object.new.entries ≡ with_values (member_at numbers.now) 0 (members_view object.old.entries) }
 {
@@ -161,7 +161,7 @@ impl Kept {
     }
 }
 
-/// Makes the object of an item out of that of another.
+/// Makes the object of an item from that of another.
 fn renew(object: &mut SharedObject, alloc: Global, place: u64, size: u64) -> Result<(), AllocError>
     requires { IsForloop (object_view object.old) }
     ensures renewed { OnOk result (object_view object.new ≡ forloop_members place size) }

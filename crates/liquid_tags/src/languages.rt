@@ -9,7 +9,7 @@ use liquid_parser::Language;
 use liquid_plugins::{ParseFilter, PluginRegistry};
 use std::alloc::{AllocError, Global};
 
-/// The library's tags and blocks, each under its name, with these filters.
+/// Returns the language of the library's tags and blocks, each under its name, with these filters.
 pub fn language<F: ParseFilter>(
     alloc: Global,
     filters: PluginRegistry<F>,

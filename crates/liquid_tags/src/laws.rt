@@ -1,19 +1,19 @@
-//! Laws of the library in a sandbox, each as the contract of a function. `V` is the type of the
-//! register, `F` what filters are seen as. Nothing is asked of the filters, nor of tags and blocks.
+//! Laws of the library in a sandbox, each as the contract of a function. `V` is the type of the register, `F` the shape
+//! of the filters. Nothing is required of the filters, tags and blocks.
 ghost use Rattle.liquid_plugins.specs.meaning.Chain.{FilterMeaning};
 ghost use Rattle.liquid_tags.specs.laws.Sandboxes.{LibraryAgrees, LibraryIsolated};
 
 use liquid_runtime::Fresh;
 
-/// Under a sandboxed frame a template of the library has the run that it has over an outside without
-/// names: the same steps and the same end, with the outside's own names, interrupt and register as
-/// they were, and its globals overlaid by those that the run leaves.
+/// Under a sandboxed frame, a template of the library has the same run as over an outside without names: the same steps
+/// and the same end. The outside's own names, interrupt and register are as they were, and its globals are overlaid by
+/// those that the run leaves. The outside must have a global frame.
 pub fn library_is_isolated<V: Fresh, F>()
     ensures { (fresh : V) (m : FilterMeaning F) → LibraryIsolated fresh m }
 {}
 
-/// So two outsides that agree on partials, depth, leniency, index variables and name get the same
-/// text, the same refusal and the same writes.
+/// So two such outsides that agree on partials, depth, leniency, index variables and name get the same text, the same
+/// error and the same writes.
 pub fn outsides_agree_on_the_library<V: Fresh, F>()
     ensures { (fresh : V) (m : FilterMeaning F) → LibraryAgrees fresh m }
 {}

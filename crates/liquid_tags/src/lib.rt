@@ -1,4 +1,5 @@
-//! A small library of tags and blocks: `assign`, `increment`, `break`, `continue`, `include`, `render`, `if`, `for` and `raw`.
+//! A small library of tags and blocks: `assign`, `increment`, `break`, `continue`, `include`, `render`, `if`, `for` and
+//! `raw`.
 #![tactic(auto)]
 
 pub mod asked;

@@ -19,7 +19,7 @@ use liquid_value::{Object, Value};
 use std::alloc::{AllocError, Global};
 use std::mem;
 
-/// A turn of the loop with this name.
+/// Returns a turn of the loop with this name.
 #[inline(never)]
 pub(crate) fn loop_turn<R: Runtime>(
     alloc: Global,
@@ -48,7 +48,7 @@ pub(crate) fn loop_turn<R: Runtime>(
     Ok(item_turn(alloc, name, &mut rounds.kept, used, place, size, item)?)
 }
 
-/// Takes out the next item, if there is one.
+/// Removes the next item and returns it, if there is one.
 fn next_item(rounds: &mut Rounds) -> Result<Option<Value>, AllocError>
     ensures item { IfOk result (λ item. option_map tree_of item ≡ slice_get (rounds_of rounds.old).left 0) }
     ensures behind { OnOk result (rounds_of rounds.new ≡ behind (rounds_of rounds.old)) }
@@ -63,8 +63,8 @@ fn next_item(rounds: &mut Rounds) -> Result<Option<Value>, AllocError>
     }
 }
 
-/// Returns the turn of the item at a place, or the end if there is none. `kept` and `used` are the object `forloop` and the
-/// names of the turn before, if there are any: they are written over.
+/// Returns the turn of the item at a place, or the end if there is none. `kept` and `used` are the object `forloop` and
+/// the names of the turn before, if there are any. They are written over.
 pub fn item_turn(
     alloc: Global,
     name: &String,
@@ -105,7 +105,7 @@ fn forloop(
 }
 
 /// Returns the names of an item's frame: `forloop`, and the loop's own name, which wins. They are written over those of
-/// the turn before, if these come back.
+/// the turn before, if these were given back.
 fn names_of_item(
     alloc: Global,
     name: &String,
@@ -141,13 +141,13 @@ fn new_names(
     Ok(names)
 }
 
-/// Names that were written over, or the item for which others are to be made.
+/// Names that were written over, or the item for which others must be made.
 pub(crate) enum Written {
     Names(Object),
     Item(Value),
 }
 
-/// Writes the object `forloop` and an item over those of the turn before, where the names are these two alone.
+/// Writes the object `forloop` and an item over those of the turn before, if the names are just these two.
 fn write_over(
     alloc: Global,
     name: &String,
@@ -172,8 +172,8 @@ fn write_over(
     }
 }
 
-/// Writes the object `forloop` of an item over that of the turn before, if the names have one. The frame lets go of the one
-/// before first, so that the loop alone has it and can change it in place.
+/// Writes the object `forloop` of an item over that of the turn before, if the names have one. The frame drops the one
+/// before first, so that only the loop has it and can change it in place.
 fn write_loop(
     alloc: Global,
     names: &mut Object,
@@ -193,7 +193,7 @@ fn write_loop(
     }
 }
 
-/// Writes a value over that of a name, and gives it back if there is no such name.
+/// Writes a value over that of a name, and returns it if there is no such name.
 fn write_name(names: &mut Object, name: &str, value: Value) -> Option<Value>
     ensures written { result ≡ None → Writes name.now (tree_of value) names.old.entries names.new.entries }
     ensures back { IfSome result (λ back. back ≡ value) }

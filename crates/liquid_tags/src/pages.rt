@@ -22,15 +22,14 @@ use liquid_value::Object;
 use std::alloc::{AllocError, Global};
 use std::rc::Rc;
 
-/// A runtime of a page: names are strict, and 32 partials may be open inside one another.
+/// A runtime of a page: names are strict, and 32 partials may be nested.
 type PageRuntime<S, F> = BuiltRuntime<(), LazyStore<S, F, Tags, Blocks>>;
 
-/// Writes what a page comes to: this text in the library's language with these filters, over these
-/// globals, with the partials of this source.
+/// Renders a page and writes the result: this text in the library's language with these filters, over these globals,
+/// with the partials of this source.
 ///
-/// A text that is no template of the language is refused before anything is written. What was
-/// written before any other refusal stays written, and a failure of the sink is refused as "Failed
-/// to render".
+/// A text that is not a template of the language is an error before anything is written. What was written before any
+/// other error stays written. If the sink fails, the error is "Failed to render".
 pub fn render_page<F, S, K>(
     alloc: Global,
     text: &str,
@@ -67,7 +66,7 @@ fn shared_language<F: ParseFilter>(
     Ok(Rc::new(alloc, language(alloc, filters)?)?)
 }
 
-/// A store of the partials in this language.
+/// Returns a store of the partials in this language.
 fn store_of<F: ParseFilter, S: PartialSource + Drop>(
     alloc: Global,
     language: &Rc<Language<F, Tags, Blocks>>,
@@ -79,7 +78,7 @@ fn store_of<F: ParseFilter, S: PartialSource + Drop>(
     Ok(LazyCompiler::new(partials).compile(alloc, language.clone()?)?)
 }
 
-/// The runtime over these globals and this store.
+/// Returns the runtime over these globals and this store.
 fn runtime_of<F: ParseFilter, S: PartialSource + Drop>(
     alloc: Global,
     globals: Object,

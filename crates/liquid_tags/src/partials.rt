@@ -17,7 +17,7 @@ use liquid_runtime::{Frame, Runtime};
 use liquid_value::{Object, Value};
 use std::alloc::{AllocError, Global};
 
-/// What the partial sees: the names around it too, or its pairs alone.
+/// What the partial sees: its pairs and the names around it, or only its pairs.
 #[derive(Debug, Clone, Copy, PartialEq, Eq, Drop)]
 pub enum Inclusion {
     Include,
@@ -31,7 +31,7 @@ pub struct Call {
     pub pairs: Vec<(String, Expression)>,
 }
 
-/// The partial that the call asks for.
+/// Returns the turn with the partial of the call.
 #[inline(never)]
 pub(crate) fn included<R: Runtime>(
     alloc: Global,
@@ -54,7 +54,7 @@ pub(crate) fn included<R: Runtime>(
     }
 }
 
-/// The name that a value gives to a partial.
+/// Returns the name that a value gives to a partial.
 fn partial_name(alloc: Global, value: &Value) -> Result<String, Error>
     ensures { Gives (λ s. string_bytes s) result (partial_name (tree_of value.now)) }
 {
@@ -64,7 +64,7 @@ fn partial_name(alloc: Global, value: &Value) -> Result<String, Error>
     }
 }
 
-/// The names of the pairs, with what their expressions come to.
+/// Returns the names of the pairs, with the values of their expressions.
 #[inline(always)]
 fn bound<R: Runtime>(
     alloc: Global,
@@ -83,7 +83,7 @@ fn bound<R: Runtime>(
     Ok(names)
 }
 
-/// The turn that asks for the partial.
+/// Returns the turn with the partial.
 #[inline(always)]
 fn inclusion_turn(
     alloc: Global,
@@ -102,7 +102,7 @@ fn inclusion_turn(
     Ok(Turn::Partial(name, frame, Some(trace)))
 }
 
-/// The trace of the tag on a refusal out of the partial.
+/// Returns the trace of the tag for an error in the partial.
 fn trace(alloc: Global, inclusion: Inclusion, name: &str) -> Result<String, AllocError>
     ensures { IfOk result (λ s. string_bytes s ≡ word_of inclusion ++ (codes " " ++ name.now)) }
 {

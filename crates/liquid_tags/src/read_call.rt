@@ -1,4 +1,4 @@
-//! Reading of the calls of partials.
+//! Reading the calls of partials.
 ghost use Rattle.std.specs.Prelude.{◌<◌, map, IfOk};
 ghost use Rattle.liquid_error.specs.meaning.Told.{Gives};
 ghost use Rattle.liquid_parser.specs.meaning.Cursors.{IsToken, Takes, bytes_left};
@@ -14,7 +14,7 @@ use liquid_parser::{TagToken, TagTokenIter};
 use liquid_plugins::Expression;
 use std::alloc::Global;
 
-/// The call that all tokens make.
+/// Returns the call that all tokens make.
 pub(crate) fn read_call(alloc: Global, tokens: TagTokenIter<'_>) -> Result<Call, Error>
     ensures { (ts : Tokens) → AreTokens tokens.entry ts → Gives call_of result (call_given ts) }
 {
@@ -28,7 +28,7 @@ pub(crate) fn read_call(alloc: Global, tokens: TagTokenIter<'_>) -> Result<Call,
     }
 }
 
-/// The pairs that all tokens make.
+/// Returns the pairs that all tokens make.
 fn read_pairs(alloc: Global, tokens: TagTokenIter<'_>) -> Result<Vec<(String, Expression)>, Error>
     ensures { (ts : Tokens) → AreTokens tokens.entry ts → Gives (λ v. map pair_of v.items) result (pairs_given ts.left) }
 {
@@ -46,14 +46,14 @@ fn read_pairs(alloc: Global, tokens: TagTokenIter<'_>) -> Result<Vec<(String, Ex
     Ok(pairs)
 }
 
-/// The token is a comma.
+/// Checks that the token is a comma.
 fn read_comma(alloc: Global, token: TagToken<'_>) -> Result<(), Error>
     ensures { (t : Token) → IsToken token.entry t → Gives (λ u. u) result (comma t) }
 {
     token.expect_str(",").into_result(alloc)
 }
 
-/// The pair that the next tokens make.
+/// Reads the pair that the next tokens make.
 fn read_pair(alloc: Global, tokens: &mut TagTokenIter<'_>) -> Result<(String, Expression), Error>
     ensures value { (ts : Tokens) → AreTokens tokens.old ts → Takes pair_of result tokens.new (pair_given ts) }
     ensures shorter { IfOk result (λ pair. bytes_left tokens.new < bytes_left tokens.old) }

@@ -1,4 +1,4 @@
-//! Reading of conditions.
+//! Reading conditions.
 ghost use Rattle.std.specs.Prelude.{◌≡◌};
 ghost use Rattle.liquid_error.specs.meaning.Told.{Gives};
 ghost use Rattle.liquid_plugins.specs.meaning.ExpressionOf.{expression_of};
@@ -14,7 +14,7 @@ use liquid_parser::TagTokenIter;
 use liquid_plugins::Expression;
 use std::alloc::Global;
 
-/// The condition that all tokens make.
+/// Returns the condition that all tokens make.
 pub(crate) fn read_condition(alloc: Global, tokens: TagTokenIter<'_>) -> Result<Condition, Error>
     ensures { (ts : Tokens) → AreTokens tokens.entry ts → Gives condition_of result (condition_given ts) }
 {
@@ -25,7 +25,7 @@ pub(crate) fn read_condition(alloc: Global, tokens: TagTokenIter<'_>) -> Result<
     }
 }
 
-/// The condition that begins with this value.
+/// Returns the condition that begins with this value.
 fn behind_value(
     alloc: Global,
     left: Expression,
@@ -46,7 +46,7 @@ fn behind_value(
     }
 }
 
-/// Returns the comparison that a token's text stands for, if it stands for one.
+/// Returns the comparison that a token's text means, if it means one.
 pub fn comparison_of(text: &str) -> Option<Comparison>
     ensures { result ≡ comparison_of text.now }
 {

@@ -6,9 +6,9 @@ use crate::kept::Kept;
 use liquid_plugins::{ListOf, Meant, TreeMark};
 use liquid_value::Object;
 
-/// The items that are left of a loop, the place of the first of them, how many items there were, and
-/// how many turns there are: one for each item, and one after the last. Beside them, the object `forloop`
-/// and the names of the frame of the turn that has ended, which the next turn writes over.
+/// The items that a loop has left, the place of the first of them, how many items there were, and how many turns there
+/// are: one for each item, and one after the last. In addition, the object `forloop` and the names of the frame of the
+/// turn that has ended, which the next turn writes over.
 #[derive(Drop)]
 pub struct Rounds {
     pub(crate) left: Items,
@@ -19,7 +19,7 @@ pub struct Rounds {
     pub(crate) names: Option<Object>,
 }
 
-/// Stands for the shape of a loop's progress.
+/// Marks the shape of a loop's progress.
 pub struct RoundsShape {
     pub left: ListOf<TreeMark>,
     pub place: u64,

@@ -27,7 +27,7 @@ pub enum Series {
     Between(Expression, Expression),
 }
 
-/// Stands for the shape of a series.
+/// Marks the shape of a series.
 pub enum SeriesShape {
     Of(ExpressionMark),
     Between(ExpressionMark, ExpressionMark),
@@ -39,7 +39,7 @@ impl Meant for Series {
     ghost shape = { series_of };
 }
 
-/// The numbers of the longest range.
+/// The number of items of the longest range.
 const LONGEST: u64 = 1_000_000;
 
 /// Returns the items of a series.
@@ -73,7 +73,7 @@ fn items_in(alloc: Global, value: ValueCow<'_>) -> Result<Items, Error>
     items_of_owned(alloc, value.into_owned()?)
 }
 
-/// Returns the items of a value that is the loop's own.
+/// Returns the items of a value that the loop owns.
 fn items_of_owned(alloc: Global, value: Value) -> Result<Items, Error>
     ensures { Gives items_left result (items_in (tree_of value)) }
 {
@@ -93,14 +93,13 @@ fn no_items(alloc: Global) -> Items
 }
 
 /// Returns the pairs of an object as items.
-
 fn pairs_of(alloc: Global, members: &Object) -> Result<Items, AllocError>
     ensures { IfOk result (λ items. items_left items ≡ pairs (members_view members.now.entries)) }
 {
     Ok(Items::listed(SharedArray::Own(pairs(alloc, members)?)))
 }
 
-/// The pairs of an object.
+/// Returns the pairs of an object.
 fn pairs(alloc: Global, members: &Object) -> Result<Vec<Value>, AllocError>
     ensures { IfOk result (λ v. map tree_of v.items ≡ pairs (members_view members.now.entries)) }
 {
@@ -111,7 +110,7 @@ fn pairs(alloc: Global, members: &Object) -> Result<Vec<Value>, AllocError>
     Ok(items)
 }
 
-/// A name and its value, as an array.
+/// Returns a name and its value, as an array.
 fn pair(alloc: Global, name: &String, value: &Value) -> Result<Value, AllocError>
     ensures { IfOk result (λ v. tree_of v ≡ pair (string_bytes name.now) (tree_of value.now)) }
 {
@@ -121,7 +120,7 @@ fn pair(alloc: Global, name: &String, value: &Value) -> Result<Value, AllocError
     Ok(Value::Array(SharedArray::shared(alloc, pair)?))
 }
 
-/// The whole number that an expression comes to.
+/// Returns the whole number that is the value of an expression.
 fn whole_number<R: Runtime>(
     alloc: Global,
     expression: &Expression,
@@ -138,7 +137,7 @@ fn whole_number<R: Runtime>(
     }
 }
 
-/// The whole number that a value is, if it is one.
+/// Returns the whole number of a value, if it is one.
 pub(crate) fn number_of(value: &Value) -> Option<i64>
     ensures { result ≡ option_and_then to_integer (as_scalar (tree_of value.now)) }
 {
@@ -148,7 +147,7 @@ pub(crate) fn number_of(value: &Value) -> Option<i64>
     }
 }
 
-/// The numbers of a range.
+/// Returns the numbers of a range.
 fn items_between(alloc: Global, from: i64, to: i64) -> Result<Items, Error>
     ensures { Gives items_left result (items_between from to) }
 {
@@ -164,7 +163,7 @@ fn items_between(alloc: Global, from: i64, to: i64) -> Result<Items, Error>
     }
 }
 
-/// The refusal of a value, with its source.
+/// Returns the error for a value, with its source.
 pub(crate) fn expected(alloc: Global, message: &str, value: &Value) -> Error
     ensures { IfSome (told result) (λ r. r ≡ expected message.now (tree_of value.now)) }
 {
@@ -174,7 +173,7 @@ pub(crate) fn expected(alloc: Global, message: &str, value: &Value) -> Error
     }
 }
 
-/// The refusal of a range that has too many numbers.
+/// Returns the error for a range that has too many numbers.
 fn range_too_long(alloc: Global, from: i64, to: i64) -> Error
     ensures { IfSome (told result) (λ r. r ≡ range_too_long from to) }
 {

@@ -72,7 +72,7 @@ impl<F: ParseFilter> ParseTag<F> for Tags {
     }
 }
 
-/// The node of an `assign`.
+/// Returns the node of an `assign`.
 fn parse_assign<F: ParseFilter>(
     alloc: Global,
     tokens: TagTokenIter<'_>,
@@ -101,7 +101,7 @@ fn parse_assign<F: ParseFilter>(
     }
 }
 
-/// The node of an `increment`.
+/// Returns the node of an `increment`.
 fn parse_increment<X: Filter>(alloc: Global, tokens: TagTokenIter<'_>) -> Result<TagNode<X>, Error>
     ensures { (ts : Tokens) → AreTokens tokens.entry ts → Gives (tag_of X.shape) result (increment_given ts) }
 {
@@ -115,7 +115,7 @@ fn parse_increment<X: Filter>(alloc: Global, tokens: TagTokenIter<'_>) -> Result
     }
 }
 
-/// The node of an `include` or a `render`.
+/// Returns the node of an `include` or a `render`.
 fn parse_inclusion<X: Filter>(
     alloc: Global,
     inclusion: Inclusion,

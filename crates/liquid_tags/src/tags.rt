@@ -13,20 +13,20 @@ use liquid_plugins::{
 use liquid_runtime::{Fresh, Interrupt, Runtime};
 use std::alloc::Global;
 
-/// What a tag is made to, over filters `X`.
+/// What a tag is made into, over filters `X`.
 #[derive(Drop)]
 pub enum TagNode<X> {
-    /// Assigns what a chain comes to.
+    /// Assigns the value of a chain.
     Assign(String, Box<FilterChain<X>>),
-    /// Writes an index variable, and sets it one higher.
+    /// Writes an index variable, and increases it by one.
     Increment(String),
-    /// Lets this interrupt stand.
+    /// Sets this interrupt.
     Interrupts(Interrupt),
     /// Renders a partial.
     Includes(Inclusion, Box<Call>),
 }
 
-/// Stands for the shape of a tag, over filters of shape `S`.
+/// Marks the shape of a tag, over filters of shape `S`.
 pub enum TagShape<S> {
     Assign(Bytes, ChainMark<S>),
     Increment(Bytes),

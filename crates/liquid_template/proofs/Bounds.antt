@@ -1,4 +1,4 @@
--- A partial has at most as many nodes of plug-ins as all partials together.
+-- A partial has at most as many plug-in nodes as all partials together.
 use Rattle.std.proofs.Common.{◌≡◌, ℕ, ◌+◌, ◌≤◌, Bool, true, false, cond, List, [], ◌∷◌, map, Option, None, Some, Result, Ok, Err, refl, sym, ap, ◌∙◌, subst, arith}
 use Rattle.std.proofs.lemmas.Option.{same_Some, none-some}
 use Rattle.std.specs.Prelude.{IfOk, option_map}
@@ -44,7 +44,7 @@ module _ {F T B : Type 0} where
   answer_size None name ns h = absurd (subst IsErr h tt)
   answer_size (Some finds) name ns h = found_size finds name ns h
 
-  -- what a store answers has a size within that of all that it finds
+  -- what a store returns has a size within that of all that it finds
   pub small_answer : {A : Type 0} (of : A → Nodes F T B) (result : Result A Error) (finds : Option (Found F T B)) (name : List ℕ)
       → Gives of result (store_answer (option_map partial_in finds) name) → IfOk result (λ x. size_nodes (of x) ≤ partials_size finds)
   small_answer of (Ok x) finds name h = answer_size finds name (of x) h

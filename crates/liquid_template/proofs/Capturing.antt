@@ -120,7 +120,7 @@ module _ (b o d : Output) (empty : o.sunk.taken ≡ []) (no_bytes : o.bytes ≡ 
     silent_after r v x answer h = record { outcome = outcome_silent r x answer h.outcome; frames = h.frames; pours = pours_silent answer }
 
 module _ {Reg : Type 0} where
-  -- of what was rendered aside the sink sees nothing
+  -- the sink sees nothing of what was rendered aside
   pub renders_silent : (r : Run Reg) (v x : View Reg) (b o d c : Output) (answer : Answer) → Aside b o d c → RendersWithin r v o d x answer → RendersWithin (silent r) v b c x answer
   renders_silent r v x b o d c answer a h = subst (λ y. RendersWithin (silent r) v b y x answer) (sym a.back) (silent_after b o d a.empty a.no_bytes a.turns a.failures r v x answer h)
 
@@ -141,7 +141,8 @@ some_around o x (Some text) n m t e = (
   ap (λ y. y.sink_name) e,
 )
 
--- as the text opened, so it is when what was rendered to it is done: of the sink's output turns alone were asked
+-- when what was rendered to the text is done, the rest is as it was when the text opened: only turns were asked of the
+-- sink's output
 stood : (p b a : Place) → Swapped p (Some []) b → around a ≡ around b → a ≡ place (record p.output { turns = a.output.turns }) (Some (target a).sunk.taken) p.sink_name
 stood p b a e h =
     let s = some_around a.output p.output a.text a.sink_name p.sink_name [] (h ∙ ap around e.is) in

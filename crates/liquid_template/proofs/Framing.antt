@@ -29,7 +29,7 @@ module _ {Reg : Type 0} where
   opened_restored (isolated_frame names name) v rs = omega arith
   opened_restored global_frame v rs = omega arith
 
-  -- want of memory before anything was rendered
+  -- memory ran out before anything was rendered
   pub renders_memory : (r : Run Reg) (v : View Reg) (b : Output) (e : Error) → told e ≡ None → RendersWithin r v b b v (Err e)
   renders_memory r v b e h = renders_refused r v v b e (rw h tt) refl
 
@@ -60,7 +60,7 @@ told_same : (t : Option Refusal) → IfSome t (λ refusal. option_map (refused_t
 told_same None = tt
 told_same (Some refusal) = refl
 
--- no trace changes no error
+-- without a trace no error is changed
 pub becomes_itself : (answer : Result (Unit {0}) Error) → ErrBecomes (refused_through None) answer answer
 becomes_itself (Ok u) = refl
 becomes_itself (Err e) = told_same (told e)

@@ -1,4 +1,4 @@
--- What each turn of a node comes to, as the cycle goes on with it.
+-- The result of each turn of a node, as the cycle continues with it.
 use Rattle.std.proofs.Common.{Bool, true, false, is_ok, is_some, ◌≡◌, ℕ, suc, ◌-◌, ◌<◌, List, [], ◌∷◌, length, Option, Some, None, inl, inr, Result, Ok, Err, refl, sym, ap, subst, ◌∙◌}
 use Rattle.std.specs.Prelude.{IfSome, OnSome, IsOk, IsErrAnd, MatchOption}
 use Rattle.std.proofs.lemmas.List.{append-nil}
@@ -38,12 +38,12 @@ false-not-true e = cc
 true-not-false : true ≡ false → ⊥
 true-not-false e = cc
 
--- an answer that is done, or a refusal
+-- an answer without an error, or a refusal
 pub ok_is : (answer : Answer) → IsOk answer → answer ≡ Ok tt
 ok_is (Ok u) h = refl
 ok_is (Err e) h = absurd (false-not-true h)
 
--- the same of what is rendered
+-- the same for what is rendered
 pub renders_ok : {Reg : Type 0} (r : Run Reg) (v w : View Reg) (b a : Output) (answer : Answer) → IsOk answer → RendersWithin r v b a w (Ok tt) → RendersWithin r v b a w answer
 renders_ok r v w b a answer h x = subst (λ y. RendersWithin r v b a w y) (sym (ok_is answer h)) x
 
@@ -51,7 +51,7 @@ renders_ok r v w b a answer h x = subst (λ y. RendersWithin r v b a w y) (sym (
 pub done_ok : {Reg : Type 0} (v : View Reg) (b : Output) (answer : Answer) → IsOk answer → RendersWithin (done v) v b b v answer
 done_ok v b answer h = renders_ok (done v) v v b b answer h (renders_done v b tt)
 
--- want of memory before a frame is open
+-- memory ran out before a frame is open
 pub frame_lost : {Reg : Type 0} (fresh : Reg) (frame : FrameShape) (trace : Option (List ℕ)) (inner : Action Reg) (v w : View Reg) (e : Error) → told e ≡ None → w ≡ v → (b : Output) → RendersWithin (under fresh frame trace inner v) v b b w (Err e)
 frame_lost fresh frame trace inner v w e h i b = subst (λ x. RendersWithin (under fresh frame trace inner v) v b b x (Err e)) (sym i) (renders_memory (under fresh frame trace inner v) v b e h)
 
@@ -62,7 +62,7 @@ partial_fails fresh frame trace inner v v1 w x rs rs1 rs2 rs3 e (Ok u) h i j l k
 partial_fails fresh frame trace inner v v1 w x rs rs1 rs2 rs3 e (Err f) h i j l k t r = λ b. renders_framed fresh frame trace inner v v1 w x rs rs1 rs2 rs3 b b (Err e) (Err f) h i j k t
     (renders_refused (inner v1) v1 w b e (if_then (told e) (λ y z. ap (λ o. o v1) z ∙ ap (refuses y) (sym l)) r) (subst (λ y. SameFrames v1 y) (sym l) refl))
 
--- what is owed above what is owed
+-- what is owed in addition to what is owed
 pub owed_above : {A : Type 0} (x : A) (xs ys zs : List A) → xs ≡ x ∷ ys → ys ≡ zs → xs ≡ x ∷ zs
 owed_above x xs ys zs e i = e ∙ ap (λ l. x ∷ l) i
 
@@ -195,7 +195,7 @@ module _ {Reg F T P B Q : Type 0} (s : Setting Reg F T P B Q) (depth : ℕ) wher
             partial_ends name (Ok u) a h = absurd h
             partial_ends name (Err e) a h = λ parts k. first parts k w b (Err e) (turn_fails s (partials_at s depth) m n parts k p q v v1 w b b (partial_turn name frame trace) e tt a written progress same (turn_includes s (partials_at s depth) parts name frame trace v1 w b b (Err e) (h b)))
 
-  -- what a name comes to
+  -- what a name gives
   pub finds_none : (name : List ℕ) (e : Error) → depth ≡ 0 → IfSome (told e) (λ r. r ≡ too_deep) → IfSome (told e) (λ r. partials_at s depth name ≡ refuses r)
   finds_none name e h i = if_then (told e) (λ r j. deep_is s depth name h ∙ ap refuses (sym j)) i
 
@@ -271,7 +271,7 @@ module _ {Reg F T P B Q : Type 0} (s : Setting Reg F T P B Q) (depth : ℕ) wher
     turns_over j p v b (Ok u) i h = turns_done_at s (partials_at s depth) m n parts j p v b u i
     turns_over j p v b (Err e) i h = absurd (false-not-true h)
 
-  -- nodes of a list, by what each answers
+  -- nodes of a list, by the result of each
   module _ (ms : Nodes F T B) (n : NodeShape F T B) (ns : Nodes F T B) (is : ms ≡ node n ns) (v w : View Reg) (b a : Output) (answer : Answer) (h : RendersWithin (run_node s (partials_at s depth) n v) v b a w answer) where
     pub node_fails : (e : Error) → answer ≡ Err e → RendersWithin (run_nodes s (partials_at s depth) ms v) v b a w answer
     node_fails e i = subst (λ x. RendersWithin (run_nodes s (partials_at s depth) ms v) v b a w x) (sym i) (list_fails_at s (partials_at s depth) ms n ns v w b a e is (subst (λ x. RendersWithin (run_node s (partials_at s depth) n v) v b a w x) i h))

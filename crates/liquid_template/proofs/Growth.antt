@@ -1,4 +1,4 @@
--- What lies behind a sink over several puts.
+-- What is in the destination of a sink over several puts.
 use Rattle.std.proofs.Common.{ℕ, List, [], ◌++◌, Option, None, Some, sym, ◌∙◌, append_assoc}
 use Rattle.std.specs.Io.KnownBytes.{Appends}
 use Rattle.std.proofs.lemmas.List.{append-nil}

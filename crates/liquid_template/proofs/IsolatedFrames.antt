@@ -21,7 +21,7 @@ use Rattle.liquid_template.specs.laws.IsolatedFrames.{SameIsolatedRun, IsolatedF
 use Rattle.liquid_template.proofs.Framing.{renders_framed, renders_memory, becomes_itself, first_is, without_gate, within_no_gate}
 
 module _ {Reg : Type 0} (fresh : Reg) (names : Names) (name : Option (List ℕ)) (o p : View Reg) (e : o.name ≡ p.name) where
-  -- what the frame's ending leaves over the outside p, and over the outside o emptied
+  -- what is left when the frame ends over the outside p, and over the emptied outside o
   back_view : (v : View Reg) → ending (restored_by (isolated_frame names name) p) v ≡ given_back p (ending (restored_by (isolated_frame names name) (emptied fresh o)) v)
   back_view v = ap (λ n. record (ending (restored_by (isolated_frame names name) p) v) { name = n }) (sym e)
 
@@ -62,14 +62,14 @@ module _ {Reg F T P B Q : Type 0} (s : Setting Reg F T P B Q) where
   }
 
   module _ (names : Names) (name : Option (List ℕ)) (ns : Nodes F T B) where
-    -- what renders the run over the outside renders that over the outside emptied
+    -- what renders the run over the outside renders that over the emptied outside
     renders_isolated : (v x : View Reg) (b a : Sunk) (answer : Result (Unit {0}) Error) → Renders (isolated_run s names name ns v) v b a x answer → RendersIsolated s.fresh (isolated_run s names name ns) v b a x answer
     renders_isolated v x b a answer r = record { renders = r; isolated = subst (λ q. Renders q v b a x answer) (from_outside names name ns v) r }
 
     pub isolated_memory : (v : View Reg) (b : Sunk) (e : Error) → told e ≡ None → RendersIsolated s.fresh (isolated_run s names name ns) v b b v (Err e)
     isolated_memory v b e h = renders_isolated v v b b (Err e) (without_gate (isolated_run s names name ns v) v v b b (Err e) (renders_memory (isolated_run s names name ns v) v (ungated b) e h))
 
-    -- the name may be told as a text of its own
+    -- the name may be given as an owned text
     pub isolated_renders : (own : Option (List ℕ)) (v v1 w x : View Reg) (rs rs1 rs2 rs3 : List (Restore Reg)) (b a : Sunk) (answer : Result (Unit {0}) Error)
         → own ≡ name → v1 ≡ beginning s.fresh (isolated_frame names own) v → rs1 ≡ restored_by (isolated_frame names own) v ∷ rs → rs2 ≡ rs1 → EndsFirst rs2 w rs3 x → Renders (template_run s ns v1) v1 b a w answer
         → RendersIsolated s.fresh (isolated_run s names name ns) v b a x answer

@@ -1,4 +1,4 @@
--- Under hidden globals a run is the same, but that the globals left are the old ones overlaid.
+-- Under hidden globals a run is the same, except that the globals left are the old ones overlaid.
 use Rattle.std.proofs.Common.{◌≡◌, ℕ, zero, suc, List, [], ◌∷◌, ◌++◌, map, Bool, true, false, cond, is_some, Option, Some, None, Result, Ok, Err, refl, sym, ap, ◌∙◌, option_map}
 use Rattle.std.specs.Prelude.{unwrap_or}
 use Rattle.std.specs.FinMap.{empty}
@@ -28,7 +28,7 @@ use Rattle.liquid_template.specs.meaning.Rendering.{nodes_run, sandboxed_run}
 use Rattle.liquid_template.specs.meaning.Sandboxed.{HasGlobals, over_outside, step_over_outside, run_over_outside}
 use Rattle.liquid_template.specs.laws.Isolation.{Isolated, OutsidesAgree}
 
--- globals are there, and hidden
+-- there are globals, and they are hidden
 pub record Hidden {Reg : Type 0} (v : View Reg) : Type 0 where
   pub shown : v.shown ≡ false
   pub names : Names
@@ -82,7 +82,7 @@ module _ {Reg : Type 0} (g : Names) where
     hidden = λ v h. hidden_goes_on (a v).refusal (a v) k j (i.hidden v h);
   }
 
-  -- a run of which nothing is written, and what follows its text
+  -- a run that writes nothing, and what follows its text
   silent_steps : (ss : List (Step Reg)) → map silent_step (map cover_step ss) ≡ map cover_step (map silent_step ss)
   silent_steps [] = refl
   silent_steps (x ∷ ss) = ap (λ ys. silent_step (cover_step x) ∷ ys) (silent_steps ss)
@@ -147,7 +147,7 @@ module _ {Reg : Type 0} (g : Names) where
     global_steps l s b x [] = refl
     global_steps l s b x (y ∷ ss) = ap (λ ys. step_outside (restore_global l (Some (over (unwrap_or s empty) g)) b x) trace y ∷ ys) (global_steps l s b x ss)
 
-    -- inside a global frame nothing is hidden, and its ending gives back what was
+    -- inside a global frame nothing is hidden, and when it ends it gives back what was there
     apart_global : (k : Action Reg) → Apart (under fresh global_frame trace k)
     unfolding under
     apart_global k = record {
@@ -162,7 +162,7 @@ module _ {Reg : Type 0} (g : Names) where
     isolated_steps l s b x f n i r [] = refl
     isolated_steps l s b x f n i r (y ∷ ss) = ap (λ ys. step_outside (restore_isolated l (Some (over (unwrap_or s empty) g)) b x f n i r) trace y ∷ ys) (isolated_steps l s b x f n i r ss)
 
-    -- inside an isolated frame nothing of the outside is left, and its ending gives back what was
+    -- inside an isolated frame nothing of the outside is left, and when it ends it gives back what was there
     apart_isolated : (d : Names) (n : Option (List ℕ)) (k : Action Reg) → Apart (under fresh (isolated_frame d n) trace k)
     unfolding under
     apart_isolated d n k = record {
@@ -308,7 +308,7 @@ module _ {Reg : Type 0} (g : Names) where
     apart_template depth ns = apart_nodes s (partials_at s depth) (apart_partials depth) tl bl ns
 
 module _ {Reg : Type 0} (assigned : Names) (o : View Reg) (e : o.globals ≡ Some assigned) (fresh : Reg) (names : Names) (name : Option (List ℕ)) where
-  -- what the ending of the sandboxed frame leaves of a covered view
+  -- what is left of a covered view when the sandboxed frame ends
   back_view : (v : View Reg) → ending (restored_by (sandboxed_frame names name) o) (cover assigned v) ≡ over_outside o (ending (restored_by (sandboxed_frame names name) (emptied fresh o)) v)
   back_view v = ap (λ m. record (ending (restored_by (sandboxed_frame names name) o) v) { globals = option_map (over (unwrap_or v.globals empty)) m }) (sym e)
 

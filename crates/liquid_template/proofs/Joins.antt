@@ -1,4 +1,4 @@
--- How outcomes over a sink join: one thing after another, and a frame with a trace.
+-- How outcomes over a sink join: one action after another, and a frame with a trace.
 use Rattle.std.proofs.Common.{◌≡◌, ℕ, ◌+◌, ◌<◌, true, false, List, [], ◌∷◌, ◌++◌, length, map, Option, Some, None, Result, Ok, Err, ◌⊎◌, inl, inr, refl, sym, ap, subst, ◌∙◌, append_assoc, arith, option_map}
 use Rattle.std.specs.Prelude.{MatchOption, IfSome, unwrap_or}
 use Rattle.std.proofs.lemmas.List.{append-nil, length-append}
@@ -48,11 +48,11 @@ module _ {Reg : Type 0} where
   bytes-append : (ss ts : List (Step Reg)) → length (pieces (ss ++ ts)) ≡ length (pieces ss) + length (pieces ts)
   bytes-append ss ts = ap length (pieces-append ss ts) ∙ length-append (pieces ss) (pieces ts)
 
-  -- frames that are the same twice are the same
+  -- frames that stay the same twice are the same
   pub same_frames_then : (v w x : View Reg) → SameFrames v w → SameFrames w x → SameFrames v x
   same_frames_then v w x h i = i ∙ ap (with_written (written_of x)) h
 
-  -- the ending of a frame gives back the frames that it began over
+  -- when a frame ends, the frames that it began over are given back
   pub same_frames_ended : (fresh : Reg) (frame : FrameShape) (v w : View Reg) → SameFrames (beginning fresh frame v) w → SameFrames v (ending (restored_by frame v) w)
   same_frames_ended fresh no_frame v w h = h
   same_frames_ended fresh (stack_frame names name) v w h = ap (ending (restored_by (stack_frame names name) v)) h
@@ -160,7 +160,7 @@ module _ {Reg : Type 0} where
   outcome_then r next b m a w x (Ok u) d h i = (whole_then r next b m a w x d h i.0, refusal_then r next w None d h.view i.1)
   outcome_then r next b m a w x (Err e) d h i = told_then (told e) r next b m a w x d h i
 
-  -- a call that is done, and a call behind it
+  -- a call that is done, and a call after it
   pub renders_then : (r : Run Reg) (next : Action Reg) (v w x : View Reg) (b m a : Output) (u : Unit {0}) (answer : Result (Unit {0}) Error) → RendersWithin r v b m w (Ok u) → RendersWithin (next w) w m a x answer → RendersWithin (and_then r next) v b a x answer
   renders_then r next v w x b m a u answer h i = record {
     outcome = outcome_then r next b m a w x answer h.outcome.1 h.outcome.0 i.outcome;
@@ -168,7 +168,7 @@ module _ {Reg : Type 0} where
     pours = pours_then b.sunk m.sunk a.sunk u answer h.pours i.pours;
   }
 
-  -- what is behind a refusal does not matter
+  -- what follows a refusal does not matter
   cut_first : (f : Option Refusal) (r : Run Reg) (next : Action Reg) (b a : Output) → Cut r b a → Cut (goes_on f r next) b a
   cut_first (Some refusal) r next b a h = h
   cut_first None r next b a h = record {
@@ -227,7 +227,7 @@ module _ {Reg : Type 0} where
   }
   told_refused (Some refusal) r x b h = inl (subst (λ p. Whole p b b x × (p.refusal ≡ Some refusal)) (sym h) (record { taken = sym (append-nil b.sunk.taken); failures = refl; turns = passes_none b.turns; bytes = passes_none b.bytes; view = refl }, refl))
 
-  -- a refusal that is the run's own, with nothing written; want of memory says nothing of the run
+  -- a refusal that is the run's own, with nothing written; an out-of-memory error says nothing about the run
   pub renders_refused : (r : Run Reg) (v x : View Reg) (b : Output) (e : Error) → IfSome (told e) (λ refusal. r ≡ refuses refusal x) → SameFrames v x → RendersWithin r v b b x (Err e)
   renders_refused r v x b e h s = record { outcome = told_refused (told e) r x b h; frames = s; pours = pours_refused b.sunk e }
 
@@ -301,7 +301,7 @@ module _ {Reg : Type 0} where
     stopped_outside r b a x refusal (inl h) = inl (whole_outside r b a x h.0, ap (option_map (refused_through trace)) h.1)
     stopped_outside r b a x refusal (inr h) = inr (broken_outside r b a x refusal h)
 
-    -- what passed up to a step, of all that the run asks for
+    -- what passed up to a step, of all that the run requests
     turns_in : (front later : List (Step Reg)) (step : Step Reg) → checkpoints (front ++ step ∷ later) ≡ checkpoints front + (one_if step.checkpoint + checkpoints later)
     turns_in front later step = checkpoints-append front (step ∷ later)
 
@@ -369,8 +369,8 @@ module _ {Reg : Type 0} where
     outcome_outside (Err old) (Ok u) r b a x e h = absurd e
     outcome_outside (Err old) (Err new) r b a x e h = told_outside (told old) (told new) r b a x e h
 
-  -- a call under a frame: what was rendered inside, with the trace put on its error, is what rendering under the frame and
-  -- the trace comes to
+  -- a call under a frame: what was rendered inside, with the trace added to its error, is the rendering under the frame
+  -- and the trace
   pub renders_under : (fresh : Reg) (frame : FrameShape) (trace : Option (List ℕ)) (inner : Action Reg) (v w : View Reg) (b a : Output) (answer answer' : Result (Unit {0}) Error) → ErrBecomes (refused_through trace) answer answer'
       → RendersWithin (inner (beginning fresh frame v)) (beginning fresh frame v) b a w answer → RendersWithin (under fresh frame trace inner v) v b a (ending (restored_by frame v) w) answer'
   unfolding under

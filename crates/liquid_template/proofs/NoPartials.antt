@@ -1,4 +1,4 @@
--- What is found where there are no partials, and the names that a refusal lists.
+-- What is found if there are no partials, and the names that a refusal lists.
 use Rattle.std.proofs.Common.{◌≡◌, ℕ, List, [], ◌∷◌, ◌++◌, map, length, None, Some, Result, Err, refl, sym, ap, ◌∙◌, arith}
 use Rattle.std.specs.Prelude.{codes, option_and_then}
 use Rattle.std.specs.Borrow.{Bor}

@@ -1,4 +1,4 @@
--- What putting a piece to an open text comes to, and through a gate to a sink.
+-- The result of putting a piece to an open text, and through a gate to a sink.
 use Rattle.std.proofs.Common.{◌≡◌, ◌≢◌, ℕ, ◌+◌, ◌<◌, true, false, Bool, List, [], ◌++◌, length, Option, Some, None, Result, Ok, Err, ◌⊎◌, inl, inr, refl, sym, ap, subst, ◌∙◌, arith}
 use Rattle.std.specs.Prelude.{MatchOption, IfSome, IsUtf8}
 use Rattle.std.proofs.lemmas.List.{append-nil}
@@ -108,7 +108,7 @@ pub gated_refused : (piece : List ℕ) (s : Sunk) (g h : Gated) (e : Error) (pas
 gated_refused piece s g h e passed p l b t i = refused_at piece (gated s g) (gated s h) e l refl (ap Some t)
     (ap Some (b ∙ ap (λ x. asked x (length piece) g.bytes) p ∙ refused_any (length piece) g.bytes ∙ none_first g.bytes)) i
 
--- nothing is put where the piece is empty
+-- nothing is put if the piece is empty
 pub nothing_put : (piece : List ℕ) (o : Output) (u : Unit {0}) → piece ≡ [] → PieceOut piece o o (Ok u)
 nothing_put piece o u e = subst (λ x. PieceOut x o o (Ok u)) (sym e) (record {
   taken = record { taken = sym (append-nil o.sunk.taken); failures = refl; bytes = passes_none o.bytes };

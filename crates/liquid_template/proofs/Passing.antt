@@ -1,4 +1,4 @@
--- What passes a gate, one thing after another.
+-- What passes a gate, one action after another.
 use Rattle.std.proofs.Common.{◌≡◌, ℕ, ◌+◌, true, false, Option, Some, None, ◌⊎◌, inl, inr, refl, sym, ap, subst, ◌∙◌, arith, option_map}
 use Rattle.liquid_template.specs.meaning.Output.{Passed, asked, Passes, Refuses, PassesSome}
 

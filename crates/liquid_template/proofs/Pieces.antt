@@ -1,4 +1,4 @@
--- How far one piece is written, and what writing it comes to.
+-- How far one piece is written, and the result of writing it.
 use Rattle.std.proofs.Common.{◌≡◌, ℕ, ◌+◌, ◌-◌, ◌<◌, List, [], ◌∷◌, ◌++◌, length, take, drop, Option, None, Some, Ok, Err, refl, sym, ap, ◌∙◌, ◌⊎◌, inl, inr, arith, append_assoc}
 use Rattle.std.specs.Prelude.{MatchOption, IfSome, IsUtf8}
 use Rattle.std.specs.Io.KnownBytes.{Appends}
@@ -37,7 +37,7 @@ so_far_begins piece b = record { part = []; is = refl; taken = sym (append-nil b
 put_grows : (taken : List ℕ) (count : ℕ) (b m a : Sunk) → Grows b m → PutTook taken count m a → Grows b a
 put_grows taken count b m a g p = Grows-both b m a g (record { more = taken; taken_is = p.bytes; behind_is = p.behind })
 
--- a put that took some of the rest leaves what stands behind it
+-- a put that took some of the rest leaves what is after it
 pub so_far_put : (piece rest : List ℕ) (b m a : Sunk) (count : ℕ) → SoFar piece rest b m → PutTook (take count rest) 0 m a → SoFar piece (take (length rest - count) (drop count rest)) b a
 so_far_put piece rest b m a count s p = record {
   part = s.part ++ take count rest;
@@ -76,7 +76,7 @@ piece_failed piece rest b m a e s h p is = record {
   pours = record { grows = put_grows [] 1 b m a s.grows p; lent = p.lent ∙ s.lent; text = tt };
 }
 
--- want of memory tells nothing
+-- an out-of-memory error says nothing
 pub told_memory : told variants.Memory ≡ None
 told_memory = ap (fold-Error (Option Refusal) told_step) (sym variants.rolls-Memory) ∙ fold-roll-Error (Option Refusal) told_step layer.Memory
 

@@ -1,4 +1,4 @@
--- What writing leaves of a sink, over nothing, one thing after another, and a refusal that gets a trace.
+-- What writing leaves of a sink: for no action, for one after another, and for a refusal that gets a trace.
 use Rattle.std.proofs.Common.{ℕ, List, [], ◌++◌, Result, Ok, Err, refl, sym, ◌∙◌, append_assoc}
 use Rattle.std.specs.Prelude.{OnOk}
 use Rattle.std.proofs.lemmas.List.{append-nil}

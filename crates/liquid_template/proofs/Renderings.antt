@@ -1,4 +1,4 @@
--- What the renderer's returns come to, where it is known what a list, a node or a turn is.
+-- The results that the renderer returns, given what a list, a node or a turn is.
 use Rattle.std.proofs.lemmas.Bool.{false_from_ne_true}
 use Rattle.std.proofs.Common.{Bool, ◌↔◌, ◌≡◌, ◌≢◌, ℕ, zero, suc, ◌+◌, ◌-◌, ◌<◌, ◌≤◌, List, [], ◌∷◌, length, get_or, true, false, is_some, Option, Some, None, Result, Ok, Err, IfSome, OnSome, refl, sym, ap, subst, ◌∙◌, ◌⊎◌, inl, inr, arith, sub-one}
 use Rattle.std.specs.declared.alloc.Global.{Global}
@@ -40,7 +40,7 @@ if_then (Some r) f a = f r a
 true-not-false : (x : Bool) → x ≡ true → x ≡ false → ⊥
 true-not-false x i e = cc
 
--- a test that holds just where another one does
+-- a test that holds exactly if another one does
 pub stands : (x y : Bool) → (x ≡ true) ↔ (y ≡ true) → x ≡ true → y ≡ true
 stands x y h e = h.0 e
 
@@ -157,11 +157,11 @@ module _ {Reg : Type 0} where
   value_written r t text v b a (Ok u) e i (inr h) = absurd h.1
   value_written r t text v b a (Err error) e i (inr h) = subst (λ c. RendersWithin (writes_value r v) v b c v (Err error)) (sym h.0) (renders_memory (writes_value r v) v b error h.1)
 
-  -- chains of one shape come to the same
+  -- chains of one shape have the same result
   pub chain_out : {F : Type 0} (m : FilterMeaning F) (x y : ChainShape F) (v w : View Reg) (b a : Output) (answer : Answer) → x ≡ y → RendersWithin (writes_value (chain_value m x v) v) v b a w answer → RendersWithin (writes_value (chain_value m y v) v) v b a w answer
   chain_out m x y v w b a answer e h = subst (λ c. RendersWithin (writes_value (chain_value m c v) v) v b a w answer) e h
 
--- what can't be refused, but by want of memory
+-- what can't be refused, except if memory runs out
 pub never_refused : {A : Type 0} (x : A) (t : Option Refusal) → IfSome t (λ refusal. Ok x ≡ Err refusal) → t ≡ None
 never_refused x None h = refl
 never_refused x (Some refusal) h = cc

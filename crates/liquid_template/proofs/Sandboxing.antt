@@ -18,7 +18,7 @@ use Rattle.liquid_template.proofs.Framing.{renders_framed, renders_memory, becom
 use Rattle.liquid_template.proofs.Isolation.{isolated}
 
 module _ {Reg F T P B Q : Type 0} (s : Setting Reg F T P B Q) (tl : Discreet s.tags) (bl : Discreet s.blocks) (names : Names) (name : Option (List ℕ)) (ns : Nodes F T B) where
-  -- what renders the run over the outside renders that over the outside emptied
+  -- what renders the run over the outside renders that over the emptied outside
   sandboxed : (v x : View Reg) (b a : Sunk) (answer : Result (Unit {0}) Error) → Renders (sandboxed_run s names name ns v) v b a x answer → RendersSandboxed s.fresh (sandboxed_run s names name ns) v b a x answer
   sandboxed v x b a answer r = record {
     renders = r;
@@ -28,7 +28,7 @@ module _ {Reg F T P B Q : Type 0} (s : Setting Reg F T P B Q) (tl : Discreet s.t
   pub sandboxed_memory : (v : View Reg) (b : Sunk) (e : Error) → told e ≡ None → RendersSandboxed s.fresh (sandboxed_run s names name ns) v b b v (Err e)
   sandboxed_memory v b e h = sandboxed v v b b (Err e) (without_gate (sandboxed_run s names name ns v) v v b b (Err e) (renders_memory (sandboxed_run s names name ns v) v (ungated b) e h))
 
-  -- the name may be told as a text of its own
+  -- the name may be given as an owned text
   pub sandboxed_renders : (own : Option (List ℕ)) (v v1 w x : View Reg) (rs rs1 rs2 rs3 : List (Restore Reg)) (b a : Sunk) (answer : Result (Unit {0}) Error)
       → own ≡ name → v1 ≡ beginning s.fresh (sandboxed_frame names own) v → rs1 ≡ restored_by (sandboxed_frame names own) v ∷ rs → rs2 ≡ rs1 → EndsFirst rs2 w rs3 x → Renders (template_run s ns v1) v1 b a w answer
       → RendersSandboxed s.fresh (sandboxed_run s names name ns) v b a x answer

@@ -1,4 +1,4 @@
--- What each step of the renderer comes to: turns, starts, nodes and lists, over a sink.
+-- The result of each step of the renderer: turns, starts, nodes and lists, over a sink.
 use Rattle.std.proofs.Common.{◌≡◌, ◌≢◌, ℕ, zero, suc, List, true, false, cond, is_some, Option, Some, None, Result, Ok, Err, refl, sym, ap, subst, ◌∙◌}
 use Rattle.std.specs.Prelude.{IfSome, OnSome}
 use Rattle.liquid_error.specs.declared.error.Error.{Error}
@@ -36,7 +36,7 @@ if_both None f a b = tt
 if_both (Some r) f a b = f r a b
 
 module _ {Reg : Type 0} where
-  -- frames that were the same before are the same all the while
+  -- frames that were the same before stay the same
   pub renders_from : (r : Run Reg) (v w x : View Reg) (b a : Output) (answer : Answer) → SameFrames v w → RendersWithin r w b a x answer → RendersWithin r v b a x answer
   renders_from r v w x b a answer s h = record { outcome = h.outcome; frames = same_frames_then v w x s h.frames; pours = h.pours }
 
@@ -117,7 +117,7 @@ module _ {Reg F T P B Q : Type 0} (s : Setting Reg F T P B Q) (partials : List �
     pub start_goes : (v v1 w : View Reg) (b c : Output) (p : R) (answer : Answer) → (m.starts n v).answer ≡ Ok p → v1 ≡ with_written (m.starts n v).written v → SameFrames v v1 → RendersWithin (turns s partials m n parts (m.count p) p v1) v1 b c w answer → RendersWithin (played s partials m n parts v) v b c w answer
     start_goes v v1 w b c p answer a h same x = subst (λ r. RendersWithin r v b c w answer) (sym (start_is v v1 (Ok p) a h)) (renders_from (turns s partials m n parts (m.count p) p v1) v v1 w b c answer same x)
 
-  -- a chain whose value is known is put out, and one that is refused refuses
+  -- a chain whose value is known is put out, and a chain with a refusal ends the run
   pub chain_out : (c : ChainShape F) (t : Tree) (v : View Reg) (b a : Output) (answer : Answer) → chain_value s.filters c v ≡ Ok t → PieceOut (render t) b a answer → RendersWithin (run_node s partials (chain_node c) v) v b a v answer
   unfolding run_node
   chain_out c t v b a answer e h = subst (λ r. RendersWithin (writes_value r v) v b a v answer) (sym e) (renders_put (render t) v b a answer h)

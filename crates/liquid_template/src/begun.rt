@@ -1,4 +1,4 @@
-//! Beginning a node.
+//! Starting a node.
 ghost use Rattle.std.specs.Prelude.{◌≡◌, IsOk, option_map};
 ghost use Rattle.liquid_runtime.specs.meaning.Written.{SameFrames};
 ghost use Rattle.liquid_template.specs.steps.NodeTurns.{Begins};
@@ -8,14 +8,14 @@ use liquid_plugins::Renderable;
 use liquid_runtime::Scopes;
 use std::alloc::Global;
 
-/// What is kept of a node while it takes its turns: its progress, and the trace of the turn that is rendered.
+/// What is kept of a node between its turns: its progress, and the trace of the turn that is being rendered.
 #[derive(Drop)]
 pub(crate) struct Going<P> {
     pub(crate) progress: P,
     pub(crate) trace: Option<String>,
 }
 
-/// Starts a node. Where it is refused, the answer says so and nothing is kept.
+/// Starts a node. On an error, `answer` is that error and nothing is kept.
 #[inline(never)]
 pub(crate) fn begun<N, S>(
     alloc: Global,
@@ -46,7 +46,7 @@ where
     }
 }
 
-/// Starts a node, and keeps what is kept of it in a box, so that the caller's stack holds no more than its place.
+/// Starts a node, and keeps its state in a box, so that the caller's stack holds no more than a pointer.
 #[inline(never)]
 pub(crate) fn begun_apart<N, S>(
     alloc: Global,
@@ -75,7 +75,7 @@ where
     }
 }
 
-/// Lets go of what was kept of a node.
+/// Drops what was kept of a node.
 #[inline(never)]
 pub(crate) fn let_go<P: Drop>(going: Box<Going<P>>) {
     drop(going);

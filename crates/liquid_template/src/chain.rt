@@ -1,4 +1,4 @@
-//! Writing what a chain comes to.
+//! Writing the value of a chain.
 ghost use Rattle.std.specs.Prelude.{◌≡◌, Ok};
 ghost use Rattle.std.specs.Cow.{cow_str_bytes};
 ghost use Rattle.liquid_error.specs.meaning.Told.{Gives};
@@ -22,7 +22,7 @@ use liquid_value::render::ValueRender;
 use std::alloc::{AllocError, Global};
 use std::borrow::CowStr;
 
-/// The text that a value renders as. A text is borrowed where it stands.
+/// Returns the text that a value renders as. A text is borrowed in place.
 fn rendered_text(alloc: Global, value: &Value) -> Result<CowStr<'_>, Error>
     ensures { Gives cow_str_bytes result (Ok (render (tree_of value.now))) }
 {
@@ -38,8 +38,8 @@ fn rendered_text(alloc: Global, value: &Value) -> Result<CowStr<'_>, Error>
     }
 }
 
-/// Writes the text that a value renders as, as one piece. A text is written from where it stands, and a number takes no
-/// memory. Where there is no memory for the text, nothing is written.
+/// Writes the text that a value renders as, as one piece. A text is written without a copy, and a number takes no
+/// memory. If there is no memory for the text, nothing is written.
 fn write_value<O: Out>(alloc: Global, out: &mut O, value: &Value) -> Result<(), Error>
     ensures out { ValueOut (render (tree_of value.now)) (target (O.place out.old)) (target (O.place out.new)) result }
     ensures around { around (O.place out.new) ≡ around (O.place out.old) }
@@ -79,7 +79,7 @@ where
     }
 }
 
-/// Renders a name alone, as its chain is rendered. Where the name has no value, the chain is made and tells the refusal.
+/// Renders a name alone, as its chain is rendered. If the name has no value, the chain is built to make the error.
 #[inline(never)]
 pub(crate) fn render_name<X, R, O>(
     alloc: Global,

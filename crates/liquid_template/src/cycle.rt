@@ -1,6 +1,7 @@
-//! The renderer's cycle. It keeps no more across a call than the next turn needs: a value of a turn, an error or a
-//! frame is made, taken and let go in functions that have returned before the cycle goes on, so that a level of nesting
-//! takes little native stack.
+//! The renderer's cycle.
+//!
+//! It keeps no more across a call than the next turn needs. A value of a turn, an error or a frame is made, used and
+//! dropped in functions that return before the cycle continues, so that a level of nesting takes little native stack.
 ghost use Rattle.std.specs.Prelude.{◌≡◌, ◌-◌, ◌<◌, [], IsOk, length, option_map, string_bytes};
 ghost use Rattle.liquid_plugins.specs.meaning.NodesOf.{node_of, nodes_of};
 ghost use Rattle.liquid_runtime.specs.meaning.OpenFrames.{opened};
@@ -28,7 +29,7 @@ use liquid_runtime::Scopes;
 use std::alloc::Global;
 use std::rc::Rc;
 
-/// Renders nodes, up to a refusal or an interrupt.
+/// Renders nodes, up to an error or an interrupt.
 #[cycle(render)]
 pub(crate) fn render_list<X, T, B, S, O>(
     alloc: Global,
@@ -110,7 +111,7 @@ where
     }
 }
 
-/// Renders a tag's node, which has no parts. Tags open partials alone, so what they keep needs no box.
+/// Renders a tag's node, which has no parts. Tags open only partials, so what they keep needs no box.
 #[cycle(render)]
 #[inline(never)]
 fn render_tag<X, T, B, S, O>(
@@ -152,7 +153,7 @@ where
     }
 }
 
-/// Takes a tag's turn, and tells whether the others come.
+/// Takes a tag's turn, and returns whether the others follow.
 #[cycle(render)]
 fn take_tag<X, T, B, S, O>(
     alloc: Global,
@@ -244,7 +245,7 @@ where
     let_go(going);
 }
 
-/// Takes a block's turn, and tells whether the others come.
+/// Takes a block's turn, and returns whether the others follow.
 #[cycle(render)]
 fn take_block<X, T, B, S, O>(
     alloc: Global,
@@ -297,7 +298,7 @@ where
     }
 }
 
-/// Renders a part into a text of its own, ends its frame, and hands the text to the block, if the part was not refused.
+/// Renders a part into a text of its own, ends its frame, and gives the text to the block, if the part had no error.
 /// Returns whether the other turns follow.
 #[cycle(render)]
 #[inline(never)]
@@ -344,7 +345,7 @@ where
     goes_on
 }
 
-/// Renders a part, if there is one at that place.
+/// Renders a part, if there is one with that number.
 #[cycle(render)]
 fn render_part<X, T, B, S, O>(
     alloc: Global,
@@ -381,7 +382,7 @@ where
     }
 }
 
-/// Renders a partial, with one less that may be open inside it.
+/// Renders a partial. One less may be nested in it.
 #[cycle(render)]
 fn render_partial<X, T, B, S, O>(
     alloc: Global,

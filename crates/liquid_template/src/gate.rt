@@ -5,27 +5,27 @@ ghost use Rattle.liquid_template.specs.meaning.Output.{Gated, gated_by, passed, 
 use crate::history::History;
 use crate::sink::Sink;
 
-/// Says whether rendering may go on. A rendering that may not is refused as "Rendering was stopped", with the frames as they
-/// were and a beginning of the text written.
+/// Decides whether rendering may continue. If it may not, the error is "Rendering was stopped", the frames are as they
+/// were, and the text up to then is written.
 ///
-/// A host with a clock, or with a flag that a user sets, writes a gate of its own. `Limits` counts turns and bytes.
+/// A host with a clock, or with a flag that a user sets, writes its own gate. `Limits` counts turns and bytes.
 pub trait Gate {
-    // how many turns and bytes it let pass, and how often it refused
+    // how many turns and bytes it has let pass, and how often it refused
     ghost gated: { Self → Gated };
 
-    /// Asked before each turn of a tag or a block: whether the turn may be taken.
+    /// Called before each turn of a tag or a block. Returns whether the turn may be taken.
     fn turn(&mut self) -> bool
         ensures turns { (gated self.new).turns ≡ asked result 1 (gated self.old).turns }
         ensures bytes { (gated self.new).bytes ≡ (gated self.old).bytes };
 
-    /// Asked before a piece of so many bytes, at least one, is put to the sink: whether it may be put. It is put whole or not
-    /// at all.
+    /// Called before a piece of that many bytes, at least one, is put to the sink. Returns whether it may be put. It is
+    /// put whole or not at all.
     fn bytes(&mut self, count: u64) -> bool
         ensures bytes { (gated self.new).bytes ≡ asked result count (gated self.old).bytes }
         ensures turns { (gated self.new).turns ≡ (gated self.old).turns };
 }
 
-/// A sink behind a gate, for `Template::render_within`.
+/// A sink with a gate, for `Template::render_within`.
 #[derive(Drop)]
 pub struct GatedSink<K: Sink, G: Gate> {
     pub(crate) sink: K,
@@ -33,28 +33,28 @@ pub struct GatedSink<K: Sink, G: Gate> {
 }
 
 impl<K: Sink, G: Gate> GatedSink<K, G> {
-    /// The sink and the gate that is asked before anything is put to it.
+    /// Returns the sink with the gate that is asked before anything is put to it.
     pub fn new(sink: K, gate: G) -> GatedSink<K, G>
         ensures { (result.sink ≡ sink) × (result.gate ≡ gate) }
     {
         GatedSink { sink, gate }
     }
 
-    /// The sink, with what it took.
+    /// Returns the sink, with what it took.
     pub fn sink(&self) -> &K
         ensures { result.now ≡ self.now.sink }
     {
         &self.sink
     }
 
-    /// The gate, with what it was asked.
+    /// Returns the gate, with what it was asked.
     pub fn gate(&self) -> &G
         ensures { result.now ≡ self.now.gate }
     {
         &self.gate
     }
 
-    /// The sink alone.
+    /// Returns the sink alone.
     pub fn into_sink(self) -> K
     where
         G: Drop,
@@ -66,7 +66,7 @@ impl<K: Sink, G: Gate> GatedSink<K, G> {
     }
 }
 
-/// A gate that lets so many turns and so many bytes pass, and no more.
+/// A gate that lets a number of turns and of bytes pass, and no more.
 #[derive(Drop)]
 pub struct Limits {
     max_turns: u64,
@@ -78,7 +78,7 @@ pub struct Limits {
 }
 
 impl Limits {
-    /// At most so many turns and so many bytes from now on.
+    /// Lets at most that many turns and bytes pass from now on.
     pub fn new(max_turns: u64, max_bytes: u64) -> Limits
         ensures none { (⟦<Limits as Gate>⟧.gated result) ≡ gated_by (passed 0 0) (passed 0 0) }
         ensures turns { result.max_turns ≡ max_turns }
@@ -94,14 +94,14 @@ impl Limits {
         }
     }
 
-    /// How many turns have passed.
+    /// Returns the number of turns that have passed.
     pub fn turns_passed(&self) -> u64
         ensures { result ≡ (⟦<Limits as Gate>⟧.gated self.now).turns.count }
     {
         self.turns
     }
 
-    /// How many bytes have passed.
+    /// Returns the number of bytes that have passed.
     pub fn bytes_passed(&self) -> u64
         ensures { result ≡ (⟦<Limits as Gate>⟧.gated self.now).bytes.count }
     {
@@ -115,7 +115,7 @@ impl Gate for Limits {
       bytes = record { count = limits.bytes; refusals = limits.bytes_refused.failures };
     } };
 
-    /// Lets a turn pass exactly while fewer than the limit have passed.
+    /// Lets a turn pass if fewer than the limit have passed.
     fn turn(&mut self) -> bool
         ensures turns { passed self.new.turns self.new.turns_refused.failures
             ≡ asked result 1 (passed self.old.turns self.old.turns_refused.failures) }
@@ -132,7 +132,7 @@ impl Gate for Limits {
         }
     }
 
-    /// Lets bytes pass exactly if no more than the limit have passed with them.
+    /// Lets bytes pass if no more than the limit have passed with them.
     fn bytes(&mut self, count: u64) -> bool
         ensures bytes { passed self.new.bytes self.new.bytes_refused.failures
             ≡ asked result count (passed self.old.bytes self.old.bytes_refused.failures) }

@@ -1,11 +1,11 @@
-//! What a sink has taken so far, for clauses alone.
+//! What a sink has taken so far, used only by clauses.
 ghost use Rattle.std.specs.Prelude.{◌≡◌, ℕ, ◌+◌, List, [], ◌++◌};
 ghost use Rattle.std.specs.Borrow.{ftrue};
 
 use std::marker::{Model, PhantomData};
 
-/// The bytes that a sink took and the count of its failures. It takes no memory, and its methods do
-/// nothing at run time.
+/// The bytes that a sink took and the count of its failures. It takes no memory, and its methods do nothing at run
+/// time.
 #[derive(Drop)]
 pub struct History {
     marker: PhantomData<u8>,
@@ -18,7 +18,7 @@ impl Model for History {
 }
 
 impl History {
-    /// Nothing has happened yet.
+    /// Returns a history in which nothing has happened yet.
     #[inline(always)]
     pub fn new() -> History
         ensures { (result.taken ≡ []) × (result.failures ≡ 0) }
@@ -28,13 +28,13 @@ impl History {
         }
     }
 
-    /// A piece was taken whole.
+    /// Records that a piece was taken whole.
     #[inline(always)]
     pub fn took(&mut self, _piece: &[u8])
         ensures { self.new ≡ record self.old { taken = self.old.taken ++ _piece.now } }
     {}
 
-    /// A put failed.
+    /// Records that a put failed.
     #[inline(always)]
     pub fn failed(&mut self)
         ensures { self.new ≡ record self.old { failures = self.old.failures + 1 } }

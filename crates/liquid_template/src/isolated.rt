@@ -19,14 +19,13 @@ use liquid_value::Object;
 use std::alloc::Global;
 
 impl<X: Filter, T, B> Template<X, T, B> {
-    /// Writes what the template comes to in isolation over these scopes, piece by piece: it sees the
-    /// names of `data` and those that it assigns itself, and no other name of the scopes.
+    /// Renders the template in isolation over these scopes and writes the result, piece by piece. It sees the names of
+    /// `data` and those that it assigns itself, and no other name of the scopes.
     ///
-    /// Text, refusal and what is written are those over scopes that have no other names. What the
-    /// template assigns ends with the call: whatever the answer, all of the scopes is afterwards as it
-    /// was, interrupt and register too, but for index variables. `name` is the template's name; where it
-    /// is not given, the name is that of the scopes. A refusal, a sink that fails and a lack of memory
-    /// leave what they leave after `render_in`.
+    /// The text, the error and what is written are those over scopes that have no other names. What the template
+    /// assigns ends with the call. Whatever the result, the scopes are afterwards as they were, with interrupt and
+    /// register, except for index variables. `name` is the template's name. If it is not given, the name is that of the
+    /// scopes. An error, a sink that fails and a lack of memory leave what they leave after `render_in`.
     pub fn render_isolated_in<S, K>(
         &self,
         alloc: Global,
@@ -65,8 +64,8 @@ impl<X: Filter, T, B> Template<X, T, B> {
         answer
     }
 
-    /// Writes what the template comes to in isolation over the parent, piece by piece, as
-    /// `render_isolated_in` does over scopes of its own.
+    /// Renders the template in isolation over the parent and writes the result, piece by piece, as `render_isolated_in`
+    /// does over its own scopes.
     pub fn render_isolated<R, K>(
         &self,
         alloc: Global,

@@ -1,4 +1,4 @@
-//! Writing what a node without turns comes to.
+//! Writing the result of a node without turns.
 ghost use Rattle.std.specs.Prelude.{◌≡◌, IsOk};
 ghost use Rattle.liquid_plugins.specs.meaning.Chain.{chain_value};
 ghost use Rattle.liquid_plugins.specs.meaning.ExpressionOf.{chain_of};
@@ -33,7 +33,7 @@ pub(crate) fn put_text<O: Out>(
     }
 }
 
-/// Puts out what a chain comes to.
+/// Puts out the value of a chain.
 #[inline(never)]
 pub(crate) fn put_chain<X, R, O>(
     alloc: Global,
@@ -57,7 +57,7 @@ where
     }
 }
 
-/// Puts out what a name comes to.
+/// Puts out the value of a name.
 #[inline(never)]
 pub(crate) fn put_name<X, R, O>(
     alloc: Global,

@@ -14,8 +14,8 @@ use std::alloc::Global;
 use std::mem;
 use std::rc::Rc;
 
-/// Ends the frame of a turn, puts the turn's trace on an error, and returns whether there is none. The node takes back the
-/// object of the frame.
+/// Ends the frame of a turn, adds the turn's trace to an error, and returns whether there is no error. The node takes
+/// back the object of the frame.
 #[inline(never)]
 pub(crate) fn closed<N, S>(
     alloc: Global,
@@ -49,7 +49,7 @@ where
     }
 }
 
-/// Lets go of a partial.
+/// Drops a partial.
 #[inline(never)]
 pub(crate) fn let_partial_go<X: Drop, T: Drop, B: Drop>(template: Rc<Template<X, T, B>>) {
     drop(template);

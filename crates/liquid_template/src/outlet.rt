@@ -1,4 +1,4 @@
-//! Where the renderer's pieces go: the text that is captured, else the caller's sink, after its gate was asked.
+//! Where the renderer's pieces go: the text that is captured, otherwise the caller's sink, after its gate was asked.
 ghost use Rattle.std.specs.Prelude.{◌≡◌, [], IsSome, None, Some, IfSome, string_bytes};
 ghost use Rattle.liquid_error.specs.meaning.Told.{told};
 ghost use Rattle.liquid_template.specs.meaning.Outcome.{was_stopped};
@@ -14,7 +14,7 @@ use std::alloc::Global;
 use std::marker::PhantomData;
 use std::mem;
 
-/// How a sink is asked and written to: with a gate or without.
+/// How a sink is written to: with a gate that is asked first, or without.
 pub(crate) trait Ask<K> {
     // what the sink took, and what its gate was asked
     ghost output: { K → Output };
@@ -26,7 +26,7 @@ pub(crate) trait Ask<K> {
         ensures { PieceOut piece.now (output sink.old) (output sink.new) result };
 }
 
-/// Without a gate everything passes.
+/// Without a gate, everything passes.
 pub(crate) struct NoGate;
 
 impl<K: Sink> Ask<K> for NoGate {
@@ -65,7 +65,7 @@ impl<K: Sink, G: Gate> Ask<GatedSink<K, G>> for WithGate {
     }
 }
 
-/// The refusal of a rendering that a gate stopped.
+/// Returns the error of a rendering that a gate stopped.
 #[inline(never)]
 pub(crate) fn stopped_error(alloc: Global) -> Error
     ensures { IfSome (told result) (λ r. r ≡ was_stopped []) }
@@ -73,7 +73,7 @@ pub(crate) fn stopped_error(alloc: Global) -> Error
     Error::with_msg(alloc, "Rendering was stopped")
 }
 
-/// Where the cycle puts its pieces: the innermost open text, else the caller's sink.
+/// Where the cycle puts its pieces: the innermost open text, otherwise the caller's sink.
 pub(crate) trait Out {
     // the caller's sink with what its gate was asked, the text that is open, and what is borrowed
     ghost place: { Self → Place };
@@ -83,7 +83,7 @@ pub(crate) trait Out {
         ensures turn { TurnAsked (target (place self.old)) (target (place self.new)) result }
         ensures around { around (place self.new) ≡ around (place self.old) };
 
-    /// Puts a piece to the open text, else to the sink.
+    /// Puts a piece to the open text, otherwise to the sink.
     fn put(&mut self, alloc: Global, piece: &str) -> Result<(), Error>
         ensures put { PieceOut piece.now (target (place self.old)) (target (place self.new)) result }
         ensures around { around (place self.new) ≡ around (place self.old) };
@@ -109,7 +109,7 @@ pub(crate) struct Outlet<'k, K, A: Ask<K>> {
 }
 
 impl<'k, K, A: Ask<K>> Outlet<'k, K, A> {
-    /// The sink, with no text open.
+    /// Returns the sink, with no text open.
     pub(crate) fn new(sink: &'k mut K) -> Outlet<'k, K, A>
         ensures { (⟦<Outlet<'k, K, A> as Out>⟧.place result) ≡ place (A.output sink.entry.now) None sink.entry.ghost_name }
     {
@@ -120,7 +120,7 @@ impl<'k, K, A: Ask<K>> Outlet<'k, K, A> {
         }
     }
 
-    /// The sink, with no text open any more.
+    /// Returns the sink, with no text open any more.
     pub(crate) fn into_sink(self) -> &'k mut K
         ensures output { A.output result.now ≡ (⟦<Outlet<'k, K, A> as Out>⟧.place self.entry).output }
         ensures name { result.ghost_name ≡ (⟦<Outlet<'k, K, A> as Out>⟧.place self.entry).sink_name }

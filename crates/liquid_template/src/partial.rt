@@ -15,7 +15,7 @@ use liquid_runtime::Scopes;
 use std::alloc::Global;
 use std::rc::Rc;
 
-/// The refusal where no partial may be open any more.
+/// Returns the error for partials that are nested too deep.
 #[inline(never)]
 pub(crate) fn too_deep_error(alloc: Global) -> Error
     ensures { IfSome (told result) (λ r. r ≡ too_deep) }
@@ -23,7 +23,7 @@ pub(crate) fn too_deep_error(alloc: Global) -> Error
     Error::with_msg(alloc, "Partials nest too deep")
 }
 
-/// The refusal of a name where there is no store.
+/// Returns the error for a name if there is no store.
 fn no_store_error(alloc: Global, name: &str) -> Error
     ensures { IfSome (told result) (λ r. r ≡ no_store name.now) }
 {

@@ -6,8 +6,8 @@ use crate::sink::{Sink, SinkFault};
 use liquid_error::Error;
 use std::alloc::Global;
 
-/// Puts a piece until the sink has all of it; an empty piece makes no put. A failure of the sink is
-/// refused as "Failed to render".
+/// Puts a piece until the sink has all of it. An empty piece makes no put. If the sink fails, the error is "Failed to
+/// render".
 #[inline(always)]
 pub(crate) fn write_piece<K: Sink>(alloc: Global, sink: &mut K, piece: &str) -> Result<(), Error>
     ensures { PiecePut piece.now (K.sunk sink.old) (K.sunk sink.new) result }

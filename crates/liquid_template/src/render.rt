@@ -25,12 +25,11 @@ use liquid_scopes::FlatScopes;
 use std::alloc::Global;
 
 impl<X: Filter, T, B> Template<X, T, B> {
-    /// Writes what the template comes to over these scopes, piece by piece.
+    /// Renders the template over these scopes and writes the result, piece by piece.
     ///
-    /// What was written before a refusal stays written, and the frames are then as they were; names
-    /// that were assigned, index variables and registers stay as the template left them. A failure
-    /// of the sink is refused as "Failed to render". At want of memory a beginning of the text is
-    /// written.
+    /// What was written before an error stays written, and the frames are then as they were. Names that were assigned,
+    /// index variables and registers stay as the template left them. If the sink fails, the error is "Failed to
+    /// render". If memory runs out, a beginning of the text is written.
     pub fn render_in<S, K>(&self, alloc: Global, sink: &mut K, scopes: &mut S) -> Result<(), Error>
     where
         S: Scopes,
@@ -53,7 +52,7 @@ impl<X: Filter, T, B> Template<X, T, B> {
         answer
     }
 
-    /// Writes what the template comes to, wherever pieces go.
+    /// Renders the template and writes the result, wherever pieces go.
     fn render_out<S, O>(&self, alloc: Global, out: &mut O, scopes: &mut S) -> Result<(), Error>
     where
         S: Scopes,
@@ -76,8 +75,8 @@ impl<X: Filter, T, B> Template<X, T, B> {
         answer
     }
 
-    /// Writes what the template comes to in the runtime's view, piece by piece, as `render_in` does
-    /// over scopes of its own.
+    /// Renders the template in the runtime's view and writes the result, piece by piece, as `render_in` does over its
+    /// own scopes.
     pub fn render_to<R, K>(&self, alloc: Global, sink: &mut K, runtime: &mut R) -> Result<(), Error>
     where
         R: Runtime,
@@ -100,8 +99,8 @@ impl<X: Filter, T, B> Template<X, T, B> {
         answer
     }
 
-    /// Writes what the template comes to in the runtime's view, as `render_to` does, while the gate lets it go on. Where the
-    /// gate does not, the rendering is refused as "Rendering was stopped".
+    /// Renders the template in the runtime's view and writes the result, as `render_to` does, as long as the gate lets
+    /// it continue. If the gate does not, the error is "Rendering was stopped".
     pub fn render_within<R, K, G>(
         &self,
         alloc: Global,
@@ -131,7 +130,7 @@ impl<X: Filter, T, B> Template<X, T, B> {
         answer
     }
 
-    /// Writes what the template comes to over these scopes, while the gate lets it go on.
+    /// Renders the template over these scopes and writes the result, as long as the gate lets it continue.
     fn render_gated<S, K, G>(
         &self,
         alloc: Global,
@@ -161,7 +160,7 @@ impl<X: Filter, T, B> Template<X, T, B> {
         answer
     }
 
-    /// The text that the template comes to in the runtime's view.
+    /// Returns the text of the template, rendered in the runtime's view.
     pub fn render<R>(&self, alloc: Global, runtime: &mut R) -> Result<String, Error>
     where
         R: Runtime,

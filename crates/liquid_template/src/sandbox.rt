@@ -18,14 +18,14 @@ use liquid_value::Object;
 use std::alloc::{AllocError, Global};
 
 impl<X: Filter, T, B> Template<X, T, B> {
-    /// Writes what the template comes to in a sandbox over these scopes, piece by piece: it sees the
-    /// names of `data`, and no other name of the scopes.
+    /// Renders the template in a sandbox over these scopes and writes the result, piece by piece. It sees the names of
+    /// `data`, and no other name of the scopes.
     ///
-    /// Text, refusal and what is written are those over scopes that have no other names. So are the
-    /// index variables that are left; names that the template assigned stand over the globals that
-    /// were there. Interrupt and register are afterwards what they were before, whatever the answer.
-    /// `name` is the template's name; where it is not told, the name is that of the scopes. Refusals,
-    /// a sink that fails and want of memory leave what they leave of `render_in`.
+    /// The text, the error and what is written are those over scopes that have no other names. So are the index
+    /// variables that are left. Names that the template assigned are laid over the globals that were there. Interrupt
+    /// and register are afterwards what they were before, whatever the result. `name` is the template's name. If it is
+    /// not given, the name is that of the scopes. Errors, a sink that fails and a lack of memory leave what they leave
+    /// after `render_in`.
     pub fn render_sandboxed_in<S, K>(
         &self,
         alloc: Global,
@@ -64,8 +64,8 @@ impl<X: Filter, T, B> Template<X, T, B> {
         answer
     }
 
-    /// Writes what the template comes to in a sandbox over the parent, piece by piece, as
-    /// `render_sandboxed_in` does over scopes of its own.
+    /// Renders the template in a sandbox over the parent and writes the result, piece by piece, as
+    /// `render_sandboxed_in` does over its own scopes.
     pub fn render_sandboxed<R, K>(
         &self,
         alloc: Global,
@@ -98,7 +98,7 @@ impl<X: Filter, T, B> Template<X, T, B> {
     }
 }
 
-/// The name as a text of its own.
+/// Returns the name as an owned text.
 pub(crate) fn name_text(alloc: Global, name: Option<&str>) -> Result<Option<String>, AllocError>
     ensures { IfOk result (λ own. option_map (λ s. string_bytes s) own ≡ option_map (λ r. r.now) name.entry) }
 {

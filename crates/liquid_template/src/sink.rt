@@ -29,14 +29,13 @@ impl fmt::Display for SinkFault {
 
 impl error::Error for SinkFault {}
 
-/// A place that bytes are written to. It means the bytes taken so far and how often a put failed.
+/// A destination for bytes. It means the bytes taken so far and how often a put failed.
 pub trait Sink {
-    // what it is: every byte taken so far, how many puts were answered by `SinkFault::Failed`, the
-    // bytes that lie behind it, and what it borrows
+    // every byte taken so far, how many puts returned `SinkFault::Failed`, the bytes in the destination of the sink,
+    // and what the sink borrows
     ghost sunk: { Self → Sunk };
 
-    /// Takes the first bytes of a piece, at least one, and answers how many; or takes nothing and
-    /// answers why.
+    /// Takes the first bytes of a piece, at least one, and returns how many; or takes nothing and returns why.
     fn put(&mut self, piece: &[u8]) -> Result<usize, SinkFault>
         requires { 0 < length piece.now }
         ensures some { IfOk result (λ count. 0 < count) }

@@ -11,22 +11,22 @@ use liquid_plugins::{Filter, Meant};
 use std::alloc::{AllocError, Global};
 use std::rc::Rc;
 
-/// A store of partials: a finite map from names to what their texts are read as.
+/// A store of partials: a finite map from names to the results of parsing their texts.
 ///
-/// No request changes what it finds, whatever was requested before.
+/// No request changes what the store finds, whatever was requested before.
 pub trait PartialStore<X: Filter, T: Meant, B: Meant> {
     ghost finds: { Self → Found X.Shape T.Shape B.Shape };
 
-    /// Whether there is a partial of this name, of a faulty text too.
+    /// Returns `true` if there is a partial of this name, even if its text has an error.
     fn contains(&self, name: &str) -> bool
         ensures { result ≡ is_some (get (finds self.now) name.now) };
 
-    /// The names, in byte order. An `Err` is want of memory.
+    /// Returns the names, in byte order. An `Err` means out of memory.
     fn names(&self, alloc: Global) -> Result<Vec<&str>, AllocError>
         ensures { IfOk result (λ names. map (λ name. name.now) names.items ≡ keys (finds self.now)) };
 
-    /// The partial of a name, or `None` where there is none of this name and where its text is
-    /// faulty. An `Err` is want of memory.
+    /// Returns the partial of a name, or `None` if there is none of this name or if its text has an error. An `Err`
+    /// means out of memory.
     fn try_get(
         &mut self,
         alloc: Global,
@@ -36,8 +36,8 @@ pub trait PartialStore<X: Filter, T: Meant, B: Meant> {
             ≡ tree_in (finds self.old) name.now) }
         ensures kept { finds self.new ≡ finds self.old };
 
-    /// The partial of a name, or the fault of its text. A name that is not there is refused as
-    /// "Unknown partial-template", with the contexts `requested partial` and `available partials`.
+    /// Returns the partial of a name, or the error of its text. For an unknown name the error is "Unknown
+    /// partial-template", with the contexts `requested partial` and `available partials`.
     fn get(&mut self, alloc: Global, name: &str) -> Result<Rc<Template<X, T, B>>, Error>
         ensures gives { Gives (λ template. template_nodes X.shape T.shape B.shape template.value) result
             (partial_in (finds self.old) name.now) }
@@ -69,7 +69,7 @@ impl<X: Filter, T: Meant, B: Meant> PartialStore<X, T, B> for () {
     }
 }
 
-/// The refusal of a name that is not among those that are available.
+/// Returns the error for a name that is not among those that are available.
 #[tactic(auto, using(crate::proofs::NoPartials::joined_names))]
 pub fn unknown_partial(alloc: Global, name: &str, available: &[&str]) -> Error
     ensures { IfSome (told result) (λ refusal. refusal ≡ unknown_partial name.now (map (λ other. other.now) available.now)) }

@@ -11,14 +11,14 @@ pub struct Template<X, T, B> {
 }
 
 impl<X, T, B> Template<X, T, B> {
-    /// The template of these nodes, in order.
+    /// Returns the template of these nodes, in order.
     pub fn new(nodes: Vec<Node<X, T, B>>) -> Template<X, T, B>
         ensures { own_nodes result ≡ nodes.items }
     {
         Template { nodes }
     }
 
-    /// The nodes, in order.
+    /// Returns the nodes, in order.
     pub fn nodes(&self) -> &[Node<X, T, B>]
         ensures { result.now ≡ own_nodes self.now }
     {

@@ -7,14 +7,14 @@ use crate::sink::{Sink, SinkFault};
 use std::alloc::Global;
 use std::string::FromUtf8Error;
 
-/// Gathers what it takes in memory. It never fails; it refuses a piece only for want of memory.
+/// Collects what it takes in memory. It never fails. It refuses a piece only if it is out of memory.
 #[derive(Drop)]
 pub struct TextSink {
     bytes: Vec<u8>,
 }
 
 impl TextSink {
-    /// An empty sink, which takes no memory yet.
+    /// Returns an empty sink, which takes no memory yet.
     pub fn new(alloc: Global) -> TextSink
         ensures { (⟦<TextSink as Sink>⟧.sunk result).taken ≡ [] }
     {
@@ -23,14 +23,14 @@ impl TextSink {
         }
     }
 
-    /// The bytes taken so far.
+    /// Returns the bytes taken so far.
     pub fn as_bytes(&self) -> &[u8]
         ensures { result.now ≡ (⟦<TextSink as Sink>⟧.sunk self.now).taken }
     {
         self.bytes.as_slice()
     }
 
-    /// The bytes taken as a text, refused where they are no UTF-8.
+    /// Returns the bytes taken as a text. Fails if they are not UTF-8.
     pub fn into_string(self) -> Result<String, FromUtf8Error>
         ensures value { IfOk result (λ text. string_bytes text ≡ (⟦<TextSink as Sink>⟧.sunk self).taken) }
         ensures succeeds { IsUtf8 (⟦<TextSink as Sink>⟧.sunk self).taken → IsOk result }

@@ -1,4 +1,4 @@
-//! The trace of a node on an error out of it.
+//! The trace of a node on its errors.
 ghost use Rattle.std.specs.Prelude.{◌≡◌, Err, option_map, string_bytes};
 ghost use Rattle.liquid_error.specs.meaning.Helpers.{ErrBecomes};
 ghost use Rattle.liquid_template.specs.meaning.Actions.{refused_through};
@@ -6,7 +6,7 @@ ghost use Rattle.liquid_template.specs.meaning.Actions.{refused_through};
 use liquid_error::Error;
 use std::alloc::Global;
 
-/// Puts the trace, if one is given, on an error.
+/// Adds the trace, if one is given, to an error.
 #[inline(never)]
 pub(crate) fn with_own_trace(
     alloc: Global,
@@ -32,7 +32,7 @@ pub(crate) fn refuse(answer: &mut Result<(), Error>, error: Error)
     *answer = Err(error);
 }
 
-/// Keeps the trace of a turn in the place of the last one's.
+/// Keeps the trace of a turn in place of the last one's.
 pub(crate) fn keep_trace(kept: &mut Option<String>, trace: Option<String>)
     ensures { kept.new ≡ trace }
 {

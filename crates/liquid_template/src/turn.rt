@@ -1,4 +1,4 @@
-//! Making a turn, and opening what it asks for.
+//! Making a turn, and opening what it renders.
 ghost use Rattle.std.specs.Prelude.{◌≡◌, ◌<◌, ◌≤◌, IsOk, IfOk, IfSome, option_map, string_bytes};
 ghost use Rattle.liquid_runtime.specs.meaning.Calls.{frame_of};
 ghost use Rattle.liquid_plugins.specs.meaning.Size.{size_nodes};
@@ -21,15 +21,15 @@ use liquid_runtime::{Frame, Scopes};
 use std::alloc::Global;
 use std::rc::Rc;
 
-/// What is to be rendered of a turn.
+/// What a turn renders.
 pub(crate) enum Step<X, T, B> {
-    /// The node has ended, or was refused.
+    /// The node has ended, or had an error.
     Stop,
-    /// Nothing more: the next turn comes.
+    /// Nothing more: the next turn follows.
     Next,
-    /// The part at this place, under the frame that was pushed.
+    /// This part, under the frame that was pushed.
     Part(u64),
-    /// The part at this place, under the frame that was pushed, into a text of its own.
+    /// This part, under the frame that was pushed, into a text of its own.
     Captured(u64),
     /// This partial, under the frame that was pushed.
     Partial(Rc<Template<X, T, B>>),
@@ -116,7 +116,7 @@ where
     }
 }
 
-/// Opens a partial under its frame and keeps its trace. Where it is refused, the answer says so and the frame has ended.
+/// Opens a partial under its frame and keeps its trace. On an error, `answer` is that error and the frame has ended.
 #[inline(always)]
 fn partial_opened<X, T, B, S>(
     alloc: Global,
@@ -166,7 +166,7 @@ where
     }
 }
 
-/// Finds a partial, if one more may be open.
+/// Finds a partial, if one more may be nested.
 fn found<X, T, B, S>(
     alloc: Global,
     name: &str,

@@ -8,8 +8,8 @@ use crate::history::History;
 use crate::sink::{Sink, SinkFault};
 use std::io::Write;
 
-/// Hands each piece to a writer, one `write` a put. An error of the writer, and a write of nothing,
-/// is a failure.
+/// Passes each piece to a writer, with one `write` for each put. An error of the writer, and a write of nothing, is a
+/// failure.
 ///
 /// It takes no memory of its own.
 #[derive(Drop)]
@@ -19,7 +19,7 @@ pub struct WriterSink<'w, W: Write> {
 }
 
 impl<'w, W: Write> WriterSink<'w, W> {
-    /// A sink that has taken nothing yet. What lies behind it is what the writer tells.
+    /// Returns a sink that has taken nothing yet. The bytes in its destination are the writer's content.
     pub fn new(writer: &'w mut W) -> WriterSink<'w, W>
         ensures taken { (⟦<WriterSink<'w, W> as Sink>⟧.sunk result).taken ≡ [] }
         ensures failures { (⟦<WriterSink<'w, W> as Sink>⟧.sunk result).failures ≡ 0 }
@@ -32,7 +32,7 @@ impl<'w, W: Write> WriterSink<'w, W> {
         }
     }
 
-    /// The writer, with what lies behind the sink.
+    /// Returns the writer, with what was written to it.
     pub fn into_inner(self) -> &'w mut W
         ensures behind { W.contents result.now ≡ (⟦<WriterSink<'w, W> as Sink>⟧.sunk self.entry).behind }
         ensures borrows { result.ghost_name ∷ [] ≡ (⟦<WriterSink<'w, W> as Sink>⟧.sunk self.entry).lent }
@@ -47,7 +47,7 @@ impl<'w, W: Write> Sink for WriterSink<'w, W> {
     ghost sunk = { λ sink. sunk_of sink.history.taken sink.history.failures (W.contents sink.writer.now)
         (sink.writer.ghost_name ∷ []) };
 
-    /// Takes no memory, and so the one fault is `SinkFault::Failed`.
+    /// It takes no memory, and so the only fault is `SinkFault::Failed`.
     fn put(&mut self, piece: &[u8]) -> Result<usize, SinkFault>
         ensures some { IfOk result (λ count. 0 < count) }
         ensures bound { IfOk result (λ count. count ≤ length piece.now) }

@@ -1,4 +1,4 @@
--- Entries of the same names and trees.
+-- Entries with the same names and trees.
 use Rattle.std.proofs.Common.{◌≡◌, ℕ, List, [], ◌∷◌, Less, string_bytes, string_cmp, nat_cmp, refl, sym, ap, ap₂, ◌∙◌, subst, map}
 use Rattle.std.specs.Cmp.Lexicographic.{slice_cmp}
 use Rattle.std.specs.List.{AllByRecursion}

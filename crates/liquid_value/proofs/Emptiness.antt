@@ -1,4 +1,4 @@
--- An array or an object is empty exactly where the tree that it means is.
+-- An array or an object is empty exactly if the tree that it means is.
 use Rattle.std.proofs.Common.{◌≡◌, List, [], ◌∷◌, length, String, Global, refl, ◌==◌, rules}
 use Rattle.liquid_value.specs.meaning.Kind.{has_no_items, has_no_members}
 use Rattle.liquid_value.specs.meaning.View.{items_view, members_view}

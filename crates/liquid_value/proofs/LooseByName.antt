@@ -1,4 +1,4 @@
--- Loose equality of objects goes by their names.
+-- Loose equality of objects is decided by their names.
 use Rattle.std.proofs.Common.{◌≡◌, ℕ, suc, ◌≤◌, List, Bool, true, false, ◌&&◌, Some, None, Ordering, Less, Equal, Greater, refl, sym, ap, ◌∙◌, arith, rules, true≢false}
 use Rattle.std.proofs.lemmas.Bool.{eqb-true}
 use Rattle.std.specs.Prelude.{◌==◌}
@@ -16,7 +16,7 @@ less Less h = refl
 less Equal h = cc
 less Greater h = cc
 
--- a name before another that is before all of these is before all of these
+-- a name before another that is before all of these is itself before all of these
 before_later : (k q : List ℕ) (ms : Members) → slice_cmp nat_cmp k q ≡ Less → comes_before q ms ≡ true → comes_before k ms ≡ true
 before_later k q no_members h later = refl
 before_later k q (member p t ms) h later =
@@ -24,14 +24,14 @@ before_later k q (member p t ms) h later =
     (ap is_lt (nat_list_cmp_total.trans k q p h (less _ (first_true (is_lt (slice_cmp nat_cmp q p)) (comes_before q ms) later))))
     (before_later k q ms h (second_true (is_lt (slice_cmp nat_cmp q p)) (comes_before q ms) later))
 
--- a name before all of these is none of them
+-- a name that is before all of these is not one of them
 none_before : (k : List ℕ) (ms : Members) → comes_before k ms ≡ true → get_member k ms ≡ None
 none_before k no_members h = refl
 none_before k (member q t ms) h =
     let first : slice_cmp nat_cmp k q ≡ Less = less _ (first_true (is_lt (slice_cmp nat_cmp k q)) (comes_before k ms) h) in
     rw first (none_before k ms (second_true (is_lt (slice_cmp nat_cmp k q)) (comes_before k ms) h))
 
--- names behind `q` are not asked at `q`
+-- names after `q` are not looked up at `q`
 skip_first : (q : List ℕ) (r : Tree) (rs ls : Members) → comes_before q ls ≡ true → each_is_in ls (member q r rs) ≡ each_is_in ls rs
 skip_first q r rs no_members h = refl
 skip_first q r rs (member k l ls) h =
@@ -47,20 +47,20 @@ and_false : (b : Bool) → b && false ≡ false
 and_false true = refl
 and_false false = refl
 
--- where a name comes before those of the right, it is not among them
+-- if a name is before those of the right, it is not among them
 not_found : (p q : List ℕ) (l r : Tree) (rs : Members) (rest : Bool) → slice_cmp nat_cmp p q ≡ Less → in_name_order (member q r rs) ≡ true → equal_back l (get_member p (member q r rs)) && rest ≡ false
 not_found p q l r rs rest before ordered =
     let behind : comes_before q rs ≡ true = first_true (comes_before q rs) (in_name_order rs) ordered in
     let nothing : get_member p (member q r rs) ≡ None = none_before p (member q r rs) (both_true (ap is_lt before) (before_later p q rs before behind)) in
     ap (λ found. equal_back l found && rest) nothing
 
--- where a name comes behind the first of the right, that first is asked by none
+-- if a name is after the first of the right, that first one is never looked up
 first_unasked : (p q : List ℕ) (l r : Tree) (ls rs : Members) → slice_cmp nat_cmp p q ≡ Greater → in_name_order (member p l ls) ≡ true → each_is_in (member p l ls) (member q r rs) ≡ each_is_in (member p l ls) rs
 first_unasked p q l r ls rs behind ordered =
     let before : slice_cmp nat_cmp q p ≡ Less = nat_list_cmp_total.antisymm q p ∙ ap ordering_reverse behind in
     skip_first q r rs (member p l ls) (both_true (ap is_lt before) (before_later q p ls before (first_true (comes_before p ls) (in_name_order ls) ordered)))
 
--- where the two first names are the same, the first of the right is asked by none of the others
+-- if the two first names are the same, none of the others looks up the first of the right
 rest_unasked : (p q : List ℕ) (l r : Tree) (ls rs : Members) → slice_cmp nat_cmp p q ≡ Equal → in_name_order (member p l ls) ≡ true → each_is_in ls (member q r rs) ≡ each_is_in ls rs
 rest_unasked p q l r ls rs tie ordered =
     skip_first q r rs ls (ap (λ name. comes_before name ls) (sym (same_name p q tie)) ∙ first_true (comes_before p ls) (in_name_order ls) ordered)
@@ -88,7 +88,7 @@ more_than_none : (ls : Members) → each_is_in ls no_members ≡ true → member
 more_than_none no_members found = omega arith
 more_than_none (member p l ls) found = cc
 
--- where the names of the left are all in the right, the left has no more of them
+-- if the names of the left are all in the right, the left has no more of them
 no_more : (rs ls : Members) → in_name_order ls ≡ true → in_name_order rs ≡ true → each_is_in ls rs ≡ true → member_count ls ≤ member_count rs
 no_more no_members ls h k found = more_than_none ls found
 no_more (member q r rs) ls h k found =
@@ -129,7 +129,7 @@ by_name_at Greater p q l r ls rs is h k same =
     ap (λ b. b && (facing false l r && members_facing true ls rs)) (texts_ties p q ∙ ap is_eq is)
     ∙ sym (uneven_or_not_in p q l r ls rs is h k _ refl)
 
--- loose equality of objects goes by their names
+-- loose equality of objects is decided by their names
 pub by_name : (ls rs : Members) → in_name_order ls ≡ true → in_name_order rs ≡ true → members_facing true ls rs ≡ objects_equal_by_name ls rs
 by_name no_members no_members h k = refl
 by_name no_members (member q r rs) h k = search rules

@@ -119,7 +119,7 @@ mutual
       ∙ ap (λ b. pointwise nat_eq q p && (b && members_facing onward ls rs)) (symmetric (not onward) l r (first_true _ _ h) (first_true _ _ k))
       ∙ ap (λ b. pointwise nat_eq q p && (facing (not onward) r l && b)) (members_symmetric onward ls rs (second_true _ _ h) (second_true _ _ k))
 
--- without the truthy state, loose equality holds both ways
+-- without the truthy state, loose equality is symmetric
 pub value_eq_symm : (l r : Tree) → without_truthy l ≡ true → without_truthy r ≡ true → value_eq l r ≡ value_eq r l
 value_eq_symm l r h k = symmetric true l r h k
 
@@ -175,6 +175,6 @@ mutual
       ∙ ap (λ b. pointwise nat_eq q p && (b && members_facing (not onward) ls rs)) (turned (not onward) l r)
       ∙ ap (λ b. pointwise nat_eq q p && (facing (not onward) r l && b)) (members_turned onward ls rs)
 
--- facing back is the loose equality of the right with the left
+-- facing with the sides swapped is the loose equality of the right with the left
 pub facing_back : (l r : Tree) → facing false l r ≡ value_eq r l
 facing_back l r = turned true l r

@@ -18,7 +18,7 @@ deciding_reversed (Some Equal) b = refl
 deciding_reversed (Some Greater) b = refl
 
 mutual
-  -- the order of two values swapped is their order reversed
+  -- swapping two values reverses their order
   pub order_swapped : (l r : Tree) → value_cmp r l ≡ option_map ordering_reverse (value_cmp l r)
   order_swapped nil nil = refl
   order_swapped nil (state u) = refl

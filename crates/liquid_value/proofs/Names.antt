@@ -1,4 +1,4 @@
--- The names of an object's entries stand in order.
+-- The names of an object's entries are in order.
 use Rattle.std.proofs.Common.{◌≡◌, List, [], ◌∷◌, true, Less, refl, ap, string_bytes, string_cmp}
 use Rattle.std.specs.List.{AllByRecursion}
 use Rattle.std.specs.List.Sorted.{IsStrictlySortedBy}

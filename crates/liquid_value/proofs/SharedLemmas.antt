@@ -45,6 +45,6 @@ copied (x ∷ xs) (y ∷ ys) h =
 pub same_or_copied_map : (m n : BTreeMap (String Global) Value) → (n ≡ m) ⊎ IsClone (λ (s t : String Global). string_bytes t ≡ string_bytes s) (λ v w. view w ≡ view v) m n → members_view n.entries ≡ members_view m.entries
 same_or_copied_map m n h = ⊎_elim (λ e. ap (λ (k : BTreeMap (String Global) Value). members_view k.entries) e) (λ k. copied m.entries n.entries k) h
 
--- an equation, and one after it that something gives
+-- an equation followed by one that a premise gives
 pub and_then : {A H : Type 0} {a b c : A} → a ≡ b → (H → b ≡ c) → H → a ≡ c
 and_then p q h = p ∙ q h

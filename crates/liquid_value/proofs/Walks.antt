@@ -8,7 +8,7 @@ use Rattle.liquid_value.specs.declared.value.Value.{Value}
 pub items_view-drop : (vs : List Value) (i : ℕ) (v : Value) → i < length vs → v ≡ get_or vs i v → items_view (drop i vs) ≡ item (view v) (items_view (drop (i + 1) vs))
 items_view-drop vs i v within is = ap items_view (drop-cons vs i v within) ∙ rw (add-one, ← is)
 
--- the text of the items so far and the text of this one, before the text of those behind it
+-- the text of the items so far and the text of this one, before the text of the later ones
 pub items_turn : (text : Items → List ℕ) (piece : Tree → List ℕ) → ((t : Tree) (ts : Items) → text (item t ts) ≡ piece t ++ text ts)
     → (whole done : List ℕ) (vs : List Value) (i : ℕ) (v : Value) → i < length vs → v ≡ get_or vs i v
     → whole ≡ done ++ text (items_view (drop i vs)) → whole ≡ (done ++ piece (view v)) ++ text (items_view (drop (i + 1) vs))

@@ -1,3 +1,4 @@
+//! Clones of values, arrays and objects.
 ghost use Rattle.std.specs.Prelude.{◌≡◌, IfOk, map};
 ghost use Rattle.std.specs.List.Sorted.{IsStrictlySortedBy};
 ghost use Rattle.std.specs.Map.{keys_of};
@@ -18,7 +19,7 @@ impl Clone for Value {
     }
 }
 
-/// The same array, shared with the one that is copied.
+/// Returns the same array, shared with the one that is copied.
 impl Clone for SharedArray {
     ghost is_clone = { λ a b. array_view b ≡ array_view a };
 
@@ -27,7 +28,7 @@ impl Clone for SharedArray {
     }
 }
 
-/// The same object, shared with the one that is copied.
+/// Returns the same object, shared with the one that is copied.
 impl Clone for SharedObject {
     ghost is_clone = { λ h k. object_view k ≡ object_view h };
 
@@ -49,7 +50,7 @@ fn copy(value: &Value) -> Result<Value, AllocError>
     }
 }
 
-/// A list of the same values.
+/// Returns a list of the same values.
 #[cycle(copy)]
 fn copy_array(items: &Array) -> Result<Array, AllocError>
     ensures { IfOk result (λ v. items_view v.items ≡ items_view items.now.items) }
@@ -61,7 +62,7 @@ fn copy_array(items: &Array) -> Result<Array, AllocError>
     Ok(copies)
 }
 
-/// The same array: one that is shared has one owner more, and another is copied, to be shared.
+/// Returns the same array. A shared one gets one more owner, and another is copied, to be shared.
 #[cycle(copy)]
 fn copy_shared_array(array: &SharedArray) -> Result<SharedArray, AllocError>
     ensures { IfOk result (λ a. array_view a ≡ array_view array.now) }
@@ -72,7 +73,7 @@ fn copy_shared_array(array: &SharedArray) -> Result<SharedArray, AllocError>
     }
 }
 
-/// The same object: one that is shared has one owner more, and another is copied, to be shared.
+/// Returns the same object. A shared one gets one more owner, and another is copied, to be shared.
 #[cycle(copy)]
 fn copy_shared_object(object: &SharedObject) -> Result<SharedObject, AllocError>
     ensures { IfOk result (λ o. object_view o ≡ object_view object.now) }
@@ -83,7 +84,7 @@ fn copy_shared_object(object: &SharedObject) -> Result<SharedObject, AllocError>
     }
 }
 
-// A copy of an object that is a value's own. Its copies share it; one without names has nothing to share.
+// Copies a value's own object. Copies of the result share it. An object without names has nothing to share.
 #[cycle(copy)]
 fn copy_own_object(object: &Object) -> Result<SharedObject, AllocError>
     ensures { IfOk result (λ h. object_view h ≡ members_view object.now.entries) }
@@ -94,10 +95,10 @@ fn copy_own_object(object: &Object) -> Result<SharedObject, AllocError>
     }
 }
 
-/// Up to how many entries are put into a map one by one, which takes less than to collect them.
+/// The greatest number of entries that are inserted one by one, which costs less than collecting them.
 const FEW_ENTRIES: usize = 5;
 
-/// A map from the same names to the same values, built in the order of the names.
+/// Returns a map from the same names to the same values, built in the order of the names.
 #[cycle(copy)]
 fn copy_object(members: &Object) -> Result<Object, AllocError>
     ensures { IfOk result (λ m. members_view m.entries ≡ members_view members.now.entries) }
@@ -114,7 +115,7 @@ fn copy_object(members: &Object) -> Result<Object, AllocError>
     }
 }
 
-// The same map, of which each entry is put in where its name belongs.
+// Returns the same map. Each entry is inserted where its name belongs.
 #[cycle(copy)]
 fn copy_few(members: &Object) -> Result<Object, AllocError>
     ensures { IfOk result (λ m. members_view m.entries ≡ members_view members.now.entries) }
@@ -127,7 +128,7 @@ fn copy_few(members: &Object) -> Result<Object, AllocError>
     Ok(copies)
 }
 
-// The entries, copied, in the order of their names.
+// Copies the entries in the order of their names.
 #[cycle(copy)]
 fn copy_entries(alloc: Global, members: &Object) -> Result<Vec<(String, Value)>, AllocError>
     ensures { IfOk result (λ v. map entry_view v.items ≡ map entry_view members.now.entries) }
@@ -140,7 +141,7 @@ fn copy_entries(alloc: Global, members: &Object) -> Result<Vec<(String, Value)>,
     Ok(copies)
 }
 
-// The map of entries whose names ascend. It is built from the list, with no search for a name's place.
+// Returns the map of entries whose names ascend. It is built from the list, with no search for a name's place.
 fn object_in_order(alloc: Global, entries: Vec<(String, Value)>) -> Result<Object, AllocError>
     requires { IsStrictlySortedBy string_cmp (keys_of entries.items) }
     ensures { IfOk result (λ m. members_view m.entries ≡ members_view entries.items) }

@@ -1,3 +1,4 @@
+//! A value wrapped for loose comparison.
 ghost use Rattle.std.specs.Prelude.{◌≡◌};
 ghost use Rattle.liquid_value.specs.meaning.Loose.{value_eq};
 ghost use Rattle.liquid_value.specs.meaning.Order.{value_cmp};
@@ -19,14 +20,15 @@ impl<'v> ValueViewCmp<'v> {
         ValueViewCmp(value)
     }
 
-    /// Loose equality. It takes no memory, and ends with the smaller of the two values.
+    /// Compares loosely for equality. It takes no memory, and ends with the smaller of the two values.
     pub fn value_eq(&self, other: &ValueViewCmp<'_>) -> bool
         ensures { result ≡ value_eq (view self.now.0.now) (view other.now.0.now) }
     {
         value_eq(self.0, other.0)
     }
 
-    /// The loose order, if the values have one. It takes no memory, and ends with the smaller of the two values.
+    /// Compares loosely for order, if the values have one. It takes no memory, and ends with the smaller of the two
+    /// values.
     pub fn value_cmp(&self, other: &ValueViewCmp<'_>) -> Option<Ordering>
         ensures { result ≡ value_cmp (view self.now.0.now) (view other.now.0.now) }
     {

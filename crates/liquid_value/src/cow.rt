@@ -1,3 +1,4 @@
+//! A value that is owned or borrowed.
 ghost use Rattle.std.specs.Prelude.{◌≡◌, IfOk, option_map, string_bytes};
 ghost use Rattle.std.specs.Cmp.{on_equiv, on_per, partial_equiv_from_equiv};
 ghost use Rattle.liquid_scalar.specs.meaning.Scalar.{scal};
@@ -15,7 +16,7 @@ use crate::value::{Array, Object, Value};
 use liquid_scalar::Scalar;
 use std::alloc::AllocError;
 
-/// A value that is owned, or borrowed from where it stands.
+/// A value that is owned or borrowed.
 #[derive(Debug, Drop)]
 pub enum ValueCow<'s> {
     Owned(Value),
@@ -23,7 +24,7 @@ pub enum ValueCow<'s> {
 }
 
 impl ValueCow<'_> {
-    /// The value itself; a borrowed one is copied.
+    /// Returns the value itself. A borrowed one is copied.
     pub fn into_owned(self) -> Result<Value, AllocError>
         ensures { IfOk result (λ v. view v ≡ cow_view self.entry) }
     {
@@ -33,7 +34,7 @@ impl ValueCow<'_> {
         }
     }
 
-    /// The value, wherever it stands.
+    /// Returns the value, owned or borrowed.
     pub fn as_view(&self) -> &Value
         ensures { view result.now ≡ cow_view self.now }
     {
@@ -43,14 +44,14 @@ impl ValueCow<'_> {
         }
     }
 
-    /// The list of an array, and none for any other value.
+    /// Returns the list of an array, and `None` for any other value.
     pub fn as_array(&self) -> Option<&Array>
         ensures { option_map (λ v. items_view v.now.items) result ≡ as_array (cow_view self.now) }
     {
         self.as_view().as_array()
     }
 
-    /// The map of an object, and none for any other value.
+    /// Returns the map of an object, and `None` for any other value.
     pub fn as_object(&self) -> Option<&Object>
         ensures { option_map (λ m. members_view m.now.entries) result ≡ as_object (cow_view self.now) }
     {
@@ -58,7 +59,7 @@ impl ValueCow<'_> {
     }
 }
 
-/// The same value: an owned one is copied, and a borrowed one is borrowed again.
+/// Returns the same value. An owned one is copied, and a borrowed one is borrowed again.
 impl<'s> Clone for ValueCow<'s> {
     ghost is_clone = { λ v w. cow_view w ≡ cow_view v };
 
@@ -70,7 +71,7 @@ impl<'s> Clone for ValueCow<'s> {
     }
 }
 
-/// An owned nil.
+/// Returns an owned nil.
 impl Default for ValueCow<'_> {
     ghost is_default = { λ v. cow_view v ≡ nil };
 
@@ -79,7 +80,7 @@ impl Default for ValueCow<'_> {
     }
 }
 
-/// Strict equality of the values, wherever they stand.
+/// Compares the values strictly, whether owned or borrowed.
 impl PartialEq for ValueCow<'_> {
     ghost eq = { λ v w. same_value (cow_view v) (cow_view w) };
 

@@ -1,4 +1,4 @@
-// Conversions into a value, which neither fail nor take memory.
+//! Conversions into a value, which neither fail nor take memory.
 ghost use Rattle.std.specs.Prelude.{◌≡◌, string_bytes};
 ghost use Rattle.liquid_scalar.specs.meaning.Scalar.{scal};
 ghost use Rattle.liquid_value.specs.meaning.Tree.{state, scalar, array, object};

@@ -1,4 +1,4 @@
-// The laws of the comparisons of values. Each function only states its law.
+//! The laws of the comparisons of values. Each function only states its law.
 ghost use Rattle.liquid_value.specs.laws.LooseLaws.{LooseEqualityIsReflexive, LooseEqualityIsSymmetric, LooseEqualityIsNotTransitive};
 ghost use Rattle.liquid_value.specs.laws.LooseLaws.{OrderSwappedIsReversed, EqualInOrderIsLooselyEqual};
 ghost use Rattle.liquid_value.specs.laws.LooseLaws.{LooseEqualityOfObjectsGoesByName, in_name_order};
@@ -14,18 +14,19 @@ pub fn loose_equality_is_reflexive()
     ensures { LooseEqualityIsReflexive }
 {}
 
-/// Between values in which the state `Truthy` does not occur, loose equality holds both ways.
+/// Loose equality is symmetric between values in which the state `Truthy` does not occur.
 #[tactic(auto, using(crate::proofs::LooseEquality::value_eq_symm))]
 pub fn loose_equality_is_symmetric()
     ensures { LooseEqualityIsSymmetric }
 {}
 
-/// Loose equality is not transitive: `""` equals the state `Empty`, which equals the empty array, and `""` does not.
+/// Loose equality is not transitive: `""` equals the state `Empty`, which equals the empty array, but `""` does not
+/// equal the empty array.
 pub fn loose_equality_is_not_transitive()
     ensures { LooseEqualityIsNotTransitive }
 {}
 
-/// The order of two values swapped is their order reversed, and none stays none.
+/// Swapping two values reverses their order, or leaves them without one.
 #[tactic(auto, using(crate::proofs::LooseOrder::order_swapped))]
 pub fn order_swapped_is_reversed()
     ensures { OrderSwappedIsReversed }
@@ -37,14 +38,14 @@ pub fn equal_in_order_is_loosely_equal()
     ensures { EqualInOrderIsLooselyEqual }
 {}
 
-/// Two objects are loosely equal where they have the same number of entries, each name of the left is in the right, and
-/// the values are loosely equal the other way round.
+/// Two objects are loosely equal if they have the same number of entries, each name of the left is in the right, and
+/// the values are loosely equal with the right one on the left.
 #[tactic(auto, using(crate::proofs::LooseByName::by_name))]
 pub fn loose_equality_of_objects_goes_by_name()
     ensures { LooseEqualityOfObjectsGoesByName }
 {}
 
-/// The entries of an object stand in byte order of their names, each name once.
+/// The entries of an object are in byte order of their names, each name once.
 #[tactic(auto, using(crate::proofs::Names::entries_in_name_order))]
 pub fn entries_stand_in_name_order(object: &Object)
     ensures { in_name_order (members_view object.now.entries) ≡ true }
@@ -58,7 +59,7 @@ pub fn strict_equality_is_equivalence()
     ensures { StrictEqualityIsEquivalence }
 {}
 
-/// Strictly equal values feed a hasher alike.
+/// Strictly equal values feed a hasher the same bytes.
 #[tactic(auto, using(crate::specs::steps::StrictLawProofs::hash_agrees))]
 pub fn hash_agrees_with_equality()
     ensures { HashAgreesWithEquality }

@@ -1,21 +1,23 @@
+//! Loose equality of values.
 ghost use Rattle.std.specs.Prelude.{◌≡◌, true, false};
 ghost use Rattle.liquid_value.specs.meaning.Loose.{leaf_eq, facing, items_facing, members_facing, value_eq};
 ghost use Rattle.liquid_value.specs.meaning.View.{view, items_view, members_view};
 
 use crate::value::{Array, Object, Value};
 
-/// Whether the values are loosely equal.
+/// Returns `true` if the values are loosely equal.
 ///
-/// Arrays are equal place by place. Objects are equal where they have the same names and the values of each name are
-/// equal the other way round. A state equals the values in it, the left one being asked first. A truth value equals any
-/// other scalar, array or object where it is true, and nil where it is false. Other values of different kinds are unequal.
+/// Arrays are equal if they have equal items in the same order. Objects are equal if they have the same names and the
+/// values of each name are equal with the sides swapped. A state equals the values in it. If both values are states,
+/// the left one decides. A truth value equals any other scalar, array or object if it is true, and nil if it is false.
+/// Other values of different kinds are unequal.
 pub(crate) fn value_eq(left: &Value, right: &Value) -> bool
     ensures { result ≡ value_eq (view left.now) (view right.now) }
 {
     faces(left, right, true)
 }
 
-// `onward` says that the left value is asked about the right one; within an object the direction turns round.
+// `onward` says that the left value is compared with the right one. Within an object the sides are swapped.
 #[cycle(loose)]
 fn faces(left: &Value, right: &Value, onward: bool) -> bool
     ensures { result ≡ facing onward (view left.now) (view right.now) }

@@ -1,4 +1,4 @@
-//! An object's entries and iterators: std's, at the names of an object.
+//! The entries and iterators of an object: those of std's `BTreeMap`, for names and values.
 use crate::value::Value;
 use std::collections::btree_map;
 

@@ -1,3 +1,4 @@
+//! Loose order of values.
 ghost use Rattle.std.specs.Prelude.{◌≡◌, Some};
 ghost use Rattle.std.specs.Ordering.{nat_cmp};
 ghost use Rattle.std.specs.Cmp.Lexicographic.{slice_cmp};
@@ -7,10 +8,10 @@ ghost use Rattle.liquid_value.specs.meaning.View.{view, items_view, members_view
 use crate::value::{Array, Object, Value};
 use std::cmp::Ordering;
 
-/// The loose order of two values, if they have one.
+/// Returns the loose order of two values, if they have one.
 ///
 /// Scalars have their own order. Arrays are ordered by the first items that are not `Equal`, and objects by the first
-/// entries that are not, the name before the value; a beginning is less. Other values have no order.
+/// entries that are not, the name before the value. A beginning is less than the whole. Other values have no order.
 #[cycle(order)]
 pub(crate) fn value_cmp(left: &Value, right: &Value) -> Option<Ordering>
     ensures { result ≡ value_cmp (view left.now) (view right.now) }

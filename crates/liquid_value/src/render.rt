@@ -1,3 +1,4 @@
+//! The rendered text and the source text of a value.
 ghost use Rattle.std.specs.Prelude.{Some, ◌≡◌, ◌++◌, codes};
 ghost use Rattle.std.specs.Fmt.{WritesOnOk};
 ghost use Rattle.liquid_value.specs.meaning.Tree.{array, object};
@@ -9,7 +10,7 @@ use crate::value::{Array, Object, Value};
 use std::fmt;
 use std::fmt::Display;
 
-/// Displays the text that a value renders as.
+/// Prints the text that a value renders as.
 #[derive(Clone, Copy)]
 pub struct ValueRender<'v> {
     value: &'v Value,
@@ -75,7 +76,7 @@ pub(crate) fn write_member<W: fmt::Write>(
     write_value(value, f)
 }
 
-/// Displays the source text of a value.
+/// Prints the source text of a value.
 #[derive(Clone, Copy)]
 pub struct ValueSource<'v> {
     value: &'v Value,

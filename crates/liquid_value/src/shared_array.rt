@@ -44,7 +44,7 @@ impl SharedArray {
         }
     }
 
-    /// Returns the array, to be changed in place, if no other value shares it. Takes no memory.
+    /// Returns the array, to be changed in place, if no other value shares it. It takes no memory.
     pub fn get_mut(&mut self) -> Option<&mut Array>
         ensures* writes_back { sem 𝓛 (LendsSo shared_array_row array_row self.entry result
             (λ a v. array_view a ≡ items_view v.items) (λ a. array_view a ≡ array_view self.old)) }
@@ -56,7 +56,7 @@ impl SharedArray {
         }
     }
 
-    /// Returns the array, to be changed: a copy of it if other values share it. An error leaves it as it was.
+    /// Returns the array, to be changed: a copy of it if other values share it. On an error it is left as it was.
     pub fn to_mut(&mut self) -> Result<&mut Array, AllocError>
         ensures* writes_back { sem 𝓛 (LendsSoOk shared_array_row array_row self.entry result
             (λ a v. array_view a ≡ items_view v.items) (λ a. array_view a ≡ array_view self.old)) }

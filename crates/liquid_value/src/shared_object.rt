@@ -44,7 +44,7 @@ impl SharedObject {
         }
     }
 
-    /// Returns the object, to be changed in place, if no other value shares it. Takes no memory.
+    /// Returns the object, to be changed in place, if no other value shares it. It takes no memory.
     pub fn get_mut(&mut self) -> Option<&mut Object>
         ensures* writes_back { sem 𝓛 (LendsSo shared_object_row object_row self.entry result
             (λ o m. object_view o ≡ members_view m.entries) (λ o. object_view o ≡ object_view self.old)) }
@@ -56,7 +56,7 @@ impl SharedObject {
         }
     }
 
-    /// Returns the object, to be changed: a copy of it if other values share it. An error leaves it as it was.
+    /// Returns the object, to be changed: a copy of it if other values share it. On an error it is left as it was.
     pub fn to_mut(&mut self) -> Result<&mut Object, AllocError>
         ensures* writes_back { sem 𝓛 (LendsSoOk shared_object_row object_row self.entry result
             (λ o m. object_view o ≡ members_view m.entries) (λ o. object_view o ≡ object_view self.old)) }

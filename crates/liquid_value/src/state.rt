@@ -1,3 +1,4 @@
+//! The states that a value can be in.
 ghost use Rattle.std.specs.Prelude.{◌≡◌};
 ghost use Rattle.liquid_scalar.specs.meaning.Scalar.{scal};
 ghost use Rattle.liquid_value.specs.meaning.Kind.{state_name, absent_state, boolean_state, number_state};
@@ -6,7 +7,7 @@ ghost use Rattle.liquid_value.specs.meaning.Kind.{text_state, scalar_state, cont
 use liquid_scalar::ScalarOf;
 use std::convert::AsStr;
 
-/// A condition that a value may be asked for. As a value of its own it stands for any value in that state.
+/// A state that a value can be in. As a value itself, it means any value in that state.
 #[derive(Clone, Copy, PartialEq, Eq, Hash, Debug)]
 pub enum State {
     Truthy,
@@ -16,7 +17,7 @@ pub enum State {
 }
 
 impl State {
-    /// The state's name: `truthy`, `default`, `empty` or `blank`.
+    /// Returns the state's name: `truthy`, `default`, `empty` or `blank`.
     pub fn type_name(self) -> &'static str
         ensures { result.now ≡ state_name self }
     {
@@ -28,7 +29,7 @@ impl State {
         }
     }
 
-    /// Whether nil, or any state, is in this state: it is in all but `Truthy`.
+    /// Returns `true` if nil, or any state, is in this state. It is in all of them but `Truthy`.
     pub fn holds_of_absent(self) -> bool
         ensures { result ≡ absent_state self }
     {
@@ -38,7 +39,8 @@ impl State {
         }
     }
 
-    /// Whether an array or an object is in the state: it is truthy, and in the other states where it is empty.
+    /// Returns `true` if an array or an object is in the state. It is always truthy, and in the other states if it is
+    /// empty.
     pub fn holds_of_container(self, is_empty: bool) -> bool
         ensures { result ≡ container_state is_empty self }
     {
@@ -48,10 +50,11 @@ impl State {
         }
     }
 
-    /// Whether the scalar is in the state.
+    /// Returns `true` if the scalar is in the state.
     ///
-    /// Numbers and dates are truthy and nothing else. A truth value is truthy where it is true, and default and blank where it
-    /// is false. A text is truthy, default and empty where it has no bytes, and blank where it is white space alone.
+    /// Numbers and dates are truthy and nothing else. A truth value is truthy if it is true, and default and blank if
+    /// it is false. A text is always truthy, default and empty if it has no bytes, and blank if it has nothing but
+    /// white space.
     pub fn holds_of_scalar<T: AsStr>(self, scalar: &ScalarOf<T>) -> bool
         ensures { result ≡ scalar_state (scal T.text scalar.now) self }
     {

@@ -1,4 +1,4 @@
-//! Walks over an object: each says how many items are left, and ends after them.
+//! Walks over an object. Each step returns how many items are left before and after it.
 ghost use Rattle.std.specs.Prelude.{◌≡◌, length};
 ghost use Rattle.std.specs.Map.Iter.{TakesFirst, deref, deref_pair};
 ghost use Rattle.liquid_value.specs.laws.Steps.{CountsDown};
@@ -6,9 +6,9 @@ ghost use Rattle.liquid_value.specs.laws.Steps.{CountsDown};
 use crate::map::{IntoIter, Iter, Keys, Values};
 use crate::value::Value;
 
-/// A step of a walk over entries: how many were left, the first of them, and how many are left then.
+/// Takes one step over entries. Returns how many were left, the first of them, and how many are left after it.
 ///
-/// Where none is left there is no entry, at this step and each later one.
+/// If none is left, there is no entry, at this step and at each later one.
 #[tactic(auto, using(crate::proofs::StepLemmas::counts_down))]
 pub fn step_over_entries<'o>(walk: &mut Iter<'o>) -> (usize, Option<(&'o String, &'o Value)>, usize)
     ensures left { result.0 ≡ length walk.old }
@@ -21,7 +21,7 @@ pub fn step_over_entries<'o>(walk: &mut Iter<'o>) -> (usize, Option<(&'o String,
     (left, entry, walk.len())
 }
 
-/// A step of a walk over names: how many were left, the first of them, and how many are left then.
+/// Takes one step over names. Returns how many were left, the first of them, and how many are left after it.
 #[tactic(auto, using(crate::proofs::StepLemmas::counts_down))]
 pub fn step_over_keys<'o>(walk: &mut Keys<'o>) -> (usize, Option<&'o String>, usize)
     ensures left { result.0 ≡ length walk.old }
@@ -34,7 +34,7 @@ pub fn step_over_keys<'o>(walk: &mut Keys<'o>) -> (usize, Option<&'o String>, us
     (left, key, walk.len())
 }
 
-/// A step of a walk over values: how many were left, the first of them, and how many are left then.
+/// Takes one step over values. Returns how many were left, the first of them, and how many are left after it.
 #[tactic(auto, using(crate::proofs::StepLemmas::counts_down))]
 pub fn step_over_values<'o>(walk: &mut Values<'o>) -> (usize, Option<&'o Value>, usize)
     ensures left { result.0 ≡ length walk.old }
@@ -47,7 +47,7 @@ pub fn step_over_values<'o>(walk: &mut Values<'o>) -> (usize, Option<&'o Value>,
     (left, value, walk.len())
 }
 
-/// A step of a walk that owns its entries: how many were left, the first of them, and how many are left then.
+/// Takes one step over owned entries. Returns how many were left, the first of them, and how many are left after it.
 #[tactic(auto, using(crate::proofs::StepLemmas::counts_down))]
 pub fn step_over_owned_entries(walk: &mut IntoIter) -> (usize, Option<(String, Value)>, usize)
     ensures left { result.0 ≡ length walk.old }

@@ -1,3 +1,4 @@
+//! Strict equality and the hash of values.
 ghost use Rattle.std.specs.Prelude.{◌≡◌, ◌++◌, fold};
 ghost use Rattle.std.specs.Hash as writes;
 ghost use Rattle.std.specs.Cmp.{on_equiv, on_per, partial_equiv_from_equiv};
@@ -8,7 +9,7 @@ ghost use Rattle.liquid_value.specs.steps.StrictLawProofs.{same_value_equiv, has
 use crate::value::{Array, Object, Value};
 use std::hash::{Hash, Hasher};
 
-/// Strict equality: the same kind and the same content.
+/// Compares strictly: equal values have the same kind and the same content.
 impl PartialEq for Value {
     ghost eq = { λ v w. same_value (view v) (view w) };
 

@@ -1,3 +1,4 @@
+//! A value of a template: its kinds, its parts and its text.
 ghost use Rattle.std.specs.Prelude.{◌≡◌, IfOk, option_map, string_bytes};
 ghost use Rattle.std.specs.Borrow.{LendsIf, sem};
 ghost use Rattle.std.specs.Iterator.{IsFinite};
@@ -42,7 +43,7 @@ pub enum Value {
 }
 
 impl Value {
-    /// The text that the value renders as. It borrows the value's own text where it has one.
+    /// Returns the text that the value renders as. It borrows the value's own text if it has one.
     pub fn to_kstr(&self, alloc: Global) -> Result<CowStr<'_>, AllocError>
         ensures { IfOk result (λ text. cow_str_bytes text ≡ render (view self.now)) }
     {
@@ -55,7 +56,7 @@ impl Value {
         }
     }
 
-    /// The name of the value's type, as `whole number`, `string`, `array` or `nil`.
+    /// Returns the name of the value's type, such as `whole number`, `string`, `array` or `nil`.
     pub fn type_name(&self) -> &'static str
         ensures { result.now ≡ type_name (view self.now) }
     {
@@ -68,7 +69,7 @@ impl Value {
         }
     }
 
-    /// Whether the value is in the state.
+    /// Returns `true` if the value is in the state.
     pub fn query_state(&self, state: State) -> bool
         ensures { result ≡ query_state (view self.now) state }
     {
@@ -82,14 +83,14 @@ impl Value {
         }
     }
 
-    /// The value of a number, a truth value, a text, a date or a date time.
+    /// Returns the value of a number, a truth value, a text, a date or a date time.
     pub fn scalar<T: Into<Scalar>>(value: T) -> Value
         ensures { (s : _) × T.converts value s × (view result ≡ scalar (scal string_bytes s)) }
     {
         Value::Scalar(value.into())
     }
 
-    /// The array of the items of an iterator that ends.
+    /// Returns the array of the items of a finite iterator.
     pub fn array<I: Iterator<Item = Value>>(alloc: Global, items: I) -> Result<Value, AllocError>
     where
         I: Drop,
@@ -101,7 +102,7 @@ impl Value {
         Ok(Value::from(values))
     }
 
-    /// The scalar, and none for any other value, which is dropped.
+    /// Returns the scalar, and `None` for any other value, which is dropped.
     pub fn into_scalar(self) -> Option<Scalar>
         ensures { option_map (scal string_bytes) result ≡ as_scalar (view self) }
     {
@@ -111,7 +112,7 @@ impl Value {
         }
     }
 
-    /// The list, and none for any other value, which is dropped.
+    /// Returns the list, and `None` for any other value, which is dropped.
     pub fn into_array(self) -> Option<SharedArray>
         ensures { option_map array_view result ≡ as_array (view self) }
     {
@@ -121,7 +122,7 @@ impl Value {
         }
     }
 
-    /// The map, and none for any other value, which is dropped.
+    /// Returns the map, and `None` for any other value, which is dropped.
     pub fn into_object(self) -> Option<SharedObject>
         ensures { option_map object_view result ≡ as_object (view self) }
     {
@@ -131,7 +132,7 @@ impl Value {
         }
     }
 
-    /// The state, and none for any other value, which is dropped.
+    /// Returns the state, and `None` for any other value, which is dropped.
     pub fn into_state(self) -> Option<State>
         ensures { result ≡ as_state (view self) }
     {
@@ -141,7 +142,7 @@ impl Value {
         }
     }
 
-    /// The scalar, with its text borrowed, and none for any other value.
+    /// Returns the scalar, with its text borrowed, and `None` for any other value.
     pub fn as_scalar(&self) -> Option<ScalarCow<'_>>
         ensures { option_map (scal cow_str_bytes) result ≡ as_scalar (view self.now) }
     {
@@ -151,7 +152,7 @@ impl Value {
         }
     }
 
-    /// The list, and none for any other value.
+    /// Returns the list, and `None` for any other value.
     pub fn as_array(&self) -> Option<&Array>
         ensures { option_map (λ v. items_view v.now.items) result ≡ as_array (view self.now) }
     {
@@ -161,7 +162,7 @@ impl Value {
         }
     }
 
-    /// The map, and none for any other value.
+    /// Returns the map, and `None` for any other value.
     pub fn as_object(&self) -> Option<&Object>
         ensures { option_map (λ m. members_view m.now.entries) result ≡ as_object (view self.now) }
     {
@@ -171,7 +172,7 @@ impl Value {
         }
     }
 
-    /// The list, to be changed in place, and none for any other value.
+    /// Returns the list, to be changed in place, and `None` for any other value.
     pub fn as_array_mut(&mut self) -> Option<&mut SharedArray>
         ensures* writes_back { sem 𝓛 (LendsIf the_row shared_array_row self.entry result Array self.old) }
         ensures value { option_map (λ a. array_view a.now) result ≡ as_array (view self.old) }
@@ -182,7 +183,7 @@ impl Value {
         }
     }
 
-    /// The map, to be changed in place, and none for any other value.
+    /// Returns the map, to be changed in place, and `None` for any other value.
     pub fn as_object_mut(&mut self) -> Option<&mut SharedObject>
         ensures* writes_back { sem 𝓛 (LendsIf the_row shared_object_row self.entry result Object self.old) }
         ensures value { option_map (λ h. object_view h.now) result ≡ as_object (view self.old) }
@@ -194,7 +195,7 @@ impl Value {
     }
 }
 
-/// Nil.
+/// Returns nil.
 impl Default for Value {
     ghost is_default = { λ v. view v ≡ nil };
 

@@ -55,7 +55,7 @@ put_other q k t (member l u ms) other = put_other_at _ q k l t u ms refl other (
 apart : (xs ys : List ℕ) → bytes_eq xs ys ≡ false → xs ≡ ys → ⊥
 apart xs ys e same = true≢false (sym ((bytes_eq-Decides xs ys).1 same) ∙ e)
 
--- a name that is none of the entries' is found as before
+-- a name that is not one of the entries' is found as before
 untouched : {V : Type 0} (tree : V → Tree) (name : List ℕ) (es : List (String Global × V)) (ms : Members) → AllByRecursion (λ k. bytes_eq name (string_bytes k) ≡ false) (keys_of es) → get_member name (put_entries tree es ms) ≡ get_member name ms
 untouched tree name [] ms h = refl
 untouched tree name (e ∷ es) ms h =
@@ -104,7 +104,7 @@ rest_none Greater a b e some = e
 is_some_tree : (t : Tree) → Some t ≡ None → ⊥
 is_some_tree t e = cc
 
--- a new name is one member more
+-- a new name is one more member
 count_put : (k : List ℕ) (t : Tree) (ms : Members) → get_member k ms ≡ None → member_count (put_member k t ms) ≡ suc (member_count ms)
 count_put k t no_members none = refl
 count_put k t (member l u ms) none =

@@ -41,7 +41,7 @@ pub index_members-insert_entry : {V : Type 0} (tree : V → Tree) (es : List (Bo
 index_members-insert_entry tree [] k v = refl
 index_members-insert_entry tree (e ∷ es) k v = index-match_ordering tree (borrowed_cmp k e.0) _ _ _ ∙ rw (index_members-insert_entry tree es k v)
 
--- the text of the entries so far and the text of this one, before the text of those behind it
+-- the text of the entries so far and the text of this one, before the text of the later ones
 pub index_turn : {V : Type 0} (tree : V → Tree) (text : Members → List ℕ) (piece : List ℕ → Tree → List ℕ) → ((key : List ℕ) (t : Tree) (ms : Members) → text (member key t ms) ≡ piece key t ++ text ms)
     → (whole done : List ℕ) (es left : List (Bor (List ℕ) × Bor V)) (key : Bor (List ℕ)) (v : Bor V) → es ≡ (key, v) ∷ left
     → whole ≡ done ++ text (index_members tree es) → whole ≡ (done ++ piece key.now (tree v.now)) ++ text (index_members tree left)

@@ -1,4 +1,4 @@
--- A list beside the items that it means.
+-- A list and the items that it means.
 use Rattle.std.proofs.Common.{Bor, ◌≡◌, ℕ, zero, suc, ◌+◌, ◌<◌, ◌≤◌, List, [], ◌∷◌, ◌++◌, length, drop, get_or, Option, None, Some, refl, sym, ap, ◌∙◌, append_assoc, add-one, arith, rules}
 use borrow.Author.Tests.{ltb-true}
 use Rattle.std.specs.Prelude.{◌==◌, ◌-◌, Bool, true, false, nat_lt, is_some, if◌then◌else◌, ℤ, pos, negsuc, option_map, option_and_then}
@@ -21,7 +21,7 @@ count_of_list tree (x ∷ xs) = ap suc (count_of_list tree xs)
 pub items_by-drop : {T : Type 0} (tree : T → Tree) (xs : List T) (i : ℕ) (x : T) → i < length xs → x ≡ get_or xs i x → items_by tree (drop i xs) ≡ item (tree x) (items_by tree (drop (i + 1) xs))
 items_by-drop tree xs i x within is = ap (items_by tree) (drop-cons xs i x within) ∙ rw (add-one, ← is)
 
--- the text of the items so far and the text of this one, before the text of those behind it
+-- the text of the items so far and the text of this one, before the text of the later ones
 pub list_turn : {T : Type 0} (tree : T → Tree) (text : Items → List ℕ) (piece : Tree → List ℕ) → ((t : Tree) (ts : Items) → text (item t ts) ≡ piece t ++ text ts)
     → (whole done : List ℕ) (xs : List T) (i : ℕ) (x : T) → i < length xs → x ≡ get_or xs i x
     → whole ≡ done ++ text (items_by tree (drop i xs)) → whole ≡ (done ++ piece (tree x)) ++ text (items_by tree (drop (i + 1) xs))
@@ -64,7 +64,7 @@ behind_end k n true e ts size =
     sym (there (n - suc k) ts within)
 behind_end k n false e ts size = refl
 
--- an index is known exactly where there is an item at it
+-- an index is known exactly if there is an item at it
 pub contains_where_get : (index : ℤ) (ts : Items) → is_some (place_at index (item_count ts)) ≡ is_some (item_at index ts)
 contains_where_get (pos k) ts = within_count k (item_count ts) _ refl ts refl
 contains_where_get (negsuc k) ts = behind_end k (item_count ts) _ refl ts refl

@@ -1,4 +1,4 @@
--- A map's entries beside the members that they mean.
+-- A map's entries and the members that they mean.
 use Rattle.std.proofs.Common.{◌≡◌, ℕ, suc, List, [], ◌∷◌, ◌++◌, length, Option, None, Some, String, Global, Ordering, Less, Equal, Greater, string_bytes, string_cmp, nat_cmp, is_eq, is_some, cond, refl, sym, ap, ◌∙◌, append_assoc, rules}
 use Rattle.std.proofs.lemmas.Cmp.{nat_list_cmp_total}
 use Rattle.std.specs.Prelude.{◌==◌, option_map}
@@ -43,7 +43,7 @@ below_middle : {K V : Type 0} (cmp : K → K → Ordering) (key : K) (es : List 
 below_middle cmp key [] e more h = h.0
 below_middle cmp key (x ∷ es) e more h = below_middle cmp key es e more h.1
 
--- a key above those before it goes last, where keys are ordered as their texts
+-- a key above all keys before it is put last, if keys are ordered as their texts
 pub put_last : {K V : Type 0} (index : K → List ℕ) (cmp : K → K → Ordering) → ((x y : K) → cmp x y ≡ slice_cmp nat_cmp (index x) (index y))
     → (tree : V → Tree) (done : List (K × V)) (e : K × V) (more : List (K × V)) → IsStrictlySortedBy cmp (keys_of (done ++ e ∷ more))
     → put_member (index e.0) (tree e.1) (members_by index tree done) ≡ members_by index tree (done ++ e ∷ [])
@@ -54,7 +54,7 @@ put_last index cmp ordered tree (first ∷ done) e more h =
     nat_list_cmp_total.antisymm (index e.0) (index first.0) ∙ ap ordering_reverse (sym (ordered first.0 e.0) ∙ below_middle cmp first.0 done e more h.0) in
     rw above (ap (member (index first.0) (tree first.1)) (put_last index cmp ordered tree done e more h.1))
 
--- the text of the entries so far and the text of this one, before the text of those behind it
+-- the text of the entries so far and the text of this one, before the text of the later ones
 pub map_turn : {K V : Type 0} (index : K → List ℕ) (tree : V → Tree) (text : Members → List ℕ) (piece : List ℕ → Tree → List ℕ) → ((key : List ℕ) (t : Tree) (ms : Members) → text (member key t ms) ≡ piece key t ++ text ms)
     → (whole done : List ℕ) (es left : List (K × V)) (key : K) (v : V) → es ≡ (key, v) ∷ left
     → whole ≡ done ++ text (members_by index tree es) → whole ≡ (done ++ piece (index key) (tree v)) ++ text (members_by index tree left)

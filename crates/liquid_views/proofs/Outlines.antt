@@ -1,4 +1,4 @@
--- What a value's outline says of the value.
+-- What a value's outline says about the value.
 use Rattle.std.proofs.Common.{◌≡◌, [], refl, is_some, sym, ap}
 use Rattle.liquid_scalar.specs.meaning.Scalar.{Scal, render_scalar}
 use Rattle.liquid_value.specs.meaning.Kind.{type_name, query_state}

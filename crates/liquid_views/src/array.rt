@@ -1,3 +1,4 @@
+//! Lists of values, and their views.
 ghost use Rattle.std.specs.Prelude.{◌≡◌, pos, negsuc, refl, is_some, option_map};
 ghost use Rattle.liquid_value.specs.meaning.Members.{item_count};
 ghost use Rattle.liquid_value.specs.meaning.Tree.{Items, array};
@@ -20,30 +21,30 @@ pub trait ArrayView: ValueView {
 
     ghost items: { Self → Items };
 
-    /// How many items there are.
+    /// Returns the number of items.
     fn size(&self) -> i64
         ensures { result ≡ pos (item_count (items self.now)) };
 
-    /// The items in order.
+    /// Returns the items in order.
     fn values(&self) -> &[Self::Item]
         ensures { items_by Self.Item.tree result.now ≡ items self.now };
 
-    /// Whether there is an item at the index. A negative index counts from the end. It takes no memory.
+    /// Returns `true` if there is an item at the index. A negative index counts from the end. It takes no memory.
     fn contains_key(&self, index: i64) -> bool
         ensures { result ≡ is_some (place_at index (item_count (items self.now))) };
 
-    /// The item at the index, if there is one. A negative index counts from the end. It takes no memory.
+    /// Returns the item at the index, if there is one. A negative index counts from the end. It takes no memory.
     fn get(&self, index: i64) -> Option<&Self::Item>
         ensures { option_map (λ x. Self.Item.tree x.now) result ≡ item_at index (items self.now) };
 
-    /// The first item, if there is one.
+    /// Returns the first item, if there is one.
     fn first(&self) -> Option<&Self::Item>
         ensures { option_map (λ x. Self.Item.tree x.now) result ≡ item_at (pos 0) (items self.now) }
     {
         self.get(0)
     }
 
-    /// The last item, if there is one.
+    /// Returns the last item, if there is one.
     fn last(&self) -> Option<&Self::Item>
         ensures { option_map (λ x. Self.Item.tree x.now) result ≡ item_at (negsuc 0) (items self.now) }
     {
@@ -54,7 +55,7 @@ pub trait ArrayView: ValueView {
     ghost holds: { (s : Self) → Self.tree s ≡ array (items s) };
 }
 
-// The place in a list of this length that the index names, if it names one.
+// Returns the place in a list of this length that the index names, if it names one.
 fn place_at(index: i64, length: usize) -> Option<usize>
     ensures { result ≡ place_at index length }
 {

@@ -1,4 +1,4 @@
-// Values from what the program has.
+//! Values built from what a program has.
 ghost use Rattle.std.specs.Prelude.{◌≡◌, IfOk};
 ghost use Rattle.liquid_value.specs.meaning.Tree.{no_members};
 ghost use Rattle.liquid_value.specs.meaning.View.{items_view, members_view};
@@ -10,14 +10,14 @@ use liquid_scalar::Scalar;
 use liquid_value::{Array, Object};
 use std::alloc::{AllocError, Global};
 
-/// The scalar of a number, a truth value, a text, a date or a date time.
+/// Returns the scalar of a number, a truth value, a text, a date or a date time.
 pub fn scalar_of<T: Into<Scalar>>(value: T) -> Scalar
     ensures { T.converts value result }
 {
     value.into()
 }
 
-/// The list of these values, copied.
+/// Returns the list of these values, copied.
 pub fn array_of<V: ValueView>(alloc: Global, items: &[V]) -> Result<Array, AllocError>
     ensures { IfOk result (λ v. items_view v.items ≡ items_by V.tree items.now) }
 {
@@ -28,7 +28,7 @@ pub fn array_of<V: ValueView>(alloc: Global, items: &[V]) -> Result<Array, Alloc
     Ok(array)
 }
 
-/// The map of these pairs of name and value, copied. Of two pairs of one name the later wins.
+/// Returns the map of these pairs of name and value, copied. Of two pairs with one name the later wins.
 pub fn object_of<V: ValueView>(alloc: Global, pairs: &[(&str, V)]) -> Result<Object, AllocError>
     ensures { IfOk result (λ m. members_view m.entries ≡ put_pairs V.tree pairs.now no_members) }
 {

@@ -1,4 +1,4 @@
-// Dates and date times.
+//! Views of dates and date times.
 ghost use Rattle.liquid_scalar.specs.meaning.Scalar.{date, date_time};
 ghost use Rattle.liquid_value.specs.meaning.Tree.{scalar};
 

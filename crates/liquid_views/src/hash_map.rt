@@ -1,4 +1,4 @@
-// Maps without an order of their own: they are told in byte order of their names.
+//! Views of maps without an order of their own. They are shown in byte order of their names.
 ghost use Rattle.std.specs.Prelude.{◌≡◌, refl, map, option_map, IfOk};
 ghost use Rattle.liquid_value.specs.meaning.Names.{names};
 ghost use Rattle.liquid_value.specs.meaning.Members.{get_member};
@@ -56,7 +56,7 @@ fn copy_entries<V: ValueView>(alloc: Global, map: &HashMap<String, V>) -> Result
     Ok(copies)
 }
 
-// The names and values of the map, borrowed, in byte order of the names.
+// Returns the names and values of the map, borrowed, in byte order of the names.
 fn index_of<'m, V: ValueView>(
     alloc: Global,
     map: &'m HashMap<String, V>,
@@ -131,7 +131,7 @@ impl<V: ValueView> ObjectView for HashMap<String, V> {
     }
 }
 
-// The map's size is asked since its clause says that each name stands once.
+// The call to the map's size is needed: its clause says that each name is in the map once.
 fn value_at<'m, V: ValueView>(map: &'m HashMap<String, V>, name: &str) -> Option<&'m V>
     ensures { option_map (λ v. V.tree v.now) result ≡ get_member name.now (put_entries V.tree map.now.entries no_members) }
 {

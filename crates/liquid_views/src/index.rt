@@ -1,3 +1,4 @@
+//! The keys of maps of values.
 ghost use Rattle.std.specs.Prelude.{◌≡◌, ℕ, List, option_map, string_bytes, nat_eq, refl};
 ghost use Rattle.std.specs.BTreeMap.{is_at};
 ghost use Rattle.std.specs.Cmp.Lexicographic.{pointwise, slice_cmp};
@@ -9,17 +10,18 @@ use std::cmp::Ordering;
 use std::collections::BTreeMap;
 use std::hash::Hash;
 
-/// A key of a map of values: it is told, equal, ordered and hashed as its text.
+/// A key of a map of values. It is shown, compared, ordered and hashed as its text.
 pub trait ObjectIndex: Ord + Hash {
     ghost index: { Self → List ℕ };
 
-    /// The text of the key.
+    /// Returns the text of the key.
     fn as_index(&self) -> &str
         ensures { result.now ≡ index self.now };
 
-    /// The value at the key of this text, if there is one. It takes no memory.
+    /// Returns the value at the key with this text, if there is one. It takes no memory.
     ///
-    /// As it stands here it asks key after key. A type whose maps can be searched by a text, as `String`, searches.
+    /// The default compares one key after another. A type whose maps can be searched by a text, such as `String`,
+    /// searches.
     fn value_in<'m, V>(map: &'m BTreeMap<Self, V>, name: &str) -> Option<&'m V>
     where
         Self: Sized,

@@ -1,3 +1,4 @@
+//! The kind of a value.
 ghost use Rattle.std.specs.Prelude.{◌≡◌, option_map, is_some};
 ghost use Rattle.std.specs.Cow.{cow_str_bytes};
 ghost use Rattle.liquid_scalar.specs.meaning.Scalar.{scal};
@@ -7,7 +8,7 @@ ghost use Rattle.liquid_views.specs.meaning.Outline.{is_array_outline, is_object
 use liquid_scalar::ScalarCow;
 use liquid_value::State;
 
-/// The kind of a value, and as much of the value as takes no memory to tell.
+/// The kind of a value, and what can be said of the value without memory.
 #[derive(Debug, Drop)]
 pub enum ViewKind<'v> {
     Scalar(ScalarCow<'v>),
@@ -20,7 +21,7 @@ pub enum ViewKind<'v> {
 }
 
 impl<'v> ViewKind<'v> {
-    /// The name of the value's type.
+    /// Returns the name of the value's type.
     pub fn type_name(&self) -> &'static str
         ensures { result.now ≡ outline_name (told_outline self.now) }
     {
@@ -33,7 +34,7 @@ impl<'v> ViewKind<'v> {
         }
     }
 
-    /// Whether the value is in the state.
+    /// Returns `true` if the value is in the state.
     pub fn query_state(&self, state: State) -> bool
         ensures { result ≡ outline_state (told_outline self.now) state }
     {
@@ -46,7 +47,7 @@ impl<'v> ViewKind<'v> {
         }
     }
 
-    /// The scalar, and none for any other kind.
+    /// Returns the scalar, and `None` for any other kind.
     pub fn into_scalar(self) -> Option<ScalarCow<'v>>
         ensures { option_map (scal cow_str_bytes) result ≡ outline_scalar (told_outline self.entry) }
     {
@@ -56,7 +57,7 @@ impl<'v> ViewKind<'v> {
         }
     }
 
-    /// The state, and none for any other kind.
+    /// Returns the state, and `None` for any other kind.
     pub fn as_state(&self) -> Option<State>
         ensures { result ≡ outline_own_state (told_outline self.now) }
     {
@@ -66,28 +67,28 @@ impl<'v> ViewKind<'v> {
         }
     }
 
-    /// Whether it is a scalar.
+    /// Returns `true` if it is a scalar.
     pub fn is_scalar(&self) -> bool
         ensures { result ≡ is_some (outline_scalar (told_outline self.now)) }
     {
         matches!(self, ViewKind::Scalar(_))
     }
 
-    /// Whether it is an array.
+    /// Returns `true` if it is an array.
     pub fn is_array(&self) -> bool
         ensures { result ≡ is_array_outline (told_outline self.now) }
     {
         matches!(self, ViewKind::Array(_))
     }
 
-    /// Whether it is an object.
+    /// Returns `true` if it is an object.
     pub fn is_object(&self) -> bool
         ensures { result ≡ is_object_outline (told_outline self.now) }
     {
         matches!(self, ViewKind::Object(_))
     }
 
-    /// Whether it is nil.
+    /// Returns `true` if it is nil.
     pub fn is_nil(&self) -> bool
         ensures { result ≡ is_nil_outline (told_outline self.now) }
     {

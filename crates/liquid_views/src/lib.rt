@@ -1,4 +1,4 @@
-//! Views: what a template may ask of any value of the program, without a copy of it.
+//! Views: what a template can read of any value of the program, without a copy of it.
 #![tactic(auto)]
 
 mod array;

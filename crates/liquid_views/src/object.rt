@@ -1,3 +1,4 @@
+//! Maps of values, and their views.
 ghost use Rattle.std.specs.Prelude.{◌≡◌, Some, ◌++◌, ℕ, List, pos, refl, is_some, option_map, IfOk, map, string_bytes};
 ghost use Rattle.std.specs.Fmt.{WritesOnOk};
 ghost use Rattle.liquid_value.specs.meaning.Cow.{cow_view};
@@ -20,19 +21,19 @@ use std::fmt;
 pub trait ObjectView: ValueView {
     ghost members: { Self → Members };
 
-    /// How many entries there are.
+    /// Returns the number of entries.
     fn size(&self) -> i64
         ensures { result ≡ pos (member_count (members self.now)) };
 
-    /// Whether there is a value at the name. It takes no memory.
+    /// Returns `true` if there is a value at the name. It takes no memory.
     fn contains_key(&self, index: &str) -> bool
         ensures { result ≡ is_some (get_member index.now (members self.now)) };
 
-    /// The value at the name, if there is one, borrowed where it stands as a `Value`.
+    /// Returns the value at the name, if there is one. It is borrowed if it is a `Value`.
     fn lookup(&self, alloc: Global, index: &str) -> Result<Option<ValueCow<'_>>, AllocError>
         ensures { IfOk result (λ found. option_map cow_view found ≡ get_member index.now (members self.now)) };
 
-    /// The names in byte order.
+    /// Returns the names in byte order.
     fn keys(&self, alloc: Global) -> Result<Vec<&str>, AllocError>
         ensures { IfOk result (λ keys. map (λ key. key.now) keys.items ≡ names (members self.now)) };
 
@@ -173,7 +174,7 @@ impl<O: ObjectView> ObjectView for &O {
     }
 }
 
-/// Displays the source text of an object.
+/// Prints the source text of an object.
 #[derive(Drop)]
 pub struct ObjectSource<'s, O> {
     object: &'s O,
@@ -195,7 +196,7 @@ impl<O: ObjectView> fmt::Display for ObjectSource<'_, O> {
     }
 }
 
-/// Displays the text that an object renders as.
+/// Prints the text that an object renders as.
 #[derive(Drop)]
 pub struct ObjectRender<'s, O> {
     object: &'s O,

@@ -1,4 +1,4 @@
-// Values themselves, states, what may be absent, and references.
+//! Views of values, states, options and references.
 ghost use Rattle.liquid_value.specs.meaning.Cow.{cow_view};
 ghost use Rattle.liquid_value.specs.meaning.Tree.{state};
 ghost use Rattle.liquid_value.specs.meaning.View.{view};

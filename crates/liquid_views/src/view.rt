@@ -1,3 +1,4 @@
+//! The trait of everything that a template can use as a value.
 ghost use Rattle.std.specs.Prelude.{◌≡◌, Some, IfOk, option_map, is_some};
 ghost use Rattle.std.specs.Cow.{cow_str_bytes};
 ghost use Rattle.std.specs.Fmt.{WritesOnOk};
@@ -17,17 +18,17 @@ use std::alloc::{AllocError, Global};
 use std::borrow::CowStr;
 use std::fmt;
 
-/// Whatever a template may be handed as a value.
+/// Whatever can be given to a template as a value.
 ///
-/// Each answer is that of the value that `to_value` gives.
+/// Each result is the same as for the value that `to_value` returns.
 pub trait ValueView {
     ghost tree: { Self → Tree };
 
-    /// The kind of the value.
+    /// Returns the kind of the value.
     fn kind(&self) -> ViewKind<'_>
         ensures { told_outline result ≡ outline (tree self.now) };
 
-    /// The value, copied.
+    /// Returns the value, copied.
     fn to_value(&self, alloc: Global) -> Result<Value, AllocError>
         ensures { IfOk result (λ v. view v ≡ tree self.now) };
 
@@ -39,14 +40,14 @@ pub trait ValueView {
     fn write_source<W: fmt::Write>(&self, f: &mut fmt::Formatter<W>) -> fmt::Result
         ensures { WritesOnOk W.write_str_gives f.old result (source (tree self.now)) f.new };
 
-    /// The value, borrowed where it stands as a `Value`, and copied otherwise.
+    /// Returns the value. It is borrowed if it is a `Value`, and copied otherwise.
     fn to_cow(&self, alloc: Global) -> Result<ValueCow<'_>, AllocError>
         ensures { IfOk result (λ v. cow_view v ≡ tree self.now) }
     {
         Ok(ValueCow::Owned(self.to_value(alloc)?))
     }
 
-    /// The name of the value's type, as `whole number`, `string`, `array` or `nil`.
+    /// Returns the name of the value's type, such as `whole number`, `string`, `array` or `nil`.
     #[tactic(auto, using(crate::proofs::Outlines::name_of_outline))]
     final fn type_name(&self) -> &'static str
         ensures { result.now ≡ type_name (tree self.now) }
@@ -54,7 +55,7 @@ pub trait ValueView {
         self.kind().type_name()
     }
 
-    /// Whether the value is in the state.
+    /// Returns `true` if the value is in the state.
     #[tactic(auto, using(crate::proofs::Outlines::state_of_outline))]
     final fn query_state(&self, state: State) -> bool
         ensures { result ≡ query_state (tree self.now) state }
@@ -62,7 +63,7 @@ pub trait ValueView {
         self.kind().query_state(state)
     }
 
-    /// The scalar, with its text borrowed, and none for any other value.
+    /// Returns the scalar, with its text borrowed, and `None` for any other value.
     #[tactic(auto, using(crate::proofs::Outlines::scalar_of_outline))]
     final fn as_scalar(&self) -> Option<ScalarCow<'_>>
         ensures { option_map (scal cow_str_bytes) result ≡ as_scalar (tree self.now) }
@@ -70,7 +71,7 @@ pub trait ValueView {
         self.kind().into_scalar()
     }
 
-    /// The state, and none for any other value.
+    /// Returns the state, and `None` for any other value.
     #[tactic(auto, using(crate::proofs::Outlines::own_state_of_outline))]
     final fn as_state(&self) -> Option<State>
         ensures { result ≡ as_state (tree self.now) }
@@ -78,7 +79,7 @@ pub trait ValueView {
         self.kind().as_state()
     }
 
-    /// Whether the value is a scalar.
+    /// Returns `true` if the value is a scalar.
     #[tactic(auto, using(crate::proofs::Outlines::scalar_of_outline))]
     final fn is_scalar(&self) -> bool
         ensures { result ≡ is_some (as_scalar (tree self.now)) }
@@ -86,7 +87,7 @@ pub trait ValueView {
         self.kind().is_scalar()
     }
 
-    /// Whether the value is an array.
+    /// Returns `true` if the value is an array.
     #[tactic(auto, using(crate::proofs::Outlines::array_of_outline))]
     final fn is_array(&self) -> bool
         ensures { result ≡ is_some (as_array (tree self.now)) }
@@ -94,7 +95,7 @@ pub trait ValueView {
         self.kind().is_array()
     }
 
-    /// Whether the value is an object.
+    /// Returns `true` if the value is an object.
     #[tactic(auto, using(crate::proofs::Outlines::object_of_outline))]
     final fn is_object(&self) -> bool
         ensures { result ≡ is_some (as_object (tree self.now)) }
@@ -102,7 +103,7 @@ pub trait ValueView {
         self.kind().is_object()
     }
 
-    /// Whether the value is a state.
+    /// Returns `true` if the value is a state.
     #[tactic(auto, using(crate::proofs::Outlines::own_state_of_outline))]
     final fn is_state(&self) -> bool
         ensures { result ≡ is_some (as_state (tree self.now)) }
@@ -110,7 +111,7 @@ pub trait ValueView {
         self.kind().as_state().is_some()
     }
 
-    /// Whether the value is nil.
+    /// Returns `true` if the value is nil.
     #[tactic(auto, using(crate::proofs::Outlines::nil_of_outline))]
     final fn is_nil(&self) -> bool
         ensures { result ≡ is_nil (tree self.now) }
@@ -118,7 +119,7 @@ pub trait ValueView {
         self.kind().is_nil()
     }
 
-    /// The text that the value renders as. It is borrowed where the value has it as it stands.
+    /// Returns the text that the value renders as. It is borrowed if the value has it in this form.
     #[tactic(auto, using(crate::proofs::Outlines::render_of_scalar, crate::proofs::Outlines::render_of_state, crate::proofs::Outlines::render_of_nil))]
     final fn to_kstr(&self, alloc: Global) -> Result<CowStr<'_>, AllocError>
     where
@@ -134,7 +135,7 @@ pub trait ValueView {
         }
     }
 
-    /// Displays the text that the value renders as.
+    /// Returns a value that prints the text that the value renders as.
     final fn render(&self) -> ViewRender<'_, Self>
     where
         Self: Sized,
@@ -143,7 +144,7 @@ pub trait ValueView {
         ViewRender { view: self }
     }
 
-    /// Displays the source text of the value.
+    /// Returns a value that prints the source text of the value.
     final fn source(&self) -> ViewSource<'_, Self>
     where
         Self: Sized,
@@ -153,7 +154,7 @@ pub trait ValueView {
     }
 }
 
-/// Displays the text that a value renders as.
+/// Prints the text that a value renders as.
 #[derive(Drop)]
 pub struct ViewRender<'v, V> {
     pub view: &'v V,
@@ -167,7 +168,7 @@ impl<V: ValueView> fmt::Display for ViewRender<'_, V> {
     }
 }
 
-/// Displays the source text of a value.
+/// Prints the source text of a value.
 #[derive(Drop)]
 pub struct ViewSource<'v, V> {
     pub view: &'v V,

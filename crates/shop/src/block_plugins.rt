@@ -37,7 +37,7 @@ pub enum ShopPlan {
     Twice,
 }
 
-/// Stands for the shape of a plan.
+/// Marks the shape of a plan.
 pub enum ShopPlanShape {
     Library(PlanShape),
     Stock(ExpressionMark),
@@ -161,7 +161,7 @@ impl<F: ParseFilter> ParseBlock<F> for ShopBlocks {
     }
 }
 
-/// The plan of a `stock`.
+/// Returns the plan of a `stock`.
 fn begin_stock(alloc: Global, tokens: TagTokenIter<'_>) -> Result<ShopPlan, Error>
     ensures { (ts : Tokens) → AreTokens tokens.entry ts → Gives plan_of result (stock_given ts) }
 {

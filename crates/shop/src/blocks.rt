@@ -16,36 +16,36 @@ use liquid_tags::blocks::{BlockShape, ProgressShape};
 use liquid_tags::{BlockNode, BlockProgress};
 use std::alloc::{AllocError, Global};
 
-/// What a block of the shop's language is made to.
+/// What a block of the shop's language is made into.
 #[derive(Drop)]
 pub enum ShopBlock {
     /// A block of the library.
     Library(BlockNode),
-    /// The first part where a number is above 0, and the part after `soldout` where it is not.
+    /// The first part if a number is above 0, and the part after `soldout` if it is not.
     Stock(Box<Expression>),
     /// The text of the body, which is rendered once, twice.
     Twice,
 }
 
-/// Stands for the shape of such a block.
+/// Marks the shape of such a block.
 pub enum ShopBlockShape {
     Library(BlockShape),
     Stock(ExpressionMark),
     Twice,
 }
 
-/// How far a block is.
+/// The progress of a block.
 #[derive(Drop)]
 pub enum ShopProgress {
     /// The progress of a block of the library, or the part that a `stock` renders.
     Library(BlockProgress),
-    /// The body of a `twice` is to be rendered.
+    /// The body of a `twice` is still to be rendered.
     Body,
-    /// The body's text is to be written.
+    /// The body's text is still to be written.
     Text(String),
 }
 
-/// Stands for the shape of a progress.
+/// Marks the shape of a progress.
 pub enum ShopProgressShape {
     Library(ProgressShape),
     Body,
@@ -139,7 +139,7 @@ impl<V: Fresh> Discreet<V> for ShopBlock {
     ghost hides = { blocks_hide };
 }
 
-/// The part of a `stock` for what is left: the first one for a number above 0, else the second.
+/// Returns the part of a `stock` for what is left: the first one for a number above 0, otherwise the second.
 fn part_for(left: &Value) -> u64
     ensures { result ≡ part_for (tree_of left.now) }
 {
@@ -149,7 +149,7 @@ fn part_for(left: &Value) -> u64
     }
 }
 
-/// The whole number that a value is, if it is one.
+/// Returns the whole number of a value, if it is one.
 fn number_of(value: &Value) -> Option<i64>
     ensures { result ≡ option_and_then to_integer (as_scalar (tree_of value.now)) }
 {
@@ -159,7 +159,7 @@ fn number_of(value: &Value) -> Option<i64>
     }
 }
 
-/// The turn of a `stock`.
+/// Returns the turn of a `stock`.
 fn stock_turn(progress: &BlockProgress) -> Turn
     ensures { turn_of result ≡ stock_turn (library.progress_of progress.now) }
 {
@@ -169,7 +169,7 @@ fn stock_turn(progress: &BlockProgress) -> Turn
     }
 }
 
-/// A text, twice.
+/// Returns a text, twice.
 fn twice(alloc: Global, text: &str) -> Result<String, AllocError>
     ensures { IfOk result (λ both. string_bytes both ≡ text.now ++ text.now) }
 {

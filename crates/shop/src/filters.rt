@@ -1,4 +1,4 @@
-//! The shop's own filter, beside the standard ones.
+//! The shop's own filter, in addition to the standard ones.
 ghost use Rattle.shop.specs.meaning.Filters.{quoted};
 
 use liquid_core::Error;

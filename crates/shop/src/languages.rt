@@ -10,10 +10,11 @@ use liquid_tags::{Blocks, Tags};
 use std::alloc::{AllocError, Global};
 use std_filters::filters_beside;
 
-/// The standard filters and `quoted`, tags and blocks of the library, the tag `badge` and the block `stock`.
+/// The standard filters and `quoted`, the tags and blocks of the library, the tag `badge` and the blocks `stock` and
+/// `twice`.
 pub type ShopLanguage = Language<ShopFilters, ShopTags, ShopBlocks>;
 
-/// The plug-ins, each under its name.
+/// Returns the plug-ins, each under its name.
 pub fn language(alloc: Global) -> Result<ShopLanguage, AllocError>
     ensures filters { IfOk result (λ l. l.filters ≡ the_filters) }
     ensures tags { IfOk result (λ l. l.tags ≡ the_tags) }

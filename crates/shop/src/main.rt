@@ -1,4 +1,5 @@
-//! A shop's page: a program of one's own over the engine, the tag library and the standard filters, with a filter, a tag and a block of its own.
+//! A shop's page: an example program over the engine, the tag library and the standard filters, with a filter, a tag
+//! and blocks of its own.
 #![tactic(auto)]
 
 pub mod block_plugins;
@@ -17,13 +18,13 @@ use std::alloc::Global;
 use std::io::{self, Write};
 use std::process::ExitCode;
 
-/// Two reviews of customers: the second one asks for a name of the shop's.
+/// Two reviews of customers: the second one uses a name of the shop's.
 const REVIEWS: [&str; 2] = [
     "<q>{{ item | upcase | quoted }} is fine, says {{ visitor }}.</q>\n",
     "<q>They pay {{ shop.margin }} for it.</q>\n",
 ];
 
-/// Writes the page, and each review behind it. What a review is refused by stands in its place.
+/// Writes the page, and each review after it. The error of a review is written in its place.
 fn write_all<W: Write>(alloc: Global, out: &mut W) -> Result<(), Error> {
     let mut sink = WriterSink::new(out);
     let mut shop = Shop::open(alloc)?;

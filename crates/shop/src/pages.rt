@@ -11,7 +11,7 @@ use liquid_core::{Error, Sink, render_source};
 use std::alloc::{AllocError, Global};
 use std::rc::Rc;
 
-/// What the shop sells, and what customers are not to see.
+/// What the shop sells, and what customers must not see.
 const GOODS: &str = r#"{
     "shop": {"name": "Field shop", "margin": 40},
     "goods": [
@@ -40,7 +40,7 @@ pub struct Shop {
 }
 
 impl Shop {
-    /// A shop over its goods and its partials.
+    /// Opens a shop with its goods and its partials.
     pub fn open(alloc: Global) -> Result<Shop, Error> {
         let goods = goods(alloc)?;
         let language = Rc::new(alloc, language(alloc)?)?;
@@ -75,7 +75,7 @@ impl Shop {
     }
 }
 
-/// Writes a review. Where it is refused, what it is refused by stands behind what it wrote.
+/// Writes a review. If it has an error, the error follows what the review wrote.
 pub fn write_review<K: Sink>(
     alloc: Global,
     shop: &mut Shop,
@@ -94,7 +94,7 @@ pub fn write_review<K: Sink>(
     }
 }
 
-/// What a review may show.
+/// Returns what a review may show.
 fn visit(alloc: Global) -> Result<Object, AllocError> {
     let mut names = Object::new(alloc);
     let visitor = Value::scalar(String::from_str(alloc, "Ada")?);

@@ -56,7 +56,7 @@ impl<F: ParseFilter> ParseTag<F> for ShopTags {
     }
 }
 
-/// The node of a `badge`.
+/// Returns the node of a `badge`.
 fn parse_badge<X: Filter>(alloc: Global, tokens: TagTokenIter<'_>) -> Result<ShopTag<X>, Error>
     ensures { (ts : Tokens) → AreTokens tokens.entry ts → Gives (tag_of X.shape) result (badge_given ts) }
 {
@@ -70,7 +70,7 @@ fn parse_badge<X: Filter>(alloc: Global, tokens: TagTokenIter<'_>) -> Result<Sho
     }
 }
 
-/// This, where no token is left.
+/// Returns this, if no token is left.
 pub(crate) fn alone<N: Meant + Drop>(
     alloc: Global,
     tokens: TagTokenIter<'_>,

@@ -16,7 +16,7 @@ use liquid_tags::TagNode;
 use liquid_tags::tags::TagShape;
 use std::alloc::{AllocError, Global};
 
-/// What a tag of the shop's language is made to, over filters `X`.
+/// What a tag of the shop's language is made into, over filters `X`.
 #[derive(Drop)]
 pub enum ShopTag<X> {
     /// A tag of the library.
@@ -25,7 +25,7 @@ pub enum ShopTag<X> {
     Badge(Box<Expression>),
 }
 
-/// Stands for the shape of such a tag, over filters of shape `S`.
+/// Marks the shape of such a tag, over filters of shape `S`.
 pub enum ShopTagShape<S> {
     Library(TagShape<S>),
     Badge(ExpressionMark),
@@ -76,7 +76,7 @@ impl<X: Filter, V: Fresh> Discreet<V> for ShopTag<X> {
     ghost hides = { tags_hide X.means };
 }
 
-/// The turn that writes a value in brackets.
+/// Returns the turn that writes a value in brackets.
 fn badge_turn<R: Runtime>(alloc: Global, value: &Expression, runtime: &R) -> Result<Turn, Error>
     ensures { Gives turn_of result (badge_turn (evaluate (R.view runtime.now) (expression_of value.now))) }
 {
@@ -86,7 +86,7 @@ fn badge_turn<R: Runtime>(alloc: Global, value: &Expression, runtime: &R) -> Res
     }
 }
 
-/// The text of a value in brackets.
+/// Returns the text of a value in brackets.
 fn badged(alloc: Global, value: &Value) -> Result<String, AllocError>
     ensures { IfOk result (λ text. string_bytes text ≡ badged (tree_of value.now)) }
 {

@@ -8,7 +8,7 @@ use std::alloc::Global;
 use std::test::Fail;
 use tests_lines::Line;
 
-/// What a text writes where `left` has a value, and the refusal behind it.
+/// Returns what a text writes if `left` has a value, and the error after it.
 fn written(alloc: Global, text: &str, left: i64) -> Result<String, Error> {
     let language = language(alloc)?;
     let mut names = Object::new(alloc);
@@ -25,7 +25,7 @@ fn written(alloc: Global, text: &str, left: i64) -> Result<String, Error> {
     Ok(all)
 }
 
-/// A text, what `left` is, and what is written.
+/// A text, the value of `left`, and what is written.
 const ROWS: &str = r#"["{{ 'rain' | upcase }}", 1, "RAIN"]
 ["{{ left | quoted }}", 12, "\"12\""]
 ["{{ 'a' | quoted | size }}", 1, "3"]

@@ -94,12 +94,12 @@ each_second z n is h =
       (omega (arith, signed_arith, is, day.1, clock.1), clock.2, refl),
     )
 
--- how many seconds a number is after the first one
+-- the number of seconds that a number is after the first one
 from_first : (z : ℤ) → neg_ℤ (pos 377_705_116_800) ≤ℤ z → (n : ℕ) × (z +ℤ pos 377_705_116_800 ≡ pos n)
 from_first (pos a) h = (a + 377_705_116_800, omega (arith, signed_arith))
 from_first (negsuc a) h = (377_705_116_800 - suc a, omega (arith, signed_arith))
 
--- whole seconds since 1970 are those of a date time, where the years have them
+-- whole seconds since 1970 are those of a date time, if the years have them
 pub unix_decided : (z : ℤ) → Decided (IsUnixTime z)
 unix_decided z = by_cases (both (at_most_z (neg_ℤ (pos 377_705_116_800)) z) (at_most_z z (pos 253_402_300_799)))
   where

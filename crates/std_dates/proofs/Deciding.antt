@@ -1,4 +1,4 @@
--- Facts that hold or not, and values that there are or not.
+-- Facts that are true or not, and values that exist or not.
 use Rattle.std.proofs.Common.{◌≡◌, ◌⊎◌, inl, inr, ℕ, ◌^◌, ◌<◌, ◌≤◌, Bool, true, false, List, [], ◌∷◌, length, refl, arith, ℤ, pos, neg_ℤ, ◌-◌}
 use Rattle.std.specs.Int.{w64}
 use Rattle.std.specs.Prelude.{FitsSigned, ◌≤ℤ◌, ◌<ℤ◌}
@@ -11,7 +11,7 @@ use Rattle.std.proofs.lemmas.Slice.Eq.{bytes_eq-Decides}
 use Rattle.jiff_core.proofs.SignedLemmas.{signed_arith}
 use Rattle.liquid_dates.specs.meaning.DateText.{first}
 
--- a fact holds or not
+-- a fact is true or not
 abbrev pub Either : Type 0 → Type 0
 Either P = P ⊎ (¬ P)
 

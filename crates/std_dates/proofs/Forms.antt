@@ -12,7 +12,7 @@ use Rattle.liquid_dates.proofs.TimedLemmas.{offset_reads, timed_dashed_reads, ti
 use Rattle.std_dates.proofs.Deciding.{Decided, same_decided, first_decided}
 use Rattle.std_dates.proofs.Parts.{IsOn, on_decided, IsAt, at_decided, of_parts}
 
--- a text is of the form of a value that stands for this
+-- a text has the form of a value that means this
 abbrev Written : {V A : Type 0} → Form V → (V → A → Type 0) → List ℕ → A → Type 0
 Written {V = V} F Is text a = (v : V) × F text v × Is v a
 
@@ -173,7 +173,7 @@ fraction_time_decided text =
     (λ dt h. (((((civil_date dt).year, ((civil_date dt).month, (civil_date dt).day)), (hms dt.local, nanosecond dt)), offset_seconds dt), h, here dt))
     (timed_decided timed_fraction timed_fraction_at timed_fraction_reads exactly exact_made text)
 
--- with a weekday, which is any
+-- with a weekday, which may be any
 abbrev Named : Type 0
 Named = ℕ × (ℕ × (ℕ × ((ℕ × (ℕ × ℕ)) × ℤ)))
 

@@ -1,4 +1,4 @@
--- A value stands for one moment, or for none.
+-- A value means one moment, or none.
 use Rattle.std.proofs.Common.{◌≡◌, ◌≢◌, inl, inr, ℕ, List, [], refl, sym, ap, ◌∙◌, pos, Option, Some, None, map, arith}
 use Rattle.std.specs.Prelude.{codes, FitsSigned}
 use Rattle.std.specs.Char.{to_ascii_lowercase}
@@ -139,7 +139,7 @@ text_at_once bytes now a b (inr (none, _)) (inl k) = absurd (none b k)
 text_at_once bytes now a b (inr (_, (c, is, at))) (inr (_, (d, is₂, at₂))) =
     midnight_once c d a b (date_text_once bytes now c d is is₂) at at₂
 
--- what is not `now` or `today` stands for the same at each moment
+-- a text other than `now` and `today` means the same at each moment
 date_time_anywhen : (bytes : List ℕ) (now then dt : DateTime) → ¬ (IsNow bytes) → IsDateTimeText bytes now dt → IsDateTimeText bytes then dt
 date_time_anywhen bytes now then dt other (full, inl (word, _)) = absurd (other word)
 date_time_anywhen bytes now then dt other (full, inr h) = (full, inr h)

@@ -57,7 +57,7 @@ pub record IsAt (y : ℤ) (m d hour minute second nano : ℕ) (z : ℤ) (dt : Da
   pub of_nano : nanosecond dt ≡ nano
   pub of_offset : offset_seconds dt ≡ z
 
--- what holds of the parts holds of those of the date time
+-- a property of the parts is one of the parts of the date time
 moved : (P : ℤ → ℕ → ℕ → ℕ → ℕ → ℕ → ℕ → ℤ → Type 0) (y₁ y₂ : ℤ) (m₁ m₂ d₁ d₂ h₁ h₂ i₁ i₂ s₁ s₂ n₁ n₂ : ℕ) (z₁ z₂ : ℤ) → y₁ ≡ y₂ → m₁ ≡ m₂ → d₁ ≡ d₂ → h₁ ≡ h₂ → i₁ ≡ i₂ → s₁ ≡ s₂ → n₁ ≡ n₂ → z₁ ≡ z₂ → P y₂ m₂ d₂ h₂ i₂ s₂ n₂ z₂ → P y₁ m₁ d₁ h₁ i₁ s₁ n₁ z₁
 moved P y₁ y₂ m₁ m₂ d₁ d₂ h₁ h₂ i₁ i₂ s₁ s₂ n₁ n₂ z₁ z₂ y m d h i s n z p = rw (y, m, d, h, i, s, n, z) p
 
@@ -80,7 +80,7 @@ at_decided y m d hour minute second nano z = by_cases (on_decided y m d) (is_clo
     by_cases (inl _) (inr fails) _ = inr (λ dt is. fails (clocked hour minute second nano (civil_time dt) is.of_hour is.of_minute is.of_second is.of_nano))
     by_cases (inr fails) _ _ = inr (λ dt is. fails (civil_date dt) is.of_date)
 
--- what has the same parts is the same
+-- two with the same parts are the same
 date_again : (y : ℤ) (m d : ℕ) (h k : IsCivilDate y m d) → date_of y m d h ≡ date_of y m d k
 date_again y m d h k = ap (date_of y m d) (prop h k)
   where

@@ -1,4 +1,4 @@
-//! Moments: the date times that values stand for. The filter `date` prints them.
+//! Moments: the date times that values mean. The filter `date` prints them.
 #![tactic(auto)]
 
 pub mod errors;

@@ -1,4 +1,4 @@
-//! The moment that a value stands for.
+//! The moment that a value means.
 ghost use Rattle.std.specs.Prelude.{◌≡◌, ◌↔◌, ℤ, IfSome, IfNone, IsSome, IsTrue, string_bytes};
 ghost use Rattle.jiff_core.specs.Calendar.{IsWithin};
 ghost use Rattle.jiff_core.specs.Timestamp.{nanos_of_seconds};
@@ -12,10 +12,11 @@ use liquid_dates::{Date, DateTime};
 use liquid_scalar::{Scalar, ScalarOf};
 use liquid_value::Value;
 
-/// Returns the date time that a value stands for, if there is one.
+/// Returns the date time that a value means, if there is one.
 ///
-/// A date time stands for itself, a date for its midnight at offset 0, and a number for so many seconds since 1970. A text
-/// stands for the date time that it writes, or else for the date. `now` and `today` are the moment that is given, if one is.
+/// A date time means itself, a date its midnight at offset 0, and a number that many seconds since 1970. A text means
+/// the date time that it writes, otherwise the date that it writes. `now` and `today` are the moment that is given, if
+/// one is.
 pub fn moment_of(value: &Value, now: Option<DateTime>) -> Option<DateTime>
     ensures fits { IfSome result (λ dt. IsMomentOf now (tree_of value.now) dt) }
     ensures none { IfNone result ((dt : DateTime) → ¬ (IsMomentOf now (tree_of value.now) dt)) }
@@ -53,7 +54,7 @@ fn moment_of_text(text: &str, now: Option<DateTime>) -> Option<DateTime>
     }
 }
 
-/// Returns the date time that a text stands for at each moment.
+/// Returns the date time that a text means at each moment.
 fn text_at_any_moment(text: &str) -> Option<DateTime>
     requires { ¬ (IsNow text.now) }
     ensures fits { IfSome result (λ dt. (now : DateTime) → IsTextAt now text.now dt) }
@@ -72,7 +73,7 @@ fn epoch() -> Option<DateTime>
     }
 }
 
-/// Returns the date time that a text writes, or else midnight of the date that it writes.
+/// Returns the date time that a text writes, otherwise midnight of the date that it writes.
 fn text_at(text: &str, now: &DateTime) -> Option<DateTime>
     ensures fits { IfSome result (λ dt. IsTextAt now.now text.now dt) }
     ensures none { IfNone result ((dt : DateTime) → ¬ (IsTextAt now.now text.now dt)) }
@@ -86,7 +87,7 @@ fn text_at(text: &str, now: &DateTime) -> Option<DateTime>
     }
 }
 
-/// Returns whether a text is `now` or `today`, in any case and between white space.
+/// Returns `true` if a text is `now` or `today`, in any case and between white space.
 fn is_now(text: &str) -> bool
     ensures { IsTrue result ↔ IsNow text.now }
 {
@@ -105,7 +106,7 @@ fn midnight(date: Date) -> Option<DateTime>
     }
 }
 
-/// Returns the date time of so many seconds since 1970 at offset 0, if the years have it.
+/// Returns the date time of that many seconds since 1970 at offset 0, if the years have it.
 fn at_unix_seconds(seconds: i64) -> Option<DateTime>
     ensures found { IfSome result (λ dt. IsUnixTime seconds dt) }
     ensures none { IfNone result ((dt : DateTime) → ¬ (IsUnixTime seconds dt)) }

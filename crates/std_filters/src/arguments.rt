@@ -13,7 +13,7 @@ use liquid_runtime::Runtime;
 use liquid_value::{Value, ValueCow};
 use std::alloc::Global;
 
-/// The values of a filter's arguments: those by place, and those by keyword.
+/// The values of a filter's arguments: the positional ones and those with a keyword.
 #[derive(Clone, Copy)]
 pub struct CallArguments<'c> {
     pub positional: &'c [ValueCow<'c>],
@@ -42,7 +42,7 @@ fn find_keyword<'v>(given: &'v [(&str, ValueCow<'_>)], name: &str) -> Option<&'v
     }
 }
 
-/// Returns what the expressions come to, from left to right, or the first error.
+/// Returns the values of the expressions, from left to right, or the first error.
 pub(crate) fn evaluate_all<'c, R: Runtime>(
     alloc: Global,
     expressions: &'c Vec<Expression>,
@@ -57,7 +57,7 @@ pub(crate) fn evaluate_all<'c, R: Runtime>(
     Ok(values)
 }
 
-/// Returns what the expressions come to, each under its keyword, from left to right, or the first error.
+/// Returns the values of the expressions, each under its keyword, from left to right, or the first error.
 pub(crate) fn evaluate_named<'c, R: Runtime>(
     alloc: Global,
     expressions: &'c Vec<(String, Expression)>,

@@ -1,4 +1,4 @@
-//! The kinds of a library and a host's own, as kinds of one table.
+//! The kinds of a library and a host's own kinds, as kinds of one table.
 ghost use Rattle.std_filters.specs.meaning.Registered.{sense_beside};
 
 use crate::arguments::CallArguments;

@@ -25,7 +25,7 @@ pub struct FilterCall<K> {
     pub keyword: Vec<(String, Expression)>,
 }
 
-/// Stands for the shape of a call.
+/// Marks the shape of a call.
 pub struct CallShape<K> {
     pub kind: K,
     pub positional: ListOf<ExpressionMark>,
@@ -56,7 +56,7 @@ impl<K: FilterKind> Filter for FilterCall<K> {
     }
 }
 
-/// Returns what a call makes of the input. One argument, and none, take no list.
+/// Returns what a call makes of the input. Calls with one argument or none need no list.
 fn answer<K: FilterKind, R: Runtime>(
     call: &FilterCall<K>,
     alloc: Global,

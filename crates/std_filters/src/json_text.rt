@@ -55,7 +55,7 @@ fn push_listed(alloc: Global, items: &Array, out: &mut String) -> Result<(), All
     Ok(())
 }
 
-/// Appends an item, with a comma before it where it is a later one.
+/// Appends an item, with a comma before it if it is not the first.
 #[cycle(json)]
 fn push_item(alloc: Global, later: bool, item: &Value, out: &mut String) -> Result<(), AllocError>
     ensures { OnOk result (string_bytes out.new ≡ string_bytes out.old ++ (comma later ++ json_text (tree_of item.now))) }
@@ -85,7 +85,7 @@ fn push_entries(alloc: Global, members: &Object, out: &mut String) -> Result<(),
     Ok(())
 }
 
-/// Appends a member, with a comma before it where it is a later one.
+/// Appends a member, with a comma before it if it is not the first.
 #[cycle(json)]
 fn push_member(
     alloc: Global,

@@ -1,4 +1,5 @@
-//! The standard filters, by a table: each has a name, parameters and a function of values. A host's own filters are rows beside them.
+//! The standard filters, by a table: each has a name, parameters and a function of values. A host adds its own filters
+//! as further rows.
 #![tactic(auto)]
 
 pub mod arguments;

@@ -1,4 +1,4 @@
-//! Kinds of filters as plug-ins, which make calls of arguments.
+//! Kinds of filters as plug-ins, which make calls from arguments.
 ghost use Rattle.std.specs.Prelude.{◌≡◌, IfOk, length, map};
 ghost use Rattle.std_filters.specs.meaning.Calls.{accepts, call_made, is_among, is_given, named_expression, required, takes, takes_keywords};
 ghost use Rattle.liquid_plugins.specs.meaning.ArgumentsOf.{arguments_of};
@@ -61,7 +61,7 @@ impl<K: FilterKind> ParseFilter for FilterPlugin<K> {
     }
 }
 
-/// Returns whether the filter takes these arguments.
+/// Returns `true` if the filter takes these arguments.
 fn accepts<K: FilterKind>(kind: &K, arguments: &FilterArguments<'_>) -> bool
     ensures { result ≡ accepts (K.sense kind.now) (arguments_of arguments.now) }
 {
@@ -76,7 +76,7 @@ fn argument_count(arguments: &Vec<Expression>) -> usize
     arguments.len()
 }
 
-/// Returns whether a filter of these parameters takes as many arguments by place.
+/// Returns `true` if a filter with these parameters takes that many positional arguments.
 fn takes(parameters: &[ParameterReflection], count: usize) -> bool
     ensures { result ≡ takes (map (λ p. p.is_optional) parameters.now) count }
 {
@@ -96,7 +96,7 @@ fn required(parameters: &[ParameterReflection]) -> usize
     count
 }
 
-/// Returns whether each argument's name is a keyword, and none is given twice.
+/// Returns `true` if each argument's name is a keyword, and none is given twice.
 fn takes_keywords(keywords: &[ParameterReflection], given: &[(&str, Expression)]) -> bool
     ensures { result ≡ takes_keywords (map (λ p. p.name.now) keywords.now) (map (λ k. (k.0.now, expression_of k.1)) given.now) }
 {

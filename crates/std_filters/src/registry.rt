@@ -16,7 +16,7 @@ use liquid_dates::DateTime;
 use liquid_plugins::PluginRegistry;
 use std::alloc::{AllocError, Global};
 
-/// All standard filters but `date`.
+/// All standard filters except `date`.
 const TIMELESS_KINDS: [StdKind; 53] = [
     StdKind::Texts(TextKind::Append),
     StdKind::Texts(TextKind::Base64Decode),
@@ -73,7 +73,8 @@ const TIMELESS_KINDS: [StdKind; 53] = [
     StdKind::Values(ValueKind::Size),
 ];
 
-/// Returns the standard filters. To `date`, the texts `now` and `today` are the moment that is given, and no dates without one.
+/// Returns the standard filters. For `date`, the texts `now` and `today` are the moment that is given, and not dates
+/// without one.
 pub fn filters(
     alloc: Global,
     now: Option<DateTime>,
@@ -104,7 +105,7 @@ pub fn filters_beside<O: FilterKind>(
     Ok(filters)
 }
 
-/// Puts a library's filters under their names, in order.
+/// Registers a library's filters under their names, in order.
 fn register_library<L: FilterKind, O: FilterKind>(
     filters: &mut PluginRegistry<FilterPlugin<Beside<L, O>>>,
     kinds: &[L],
@@ -117,7 +118,7 @@ fn register_library<L: FilterKind, O: FilterKind>(
     Ok(())
 }
 
-/// Puts a host's own filters under their names, in order.
+/// Registers a host's own filters under their names, in order.
 fn register_own<L: FilterKind, O: FilterKind>(
     filters: &mut PluginRegistry<FilterPlugin<Beside<L, O>>>,
     kinds: &[O],
@@ -130,7 +131,7 @@ fn register_own<L: FilterKind, O: FilterKind>(
     Ok(())
 }
 
-/// Puts the filter under its name, in place of any other there.
+/// Registers the filter under its name, in place of any other there.
 pub fn register<K: FilterKind>(
     filters: &mut PluginRegistry<FilterPlugin<K>>,
     kind: K,
@@ -141,7 +142,7 @@ pub fn register<K: FilterKind>(
     Ok(())
 }
 
-/// Puts the filters under their names, in order.
+/// Registers the filters under their names, in order.
 pub fn register_all<K: FilterKind>(
     filters: &mut PluginRegistry<FilterPlugin<K>>,
     kinds: &[K],

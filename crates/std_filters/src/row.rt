@@ -1,4 +1,4 @@
-//! Kinds of filters: what each says of itself, and what it answers.
+//! Kinds of filters: what each says about itself, and what it returns.
 ghost use Rattle.std.specs.Prelude.{◌≡◌, []};
 ghost use Rattle.liquid_error.specs.meaning.Told.{Gives};
 ghost use Rattle.liquid_value.specs.meaning.View.{view as tree_of};
@@ -13,9 +13,9 @@ use liquid_plugins::ParameterReflection;
 use liquid_value::Value;
 use std::alloc::Global;
 
-/// What a filter says of itself: its name, what it does, and its parameters by place and by keyword.
+/// What a filter says about itself: its name, what it does, its positional parameters and its keywords.
 ///
-/// The parameters are what it takes, too: at most as many arguments as it has parameters by place, at
+/// The parameters also decide what the filter takes: at most as many arguments as it has positional parameters, at
 /// least those that are not optional, and each keyword at most once.
 #[derive(Debug, Clone, Copy)]
 pub struct FilterRow {
@@ -49,10 +49,10 @@ impl FilterRow {
 ///
 /// It sees no names, so globals that are hidden from a template are hidden from it too.
 pub trait FilterKind: Clone + Copy + Drop {
-    // its name, what it takes, and what it answers
+    // its name, what it takes, and what it returns
     ghost sense: { Self → FilterSense };
 
-    /// Returns what the filter says of itself.
+    /// Returns what the filter says about itself.
     fn row(&self) -> FilterRow
         ensures { IsRow (sense self.now) result };
 

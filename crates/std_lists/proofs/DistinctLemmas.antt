@@ -1,4 +1,4 @@
--- The entries of which no key was seen.
+-- The entries whose key was not seen.
 use Rattle.std.proofs.Common.{◌≡◌, Bool, true, false, not, ◌&&◌, ◌||◌, cond, List, [], ◌∷◌, filter, ◌++◌, map, append_assoc, refl, sym, ap, ◌∙◌, inl, inr}
 use Rattle.std.specs.List.{list_any}
 use Rattle.std.specs.Borrow.{Bor}
@@ -16,7 +16,7 @@ use Rattle.std_lists.specs.meaning.Choices.{distinct, items_in}
 abbrev pub is_seen : List (Bor Value) → Tree → Bool
 is_seen keys t = list_any (λ r. same_value t (view r.now)) keys
 
--- the entries of which no key was seen
+-- the entries whose key was not seen
 abbrev pub unseen : List (Bor Value) → List (Tree × Tree) → List (Tree × Tree)
 unseen keys es = filter (λ e. not (is_seen keys e.0)) es
 
@@ -39,7 +39,7 @@ neither : (a b : Bool) → not (a || b) ≡ (not a && not b)
 neither true b = refl
 neither false b = refl
 
--- what is the same as a key that was seen was seen too
+-- a key that is the same as one that was seen was seen, too
 is_seen-alike : (keys : List (Bor Value)) (t u : Tree) → same_value t u ≡ true → is_seen keys t ≡ is_seen keys u
 is_seen-alike keys t u same = any_alike _ _ (λ r. same_value_equiv.congr t u (view r.now) same) keys
 
@@ -49,7 +49,7 @@ seen_without keys t u seen = elim (cases_Bool (same_value t u)) [
   | inr other ↦ sym (ap (λ b. not b && not (is_seen keys u)) other)
 ]
 
--- an entry with a key that was seen is left out, and takes no other with it
+-- an entry with a key that was seen is left out, and no other with it
 pub unseen-old : (keys : List (Bor Value)) (e : Tree × Tree) (es : List (Tree × Tree)) → is_seen keys e.0 ≡ true → unseen keys (distinct (e ∷ es)) ≡ unseen keys (distinct es)
 unseen-old keys e es seen =
     cond-false _ _ _ (ap not seen)
@@ -79,7 +79,7 @@ kept-new kept after keys more k e es all pushed moved key new so_far =
     ap (λ l. l ++ items_in (unseen more (distinct es))) pushed ∙ append_assoc kept (e.1 ∷ []) _
     ∙ ap (λ l. kept ++ items_in l) (sym (unseen-new keys more k e es moved key new)) ∙ so_far
 
--- an entry with a key that was seen is passed over
+-- an entry with a key that was seen is skipped
 pub kept-old : (kept : List Tree) (keys more : List (Bor Value)) (e : Tree × Tree) (es : List (Tree × Tree)) (all : List Tree) → more ≡ keys → is_seen keys e.0 ≡ true → kept ++ items_in (unseen keys (distinct (e ∷ es))) ≡ all → kept ++ items_in (unseen more (distinct es)) ≡ all
 kept-old kept keys more e es all same seen so_far =
     ap (λ l. kept ++ items_in (unseen l (distinct es))) same ∙ ap (λ l. kept ++ items_in l) (sym (unseen-old keys e es seen)) ∙ so_far

@@ -10,7 +10,7 @@ use Rattle.liquid_value.specs.meaning.Tree.{Tree}
 abbrev pub after : List (Tree × Tree) → Result (List (Tree × Tree)) Refusal → Result (List (Tree × Tree)) Refusal
 after front r = ok_then r (λ es. Ok (front ++ es))
 
--- a sum that is added to what was summed up
+-- a sum that is added to the sum so far
 abbrev pub added : ℤ → Result ℤ Refusal → Result ℤ Refusal
 added sum r = ok_then r (λ rest. Ok (sum +ℤ rest))
 
@@ -22,7 +22,7 @@ map-append : {A B : Type 0} (f : A → B) (xs ys : List A) → map f (xs ++ ys) 
 map-append f [] ys = refl
 map-append f (x ∷ xs) ys = ap (λ l. f x ∷ l) (map-append f xs ys)
 
--- a reversed list is seen as what is seen of it, reversed
+-- the meaning of a reversed list is the reversed meaning of the list
 pub map_reverse : {A B : Type 0} (f : A → B) (xs : List A) → map f (reverse xs) ≡ reverse (map f xs)
 map_reverse f [] = refl
 map_reverse f (x ∷ xs) =

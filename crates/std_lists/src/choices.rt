@@ -33,7 +33,7 @@ pub fn map(alloc: Global, input: &Value, arguments: &[ValueCow<'_>]) -> Result<V
     }
 }
 
-/// Returns the items that are not nil, or of which the property that the argument names is not nil.
+/// Returns the items that are not nil, or whose property with the argument's name is not nil.
 pub fn compact(alloc: Global, input: &Value, arguments: &[ValueCow<'_>]) -> Result<Value, Error>
     ensures { Gives tree_of result (compacted (tree_of input.now) (map cow_view arguments.now)) }
 {
@@ -41,8 +41,8 @@ pub fn compact(alloc: Global, input: &Value, arguments: &[ValueCow<'_>]) -> Resu
     Ok(with_key(alloc, entries.as_slice())?)
 }
 
-/// Returns the items of which the property that the first argument names is the same as the second argument, or is
-/// truthy where the second one is missing or nil.
+/// Returns the items whose property with the first argument's name is the same as the second argument, or is truthy if
+/// the second one is missing or nil.
 pub fn keep_where(alloc: Global, input: &Value, arguments: &[ValueCow<'_>]) -> Result<Value, Error>
     ensures { Gives tree_of result (where_property (tree_of input.now) (map cow_view arguments.now)) }
 {
@@ -109,7 +109,7 @@ fn with_wanted(alloc: Global, entries: &[Entry<'_>], wanted: &Value) -> Result<V
     Ok(Value::from(kept))
 }
 
-/// Returns the items of which no key is the same as one before.
+/// Returns the items whose key is not the same as one before.
 fn distinct(alloc: Global, entries: &[Entry<'_>]) -> Result<Value, AllocError>
     ensures { IfOk result (λ v. tree_of v ≡ list_of (items_in (distinct (map entry_view entries.now)))) }
 {
@@ -131,7 +131,7 @@ fn push_copy(kept: &mut Array, item: &Value) -> Result<(), AllocError>
     Ok(())
 }
 
-/// Returns whether a property is the one that is wanted, or truthy where nil is wanted.
+/// Returns `true` if a property is the one that is wanted, or is truthy if nil is wanted.
 fn is_wanted(wanted: &Value, key: &Value) -> bool
     ensures { result ≡ is_wanted (tree_of wanted.now) (tree_of key.now) }
 {

@@ -1,4 +1,4 @@
-//! What a filter looks at in an item: the item itself, or a property of it.
+//! What a filter reads of an item: the item itself, or a property of it.
 ghost use Rattle.std.specs.Prelude.{◌≡◌, map, option_map, IfOk};
 ghost use Rattle.std.specs.Cow.{cow_str_bytes};
 ghost use Rattle.liquid_error.specs.meaning.Told.{Gives};

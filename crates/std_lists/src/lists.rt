@@ -18,7 +18,7 @@ use std::alloc::{AllocError, Global};
 use std_values::errors::{array_expected, unexpected_arguments};
 use std_values::items::items;
 
-/// Returns an array's first item, an object's first name and value as an array, and nil of any other value.
+/// Returns an array's first item, an object's first name and value as an array, and nil for any other value.
 pub fn first(alloc: Global, input: &Value) -> Result<Value, Error>
     ensures { Gives tree_of result (Ok (first (tree_of input.now))) }
 {
@@ -29,7 +29,7 @@ pub fn first(alloc: Global, input: &Value) -> Result<Value, Error>
     }
 }
 
-/// Returns an array's last item, and nil of any other value.
+/// Returns an array's last item, and nil for any other value.
 pub fn last(_alloc: Global, input: &Value) -> Result<Value, Error>
     ensures { Gives tree_of result (Ok (last (tree_of input.now))) }
 {
@@ -48,7 +48,7 @@ pub fn reverse(alloc: Global, input: &Value) -> Result<Value, Error>
     Ok(list_of(alloc, items.as_slice())?)
 }
 
-/// Returns the items, and after them those of the argument as they are.
+/// Returns the items, and after them those of the argument, unchanged.
 pub fn concat(alloc: Global, input: &Value, arguments: &[ValueCow<'_>]) -> Result<Value, Error>
     ensures { Gives tree_of result (concat (tree_of input.now) (map cow_view arguments.now)) }
 {

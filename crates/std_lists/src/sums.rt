@@ -17,7 +17,7 @@ use std::borrow::CowStr;
 use std_values::items::items;
 use std_values::numbers::{limited, number};
 
-/// Returns the sum of the items, or of the property that the argument names. Only the sum itself has to fit.
+/// Returns the sum of the items, or of the property that the argument names. Only the sum itself must fit.
 pub fn sum(alloc: Global, input: &Value, arguments: &[ValueCow<'_>]) -> Result<Value, Error>
     ensures { Gives tree_of result (summed (tree_of input.now) (map cow_view arguments.now)) }
 {

@@ -11,7 +11,7 @@ use std::alloc::Global;
 use std::test::Fail;
 use tests_lines::{Line, rows_hold};
 
-/// A filter, its input, its arguments, and the source of what it answers.
+/// A filter, its input, its arguments, and the source of what it returns.
 const ROWS: &str = r#"["first", [[1], 2], [], "[1, ]"]
 ["first", {"b": 1, "a": 2}, [], "[a, 2, ]"]
 ["first", "ab", [], "nil"]
@@ -36,7 +36,7 @@ const ROWS: &str = r#"["first", [[1], 2], [], "[1, ]"]
 ["sum", [9223372036854775807, 1], [], "liquid: Number past its limit\n"]
 ["sum", [{"k": 4}, {"n": 2}], ["k"], "4"]"#;
 
-/// Returns what a filter answers.
+/// Returns the result of a filter.
 fn answered(
     alloc: Global,
     filter: &str,
@@ -67,7 +67,7 @@ fn values_of<'a>(alloc: Global, list: &[Json]) -> Result<Vec<ValueCow<'a>>, Erro
     Ok(values)
 }
 
-/// Returns whether a filter answers what its row says.
+/// Returns `true` if a filter returns what its row says.
 fn is_answered(alloc: Global, row: &Line) -> Result<bool, Fail> {
     let input = to_value(alloc, row.member(1)?)?;
     let arguments = values_of(alloc, row.list(2)?.as_slice())?;

@@ -1,4 +1,4 @@
--- What a division that rounds down leaves.
+-- The remainder of a division that rounds down.
 use Rattle.std.proofs.Common.{◌≡◌, ℕ, ℤ, pos, negsuc, suc, ◌<◌, ◌-ℤ◌, ◌*ℤ◌, true, ap, ◌∙◌, arith}
 use Rattle.std.specs.Prelude.{neg_ℤ}
 use Rattle.std.specs.Int.Signed.{lt_z}
@@ -16,7 +16,7 @@ flipped a q r b e = omega (arith, ints)
 pub floor_remainder-below : (a : ℤ) (b : ℕ) → neg_ℤ (int_rem_euclid (neg_ℤ a) (pos (suc b))) ≡ floor_remainder a (negsuc b)
 floor_remainder-below a b = flipped a _ _ b (euclid_rest (neg_ℤ a) (suc b) (omega arith))
 
--- the same of a divisor that is known to be below 0
+-- the same for a divisor that is known to be below 0
 pub floor_remainder-negated : (a b r : ℤ) → lt_z b (pos 0) ≡ true → r ≡ int_rem_euclid (pos 0 -ℤ a) (pos 0 -ℤ b) → pos 0 -ℤ r ≡ floor_remainder a b
 floor_remainder-negated a (pos b) r low e = grind arith
 floor_remainder-negated a (negsuc b) r low e =

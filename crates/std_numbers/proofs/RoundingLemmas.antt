@@ -8,7 +8,7 @@ use Rattle.std_numbers.specs.meaning.Rounding.{nearest_multiple, rounded, rounde
 pub power_above_0 : (k : ℕ) → 0 < 10 ^ k
 power_above_0 k = omega (arith, one-le-pow k 10 (omega arith))
 
--- a magnitude below half the unit is nearest to none of it
+-- the multiple nearest to a magnitude below half the unit is 0
 nearest_multiple-none : (unit m : ℕ) → 2 * m + 1 < unit → nearest_multiple unit m ≡ 0
 nearest_multiple-none unit m h = grind arith
 

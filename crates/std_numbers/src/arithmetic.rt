@@ -22,7 +22,7 @@ pub fn plus(alloc: Global, input: &Value, arguments: &[ValueCow<'_>]) -> Result<
     limited(alloc, sum(augend, addend))
 }
 
-/// Returns what is left of the input when the argument is taken from it.
+/// Returns the difference of the input and the argument.
 pub fn minus(alloc: Global, input: &Value, arguments: &[ValueCow<'_>]) -> Result<Value, Error>
     ensures { Gives tree_of result (minus (tree_of input.now) (map cow_view arguments.now)) }
 {
@@ -46,7 +46,7 @@ pub fn divided_by(alloc: Global, input: &Value, arguments: &[ValueCow<'_>]) -> R
     limited(alloc, narrow(floor_quotient(dividend, divisor)))
 }
 
-/// Returns what the quotient that is rounded down leaves of the input. It has the sign of the argument.
+/// Returns the remainder of the input for the quotient that is rounded down. It has the sign of the argument.
 pub fn modulo(alloc: Global, input: &Value, arguments: &[ValueCow<'_>]) -> Result<Value, Error>
     ensures { Gives tree_of result (modulo (tree_of input.now) (map cow_view arguments.now)) }
 {
@@ -54,7 +54,7 @@ pub fn modulo(alloc: Global, input: &Value, arguments: &[ValueCow<'_>]) -> Resul
     limited(alloc, narrow(floor_remainder(dividend, divisor)))
 }
 
-/// Returns the greater one of the input and the argument.
+/// Returns the greater of the input and the argument.
 pub fn at_least(alloc: Global, input: &Value, arguments: &[ValueCow<'_>]) -> Result<Value, Error>
     ensures { Gives tree_of result (at_least (tree_of input.now) (map cow_view arguments.now)) }
 {
@@ -62,7 +62,7 @@ pub fn at_least(alloc: Global, input: &Value, arguments: &[ValueCow<'_>]) -> Res
     Ok(Value::Scalar(ScalarOf::Integer(number.max(least))))
 }
 
-/// Returns the lesser one of the input and the argument.
+/// Returns the lesser of the input and the argument.
 pub fn at_most(alloc: Global, input: &Value, arguments: &[ValueCow<'_>]) -> Result<Value, Error>
     ensures { Gives tree_of result (at_most (tree_of input.now) (map cow_view arguments.now)) }
 {

@@ -16,7 +16,7 @@ pub(crate) fn floor_quotient(dividend: i64, divisor: i64) -> i128
     }
 }
 
-/// Returns what the quotient rounded down leaves of the dividend.
+/// Returns the remainder of the dividend for the quotient rounded down.
 pub(crate) fn floor_remainder(dividend: i64, divisor: i64) -> i128
     requires { divisor ≢ pos 0 }
     ensures { result ≡ floor_remainder dividend divisor }

@@ -2,10 +2,10 @@
 ghost use Rattle.std.specs.Prelude.{◌≡◌, pos, ◌^◌, ◌≤◌, ◌<◌};
 ghost use Rattle.std_numbers.specs.meaning.Rounding.{nearest_multiple, rounded, rounded_to};
 
-/// The greatest power of ten of which half is no greater than each number.
+/// The exponent of the greatest power of ten whose half some number reaches.
 const GREATEST_POWER: u64 = 19;
 
-/// Returns the number rounded to so many digits after the point.
+/// Returns the number rounded to that many digits after the point.
 pub(crate) fn rounded(number: i64, digits: i64) -> i128
     ensures { result ≡ rounded number digits }
 {

@@ -39,9 +39,10 @@ pub fn floor(alloc: Global, input: &Value) -> Result<Value, Error>
     Ok(Value::Scalar(ScalarOf::Integer(floor)))
 }
 
-/// Returns the input rounded to as many digits as the argument says: to tens by -1, to hundreds by -2, and so on.
+/// Returns the input rounded to the number of digits that the argument gives: to tens by -1, to hundreds by -2, and so
+/// on.
 ///
-/// A half is rounded away from zero. From 0 digits on, or without an argument, it is the number itself.
+/// A half is rounded away from zero. From 0 digits on, or without an argument, the result is the number itself.
 pub fn round(alloc: Global, input: &Value, arguments: &[ValueCow<'_>]) -> Result<Value, Error>
     ensures { Gives tree_of result (round (tree_of input.now) (map cow_view arguments.now)) }
 {
@@ -50,7 +51,7 @@ pub fn round(alloc: Global, input: &Value, arguments: &[ValueCow<'_>]) -> Result
     limited(alloc, narrow(rounded(number, digits)))
 }
 
-/// Returns how many digits to round to: none, or as many as the argument says.
+/// Returns the number of digits to round to: none, or as many as the argument says.
 fn digits(alloc: Global, arguments: &[ValueCow<'_>]) -> Result<i64, Error>
     ensures { Gives (λ n. n) result (digits (map cow_view arguments.now)) }
 {

@@ -8,7 +8,7 @@ use std::alloc::{AllocError, Global};
 use std::test::Fail;
 use tests_lines::{Line, rows_hold};
 
-/// A filter, its input, its argument, if any, and the text that it answers.
+/// A filter, its input, its argument, if any, and the text that it returns.
 const ROWS: &str = r#"["plus", "41", "1", "42"]
 ["plus", "9223372036854775807", "1", "liquid: Number past its limit\n"]
 ["minus", " 7 ", "x", "liquid: Whole number expected\n  with:\n    found=\"x\"\n"]
@@ -34,7 +34,7 @@ const ROWS: &str = r#"["plus", "41", "1", "42"]
 ["round", "5", "-20", "0"]
 ["round", "5", "2", "5"]"#;
 
-/// Returns what a filter answers.
+/// Returns the result of a filter.
 fn answered(
     alloc: Global,
     filter: &str,
@@ -62,7 +62,7 @@ fn value_of(alloc: Global, text: &str) -> Result<Value, AllocError> {
     Ok(Value::scalar(String::from_str(alloc, text)?))
 }
 
-/// Returns whether a filter answers what its row says.
+/// Returns `true` if a filter returns what its row says.
 fn is_answered(alloc: Global, row: &Line) -> Result<bool, Fail> {
     let input = value_of(alloc, row.text(1)?)?;
     let argument = ValueCow::Owned(value_of(alloc, row.text(2)?)?);

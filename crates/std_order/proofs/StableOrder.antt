@@ -1,4 +1,4 @@
--- A list has one stable order: what a stable sort leaves is what putting in its entries one by one gives.
+-- A list has one stable order: the result of a stable sort is that of inserting its entries one by one.
 use Rattle.std.proofs.Common.{◌≡◌, ℕ, zero, suc, ◌<◌, ◌≤◌, Bool, true, false, not, ◌&&◌, cond, List, [], ◌∷◌, arith}
 use Rattle.std.proofs.Common.{length, get_or, filter, map, refl, sym, ap, ◌∙◌, inl, inr, suc-le-suc, zero-le, add-one}
 use Rattle.std.specs.List.Sorted.{ties, IsPermutation, IsSortedBy, IsStableBy}

@@ -21,8 +21,8 @@ use std_values::errors::without_order;
 
 /// Returns the items in the order of their keys, which are themselves or the property that the argument names.
 ///
-/// Items with a nil key come last, and items whose keys tie stay as they are. An `Err` is that of two keys that are
-/// not scalars of one kind.
+/// Items with a nil key are last, and items whose keys tie stay in their order. Two keys that are not scalars of one
+/// kind are an error.
 pub fn sort(alloc: Global, input: &Value, arguments: &[ValueCow<'_>]) -> Result<Value, Error>
     ensures { Gives tree_of result (sorted (tree_of input.now) (map cow_view arguments.now)) }
 {
@@ -31,9 +31,9 @@ pub fn sort(alloc: Global, input: &Value, arguments: &[ValueCow<'_>]) -> Result<
     Ok(ordered(alloc, entries)?)
 }
 
-/// Returns the items in the order of their keys' texts, where ASCII letters count as those in lower case.
+/// Returns the items in the order of their keys' texts, where ASCII letters count as lower case.
 ///
-/// Items with a nil key come last, and items whose keys tie stay as they are.
+/// Items with a nil key are last, and items whose keys tie stay in their order.
 pub fn sort_natural(
     alloc: Global,
     input: &Value,
@@ -46,7 +46,7 @@ pub fn sort_natural(
     Ok(ordered(alloc, natural)?)
 }
 
-/// Refuses keys that are there and are not all scalars of one kind.
+/// Fails for keys that are not nil and not all scalars of one kind.
 fn check_kinds(alloc: Global, entries: &[Entry<'_>]) -> Result<(), Error>
     ensures { Gives (λ u. u) result (checked (without_kin (present (keys_of (map entry_view entries.now))))) }
 {
@@ -71,7 +71,7 @@ fn present<'e>(alloc: Global, entries: &'e [Entry<'_>]) -> Result<Vec<&'e Value>
     Ok(keys)
 }
 
-/// Returns the first key and the first one that is no scalar of its kind, if there is one.
+/// Returns the first key and the first one that is not a scalar of its kind, if there is one.
 fn without_kin<'k>(keys: &[&'k Value]) -> Option<(&'k Value, &'k Value)>
     ensures { option_map (λ p. (tree_of p.0.now, tree_of p.1.now)) result ≡ without_kin (map (λ r. tree_of r.now) keys.now) }
 {
@@ -92,7 +92,7 @@ fn ordered(alloc: Global, mut entries: Vec<Entry<'_>>) -> Result<Value, AllocErr
     list_of_items(alloc, entries.as_slice())
 }
 
-/// Puts the entries in the order of their keys. Entries whose keys tie stay as they are.
+/// Puts the entries in the order of their keys. Entries whose keys tie stay in their order.
 fn sort_entries(entries: &mut Vec<Entry<'_>>) -> Result<(), AllocError>
     ensures { OnOk result (map entry_view entries.new.items ≡ in_order comes_before (map entry_view entries.old.items)) }
 {
@@ -144,7 +144,7 @@ fn natural_key(alloc: Global, key: &Value) -> Result<Value, AllocError>
     }
 }
 
-/// Returns which of two keys comes first: by their kinds, and in a kind by the order of scalars.
+/// Compares two keys: by their kinds, and in one kind by the order of scalars.
 fn compare_keys(left: &Value, right: &Value) -> Ordering
     ensures { result ≡ key_cmp (tree_of left.now) (tree_of right.now) }
 {
@@ -173,7 +173,7 @@ fn is_nil(value: &Value) -> bool
     matches!(value, Value::Nil)
 }
 
-/// Returns whether two keys are scalars of one kind.
+/// Returns `true` if two keys are scalars of one kind.
 fn one_kind(left: &Value, right: &Value) -> bool
     ensures { result ≡ one_kind (tree_of left.now) (tree_of right.now) }
 {
@@ -183,7 +183,7 @@ fn one_kind(left: &Value, right: &Value) -> bool
     }
 }
 
-/// Returns the place of the key's kind: that of a scalar's, then that of all without an order, and nil last.
+/// Returns the rank of the key's kind: that of a scalar's, then that of all without an order, and nil last.
 fn rank(key: &Value) -> u8
     ensures { result ≡ rank (tree_of key.now) }
 {

@@ -9,7 +9,7 @@ use std::alloc::Global;
 use std::test::Fail;
 use tests_lines::{Line, rows_hold};
 
-/// A filter, its input, its arguments, and the source of what it answers.
+/// A filter, its input, its arguments, and the source of what it returns.
 const ROWS: &str = r#"["sort", [3, null, 1], [], "[1, 3, , ]"]
 ["sort", [{"k": 2, "n": 1}, {"n": 2}, {"k": 1, "n": 3}, {"k": 2, "n": 4}], ["k"], "[k1n3, k2n1, k2n4, n2, ]"]
 ["sort", ["b", "a", "b", 3], [], "liquid: Values without an order\n  with:\n    first=\"b\"\n    second=3\n"]
@@ -18,7 +18,7 @@ const ROWS: &str = r#"["sort", [3, null, 1], [], "[1, 3, , ]"]
 ["sort_natural", [10, 9, "x"], [], "[10, 9, x, ]"]
 ["sort_natural", [1, 2], ["a", "b"], "liquid: Unexpected arguments\n"]"#;
 
-/// Returns what a filter answers.
+/// Returns the result of a filter.
 fn answered(
     alloc: Global,
     filter: &str,
@@ -40,7 +40,7 @@ fn values_of<'a>(alloc: Global, list: &[Json]) -> Result<Vec<ValueCow<'a>>, Erro
     Ok(values)
 }
 
-/// Returns whether a filter answers what its row says.
+/// Returns `true` if a filter returns what its row says.
 fn is_answered(alloc: Global, row: &Line) -> Result<bool, Fail> {
     let input = to_value(alloc, row.member(1)?)?;
     let arguments = values_of(alloc, row.list(2)?.as_slice())?;

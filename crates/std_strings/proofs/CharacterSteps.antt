@@ -14,7 +14,7 @@ use Rattle.std_strings.specs.meaning.Cases.{lowercased, capitalized, capital_fir
 abbrev pub NoGap : Option ℕ → Option ℕ → Option ℕ → Type 0
 NoGap first second third = (first ≡ None → second ≡ None) × (second ≡ None → third ≡ None)
 
--- .. so nothing is left where it has no first character
+-- .. so nothing is left if it has no first character
 pub no_more : (m : _) → NoGap (case_mapping_first m) (case_mapping_second m) (case_mapping_third m) → None ≡ case_mapping_first m → case_mapping_chars m ≡ []
 no_more m gap none =
     let second = gap.0 (sym none) in
@@ -32,7 +32,7 @@ module _ (bs rest : List ℕ) (c : ℕ) (u : IsUtf8 bs) (e : bs ≡ encode_utf8 
   pub encoded_step : map encode_utf8 (chars bs) ≡ encode_utf8 c ∷ map encode_utf8 (chars rest)
   encoded_step = ap (map encode_utf8) (chars_past_char bs rest c u e)
 
--- a text that is cut behind its first character
+-- a text that is cut after its first character
 pub record CutsFirst (bs rest : List ℕ) (c n : ℕ) : Type 0 where
   pub cut : IsCharBoundary bs n
   pub front : take n bs ≡ encode_utf8 c

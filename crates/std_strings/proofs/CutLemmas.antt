@@ -15,7 +15,7 @@ use Rattle.std_strings.specs.meaning.Split.{words}
 use Rattle.std_strings.proofs.PieceLemmas.{join_by_view}
 use Rattle.std_strings.proofs.PlaceLemmas.{after_text}
 
--- the text is cut before what is left after so many characters
+-- the text is cut before what is left after that many characters
 pub record CutsAt (bs back : List ℕ) (n : ℕ) : Type 0 where
   pub fits : length back ≤ length bs
   pub cut : IsCharBoundary bs (length bs - length back)
@@ -35,7 +35,7 @@ cuts_at bs back n u e =
       front = ap (λ k. take k bs) len ∙ ap (take (length front)) split ∙ take-append_seam front back;
     }
 
--- what is left of a list one place further on, and where nothing is left
+-- what is left of a list one place further, and what follows if nothing is left
 pub drop_next : (xs ys : List ℕ) (x i : ℕ) → x ∷ ys ≡ drop i xs → ys ≡ drop (i + 1) xs
 drop_next xs ys x i e = ap (drop 1) e ∙ drop-drop 1 i xs
 
@@ -44,7 +44,7 @@ nothing_later xs i j e le =
     let none : length (drop j xs) ≡ 0 = omega (arith, ap length e, length-drop i xs, length-drop j xs) in
     sym (nil_from_length (drop j xs) none)
 
--- a text that goes on behind its words up to a count
+-- a text that continues after its words up to a count
 pub cut_words : {X : Type 0} (f : X → List ℕ) (xs : List X) (n : ℕ) (ending text : List ℕ) → map f xs ≡ words text
     → true ≡ (ltb n (length xs) || (eqb (length xs) n && not (eqb (length (trim_end text)) (length text))))
     → join_by f (codes " ") (take n xs) ++ ending ≡ truncated_at n ending text
@@ -54,7 +54,7 @@ cut_words f xs n ending text all more =
     ap (λ l. l ++ ending) (join_by_view f (codes " ") (take n xs) ∙ ap (join_by (λ word. word) (codes " ")) (sym (take-map f n xs) ∙ ap (take n) all))
     ∙ sym (cond-true _ _ _ goes)
 
--- the characters of what is left after so many
+-- the characters of what is left after that many
 pub chars_of_rest : (bs : List ℕ) (n : ℕ) → IsUtf8 bs → chars (encode_utf8_all (drop n (chars bs))) ≡ drop n (chars bs)
 chars_of_rest bs n u =
     let rest = encode_utf8_all (drop n (chars bs)) in

@@ -34,7 +34,7 @@ module _ (bs out : List ℕ) (kept at : ℕ) (order : kept ≤ at) (within : at 
       ∙ ap (λ o. escaped (take at bs) ++ unwrap_or o (get_or bs at 0 ∷ [])) some
       ∙ sym (escaped_more bs at within)
 
--- the same with a look at what follows
+-- the same, depending on what follows
 pub needed_is_ascii : (b : ℕ) (others e : List ℕ) → Some e ≡ needed_entity b others → b < 128
 needed_is_ascii b others e is = ⊎_elim
     (λ yes. absurd (cc (sym (cond-true _ _ _ yes) ∙ sym is)))

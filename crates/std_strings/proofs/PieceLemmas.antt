@@ -4,7 +4,7 @@ use Rattle.std.specs.List.{join_by}
 use Rattle.std.proofs.lemmas.List.{map-append}
 use Rattle.std.proofs.lemmas.List.Folds.{flat_map-map}
 
--- a join of what a function gives is a join of the list that it gives
+-- joining what a function gives is joining the list that it gives
 pub join_by_view : {X : Type 0} (f : X → List ℕ) (sep : List ℕ) (xs : List X) → join_by f sep xs ≡ join_by (λ piece. piece) sep (map f xs)
 join_by_view f sep [] = refl
 join_by_view f sep (x ∷ xs) = ap (λ rest. f x ++ rest) (sym (flat_map-map (λ y. sep ++ y) f xs))

@@ -43,7 +43,7 @@ module _ (text opener closer : List ℕ) (at : ℕ) (within : at ≤ length text
   pub no_opener : starts_with nat_eq (drop at text) opener ≡ false → None ≡ option_map (λ n. at + n) (part_len opener closer (drop at text))
   no_opener fails = ap (option_map (λ n. at + n)) (sym (cond-false _ _ _ fails))
 
-  -- what does ends where a search for the closer says
+  -- what does ends where a search for the closer finds it
   searched : starts_with nat_eq (drop at text) opener ≡ true → (r : Option ℕ) → FindsNeedle (drop (at + length opener) text) closer 0 r
       → part_len opener closer (drop at text) ≡ option_map (λ place. length opener + place + length closer) r
   searched begins r found =

@@ -38,7 +38,7 @@ behind_piece : (sep text : List ℕ) (len at : ℕ) (places : List ℕ) → flat
 behind_piece sep text len at [] = append_assoc sep (drop at text) []
 behind_piece sep text len at (p ∷ places) = append_assoc sep (slice_range text at p) _
 
--- a byte more of a piece
+-- one more byte of a piece
 slice_more : (text : List ℕ) (from i : ℕ) → from ≤ i → i < length text → slice_range text from (i + 1) ≡ slice_range text from i ++ (get_or text i 0 ∷ [])
 slice_more text from i h small =
     let count : i + 1 - from ≡ suc (i - from) = omega arith in
@@ -47,7 +47,7 @@ slice_more text from i h small =
     ap (λ k. take k (drop from text)) count ∙ take-suc (drop from text) (i - from) 0 within
     ∙ ap (λ x. slice_range text from i ++ (x ∷ [])) (get_or-drop from text (i - from) 0 ∙ ap (λ k. get_or text k 0) place)
 
--- the byte at a place, swapped, and those behind it
+-- the byte at a place, swapped, and those after it
 swap_at : (c d : ℕ) (text : List ℕ) (i : ℕ) → i < length text → swap c d (get_or text i 0) ∷ map (swap c d) (drop (i + 1) text) ≡ map (swap c d) (drop i text)
 swap_at c d text i small =
     let next : i + 1 ≡ suc i = omega arith in

@@ -60,7 +60,7 @@ pub words_of_white : (bs : List ℕ) → IsUtf8 bs → NoCharPasses is_not_white
 words_of_white bs u none =
     ap (map encode_utf8_all) (ap words_of (sym (chars_from_encodes none.0 bs u none.1)) ∙ ap words_of (sym (append-nil none.0)) ∙ words_behind_gap none.0 [] none.2)
 
--- what a call of `next` says of a word
+-- what a call of `next` says about a word
 pub words_step : (bs w rest : List ℕ) → IsUtf8 bs
     → (gap : List ℕ) × (bs ≡ gap ++ (w ++ rest)) × (0 < length w) × NoCharPasses is_not_whitespace gap × NoCharPasses is_whitespace w × ((more : List ℕ) × EmptyOrStartsWithPassing is_whitespace rest more)
     → IsUtf8 rest × (words bs ≡ w ∷ words rest)

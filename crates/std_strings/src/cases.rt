@@ -6,7 +6,7 @@ ghost use Rattle.std_strings.specs.meaning.Cases.{capitalized, lowercased};
 
 use std::alloc::{AllocError, Global};
 
-/// Returns the text with each character in lower case. A sigma at the end of a word is as any other.
+/// Returns the text with each character in lower case. A sigma at the end of a word is treated as any other.
 pub fn to_lowercase(alloc: Global, text: &str) -> Result<String, AllocError>
     ensures { IfOk result (λ t. string_bytes t ≡ lowercased text.now) }
 {

@@ -23,8 +23,8 @@ pub fn escape(alloc: Global, text: &str) -> Result<String, AllocError>
     Ok(escaped)
 }
 
-/// Returns the text with each of `&`, `<`, `>`, `"` and `'` as its entity, but for an `&` that begins an entity: one that is
-/// followed by ASCII letters and `;`, or by `#`, digits and `;`.
+/// Returns the text with each of `&`, `<`, `>`, `"` and `'` as its entity, except for an `&` that begins an entity: one
+/// that is followed by ASCII letters and `;`, or by `#`, digits and `;`.
 pub fn escape_once(alloc: Global, text: &str) -> Result<String, AllocError>
     ensures { IfOk result (λ t. string_bytes t ≡ escaped_once text.now) }
 {
@@ -41,7 +41,7 @@ pub fn escape_once(alloc: Global, text: &str) -> Result<String, AllocError>
     Ok(escaped)
 }
 
-/// Returns what stands for the byte before those others, where it can't stand for itself and begins no entity.
+/// Returns the entity of the byte before those others, if it has to be escaped and begins no entity.
 fn needed_entity(byte: u8, others: &[u8]) -> Option<&'static str>
     ensures { option_map (λ e. e.now) result ≡ needed_entity byte others.now }
 {
@@ -51,7 +51,7 @@ fn needed_entity(byte: u8, others: &[u8]) -> Option<&'static str>
     entity(byte)
 }
 
-/// Returns whether the bytes are what follows the `&` of an entity.
+/// Returns `true` if the bytes are what follows the `&` of an entity.
 fn goes_on_as_entity(bytes: &[u8]) -> bool
     ensures { result ≡ goes_on_as_entity bytes.now }
 {
@@ -85,7 +85,7 @@ fn digit_count(bytes: &[u8]) -> usize
         .count()
 }
 
-/// Returns what stands for the byte in HTML, where it can't stand for itself.
+/// Returns the entity of the byte in HTML, if it has to be escaped.
 fn entity(byte: u8) -> Option<&'static str>
     ensures { option_map (λ e. e.now) result ≡ entity byte }
 {

@@ -4,7 +4,7 @@ ghost use Rattle.std_strings.specs.meaning.Cases.{lowercased};
 ghost use Rattle.std_strings.specs.meaning.Escape.{escaped, escaped_once};
 ghost use Rattle.std_strings.specs.meaning.Url.{url_decoded, url_encoded};
 
-/// A text that is escaped already is left alone by escaping that leaves entities alone.
+/// Escaping a text that is already escaped, with entities left alone, changes nothing.
 #[tactic(auto, using(crate::proofs::EscapeLemmas::escaped_once_of_escaped))]
 pub fn escaped_is_left_alone()
     ensures { (bytes : List ℕ) → escaped_once (escaped bytes) ≡ escaped bytes }
@@ -15,7 +15,7 @@ pub fn url_is_read_back(text: &str)
     ensures { url_decoded (url_encoded text.now) ≡ Some text.now }
 {}
 
-/// The lower case of two texts in a row is that of the one and that of the other.
+/// The lower case of two texts, joined, is that of the first followed by that of the second.
 pub fn lower_case_is_by_parts(front: &str, back: &str)
     ensures { lowercased (front.now ++ back.now) ≡ lowercased front.now ++ lowercased back.now }
 {}

@@ -44,8 +44,8 @@ pub fn words(alloc: Global, text: &str) -> Result<Vec<&str>, AllocError>
     Ok(words)
 }
 
-/// Returns the words of the text where `separator` is a space, its characters where it is empty, and else the pieces
-/// between its places, but for empty ones at the end.
+/// Returns the words of the text if `separator` is a space, its characters if it is empty, and otherwise the pieces
+/// between its places, without empty ones at the end.
 pub fn split<'t>(alloc: Global, text: &'t str, separator: &str) -> Result<Vec<&'t str>, AllocError>
     ensures { IfOk result (λ v. map (λ p. p.now) v.items ≡ split separator.now text.now) }
 {

@@ -4,7 +4,7 @@ ghost use Rattle.std_strings.specs.meaning.Slices.{count_in, sliced, sliced_at, 
 
 use crate::cuts::{character_count, cut};
 
-/// Returns the characters of the text from a place on, at most so many. A place below 0 counts from the end.
+/// Returns the characters of the text from a place on, at most `count` of them. A place below 0 counts from the end.
 pub fn slice(text: &str, start: i64, count: i64) -> &str
     ensures { result.now ≡ sliced_text start count text.now }
 {
@@ -24,7 +24,7 @@ fn slice_from(text: &str, start: Option<usize>, count: usize) -> &str
     }
 }
 
-/// Returns the items from a place on, at most so many. A place below 0 counts from the end.
+/// Returns the items from a place on, at most `count` of them. A place below 0 counts from the end.
 pub fn slice_items<T>(items: &[T], start: i64, count: i64) -> &[T]
     ensures { result.now ≡ sliced start count items.now }
 {
@@ -43,7 +43,7 @@ fn items_from<T>(items: &[T], start: Option<usize>, count: usize) -> &[T]
     }
 }
 
-/// Returns the place at which a slice of a sequence of that size begins, which may be past its end. Returns `None` where a
+/// Returns the place at which a slice of a sequence of that size begins, which may be past its end. Returns `None` if a
 /// place below 0, which counts from the end, is before the first.
 fn slice_start(size: usize, start: i64) -> Option<usize>
     ensures { result ≡ start_in size start }
@@ -54,7 +54,7 @@ fn slice_start(size: usize, start: i64) -> Option<usize>
     }
 }
 
-/// Returns how many items a slice has at most: none where the count is below 0.
+/// Returns the greatest number of items of a slice, which is 0 if the count is below 0.
 fn slice_count(count: i64) -> usize
     ensures { result ≡ count_in count }
 {

@@ -15,7 +15,7 @@ use std::alloc::{AllocError, Global};
 struct Kind<'k> {
     opener: &'k str,
     closer: &'k str,
-    /// The place after the last one at which the closer begins, or 0 where there is none.
+    /// The place after the last one at which the closer begins, or 0 if there is none.
     end: usize,
 }
 
@@ -66,7 +66,7 @@ fn leave_out(alloc: Global, text: &str, kinds: &[Kind<'_>]) -> Result<String, Al
     Ok(rest)
 }
 
-/// Returns where the part ends that begins at this place, unless the place is in a part that is passed over.
+/// Returns where the part ends that begins at this place, unless the place is in a part that is left out.
 fn end_from(text: &str, kept: usize, at: usize, kinds: &[Kind<'_>]) -> Option<usize>
     requires within { at ≤ length text.now }
     requires kinds { All (FitsText text.now) kinds.now }

@@ -7,7 +7,7 @@ use crate::utf8::text_of_bytes;
 use percent_encoding::{AsciiSet, NON_ALPHANUMERIC, ascii_set, percent_decode, percent_encode};
 use std::alloc::{AllocError, Global};
 
-/// All ASCII but letters, digits, `_`, `.`, `-`, `~` and the space.
+/// All ASCII except letters, digits, `_`, `.`, `-`, `~` and the space.
 pub const ESCAPED: AsciiSet = ascii_set!(
     NON_ALPHANUMERIC
         .remove(b'_')
@@ -17,8 +17,8 @@ pub const ESCAPED: AsciiSet = ascii_set!(
         .remove(b' ')
 );
 
-/// Returns the text as a part of a URL: ASCII letters, digits and `_.-~` are kept, a space is `+`, and each other byte is `%`
-/// and two hexadecimal digits.
+/// Returns the text as a part of a URL: ASCII letters, digits and `_.-~` are kept, a space is `+`, and each other byte
+/// is `%` and two hexadecimal digits.
 pub fn url_encode(alloc: Global, text: &str) -> Result<String, AllocError>
     ensures { IfOk result (λ t. string_bytes t ≡ url_encoded text.now) }
 {
@@ -27,7 +27,8 @@ pub fn url_encode(alloc: Global, text: &str) -> Result<String, AllocError>
     replace(alloc, encoded.as_str(), " ", "+")
 }
 
-/// Returns the text of a part of a URL, or `None` where its bytes are not UTF-8. A `%` without two hexadecimal digits is kept.
+/// Returns the text of a part of a URL, or `None` if its bytes are not UTF-8. A `%` without two hexadecimal digits is
+/// kept.
 pub fn url_decode(alloc: Global, text: &str) -> Result<Option<String>, AllocError>
     ensures { IfOk result (λ o. option_map string_bytes o ≡ url_decoded text.now) }
 {

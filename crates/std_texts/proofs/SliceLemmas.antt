@@ -24,7 +24,7 @@ items_sliced start count xs =
     ∙ ap (λ n. items_of (sliced_at (start_in n start) (count_in count) (map view xs))) (length-map xs view)
     ∙ ap items_of (mapped_at (start_in (length xs) start) (count_in count) xs)
 
--- copies are the same items
+-- copies have the same items
 pub items_copied : (xs ys : List Value) → AllZip (λ v w. view w ≡ view v) xs ys → items_view ys ≡ items_view xs
 items_copied [] [] same = refl
 items_copied [] (y ∷ ys) same = absurd same

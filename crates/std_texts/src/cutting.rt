@@ -15,8 +15,8 @@ use std_strings as strings;
 use std_values::errors::unexpected_arguments;
 use std_values::numbers::whole;
 
-/// Returns the text where it has at most so many characters as the first argument says, or 50. Else returns its first ones
-/// and the ending, the second argument or `...`, which are so many in all where the ending has no more. Nil is kept.
+/// Returns the text if it has at most as many characters as the first argument says, or 50. Otherwise returns its first
+/// ones and the ending, the second argument or `...`, with that many in all if the ending has no more. Nil is kept.
 pub fn truncate(alloc: Global, input: &Value, arguments: &[ValueCow<'_>]) -> Result<Value, Error>
     ensures { Gives tree_of result (truncate (tree_of input.now) (map cow_view arguments.now)) }
 {
@@ -56,8 +56,8 @@ fn truncated(alloc: Global, input: &Value, count: i64, ending: &str) -> Result<V
     }
 }
 
-/// Returns the text where nothing follows the word at the first argument, or at 15. Else returns the words up to that one
-/// with a space between them, and the ending, the second argument or `...`. Nil is kept.
+/// Returns the text if nothing follows the word at the first argument, or at 15. Otherwise returns the words up to that
+/// one with a space between them, and the ending, the second argument or `...`. Nil is kept.
 pub fn truncatewords(
     alloc: Global,
     input: &Value,
@@ -111,8 +111,8 @@ fn words_truncated(
     }
 }
 
-/// Returns the characters of the text, or the items of an array, from the place of the first argument on, as many as the
-/// second argument says, or 1. A place below 0 counts from the end.
+/// Returns the characters of the text, or the items of an array, from the place of the first argument on, as many as
+/// the second argument says, or 1. A place below 0 counts from the end.
 pub fn slice(alloc: Global, input: &Value, arguments: &[ValueCow<'_>]) -> Result<Value, Error>
     ensures { Gives tree_of result (slice (tree_of input.now) (map cow_view arguments.now)) }
 {

@@ -27,7 +27,7 @@ pub fn url_encode(alloc: Global, input: &Value) -> Result<Value, Error>
     }
 }
 
-/// Returns the text of a part of a URL. Nil is kept. An `Err` is that of bytes that are no text.
+/// Returns the text of a part of a URL. Nil is kept. Fails for bytes that are not text.
 pub fn url_decode(alloc: Global, input: &Value) -> Result<Value, Error>
     ensures { Gives tree_of result (url_decoded (tree_of input.now)) }
 {
@@ -52,8 +52,7 @@ pub fn base64_encode(alloc: Global, input: &Value) -> Result<Value, Error>
     Ok(Value::Scalar(ScalarOf::Str(encoded)))
 }
 
-/// Returns the text of which the input is the base64. An `Err` is that of a text that is no base64, or of bytes that are no
-/// text.
+/// Returns the text whose base64 is the input. Fails for a text that is not base64, and for bytes that are not text.
 pub fn base64_decode(alloc: Global, input: &Value) -> Result<Value, Error>
     ensures { Gives tree_of result (base64_decoded (tree_of input.now)) }
 {

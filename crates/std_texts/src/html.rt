@@ -24,7 +24,7 @@ pub fn escape(alloc: Global, input: &Value) -> Result<Value, Error>
     }
 }
 
-/// Returns the text with each of these characters as its entity, but for an `&` that begins an entity. Nil is kept.
+/// Returns the text with each of these characters as its entity, except for an `&` that begins an entity. Nil is kept.
 pub fn escape_once(alloc: Global, input: &Value) -> Result<Value, Error>
     ensures { Gives tree_of result (Ok (html_escaped_once (tree_of input.now))) }
 {

@@ -12,8 +12,8 @@ use std::alloc::{AllocError, Global};
 use std_strings as strings;
 use std_values::errors::unexpected_arguments;
 
-/// Returns the parts of the text: its words where the argument is a space, its characters where that is empty, and else what
-/// is between the places of the argument, but for empty parts at the end.
+/// Returns the parts of the text: its words if the argument is a space, its characters if that is empty, and otherwise
+/// what is between the places of the argument, without empty parts at the end.
 pub fn split(alloc: Global, input: &Value, arguments: &[ValueCow<'_>]) -> Result<Value, Error>
     ensures { Gives tree_of result (split (tree_of input.now) (map cow_view arguments.now)) }
 {

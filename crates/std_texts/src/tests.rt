@@ -12,7 +12,7 @@ use std::alloc::{AllocError, Global};
 use std::test::Fail;
 use tests_lines::{Line, rows_hold};
 
-/// A filter, its input, the source of its answer, or its error, and how many arguments there are, which follow.
+/// A filter, its input, the source of its result, or its error, and the number of arguments, which follow.
 const ROWS: &str = r#"["append", "  abc  ", "\"  abc  o\"", 1, "o"]
 ["append", "a", "liquid: Unexpected arguments\n", 0]
 ["prepend", "b", "\"ab\"", 1, "a"]
@@ -54,7 +54,7 @@ const ROWS: &str = r#"["append", "  abc  ", "\"  abc  o\"", 1, "o"]
 ["base64_decode", "YWI=", "\"ab\"", 0]
 ["base64_decode", "YWJ=", "liquid: Invalid base64\n", 0]"#;
 
-/// Returns what a filter without arguments answers.
+/// Returns the result of a filter without arguments.
 fn answered_alone(alloc: Global, filter: &str, input: &Value) -> Result<Value, Error> {
     match filter {
         "upcase" => upcase(alloc, input),
@@ -76,7 +76,7 @@ fn answered_alone(alloc: Global, filter: &str, input: &Value) -> Result<Value, E
     }
 }
 
-/// Returns what a filter answers.
+/// Returns the result of a filter.
 fn answered(
     alloc: Global,
     filter: &str,
@@ -119,7 +119,7 @@ fn arguments_of(alloc: Global, row: &Line) -> Result<Vec<ValueCow<'static>>, Fai
     Ok(arguments)
 }
 
-/// Returns whether a filter answers what its row says.
+/// Returns `true` if a filter returns what its row says.
 fn is_answered(alloc: Global, row: &Line) -> Result<bool, Fail> {
     let input = value_of(alloc, row.text(1)?)?;
     let arguments = arguments_of(alloc, row)?;

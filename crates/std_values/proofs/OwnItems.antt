@@ -10,6 +10,6 @@ pub own_items_of : (ts : List Tree) → own_items (items_of ts) ≡ ts
 own_items_of [] = refl
 own_items_of (t ∷ ts) = ap (λ us. t ∷ us) (own_items_of ts)
 
--- the own items of a list of values are what each means
+-- the own items of the view of a list of values are the views of the values
 pub own_items_of_view : (vs : List Value) → own_items (items_view vs) ≡ map view vs
 own_items_of_view vs = own_items_of (map view vs)

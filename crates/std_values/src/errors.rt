@@ -18,7 +18,7 @@ pub fn unexpected_arguments(alloc: Global) -> Error
     Error::with_msg(alloc, "Unexpected arguments")
 }
 
-/// Returns the error for a value that is no number.
+/// Returns the error for a value that is not a number.
 pub fn whole_number_expected(alloc: Global, value: &Value) -> Error
     ensures { IfSome (told result) (λ r. r ≡ whole_number_expected (tree_of value.now)) }
 {
@@ -39,14 +39,14 @@ pub fn divided_by_zero(alloc: Global) -> Error
     Error::with_msg(alloc, "Divided by zero")
 }
 
-/// Returns the error for a value that is no array.
+/// Returns the error for a value that is not an array.
 pub fn array_expected(alloc: Global, value: &Value) -> Error
     ensures { IfSome (told result) (λ r. r ≡ array_expected (tree_of value.now)) }
 {
     found_error(alloc, "Array expected", value)
 }
 
-/// Returns the error for a value that can have no property, since it is no object.
+/// Returns the error for a value that can have no property, since it is not an object.
 pub fn object_expected(alloc: Global, property: &str, value: &Value) -> Error
     ensures { IfSome (told result) (λ r. r ≡ object_expected property.now (tree_of value.now)) }
 {
@@ -58,7 +58,7 @@ pub fn object_expected(alloc: Global, property: &str, value: &Value) -> Error
     }
 }
 
-/// Returns the error for two values of which neither comes first.
+/// Returns the error for two values that have no order.
 pub fn without_order(alloc: Global, first: &Value, second: &Value) -> Error
     ensures { IfSome (told result) (λ r. r ≡ without_order (tree_of first.now) (tree_of second.now)) }
 {

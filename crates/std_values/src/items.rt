@@ -18,7 +18,7 @@ pub fn items<'v>(alloc: Global, value: &'v Value) -> Result<Vec<&'v Value>, Allo
     Ok(items)
 }
 
-/// Appends the item; in place of an array its own items.
+/// Appends the item, or, in place of an array, its own items.
 #[cycle(flat)]
 fn push_item<'v>(value: &'v Value, items: &mut Vec<&'v Value>) -> Result<(), AllocError>
     ensures { OnOk result (map (λ r. tree_of r.now) items.new.items ≡ map (λ r. tree_of r.now) items.old.items ++ flat_item (tree_of value.now)) }

@@ -1,4 +1,4 @@
-//! What the standard filters take of a value: its items, its number, a property; and their errors.
+//! What the standard filters read of a value: its items, its number, a property; and their errors.
 #![tactic(auto)]
 
 pub mod errors;

@@ -12,7 +12,7 @@ use liquid_value::Value;
 use std::alloc::Global;
 use std::borrow::CowStr;
 
-/// Returns the number of a value, which is 0 for nil. An `Err` is that of a value that is no number.
+/// Returns the number of a value, which is 0 for nil. Fails for a value that is not a number.
 pub fn number(alloc: Global, value: &Value) -> Result<i64, Error>
     ensures { Gives (λ n. n) result (number (tree_of value.now)) }
 {
@@ -22,7 +22,7 @@ pub fn number(alloc: Global, value: &Value) -> Result<i64, Error>
     }
 }
 
-/// Returns the whole number that a value is. An `Err` is that of a value that is none, as nil.
+/// Returns the whole number of a value. Fails for a value that is not one, such as nil.
 pub fn whole(alloc: Global, value: &Value) -> Result<i64, Error>
     ensures { Gives (λ n. n) result (whole (tree_of value.now)) }
 {
@@ -32,7 +32,7 @@ pub fn whole(alloc: Global, value: &Value) -> Result<i64, Error>
     }
 }
 
-/// Returns the number as a value, and an `Err` where it did not fit.
+/// Returns the number as a value. Fails if it did not fit.
 pub fn limited(alloc: Global, number: Option<i64>) -> Result<Value, Error>
     ensures { Gives tree_of result (limited number) }
 {
@@ -52,7 +52,7 @@ pub fn number_of(value: &Value) -> Option<i64>
     }
 }
 
-/// Returns the whole number that a value is, if it is one.
+/// Returns the whole number of a value, if it is one.
 pub fn whole_of(value: &Value) -> Option<i64>
     ensures { result ≡ whole_of (tree_of value.now) }
 {
@@ -62,7 +62,7 @@ pub fn whole_of(value: &Value) -> Option<i64>
     }
 }
 
-/// Returns the number of a scalar, if it is one; a text may have white space at its ends.
+/// Returns the number of a scalar, if it is one. A text may have white space at its ends.
 fn scalar_number(scalar: &Scalar) -> Option<i64>
     ensures { result ≡ scalar_number (scal string_bytes scalar.now) }
 {

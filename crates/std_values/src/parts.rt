@@ -1,4 +1,4 @@
-//! What the filters ask of one value: a property, its size, whether it counts as true.
+//! What the filters read of one value: a property, its size, whether it counts as true.
 ghost use Rattle.std.specs.Prelude.{◌≡◌, length, option_map, IfOk};
 ghost use Rattle.std.specs.Str.{chars};
 ghost use Rattle.liquid_error.specs.meaning.Told.{Gives};
@@ -12,8 +12,8 @@ use liquid_error::Error;
 use liquid_value::{Array, Object, State, Value, ValueCow};
 use std::alloc::{AllocError, Global};
 
-/// Returns an object's own member of that name, and nil where it has none or the value is nil. An `Err` is that of a value
-/// that is no object.
+/// Returns an object's own member of that name, or nil if it has none or if the value is nil. Fails for a value that is
+/// not an object.
 pub fn property<'v>(alloc: Global, value: &'v Value, name: &str) -> Result<ValueCow<'v>, Error>
     ensures { Gives cow_view result (property name.now (tree_of value.now)) }
 {
@@ -39,14 +39,14 @@ fn member_at<'v>(members: &'v Object, name: &str) -> Option<&'v Value>
     members.get(name)
 }
 
-/// Returns whether the value counts as true: all but nil, a state and `false` do.
+/// Returns `true` if the value counts as true: all values do except nil, a state and `false`.
 pub fn is_truthy(value: &Value) -> bool
     ensures { result ≡ truthy (tree_of value.now) }
 {
     value.query_state(State::Truthy)
 }
 
-/// Returns how many entries an array or an object has, or characters the text of another value.
+/// Returns the number of entries of an array or an object, or of characters of another value's text.
 pub fn size_of(alloc: Global, value: &Value) -> Result<usize, AllocError>
     ensures { IfOk result (λ n. n ≡ size_of (tree_of value.now)) }
 {
@@ -60,7 +60,7 @@ pub fn size_of(alloc: Global, value: &Value) -> Result<usize, AllocError>
     }
 }
 
-/// Returns how many characters the text has.
+/// Returns the number of characters of the text.
 #[tactic(auto, using(std::proofs::lemmas::Str::chars_from_encodes))]
 pub fn character_count(text: &str) -> usize
     ensures { result ≡ length (chars text.now) }

@@ -1,5 +1,4 @@
-//! Texts of dates that no contract tells to be there: errors, long outputs, mail's form over its
-//! years.
+//! Texts of dates whose existence no contract states: errors, long outputs, and the form of mail over its years.
 use liquid_dates::{Date, DateError, DateFormatError, DateTime};
 use std::alloc::Global;
 use std::test::Fail;

@@ -99,7 +99,7 @@ const FILLED: &str = r#"["%8Y", "00002022"]
 ["%010X", "0007:56:37"]
 ["%12r", " 07:56:37 AM"]"#;
 
-// A year before 0, and what stands for nothing.
+// A year before 0, and directives that mean nothing.
 const NEGATIVE: &str = r#"["%Y", "-0020"]
 ["%_Y", "  -20"]
 ["%4Y", "-020"]
@@ -194,7 +194,7 @@ fn patterns_are_printed(rt: HostRuntime) -> Result<(), Fail> {
     prints(alloc, zeros, ZEROS)
 }
 
-/// Whether the row's pattern is refused with the row's text.
+/// Returns `true` if the row's pattern is an error with the row's text.
 fn is_refused(alloc: Global, row: &Line, date_time: DateTime) -> Result<bool, Fail> {
     match date_time.format(alloc, row.text(0)?) {
         Ok(_) => Ok(false),
@@ -236,7 +236,7 @@ fn date_times_are_read(rt: HostRuntime) -> Result<(), Fail> {
     rows_hold(rt.alloc(), NO_DATE_TIME, |_, row| is_no_date_time(row))
 }
 
-/// Whether a text is this date, where it is November now.
+/// Returns `true` if a text is this date, with a moment in November.
 fn is_date(text: &str, date: Date) -> Result<bool, DateError> {
     Ok(Date::from_str(text, november()?) == Some(date))
 }

@@ -69,7 +69,7 @@ fn an_error_is_placed_once(rt: HostRuntime) -> Result<(), Fail> {
     )
 }
 
-/// An error with two causes, one behind the other.
+/// Returns an error with two causes, one below the other.
 fn caused(alloc: Global) -> Result<Error, AllocError> {
     let kept = CloneableError::new(alloc, Error::with_msg(alloc, "a"))?;
     let middle = Error::with_msg(alloc, "b").cause(CauseOf::Cloneable(kept.clone()?));
@@ -103,7 +103,7 @@ fn refused(alloc: Global) -> liquid_error::Result<u8> {
     Error::with_msg(alloc, "a").into_err()
 }
 
-/// Refuses an answer whose error doesn't print this text, and its cause that one.
+/// Fails for an answer whose error doesn't print this text, or whose cause doesn't print the other one.
 fn shows(
     alloc: Global,
     answer: liquid_error::Result<u8>,

@@ -30,7 +30,7 @@ fn matched<'a>(rule: &str, text: &'a str) -> Result<Match<'a>, Fail> {
     }
 }
 
-/// Whether a match without a fault leaves this of the text, or none begins it where nothing is wanted.
+/// Returns `true` if a match without a fault leaves this of the text, or none begins it where nothing is wanted.
 fn leaves(rule: &str, text: &str, rest: Option<&str>) -> Result<bool, Fail> {
     match (matched(rule, text)?, rest) {
         (None, None) => Ok(true),
@@ -39,7 +39,7 @@ fn leaves(rule: &str, text: &str, rest: Option<&str>) -> Result<bool, Fail> {
     }
 }
 
-// Rules, texts, and what is left of each behind the rule's match, if it begins with one.
+// Rules, texts, and what is left of each after the rule's match, if it begins with one.
 const VALUES: &str = r#"["value", "a.b[ 'c' ][d[0]].e f", " f"]
 ["value", "a .b", " .b"]
 ["value", "a. b", ". b"]
@@ -114,7 +114,8 @@ const FAULTS: &str =
 ["tag", "{% a 1 (2..3.0) %}", "decimal not supported", "3.0) %}"]
 ["expression", "{{ a | f: b, c: 99999999999999999999 }}", "integer out of range", "99999999999999999999 }}"]"#;
 
-/// Whether the row's rule leaves the row's rest of its text without a fault, or begins no match where it has none.
+/// Returns `true` if the row's rule leaves the row's rest of its text without a fault, or begins no match if the row
+/// has none.
 fn is_left(row: &Line) -> Result<bool, Fail> {
     leaves(row.text(0)?, row.text(1)?, row.found_text(2))
 }
@@ -127,7 +128,7 @@ fn rules_leave_what_is_behind_them(rt: HostRuntime) -> Result<(), Fail> {
     Ok(())
 }
 
-/// The name of a fault's kind, as the table has it.
+/// Returns the name of a fault's kind, as the table has it.
 fn fault_name(kind: FaultKind) -> &'static str {
     match kind {
         FaultKind::IntegerOutOfRange => "integer out of range",
@@ -194,7 +195,7 @@ const CHAIN_KINDS: &str = r#"["a }}", "identifier", "a"]
 ["1 }}", "integer", "1"]
 ["(1..a)"]"#;
 
-/// A literal's kind and its text, as the tables name them.
+/// Returns a literal's kind and its text, as the tables name them.
 fn told<'a>(literal: Literal<'a>) -> (&'a str, &'a str) {
     match literal {
         Literal::Nil => ("nil", ""),
@@ -208,7 +209,7 @@ fn told<'a>(literal: Literal<'a>) -> (&'a str, &'a str) {
     }
 }
 
-/// The kind of a token or chain, and its text, as the tables name them.
+/// Returns the kind of a token or chain, and its text, as the tables name them.
 fn kind_told<'a>(kind: TokenKind<'a>) -> (&'a str, &'a str) {
     match kind {
         TokenKind::Identifier(name) => ("identifier", name),
@@ -220,7 +221,7 @@ fn kind_told<'a>(kind: TokenKind<'a>) -> (&'a str, &'a str) {
     }
 }
 
-/// The two texts of a row behind its first, if it has them.
+/// Returns the two texts of a row after its first, if it has them.
 fn pair(row: &Line) -> Option<(&str, &str)> {
     Some((row.found_text(1)?, row.found_text(2)?))
 }
@@ -283,7 +284,7 @@ fn whole_numbers_of_64_bits_are_numbers(_rt: HostRuntime) -> Result<(), Fail> {
     holds(integer_of("7a").is_none(), "no number")
 }
 
-/// This text so often, and then the other.
+/// Returns this text, repeated, and then the other.
 fn repeated(alloc: Global, text: &str, times: usize, end: &str) -> Result<String, AllocError> {
     let mut whole = String::new(alloc);
     for _ in 0..times {

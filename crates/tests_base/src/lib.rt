@@ -1,4 +1,4 @@
-//! The tests of dates, the grammar and errors, the crates that stand on no other, as tables of rows.
+//! The tests of dates, the grammar and errors, the crates that depend on no other, as tables of rows.
 #![tactic(auto)]
 
 #[cfg(test)]

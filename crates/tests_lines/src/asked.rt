@@ -1,4 +1,4 @@
-//! What a test asks of what it found. A test that asks by these calls, and has no assert of its own, is proved in a
+//! What a test checks in what it found. A test that checks by these calls, and has no assert of its own, is proved in a
 //! fraction of the time.
 ghost use Rattle.std.specs.Prelude.{◌≡◌, ◌↔◌, IsOk, true};
 
@@ -6,7 +6,7 @@ use crate::line::Line;
 use std::alloc::Global;
 use std::test::Fail;
 
-/// Refuses a text that isn't the one wanted, and shows both.
+/// Fails for a text that isn't the one wanted, and shows both.
 pub fn same(found: &str, wanted: &str) -> Result<(), Fail>
     ensures { IsOk result ↔ (found.now ≡ wanted.now) }
 {
@@ -17,14 +17,14 @@ pub fn same(found: &str, wanted: &str) -> Result<(), Fail>
     }
 }
 
-/// Refuses what doesn't hold, by its name.
+/// Fails for a condition that is not true, with its name.
 pub fn holds(is_so: bool, what: &str) -> Result<(), Fail>
     ensures { IsOk result ↔ (is_so ≡ true) }
 {
     if is_so { Ok(()) } else { Err(Fail::new(what)) }
 }
 
-/// Refuses the first row of a table of which the test doesn't hold, and shows its line.
+/// Fails for the first row of a table that does not pass the test, and shows its line.
 pub fn rows_hold<F: Fn(Global, &Line) -> Result<bool, Fail>>(
     alloc: Global,
     rows: &str,

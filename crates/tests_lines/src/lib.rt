@@ -1,5 +1,5 @@
-//! Rows of the tables of tests, each a line of JSON, and what a test asks of them. A table that is one text adds
-//! nothing to the proof of its test, where each row of a table of literals stands in the test's own code.
+//! Rows of the tables of tests, each a line of JSON, and what a test checks in them. A table that is one text adds
+//! nothing to the proof of its test, while each row of a table of literals is part of the test's own code.
 #![tactic(auto)]
 
 mod asked;

@@ -8,14 +8,14 @@ use serde_json::Value as Json;
 use std::alloc::Global;
 use std::test::Fail;
 
-/// A row: what its line is as JSON, an array where it has places.
+/// A row: its line as JSON, an array if it has places.
 #[derive(Drop)]
 pub struct Line {
     json: Json,
 }
 
 impl Line {
-    /// The row of a line. A line that is no JSON is refused.
+    /// Returns the row of a line. Fails for a line that is not JSON.
     pub fn of(alloc: Global, line: &str) -> Result<Line, Fail>
         ensures { IfOk result (λ row. read line.now ≡ Some (view row.json)) }
     {
@@ -23,14 +23,14 @@ impl Line {
         Ok(Line { json })
     }
 
-    /// What is at a place, or nothing where the row has no such place.
+    /// Returns what is at a place, or `None` if the row has no such place.
     pub fn found(&self, place: usize) -> Option<&Json>
         ensures { option_map (λ v. view v.now) result ≡ at place (view self.now.json) }
     {
         self.json.get(place)
     }
 
-    /// The text at a place, or nothing where none is there.
+    /// Returns the text at a place, or `None` if there is no text.
     pub fn found_text(&self, place: usize) -> Option<&str>
         ensures { option_map (λ s. s.now) result ≡ option_and_then as_str (at place (view self.now.json)) }
     {
@@ -40,7 +40,7 @@ impl Line {
         }
     }
 
-    /// What is at a place. A row without this place is refused.
+    /// Returns what is at a place. Fails for a row without this place.
     pub fn member(&self, place: usize) -> Result<&Json, Fail>
         ensures ok { IfOk result (λ v. at place (view self.now.json) ≡ Some (view v.now)) }
         ensures err { IfErr result (λ _. at place (view self.now.json) ≡ None) }
@@ -51,7 +51,7 @@ impl Line {
         }
     }
 
-    /// The text at a place. A row without a text there is refused.
+    /// Returns the text at a place. Fails for a row without a text there.
     pub fn text(&self, place: usize) -> Result<&str, Fail>
         ensures ok { IfOk result (λ s. option_and_then as_str (at place (view self.now.json)) ≡ Some s.now) }
         ensures err { IfErr result (λ _. option_and_then as_str (at place (view self.now.json)) ≡ None) }
@@ -62,7 +62,7 @@ impl Line {
         }
     }
 
-    /// The list at a place. A row without a list there is refused.
+    /// Returns the list at a place. Fails for a row without a list there.
     pub fn list(&self, place: usize) -> Result<&Vec<Json>, Fail>
         ensures ok { IfOk result (λ l. option_and_then as_array (at place (view self.now.json)) ≡ Some (items_view l.now.items)) }
         ensures err { IfErr result (λ _. option_and_then as_array (at place (view self.now.json)) ≡ None) }
@@ -76,7 +76,7 @@ impl Line {
         }
     }
 
-    /// The whole number at a place. A row without such a number there is refused.
+    /// Returns the whole number at a place. Fails for a row without such a number there.
     pub fn number(&self, place: usize) -> Result<i64, Fail>
         ensures ok { IfOk result (λ n. option_and_then (λ v. option_and_then as_i64 (as_number v)) (at place (view self.now.json)) ≡ Some n) }
         ensures err { IfErr result (λ _. option_and_then (λ v. option_and_then as_i64 (as_number v)) (at place (view self.now.json)) ≡ None) }
@@ -90,7 +90,7 @@ impl Line {
         }
     }
 
-    /// The truth value at a place. A row without one there is refused.
+    /// Returns the truth value at a place. Fails for a row without one there.
     pub fn truth(&self, place: usize) -> Result<bool, Fail>
         ensures ok { IfOk result (λ b. option_and_then as_bool (at place (view self.now.json)) ≡ Some b) }
         ensures err { IfErr result (λ _. option_and_then as_bool (at place (view self.now.json)) ≡ None) }

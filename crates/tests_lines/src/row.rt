@@ -8,9 +8,9 @@ use serde_json::Value as Json;
 use std::alloc::Global;
 use std::test::Fail;
 
-/// A template and what it comes to, an object of JSON: `template`, what it sees and the partials that it may
-/// render, what is `written`, the text of its `error`, empty where it has none, and what is left of the names. What
-/// the row comes to where names are lenient is its member `lenient`, or the same where it has none.
+/// A template and its result, an object of JSON: `template`, what it sees and the partials that it may render, what is
+/// `written`, the text of its `error`, empty if it has none, and what is left of the names. The result of the row with
+/// lenient names is its member `lenient`, or the same if it has none.
 #[derive(Drop)]
 pub struct Row {
     json: Json,
@@ -18,8 +18,8 @@ pub struct Row {
 }
 
 impl Row {
-    /// Reads the row of a line. A line that is no JSON is refused, and so is a row without a template or without
-    /// what it writes.
+    /// Reads the row of a line. Fails for a line that is not JSON, and for a row without a template or without what it
+    /// writes.
     pub fn of(alloc: Global, line: &str) -> Result<Row, Fail>
         ensures read { IfOk result (λ row. read line.now ≡ Some (view row.json)) }
         ensures strict { IfOk result (λ row. row.is_lenient ≡ false) }
@@ -34,7 +34,7 @@ impl Row {
         })
     }
 
-    /// Returns the same row over names that are lenient.
+    /// Returns the same row with lenient names.
     pub fn leniently(self) -> Row
         ensures same { result.json ≡ self.json }
         ensures lenient { result.is_lenient ≡ true }
@@ -45,21 +45,21 @@ impl Row {
         }
     }
 
-    /// Returns whether names are lenient.
+    /// Returns `true` if names are lenient.
     pub fn is_lenient(&self) -> bool
         ensures { result ≡ self.now.is_lenient }
     {
         self.is_lenient
     }
 
-    /// Returns a member, or nothing where the row has no such member.
+    /// Returns a member, or `None` if the row has no such member.
     pub fn member(&self, name: &str) -> Option<&Json>
         ensures { option_map (λ v. view v.now) result ≡ get name.now (view self.now.json) }
     {
         self.json.get(name)
     }
 
-    /// Returns the text of a member, empty where the row has no such text.
+    /// Returns the text of a member, empty if the row has no such text.
     pub fn text(&self, name: &str) -> &str
         ensures { result.now ≡ unwrap_or (option_and_then as_str (get name.now (view self.now.json))) [] }
     {
@@ -69,7 +69,7 @@ impl Row {
         }
     }
 
-    /// Returns the text that a name within a member has, or nothing where it has none.
+    /// Returns the text of a name in a member, or `None` if it has none.
     pub fn text_within(&self, member: &str, name: &str) -> Option<&str>
         ensures { option_map (λ s. s.now) result ≡
             option_and_then as_str (option_and_then (get name.now) (get member.now (view self.now.json))) }
@@ -102,12 +102,12 @@ impl Row {
         self.answer("written")
     }
 
-    /// Returns the text of the error, empty where there is none.
+    /// Returns the text of the error, empty if there is none.
     pub fn error(&self) -> &str {
         self.answer("error")
     }
 
-    /// Returns whether a text is what the row writes, followed by its error's text.
+    /// Returns `true` if a text is what the row writes, followed by its error's text.
     pub fn is_whole(&self, all: &str) -> bool {
         all.len() == self.written().len() + self.error().len()
             && all.starts_with(self.written())

@@ -1,7 +1,7 @@
 //! Calls of values, dates, paths, JSON, errors, registries, expressions, runtimes, scopes and standard filters.
 //!
-//! After want of memory what was to change is as before, but for what an `extend` took, and the next call gives its
-//! answer.
+//! After a call that is out of memory, what it would change is as before, except for what an `extend` took, and the
+//! next call returns its result.
 mod answers;
 mod dates;
 mod errors;

@@ -1,7 +1,7 @@
-//! What is shared by calls of which one growth is refused.
+//! What is shared by calls in which one allocation fails.
 //!
-//! Where the Nth allocation of a process is refused, so many boxes taken in front of a call decide which growth of
-//! the call that is, and boxes taken behind it tell whether the refusal came in the call.
+//! If the Nth allocation of a process fails, the number of boxes taken before a call decides which allocation of the
+//! call that is, and boxes taken after it show whether the failure was in the call.
 mod boxes;
 mod seen;
 

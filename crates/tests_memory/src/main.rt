@@ -1,10 +1,10 @@
-//! The command `tests_memory`, which makes one call and tells what it came to, so that each growth of the call can be
-//! refused in turn.
+//! The command `tests_memory`, which makes one call and prints its outcome, so that each allocation of the call can
+//! fail in turn.
 //!
-//! Each argument and each line of standard input is a case: the name of a row or a group of calls, a call, and how
-//! many boxes are taken and dropped between the set-up and the call. Where one growth of the process is refused, the
-//! boxes decide which growth of the call that is. The answer tells whether the refusal came before the call, in it or
-//! behind it.
+//! Each argument and each line of standard input is a case: the name of a row or a group of calls, a call, and how many
+//! boxes are taken and dropped between the set-up and the call. If one allocation of the process fails, the boxes
+//! decide which allocation of the call that is. The output says whether the failure was before the call, in it or after
+//! it.
 #![tactic(auto)]
 
 mod calls;
@@ -23,7 +23,7 @@ const GROUPS: [&str; 9] = [
     "dates", "errors", "filters", "json", "paths", "plugins", "runtimes", "scopes", "values",
 ];
 
-/// What a case comes to.
+/// Returns the outcome of a case.
 fn tried(alloc: Global, case: &str) -> Result<Seen, Problem> {
     let Some((name, rest)) = case.split_once(' ') else {
         return Err(Problem::Case);
@@ -41,7 +41,7 @@ fn tried(alloc: Global, case: &str) -> Result<Seen, Problem> {
     }
 }
 
-/// Makes the call of a case, and writes what it came to.
+/// Makes the call of a case, and writes its outcome.
 fn tell(rt: &HostRuntime, case: &str) -> Result<(), Problem> {
     match tried(rt.alloc(), case) {
         Ok(seen) => rt.print(format_args!("{case}: {seen}\n"))?,

@@ -1,29 +1,30 @@
+//! Why a case has no outcome.
 use liquid_core::{DateError, Error};
 use std::alloc::{AllocError, AllocFailed};
 use std::io;
 
-/// Why a case has no answer. Where a growth of the set-up was refused, that is the reason.
+/// Why a case has no outcome. If an allocation of the set-up failed, that is the reason.
 #[derive(Debug, Drop, thiserror::Error)]
 pub enum Problem {
-    /// The line names no row or no call.
+    /// The line does not name a row and a call.
     #[error("no case")]
     Case,
     /// The row lacks something that the call needs.
     #[error("no such row")]
     Row,
-    /// The call is not made of this row, whose text is refused when it is read.
+    /// The call can't be made with this row, whose text has an error when it is parsed.
     #[error("no tree")]
     NoTree,
-    /// The set-up was refused.
+    /// The set-up had an error.
     #[error("set-up refused")]
     Refused(#[from] Error),
-    /// The set-up's date is none.
+    /// The date of the set-up does not exist.
     #[error("set-up refused")]
     Date(#[from] DateError),
-    /// The set-up found no memory.
+    /// The set-up was out of memory.
     #[error("set-up refused")]
     Memory(#[from] AllocError),
-    /// The set-up's JSON is none, or found no memory.
+    /// The JSON of the set-up is not JSON, or memory ran out.
     #[error("set-up refused")]
     Json(#[from] serde_json::Error),
     /// An input or an output failed.

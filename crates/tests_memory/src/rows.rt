@@ -1,4 +1,4 @@
-//! Templates that are read and rendered, and partials that stores are asked for.
+//! Templates that are parsed and rendered, and partials that are requested from stores.
 mod compiling;
 mod parsing;
 mod rendering;
@@ -11,7 +11,7 @@ use crate::problem::Problem;
 use row::Row;
 use std::alloc::Global;
 
-/// Makes the call of a row, behind so many boxes.
+/// Makes the call of a row, after that many boxes.
 fn call(alloc: Global, row: &Row, word: &str, boxes: usize) -> Result<Seen, Problem> {
     match word {
         "parse" => parsing::parsed(alloc, row, boxes),
@@ -30,7 +30,7 @@ fn call(alloc: Global, row: &Row, word: &str, boxes: usize) -> Result<Seen, Prob
     }
 }
 
-/// Makes a call of the row of this name behind so many boxes, and then once more.
+/// Makes a call of the row of this name after that many boxes, and then once more.
 pub fn tried(alloc: Global, name: &str, word: &str, boxes: usize) -> Result<Seen, Problem> {
     let row = Row::named(alloc, name)?;
     call(alloc, &row, word, boxes)

@@ -13,7 +13,7 @@ use std::alloc::{AllocError, Global};
 use std::test::Fail;
 use tests_lines::holds;
 
-/// Writes down what the calls answer, under a stack frame with a name.
+/// Writes down what the calls return, under a stack frame with a name.
 struct Calls;
 
 impl Body for Calls {
@@ -61,7 +61,7 @@ fn note_roots<S: Scopes>(alloc: Global, scopes: &S, log: &mut String) -> Result<
     Ok(())
 }
 
-/// The refusal of a path, or nothing where it leads to a value.
+/// Returns the error of a path, or nothing if it leads to a value.
 fn refusal<S: Scopes>(alloc: Global, scopes: &S) -> Result<String, AllocError> {
     match made::get(alloc, scopes, &[ScalarCow::from("a"), ScalarCow::from("x")]) {
         Ok(_) => Ok(String::new(alloc)),
@@ -69,7 +69,7 @@ fn refusal<S: Scopes>(alloc: Global, scopes: &S) -> Result<String, AllocError> {
     }
 }
 
-/// Sets a global, and answers whether it had a value before.
+/// Sets a global, and returns whether it had a value before.
 fn had_global<S: Scopes>(alloc: Global, scopes: &mut S) -> Result<bool, Error>
     ensures { S.restores scopes.new ≡ S.restores scopes.old }
 {
@@ -77,7 +77,7 @@ fn had_global<S: Scopes>(alloc: Global, scopes: &mut S) -> Result<bool, Error>
     Ok(made::set_global(scopes, name, Value::scalar(2i64))?.is_some())
 }
 
-/// Sets an index variable, and answers whether it had a value before.
+/// Sets an index variable, and returns whether it had a value before.
 fn had_index<S: Scopes>(alloc: Global, scopes: &mut S, number: i64) -> Result<bool, Error>
     ensures { S.restores scopes.new ≡ S.restores scopes.old }
 {
@@ -97,7 +97,7 @@ fn sets<S: Scopes>(alloc: Global, scopes: &mut S, log: &mut String) -> Result<()
     Ok(())
 }
 
-/// Lets an interrupt stand, and writes down whether one stood before and stands now.
+/// Sets an interrupt, and writes down whether one was set before and is set now.
 fn interrupts<S: Scopes>(scopes: &mut S, log: &mut String) -> Result<(), Error>
     ensures { S.restores scopes.new ≡ S.restores scopes.old }
 {
@@ -114,7 +114,7 @@ fn interrupts<S: Scopes>(scopes: &mut S, log: &mut String) -> Result<(), Error>
 const ANSWERS: &str = "page 1 32 true false false false true true a g i\
     liquid: Unknown index\n  with:\n    variable=a\n    requested index=x\n    available indexes=\nfirst then";
 
-/// Whether scopes of one form answer as told.
+/// Returns `true` if scopes of one form return what is expected.
 fn answers_alike<S: Scopes>(alloc: Global, base: S::Base) -> Result<bool, Error>
 where
     S::Base: Drop,
@@ -122,7 +122,7 @@ where
     Ok(over::<S, Calls>(alloc, base, &Calls)?.as_str() == ANSWERS)
 }
 
-/// Whether scopes over a borrowed runtime have no partials.
+/// Returns `true` if scopes over a borrowed runtime have no partials.
 fn borrowed_has_no_partials(alloc: Global) -> bool {
     let mut base = nothing_known(alloc);
     let mut scopes: FlatScopes<&mut Base> = FlatScopes::new(alloc, &mut base);

@@ -1,4 +1,4 @@
-//! A thousand frames, and how many looks a name takes under them.
+//! A thousand frames, and how many frame lookups a name takes under them.
 ghost use Rattle.std.specs.Prelude.{◌≡◌};
 
 use crate::framed::{Base, add_line, sandboxed, shown, stack};
@@ -11,9 +11,9 @@ use std::alloc::{AllocError, Global};
 use std::test::Fail;
 use tests_lines::same;
 
-/// Scopes that count their looks.
+/// Scopes that count their frame lookups.
 trait Seeks: Scopes {
-    /// Writes down what a name leads to, and how many looks that took: ` NAME=VALUE/LOOKS`.
+    /// Writes down what a name leads to, and how many frame lookups that took: ` NAME=VALUE/LOOKS`.
     fn note_looks(&self, alloc: Global, name: &'static str, log: &mut String) -> Result<(), Error>;
 }
 
@@ -29,7 +29,7 @@ impl<R: Runtime> Seeks for FlatScopes<R> {
     }
 }
 
-/// Writes down looks under so many frames more, each of which gives `deep` its own number.
+/// Writes down lookups under that many more frames, each of which gives `deep` its own number.
 #[tactic(auto, using(crate::proofs::Pushed::pushed))]
 fn nested<S: Seeks>(
     alloc: Global,
@@ -48,7 +48,7 @@ fn nested<S: Seeks>(
     answer
 }
 
-/// Writes down looks, and then those under a sandboxed frame.
+/// Writes down lookups, and then those under a sandboxed frame.
 #[tactic(auto, using(crate::proofs::Pushed::pushed))]
 fn innermost<S: Seeks>(alloc: Global, scopes: &mut S, log: &mut String) -> Result<(), Error>
     ensures { S.restores scopes.new ≡ S.restores scopes.old }
@@ -60,7 +60,7 @@ fn innermost<S: Seeks>(alloc: Global, scopes: &mut S, log: &mut String) -> Resul
     answer
 }
 
-/// Writes down looks, and then those under another frame.
+/// Writes down lookups, and then those under another frame.
 #[tactic(auto, using(crate::proofs::Pushed::pushed))]
 fn in_sandbox<S: Seeks>(alloc: Global, scopes: &mut S, log: &mut String) -> Result<(), Error>
     ensures { S.restores scopes.new ≡ S.restores scopes.old }
@@ -72,7 +72,7 @@ fn in_sandbox<S: Seeks>(alloc: Global, scopes: &mut S, log: &mut String) -> Resu
     answer
 }
 
-/// Writes down looks of three names.
+/// Writes down lookups of three names.
 fn note_all<S: Seeks>(alloc: Global, scopes: &S, log: &mut String) -> Result<(), Error> {
     for name in ["deep", "base", "own"] {
         scopes.note_looks(alloc, name, log)?;
@@ -80,7 +80,7 @@ fn note_all<S: Seeks>(alloc: Global, scopes: &S, log: &mut String) -> Result<(),
     Ok(())
 }
 
-/// Writes down looks under so many frames over a base.
+/// Writes down lookups under that many frames over a base.
 fn note_over<S: Seeks>(
     alloc: Global,
     base: S::Base,
@@ -96,7 +96,7 @@ where
     answer
 }
 
-/// A runtime whose globals give `base` the number 5.
+/// Returns a runtime whose globals give `base` the number 5.
 fn based(alloc: Global) -> Result<Base, AllocError> {
     Ok(
         RuntimeBuilder::new(alloc)
@@ -105,7 +105,7 @@ fn based(alloc: Global) -> Result<Base, AllocError> {
     )
 }
 
-/// The looks under so many frames.
+/// Returns the lookups under that many frames.
 fn noted(alloc: Global, frames: u32) -> Result<String, Error> {
     let mut log = String::new(alloc);
     note_over::<FlatScopes<Base>>(alloc, based(alloc)?, frames, &mut log)?;

@@ -12,7 +12,7 @@ use std::alloc::{AllocError, Global};
 
 pub(crate) type Base = BuiltRuntime<(), ()>;
 
-/// A runtime without globals.
+/// Returns a runtime without globals.
 pub(crate) fn nothing_known(alloc: Global) -> Base {
     RuntimeBuilder::new(alloc).build()
 }
@@ -56,7 +56,7 @@ where
     answer
 }
 
-/// Runs a body over scopes of one form, and answers what it wrote down.
+/// Runs a body over scopes of one form, and returns what it wrote down.
 pub(crate) fn over<S: Scopes, B: Body>(
     alloc: Global,
     base: S::Base,
@@ -70,7 +70,7 @@ where
     Ok(log)
 }
 
-/// Writes a line down, where it could be made.
+/// Writes a line down, if it could be made.
 pub(crate) fn add_line(
     log: &mut String,
     line: Result<String, AllocError>,
@@ -79,7 +79,7 @@ pub(crate) fn add_line(
     Ok(())
 }
 
-/// The text of a value, or `none`.
+/// Returns the text of a value, or `none`.
 pub(crate) fn shown(alloc: Global, found: Option<ValueCow<'_>>) -> Result<String, AllocError> {
     match found {
         Some(value) => value.render().to_string(alloc),
@@ -87,12 +87,12 @@ pub(crate) fn shown(alloc: Global, found: Option<ValueCow<'_>>) -> Result<String
     }
 }
 
-/// A stack frame of numbers.
+/// Returns a stack frame of numbers.
 pub(crate) fn stack(alloc: Global, pairs: &[(&'static str, i64)]) -> Result<Frame, AllocError> {
     Ok(Frame::Stack(numbers(alloc, pairs)?, None))
 }
 
-/// A sandboxed frame of numbers.
+/// Returns a sandboxed frame of numbers.
 pub(crate) fn sandboxed(alloc: Global, pairs: &[(&'static str, i64)]) -> Result<Frame, AllocError> {
     Ok(Frame::Sandboxed(numbers(alloc, pairs)?, None))
 }

@@ -61,7 +61,7 @@ impl Body for BelowGlobal {
     }
 }
 
-/// Whether scopes of one form show and hide names as told.
+/// Returns `true` if scopes of one form show and hide names as expected.
 fn shows_alike<S: Scopes>(alloc: Global, base: S::Base) -> Result<bool, Error>
 where
     S::Base: Drop,

@@ -18,9 +18,8 @@ use std::alloc::{AllocError, Global};
 use std::test::Fail;
 use tests_lines::{Line, rows_hold};
 
-/// Frames over a runtime that gives `base` the number 5, a name that is set to 4 under them, if there
-/// is one, a path, and what `get` answers of it in a strict runtime: a value's text or that of the
-/// refusal.
+/// Frames over a runtime that gives `base` the number 5, a name that is set to 4 under them, if there is one, a path,
+/// and what `get` returns for it in a strict runtime: a value's text or that of the error.
 const ROWS: &str = r#"[[], "", ["base"], "5"]
 [[], "", ["base", "x"], "liquid: Unknown index\n  with:\n    variable=base\n    requested index=x\n    available indexes=\n"]
 [[], "", ["x"], "liquid: Unknown variable\n  with:\n    requested variable=x\n"]
@@ -98,7 +97,7 @@ const NAMES: &str = r#"[[], "", ["base"]]
 [[["isolated", {"b": 2}], ["stack", {"c": 1}]], "b", ["b", "c"]]
 [[["stack", {"a": 1}], ["isolated", {"b": 2}]], "a", ["a", "b"]]"#;
 
-/// A frame, as a row tells it.
+/// Returns the frame that a row describes.
 fn frame_of(alloc: Global, told: &Json) -> Result<Frame, Error> {
     match (told.get(0).and_then(Json::as_str), told.get(1)) {
         (Some("none"), _) => Ok(Frame::None),
@@ -132,7 +131,7 @@ fn under<S: Scopes, B: Body>(
     }
 }
 
-/// Runs a body under these frames over scopes of one form, and answers what it wrote down.
+/// Runs a body under these frames over scopes of one form, and returns what it wrote down.
 fn run_under<S: Scopes, B: Body>(
     alloc: Global,
     base: S::Base,
@@ -160,7 +159,7 @@ fn set<S: Scopes>(alloc: Global, scopes: &mut S, name: &str) -> Result<(), Error
     Ok(())
 }
 
-/// Asks for a path, and writes it down where the answer is another than is told.
+/// Looks up a path, and writes it down if the result is not the expected one.
 #[derive(Drop)]
 struct Asks<'r> {
     set: &'r str,
@@ -175,7 +174,7 @@ impl Body for Asks<'_> {
     }
 }
 
-/// Writes down what is asked for, where the answer is another than is told.
+/// Writes down what is looked up, if the result is not the expected one.
 fn note_other<S: Scopes>(
     alloc: Global,
     scopes: &S,
@@ -193,12 +192,12 @@ fn note_other<S: Scopes>(
     Ok(())
 }
 
-/// Whether a strict runtime refuses the path.
+/// Returns `true` if the path is an error in a strict runtime.
 fn is_refused(asks: &Asks<'_>) -> bool {
     asks.strict.starts_with("liquid: Unknown ")
 }
 
-/// Whether the path is answered by nil.
+/// Returns `true` if the path is nil.
 fn is_nil<S: Scopes>(alloc: Global, scopes: &S, asks: &Asks<'_>) -> Result<bool, AllocError> {
     match made::get(alloc, scopes, asks.path) {
         Ok(value) => Ok(value.is_nil()),
@@ -206,13 +205,13 @@ fn is_nil<S: Scopes>(alloc: Global, scopes: &S, asks: &Asks<'_>) -> Result<bool,
     }
 }
 
-/// Whether the path is answered as in a strict runtime.
+/// Returns `true` if the path has the same result as in a strict runtime.
 fn is_told<S: Scopes>(alloc: Global, scopes: &S, asks: &Asks<'_>) -> Result<bool, AllocError> {
     Ok(answer_text(alloc, made::get(alloc, scopes, asks.path))?.as_str() == asks.strict)
 }
 
-/// Whether trying the path comes to a value where a strict runtime finds one, and finding the rest of
-/// it behind the name's value does too.
+/// Returns `true` if trying the path gives a value if a strict runtime finds one, and so does finding the rest of it
+/// after the name's value.
 fn is_tried_alike<S: Scopes>(
     alloc: Global,
     scopes: &S,
@@ -222,7 +221,7 @@ fn is_tried_alike<S: Scopes>(
     Ok(is_tried != is_refused(asks) && is_tried == is_found(alloc, scopes, asks.path)?)
 }
 
-/// Whether the path's name has a value, in which the rest of the path is found.
+/// Returns `true` if the path's name has a value, in which the rest of the path is found.
 fn is_found<S: Scopes>(
     alloc: Global,
     scopes: &S,
@@ -240,7 +239,7 @@ fn is_found<S: Scopes>(
     }
 }
 
-/// Lists the names seen, and writes down that they are others than are told.
+/// Lists the names seen, and writes down if they are not the expected ones.
 #[derive(Drop)]
 struct Lists<'r> {
     set: &'r str,
@@ -272,7 +271,7 @@ fn note_others<S: Scopes>(
     Ok(())
 }
 
-/// A runtime whose globals give `base` the number 5.
+/// Returns a runtime whose globals give `base` the number 5.
 fn based(alloc: Global, lenient: bool) -> Result<Base, AllocError> {
     Ok(
         RuntimeBuilder::new(alloc)
@@ -282,7 +281,7 @@ fn based(alloc: Global, lenient: bool) -> Result<Base, AllocError> {
     )
 }
 
-/// What a body writes down under these frames, over scopes of both forms.
+/// Returns what a body writes down under these frames, over scopes of both forms.
 fn noted<B: Body>(
     alloc: Global,
     lenient: bool,
@@ -297,7 +296,7 @@ fn noted<B: Body>(
     Ok(log)
 }
 
-/// What is written down of a row of paths.
+/// Returns what is written down of a row of paths.
 fn asked(alloc: Global, lenient: bool, row: &Line) -> Result<String, Fail> {
     let path = path_of(alloc, row.list(2)?)?;
     let asks = Asks {
@@ -308,7 +307,7 @@ fn asked(alloc: Global, lenient: bool, row: &Line) -> Result<String, Fail> {
     Ok(noted(alloc, lenient, row.list(0)?.as_slice(), &asks)?)
 }
 
-/// What is written down of a row of names.
+/// Returns what is written down of a row of names.
 fn listed(alloc: Global, lenient: bool, row: &Line) -> Result<String, Fail> {
     let lists = Lists {
         set: row.text(1)?,
@@ -317,7 +316,7 @@ fn listed(alloc: Global, lenient: bool, row: &Line) -> Result<String, Fail> {
     Ok(noted(alloc, lenient, row.list(0)?.as_slice(), &lists)?)
 }
 
-/// Whether the path of a row is answered as told, in a strict runtime and in a lenient one.
+/// Returns `true` if the path of a row has the expected result, in a strict runtime and in a lenient one.
 fn is_answered(alloc: Global, row: &Line) -> Result<bool, Fail> {
     Ok(asked(alloc, false, row)?.is_empty() && asked(alloc, true, row)?.is_empty())
 }
@@ -327,7 +326,7 @@ fn a_path_without_a_value_is_nil_in_a_lenient_runtime(rt: HostRuntime) -> Result
     rows_hold(rt.alloc(), ROWS, is_answered)
 }
 
-/// Whether the names seen are those of a row, in a strict runtime and in a lenient one.
+/// Returns `true` if the names seen are those of a row, in a strict runtime and in a lenient one.
 fn is_listed(alloc: Global, row: &Line) -> Result<bool, Fail> {
     Ok(listed(alloc, false, row)?.is_empty() && listed(alloc, true, row)?.is_empty())
 }

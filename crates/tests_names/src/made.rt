@@ -1,4 +1,4 @@
-//! Each call of any scopes answers and leaves what a list of calls tells of it.
+//! Each call of any scopes returns and leaves what a list of calls says about it.
 ghost use Rattle.std.specs.Prelude.{◌≡◌, ◌<◌, length, Ok, Err, IfOk, IfErr, IfSome, OnOk, OnErr, option_map, string_bytes};
 ghost use Rattle.liquid_error.specs.meaning.Told.{told};
 ghost use Rattle.liquid_paths.specs.meaning.PathOf.{indexes_of};

@@ -14,7 +14,7 @@ use tests_lines::{Line, holds, rows_hold};
 const VALUES: &str =
     r#"{"list": [0, 1, 4, 9, 16, 25, 36, 49, 64, 81], "empty": [], "word": "häuser", "box": {"size": 7, "part": 5}, "plain": {"d": 2, "c": 1}}"#;
 
-/// Paths, and what each leads to: a value's text or that of the refusal.
+/// Paths, and what each leads to: a value's text or that of the error.
 const PATHS: &str = r#"[["list", 2], "4"]
 [["list", "2"], "4"]
 [["list", -1], "81"]
@@ -38,7 +38,7 @@ const PATHS: &str = r#"[["list", 2], "4"]
 [["word", "first"], "liquid: Unknown index\n  with:\n    variable=word\n    requested index=first\n    available indexes=\n"]
 [["plain", "c", "size"], "1"]"#;
 
-/// An index of a path.
+/// Returns an index of a path.
 fn index_of(member: &Json) -> Result<ScalarCow<'_>, Fail> {
     match (member.as_str(), member.as_i64()) {
         (Some(word), _) => Ok(ScalarCow::from(word)),
@@ -47,7 +47,7 @@ fn index_of(member: &Json) -> Result<ScalarCow<'_>, Fail> {
     }
 }
 
-/// The path of these indexes.
+/// Returns the path of these indexes.
 pub(crate) fn path_of(alloc: Global, indexes: &Vec<Json>) -> Result<Vec<ScalarCow<'_>>, Fail> {
     let mut path = Vec::new(alloc);
     for member in indexes {
@@ -56,7 +56,7 @@ pub(crate) fn path_of(alloc: Global, indexes: &Vec<Json>) -> Result<Vec<ScalarCo
     Ok(path)
 }
 
-/// Whether a path leads to the answer, which is a value's text or that of the refusal.
+/// Returns `true` if a path leads to the answer, which is a value's text or that of the error.
 fn leads_to(
     alloc: Global,
     value: &Value,
@@ -66,7 +66,7 @@ fn leads_to(
     Ok(answer_text(alloc, find(alloc, value, path))?.as_str() == answer)
 }
 
-/// Whether trying a path comes to a value where finding it does.
+/// Returns `true` if trying a path gives a value if finding it does.
 fn is_tried_alike(
     alloc: Global,
     value: &Value,
@@ -76,7 +76,7 @@ fn is_tried_alike(
     Ok(is_tried == find(alloc, value, path).is_ok())
 }
 
-/// Whether the path of a row leads to what the row tells, tried or not.
+/// Returns `true` if the path of a row leads to what the row says, tried or not.
 fn row_holds(alloc: Global, value: &Value, row: &Line) -> Result<bool, Fail> {
     let path = path_of(alloc, row.list(0)?)?;
     Ok(
@@ -85,12 +85,12 @@ fn row_holds(alloc: Global, value: &Value, row: &Line) -> Result<bool, Fail> {
     )
 }
 
-/// Values, a path into each, and the text of its refusal.
+/// Values, a path into each, and the text of its error.
 const REFUSED: &str =
     r#"[{"a": 1}, ["x", "y"], "liquid: Unknown index\n  with:\n    requested index=x\n    available indexes=a\n"]
 [{"a": {"c": 1, "d": 2}}, ["a", "b"], "liquid: Unknown index\n  with:\n    variable=a\n    requested index=b\n    available indexes=c, d\n"]"#;
 
-/// Whether the rest of a path behind its first indexes is answered by a text.
+/// Returns `true` if a text is the result of the rest of a path after its first indexes.
 fn leads_on_to(
     alloc: Global,
     front: usize,
@@ -123,7 +123,7 @@ fn a_walk_may_begin_behind_a_path(rt: HostRuntime) -> Result<(), Fail> {
     )
 }
 
-/// Whether the path of a row is refused as the row tells, tried or not.
+/// Returns `true` if the path of a row has the row's error, tried or not.
 fn refusal_holds(alloc: Global, row: &Line) -> Result<bool, Fail> {
     let value = to_value(alloc, row.member(0)?)?;
     let path = path_of(alloc, row.list(1)?)?;
@@ -156,7 +156,7 @@ const OWN_PARTS: &str = r#"[[10, 20], 1, "20"]
 [{"1": 5}, 1, null]
 ["word", "size", null]"#;
 
-/// Whether the value of a row has the own part that the row tells.
+/// Returns `true` if the value of a row has the own part that the row says.
 fn own_part_holds(alloc: Global, row: &Line) -> Result<bool, Fail> {
     let value = to_value(alloc, row.member(0)?)?;
     let Value::Scalar(index) = to_value(alloc, row.member(1)?)? else {
@@ -173,7 +173,7 @@ fn items_and_members_are_own_parts(rt: HostRuntime) -> Result<(), Fail> {
     rows_hold(rt.alloc(), OWN_PARTS, own_part_holds)
 }
 
-/// A list of the squares below a hundred.
+/// Returns a list of the squares below a hundred.
 fn squares(alloc: Global) -> Result<Vec<Value>, AllocError> {
     let mut list = Vec::new(alloc);
     for square in [0i64, 1, 4, 9, 16, 25, 36, 49, 64, 81] {
@@ -189,14 +189,14 @@ fn a_list_has_as_many_places_from_its_end(rt: HostRuntime) -> Result<(), Fail> {
     holds(is_bounded, "the first place of ten is -10")
 }
 
-/// The index `name`.
+/// Returns the index `name`.
 fn name_index(alloc: Global) -> Result<Vec<ScalarCow<'static>>, AllocError> {
     let mut indexes = Vec::new(alloc);
     indexes.push(ScalarCow::from("name"))?;
     Ok(indexes)
 }
 
-/// The path `user.-3.name`.
+/// Returns the path `user.-3.name`.
 fn user_path(alloc: Global) -> Result<Path<'static>, AllocError> {
     let mut path = Path::with_index(alloc, "user")?;
     path.reserve(2)?;
@@ -205,12 +205,12 @@ fn user_path(alloc: Global) -> Result<Path<'static>, AllocError> {
     Ok(path)
 }
 
-/// Whether a path shows as a text.
+/// Returns `true` if a path shows as a text.
 fn path_shows(alloc: Global, path: &Path<'_>, text: &str) -> Result<bool, AllocError> {
     Ok(path.to_string(alloc)?.as_str() == text)
 }
 
-/// Whether a copy equals its path, until an index more is put behind the path.
+/// Returns `true` if a copy equals its path, until one more index is added to the path.
 fn is_copied(path: &mut Path<'static>) -> Result<bool, AllocError> {
     let copy = path.clone()?;
     let is_equal = copy == *path;

@@ -26,7 +26,7 @@ impl Fresh for Marks {
     }
 }
 
-/// The text of a name's value, or that of the refusal.
+/// Returns the text of a name's value, or that of the error.
 fn name_text<R: Runtime>(alloc: Global, runtime: &R, name: &str) -> Result<String, AllocError> {
     answer_text(alloc, runtime.get(alloc, &[ScalarCow::from(name)]))
 }
@@ -46,7 +46,7 @@ fn built(
 
 const UNKNOWN_A: &str = "liquid: Unknown variable\n  with:\n    requested variable=a\n";
 
-/// Whether a name's value, or the refusal of the name, has a text.
+/// Returns `true` if a name's value, or the error of the name, has a text.
 fn is_name<R: Runtime>(
     alloc: Global,
     runtime: &R,
@@ -56,7 +56,7 @@ fn is_name<R: Runtime>(
     Ok(name_text(alloc, runtime, name)?.as_str() == text)
 }
 
-/// Whether a path is refused by a text, or is nil in a lenient runtime.
+/// Returns `true` if a path has an error with this text, or is nil in a lenient runtime.
 fn is_refused<R: Runtime>(
     alloc: Global,
     runtime: &R,
@@ -69,22 +69,22 @@ fn is_refused<R: Runtime>(
     }
 }
 
-/// Whether trying a name comes to a value.
+/// Returns `true` if trying a name gives a value.
 fn is_known<R: Runtime>(alloc: Global, runtime: &R, name: &str) -> Result<bool, AllocError> {
     Ok(runtime.try_get(alloc, &[ScalarCow::from(name)])?.is_some())
 }
 
-/// Whether a name is among those that can be seen.
+/// Returns `true` if a name is among those that can be seen.
 fn is_root<R: Runtime>(alloc: Global, runtime: &R, name: &str) -> Result<bool, AllocError> {
     Ok(runtime.roots(alloc)?.contains(name))
 }
 
-/// Whether `b` is listed, but not `a`.
+/// Returns `true` if `b` is listed, but not `a`.
 fn hides_a<R: Runtime>(alloc: Global, runtime: &R) -> Result<bool, AllocError> {
     Ok(!is_root(alloc, runtime, "a")? && is_root(alloc, runtime, "b")?)
 }
 
-/// Whether `c` is listed besides `b`, and `b` and `c` are tried to values, but not `a`.
+/// Returns `true` if `c` is listed besides `b`, and `b` and `c` are tried to values, but not `a`.
 fn shows_b_and_c<R: Runtime>(alloc: Global, runtime: &R) -> Result<bool, AllocError> {
     Ok(
         is_root(alloc, runtime, "c")?
@@ -94,7 +94,7 @@ fn shows_b_and_c<R: Runtime>(alloc: Global, runtime: &R) -> Result<bool, AllocEr
     )
 }
 
-/// Whether `b` and `c` have their numbers, and `a` is refused.
+/// Returns `true` if `b` and `c` have their numbers, and `a` is an error.
 fn refuses_a<R: Runtime>(alloc: Global, runtime: &R) -> Result<bool, AllocError> {
     Ok(
         is_refused(alloc, runtime, &[ScalarCow::from("a")], UNKNOWN_A)?
@@ -103,7 +103,7 @@ fn refuses_a<R: Runtime>(alloc: Global, runtime: &R) -> Result<bool, AllocError>
     )
 }
 
-/// Whether a path behind the sealed `b` is refused as that name is.
+/// Returns `true` if a path into the sealed `b` has the error of that name.
 fn refuses_sealed<R: Runtime>(alloc: Global, runtime: &R) -> Result<bool, AllocError> {
     let refusal = "liquid: Unknown variable\n  with:\n    requested variable=b\n";
     is_refused(
@@ -114,7 +114,7 @@ fn refuses_sealed<R: Runtime>(alloc: Global, runtime: &R) -> Result<bool, AllocE
     )
 }
 
-/// Whether a path behind the shown `c` is refused by its index.
+/// Returns `true` if a path into the shown `c` has the error of its index.
 fn refuses_shown<R: Runtime>(alloc: Global, runtime: &R) -> Result<bool, AllocError> {
     let refusal =
         "liquid: Unknown index\n  with:\n    variable=c\n    requested index=x\n    available indexes=\n";
@@ -126,7 +126,7 @@ fn refuses_shown<R: Runtime>(alloc: Global, runtime: &R) -> Result<bool, AllocEr
     )
 }
 
-/// Whether paths are refused: one behind a sealed name, one behind a shown name, and the empty path.
+/// Returns `true` if paths are errors: one into a sealed name, one into a shown name, and the empty path.
 fn refuses_paths<R: Runtime>(alloc: Global, runtime: &R) -> Result<bool, AllocError> {
     let refusal = "liquid: Unknown variable\n  with:\n    requested variable=nil\n";
     Ok(
@@ -136,7 +136,7 @@ fn refuses_paths<R: Runtime>(alloc: Global, runtime: &R) -> Result<bool, AllocEr
     )
 }
 
-/// Whether a frame with `c` over a sandbox with `b` shows both, and hides `a`.
+/// Returns `true` if a frame with `c` over a sandbox with `b` shows both, and hides `a`.
 fn frame_holds<R: Runtime>(alloc: Global, frame: &R) -> Result<bool, AllocError> {
     Ok(
         hides_a(alloc, frame)?
@@ -146,7 +146,7 @@ fn frame_holds<R: Runtime>(alloc: Global, frame: &R) -> Result<bool, AllocError>
     )
 }
 
-/// Whether a sandbox with `b` over a runtime, and a frame with `c` over that, show and hide names.
+/// Returns `true` if a sandbox with `b` over a runtime, and a frame with `c` over that, show and hide names.
 fn frames_hold(alloc: Global, runtime: &mut BuiltRuntime<Marks, ()>) -> Result<bool, AllocError> {
     let sandbox = SandboxedStackFrame::new(runtime, numbers(alloc, &[("b", 2)])?);
     let is_hidden = hides_a(alloc, &sandbox)?;
@@ -168,7 +168,7 @@ fn frames_show_and_hide_names(rt: HostRuntime) -> Result<(), Fail> {
     Ok(())
 }
 
-/// Sets a global to a number, and answers its old value.
+/// Sets a global to a number, and returns its old value.
 fn set_number<R: Runtime>(
     alloc: Global,
     runtime: &mut R,
@@ -178,7 +178,7 @@ fn set_number<R: Runtime>(
     runtime.set_global(text(alloc, name)?, Value::scalar(number))
 }
 
-/// Sets a global to a number, and answers whether it is new.
+/// Sets a global to a number, and returns whether it is new.
 fn is_new<R: Runtime>(
     alloc: Global,
     runtime: &mut R,
@@ -188,7 +188,7 @@ fn is_new<R: Runtime>(
     Ok(set_number(alloc, runtime, name, number)?.is_none())
 }
 
-/// Whether a frame with `test` hides the global of that name.
+/// Returns `true` if a frame with `test` hides the global of that name.
 fn is_hidden(alloc: Global, runtime: &mut BuiltRuntime<Marks, ()>) -> Result<bool, AllocError> {
     let frame = StackFrame::new(runtime, numbers(alloc, &[("test", 3)])?);
     is_name(alloc, &frame, "test", "3")
@@ -212,12 +212,12 @@ fn a_frame_hides_a_global_while_it_is_open(rt: HostRuntime) -> Result<(), Fail> 
     )
 }
 
-/// Sets `test` to 43, and answers whether it was 42.
+/// Sets `test` to 43, and returns whether it was 42.
 fn was_42<R: Runtime>(alloc: Global, runtime: &mut R) -> Result<bool, Error> {
     Ok(set_number(alloc, runtime, "test", 43)? == Some(Value::scalar(42i64)))
 }
 
-/// Whether globals are set below the frame `page`, which hides `test`.
+/// Returns `true` if globals are set below the frame `page`, which hides `test`.
 fn page_hides_global<R: Runtime>(alloc: Global, page: &mut R) -> Result<bool, Error> {
     Ok(
         page.name() == Some("page")
@@ -228,14 +228,14 @@ fn page_hides_global<R: Runtime>(alloc: Global, page: &mut R) -> Result<bool, Er
     )
 }
 
-/// Whether globals are set below a frame `page` with `test`.
+/// Returns `true` if globals are set below a frame `page` with `test`.
 fn sets_below_page(alloc: Global, runtime: &mut BuiltRuntime<Marks, ()>) -> Result<bool, Error> {
     let frame = StackFrame::new(runtime, numbers(alloc, &[("test", 3)])?);
     let mut page = frame.with_name(text(alloc, "page")?);
     page_hides_global(alloc, &mut page)
 }
 
-/// Whether the globals have the numbers that were set below a frame.
+/// Returns `true` if the globals have the numbers that were set below a frame.
 fn has_globals<R: Runtime>(alloc: Global, runtime: &R) -> Result<bool, AllocError> {
     Ok(is_name(alloc, runtime, "test", "43")? && is_name(alloc, runtime, "global", "5")?)
 }
@@ -264,7 +264,7 @@ fn a_global_is_set_below_a_frame(rt: HostRuntime) -> Result<(), Fail> {
 
 type Sandbox<'r> = SandboxedStackFrame<&'r mut BuiltRuntime<Marks, u8>>;
 
-/// Whether a sandbox has registers of its own, which are marked then.
+/// Returns `true` if a sandbox has its own registers, which are then marked.
 fn marks_its_own(sandbox: &mut Sandbox<'_>) -> bool {
     let is_fresh = !sandbox.registers().interrupt.interrupted()
         && sandbox.registers().value.count == 0;
@@ -273,7 +273,7 @@ fn marks_its_own(sandbox: &mut Sandbox<'_>) -> bool {
     is_fresh
 }
 
-/// Whether an index variable is new, is found by `get_index`, and is no name in a sandbox.
+/// Returns `true` if an index variable is new, is found by `get_index`, and is not a name in a sandbox.
 fn sets_index(alloc: Global, sandbox: &mut Sandbox<'_>) -> Result<bool, Error> {
     let is_new = sandbox
         .set_index(text(alloc, "i")?, Value::scalar(1i64))?
@@ -281,13 +281,13 @@ fn sets_index(alloc: Global, sandbox: &mut Sandbox<'_>) -> Result<bool, Error> {
     Ok(is_new && sandbox.get_index("i").is_some() && sandbox.try_get_name("i").is_none())
 }
 
-/// Whether a sandbox has registers of its own, and sets an index variable below.
+/// Returns `true` if a sandbox has its own registers, and sets an index variable below.
 fn sandbox_holds(alloc: Global, runtime: &mut BuiltRuntime<Marks, u8>) -> Result<bool, Error> {
     let mut sandbox = SandboxedStackFrame::new(runtime, Object::new(alloc));
     Ok(marks_its_own(&mut sandbox) && sets_index(alloc, &mut sandbox)?)
 }
 
-/// Whether the registers are as they were before the sandbox: unmarked, with one interrupt.
+/// Returns `true` if the registers are as they were before the sandbox: unmarked, with one interrupt.
 fn keeps_registers(runtime: &mut BuiltRuntime<Marks, u8>) -> bool {
     runtime.registers().value.count == 0
         && runtime.registers_mut().interrupt.reset() == Some(Interrupt::Break)
@@ -318,7 +318,7 @@ fn registers_and_index_variables(rt: HostRuntime) -> Result<(), Fail> {
     )
 }
 
-/// Whether a name was not set, and its refusal has a text.
+/// Returns `true` if a name was not set, and its error has a text.
 fn is_not_set(
     alloc: Global,
     answer: Result<Option<Value>, Error>,
@@ -330,14 +330,14 @@ fn is_not_set(
     }
 }
 
-/// Whether a core refuses to set a global.
+/// Returns `true` if a core fails to set a global.
 fn core_sets_no_global(alloc: Global) -> Result<bool, AllocError> {
     let mut core: RuntimeCore<(), ()> = RuntimeCore::new();
     let answer = core.set_global(text(alloc, "a")?, Value::Nil);
     is_not_set(alloc, answer, "liquid: No global frame\n")
 }
 
-/// Whether a core refuses to set an index variable.
+/// Returns `true` if a core fails to set an index variable.
 fn core_sets_no_index(alloc: Global) -> Result<bool, AllocError> {
     let mut core: RuntimeCore<(), ()> = RuntimeCore::new();
     let answer = core.set_index(text(alloc, "a")?, Value::Nil);

@@ -1,4 +1,4 @@
-//! Texts, objects of numbers, and the texts of answers.
+//! Texts, objects of numbers, and the texts of results.
 use liquid_error::Error;
 use liquid_value::{Object, Value, ValueCow};
 use liquid_views::ValueView;
@@ -14,7 +14,7 @@ fn add(alloc: Global, object: &mut Object, name: &str, value: Value) -> Result<(
     Ok(())
 }
 
-/// An object of numbers.
+/// Returns an object of numbers.
 pub(crate) fn numbers(alloc: Global, pairs: &[(&'static str, i64)]) -> Result<Object, AllocError> {
     let mut object = Object::new(alloc);
     for (name, number) in pairs {
@@ -23,7 +23,7 @@ pub(crate) fn numbers(alloc: Global, pairs: &[(&'static str, i64)]) -> Result<Ob
     Ok(object)
 }
 
-/// What is written of an answer: the value's text, or that of the refusal.
+/// Returns what is written of a result: the value's text, or that of the error.
 pub(crate) fn answer_text(
     alloc: Global,
     answer: Result<ValueCow<'_>, Error>,

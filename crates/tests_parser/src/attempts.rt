@@ -1,4 +1,4 @@
-//! Attempts to read a token, and refusals of one and of a cursor.
+//! Attempts to read a token, and errors of a token and of a cursor.
 use crate::taken::chain_text;
 use crate::tokens::{first_token, tokens_of};
 use crate::told::told;
@@ -9,12 +9,12 @@ use std::alloc::{AllocError, Global};
 use std::test::Fail;
 use tests_lines::{Line, rows_hold};
 
-/// The text of a token that is no chain.
+/// Returns the text of a token that is not a chain.
 fn no_chain(alloc: Global, token: TagToken<'_>) -> Result<String, AllocError> {
     format!(in alloc; "no chain: {}", token.as_str())
 }
 
-/// What the first token of a tag shows as a chain, or its text again where it is none.
+/// Returns what the first token of a tag shows as a chain, or its text again if it is not one.
 fn chain_or_text(
     alloc: Global,
     text: &str,
@@ -26,12 +26,12 @@ fn chain_or_text(
     }
 }
 
-/// Whether a row's tag shows the chain or the text that the row tells.
+/// Returns `true` if a row's tag shows the chain or the text of the row.
 fn is_tried(alloc: Global, row: &Line, filters: &PluginRegistry<Filters>) -> Result<bool, Fail> {
     Ok(chain_or_text(alloc, row.text(0)?, filters)?.as_str() == row.text(1)?)
 }
 
-/// A tag, and what its first token shows as a chain, or the token where it is none.
+/// A tag, and what its first token shows as a chain, or the token if it is not one.
 const CHAINS: &str = r#"["{% t a %}", "a | "]
 ["{% t a.b[0] | append: 'c' | append: x %}", "a[\"b\"][0] | append | append"]
 ["{% t 1 | append %}", "no chain: 1 | append"]
@@ -50,7 +50,7 @@ fn chains_of_filters_are_tried(rt: HostRuntime) -> Result<(), Fail> {
     )
 }
 
-/// What a tag's first token is as a name, or the first line of its refusal.
+/// Returns a tag's first token as a name, or the first line of its error.
 fn name_or_refusal(alloc: Global, text: &str) -> Result<String, Error> {
     let attempt = first_token(alloc, text)?.expect_identifier();
     Ok(match attempt.into_result(alloc) {
@@ -59,7 +59,7 @@ fn name_or_refusal(alloc: Global, text: &str) -> Result<String, Error> {
     })
 }
 
-/// The same with a message of the plug-in's own.
+/// Does the same with a message of the plug-in's own.
 fn name_or_message(alloc: Global, text: &str) -> Result<String, Error> {
     let attempt = first_token(alloc, text)?.expect_identifier();
     Ok(
@@ -70,20 +70,20 @@ fn name_or_message(alloc: Global, text: &str) -> Result<String, Error> {
     )
 }
 
-/// The first line of a refusal of a tag's first token.
+/// Returns the first line of an error about a tag's first token.
 fn refused_token(alloc: Global, text: &str) -> Result<String, Error> {
     let error = first_token(alloc, text)?.raise_custom_error(alloc, "No token at all");
     Ok(told(alloc, &error)?)
 }
 
-/// The first line of a refusal of a tag's tokens behind the first.
+/// Returns the first line of an error about a tag's tokens after the first.
 fn refused_behind(alloc: Global, text: &str) -> Result<String, Error> {
     let mut tokens = tokens_of(alloc, text)?;
     let _ = tokens.next();
     Ok(told(alloc, &tokens.raise_error(alloc, "Nothing more"))?)
 }
 
-/// `nothing`, or the first line of the refusal of the token that is there.
+/// Returns `nothing`, or the first line of the error about the token that is left.
 fn nothing_or_refusal(alloc: Global, text: &str) -> Result<String, Error> {
     Ok(match tokens_of(alloc, text)?.expect_nothing(alloc) {
         Ok(()) => String::from_str(alloc, "nothing")?,
@@ -91,7 +91,7 @@ fn nothing_or_refusal(alloc: Global, text: &str) -> Result<String, Error> {
     })
 }
 
-/// Whether the attempts come to what a row tells.
+/// Returns `true` if the attempts have the results of a row.
 fn is_attempted(alloc: Global, row: &Line) -> Result<bool, Fail> {
     let text = row.text(0)?;
     Ok(
@@ -102,7 +102,7 @@ fn is_attempted(alloc: Global, row: &Line) -> Result<bool, Fail> {
     )
 }
 
-/// A tag; its first token as a name, and the same with a message; refusals of the token, and behind it.
+/// A tag; its first token as a name, and the same with a message; errors about the token, and after it.
 const ATTEMPTS: &str =
     r#"["{% t a %}", "a", "a", "liquid: No token at all (line 1, column 6)", "liquid: Nothing more (line 1, column 7)"]
 ["{% t\n a.b c %}", "liquid: Unexpected token (line 2, column 2)", "liquid: A name, please (line 2, column 2)", "liquid: No token at all (line 2, column 2)", "liquid: Nothing more (line 2, column 5)"]"#;
@@ -112,12 +112,12 @@ fn a_token_that_does_not_match_is_refused(rt: HostRuntime) -> Result<(), Fail> {
     rows_hold(rt.alloc(), ATTEMPTS, is_attempted)
 }
 
-/// Whether a row tells what is told of its tag where it should have no token.
+/// Returns `true` if a row has the result of its tag where it should have no token.
 fn is_nothing_or_refused(alloc: Global, row: &Line) -> Result<bool, Fail> {
     Ok(nothing_or_refusal(alloc, row.text(0)?)?.as_str() == row.text(1)?)
 }
 
-/// A tag, and what is told where it should have no token.
+/// A tag, and the result where it should have no token.
 const NOTHING: &str = r#"["{% t %}", "nothing"]
 ["{%-t-%} ", "nothing"]
 ["{% t  a == %}", "liquid: Unexpected token (line 1, column 7)"]"#;

@@ -1,4 +1,4 @@
-//! Bodies of blocks, with the nodes that their elements are parsed to.
+//! Bodies of blocks, with the nodes that their elements are parsed into.
 use crate::told::told;
 use bench::{BlockNode, Blocks, Filters, TagNode, Tags, language};
 use liquid_core::Error;
@@ -13,20 +13,20 @@ use tests_lines::{Line, holds, rows_hold, same};
 
 type BodyNode = Node<<Filters as ParseFilter>::Filter, TagNode, BlockNode>;
 
-/// A runtime without globals.
+/// Returns a runtime without globals.
 fn nothing_known(alloc: Global) -> BuiltRuntime<(), ()> {
     RuntimeBuilder::new(alloc)
         .set_globals(Object::new(alloc))
         .build()
 }
 
-/// What nodes come to.
+/// Returns what nodes write.
 fn rendered(alloc: Global, nodes: Vec<BodyNode>) -> Result<String, Error> {
     let mut runtime = nothing_known(alloc);
     Template::new(nodes).render(alloc, &mut runtime)
 }
 
-/// What the nodes of a body up to the end tag `end` come to.
+/// Returns what the nodes of a body up to the end tag `end` write.
 fn body_text(
     alloc: Global,
     body: &str,
@@ -36,7 +36,7 @@ fn body_text(
     rendered(alloc, block.parse_all(alloc, language)?)
 }
 
-/// What comes of a body: its text, or the first line of the refusal.
+/// Returns the result of a body: its text, or the first line of the error.
 fn parsed(
     alloc: Global,
     body: &str,
@@ -48,7 +48,7 @@ fn parsed(
     }
 }
 
-/// Whether a text is what comes of a body.
+/// Returns `true` if a text is the result of a body.
 fn comes_to(
     alloc: Global,
     body: &str,
@@ -58,7 +58,7 @@ fn comes_to(
     Ok(parsed(alloc, body, language)?.as_str() == text)
 }
 
-/// Whether a row tells what comes of its body.
+/// Returns `true` if a row has the result of its body.
 fn is_parsed(
     alloc: Global,
     row: &Line,
@@ -67,7 +67,7 @@ fn is_parsed(
     Ok(comes_to(alloc, row.text(0)?, row.text(1)?, language)?)
 }
 
-/// A body, and what comes of it.
+/// A body, and its result.
 const BODIES: &str = r#"["{% end %}a", ""]
 ["a{{ 5 }}{% box %}b{% endbox %}c{% end %}d", "a5[b]c"]
 ["{% swap %}a{% mid %}b{% endswap %}{% end %}", "ba"]
@@ -90,7 +90,7 @@ fn bodies_are_parsed_up_to_their_ends(rt: HostRuntime) -> Result<(), Fail> {
     rows_hold(alloc, BODIES, |alloc, row| is_parsed(alloc, row, &language))
 }
 
-/// A body of so many boxes in each other.
+/// Returns a body of that many nested boxes.
 fn boxes(alloc: Global, count: usize) -> Result<String, AllocError> {
     let mut body = String::new(alloc);
     for _ in 0..count {
@@ -103,7 +103,7 @@ fn boxes(alloc: Global, count: usize) -> Result<String, AllocError> {
     Ok(body)
 }
 
-/// How long the text is that comes of a body of so many boxes in each other.
+/// Returns the length of the result of a body of that many nested boxes.
 fn boxed_length(
     alloc: Global,
     count: usize,
@@ -113,7 +113,7 @@ fn boxed_length(
     Ok(parsed(alloc, body.as_str(), language)?.len())
 }
 
-/// Whether a text is what comes of a body of so many boxes in each other.
+/// Returns `true` if a text is the result of a body of that many nested boxes.
 fn boxed_comes_to(
     alloc: Global,
     count: usize,
@@ -139,7 +139,7 @@ fn a_cursor_counts_as_one_open_block(rt: HostRuntime) -> Result<(), Fail> {
     )
 }
 
-/// Puts a node behind others, where there is one.
+/// Adds a node after others, if there is one.
 fn add(nodes: &mut Vec<BodyNode>, node: Option<BodyNode>) -> Result<(), AllocError> {
     if let Some(node) = node {
         nodes.push(node)?;
@@ -147,7 +147,7 @@ fn add(nodes: &mut Vec<BodyNode>, node: Option<BodyNode>) -> Result<(), AllocErr
     Ok(())
 }
 
-/// The node of the next element.
+/// Returns the node of the next element.
 fn next_node(
     alloc: Global,
     block: &mut TagBlock<'_, '_>,
@@ -159,7 +159,7 @@ fn next_node(
     }
 }
 
-/// The node of the next element, where it is an expression.
+/// Returns the node of the next element, if it is an expression.
 fn next_expression(
     alloc: Global,
     block: &mut TagBlock<'_, '_>,
@@ -171,7 +171,7 @@ fn next_expression(
     }
 }
 
-/// The nodes of three elements, and of an expression behind them.
+/// Returns the nodes of three elements, and of an expression after them.
 fn four_nodes(
     alloc: Global,
     block: &mut TagBlock<'_, '_>,
@@ -185,12 +185,12 @@ fn four_nodes(
     Ok(nodes)
 }
 
-/// Whether there are four nodes, which come to a text.
+/// Returns `true` if there are four nodes, which write a text.
 fn four_come_to(alloc: Global, nodes: Vec<BodyNode>, text: &str) -> Result<bool, Error> {
     Ok(nodes.len() == 4 && rendered(alloc, nodes)?.as_str() == text)
 }
 
-/// Whether a cursor has no element more, and is closed.
+/// Returns `true` if a cursor has no element more, and is closed.
 fn is_at_end(
     alloc: Global,
     block: &mut TagBlock<'_, '_>,
@@ -200,7 +200,7 @@ fn is_at_end(
     Ok(is_last && block.is_closed())
 }
 
-/// Whether a body of four elements is parsed one by one to a text, and its cursor stays closed then.
+/// Returns `true` if a body of four elements is parsed one by one to a text, and its cursor stays closed then.
 fn is_parsed_one_by_one(
     alloc: Global,
     body: &str,
@@ -227,7 +227,7 @@ fn elements_are_parsed_one_by_one(rt: HostRuntime) -> Result<(), Fail> {
     )
 }
 
-/// The first line of the refusal of a token that begins nothing.
+/// Returns the first line of the error of a token that begins nothing.
 fn refusal_of(
     alloc: Global,
     token: InvalidLiquidToken<'_>,
@@ -240,7 +240,7 @@ fn refusal_of(
     }
 }
 
-/// Whether the next element is a brace that begins nothing, and is refused so.
+/// Returns `true` if the next element is a brace that begins nothing, and has this error.
 fn brace_is_refused(
     alloc: Global,
     block: &mut TagBlock<'_, '_>,
@@ -254,7 +254,7 @@ fn brace_is_refused(
     }
 }
 
-/// The node of a tag `box` alone, whose body lies in a cursor.
+/// Returns the node of a tag `box` alone, whose body lies in a cursor.
 fn box_node(
     alloc: Global,
     block: &mut TagBlock<'_, '_>,
@@ -263,7 +263,7 @@ fn box_node(
     Tag::new(alloc, "{% box %}")?.parse(alloc, block, language)
 }
 
-/// The node of the text that a body begins with.
+/// Returns the node of the text that a body begins with.
 fn text_node(alloc: Global, body: &str) -> Result<Option<BodyNode>, Error> {
     let mut block = TagBlock::new(body, "start", "end");
     match block.next(alloc)? {
@@ -272,7 +272,7 @@ fn text_node(alloc: Global, body: &str) -> Result<Option<BodyNode>, Error> {
     }
 }
 
-/// What a node and a text `b` behind it come to.
+/// Returns what a node and a text `b` after it write.
 fn with_text(alloc: Global, node: BodyNode) -> Result<String, Error> {
     let mut nodes = Vec::new(alloc);
     nodes.push(node)?;

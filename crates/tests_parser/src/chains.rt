@@ -17,9 +17,8 @@ fn answer_text(alloc: Global, answer: Result<ValueCow<'_>, Error>) -> Result<Str
     }
 }
 
-/// Chains: the first value and its indexes, and the filters, each with its arguments; then the text that
-/// the chain shows, and what it comes to; and what it comes to where names are lenient, if it is
-/// something else.
+/// Chains: the first value and its indexes, and the filters, each with its arguments; then the text that the chain
+/// shows, and its result; and its result with lenient names, if that is something else.
 const ROWS: &str =
     r#"[{"text": "a"}, [], [["append", [{"text": "b"}]], ["append", [1]]], "\"a\" | append | append", "ab1"]
 ["x", [], [], "x | ", "liquid: Unknown variable\n  with:\n    requested variable=x\n", ""]
@@ -59,12 +58,12 @@ fn chain_of(alloc: Global, row: &Line) -> Result<FilterChain<AnyFilter>, Fail> {
     Ok(FilterChain::new(entry_of(alloc, row)?, filters))
 }
 
-/// Whether a chain shows as its row tells.
+/// Returns `true` if a chain shows the text of its row.
 fn is_shown(alloc: Global, chain: &FilterChain<AnyFilter>, row: &Line) -> Result<bool, Fail> {
     Ok(chain.to_string(alloc)?.as_str() == row.text(3)?)
 }
 
-/// What the chain of a row comes to where names are strict, or where they are lenient.
+/// Returns the result of the chain of a row with strict names, or with lenient ones.
 fn expected(row: &Line, lenient: bool) -> Result<&str, Fail> {
     match row.found_text(5) {
         Some(text) if lenient => Ok(text),
@@ -72,7 +71,7 @@ fn expected(row: &Line, lenient: bool) -> Result<&str, Fail> {
     }
 }
 
-/// Whether a chain comes to what its row tells.
+/// Returns `true` if a chain has the result of its row.
 fn is_answered(
     alloc: Global,
     chain: &FilterChain<AnyFilter>,
@@ -83,7 +82,7 @@ fn is_answered(
     Ok(answer_text(alloc, chain.evaluate(alloc, runtime))?.as_str() == expected)
 }
 
-/// Whether the chain of a row shows and answers as the row tells.
+/// Returns `true` if the chain of a row shows the text and has the result of the row.
 fn is_as_told(alloc: Global, row: &Line, runtime: &BuiltRuntime<(), ()>) -> Result<bool, Fail> {
     let chain = chain_of(alloc, row)?;
     Ok(is_shown(alloc, &chain, row)? && is_answered(alloc, &chain, row, runtime)?)
@@ -99,8 +98,7 @@ fn chains_come_to_their_values(rt: HostRuntime) -> Result<(), Fail> {
     Ok(())
 }
 
-/// Whether trying comes to the value that evaluating comes to, or to nothing where that is nil since names
-/// are lenient.
+/// Returns `true` if trying gives the value that evaluating gives, or nothing if that is nil because names are lenient.
 fn is_same(tried: &Option<ValueCow<'_>>, value: &ValueCow<'_>, is_lenient: bool) -> bool {
     match tried {
         Some(tried) => *tried == *value,
@@ -108,8 +106,8 @@ fn is_same(tried: &Option<ValueCow<'_>>, value: &ValueCow<'_>, is_lenient: bool)
     }
 }
 
-/// Whether trying an entry comes to what evaluating it does, or to nothing where that is refused, or is
-/// nil since names are lenient.
+/// Returns `true` if trying an entry gives what evaluating it does, or nothing if that is an error, or is nil because
+/// names are lenient.
 fn is_tried(
     alloc: Global,
     entry: &Expression,
@@ -122,7 +120,7 @@ fn is_tried(
     })
 }
 
-/// Whether the entry of a row is tried alike.
+/// Returns `true` if the entry of a row is tried alike.
 fn entry_is_tried(alloc: Global, row: &Line, runtime: &BuiltRuntime<(), ()>) -> Result<bool, Fail> {
     Ok(is_tried(alloc, &entry_of(alloc, row)?, runtime)?)
 }

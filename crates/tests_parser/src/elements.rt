@@ -1,11 +1,11 @@
-//! Bodies of blocks, with the elements that are handed out, and escaped bodies.
+//! Bodies of blocks, with the elements that the cursor returns, and escaped bodies.
 use crate::told::told;
 use liquid_core::parser::{BlockElement, TagBlock};
 use std::alloc::{AllocError, Global};
 use std::test::Fail;
 use tests_lines::{Line, holds, rows_hold};
 
-/// The kind of an element and its text.
+/// Returns the kind of an element and its text.
 fn shown(alloc: Global, element: BlockElement<'_>) -> Result<String, AllocError> {
     let (kind, text) = match element {
         BlockElement::Raw(raw) => ("raw", raw.as_str()),
@@ -17,7 +17,7 @@ fn shown(alloc: Global, element: BlockElement<'_>) -> Result<String, AllocError>
     format!(in alloc; "{kind} `{text}`{same}")
 }
 
-/// What is handed out of a body up to its end, and what is refused, joined by ` / `.
+/// Returns the elements of a body up to its end, and the errors, joined by ` / `.
 fn handed_out(alloc: Global, body: &str) -> Result<String, AllocError> {
     let mut block = TagBlock::new(body, "start", "end");
     let mut texts = Vec::new(alloc);
@@ -36,12 +36,12 @@ fn handed_out(alloc: Global, body: &str) -> Result<String, AllocError> {
     texts.join(alloc, " / ")
 }
 
-/// Whether a row tells what is handed out of its body.
+/// Returns `true` if a row has the elements of its body.
 fn hands_out(alloc: Global, row: &Line) -> Result<bool, Fail> {
     Ok(handed_out(alloc, row.text(0)?)?.as_str() == row.text(1)?)
 }
 
-/// A body, and what is handed out of it.
+/// A body, and its elements.
 const HANDED_OUT: &str = r#"["{% end %}a", "closed"]
 ["a {{ b }}{% t 1 %}{{% end %}c", "raw `a ` / expression `{{ b }}` / t `{% t 1 %}` / invalid `{` / closed"]
 ["a {%- end -%} \n", "raw `a` / closed"]
@@ -56,7 +56,7 @@ fn elements_are_handed_out_in_their_order(rt: HostRuntime) -> Result<(), Fail> {
     rows_hold(rt.alloc(), HANDED_OUT, hands_out)
 }
 
-/// Whether a body without its end is refused where it ends, and stays open.
+/// Returns `true` if a body without its end is an error at its end, and stays open.
 fn is_refused_at_its_end(alloc: Global, block: &mut TagBlock<'_, '_>) -> Result<bool, AllocError> {
     let refusal = "liquid: Unclosed block. {% end %} tag expected. (line 2, column 3)";
     match block.next(alloc) {
@@ -79,7 +79,7 @@ fn a_body_without_its_end_is_refused_at_its_end(rt: HostRuntime) -> Result<(), F
     Ok(())
 }
 
-/// The escaped body of a block, or the first line of its refusal.
+/// Returns the escaped body of a block, or the first line of its error.
 fn escaped(alloc: Global, block: &mut TagBlock<'_, '_>, nests: bool) -> Result<String, AllocError> {
     if block.is_closed() {
         return String::from_str(alloc, "closed before");
@@ -90,7 +90,7 @@ fn escaped(alloc: Global, block: &mut TagBlock<'_, '_>, nests: bool) -> Result<S
     }
 }
 
-/// A cursor over the body of a block `raw`, behind so many elements.
+/// Returns a cursor over the body of a block `raw`, after that many elements.
 fn passed_by<'a>(alloc: Global, body: &'a str, passed: i64) -> TagBlock<'a, 'static> {
     let mut block = TagBlock::new(body, "raw", "endraw");
     for _ in 0..passed {
@@ -99,15 +99,15 @@ fn passed_by<'a>(alloc: Global, body: &'a str, passed: i64) -> TagBlock<'a, 'sta
     block
 }
 
-/// Whether a row tells what becomes of its body, and whether the block is closed then.
+/// Returns `true` if a row has the result of its body, and says whether the block is closed then.
 fn is_escaped(alloc: Global, row: &Line) -> Result<bool, Fail> {
     let mut block = passed_by(alloc, row.text(0)?, row.number(1)?);
     let is_text = escaped(alloc, &mut block, row.truth(2)?)?.as_str() == row.text(3)?;
     Ok(is_text && block.is_closed() == row.truth(4)?)
 }
 
-/// A body, how many elements are passed before, whether starts nest, the escaped text or the refusal, and
-/// whether the block is closed then.
+/// A body, how many elements are passed before, whether starts nest, the escaped text or the error, and whether the
+/// block is closed then.
 const ESCAPED: &str = r#"["{% endraw %}a", 0, false, "", true]
 ["{{ a }}{{% endraw %}", 0, false, "{{ a }}{", true]
 [" x {%- endraw -%} y", 0, false, " x", true]

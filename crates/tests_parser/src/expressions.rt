@@ -8,21 +8,21 @@ use std::alloc::{AllocError, Global};
 use std::test::Fail;
 use tests_lines::holds;
 
-/// The path `foo[0]["bar"]`.
+/// Returns the path `foo[0]["bar"]`.
 fn literal_path(alloc: Global) -> Result<Variable, AllocError> {
     Variable::with_literal(alloc, text(alloc, "foo")?)
         .push_literal(0i64)?
         .push_literal(text(alloc, "bar")?)
 }
 
-/// Puts the index `foo["bar"]` behind the indexes.
+/// Adds the index `foo["bar"]` after the indexes.
 fn add_path(alloc: Global, variable: &mut Variable) -> Result<(), AllocError> {
     let mut more = Vec::new(alloc);
     more.push(expression(alloc, Name("foo"), &[Word("bar")])?)?;
     variable.extend(more)
 }
 
-/// Puts the indexes 7 and true behind the indexes.
+/// Adds the indexes 7 and true after the indexes.
 fn add_scalars(alloc: Global, variable: &mut Variable) -> Result<(), AllocError> {
     let mut scalars = Vec::new(alloc);
     scalars.push(Scalar::from(7i64))?;
@@ -30,7 +30,7 @@ fn add_scalars(alloc: Global, variable: &mut Variable) -> Result<(), AllocError>
     variable.extend(scalars)
 }
 
-/// The path `foo[0]["bar"][foo["bar"]][7][true]`.
+/// Returns the path `foo[0]["bar"][foo["bar"]][7][true]`.
 fn long_path(alloc: Global) -> Result<Variable, AllocError> {
     let mut variable = literal_path(alloc)?;
     add_path(alloc, &mut variable)?;
@@ -38,27 +38,27 @@ fn long_path(alloc: Global) -> Result<Variable, AllocError> {
     Ok(variable)
 }
 
-/// Whether a path shows as a text.
+/// Returns `true` if a path shows as a text.
 fn path_shows(alloc: Global, variable: &Variable, text: &str) -> Result<bool, AllocError> {
     Ok(variable.to_string(alloc)?.as_str() == text)
 }
 
-/// Whether a copy of a path equals it.
+/// Returns `true` if a copy of a path equals it.
 fn copy_is_equal(variable: &Variable) -> Result<bool, AllocError> {
     Ok(variable.clone()? == *variable)
 }
 
-/// A copy of a path as an expression.
+/// Returns a copy of a path as an expression.
 fn as_expression(variable: &Variable) -> Result<Expression, AllocError> {
     Ok(Expression::Variable(variable.clone()?))
 }
 
-/// Whether expressions of two copies of a path are equal.
+/// Returns `true` if expressions of two copies of a path are equal.
 fn expressions_are_equal(variable: &Variable) -> Result<bool, AllocError> {
     Ok(as_expression(variable)? == as_expression(variable)?)
 }
 
-/// Whether the expression of a path differs from that of a name.
+/// Returns `true` if the expression of a path differs from that of a name.
 fn differs_from_name(
     alloc: Global,
     variable: &Variable,
@@ -67,28 +67,28 @@ fn differs_from_name(
     Ok(as_expression(variable)? != part_of(alloc, Name(name))?)
 }
 
-/// Whether the expression of a path has no literal.
+/// Returns `true` if the expression of a path has no literal.
 fn has_no_literal(variable: &Variable) -> Result<bool, AllocError> {
     Ok(as_expression(variable)?.into_literal().is_none())
 }
 
-/// Whether the path is taken out of its expression again.
+/// Returns `true` if the path is taken out of its expression again.
 fn is_taken_out(variable: Variable) -> Result<bool, AllocError> {
     Ok(as_expression(&variable)?.into_variable() == Some(variable))
 }
 
-/// Whether the expression of the text `a` shows it in quotes.
+/// Returns `true` if the expression of the text `a` shows it in quotes.
 fn literal_shows(alloc: Global) -> Result<bool, AllocError> {
     Ok(part_of(alloc, Word("a"))?.to_string(alloc)?.as_str() == "\"a\"")
 }
 
-/// Whether the text `a` is taken out of its expression.
+/// Returns `true` if the text `a` is taken out of its expression.
 fn literal_is_taken_out(alloc: Global) -> Result<bool, AllocError> {
     let literal = part_of(alloc, Word("a"))?.into_literal();
     Ok(literal == Some(Value::scalar(text(alloc, "a")?)))
 }
 
-/// Whether a path is copied and compared as it shows.
+/// Returns `true` if a path is copied and compared as it shows.
 fn is_copied_and_compared(alloc: Global, variable: &Variable) -> Result<bool, AllocError> {
     Ok(
         copy_is_equal(variable)?
@@ -127,14 +127,14 @@ fn a_literal_shows_in_quotes_and_is_taken_out(rt: HostRuntime) -> Result<(), Fai
     )
 }
 
-/// Puts a variable behind the indexes.
+/// Adds a variable after the indexes.
 fn add_index(alloc: Global, variable: &mut Variable, name: &'static str) -> Result<(), AllocError> {
     let mut more = Vec::new(alloc);
     more.push(part_of(alloc, Name(name))?)?;
     variable.extend(more)
 }
 
-/// Whether a path comes to a text, and to something where it is tried.
+/// Returns `true` if the value of a path is a text, and there is a value if it is tried.
 fn leads_to(
     alloc: Global,
     variable: &Variable,
@@ -149,7 +149,7 @@ fn leads_to(
     Ok(is_path && variable.try_evaluate(alloc, runtime)?.is_some())
 }
 
-/// Whether a path is refused, and comes to nothing where it is tried.
+/// Returns `true` if a path is an error, and there is no value if it is tried.
 fn leads_nowhere(
     alloc: Global,
     variable: &Variable,

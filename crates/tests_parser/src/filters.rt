@@ -9,7 +9,7 @@ use std::alloc::{AllocError, Global};
 use std::test::Fail;
 use tests_lines::{Line, holds, rows_hold};
 
-/// What a filter makes of an input, or the text of its refusal.
+/// Returns what a filter makes of an input, or the text of its error.
 fn called(
     alloc: Global,
     filter: Filters,
@@ -32,27 +32,27 @@ const CALLS: &str = r#"["append", [{"text": "%"}], "5%"]
 ["fail", [], "liquid: bad\n"]
 ["fail", [1], "liquid: Unexpected arguments\n"]"#;
 
-/// Whether a filter makes of its arguments what the row tells.
+/// Returns `true` if a filter makes of its arguments what the row says.
 fn is_called(alloc: Global, row: &Line) -> Result<bool, Fail> {
     let filter = filter_named(row.found(0))?;
     let given = arguments(alloc, parts_in(alloc, row.list(1)?)?.as_slice())?;
     Ok(called(alloc, filter, given)?.as_str() == row.text(2)?)
 }
 
-/// The argument 1, and the argument 2 by a keyword.
+/// Returns the argument 1, and the argument 2 by a keyword.
 fn keyword_arguments(alloc: Global) -> Result<FilterArguments<'static>, AllocError> {
     let mut given = arguments(alloc, &[Number(1)])?;
     given.keyword.push(("by", part_of(alloc, Number(2))?))?;
     Ok(given)
 }
 
-/// Whether a keyword that a filter doesn't know is refused.
+/// Returns `true` if a keyword that a filter doesn't know is an error.
 fn keyword_is_refused(alloc: Global) -> Result<bool, AllocError> {
     let given = keyword_arguments(alloc)?;
     Ok(called(alloc, Filters::Append, given)?.as_str() == UNEXPECTED)
 }
 
-/// Whether the filters tell their names and parameters.
+/// Returns `true` if the filters return their names and parameters.
 fn filters_are_reflected() -> bool {
     let first = Filters::Append.positional_parameters().first();
     Filters::Append.name() == "append"
@@ -76,14 +76,14 @@ fn filters_are_called_without_a_template(rt: HostRuntime) -> Result<(), Fail> {
 
 type Registry = PluginRegistry<Filters>;
 
-/// Registers a filter under two names that are new, and answers whether none was there before.
+/// Registers a filter under two names that are new, and returns whether none was there before.
 fn registers_two(registry: &mut Registry) -> Result<bool, AllocError> {
     let is_first_new = !registry.register("fail", Filters::Append)?;
     let is_second_new = !registry.register("append", Filters::Append)?;
     Ok(is_first_new && is_second_new)
 }
 
-/// Whether the other filter takes the place of the first one, but not in a copy made before.
+/// Returns `true` if the other filter takes the place of the first one, but not in a copy made before.
 fn replaces_one(registry: &mut Registry) -> Result<bool, AllocError> {
     let before = registry.clone()?;
     let is_replaced = registry.register("fail", Filters::Fail)?;
@@ -95,7 +95,7 @@ fn replaces_one(registry: &mut Registry) -> Result<bool, AllocError> {
     )
 }
 
-/// Whether the names are handed out in their order.
+/// Returns `true` if the names are listed in order.
 fn names_are_listed(registry: &Registry) -> bool {
     let mut names = registry.plugin_names();
     names.len() == 2
@@ -106,7 +106,7 @@ fn names_are_listed(registry: &Registry) -> bool {
         && names.next().is_none()
 }
 
-/// Whether the filters are handed out in the order of their names.
+/// Returns `true` if the filters are listed in the order of their names.
 fn plugins_are_listed(registry: &Registry) -> bool {
     let mut plugins = registry.plugins();
     plugins.len() == 2

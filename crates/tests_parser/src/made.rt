@@ -28,7 +28,7 @@ pub(crate) fn part_of(alloc: Global, part: Part<'_>) -> Result<Expression, Alloc
     })
 }
 
-/// The part that a row gives: a whole number, `{"text": ".."}`, or a name.
+/// Returns the part that a row gives: a whole number, `{"text": ".."}`, or a name.
 pub(crate) fn part_in(given: &Json) -> Result<Part<'_>, Fail> {
     if let Some(Json::String(word)) = given.get("text") {
         return Ok(Word(word.as_str()));
@@ -83,7 +83,7 @@ pub(crate) fn arguments(
 const GLOBALS: &str =
     r#"{"list": [0, 1, 2, 3, 4, 5, 6, 7, 8, 9], "one": [1], "word": "part", "box": {"part": 7}}"#;
 
-/// A runtime with the globals, whose names are lenient if that is asked.
+/// Returns a runtime with the globals, with lenient names or not.
 pub(crate) fn runtime(alloc: Global, lenient: bool) -> Result<BuiltRuntime<(), ()>, Fail> {
     let globals = to_object(alloc, &Json::from_str(alloc, GLOBALS)?)?;
     Ok(

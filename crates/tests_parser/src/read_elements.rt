@@ -13,7 +13,7 @@ use tests_lines::same;
 
 type TheNode = Node<AnyFilter, TagNode, BlockNode>;
 
-/// The kind of a node, or the text of the refusal.
+/// Returns the kind of a node, or the text of the error.
 fn kind(alloc: Global, read: Result<TheNode, Error>) -> Result<String, Fail> {
     let kind = match read {
         Ok(Node::Tag(_)) => "tag",
@@ -24,7 +24,7 @@ fn kind(alloc: Global, read: Result<TheNode, Error>) -> Result<String, Fail> {
     Ok(String::from_str(alloc, kind)?)
 }
 
-/// What the first element of a body is read as: a tag by the tag's own call, an invalid by its own.
+/// Returns what the first element of a body is read as: a tag by the tag's own call, an invalid by its own.
 fn first_read(alloc: Global, body: &str) -> Result<String, Fail> {
     let language = language(alloc)?;
     let mut block = TagBlock::new(body, "start", "end");

@@ -1,10 +1,10 @@
-//! What tags and blocks tell about themselves.
+//! What tags and blocks say about themselves.
 use bench::{Blocks, Tags, language};
 use liquid_core::parser::{BlockReflection, PluginRegistry, TagReflection};
 use std::test::Fail;
 use tests_lines::{Line, rows_hold};
 
-/// Whether a text that may be given is what a row has at a place: a text, or null.
+/// Returns `true` if a text that may be given is what a row has at a place: a text, or null.
 fn is_told(told: Option<&str>, row: &Line, place: usize) -> Result<bool, Fail> {
     Ok(match told {
         Some(text) => text == row.text(place)?,
@@ -12,7 +12,7 @@ fn is_told(told: Option<&str>, row: &Line, place: usize) -> Result<bool, Fail> {
     })
 }
 
-/// Whether a block tells its tags, its description, its example and its spec as a row does.
+/// Returns `true` if a block has the tags, the description, the example and the spec of a row.
 fn block_is_told(block: &Blocks, row: &Line) -> Result<bool, Fail> {
     Ok(
         block.start_tag() == row.text(0)?
@@ -23,7 +23,7 @@ fn block_is_told(block: &Blocks, row: &Line) -> Result<bool, Fail> {
     )
 }
 
-/// Whether the block that a row names is registered, and tells what the row does.
+/// Returns `true` if the block that a row names is registered, and says what the row says.
 fn has_block(blocks: &PluginRegistry<Blocks>, row: &Line) -> Result<bool, Fail> {
     match blocks.get(row.text(0)?) {
         Some(block) => block_is_told(block, row),
@@ -43,7 +43,7 @@ fn blocks_tell_what_they_are(rt: HostRuntime) -> Result<(), Fail> {
     rows_hold(alloc, BLOCKS, |_, row| has_block(&language.blocks, row))
 }
 
-/// Whether a tag tells its name, its description, its example and its spec as a row does.
+/// Returns `true` if a tag has the name, the description, the example and the spec of a row.
 fn tag_is_told(tag: &Tags, row: &Line) -> Result<bool, Fail> {
     Ok(
         tag.tag() == row.text(0)?
@@ -53,7 +53,7 @@ fn tag_is_told(tag: &Tags, row: &Line) -> Result<bool, Fail> {
     )
 }
 
-/// Whether the tag that a row names is registered, and tells what the row does.
+/// Returns `true` if the tag that a row names is registered, and says what the row says.
 fn has_tag(tags: &PluginRegistry<Tags>, row: &Line) -> Result<bool, Fail> {
     match tags.get(row.text(0)?) {
         Some(tag) => tag_is_told(tag, row),

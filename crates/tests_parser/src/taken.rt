@@ -1,4 +1,4 @@
-//! The next token of a tag, as what a plug-in expects, and what is left behind it.
+//! The next token of a tag, as what a plug-in expects, and what is left after it.
 use crate::tokens::{joined, tokens_of};
 use crate::told::told;
 use bench::{Filters, language};
@@ -12,7 +12,7 @@ const MISSING: &str = "Token expected";
 
 type Registry = PluginRegistry<Filters>;
 
-/// The text that a chain shows.
+/// Returns the text that a chain shows.
 pub(crate) fn chain_text(
     alloc: Global,
     chain: &FilterChain<<Filters as ParseFilter>::Filter>,
@@ -20,7 +20,7 @@ pub(crate) fn chain_text(
     Ok(chain.to_string(alloc)?)
 }
 
-/// The text of the next token, as what a row expects.
+/// Returns the text of the next token, as what a row expects.
 fn next_text(
     alloc: Global,
     expected: &str,
@@ -40,7 +40,8 @@ fn next_text(
     Ok(String::from_str(alloc, expected)?)
 }
 
-/// Whether the next token of a row's tag is what the row tells, or is refused so, and the same tokens are left.
+/// Returns `true` if the next token of a row's tag is what the row says, or has the row's error, and the same tokens
+/// are left.
 fn is_taken(alloc: Global, row: &Line, filters: &Registry) -> Result<bool, Fail> {
     let text = row.text(1)?;
     let mut tokens = tokens_of(alloc, text)?;
@@ -54,7 +55,7 @@ fn is_taken(alloc: Global, row: &Line, filters: &Registry) -> Result<bool, Fail>
     )
 }
 
-/// What the first token of a tag should be, the tag, what the token is or its refusal, and the tokens that are left.
+/// What the first token of a tag should be, the tag, the token or its error, and the tokens that are left.
 const ROWS: &str = r#"["identifier", "{% t a b %}", "a", "b"]
 ["identifier", "{% t a.b c %}", "liquid: Unexpected token (line 1, column 6)", "a.b / c"]
 ["identifier", "{% t 'a' %}", "liquid: Unexpected token (line 1, column 6)", "'a'"]

@@ -6,7 +6,7 @@ use std::alloc::{AllocError, Global};
 use std::test::Fail;
 use tests_lines::{Line, rows_hold};
 
-/// The texts of the tokens of a tag, joined by ` / `, or the refusal of the tag.
+/// Returns the texts of the tokens of a tag, joined by ` / `, or the error of the tag.
 fn texts(alloc: Global, text: &str) -> Result<String, AllocError> {
     match Tag::new(alloc, text) {
         Ok(tag) => joined(alloc, tag.into_tokens(), text.len()),
@@ -14,7 +14,7 @@ fn texts(alloc: Global, text: &str) -> Result<String, AllocError> {
     }
 }
 
-/// The texts of so many tokens at most, joined by ` / `.
+/// Returns the texts of at most that many tokens, joined by ` / `.
 pub(crate) fn joined(
     alloc: Global,
     tokens: TagTokenIter<'_>,
@@ -30,7 +30,7 @@ pub(crate) fn joined(
     texts.join(alloc, " / ")
 }
 
-/// Whether a token is taken for a variable.
+/// Returns `true` if a token is read as a variable.
 fn is_variable(alloc: Global, token: TagToken<'_>) -> Result<bool, AllocError> {
     match token.expect_variable(alloc)? {
         TryMatchToken::Matches(_) => Ok(true),
@@ -38,7 +38,7 @@ fn is_variable(alloc: Global, token: TagToken<'_>) -> Result<bool, AllocError> {
     }
 }
 
-/// Whether a token is taken for a literal.
+/// Returns `true` if a token is read as a literal.
 fn is_literal(alloc: Global, token: TagToken<'_>) -> Result<bool, AllocError> {
     match token.expect_literal(alloc)? {
         TryMatchToken::Matches(_) => Ok(true),
@@ -46,7 +46,7 @@ fn is_literal(alloc: Global, token: TagToken<'_>) -> Result<bool, AllocError> {
     }
 }
 
-/// Whether a token is taken for a value.
+/// Returns `true` if a token is read as a value.
 fn is_value(alloc: Global, token: TagToken<'_>) -> Result<bool, AllocError> {
     match token.expect_value(alloc)? {
         TryMatchToken::Matches(_) => Ok(true),
@@ -54,7 +54,7 @@ fn is_value(alloc: Global, token: TagToken<'_>) -> Result<bool, AllocError> {
     }
 }
 
-/// Whether a token is taken for a range.
+/// Returns `true` if a token is read as a range.
 fn is_range(alloc: Global, token: TagToken<'_>) -> Result<bool, AllocError> {
     match token.expect_range(alloc)? {
         TryMatchToken::Matches(_) => Ok(true),
@@ -62,7 +62,7 @@ fn is_range(alloc: Global, token: TagToken<'_>) -> Result<bool, AllocError> {
     }
 }
 
-/// Whether a token is taken for an identifier.
+/// Returns `true` if a token is read as an identifier.
 fn is_identifier(token: TagToken<'_>) -> bool {
     match token.expect_identifier() {
         TryMatchToken::Matches(_) => true,
@@ -70,7 +70,7 @@ fn is_identifier(token: TagToken<'_>) -> bool {
     }
 }
 
-/// Whether a token is taken for `==`.
+/// Returns `true` if a token is read as `==`.
 fn is_equality(token: TagToken<'_>) -> bool {
     match token.expect_str("==") {
         TryMatchToken::Matches(()) => true,
@@ -78,12 +78,12 @@ fn is_equality(token: TagToken<'_>) -> bool {
     }
 }
 
-/// The letter of an attempt, where it matches.
+/// Returns the letter of an attempt, if it matches.
 fn letter(matches: bool, letter: &'static str) -> &'static str {
     if matches { letter } else { "" }
 }
 
-/// A letter for each attempt that matches the token.
+/// Returns a letter for each attempt that matches the token.
 fn kinds(alloc: Global, token: TagToken<'_>) -> Result<String, AllocError> {
     let identifier = letter(is_identifier(token), "i");
     let variable = letter(is_variable(alloc, token)?, "v");
@@ -94,12 +94,12 @@ fn kinds(alloc: Global, token: TagToken<'_>) -> Result<String, AllocError> {
     format!(in alloc; "{identifier}{variable}{literal}{value}{range}{equality}")
 }
 
-/// Whether a row tells the tokens of its tag, or its refusal.
+/// Returns `true` if a row has the tokens of its tag, or its error.
 fn has_tokens(alloc: Global, row: &Line) -> Result<bool, Fail> {
     Ok(texts(alloc, row.text(0)?)?.as_str() == row.text(1)?)
 }
 
-/// A tag, and its tokens, or its refusal.
+/// A tag, and its tokens, or its error.
 const TOKENS: &str = r#"["{% t (1..3) a | append: 1 == b %}", "(1..3) / a | append: 1 / == / b"]
 ["{%-t-%} \n", ""]
 ["{% t a.b[0],'c' %}", "a.b[0] / , / 'c'"]
@@ -115,29 +115,29 @@ fn tags_have_tokens(rt: HostRuntime) -> Result<(), Fail> {
     rows_hold(rt.alloc(), TOKENS, has_tokens)
 }
 
-/// The tokens of a tag.
+/// Returns the tokens of a tag.
 pub(crate) fn tokens_of(alloc: Global, text: &str) -> Result<TagTokenIter<'_>, Error> {
     Ok(Tag::new(alloc, text)?.into_tokens())
 }
 
-/// The first token of a tag.
+/// Returns the first token of a tag.
 pub(crate) fn first_token(alloc: Global, text: &str) -> Result<TagToken<'_>, Error> {
     tokens_of(alloc, text)?.expect_next(alloc, "Token expected")
 }
 
-/// Whether the first token of a tag has the kinds of some letters.
+/// Returns `true` if the first token of a tag has the kinds of some letters.
 fn has_kinds(alloc: Global, text: &str, letters: &str) -> Result<bool, Error> {
     let token = first_token(alloc, text)?;
     Ok(kinds(alloc, token)?.as_str() == letters)
 }
 
-/// Whether the first token of a tag is raised as a refusal.
+/// Returns `true` if the first token of a tag is raised as an error.
 fn is_raised(alloc: Global, text: &str, refusal: &str) -> Result<bool, Error> {
     let token = first_token(alloc, text)?;
     Ok(told(alloc, &token.raise_error(alloc))?.as_str() == refusal)
 }
 
-/// What is expected behind the first token of a tag: a token's text, or the first line of the refusal.
+/// Returns what is expected after the first token of a tag: a token's text, or the first line of the error.
 fn second_token(alloc: Global, text: &str) -> Result<String, Error> {
     let mut tokens = tokens_of(alloc, text)?;
     tokens.expect_next(alloc, "Token expected")?;
@@ -147,14 +147,14 @@ fn second_token(alloc: Global, text: &str) -> Result<String, Error> {
     })
 }
 
-/// Whether a tag has no second token, which is refused at the tag's end.
+/// Returns `true` if a tag has no second token, and the error for that is at the tag's end.
 fn has_one_token(alloc: Global, text: &str) -> Result<bool, Error> {
     let column = text.len().saturating_sub(2);
     let refusal = format!(in alloc; "liquid: Token expected (line 1, column {column})")?;
     Ok(second_token(alloc, text)? == refusal)
 }
 
-/// Whether a row tells the kinds of the only token of its tag, which can be raised as a refusal.
+/// Returns `true` if a row has the kinds of the only token of its tag, which can be raised as an error.
 fn is_of_kinds(alloc: Global, row: &Line) -> Result<bool, Fail> {
     let text = row.text(0)?;
     let refusal = "liquid: Unexpected token (line 1, column 6)";

@@ -9,7 +9,7 @@ use std::alloc::{AllocError, Global};
 use std::test::Fail;
 use tests_lines::{Line, rows_hold};
 
-/// The index that a row gives: a part, or a list of a name and the parts behind it.
+/// Returns the index that a row gives: a part, or a list of a name and the parts after it.
 fn index_in(alloc: Global, given: &Json) -> Result<Expression, Fail> {
     let Some(path) = given.as_array() else {
         return Ok(part_of(alloc, part_in(given)?)?);
@@ -21,7 +21,7 @@ fn index_in(alloc: Global, given: &Json) -> Result<Expression, Fail> {
     }
 }
 
-/// The variable of a row's name and indexes.
+/// Returns the variable of a row's name and indexes.
 fn variable_in(alloc: Global, row: &Line) -> Result<Expression, Fail> {
     let mut indexes = Vec::new(alloc);
     for given in row.list(2)? {
@@ -31,7 +31,7 @@ fn variable_in(alloc: Global, row: &Line) -> Result<Expression, Fail> {
     Ok(Expression::of_parts(name, indexes))
 }
 
-/// Whether a row's text is parsed as the row's variable.
+/// Returns `true` if a row's text is parsed as the row's variable.
 fn is_parsed(alloc: Global, row: &Line) -> Result<bool, Fail> {
     let variable = parse_variable(alloc, row.text(0)?)?;
     Ok(Expression::Variable(variable) == variable_in(alloc, row)?)
@@ -48,7 +48,7 @@ fn whole_texts_are_variables(rt: HostRuntime) -> Result<(), Fail> {
     rows_hold(rt.alloc(), VARIABLES, is_parsed)
 }
 
-/// The first line of the refusal of a text that is no variable.
+/// Returns the first line of the error of a text that is not a variable.
 fn refusal(alloc: Global, text: &str) -> Result<String, AllocError> {
     match parse_variable(alloc, text) {
         Ok(_) => String::from_str(alloc, "a variable"),
@@ -56,12 +56,12 @@ fn refusal(alloc: Global, text: &str) -> Result<String, AllocError> {
     }
 }
 
-/// Whether a row's text is refused as the row tells.
+/// Returns `true` if a row's text has the error of the row.
 fn is_refused(alloc: Global, row: &Line) -> Result<bool, Fail> {
     Ok(refusal(alloc, row.text(0)?)?.as_str() == row.text(1)?)
 }
 
-/// A text that is no variable as a whole, and its refusal.
+/// A text that is not a variable as a whole, and its error.
 const REFUSED: &str = r#"["a b", "liquid: Invalid liquid (line 1, column 1)"]
 ["", "liquid: Invalid liquid (line 1, column 1)"]
 [" a", "liquid: Invalid liquid (line 1, column 1)"]

@@ -1,5 +1,5 @@
-//! A table whose second row doesn't hold. The program ends with status 1, which its file `status` asks for: a test can't
-//! see that, since a failure of a test can't be let go.
+//! A table whose second row does not pass. The program ends with status 1, as its file `status` says. A test can't
+//! check that, since a failure of a test can't be ignored.
 #![tactic(auto)]
 
 use std::test::Fail;

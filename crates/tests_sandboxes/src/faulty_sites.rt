@@ -1,6 +1,6 @@
 //! Sites with a partial whose text has a fault.
 
-/// Sites, each refused where its partial is asked for.
+/// Sites, each with an error where its partial is requested.
 pub(crate) const FAULTY: &str =
     r#"{"template": "{% assign x = 1 %}a{% increment c %}{% include \"bad\" %}b", "partials": [["bad", "é{% if k %}{% assign k = '2' %}{% else %}{% elsif true %}é{% endif %}"]], "written": "a0", "error": "liquid: Divider after else (line 1, column 50)\nfrom: include bad\n", "assigned": {"x": "1"}, "counted": {"c": "1"}}
 {"template": "{% for i in (1..3) %}{{ i }}{% if i == n %}{% render \"bad\", x: i %}{% endif %}{% assign s = i %}{% increment d %}{% endfor %}{% assign x = 1 %}", "data": {"n": 2}, "partials": [["bad", "{{ k }}{{ false }}{% if b == i %}{% if i %}-{% endif %}{% elsif a[-1] == z[-1] %}é{% else %}{% elsif true %}{{ 2 }}{% endif %}"]], "written": "102", "error": "liquid: Divider after else (line 1, column 101)\nfrom: render bad\n", "assigned": {"s": "1"}, "counted": {"d": "1"}}

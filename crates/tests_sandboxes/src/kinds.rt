@@ -30,17 +30,17 @@ pub(crate) trait Kind {
 
     type Store: PartialStore<Self::Filter, Self::Tag, Self::Block> + Drop;
 
-    /// The language that rows are read in.
+    /// Returns the language that rows are read in.
     fn language(alloc: Global) -> Result<Self::Language, AllocError>;
 
-    /// The template of a row.
+    /// Returns the template of a row.
     fn page(
         alloc: Global,
         language: &Self::Language,
         row: &Row,
     ) -> Result<Template<Self::Filter, Self::Tag, Self::Block>, Fail>;
 
-    /// A store of a row's partials.
+    /// Returns a store of a row's partials.
     fn store(alloc: Global, language: &Self::Language, row: &Row) -> Result<Self::Store, Fail>;
 }
 
@@ -60,7 +60,7 @@ fn add_partial(alloc: Global, source: &mut InMemorySource, partial: &Json) -> Re
     }
 }
 
-/// The source of a row's partials.
+/// Returns the source of a row's partials.
 fn source(alloc: Global, row: &Row) -> Result<InMemorySource, Fail> {
     let mut source = InMemorySource::new(alloc);
     if let Some(Json::Array(partials)) = row.member("partials") {
@@ -113,7 +113,7 @@ type LibraryLanguage = Language<Filters, Tags, Blocks>;
 
 type LibraryPage = Template<AnyFilter, TagNode<AnyFilter>, BlockNode>;
 
-/// The library's language with the filters of the tests.
+/// Returns the library's language with the filters of the tests.
 fn library_language(alloc: Global) -> Result<Rc<LibraryLanguage>, AllocError> {
     let filters = bench::languages::filters(alloc)?;
     Ok(Rc::new(alloc, liquid_tags::language(alloc, filters)?)?)

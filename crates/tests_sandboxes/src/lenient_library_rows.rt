@@ -14,7 +14,7 @@ pub(crate) const NAMES: &str =
 {"template": "{% assign g = y | append: \"a\" %}", "written": "", "assigned": {"g": "\"a\""}}
 {"template": "{{ \"a\" | fail }}", "written": "", "error": "liquid: bad\nfrom: Filter error\n  with:\n    filter=fail\n    input=\"a\"\n"}"#;
 
-/// Conditions and loops: nil is equal to nil and to a state, has no order, holds nothing and has no items, and is no
+/// Conditions and loops: nil is equal to nil and to a state, has no order, is not truthy and has no items, and is not a
 /// whole number.
 pub(crate) const BLOCKS: &str =
     r#"{"template": "{% if y == nil %}a{% endif %}{% if y == blank %}b{% endif %}{% if y < 1 %}c{% else %}d{% endif %}{% if y %}e{% endif %}", "written": "abd"}

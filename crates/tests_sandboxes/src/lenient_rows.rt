@@ -20,7 +20,7 @@ pub(crate) const NAMES: &str =
 {"template": "{{ 5 | fail }}", "written": "", "error": "liquid: bad\nfrom: Filter error\n  with:\n    filter=fail\n    input=5\n"}
 {"template": "{% set g y %}{{ g }}", "written": "", "assigned": {"g": "nil"}}"#;
 
-/// An index that is unknown is nil, which is no scalar.
+/// An unknown index is nil, which is not a scalar.
 pub(crate) const INDEXES: &str =
     r#"{"template": "{{ x[y] }}", "data": {"x": {"z": 1}}, "written": "", "error": "liquid: Expected scalar\n  with:\n    found=nil\n"}
 {"template": "{{ x[y] }}", "written": "", "error": "liquid: Expected scalar\n  with:\n    found=nil\n"}

@@ -1,6 +1,6 @@
 //! Sites whose names are lenient.
 
-/// Sites, of which few are refused.
+/// Sites, few of which have an error.
 pub(crate) const LENIENT: &str =
     r#"{"template": "{% for i in (n..2) %}{% if i == i %}{% continue %}{% endif %}{% for x in l %}{% raw %}{{ a }}{% if %}{% endraw %}{% else %}{{ k[-1] }}{% endfor %}{% endfor %}", "data": {"n": 2, "k": [], "a": false, "l": [1, 2, 3]}, "written": ""}
 {"template": "{% if nil < '2' %}{{ i | append: blank }}{% else %}{% assign n = i %}{% endif %}{% for k in (2..1) %}{% if forloop.first < n.first %}{{ z | append: n }}{% elsif a <> empty %}{% increment c %}{% else %}a{% endif %}{% endfor %}", "data": {"n": 1, "k": 2, "i": ""}, "written": "", "assigned": {"n": "\"\""}}

@@ -44,12 +44,12 @@ fn set_index<R: Runtime>(alloc: Global, runtime: &mut R, name: &str) -> Result<(
     Ok(())
 }
 
-/// The object at a place of a parent's row.
+/// Returns the object at a place of a parent's row.
 fn names(alloc: Global, parent: &Line, place: usize) -> Result<Object, Fail> {
     Ok(to_object(alloc, parent.member(place)?)?)
 }
 
-/// A parent over a store, lenient where the row asks for it.
+/// Returns a parent over a store, lenient if the row says so.
 pub(crate) fn over<P: Drop>(
     alloc: Global,
     parent: &Line,
@@ -75,7 +75,8 @@ pub(crate) fn over<P: Drop>(
     Ok(runtime)
 }
 
-/// Whether the register and the interrupt of a runtime are the parent's, and whether it is as lenient as the row.
+/// Returns `true` if the register and the interrupt of a runtime are the parent's, and whether it is as lenient as the
+/// row.
 fn has_registers<R: Runtime<Register = Visits>>(
     parent: &Line,
     row: &Row,
@@ -96,7 +97,7 @@ const NAMES: [&str; 22] = [
     "unknown", "x", "y", "z",
 ];
 
-/// The source text of a value, and `-` where there is none.
+/// Returns the source text of a value, or `-` if there is none.
 fn shown(alloc: Global, value: Option<&Value>) -> Result<String, AllocError> {
     match value {
         Some(value) => ValueSource::new(value).to_string(alloc),
@@ -104,7 +105,7 @@ fn shown(alloc: Global, value: Option<&Value>) -> Result<String, AllocError> {
     }
 }
 
-/// Whether a value is left as a row tells, or as it was where the row tells nothing.
+/// Returns `true` if a value is left as a row says, or as it was if the row says nothing.
 fn is_told(
     alloc: Global,
     told: Option<&str>,
@@ -118,7 +119,7 @@ fn is_told(
     }
 }
 
-/// Whether the names are what a row leaves. A name that is counted is seen where no other value is its own.
+/// Returns `true` if the names are what a row leaves. A name that is counted is seen if it has no other value.
 fn are_names_left<R: Runtime, Q: Runtime>(
     alloc: Global,
     row: &Row,
@@ -138,7 +139,7 @@ fn are_names_left<R: Runtime, Q: Runtime>(
     Ok(true)
 }
 
-/// Whether the index variables are what a row leaves.
+/// Returns `true` if the index variables are what a row leaves.
 fn are_indexes_left<R: Runtime, Q: Runtime>(
     alloc: Global,
     row: &Row,
@@ -154,8 +155,8 @@ fn are_indexes_left<R: Runtime, Q: Runtime>(
     Ok(true)
 }
 
-/// Whether a runtime is what a row leaves of the parent, which was `before`: the names and index variables that the
-/// row leaves, and all others as they were.
+/// Returns `true` if a runtime is what a row leaves of the parent, which was `before`: the names and index variables
+/// that the row leaves, and all others as they were.
 pub(crate) fn is_left<R: Runtime<Register = Visits>>(
     alloc: Global,
     parent: &Line,

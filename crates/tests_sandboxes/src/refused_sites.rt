@@ -1,4 +1,4 @@
-//! Sites that are refused: what was written and left before stands.
+//! Sites with an error: what was written and left before stays.
 
 /// Sites over strict names.
 pub(crate) const REFUSED: &str =

@@ -1,4 +1,4 @@
-//! Sites of the tag library, each of which comes to the same whatever is around its sandbox.
+//! Sites of the tag library, each of which has the same result whatever is around its sandbox.
 use crate::faulty_sites::FAULTY;
 use crate::lenient_library_rows::{BLOCKS, NAMES, PARTIALS};
 use crate::lenient_rows;

@@ -17,12 +17,12 @@ struct Place<'a> {
 }
 
 impl Place<'_> {
-    /// Whether the row is rendered in isolation, and not in a sandbox.
+    /// Returns `true` if the row is rendered in isolation, and not in a sandbox.
     fn is_isolated(&self) -> bool {
         self.row.member("isolated").is_some()
     }
 
-    /// Whether a call wrote and was refused as the row tells, and left what it tells of the parent.
+    /// Returns `true` if a call wrote what the row says, has the row's error, and left of the parent what the row says.
     fn holds<P: Drop>(
         &self,
         alloc: Global,
@@ -42,7 +42,7 @@ impl Place<'_> {
     }
 }
 
-/// The names that a row is given.
+/// Returns the names that a row is given.
 pub(crate) fn data(alloc: Global, row: &Row) -> Result<Object, Fail> {
     match row.member("data") {
         Some(data) => Ok(to_object(alloc, data)?),
@@ -50,7 +50,7 @@ pub(crate) fn data(alloc: Global, row: &Row) -> Result<Object, Fail> {
     }
 }
 
-/// The names of a frame around the sandbox.
+/// Returns the names of a frame around the sandbox.
 fn outer(alloc: Global) -> Result<Object, AllocError> {
     let mut outer = Object::new(alloc);
     for name in ["a", "b", "forloop", "i", "s", "unknown", "y"] {
@@ -59,7 +59,7 @@ fn outer(alloc: Global) -> Result<Object, AllocError> {
     Ok(outer)
 }
 
-/// Whether a row holds of `render_sandboxed`, or of `render_isolated`.
+/// Returns `true` if a row passes with `render_sandboxed`, or with `render_isolated`.
 fn holds_at_once<X, T, B, P>(
     alloc: Global,
     place: &Place<'_>,
@@ -116,7 +116,8 @@ where
     (answer, scopes.into_base())
 }
 
-/// Whether a row holds of `render_sandboxed_in`, or of `render_isolated_in`, over scopes of one form and a frame that is open.
+/// Returns `true` if a row passes with `render_sandboxed_in`, or with `render_isolated_in`, over scopes of one form and
+/// a frame that is open.
 fn holds_in<S, X, T, B, P>(
     alloc: Global,
     place: &Place<'_>,
@@ -145,7 +146,7 @@ where
     place.holds(alloc, &sink, &answer, &after)
 }
 
-/// Whether a row holds of both calls and both forms of scopes over a parent, each with a store of its own.
+/// Returns `true` if a row passes with both calls and both forms of scopes over a parent, each with its own store.
 fn holds_over<K: Kind>(
     alloc: Global,
     language: &K::Language,
@@ -162,7 +163,7 @@ fn holds_over<K: Kind>(
     )
 }
 
-/// Whether a row holds over each of these parents.
+/// Returns `true` if a row passes over each of these parents.
 fn holds<K: Kind>(alloc: Global, row: &Row, parents: &str) -> Result<bool, Fail> {
     let language = K::language(alloc)?;
     let page = K::page(alloc, &language, row)?;
@@ -189,7 +190,7 @@ pub(crate) enum Rows {
     Library,
 }
 
-/// Whether a row holds in its language, with each kind of store.
+/// Returns `true` if a row passes in its language, with each kind of store.
 fn holds_in_its_language(
     alloc: Global,
     row: &Row,
@@ -206,7 +207,7 @@ fn holds_in_its_language(
     }
 }
 
-/// Refuses the first row that doesn't hold over these parents, and a table that hasn't so many rows.
+/// Fails for the first row that does not pass over these parents, and for a table with another number of rows.
 pub(crate) fn all_hold(
     alloc: Global,
     rows: &str,
@@ -223,7 +224,7 @@ pub(crate) fn all_hold(
     tests_lines::holds(rows.lines().count() == count, "a table has all its rows")
 }
 
-/// The same of rows whose names are lenient.
+/// Does the same of rows whose names are lenient.
 pub(crate) fn all_hold_leniently(
     alloc: Global,
     rows: &str,

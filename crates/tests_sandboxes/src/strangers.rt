@@ -12,7 +12,7 @@ use std::alloc::Global;
 use std::test::Fail;
 use tests_lines::{Line, Row, rows_hold, same};
 
-/// The render of a name's value, and `-` where it has none.
+/// Returns the rendered text of a name's value, or `-` if it has none.
 fn shown<R: Runtime>(alloc: Global, runtime: &R, name: &str) -> Result<String, Fail> {
     match runtime.try_get_name(name) {
         Some(value) => Ok(ValueRender::new(value).to_string(alloc)?),
@@ -24,12 +24,12 @@ fn shown<R: Runtime>(alloc: Global, runtime: &R, name: &str) -> Result<String, F
 const ASSIGNING: &str =
     r#"{"template": "{% set g 1 %}a{{ b }}{% set g 2 %}", "data": {"b": 2}, "written": "a2"}"#;
 
-/// How many puts a sink takes, what it took, what the name `g` is left as, and whether the call is not refused.
+/// How many puts a sink takes, what it took, what the name `g` is left as, and whether the call has no error.
 const DRIPS: &str = r#"[0, "", "1", false]
 [1, "a", "1", false]
 [2, "a2", "2", true]"#;
 
-/// Whether a row of a sink holds over a parent.
+/// Returns `true` if a row of a sink passes over a parent.
 fn drips_within(alloc: Global, drip: &Line, row: &Row, parent: &Line) -> Result<bool, Fail> {
     let language = Plain::language(alloc)?;
     let page = Plain::page(alloc, &language, row)?;
@@ -42,7 +42,7 @@ fn drips_within(alloc: Global, drip: &Line, row: &Row, parent: &Line) -> Result<
     Ok(sink.as_bytes() == took.as_bytes() && left.as_str() == wanted && answer.is_ok() == is_whole)
 }
 
-/// Whether a row of a sink holds over each parent.
+/// Returns `true` if a row of a sink passes over each parent.
 fn drips(alloc: Global, drip: &Line) -> Result<bool, Fail> {
     let row = Row::of(alloc, ASSIGNING)?;
     for parent in STRICT.lines() {
@@ -72,7 +72,7 @@ fn greeting<R: Runtime<Register = (), Store = ()>>(
     page.render_sandboxed(alloc, sink, host, data, None)
 }
 
-/// A host with a secret.
+/// Returns a host with a secret.
 fn host(alloc: Global) -> Result<BuiltRuntime<(), ()>, Fail> {
     let mut globals = Object::new(alloc);
     globals.insert(String::from_str(alloc, "secret")?, Value::scalar(42i64))?;
@@ -98,7 +98,7 @@ fn a_stranger_sees_the_visitor_and_no_secret(rt: HostRuntime) -> Result<(), Fail
     same(shown(alloc, &host, "secret")?.as_str(), "42")
 }
 
-/// What `leak` writes under a sandboxed frame without names over a host, in which `s` is assigned or is not.
+/// Returns what `leak` writes under a sandboxed frame without names over a host, in which `s` is assigned or is not.
 fn leaked(alloc: Global, is_assigned: bool) -> Result<String, Fail> {
     let mut host: BuiltRuntime<(), ()> = RuntimeBuilder::new(alloc).build();
     if is_assigned {

@@ -11,7 +11,7 @@ use std::alloc::{AllocError, Global};
 use std::test::Fail;
 use tests_lines::{Line, rows_hold, same};
 
-/// The source of the value that was made, or the text of the refusal.
+/// Returns the source of the value that was made, or the text of the error.
 fn told(alloc: Global, made: Result<Value>) -> std::result::Result<String, AllocError> {
     match made {
         Ok(value) => ValueSource::new(&value).to_string(alloc),
@@ -33,7 +33,7 @@ fn object_told(alloc: Global, made: Result<Object>) -> std::result::Result<Strin
     }
 }
 
-// The source text of the value that a JSON is, or the text of the refusal, and the JSON.
+// The source text of the value of a JSON, or the text of the error, and the JSON.
 const VALUES: &str = r#"["nil", null]
 ["true", true]
 ["\"é\"", "\u00e9"]
@@ -53,7 +53,7 @@ const VALUES: &str = r#"["nil", null]
 ["{\"a\": 2, }", {"a": 1.5, "a": 2}]
 ["liquid: Cannot fit number\n", [[[[[9223372036854775808]]]], 1.5]]"#;
 
-/// Whether the JSON of a row is the row's value, copied and taken apart.
+/// Returns `true` if the JSON of a row is the row's value, copied and taken apart.
 fn is_value(alloc: Global, row: &Line) -> std::result::Result<bool, Fail> {
     let copied = told(alloc, to_value(alloc, row.member(1)?))?;
     let taken = told(alloc, into_value(alloc, row.member(1)?.clone()?))?;
@@ -66,8 +66,7 @@ fn json_is_a_value(rt: HostRuntime) -> std::result::Result<(), Fail> {
     rows_hold(rt.alloc(), VALUES, is_value)
 }
 
-// What a JSON is as an object, what it is as a scalar, each in its source text or by the refusal, and
-// the JSON.
+// A JSON as an object and as a scalar, each by its source text or by the error, and the JSON.
 const OBJECTS_AND_SCALARS: &str =
     r#"["liquid: Object cannot be a scalar.\n", "liquid: Scalar must be a string.\n", null]
 ["liquid: Object cannot be a scalar.\n", "false", false]
@@ -79,7 +78,7 @@ const OBJECTS_AND_SCALARS: &str =
 ["{\"a\": 1, }", "liquid: Scalar must be a string.\n", {"a": [1]}]
 ["liquid: Fractional number\n", "liquid: Scalar must be a string.\n", {"a": 1.5}]"#;
 
-/// Whether the JSON of a row is the row's object, copied and taken apart.
+/// Returns `true` if the JSON of a row is the row's object, copied and taken apart.
 fn is_object(alloc: Global, row: &Line) -> std::result::Result<bool, Fail> {
     let copied = object_told(alloc, to_object(alloc, row.member(2)?))?;
     let taken = object_told(alloc, into_object(alloc, row.member(2)?.clone()?))?;
@@ -98,7 +97,7 @@ fn json_is_an_object_or_a_scalar(rt: HostRuntime) -> std::result::Result<(), Fai
     rows_hold(rt.alloc(), OBJECTS_AND_SCALARS, is_scalar)
 }
 
-// What a text is as an object, in its source text or by the refusal, and the text.
+// A text as an object, by its source text or by the error, and the text.
 const READ: &str =
     r#"["{\"a\": 1, \"é\": x-2true, }", "{\"\\u00e9\": [\"x\", -2, true, null, []], \"a\": 1}"]
 ["{}", "  { } "]
@@ -127,7 +126,7 @@ const READ: &str =
 ["no JSON", "[\"a\""]
 ["no JSON", "{\"a\": \"\\ud800\"}"]"#;
 
-/// The source of the object that the text is, or the text of the refusal.
+/// Returns the source of the object of the text, or the text of the error.
 fn read_told(alloc: Global, text: &str) -> std::result::Result<String, AllocError> {
     match object_from_str(alloc, text) {
         Ok(object) => object_told(alloc, object),
@@ -146,14 +145,14 @@ fn is_read(alloc: Global, row: &Line) -> std::result::Result<bool, Fail> {
     Ok(read_told(alloc, row.text(1)?)?.as_str() == row.text(0)?)
 }
 
-/// As many arrays in one another as the name of an object.
+/// Returns that many nested arrays, as a member of an object.
 fn nested(alloc: Global, arrays: usize) -> std::result::Result<String, AllocError> {
     let opened = "[".repeat(alloc, arrays)?;
     let closed = "]".repeat(alloc, arrays)?;
     format!(in alloc; "{{\"a\": {opened}{closed}}}")
 }
 
-// With 126 arrays in an object, 127 nest; `serde_json` reads no more.
+// With 126 arrays in an object, 127 are nested, and `serde_json` reads no more.
 #[test]
 fn texts_are_objects(rt: HostRuntime) -> std::result::Result<(), Fail> {
     let alloc = rt.alloc();

@@ -97,7 +97,7 @@ fn is_less(left: &ScalarCow<'_>, right: &ScalarCow<'_>) -> bool {
     left.scalar_cmp(right) == Some(Ordering::Less)
 }
 
-/// Whether a scalar renders, shows its source, names its type, and is its text.
+/// Returns `true` if a scalar renders, shows its source, names its type, and is its text.
 fn shows(
     alloc: Global,
     scalar: ScalarCow<'_>,

@@ -43,7 +43,7 @@ fn state(name: &str) -> Result<State, Fail> {
     }
 }
 
-/// The date, date time or state that an object of one member stands for.
+/// Returns the date, date time or state that an object of one member means.
 fn beyond_json(given: &Json) -> Result<Option<Value>, Fail> {
     if let Some(json) = given.get("day") {
         return Ok(Some(Value::scalar(day(number(Some(json))?)?)));
@@ -81,9 +81,9 @@ fn object_of(alloc: Global, members: &Map<String, Json>) -> Result<Object, Fail>
     Ok(object)
 }
 
-/// The value that a row gives as JSON. What JSON doesn't have is an object of one member there, alone
-/// or in an array or object: a day of February 2016, as `{"day": 16}`; an hour of 16 February 2016
-/// and its offset in seconds, as `{"moment": [10, 3600]}`; and a state, as `{"state": "empty"}`.
+/// Returns the value that a row gives as JSON. What JSON doesn't have is an object of one member there, alone or in an
+/// array or object: a day of February 2016, as `{"day": 16}`; an hour of 16 February 2016 and its offset in seconds, as
+/// `{"moment": [10, 3600]}`; and a state, as `{"state": "empty"}`.
 fn value_of(alloc: Global, given: &Json) -> Result<Value, Fail> {
     if let Some(value) = beyond_json(given)? {
         return Ok(value);
@@ -95,17 +95,17 @@ fn value_of(alloc: Global, given: &Json) -> Result<Value, Fail> {
     }
 }
 
-/// The value of a text of JSON.
+/// Returns the value of a text of JSON.
 pub(crate) fn value_in(alloc: Global, text: &str) -> Result<Value, Fail> {
     value_of(alloc, &Json::from_str(alloc, text)?)
 }
 
-/// The value at a place of a row.
+/// Returns the value at a place of a row.
 fn value_at(alloc: Global, row: &Line, place: usize) -> Result<Value, Fail> {
     value_of(alloc, row.member(place)?)
 }
 
-/// The two values at the beginning of a row.
+/// Returns the two values at the beginning of a row.
 fn pair_of(alloc: Global, row: &Line) -> Result<(Value, Value), Fail> {
     Ok((value_at(alloc, row, 0)?, value_at(alloc, row, 1)?))
 }

@@ -1,4 +1,4 @@
-//! Views of the types of a program: each is as the value that it stands for.
+//! Views of the types of a program: each is as the value that it means.
 use liquid_dates::{Date, DateTime};
 use liquid_scalar::{Scalar, ScalarCow};
 use liquid_value::{State, Value, ValueCow};
@@ -12,7 +12,7 @@ use std::collections::{BTreeMap, HashMap};
 use std::test::Fail;
 use tests_lines::{holds, same};
 
-/// Whether the view renders, shows its source, and is the value, all as the value itself.
+/// Returns `true` if the view renders, shows its source, and is the value, all as the value itself.
 fn shows<V: ValueView>(
     alloc: Global,
     view: &V,
@@ -211,7 +211,7 @@ fn maps_are_objects(rt: HostRuntime) -> Result<(), Fail> {
     same(ObjectSource::new(&map).to_string(alloc)?.as_str(), source)
 }
 
-/// Whether the object finds this number under a name, and nothing under another.
+/// Returns `true` if the object finds this number under a name, and nothing under another.
 fn finds<O: ObjectView>(
     alloc: Global,
     object: &O,

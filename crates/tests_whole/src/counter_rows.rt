@@ -16,7 +16,7 @@ const COUNTS: &str = "{% increment n %} {% increment n %}";
 const ROWS: &str = r#"[6, "6 7", "8"]
 [9223372036854775806, "9223372036854775806 liquid: Counter past its limit\n  with:\n    name=n\n", "9223372036854775807"]"#;
 
-/// What is left of the counter.
+/// Returns what is left of the counter.
 fn left<R: Runtime>(alloc: Global, runtime: &R) -> Result<String, Fail> {
     match runtime.get_index("n") {
         Some(number) => Ok(ValueRender::new(number).to_string(alloc)?),
@@ -24,7 +24,7 @@ fn left<R: Runtime>(alloc: Global, runtime: &R) -> Result<String, Fail> {
     }
 }
 
-/// Whether a row holds of two counts.
+/// Returns `true` if a row is true for two counts.
 fn is_counted(alloc: Global, row: &Line) -> Result<bool, Fail> {
     let page = Template::new(parse(alloc, COUNTS, &*library_language(alloc)?)?);
     let mut runtime: BuiltRuntime<(), ()> = RuntimeBuilder::new(alloc).build();

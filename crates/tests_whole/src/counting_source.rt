@@ -1,4 +1,4 @@
-//! A source of one's own: it hands on another's answers, and counts how often it is asked for a text.
+//! A source of a host: it passes on another source's texts, and counts how often a text is requested.
 ghost use Rattle.std.specs.Prelude.{◌≡◌};
 
 use liquid_core::partials::PartialSource;

@@ -1,4 +1,4 @@
-//! Dividers with tokens, and dividers where none may stand.
+//! Dividers with tokens, and dividers where none is allowed.
 use crate::kinds::OnDemand;
 use crate::languages::{library_language, plain_language};
 use crate::pages::all_hold;

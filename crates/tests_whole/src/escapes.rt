@@ -15,7 +15,7 @@ const FLAT: &str = r#"{"template": "{% raw %}{% raw %}a{% endraw %}b", "written"
 {"template": "{% box %}{% raw %}{% endbox %}{% endraw %}{% endbox %}", "written": "[{% endbox %}]"}
 {"template": "{% raw %}{% endraw %}{% raw %}{% endraw %}a", "written": "a"}"#;
 
-/// Bodies with starts that nest: each has an end of its own.
+/// Bodies with starts that nest: each has its own end.
 const NESTED: &str = r#"{"template": "{% raw %}a{% endraw %}b", "written": "ab"}
 {"template": "{% raw %}{% raw %}a{% endraw %}b{% endraw %}c", "written": "{% raw %}a{% endraw %}bc"}
 {"template": "{% raw %}{% raw %}{% raw %}a{% endraw %}{% endraw %}{% endraw %}b", "written": "{% raw %}{% raw %}a{% endraw %}{% endraw %}b"}

@@ -8,13 +8,13 @@ use std::alloc::{AllocError, Global};
 use std::test::Fail;
 use tests_lines::{Row, holds};
 
-/// The object of a text of JSON.
+/// Returns the object of a text of JSON.
 pub(crate) fn object_of(alloc: Global, names: &str) -> Result<Object, Fail> {
     let names = Json::from_str(alloc, names)?;
     Ok(to_object(alloc, &names)?)
 }
 
-/// A runtime of the globals of a text of JSON.
+/// Returns a runtime of the globals of a text of JSON.
 pub(crate) fn runtime_of(alloc: Global, globals: &str) -> Result<BuiltRuntime<(), ()>, Fail> {
     let globals = object_of(alloc, globals)?;
     Ok(RuntimeBuilder::new(alloc).set_globals(globals).build())
@@ -25,7 +25,7 @@ fn add(alloc: Global, object: &mut Object, name: &str, value: Value) -> Result<(
     Ok(())
 }
 
-/// Globals that are no JSON: the date 2016-02-16, ten o'clock of that date at an offset of one hour, and a state.
+/// Globals that JSON can't give: the date 2016-02-16, ten o'clock of that date at an offset of one hour, and a state.
 fn globals(alloc: Global) -> Result<Object, Fail> {
     let day = Date::from_ymd(2016, 2, 16)?;
     let moment = DateTime::from_parts(day, 10, 0, 0, 0, 3600)?;
@@ -41,7 +41,7 @@ const ROWS: &str =
     r#"{"template": "{{ day }}, {{ moment }}", "written": "2016-02-16, 2016-02-16 10:00:00 +0100"}
 {"template": "[{{ none }}]", "written": "[]"}"#;
 
-/// Whether a row holds over those globals.
+/// Returns `true` if a row is true over those globals.
 fn is_written(alloc: Global, row: &Row) -> Result<bool, Fail> {
     let globals = globals(alloc)?;
     let runtime: Over<()> = RuntimeBuilder::new(alloc).set_globals(globals).build();

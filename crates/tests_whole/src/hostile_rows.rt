@@ -1,4 +1,5 @@
-//! Malicious texts: plug-ins that don't end, openers that are no liquid, and more open than may be.
+//! Malicious texts: plug-ins that don't end, openers that are not liquid, and more open blocks or brackets than
+//! allowed.
 use crate::kinds::OnDemand;
 use crate::languages::{hostile_language, plain_language};
 use crate::pages::all_hold;
@@ -28,7 +29,7 @@ fn malicious_templates_are_rendered(rt: HostRuntime) -> Result<(), Fail> {
     all_hold::<_, _, _, OnDemand>(alloc, HOSTILE, &hostile_language(alloc)?, 15)
 }
 
-/// A text over and over.
+/// Returns a text over and over.
 fn repeated(alloc: Global, text: &str, count: usize) -> Result<String, Fail> {
     let mut all = String::new(alloc);
     for _ in 0..count {
@@ -37,7 +38,7 @@ fn repeated(alloc: Global, text: &str, count: usize) -> Result<String, Fail> {
     Ok(all)
 }
 
-/// A text within so many openings and as many ends.
+/// Returns a text inside that many openings and as many ends.
 fn nested(alloc: Global, open: &str, text: &str, end: &str, count: usize) -> Result<String, Fail> {
     let mut all = repeated(alloc, open, count)?;
     all.push_str(text)?;
@@ -45,7 +46,7 @@ fn nested(alloc: Global, open: &str, text: &str, end: &str, count: usize) -> Res
     Ok(all)
 }
 
-/// Refuses a text that doesn't come to what is written, or to the text of an error, by each of the calls that
+/// Fails for a text that doesn't write what is expected, or have the text of an error, by each of the calls that
 /// render.
 fn comes_to(alloc: Global, template: &str, written: &str, error: &str) -> Result<(), Fail> {
     let members = format!(in alloc; "\"written\": \"{written}\", \"error\": \"{error}\"")?;

@@ -8,7 +8,7 @@ use std::alloc::Global;
 use std::test::Fail;
 use tests_lines::{holds, same};
 
-/// The text of the item at a place, and `-` where there is none.
+/// Returns the text of the item at a place, or `-` if there is none.
 fn shown(alloc: Global, items: &Items, place: u64) -> Result<String, Fail> {
     match items.get(place)? {
         Some(item) => Ok(ValueRender::new(&item).to_string(alloc)?),

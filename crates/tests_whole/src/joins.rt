@@ -26,14 +26,14 @@ const PIECES: [&str; 12] = [
     "{{ 4.5 }}",
 ];
 
-/// A runtime in which `a` is 1.
+/// Returns a runtime in which `a` is 1.
 fn around(alloc: Global) -> Result<BuiltRuntime<(), ()>, AllocError> {
     let mut globals = Object::new(alloc);
     globals.insert(String::from_str(alloc, "a")?, Value::scalar(1i64))?;
     Ok(RuntimeBuilder::new(alloc).set_globals(globals).build())
 }
 
-/// Sees that a join is refused for another reason than want of memory.
+/// Fails if the error of a join is out of memory.
 fn refused(error: &Error) -> Result<(), Fail> {
     if error.is_memory() {
         Err(Fail::from("a join answers want of memory"))
@@ -42,7 +42,7 @@ fn refused(error: &Error) -> Result<(), Fail> {
     }
 }
 
-/// What a text is rendered as when it is read first, or none where it is refused.
+/// Returns what a text is rendered as when it is parsed first, or `None` if it has an error.
 fn rendered(alloc: Global, language: &TheLanguage, text: &str) -> Result<Option<String>, Fail> {
     match parse(alloc, text, language) {
         Ok(nodes) => {
@@ -62,7 +62,7 @@ fn rendered(alloc: Global, language: &TheLanguage, text: &str) -> Result<Option<
     }
 }
 
-/// Reads and renders a text, and does so again in one call, which has to come to the same. Answers 1.
+/// Parses and renders a text, and does so again in one call, which must have the same result. Returns 1.
 fn tried(alloc: Global, language: &TheLanguage, text: &str) -> Result<usize, Fail> {
     let shown = rendered(alloc, language, text)?;
     let mut sink = TextSink::new(alloc);
@@ -84,7 +84,7 @@ fn tried(alloc: Global, language: &TheLanguage, text: &str) -> Result<usize, Fai
     }
 }
 
-/// A text with each piece behind it, and with every two.
+/// Parses and renders a text followed by each piece, and by every two. Returns how many texts these are.
 fn continued(alloc: Global, language: &TheLanguage, first: &str) -> Result<usize, Fail> {
     let mut count = tried(alloc, language, first)?;
     for second in PIECES {

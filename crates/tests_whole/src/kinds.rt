@@ -15,7 +15,7 @@ use tests_lines::Row;
 pub(crate) trait Kind<F: ParseFilter, T: ParseTag<F>, B: ParseBlock<F>> {
     type Store: PartialStore<F::Filter, T::Node, B::Node> + Drop;
 
-    /// A store of these texts.
+    /// Returns a store of these texts.
     fn store(
         alloc: Global,
         source: InMemorySource,
@@ -96,8 +96,8 @@ fn add_partial(alloc: Global, source: &mut InMemorySource, partial: &Json) -> Re
     }
 }
 
-/// The source of a list of partials, each a name and a text, of which a later one takes the place of an earlier one of
-/// its name.
+/// Returns the source of a list of partials, each a name and a text, of which a later one takes the place of an earlier
+/// one of its name.
 pub(crate) fn source_of(alloc: Global, partials: &Vec<Json>) -> Result<InMemorySource, Fail> {
     let mut source = InMemorySource::new(alloc);
     for partial in partials {
@@ -106,7 +106,7 @@ pub(crate) fn source_of(alloc: Global, partials: &Vec<Json>) -> Result<InMemoryS
     Ok(source)
 }
 
-/// The partials of a row.
+/// Returns the partials of a row.
 pub(crate) fn source(alloc: Global, row: &Row) -> Result<InMemorySource, Fail> {
     match row.member("partials") {
         Some(Json::Array(partials)) => source_of(alloc, partials),

@@ -6,12 +6,12 @@ use std::rc::Rc;
 
 pub(crate) type PlainLanguage = Language<Filters, Tags, Blocks>;
 
-/// The language of the test plug-ins.
+/// Returns the language of the test plug-ins.
 pub(crate) fn plain_language(alloc: Global) -> Result<Rc<PlainLanguage>, AllocError> {
     Ok(Rc::new(alloc, bench::languages::language(alloc)?)?)
 }
 
-/// The same with plug-ins that are malicious.
+/// Does the same with plug-ins that are malicious.
 pub(crate) fn hostile_language(
     alloc: Global,
 ) -> Result<Rc<Language<Filters, HostileTags, HostileBlocks>>, AllocError> {
@@ -20,7 +20,7 @@ pub(crate) fn hostile_language(
 
 pub(crate) type LibraryLanguage = Language<Filters, liquid_tags::Tags, liquid_tags::Blocks>;
 
-/// The library's language with the filters of the tests.
+/// Returns the library's language with the filters of the tests.
 pub(crate) fn library_language(alloc: Global) -> Result<Rc<LibraryLanguage>, AllocError> {
     let filters = bench::languages::filters(alloc)?;
     Ok(Rc::new(alloc, liquid_tags::language(alloc, filters)?)?)

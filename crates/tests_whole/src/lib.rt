@@ -1,5 +1,5 @@
-//! The tests that cross the crates, as tables of rows: templates of the test plug-ins and of the tag library by each call
-//! that renders them, stores, sinks, and what plug-ins tell of themselves.
+//! The tests that cross the crates, as tables of rows: templates of the test plug-ins and of the tag library by each
+//! call that renders them, stores, sinks, and what plug-ins say about themselves.
 #![tactic(auto)]
 
 #[cfg(test)]

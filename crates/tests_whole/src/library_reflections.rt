@@ -1,4 +1,4 @@
-//! What tags and blocks tell about themselves.
+//! What tags and blocks say about themselves.
 use crate::reflections::{block_is_told, tag_is_told};
 use liquid_tags::{Blocks, Tags};
 use std::test::Fail;

@@ -11,16 +11,16 @@ const MANY: u64 = 1000;
 
 const STOPPED: &str = "liquid: Rendering was stopped\n";
 
-/// A template, what it writes with no turn, with one and so on up to all, and with no byte, with one and so on up to all.
-/// A block of the tests takes three turns, and a tag one; the partial `p` has a tag. A piece is written whole or not at all,
-/// and an empty one asks for nothing.
+/// A template, what it writes with no turn, with one and so on up to all, and with no byte, with one and so on up to
+/// all. A block of the tests takes three turns, and a tag one. The partial `p` has a tag. A piece is written whole or
+/// not at all, and an empty one requests nothing.
 const ROWS: &str = r#"["Hello", ["Hello"], ["", "", "", "", "", "Hello"]]
 ["a{% box %}b{% endbox %}c{% set g 1 %}", ["a", "a[", "a[b", "a[b]c", "a[b]c"], ["", "a", "a[", "a[b", "a[b]", "a[b]c"]]
 ["{% box %}{% box %}x{% endbox %}{% endbox %}", ["", "[", "[", "[[", "[[x", "[[x]", "[[x]]"], ["", "[", "[[", "[[x", "[[x]", "[[x]]"]]
 ["{% swap %}ab{% mid %}{{ 45 }}{% endswap %}", ["", "45", "45ab", "45ab"], ["", "", "45", "45", "45ab"]]
 ["{% inc p %}{{ x }}b", ["", "p7", "p7b"], ["", "p", "p7", "p7b"]]"#;
 
-/// Whether a page over so many turns and bytes writes this, and is stopped where more was to come.
+/// Returns `true` if a page with that many turns and bytes writes this, and is stopped if more would follow.
 fn writes(
     alloc: Global,
     template: &str,
@@ -39,7 +39,7 @@ fn writes(
     Ok(passed && taken && (told.as_str() == if whole { "" } else { STOPPED }))
 }
 
-/// Whether the row's texts are written with none, one and so on, of turns or else of bytes.
+/// Returns `true` if the row's texts are written with none, one and so on, of turns or of bytes.
 fn each_is_written(alloc: Global, row: &Line, of_turns: bool) -> Result<bool, Fail> {
     let texts = row.list(if of_turns { 1 } else { 2 })?;
     for (number, text) in texts.iter().enumerate() {

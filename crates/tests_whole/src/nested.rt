@@ -13,7 +13,7 @@ use liquid_core::parser::{
 };
 use std::alloc::{AllocError, Global};
 
-/// The block `raw`, in whose body each `raw` has an end of its own.
+/// The block `raw`, in whose body each `raw` has its own end.
 #[derive(Debug, Clone, Copy, PartialEq, Eq)]
 pub(crate) struct Nested;
 
@@ -83,7 +83,7 @@ impl<F: ParseFilter> ParseBlock<F> for Nested {
     }
 }
 
-/// The language of the test plug-ins with this block alone.
+/// Returns the language of the test plug-ins with this block alone.
 pub(crate) fn nested_language(
     alloc: Global,
 ) -> Result<Language<Filters, Tags, Nested>, AllocError> {

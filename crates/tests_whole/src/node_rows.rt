@@ -1,4 +1,4 @@
-//! Templates of nodes made by hand, with what they come to.
+//! Templates of nodes made by hand, with their results.
 use crate::nodes::{HostileElement, Same, nodes, nodes_in, text, written};
 use crate::pages::{Over, is_rendered, is_rendered_in, over, without_partials};
 use bench::blocks::BlockNode;
@@ -40,7 +40,7 @@ const PARTIAL_ROWS: &str =
 {"template": "", "partial": [["text", "x"], ["inc", "p"]], "steps": [["inc", "q"]], "depth": 0, "written": "", "error": "liquid: Partials nest too deep\n"}
 {"template": "", "partial": [["shown", "x"], ["set", "x", 2]], "steps": [["set", "x", 1], ["inc", "p"], ["shown", "x"]], "depth": 3, "written": "12"}"#;
 
-/// The steps of a row's member.
+/// Returns the steps of a row's member.
 fn steps<'r>(row: &'r Row, member: &str) -> Result<&'r Vec<Json>, Fail> {
     match row.member(member) {
         Some(Json::Array(steps)) => Ok(steps),
@@ -48,7 +48,7 @@ fn steps<'r>(row: &'r Row, member: &str) -> Result<&'r Vec<Json>, Fail> {
     }
 }
 
-/// Whether a row's nodes come to what it tells by each call that renders them, over runtimes with a store.
+/// Returns `true` if a row's nodes have its result by each call that renders them, over runtimes with a store.
 fn holds<P>(
     alloc: Global,
     row: &Row,
@@ -70,7 +70,7 @@ where
     )
 }
 
-/// Whether a row without a partial holds.
+/// Returns `true` if a row without a partial passes.
 fn holds_without_partials(alloc: Global, row: &Row) -> Result<bool, Fail> {
     let base: Over<()> = without_partials(alloc, row)?;
     let (second, third) = (without_partials(alloc, row)?, without_partials(alloc, row)?);
@@ -86,7 +86,7 @@ fn holds_without_partials(alloc: Global, row: &Row) -> Result<bool, Fail> {
 
 type Store = OnePartial<Same, LeakyTagNode, BlockNode>;
 
-/// A runtime over the partial of a row.
+/// Returns a runtime over the partial of a row.
 fn with_partial(alloc: Global, row: &Row) -> Result<Over<Store>, Fail> {
     let template = Template::new(nodes(alloc, steps(row, "partial")?)?);
     let store = OnePartial {
@@ -96,7 +96,7 @@ fn with_partial(alloc: Global, row: &Row) -> Result<Over<Store>, Fail> {
     over(alloc, row, store)
 }
 
-/// Whether a row holds, with its partial where it has one.
+/// Returns `true` if a row passes, with its partial if it has one.
 fn row_holds(alloc: Global, row: &Row) -> Result<bool, Fail> {
     if row.member("partial").is_none() {
         return holds_without_partials(alloc, row);
@@ -106,7 +106,7 @@ fn row_holds(alloc: Global, row: &Row) -> Result<bool, Fail> {
     holds(alloc, row, first, second, third, fourth)
 }
 
-/// Refuses the first row of a table that doesn't hold where names are strict and where they are lenient.
+/// Fails for the first row of a table that does not pass with strict names and with lenient ones.
 fn all_hold(alloc: Global, rows: &str) -> Result<(), Fail> {
     for line in rows.lines() {
         let row = Row::of(alloc, line)?;
@@ -127,12 +127,12 @@ fn partials_are_rendered_without_a_frame(rt: HostRuntime) -> Result<(), Fail> {
     all_hold(rt.alloc(), PARTIAL_ROWS)
 }
 
-/// A runtime without globals and without partials.
+/// Returns a runtime without globals and without partials.
 fn no_partials(alloc: Global) -> BuiltRuntime<(), ()> {
     RuntimeBuilder::new(alloc).build()
 }
 
-/// What a template writes, and behind it the text of its refusal.
+/// Returns what a template writes, and after it the text of its error.
 fn rendered<T, B, R>(
     alloc: Global,
     nodes: Vec<Node<Same, T, B>>,
@@ -171,7 +171,7 @@ fn no_partial_is_found_where_there_are_none(rt: HostRuntime) -> Result<(), Fail>
     )
 }
 
-/// Refuses steps that write something else over a runtime, with the text of their refusal behind it.
+/// Fails for steps that write something else over a runtime, with the text of their error after it.
 fn writes<R: Runtime<Register = (), Store = ()>>(
     alloc: Global,
     steps: &str,
@@ -182,7 +182,7 @@ fn writes<R: Runtime<Register = (), Store = ()>>(
     same(all.as_str(), wanted)
 }
 
-/// A sandbox over a runtime in which `s` is assigned, or nothing is.
+/// Returns a sandbox over a runtime in which `s` is assigned, or nothing is.
 fn sandbox(alloc: Global, given: bool) -> Result<SandboxedStackFrame<BuiltRuntime<(), ()>>, Fail> {
     let mut outside = no_partials(alloc);
     if given {
@@ -210,7 +210,7 @@ fn leak_writes_what_a_sandbox_hides(rt: HostRuntime) -> Result<(), Fail> {
 const SINK_ROWS: &str = r#"[[["begin"], ["text", "ab"], ["end", "box"]], 2, "[a"]
 [[["set", "g", 1], ["text", "ab"], ["set", "g", 2]], 1, "a"]"#;
 
-/// Refuses a row whose sink takes something else, or whose call is not refused.
+/// Fails for a row whose sink takes something else, or whose call has no error.
 fn breaks_off(alloc: Global, row: &Line, runtime: &mut BuiltRuntime<(), ()>) -> Result<(), Fail> {
     let mut sink = Dripping::new(alloc, u64::try_from(row.number(1)?)?);
     let template = Template::new(nodes(alloc, row.list(0)?)?);
@@ -236,12 +236,12 @@ fn a_sink_that_fails_leaves_what_was_set_before(rt: HostRuntime) -> Result<(), F
     writes(alloc, r#"[["shown", "g"]]"#, &mut runtime, "1")
 }
 
-/// The nodes, with `.` behind them.
+/// Returns the nodes, with `.` after them.
 fn before_a_point(alloc: Global, node: HostileElement) -> Result<Vec<HostileElement>, AllocError> {
     Ok(vec![in alloc; node, written(alloc, ".")?]?)
 }
 
-/// A block whose one part is a text.
+/// Returns a block whose one part is a text.
 fn around(
     alloc: Global,
     block: HostileBlockNode,
@@ -251,7 +251,7 @@ fn around(
     Ok(Node::Block(block, vec![in alloc; part]?))
 }
 
-/// Refuses a node that writes something else, with `.` behind it.
+/// Fails for a node that writes something else, with `.` after it.
 fn ends(alloc: Global, node: HostileElement, wanted: &str) -> Result<(), Fail> {
     let all = rendered(alloc, before_a_point(alloc, node)?, &mut no_partials(alloc))?;
     same(all.as_str(), wanted)

@@ -1,4 +1,4 @@
-//! Nodes made by hand, of a list of steps.
+//! Nodes made by hand, from a list of steps.
 use bench::blocks::BlockNode;
 use bench::hostile::{HostileBlockNode, HostileTagNode};
 use bench::tags::{LeakyTagNode, TagNode};
@@ -56,7 +56,7 @@ fn variable(alloc: Global, name: &str) -> Result<Expression, AllocError> {
     Ok(Expression::Variable(Variable::with_literal(alloc, text(alloc, name)?)))
 }
 
-/// A number, as a node holds a value.
+/// Returns a number, as a node holds a value.
 fn literal(alloc: Global, number: i64) -> Result<Box<Expression>, AllocError> {
     Ok(Box::new(alloc, Expression::with_literal(number))?)
 }
@@ -78,7 +78,7 @@ fn number(step: &Json, place: usize) -> Result<i64, Fail> {
     }
 }
 
-/// The tag of a step, if it is one.
+/// Returns the tag of a step, if it is one.
 fn tag(alloc: Global, step: &Json) -> Result<Option<TagNode>, Fail> {
     match word(step, 0)? {
         "set" => {
@@ -91,13 +91,13 @@ fn tag(alloc: Global, step: &Json) -> Result<Option<TagNode>, Fail> {
     }
 }
 
-/// The tag that writes what a sandbox hides.
+/// Returns the tag that writes what a sandbox hides.
 fn leak(alloc: Global, step: &Json) -> Result<LeakyTagNode, Fail> {
     let name = text(alloc, word(step, 1)?)?;
     Ok(LeakyTagNode::Leak(name, literal(alloc, number(step, 2)?)?))
 }
 
-/// A node without parts, or none for a step that has to do with parts.
+/// Returns a node without parts, or none for a step that has to do with parts.
 fn leaf(alloc: Global, step: &Json) -> Result<Option<Element>, Fail> {
     match word(step, 0)? {
         "text" => Ok(Some(written(alloc, word(step, 1)?)?)),
@@ -113,7 +113,7 @@ fn leaf(alloc: Global, step: &Json) -> Result<Option<Element>, Fail> {
     }
 }
 
-/// What a `with` binds: the number of its step, or the value of the name that stands there.
+/// Returns what a `with` binds: the number of its step, or the value of the name in it.
 fn bound(alloc: Global, step: &Json) -> Result<Box<Expression>, Fail> {
     match step.get(3) {
         Some(Json::String(name)) => Ok(Box::new(alloc, variable(alloc, name.as_str())?)?),
@@ -121,7 +121,7 @@ fn bound(alloc: Global, step: &Json) -> Result<Box<Expression>, Fail> {
     }
 }
 
-/// The block that a step ends.
+/// Returns the block that a step ends.
 fn block(alloc: Global, step: &Json) -> Result<BlockNode, Fail> {
     match word(step, 1)? {
         "box" => Ok(BlockNode::Box),
@@ -141,8 +141,8 @@ struct Open {
     parts: Vec<Vec<Element>>,
 }
 
-/// The nodes of a list of steps. A step is a word and what it is given; a block's parts stand between
-/// `begin` and `end`, divided by `mid`, and `end` names the block.
+/// Returns the nodes of a list of steps. A step is a word and its arguments. A block's parts are between `begin` and
+/// `end`, divided by `mid`, and `end` names the block.
 pub(crate) fn nodes(alloc: Global, steps: &Vec<Json>) -> Result<Vec<Element>, Fail> {
     let mut list = Vec::new(alloc);
     let mut open: Vec<Open> = Vec::new(alloc);
@@ -155,7 +155,7 @@ pub(crate) fn nodes(alloc: Global, steps: &Vec<Json>) -> Result<Vec<Element>, Fa
     Ok(list)
 }
 
-/// The nodes of a text of JSON that is a list of steps.
+/// Returns the nodes of a text of JSON that is a list of steps.
 pub(crate) fn nodes_in(alloc: Global, text: &str) -> Result<Vec<Element>, Fail> {
     match Json::from_str(alloc, text)? {
         Json::Array(steps) => nodes(alloc, &steps),

@@ -1,4 +1,4 @@
-//! The plug-in that does nothing: what it tells of itself, and what it makes of texts.
+//! The plug-in that does nothing: what it says about itself, and what it makes of texts.
 use crate::kinds::OnDemand;
 use crate::pages::all_hold;
 use crate::reflections::{block_is_told, body_is_told, filter_is_told, tag_is_told};
@@ -33,7 +33,7 @@ fn nothing_tells_what_it_is(rt: HostRuntime) -> Result<(), Fail> {
     holds(NoPlugin.label() == "nothing", "the label")
 }
 
-/// Whether the filter gives nil for a number.
+/// Returns `true` if the filter gives nil for a number.
 fn gives_nil(alloc: Global) -> Result<bool, Fail> {
     let input = ValueCow::Owned(Value::scalar(5i64));
     let given = FilterArguments {
@@ -43,7 +43,7 @@ fn gives_nil(alloc: Global) -> Result<bool, Fail> {
     Ok(call_filter(alloc, &NoPlugin, &input, given)? == Value::Nil)
 }
 
-/// A language in which `nothing` is a filter and a tag, and `none` a block.
+/// Returns a language in which `nothing` is a filter and a tag, and `none` a block.
 fn nothings(alloc: Global) -> Result<Language<NoPlugin, NoPlugin, NoPlugin>, AllocError> {
     let mut language = Language {
         filters: PluginRegistry::new(alloc),
@@ -56,8 +56,8 @@ fn nothings(alloc: Global) -> Result<Language<NoPlugin, NoPlugin, NoPlugin>, All
     Ok(language)
 }
 
-/// Texts, and what each comes to. The end of a block is the one that it tells, whatever name it is
-/// registered by, and its tokens are refused, where any token of a tag or a block is taken.
+/// Texts, and their results. The end of a block is the one that it names itself, whatever name it is registered under,
+/// and its tokens are errors, while any token of a tag or a block is taken.
 const TEXTS: &str = r#"{"template": "a{{ 5 | nothing }}b", "written": "ab"}
 {"template": "a{{ 5 | nothing: 1, by: \"x\" | nothing }}b", "written": "ab"}
 {"template": "a{% nothing %}b{% nothing x == (1..2) %}c", "written": "abc"}

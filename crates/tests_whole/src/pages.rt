@@ -19,7 +19,7 @@ type Nodes<F, T, B> = Vec<
     Node<<F as ParseFilter>::Filter, <T as ParseTag<F>>::Node, <B as ParseBlock<F>>::Node>,
 >;
 
-/// The names that a row sees.
+/// Returns the names that a row sees.
 pub(crate) fn globals(alloc: Global, row: &Row) -> Result<Object, Fail> {
     match row.member("globals") {
         Some(globals) => Ok(to_object(alloc, globals)?),
@@ -27,7 +27,7 @@ pub(crate) fn globals(alloc: Global, row: &Row) -> Result<Object, Fail> {
     }
 }
 
-/// How many partials may be open inside one another, 32 where the row doesn't say.
+/// Returns the number of partials that may be nested, 32 if the row doesn't say.
 fn depth(row: &Row) -> Result<u32, Fail> {
     match row.member("depth") {
         Some(depth) => match depth.as_u64() {
@@ -38,7 +38,7 @@ fn depth(row: &Row) -> Result<u32, Fail> {
     }
 }
 
-/// A runtime of a row's globals over a store.
+/// Returns a runtime of a row's globals over a store.
 pub(crate) fn over<P: Drop>(alloc: Global, row: &Row, store: P) -> Result<Over<P>, Fail> {
     let (globals, depth) = (globals(alloc, row)?, depth(row)?);
     Ok(
@@ -51,7 +51,7 @@ pub(crate) fn over<P: Drop>(alloc: Global, row: &Row, store: P) -> Result<Over<P
     )
 }
 
-/// The same without a store.
+/// Does the same without a store.
 pub(crate) fn without_partials<P: Drop>(alloc: Global, row: &Row) -> Result<Over<P>, Fail> {
     let globals = globals(alloc, row)?;
     Ok(
@@ -62,7 +62,7 @@ pub(crate) fn without_partials<P: Drop>(alloc: Global, row: &Row) -> Result<Over
     )
 }
 
-/// A runtime of a row's globals, over a store of its partials where it has some.
+/// Returns a runtime of a row's globals, over a store of its partials if it has some.
 fn runtime<F, T, B, K>(
     alloc: Global,
     row: &Row,
@@ -80,7 +80,7 @@ where
     over(alloc, row, K::store(alloc, source(alloc, row)?, language)?)
 }
 
-/// The error's text, empty where there is none.
+/// Returns the error's text, empty if there is none.
 pub(crate) fn error_text(alloc: Global, answer: &Result<(), Error>) -> Result<String, Fail> {
     match answer {
         Ok(()) => Ok(String::new(alloc)),
@@ -88,7 +88,7 @@ pub(crate) fn error_text(alloc: Global, answer: &Result<(), Error>) -> Result<St
     }
 }
 
-/// Whether a call wrote and was refused as a row tells.
+/// Returns `true` if a call wrote what a row says, and has the row's error.
 pub(crate) fn is_told(
     alloc: Global,
     row: &Row,
@@ -99,7 +99,8 @@ pub(crate) fn is_told(
     Ok(sink.as_bytes() == row.written().as_bytes() && error.as_str() == row.error())
 }
 
-/// Whether a row's nodes come to what it tells by `render_to`, and by `render`, which answers no text with an error.
+/// Returns `true` if a row's nodes have its result by `render_to`, and by `render`, which returns no text with an
+/// error.
 pub(crate) fn is_rendered<X, T, B, P>(
     alloc: Global,
     row: &Row,
@@ -123,7 +124,7 @@ where
     }
 }
 
-/// Whether a row's nodes come to what it tells by `render_in` over scopes of one form, which leaves no frame open.
+/// Returns `true` if a row's nodes have its result by `render_in` over scopes of one form, which leaves no frame open.
 pub(crate) fn is_rendered_in<S, X, T, B>(
     alloc: Global,
     row: &Row,
@@ -146,7 +147,7 @@ where
     Ok(frames == 0 && is_told(alloc, row, &sink, &answer)?)
 }
 
-/// Whether a row holds of `render_source`.
+/// Returns `true` if a row passes with `render_source`.
 pub(crate) fn holds_at_once<F, T, B, P>(
     alloc: Global,
     row: &Row,
@@ -166,7 +167,7 @@ where
     is_told(alloc, row, &sink, &answer)
 }
 
-/// Whether a row that is read holds of each call that renders nodes.
+/// Returns `true` if a parsed row passes with each call that renders nodes.
 fn holds_once_read<F, T, B, K>(
     alloc: Global,
     row: &Row,
@@ -186,7 +187,7 @@ where
     is_rendered(alloc, row, nodes, &mut first, &mut second)
 }
 
-/// Whether a row that is read again holds over both forms of scopes.
+/// Returns `true` if a row that is parsed again passes over both forms of scopes.
 fn holds_over_scopes<F, T, B, K>(
     alloc: Global,
     row: &Row,
@@ -210,7 +211,7 @@ where
     Ok(chained && is_rendered_in::<FlatScopes<Over<K::Store>>, _, _, _>(alloc, row, nodes, base)?)
 }
 
-/// Whether a row holds of each of the calls.
+/// Returns `true` if a row passes with each of the calls.
 fn holds_by_each<F, T, B, K>(
     alloc: Global,
     row: &Row,
@@ -236,8 +237,8 @@ where
     }
 }
 
-/// Refuses the first row of a table that doesn't hold by each of the calls, where names are strict and where they are
-/// lenient, and a table that hasn't so many rows.
+/// Fails for the first row of a table that does not pass with each of the calls, with strict names and with lenient
+/// ones, and for a table with another number of rows.
 pub(crate) fn all_hold<F, T, B, K>(
     alloc: Global,
     rows: &str,

@@ -36,7 +36,7 @@ pub(crate) const ROWS: &str =
 {"partials": [["a", "1{% inc b %}"], ["b", "2{% inc c %}"], ["c", "3"]], "template": "{% inc a %}{% inc c %}", "depth": 2, "written": "12", "error": "liquid: Partials nest too deep\n"}
 {"partials": [["p", "{% box %}x"]], "template": "{% box %}a{% inc p %}{% endbox %}", "depth": 1, "written": "[a", "error": "liquid: Unclosed block. {% endbox %} tag expected. (line 1, column 11)\n"}"#;
 
-/// What a partial is by itself: its text over a runtime without globals.
+/// Returns what a partial is by itself: its text over a runtime without globals.
 fn shown(
     alloc: Global,
     found: Result<Rc<Template<AnyFilter, TagNode, BlockNode>>, Error>,
@@ -61,7 +61,7 @@ fn source(alloc: Global) -> Result<InMemorySource, Fail> {
     }
 }
 
-/// Names that are requested one after the other, with what `get` answers.
+/// Names that are requested one after another, with what `get` returns.
 const REQUESTS: &str = r#"["p", "P"]
 ["q", "Q"]
 ["p", "P"]
@@ -72,7 +72,7 @@ const REQUESTS: &str = r#"["p", "P"]
 ["", "liquid: Unknown partial-template\n  with:\n    requested partial=\n    available partials=bad, p, q\n"]
 ["p", "P"]"#;
 
-/// What `get` answers for a name, and whether `try_get` answers the same tree, or none for a refusal.
+/// Returns what `get` returns for a name, and whether `try_get` returns the same tree, or none for an error.
 fn answered<S>(alloc: Global, store: &mut S, name: &str) -> Result<(String, bool), AllocError>
 where
     S: PartialStore<AnyFilter, TagNode, BlockNode>,
@@ -87,7 +87,7 @@ where
     Ok((text, agrees))
 }
 
-/// Whether a store answers a request as its row tells.
+/// Returns `true` if a store returns for a request what its row says.
 fn is_answered<S>(alloc: Global, store: &mut S, row: &Line) -> Result<bool, Fail>
 where
     S: PartialStore<AnyFilter, TagNode, BlockNode>,
@@ -96,7 +96,7 @@ where
     Ok(agrees && text.as_str() == row.text(1)?)
 }
 
-/// Whether the store of the sources has their names and no other.
+/// Returns `true` if the store of the sources has their names and no other.
 fn lists_its_names<S>(alloc: Global, store: &S) -> Result<bool, AllocError>
 where
     S: PartialStore<AnyFilter, TagNode, BlockNode>,
@@ -105,7 +105,7 @@ where
     Ok(names.as_str() == "bad p q" && store.contains("bad") && !store.contains("none"))
 }
 
-/// Refuses a store of the sources that answers otherwise than the rows tell.
+/// Fails for a store of the sources that returns something else than the rows say.
 fn answers_all<S>(alloc: Global, mut store: S) -> Result<(), Fail>
 where
     S: PartialStore<AnyFilter, TagNode, BlockNode> + Drop,
@@ -119,7 +119,7 @@ where
     holds(lists_its_names(alloc, &store)?, "a store has its names")
 }
 
-/// Refuses a kind of store that answers otherwise than the rows tell.
+/// Fails for a kind of store that returns something else than the rows say.
 fn answers_from<K>(alloc: Global, language: &Rc<PlainLanguage>) -> Result<(), Fail>
 where
     K: Kind<Filters, Tags, Blocks>,
@@ -128,7 +128,7 @@ where
     answers_all(alloc, store)
 }
 
-/// Requests a partial, and lets go what the store answers.
+/// Requests a partial, and drops what the store returns.
 fn request<S>(alloc: Global, store: &mut S, name: &str) -> Result<(), AllocError>
 where
     S: PartialStore<AnyFilter, TagNode, BlockNode>,
@@ -137,7 +137,7 @@ where
     Ok(())
 }
 
-/// Gets a partial, and lets go the template or the refusal.
+/// Gets a partial, and drops the template or the error.
 fn get<S>(alloc: Global, store: &mut S, name: &str)
 where
     S: PartialStore<AnyFilter, TagNode, BlockNode>,
@@ -171,7 +171,7 @@ fn a_lazy_store_keeps_trees_and_faults(rt: HostRuntime) -> Result<(), Fail> {
     holds(store.is_kept("p") && !store.is_kept("q"), "a tree is kept")
 }
 
-/// Whether a text takes the place of another.
+/// Returns `true` if a text takes the place of another.
 fn is_replaced(alloc: Global, texts: &mut InMemorySource, text: &str) -> Result<bool, Fail> {
     let name = String::from_str(alloc, "p")?;
     Ok(texts.add(name, String::from_str(alloc, text)?)?)
@@ -210,7 +210,7 @@ fn a_source_is_a_map_of_texts(rt: HostRuntime) -> Result<(), Fail> {
     same(unknown.to_string(alloc)?.as_str(), UNKNOWN)
 }
 
-/// The sources, which count how often they are asked.
+/// Returns the sources, which count how often they are asked.
 fn counting(alloc: Global, asked: &Rc<Cell<u64>>) -> Result<CountingSource<InMemorySource>, Fail> {
     Ok(CountingSource {
         source: source(alloc)?,
@@ -218,7 +218,7 @@ fn counting(alloc: Global, asked: &Rc<Cell<u64>>) -> Result<CountingSource<InMem
     })
 }
 
-/// A store on demand reads a text for each request of a name that has one.
+/// Returns a store on demand reads a text for each request of a name that has one.
 fn is_read_on_demand(alloc: Global, asked: &Rc<Cell<u64>>) -> Result<(), Fail> {
     let compiler = OnDemandCompiler::new(counting(alloc, asked)?);
     let mut store = PartialCompiler::compile(compiler, alloc, plain_language(alloc)?)?;
@@ -229,7 +229,7 @@ fn is_read_on_demand(alloc: Global, asked: &Rc<Cell<u64>>) -> Result<(), Fail> {
     holds(asked.get() == 2, "each request reads its text")
 }
 
-/// An eager store reads each text when it is made, and none later.
+/// Returns an eager store reads each text when it is made, and none later.
 fn is_read_eagerly(alloc: Global, asked: &Rc<Cell<u64>>) -> Result<(), Fail> {
     let compiler = EagerCompiler::new(counting(alloc, asked)?);
     let mut store = PartialCompiler::compile(compiler, alloc, plain_language(alloc)?)?;
@@ -239,7 +239,7 @@ fn is_read_eagerly(alloc: Global, asked: &Rc<Cell<u64>>) -> Result<(), Fail> {
     holds(asked.get() == 5, "no text is read later")
 }
 
-/// A lazy store reads a text for the first request of its name.
+/// Returns a lazy store reads a text for the first request of its name.
 fn is_read_lazily(alloc: Global, asked: &Rc<Cell<u64>>) -> Result<(), Fail> {
     let compiler = LazyCompiler::new(counting(alloc, asked)?);
     let mut store = PartialCompiler::compile(compiler, alloc, plain_language(alloc)?)?;

@@ -1,4 +1,4 @@
-//! Templates of the test plug-ins come to what they mean.
+//! Templates of the test plug-ins are rendered as what they mean.
 use crate::kinds::{Eager, Lazy, OnDemand};
 use crate::languages::plain_language;
 use crate::pages::all_hold;

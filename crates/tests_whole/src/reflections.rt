@@ -1,4 +1,4 @@
-//! What filters, tags and blocks tell about themselves.
+//! What filters, tags and blocks say about themselves.
 use bench::filters::AppendParameters;
 use bench::languages::hostile_language;
 use bench::{Blocks, Filters, HostileBlocks, HostileTags};
@@ -11,7 +11,7 @@ use std::alloc::{AllocError, Global};
 use std::test::Fail;
 use tests_lines::{Line, holds, rows_hold, same};
 
-/// The parameters, each with its name, its description and whether it may be left out, joined by `; `.
+/// Returns the parameters, each with its name, its description and whether it may be left out, joined by `; `.
 fn listed(alloc: Global, parameters: &[ParameterReflection]) -> Result<String, AllocError> {
     let mut lines = Vec::new(alloc);
     for parameter in parameters {
@@ -25,7 +25,7 @@ fn listed(alloc: Global, parameters: &[ParameterReflection]) -> Result<String, A
     lines.join(alloc, "; ")
 }
 
-/// Whether a filter tells its name, its description and its parameters as a row does.
+/// Returns `true` if a filter has the name, the description and the parameters of a row.
 pub(crate) fn filter_is_told<P: FilterReflection>(
     alloc: Global,
     filter: &P,
@@ -41,7 +41,7 @@ pub(crate) fn filter_is_told<P: FilterReflection>(
     )
 }
 
-/// Whether a tag tells its name and its description as a row does, and neither an example nor a spec.
+/// Returns `true` if a tag has the name and the description of a row, and neither an example nor a spec.
 pub(crate) fn tag_is_told<T: TagReflection>(tag: &T, row: &Line) -> Result<bool, Fail> {
     Ok(
         tag.tag() == row.text(0)?
@@ -51,7 +51,7 @@ pub(crate) fn tag_is_told<T: TagReflection>(tag: &T, row: &Line) -> Result<bool,
     )
 }
 
-/// Whether a block tells its tags and its description as a row does, and neither an example nor a spec.
+/// Returns `true` if a block has the tags and the description of a row, and neither an example nor a spec.
 pub(crate) fn block_is_told<B: BlockReflection>(block: &B, row: &Line) -> Result<bool, Fail> {
     Ok(
         block.start_tag() == row.text(0)?
@@ -62,7 +62,7 @@ pub(crate) fn block_is_told<B: BlockReflection>(block: &B, row: &Line) -> Result
     )
 }
 
-/// Whether a block has the dividers of a row, and escapes and nests as it tells.
+/// Returns `true` if a block has the dividers of a row, and escapes and nests as the row says.
 pub(crate) fn body_is_told<B: ParseBlock<Filters>>(
     alloc: Global,
     block: &B,
@@ -134,7 +134,7 @@ const LIBRARY: &str =
 ["for", "endfor", "Renders its body for each item of an array, an object or a range.", "else", false, false]
 ["raw", "endraw", "Writes its body as it stands.", "", true, false]"#;
 
-/// Whether a block is told by the row of a line, with its body.
+/// Returns `true` if a block is as the row of a line says, with its body.
 fn block_holds<B: ParseBlock<Filters>>(alloc: Global, block: &B, line: &str) -> Result<bool, Fail> {
     let row = Line::of(alloc, line)?;
     Ok(block_is_told(block, &row)? && body_is_told(alloc, block, &row)?)

@@ -38,7 +38,7 @@ fn frame_of(alloc: Global, pushed: Pushed) -> Result<Frame, AllocError> {
     })
 }
 
-/// How many frames are open, and the values of `a` and `b`, or `-` for a name without one.
+/// Returns how many frames are open, and the values of `a` and `b`, or `-` for a name without one.
 fn look<S: Scopes>(alloc: Global, scopes: &S, seen: &mut String) -> Result<(), Error> {
     seen.push_str(scopes.frames().to_string(alloc)?.as_str())?;
     for name in ["a", "b"] {
@@ -51,7 +51,7 @@ fn look<S: Scopes>(alloc: Global, scopes: &S, seen: &mut String) -> Result<(), E
     Ok(())
 }
 
-/// Sets `a` under the frame that was opened last, and looks.
+/// Sets `a` under the frame that was opened last, and looks up the names.
 fn enter<S: Scopes>(
     alloc: Global,
     scopes: &mut S,
@@ -70,8 +70,7 @@ fn enter<S: Scopes>(
     look(alloc, &*scopes, seen)
 }
 
-/// Opens each frame in those before it, and closes them again; looks whenever one was opened or
-/// closed.
+/// Opens each frame in those before it, and closes them again. Looks up the names whenever one was opened or closed.
 fn look_under<S: Scopes>(
     alloc: Global,
     scopes: &mut S,
@@ -101,7 +100,7 @@ fn look_under<S: Scopes>(
     }
 }
 
-/// What is seen over a base without names, and the base afterwards.
+/// Returns what is seen over a base without names, and the base afterwards.
 fn seen_over<S: Scopes>(
     alloc: Global,
     base: S::Base,

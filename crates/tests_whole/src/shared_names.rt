@@ -1,4 +1,4 @@
-//! Names that have two meanings: which of them is asked first.
+//! Names that have two meanings: which of them is tried first.
 use crate::kinds::OnDemand;
 use crate::pages::all_hold;
 use bench::block_plugins::{Blocks, HostileBlocks};
@@ -10,10 +10,9 @@ use std::alloc::{AllocError, Global};
 use std::rc::Rc;
 use std::test::Fail;
 
-/// Templates, and what each comes to. A tag is asked before a block of its name, so the end of that
-/// block ends nothing, and is the tag that has its name; an end is asked before a tag of its name;
-/// within a block a tag is asked before a block of its name, and an end before a divider of its name;
-/// and an end is that of the innermost block.
+/// Templates, and their results. A tag is tried before a block of its name, so the end of that block ends nothing, and
+/// is the tag that has its name; an end is tried before a tag of its name; in a block a tag is tried before a block of
+/// its name, and an end before a divider of its name; and an end is that of the innermost block.
 const ROWS: &str = r#"{"template": "{% box g 1 %}{{ g }}", "written": "1"}
 {"template": "{% endbox %}a", "written": "sssa"}
 {"template": "{% b %}a{% endbox %}c", "written": "[a]c"}
@@ -21,8 +20,8 @@ const ROWS: &str = r#"{"template": "{% box g 1 %}{{ g }}", "written": "1"}
 {"template": "{% early %}a{% mid %}b", "written": "ab"}
 {"template": "{% swap %}a{% early %}b{% mid %}c{% mid %}d{% endswap %}", "written": "dabc"}"#;
 
-/// A language in which names stand for two things: `box` is a tag and a block, `endbox` is the end
-/// of `b` and a tag, and `mid` is the end of `early` and a divider.
+/// Returns a language in which names mean two things: `box` is a tag and a block, `endbox` is the end of `b` and a tag,
+/// and `mid` is the end of `early` and a divider.
 fn shared_names(
     alloc: Global,
 ) -> Result<Language<Filters, HostileTags, HostileBlocks>, AllocError> {

@@ -1,4 +1,4 @@
-//! The calls that render, each over a runtime of its own.
+//! The calls that render, each over its own runtime.
 use crate::sink_given::{Around, Page, Store, names, runtime};
 use liquid_core::runtime::{ChainedScopes, FlatScopes, Scopes};
 use liquid_core::{Error, Sink};
@@ -16,7 +16,7 @@ pub(crate) enum Call {
 
 pub(crate) const CALLS: [Call; 4] = [Call::Plain, Call::Sandboxed, Call::Chained, Call::Flat];
 
-/// Renders over scopes of one form, and answers the base again.
+/// Renders over scopes of one form, and returns the base.
 fn over<S, K>(
     alloc: Global,
     page: &Page,
@@ -32,7 +32,7 @@ where
     (answer, scopes.into_base())
 }
 
-/// Makes the call, and answers its runtime too.
+/// Makes the call, and returns its runtime, too.
 pub(crate) fn rendered<K: Sink>(
     alloc: Global,
     page: &Page,

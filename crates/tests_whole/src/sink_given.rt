@@ -18,8 +18,8 @@ pub(crate) type Store = OnePartial<AnyFilter, TagNode, BlockNode>;
 
 pub(crate) type Around = BuiltRuntime<(), Store>;
 
-/// A template, what it writes, the text of its refusal, and what `g` renders as behind so many bytes, `-` where it
-/// has no value. An empty value makes no put, and a global frame keeps what was assigned in it.
+/// A template, what it writes, the text of its error, and what `g` renders as after that many bytes, `-` if it has no
+/// value. An empty value makes no put, and a global frame keeps what was assigned in it.
 pub(crate) const ROWS: &str = r#"["Hello", "Hello", "", [[0, "-"]]]
 ["{% box %}ab{% endbox %}", "[ab]", "", [[0, "-"]]]
 ["{% set g 1 %}ab{% set g 2 %}", "ab", "", [[0, "1"], [2, "2"]]]
@@ -39,7 +39,7 @@ pub(crate) fn page(alloc: Global, text: &str) -> Result<Page, Fail> {
     Ok(Template::new(nodes))
 }
 
-/// What the templates see: an empty text, and nil.
+/// Returns what the templates see: an empty text, and nil.
 pub(crate) fn names(alloc: Global) -> Result<Object, AllocError> {
     let mut names = Object::new(alloc);
     let empty = Value::scalar(String::new(alloc));
@@ -48,7 +48,7 @@ pub(crate) fn names(alloc: Global) -> Result<Object, AllocError> {
     Ok(names)
 }
 
-/// A runtime of these names with the partial `p`.
+/// Returns a runtime of these names with the partial `p`.
 pub(crate) fn runtime(alloc: Global) -> Result<Around, Fail> {
     let store = OnePartial {
         name: String::from_str(alloc, "p")?,
@@ -62,7 +62,7 @@ pub(crate) fn runtime(alloc: Global) -> Result<Around, Fail> {
     )
 }
 
-/// Whether `g` is what the row leaves behind so many bytes.
+/// Returns `true` if `g` is what the row leaves after that many bytes.
 pub(crate) fn is_left<R: Runtime>(
     alloc: Global,
     row: &Line,
@@ -76,7 +76,7 @@ pub(crate) fn is_left<R: Runtime>(
     Ok(found.as_str() == wanted(row, bytes)?)
 }
 
-/// What the row says of `g` behind so many bytes: its last word for fewer bytes or as many.
+/// Returns what the row says about `g` after that many bytes: its last entry for as many bytes or fewer.
 fn wanted(row: &Line, bytes: usize) -> Result<&str, Fail> {
     let mut wanted = "";
     for step in row.list(3)? {
@@ -94,7 +94,7 @@ fn wanted(row: &Line, bytes: usize) -> Result<&str, Fail> {
     Ok(wanted)
 }
 
-/// The refusal of a row whose sink has no fault in its first bytes, so many: the sink's where it fails.
+/// Returns the error of a row whose sink has no fault in its first bytes: the sink's if it fails.
 pub(crate) fn refusal(row: &Line, bytes: usize) -> Result<&str, Fail> {
     if bytes < row.text(1)?.len() {
         Ok("liquid: Failed to render\n")

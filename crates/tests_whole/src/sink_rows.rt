@@ -1,4 +1,4 @@
-//! A sink that takes one byte a put and fails at a chosen put, for every put of each row.
+//! A sink that takes one byte with each put and fails at a chosen put, for every put of each row.
 use crate::sink_calls::{CALLS, Call, rendered};
 use crate::sink_given::{Page, ROWS, is_left, page, refusal};
 use bench::dripping::Dripping;
@@ -7,7 +7,7 @@ use std::alloc::Global;
 use std::test::Fail;
 use tests_lines::{Line, holds};
 
-/// Whether a call is refused by this text, which is empty where it is not refused.
+/// Returns `true` if a call has an error with this text, which is empty if there is no error.
 pub(crate) fn is_refused(
     alloc: Global,
     answer: &Result<(), Error>,
@@ -19,8 +19,8 @@ pub(crate) fn is_refused(
     }
 }
 
-/// Whether a call over a sink that takes so many bytes leaves just those of the row's text, is refused as the row
-/// and the sink say, and leaves what was assigned up to there.
+/// Returns `true` if a call over a sink that takes that many bytes leaves just those of the row's text, has the error
+/// that the row and the sink give, and leaves what was assigned up to there.
 fn drips(alloc: Global, row: &Line, page: &Page, bytes: usize, call: Call) -> Result<bool, Fail> {
     let mut sink = Dripping::new(alloc, u64::try_from(bytes)?);
     let (answer, around) = rendered(alloc, page, &mut sink, call)?;
@@ -30,7 +30,7 @@ fn drips(alloc: Global, row: &Line, page: &Page, bytes: usize, call: Call) -> Re
     Ok(refused && left && taken)
 }
 
-/// How many puts of a row failed or were not made, over all calls, or none where one is not as it should be.
+/// Returns how many puts of a row failed or were not made, over all calls, or `None` if one is not as it should be.
 fn puts(alloc: Global, line: &str) -> Result<Option<usize>, Fail> {
     let row = Line::of(alloc, line)?;
     let page = page(alloc, row.text(0)?)?;

@@ -42,7 +42,7 @@ fn render_twice<W: Write>(alloc: Global, text: &str, writer: &mut W) -> Result<(
     Ok(())
 }
 
-/// Whether a list takes a text, a name's value and the text again, behind what it has.
+/// Returns `true` if a list takes a text, a name's value and the text again, after what it has.
 fn are_taken_by_a_list(alloc: Global, text: &str, wanted: &str) -> Result<bool, Fail> {
     let mut bytes = b"> ".to_vec(alloc)?;
     render_twice(alloc, text, &mut bytes)?;
@@ -50,7 +50,7 @@ fn are_taken_by_a_list(alloc: Global, text: &str, wanted: &str) -> Result<bool, 
     Ok(bytes.as_slice() == quoted.as_bytes())
 }
 
-/// Whether a writer with a buffer takes them.
+/// Returns `true` if a writer with a buffer takes them.
 fn are_taken_by_a_buffer(alloc: Global, text: &str, wanted: &str) -> Result<bool, Fail> {
     let mut buffered = BufWriter::new(alloc, Vec::new(alloc))?;
     render_twice(alloc, text, &mut buffered)?;
@@ -58,7 +58,7 @@ fn are_taken_by_a_buffer(alloc: Global, text: &str, wanted: &str) -> Result<bool
     Ok(buffered.get_ref().as_slice() == wanted.as_bytes())
 }
 
-/// Whether a writer takes them that takes a part each time.
+/// Returns `true` if a writer takes them that takes a part each time.
 fn are_taken_by_parts(alloc: Global, text: &str, wanted: &str) -> Result<bool, Fail> {
     let mut narrow = Narrow {
         bytes: Vec::new(alloc),
@@ -71,7 +71,7 @@ fn are_taken_by_parts(alloc: Global, text: &str, wanted: &str) -> Result<bool, F
 const LENGTHS: &str =
     "[0]\n[1]\n[999]\n[1000]\n[1001]\n[4095]\n[4096]\n[4097]\n[8191]\n[8192]\n[8193]\n[100000]";
 
-/// Whether each writer takes a text of the row's length, a name's value and the text again.
+/// Returns `true` if each writer takes a text of the row's length, a name's value and the text again.
 fn are_taken(alloc: Global, row: &Line) -> Result<bool, Fail> {
     let length = usize::try_from(row.number(0)?)?;
     let text = "0123456789abc\n".repeat(alloc, length / 14 + 1)?;
@@ -114,7 +114,7 @@ fn bytes_that_are_no_text_are_refused(rt: HostRuntime) -> Result<(), Fail> {
     holds(sink.into_string().is_err(), "the byte is no text")
 }
 
-/// Whether the sink takes just that of the template, and the call is refused so.
+/// Returns `true` if the sink takes just that of the template, and the call has this error.
 fn drips(alloc: Global, drip: &Line, runtime: &mut BuiltRuntime<(), ()>) -> Result<bool, Fail> {
     let language = language(alloc)?;
     let mut sink = Dripping::new(alloc, u64::try_from(drip.number(0)?)?);
@@ -123,8 +123,8 @@ fn drips(alloc: Global, drip: &Line, runtime: &mut BuiltRuntime<(), ()>) -> Resu
     Ok(sink.as_bytes() == drip.text(2)?.as_bytes() && refusal.as_str() == drip.text(3)?)
 }
 
-/// How many puts of a byte a sink takes, the template, what the sink took of it, and the refusal. An
-/// empty value makes no put.
+/// How many puts of a byte a sink takes, the template, what the sink took of it, and the error. An empty value makes no
+/// put.
 const DRIPS: &str = r#"[0, "Hello", "", "liquid: Failed to render\n"]
 [1, "Hello", "H", "liquid: Failed to render\n"]
 [2, "Hello", "He", "liquid: Failed to render\n"]
@@ -134,7 +134,7 @@ const DRIPS: &str = r#"[0, "Hello", "", "liquid: Failed to render\n"]
 [0, "{{ x }}{{ y }}", "", ""]
 [2, "{% box %}ab{% endbox %}", "[a", "liquid: Failed to render\n"]"#;
 
-/// Whether a row holds over names whose values are empty.
+/// Returns `true` if a row is true over names whose values are empty.
 fn keeps_the_beginning(alloc: Global, drip: &Line) -> Result<bool, Fail> {
     let mut runtime = runtime_of(alloc, r#"{"x": "", "y": null}"#)?;
     drips(alloc, drip, &mut runtime)
@@ -145,7 +145,7 @@ fn a_sink_that_fails_keeps_the_beginning(rt: HostRuntime) -> Result<(), Fail> {
     rows_hold(rt.alloc(), DRIPS, keeps_the_beginning)
 }
 
-/// The text of a name's value.
+/// Returns the text of a name's value.
 fn text_of(alloc: Global, runtime: &BuiltRuntime<(), ()>, name: &str) -> Result<String, Fail> {
     match runtime.get(alloc, &[ScalarCow::from(name)]) {
         Ok(value) => Ok(value.as_view().to_kstr(alloc)?.to_string(alloc)?),

@@ -127,7 +127,7 @@ const PARTIALS: &str =
 {"partials": [["p", "{{ forloop.index }}"]], "template": "{% for x in (1..2) %}{% render \"p\" %}{% endfor %}", "written": "", "error": "liquid: Unknown variable\n  with:\n    requested variable=forloop\nfrom: render p\n", "lenient": {"written": ""}}
 {"partials": [["a", "x{% render \"b\" %}"], ["b", "{{ y }}"]], "template": "{% include \"a\" %}", "written": "x", "error": "liquid: Unknown variable\n  with:\n    requested variable=y\nfrom: render b\nfrom: include a\n", "lenient": {"written": "x"}}"#;
 
-/// Whether a row holds of `render_page`.
+/// Returns `true` if a row passes with `render_page`.
 fn is_page(alloc: Global, row: &Row) -> Result<bool, Fail> {
     let mut sink = TextSink::new(alloc);
     let (globals, source) = (globals(alloc, row)?, source(alloc, row)?);
@@ -136,7 +136,7 @@ fn is_page(alloc: Global, row: &Row) -> Result<bool, Fail> {
     is_told(alloc, row, &sink, &answer)
 }
 
-/// Refuses the first row of a table that doesn't hold of `render_page`.
+/// Fails for the first row of a table that does not pass with `render_page`.
 fn are_pages(alloc: Global, rows: &str) -> Result<(), Fail> {
     for line in rows.lines() {
         holds(is_page(alloc, &Row::of(alloc, line)?)?, line)?;

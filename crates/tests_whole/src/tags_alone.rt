@@ -1,10 +1,10 @@
-//! Tags alone: their names, and the copies of the cursor over their tokens.
+//! Single tags: their names, and the copies of the cursor over their tokens.
 use liquid_core::parser::{Tag, TagTokenIter};
 use std::alloc::{AllocError, Global};
 use std::test::Fail;
 use tests_lines::{Line, rows_hold};
 
-/// The texts of the tokens of a cursor, joined by ` / `.
+/// Returns the texts of the tokens of a cursor, joined by ` / `.
 fn joined(alloc: Global, tokens: TagTokenIter<'_>, count: usize) -> Result<String, AllocError> {
     let mut tokens = tokens;
     let mut texts = Vec::new(alloc);
@@ -16,8 +16,8 @@ fn joined(alloc: Global, tokens: TagTokenIter<'_>, count: usize) -> Result<Strin
     texts.join(alloc, " / ")
 }
 
-/// Whether each cursor of a tag hands out the tokens of a text from the first one on, whatever another one
-/// has handed out.
+/// Returns `true` if each cursor of a tag returns the tokens of a text from the first one on, whatever another one has
+/// returned.
 fn has_tokens(alloc: Global, tag: Tag<'_>, shown: &str, count: usize) -> Result<bool, AllocError> {
     let mut moved = tag.tokens();
     let _ = moved.next();
@@ -27,7 +27,7 @@ fn has_tokens(alloc: Global, tag: Tag<'_>, shown: &str, count: usize) -> Result<
     Ok(first.as_str() == shown && again.as_str() == shown && last.as_str() == shown)
 }
 
-/// How many tokens stand behind so many that were taken from a copy of a tag's cursor.
+/// Returns the number of tokens after those that were taken from a copy of a tag's cursor.
 fn left_behind(tag: &Tag<'_>, taken: i64, count: usize) -> usize {
     let mut tokens = tag.tokens();
     for _ in 0..taken {
@@ -42,7 +42,7 @@ fn left_behind(tag: &Tag<'_>, taken: i64, count: usize) -> usize {
     left
 }
 
-/// Whether a tag has the name, the text and the tokens of a row.
+/// Returns `true` if a tag has the name, the text and the tokens of a row.
 fn holds(alloc: Global, row: &Line) -> Result<bool, Fail> {
     let text = row.text(0)?;
     let tag = Tag::new(alloc, text)?;
@@ -52,7 +52,7 @@ fn holds(alloc: Global, row: &Line) -> Result<bool, Fail> {
     Ok(is_named && is_left && has_tokens(alloc, tag, row.text(2)?, text.len())?)
 }
 
-/// A tag, its name, its tokens, so many that are taken, and how many are left then.
+/// A tag, its name, its tokens, the number of tokens that are taken, and how many are then left.
 const TAGS: &str = r#"["{% t %}", "t", "", 1, 0]
 ["{%-t-%}", "t", "", 0, 0]
 ["{% t a b c %}", "t", "a / b / c", 2, 1]

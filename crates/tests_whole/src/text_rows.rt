@@ -1,4 +1,4 @@
-//! Templates of the test plug-ins with what they come to.
+//! Templates of the test plug-ins with their results.
 
 /// Texts and names.
 pub(crate) const NAMES: &str =

@@ -1,4 +1,4 @@
-//! Texts of the test plug-ins with what they come to.
+//! Texts of the test plug-ins with their results.
 
 /// Expressions, paths and filters.
 pub(crate) const EXPRESSIONS: &str =

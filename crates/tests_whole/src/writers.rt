@@ -31,7 +31,7 @@ struct Counting {
 }
 
 impl Counting {
-    /// A writer that fails behind so many bytes.
+    /// Returns a writer that fails after that many bytes.
     fn new(alloc: Global, failing: usize, fault: Fault) -> Counting {
         Counting {
             bytes: Vec::new(alloc),
@@ -63,14 +63,14 @@ impl Write for Counting {
     }
 }
 
-/// How often a writer of a row is asked: not once more behind its fault.
+/// Returns how often a writer of a row is called: not once more after its fault.
 fn asked(row: &Line, bytes: usize) -> Result<usize, Fail> {
     Ok(row.text(1)?.len().min(bytes.saturating_add(1)))
 }
 
-/// Whether a call over a writer that fails behind so many bytes leaves just those of the row's text, is refused as
-/// the row and the sink say, and leaves what was assigned up to there; and whether the writer is asked for each
-/// byte once.
+/// Returns `true` if a call over a writer that fails after that many bytes leaves just those of the row's text, has the
+/// error that the row and the sink give, and leaves what was assigned up to there, and if the writer is called once for
+/// each byte.
 fn writes(
     alloc: Global,
     row: &Line,
@@ -88,7 +88,7 @@ fn writes(
     Ok(refused && left && taken && writer.calls == asked(row, bytes)?)
 }
 
-/// How many writers of a row were tried, over all calls, or none where one is not as it should be.
+/// Returns how many writers of a row were tried, over all calls, or `None` if one is not as it should be.
 fn writers(alloc: Global, line: &str, fault: Fault) -> Result<Option<usize>, Fail> {
     let row = Line::of(alloc, line)?;
     let page = page(alloc, row.text(0)?)?;

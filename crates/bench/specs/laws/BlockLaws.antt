@@ -16,7 +16,7 @@ use Rattle.bench.specs.laws.TagLaws.{unchanged_hides}
 use Rattle.bench.specs.meaning.Blocks.{block_answers, block_nodes, block_takes, bound, next_stage}
 
 module _ {Reg : Type 0} where
-  -- a turn answers the same, whatever is hidden
+  -- a turn returns the same, whatever is hidden
   same_answer : (n : BlockShape) (stage : Stage) (g : Names) (v : View Reg) → block_answers n stage (hiding g v) ≡ block_answers n stage (hiding empty v)
   same_answer shape.Box stage g v = refl
   same_answer shape.Sbox stage g v = refl

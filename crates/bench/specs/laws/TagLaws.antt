@@ -18,7 +18,7 @@ use Rattle.liquid_plugins.specs.meaning.Turning.{answers, begins_with, turned}
 use Rattle.bench.specs.meaning.Tags.{assigned, tag_nodes, tag_takes}
 
 module _ {Reg : Type 0} where
-  -- an answer that writes nothing hides globals
+  -- a result that writes nothing hides globals
   pub unchanged_hides : {A P : Type 0} (answer : Result A Refusal) (p : P) (g : Names) (v : View Reg) → answers answer p (hiding g v) ≡ overlaid g (answers answer p (hiding empty v))
   unchanged_hides answer p g v = answers_hide answer p (λ w. w) (λ m w. refl) g v
 

@@ -1,4 +1,4 @@
--- What the test tags and blocks ask of their tokens.
+-- What the test tags and blocks expect of their tokens.
 use Rattle.std.specs.Prelude.{ℕ, List, codes, Result, Ok}
 use Rattle.liquid_error.specs.meaning.Refusal.{Refusal, ok_then}
 use Rattle.liquid_plugins.specs.meaning.Expression.{ExpressionShape}
@@ -9,11 +9,11 @@ use Rattle.liquid_parser.specs.meaning.Handed.{Tokens, expect_nothing, expect_id
 abbrev pub token_expected : List ℕ
 token_expected = codes "Token expected"
 
--- a name, and no token behind it
+-- a name, and no token after it
 abbrev pub name_alone : Tokens → Result (List ℕ) Refusal
 name_alone ts = ok_then (next_as token_expected expect_identifier ts) (λ name. ok_then (expect_nothing name.1) (λ u. Ok name.0))
 
--- a name and a value, and no token behind them
+-- a name and a value, and no token after them
 abbrev pub name_and_value : Tokens → Result (List ℕ × ExpressionShape) Refusal
 name_and_value ts =
     ok_then (next_as token_expected expect_identifier ts) (λ name.

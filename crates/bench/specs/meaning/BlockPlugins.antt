@@ -1,4 +1,4 @@
--- The names of the test blocks, and what they make of their tokens and bodies.
+-- The names of the test blocks, and what they make from their tokens and bodies.
 use Rattle.std.specs.Prelude.{ℕ, List, [], ◌∷◌, Bool, true, false, codes, Result, Ok, Err}
 use Rattle.liquid_error.specs.meaning.Refusal.{Refusal, ok_then}
 use Rattle.liquid_parser.specs.meaning.Handed.{Tokens}
@@ -82,7 +82,8 @@ names_told b = record { start_name = start_of b; end_name = end_of b }
 abbrev pub whole_block : {F : Type 0} → Blocks → Block F BlockShape BlockShape
 whole_block b = record { names = names_told b; means = block_meaning b }
 
--- the same of the blocks of bad will; `odd` is a box and has the names of one, `early` is a `swap` whose end has its divider's name
+-- the same for the malicious blocks; `odd` is a box and has the names of one, `early` is a `swap` whose end has its
+-- divider's name
 abbrev pub hostile_start_of : HostileBlocks → List ℕ
 hostile_start_of (hostile.Plain b) = start_of b
 hostile_start_of hostile.Far = codes "far"

@@ -25,7 +25,7 @@ block_of (block.Raw slice) = shape.Raw (string_bytes slice)
 block_of (block.With name e) = shape.With (string_bytes name) (expression_of e.value)
 block_of block.Glob = shape.Glob
 
--- the turn behind a turn
+-- the turn after a turn
 abbrev pub next_stage : Stage → Stage
 next_stage First = Second
 next_stage Second = Third
@@ -57,7 +57,7 @@ once turn over Over = over
 abbrev pub bound : List ℕ → Result Tree Refusal → Result FrameShape Refusal
 bound name value = ok_then value (λ t. Ok (stack_frame (insert empty name t) None))
 
--- what a block's turn answers
+-- what a block's turn returns
 abbrev pub block_answers : {Reg : Type 0} → BlockShape → Stage → View Reg → Result TurnShape Refusal
 block_answers shape.Box stage v = Ok (boxed stage)
 block_answers shape.Sbox stage v = Ok (once (body_turn 0 (sandboxed_frame empty None) None) end_turn stage)
@@ -70,6 +70,6 @@ block_answers shape.Glob stage v = Ok (once (body_turn 0 global_frame None) end_
 abbrev pub block_takes : {Reg : Type 0} → BlockShape → Stage → View Reg → Answered TurnShape Stage Reg
 block_takes n stage v = answers (block_answers n stage v) (next_stage stage) v
 
--- what the nodes mean: each takes three turns at most
+-- what the nodes mean: each takes at most three turns
 abbrev pub block_nodes : {Reg : Type 0} → NodeMeaning BlockShape Stage Reg
 block_nodes = record { starts = λ n. begins_with First; count = λ stage. 3; takes = block_takes; catches = captures_nothing }

@@ -1,4 +1,4 @@
--- The filters of the bench: what arguments make of them, and what they answer.
+-- The filters of the bench: what arguments make from them, and what they return.
 use Rattle.std.specs.Prelude.{ℕ, List, [], ◌∷◌, ◌++◌, codes, Result, Ok, Err}
 use Rattle.liquid_error.specs.meaning.Refusal.{Refusal, plain, ok_then}
 use Rattle.liquid_scalar.specs.meaning.Scalar.{text}
@@ -26,12 +26,12 @@ abbrev pub one_argument : List ExpressionShape → List (List ℕ × ExpressionS
 one_argument (e ∷ []) [] = Ok e
 one_argument es ks = Err unexpected_arguments
 
--- this filter, where there is no argument
+-- this filter, if there is no argument
 abbrev pub without_arguments : AnyShape → List ExpressionShape → List (List ℕ × ExpressionShape) → Result AnyShape Refusal
 without_arguments filter [] [] = Ok filter
 without_arguments filter es ks = Err unexpected_arguments
 
--- the input's text, and behind it the text of the argument's value
+-- the input's text, and after it the text of the argument's value
 abbrev pub appended : ExpressionShape → Tree → Erased → Result Tree Refusal
 appended e input seen = ok_then (evaluate seen e) (λ t. Ok (scalar (text (render input ++ render t))))
 
@@ -39,7 +39,7 @@ appended e input seen = ok_then (evaluate seen e) (λ t. Ok (scalar (text (rende
 abbrev pub append_filters : FilterMeaning ExpressionShape
 append_filters = record { answers = appended; label = λ e. codes "append" }
 
--- no input is taken
+-- every input is refused
 abbrev pub fails : Tree → Erased → Result Tree Refusal
 fails input seen = Err (plain (codes "bad"))
 
@@ -48,7 +48,7 @@ abbrev pub any_shape : AnyFilter → AnyShape
 any_shape (any.Append append) = shape.Append (expression_of append.parameters.value)
 any_shape any.Fail = shape.Fail
 
--- what either answers, and its label
+-- what either returns, and its label
 abbrev pub any_answers : AnyShape → Tree → Erased → Result Tree Refusal
 any_answers (shape.Append e) = appended e
 any_answers shape.Fail = fails

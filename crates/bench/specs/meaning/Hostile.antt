@@ -1,4 +1,4 @@
--- What the tags and blocks of bad will mean.
+-- What the malicious tags and blocks mean.
 use Rattle.std.specs.Prelude.{ℕ, codes, None, Ok}
 use Rattle.liquid_runtime.specs.meaning.View.{View}
 use Rattle.liquid_runtime.specs.meaning.Frames.{no_frame}
@@ -27,19 +27,19 @@ abbrev pub hostile_block_of : HostileBlockNode → HostileBlockShape
 hostile_block_of (block.Plain node) = block_shape.Plain (block_of node)
 hostile_block_of block.Far = block_shape.Far
 
--- how many turns a tag says that it has
+-- the number of turns that a tag says it has
 abbrev pub turns_said : HostileTagShape → ℕ
 turns_said (shape.Plain node) = 1
 turns_said shape.Spin = 3
 turns_said shape.Mute = 0
 
--- what a turn answers; `spin` and `mute` never say that they have ended
+-- what a turn returns; `spin` and `mute` never say that they have ended
 abbrev pub hostile_tag_takes : {Reg : Type 0} → HostileTagShape → ℕ → View Reg → Answered TurnShape ℕ Reg
 hostile_tag_takes (shape.Plain node) progress v = tag_takes node progress v
 hostile_tag_takes shape.Spin progress v = answers (Ok (text_turn (codes "s"))) progress v
 hostile_tag_takes shape.Mute progress v = answers (Ok (text_turn (codes "s"))) progress v
 
--- `far` asks once for a part that it does not have
+-- `far` requests once a part that it does not have
 abbrev pub hostile_block_takes : {Reg : Type 0} → HostileBlockShape → Stage → View Reg → Answered TurnShape Stage Reg
 hostile_block_takes (block_shape.Plain node) stage v = block_takes node stage v
 hostile_block_takes block_shape.Far stage v = answers (Ok (once (body_turn 9 no_frame None) end_turn stage)) Over v

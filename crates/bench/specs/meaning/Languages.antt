@@ -15,7 +15,7 @@ use Rattle.bench.specs.declared.block_plugins.Blocks.TheVariants as blocks
 use Rattle.bench.specs.declared.block_plugins.HostileBlocks.{HostileBlocks}
 use Rattle.bench.specs.declared.block_plugins.HostileBlocks.TheVariants as hostile_block
 
--- plug-ins under their names; of two under one name the later stays
+-- plug-ins under their names; of two under one name the later is kept
 abbrev pub registered : {P : Type 0} → NameMap P → List (List ℕ × P) → NameMap P
 registered before [] = before
 registered before (p ∷ ps) = registered (insert before p.0 p.1) ps

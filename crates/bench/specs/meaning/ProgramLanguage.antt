@@ -1,4 +1,4 @@
--- The language of the program, and what its templates are rendered with.
+-- The plain language of the test plug-ins, and what its templates are rendered with.
 use Rattle.std.specs.Prelude.{ℕ, List, Option, None, Result}
 use Rattle.liquid_error.specs.meaning.Refusal.{Refusal}
 use Rattle.liquid_plugins.specs.meaning.Nodes.{NodeShape}
@@ -25,7 +25,7 @@ use Rattle.bench.specs.meaning.Languages.{the_filters, plain_tags, plain_blocks}
 abbrev pub meaning_of : Language Filters Tags Blocks → Lang AnyShape TagShape BlockShape BlockShape
 meaning_of = language_of any_made (λ tag filters ts. tag_given tag ts) whole_block
 
--- the program's language
+-- the plain language
 abbrev pub program_language : Lang AnyShape TagShape BlockShape BlockShape
 program_language = meaning_of (record { filters = the_filters; tags = plain_tags; blocks = plain_blocks })
 
@@ -37,6 +37,6 @@ ProgramNode = NodeShape AnyShape TagShape BlockShape
 abbrev pub ProgramAnswer : Type 0
 ProgramAnswer = Result (List ProgramNode) Refusal
 
--- what its templates are rendered with: a register that holds nothing, and no store of partials
+-- what its templates are rendered with: an empty register, and no store of partials
 abbrev pub program_setting : Setting (Unit {0}) AnyShape TagShape ℕ BlockShape Stage
 program_setting = setting tt any_filters tag_nodes block_nodes None

@@ -1,4 +1,4 @@
--- What the test tags make of their tokens.
+-- What the test tags make from their tokens.
 use Rattle.std.specs.Prelude.{Result, Ok}
 use Rattle.liquid_error.specs.meaning.Refusal.{Refusal, ok_then}
 use Rattle.liquid_parser.specs.meaning.Handed.{Tokens}

@@ -27,22 +27,22 @@ tag_of (tag.Set name e) = shape.Set (string_bytes name) (expression_of e.value)
 tag_of (tag.Inc name) = shape.Inc (string_bytes name)
 tag_of tag.Brk = shape.Brk
 
--- the same where there is `leak` too
+-- the same in a language with `leak`
 abbrev pub leaky_of : LeakyTagNode → LeakyTagShape
 leaky_of (leaky.Plain node) = leaky_shape.Plain (tag_of node)
 leaky_of (leaky.Leak name e) = leaky_shape.Leak (string_bytes name) (expression_of e.value)
 
--- what setting a global to this value tells: its old value
+-- what setting a global to this value returns: its old value
 abbrev pub assigned : {Reg : Type 0} → List ℕ → Result Tree Refusal → View Reg → Answered (Option Tree) (Unit {0}) Reg
 assigned name (Ok t) v = record { answer = old_global v name; progress = tt; written = written_of (put_global v name t) }
 assigned name (Err refusal) v = answers (Err refusal) tt v
 
--- the render of a value, empty where there is none
+-- the rendered text of a value, empty if there is none
 abbrev pub render_old : Option Tree → List ℕ
 render_old None = []
 render_old (Some t) = render t
 
--- what a tag's turn answers
+-- what a tag's turn returns
 abbrev pub tag_takes : {Reg : Type 0} → TagShape → ℕ → View Reg → Answered TurnShape ℕ Reg
 tag_takes (shape.Set name e) progress v = turned (λ _. end_turn) progress (assigned name (evaluate v e) v)
 tag_takes (shape.Inc name) progress v = answers (Ok (partial_turn name no_frame None)) progress v

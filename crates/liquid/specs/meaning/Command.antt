@@ -22,7 +22,7 @@ lenient_word = codes "--lenient"
 abbrev pub no_options : Options
 no_options = record { standard = false; sandboxed = false; lenient = false }
 
--- the options with the one that a word is; none where it is no option, or one that is there
+-- the options with the one that a word is; none if it is not an option, or is one that is already set
 abbrev pub with_option : List ℕ → Options → Option Options
 with_option word o =
     if bytes_eq word standard_word && not o.standard then Some (record o { standard = true })
@@ -41,7 +41,7 @@ options_in words = (options_before no_options words).0
 abbrev pub paths_in : List (List ℕ) → List (List ℕ)
 paths_in words = (options_before no_options words).1
 
--- a word that begins with `--` is no path of a template
+-- a word that begins with `--` is not a path of a template
 abbrev pub is_path : List ℕ → Bool
 is_path word = not (starts_with nat_eq word (codes "--"))
 

@@ -1,6 +1,6 @@
--- What a command comes to, by the files that it names. They are read in the order in which they stand here, and each is
--- turned into what it stands for before the next is read. Where one can't be, the command comes to `stop`, and else to
--- what `next` says of what was read. Where nothing is known of a file or a folder, nothing is said.
+-- What follows from a command, by the files that it names. They are read in the order in which they are listed here,
+-- and each is turned into what it means before the next is read. If one can't be, the result is `stop`, and otherwise
+-- what `next` says about what was read. If nothing is known of a file or a folder, nothing is said.
 use Rattle.std.specs.Prelude.{ℕ, List, [], ◌∷◌, ◌++◌, Option, None, Some, Result, Ok, Err, IsUtf8, codes, ⊤}
 use Rattle.std.specs.FinMap.{empty, insert, keys}
 use Rattle.liquid_error.specs.meaning.Refusal.{Refusal}
@@ -10,7 +10,7 @@ use Rattle.liquid_partials.specs.meaning.Sources.{Texts}
 use Rattle.liquid_json.specs.meaning.Given.{object_read}
 use Rattle.liquid.specs.meaning.Globals.{global_names}
 
--- a file that is there and is UTF-8 is its text
+-- a file that exists and is UTF-8 is its text
 abbrev pub WithText : Option (Option (List ℕ)) → Type 0 → (List ℕ → Type 0) → Type 0
 WithText None stop next = ⊤
 WithText (Some None) stop next = stop
@@ -41,7 +41,7 @@ WithFiles known folder [] texts stop next = next texts
 WithFiles known folder (name ∷ names) texts stop next =
     WithText (known (path_in folder name)) stop (λ text. WithFiles known folder names (insert texts name text) stop next)
 
--- a folder that is there is the names of its files
+-- a folder that exists is the names of its files
 abbrev pub WithNames : Option (Option (List (List ℕ))) → Type 0 → (List (List ℕ) → Type 0) → Type 0
 WithNames None stop next = ⊤
 WithNames (Some None) stop next = stop
@@ -51,7 +51,7 @@ WithNames (Some (Some names)) stop next = next names
 abbrev pub WithFolder : (List ℕ → Option (Option (List ℕ))) → List ℕ → Option (Option (List (List ℕ))) → Type 0 → (Texts → Type 0) → Type 0
 WithFolder known folder names stop next = WithNames names stop (λ listed. WithFiles known folder (in_order listed) empty stop next)
 
--- no folder is no partials at all
+-- without a folder there are no partials
 abbrev pub WithPartials : (List ℕ → Option (Option (List ℕ))) → (List ℕ → Option (Option (List (List ℕ)))) → List (List ℕ) → Type 0 → (Option Texts → Type 0) → Type 0
 WithPartials known listed [] stop next = next None
 WithPartials known listed (folder ∷ words) stop next = WithFolder known folder (listed folder) stop (λ texts. next (Some texts))

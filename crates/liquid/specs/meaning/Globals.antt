@@ -1,4 +1,4 @@
--- The globals that a text of JSON gives.
+-- The globals of a text of JSON.
 use Rattle.std.specs.Prelude.{ℕ, List, [], ◌∷◌}
 use Rattle.std.specs.FinMap.{from_entries}
 use Rattle.liquid_value.specs.meaning.Tree.{Tree, Members, no_members, member}

@@ -24,20 +24,20 @@ names_at folder path = option_map (λ v. map string_bytes v.items) (get_by_text 
 abbrev pub IsWhole : Run (Unit {0}) → List ℕ → Type 0
 IsWhole r output = (output ≡ written r) × (r.refusal ≡ None)
 
--- the output is a beginning of all pieces joined
+-- the output is a beginning of all joined pieces
 abbrev pub IsBeginning : Run (Unit {0}) → List ℕ → Type 0
 IsBeginning r output = (left : List ℕ) × (written r ≡ output ++ left)
 
--- what the program's templates of these nodes come to, by these options, over these globals, where a store finds this
+-- the run of the program's templates of these nodes, with these options, over these globals, where a store finds this
 abbrev pub program_run : Options → Names → Option ProgramFound → List ProgramNode → Run (Unit {0})
 program_run options globals found nodes = program_action options.sandboxed found globals nodes (first_view options globals)
 
--- status 0 shows the whole run of what the text is read as, status 1 a beginning of it; a text that is refused shows nothing
+-- status 0 shows the whole run of the parsed text, status 1 a beginning of it; a text that is refused shows nothing
 abbrev pub ShowsAnswer : (List ProgramNode → Run (Unit {0})) → ProgramAnswer → List ℕ → ℕ → Type 0
 ShowsAnswer run_of (Ok nodes) output status = ((status ≡ 0) × IsWhole (run_of nodes) output) ⊎ ((status ≡ 1) × IsBeginning (run_of nodes) output)
 ShowsAnswer run_of (Err refusal) output status = (output ≡ []) × (status ≡ 1)
 
--- nothing is shown: a file can't be read as what it is to be, or memory ran out
+-- nothing is shown: a file can't be read as what it should be, or memory ran out
 abbrev pub ShowsNothing : List ℕ → ℕ → Type 0
 ShowsNothing output status = (output ≡ []) × ((status ≡ 3) ⊎ (status ≡ 1))
 
@@ -51,7 +51,7 @@ abbrev pub ShowsCommand : Options → List (List ℕ) → (List ℕ → Option (
 ShowsCommand options paths files folders output status =
     Gathers paths (λ path. Some (files path)) (λ path. Some (folders path)) (ShowsNothing output status) (λ text globals partials. ShowsText options text globals partials output status)
 
--- what the words show, by the files; words that are no command show nothing
+-- what the words show, by the files; words that are not a command show nothing
 abbrev pub Shows : List (List ℕ) → (List ℕ → Option (List ℕ)) → (List ℕ → Option (List (List ℕ))) → List ℕ → ℕ → Type 0
 Shows words files folders output status =
     (is_command words ≡ true → ShowsCommand (options_of words) (paths_of words) files folders output status) × (is_command words ≡ false → (output ≡ []) × (status ≡ 2))

@@ -1,4 +1,5 @@
--- The language of the program: the tag library with two filters or the standard ones, and what its templates are rendered with.
+-- The language of the program: the tag library with two filters or the standard ones, and what its templates are
+-- rendered with.
 use Rattle.std.specs.Prelude.{ℕ, List, [], ◌∷◌, Bool, true, false, codes, Option, None, Result, Ok, Err}
 use Rattle.std.specs.FinMap.{empty}
 use Rattle.liquid_error.specs.meaning.Refusal.{Refusal, plain}
@@ -32,7 +33,7 @@ use Rattle.std_texts.specs.meaning.Joints.{appended}
 use Rattle.liquid.specs.declared.filters.PlainKind.{PlainKind}
 use Rattle.liquid.specs.declared.filters.PlainKind.TheVariants.{Append, Fail}
 
--- `append`, and `fail`, which takes no input
+-- `append`, and `fail`, which refuses every input
 abbrev pub plain_sense : PlainKind → FilterSense
 plain_sense Append = record { name = codes "append"; optional = false ∷ []; keywords = []; answers = λ input g. appended input g.positional }
 plain_sense Fail = record { name = codes "fail"; optional = []; keywords = []; answers = λ input g. Err (plain (codes "bad")) }
@@ -79,7 +80,7 @@ ProgramAnswer = Result (List ProgramNode) Refusal
 abbrev pub ProgramFound : Type 0
 ProgramFound = Found ProgramShape (TagShape ProgramShape) BlockShape
 
--- what its templates are rendered with, where a store finds this, or where there is no store; the register holds nothing
+-- what its templates are rendered with, where a store finds this, or where there is no store; the register is empty
 abbrev pub ProgramSetting : Type 0
 ProgramSetting = Setting (Unit {0}) ProgramShape (TagShape ProgramShape) ℕ BlockShape ProgressShape
 

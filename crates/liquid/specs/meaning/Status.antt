@@ -15,7 +15,7 @@ abbrev pub exit_status : Result (Unit {0}) Fault → ℕ
 exit_status (Ok _) = 0
 exit_status (Err fault) = fault_status fault
 
--- the status behind a flush of the output: where it failed, that of a refusal, unless nothing was rendered
+-- the status after a flush of the output: if it failed, that of an error, unless nothing was rendered
 abbrev pub settled : ℕ → Bool → ℕ
 settled status true = status
 settled status false = if nat_lt status 2 then 1 else status

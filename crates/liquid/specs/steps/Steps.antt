@@ -1,4 +1,4 @@
--- What each step of reading answers: what was asked for, or the status of a fault.
+-- What each step of reading returns: what was requested, or the status of a fault.
 use Rattle.std.specs.Prelude.{◌≡◌, ℕ, ◌⊎◌, List, Result, Ok, Err, String, string_bytes, ⊤}
 use Rattle.std.specs.declared.alloc.Global.{Global}
 use Rattle.liquid.specs.declared.fault.Fault.{Fault}
@@ -6,17 +6,17 @@ use Rattle.liquid.specs.declared.folder.Unread.{Unread}
 use Rattle.liquid.specs.declared.folder.Unread.TheVariants.{Fault as Absent, Memory}
 use Rattle.liquid.specs.meaning.Status.{fault_status}
 
--- what was asked for is not there, or memory ran out
+-- what was requested can't be read, or memory ran out
 abbrev pub Stops : {A : Type 0} → Result A Fault → Type 0
 Stops (Ok x) = ⊥
 Stops (Err fault) = (fault_status fault ≡ 3) ⊎ (fault_status fault ≡ 1)
 
--- what was asked for, unless memory ran out
+-- what was requested, unless memory ran out
 abbrev pub Brings : {A B : Type 0} → (A → B) → B → Result A Fault → Type 0
 Brings of meant (Ok x) = of x ≡ meant
 Brings of meant (Err fault) = fault_status fault ≡ 1
 
--- the same of a read whose path is told later
+-- the same for a read whose path is given later
 abbrev pub StopsUnread : Result (String Global) Unread → Type 0
 StopsUnread (Ok text) = ⊥
 StopsUnread (Err unread) = ⊤

@@ -2,7 +2,7 @@
 use super::{USAGE, answers, ran};
 use std::test::Fail;
 
-/// The words, the status, and what both streams say.
+/// The words, the status, and what both streams have.
 type Command = (&'static [&'static str], u8, &'static str, &'static str);
 
 const COMMANDS: [Command; 38] = [

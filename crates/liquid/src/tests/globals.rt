@@ -1,4 +1,4 @@
-//! What may stand in the file of globals.
+//! What the file of globals may contain.
 use super::{RENDER, Row, answers, ran, rows_answer};
 use std::alloc::{AllocError, Global};
 use std::test::Fail;
@@ -62,7 +62,7 @@ fn globals_are_an_object_of_values(rt: HostRuntime) -> Result<(), Fail> {
     rows_answer(rt.alloc(), &GLOBALS)
 }
 
-/// An array in arrays, so many of them, under the name `x`.
+/// Returns an array in arrays, that many of them, under the name `x`.
 fn nested(alloc: Global, depth: usize) -> Result<String, AllocError> {
     let mut text = String::from_str(alloc, "{\"x\": ")?;
     text.push_str("[".repeat(alloc, depth)?.as_str())?;

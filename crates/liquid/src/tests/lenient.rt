@@ -1,4 +1,4 @@
-//! Names without a value, refused and as nil.
+//! Names without a value, as errors and as nil.
 use super::{answers, ran};
 use std::test::Fail;
 
@@ -8,7 +8,7 @@ const BOTH: &[&str] = &["render", "--lenient", "--sandboxed", "t", "g.json"];
 
 const EXPECTED_SCALAR: &str = "liquid: Expected scalar\n  with:\n    found=nil\n";
 
-/// The template, its globals, the status, and what both streams say.
+/// The template, its globals, the status, and what both streams have.
 type Row = (&'static [u8], &'static [u8], u8, &'static str, &'static str);
 
 const ROWS: [Row; 7] = [

@@ -57,7 +57,7 @@ fn files_of_a_folder_are_partials(rt: HostRuntime) -> Result<(), Fail> {
     Ok(())
 }
 
-/// A file that is no text, a file that is gone by then, the first of both in byte order, and no file.
+/// A file that is not text, a file that no longer exists, the first of both in byte order, and no file.
 const FOLDERS: [(Site, u8, &str); 4] = [
     (
         Site {

@@ -7,7 +7,7 @@ const SANDBOXED: &[&str] = &["render", "--sandboxed", "t", "g.json"];
 const UNKNOWN_INDEX: &str =
     "liquid: Unknown index\n  with:\n    variable=x\n    requested index=y\n    available indexes=z\n";
 
-/// The words, the template, its globals, the status, and what both streams say.
+/// The words, the template, its globals, the status, and what both streams have.
 type Row = (
     &'static [&'static str],
     &'static [u8],

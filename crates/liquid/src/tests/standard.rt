@@ -4,7 +4,7 @@ use std::test::Fail;
 
 const STANDARD: &[&str] = &["render", "--standard", "t", "g.json"];
 
-/// The template, its globals, the status, and what both streams say.
+/// The template, its globals, the status, and what both streams have.
 type Row = (&'static [u8], &'static [u8], u8, &'static str, &'static str);
 
 const ROWS: [Row; 3] = [

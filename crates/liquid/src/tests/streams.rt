@@ -19,7 +19,7 @@ impl Write for Full {
     }
 }
 
-/// A writer that takes everything, and fails where it is flushed.
+/// A writer that takes everything, and fails when it is flushed.
 #[derive(Drop)]
 struct Unflushed;
 
@@ -33,7 +33,7 @@ impl Write for Unflushed {
     }
 }
 
-/// The status over an output, and what the error stream says.
+/// Returns the status over an output, and what the error stream has.
 fn told<W: Write>(
     alloc: Global,
     template: &str,
@@ -49,8 +49,8 @@ fn told<W: Write>(
 
 const FAILED: &str = "liquid: Failed to render\n";
 
-// Templates and words, with the status and what the error stream says where no output is flushed. A failed flush is
-// told in place of a refusal, so the output was flushed before it is told.
+// Templates and words, with the status and what the error stream has if no output can be flushed. A failed flush is
+// reported in place of an error, so the output was flushed before the error is reported.
 const UNFLUSHED: [(&str, &[&str], u8, &str); 4] = [
     ("a", RENDER, 1, FAILED),
     ("a{{ x }}b", RENDER, 1, FAILED),
@@ -63,7 +63,7 @@ const UNFLUSHED: [(&str, &[&str], u8, &str); 4] = [
     ("a", &["render"], 2, USAGE),
 ];
 
-/// Refuses an output over which the program has another status, or says something else.
+/// Fails for an output over which the program has another status, or writes something else.
 fn tells<W: Write>(
     alloc: Global,
     template: &str,
@@ -89,7 +89,7 @@ fn streams_may_fail(rt: HostRuntime) -> Result<(), Fail> {
     Ok(())
 }
 
-/// The status where neither stream works.
+/// Returns the status if neither stream works.
 fn status_unheard(alloc: Global, template: &str, words: &[&str]) -> Result<u8, AllocError> {
     let words = words_of(alloc, words)?;
     let mut files = folder(alloc, template.as_bytes(), b"{}")?;
@@ -112,7 +112,7 @@ fn a_fault_of_the_error_stream_changes_no_status(rt: HostRuntime) -> Result<(), 
     Ok(())
 }
 
-/// Whether a page of this length, and a refusal behind it, pass a buffer whole.
+/// Returns `true` if a page of this length, and an error after it, pass a buffer whole.
 fn passes(alloc: Global, length: usize) -> Result<bool, Fail> {
     let page = "0123456789 ".repeat(alloc, length)?;
     let mut template = page.clone()?;

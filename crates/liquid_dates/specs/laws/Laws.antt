@@ -12,7 +12,7 @@ use Rattle.liquid_dates.specs.meaning.Pattern.{Item, IsReading}
 abbrev pub PatternsHaveReadings : Type 0
 PatternsHaveReadings = (text : List ℕ) → (items : List Item) × (end : Option DateFormatError) × IsReading text items end
 
--- and no other
+-- and only one
 abbrev pub PatternsHaveOneReading : Type 0
 PatternsHaveOneReading =
     (text : List ℕ) (items items₂ : List Item) (end end₂ : Option DateFormatError)
@@ -22,7 +22,7 @@ PatternsHaveOneReading =
 abbrev pub PrintedDatesAreRead : Type 0
 PrintedDatesAreRead = (d : CivilDate) (moment : DateTime) → IsDateText (date_text d) moment d
 
--- and a printed date time, where its offset is whole minutes below 20 h
+-- and so is a printed date time, if its offset is whole minutes below 20 h
 abbrev pub PrintedDateTimesAreRead : Type 0
 PrintedDateTimesAreRead =
     (dt moment : DateTime)

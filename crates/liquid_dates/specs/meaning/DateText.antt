@@ -18,15 +18,15 @@ use Rattle.liquid_dates.specs.meaning.Printed.{two_digits, four_digits}
 abbrev pub Form : Type 0 → Type 1
 Form A = List ℕ → A → Type 0
 
--- the first form that fits the text: the one, or the other where the one fits with no value
+-- the first form that fits the text: the first one, or the second if the first fits with no value
 abbrev pub first : {A : Type 0} → Form A → Form A → Form A
 first {A} F G text a = F text a ⊎ (((b : A) → ¬ (F text b)) × G text a)
 
--- which texts there are of something
+-- the texts that write something
 abbrev pub Texts : Type 1
 Texts = List ℕ → Type 0
 
--- a text of the one, a byte behind it, and a text of the other
+-- a text of the first, a byte after it, and a text of the second
 abbrev pub joined : Texts → ℕ → Texts → Texts
 joined one byte other text =
     (front : List ℕ) × (back : List ℕ) × (text ≡ front ++ (byte ∷ back)) × one front × other back
@@ -35,7 +35,7 @@ joined one byte other text =
 abbrev pub two_below : ℕ → ℕ → Texts
 two_below limit n text = (n < limit) × (text ≡ two_digits n)
 
--- four digits of a year, which may stand behind `-`
+-- four digits of a year, which may follow a `-`
 abbrev pub year_texts : ℤ → Texts
 year_texts y text =
     (n : ℕ) × (n < 10000) × (((text ≡ four_digits n) × (y ≡ pos n)) ⊎ ((text ≡ 45 ∷ four_digits n) × (y ≡ neg_ℤ (pos n))))
@@ -48,7 +48,7 @@ month_texts name m text = IsInRange 1 12 m × (text ≡ name m)
 abbrev pub weekday_texts : ℕ → Texts
 weekday_texts w text = (w < 7) × (text ≡ short_weekday_name w)
 
--- a day of one digit or two
+-- a day of one or two digits
 abbrev pub short_day : ℕ → Texts
 short_day n text = ((n < 10) × (text ≡ (48 + n) ∷ [])) ⊎ two_below 100 n text
 
@@ -88,7 +88,7 @@ short_date text d = day_month short_month_name d text
 abbrev pub date_forms : Form CivilDate
 date_forms = first long_date (first short_date dashed_date)
 
--- the date of a text at a moment: of `today` that of the moment, else that of the first form
+-- the date of a text at a moment: for `today` the date of the moment, otherwise the date of the first form that fits
 abbrev pub IsDateText : List ℕ → DateTime → CivilDate → Type 0
 IsDateText text moment d =
     ((text ≡ codes "today") × (d ≡ civil_date moment)) ⊎ ((text ≢ codes "today") × date_forms text d)
@@ -108,7 +108,7 @@ offset_texts z text =
 abbrev pub timed : Texts → DateTime → Texts
 timed date dt = joined date 32 (clock (civil_time dt))
 
--- the offset behind a space
+-- the offset after a space
 abbrev pub at_offset : Texts → DateTime → Texts
 at_offset local dt = joined local 32 (offset_texts (offset_seconds dt))
 
@@ -161,11 +161,11 @@ is_offset_end (a ∷ b ∷ c ∷ d ∷ e ∷ []) =
     ((a == 43) || (a == 45)) && (((b == 48) || (b == 49)) && (is_digit c && (is_digit d && is_digit e)))
 is_offset_end _ = false
 
--- the text ends so
+-- the text ends in that way
 abbrev pub ends_in_offset : List ℕ → Bool
 ends_in_offset text = is_offset_end (drop (length text - 5) text)
 
--- the text, with ` +0000` behind it where none is given
+-- the text, with ` +0000` after it if no offset is given
 abbrev pub with_given_offset : Bool → List ℕ → List ℕ
 with_given_offset given text = if given then text else text ++ codes " +0000"
 
@@ -183,7 +183,8 @@ IsWholeNumber text z =
 abbrev pub IsUnixTime : ℤ → DateTime → Type 0
 IsUnixTime z dt = (unix_seconds dt ≡ z) × (nanosecond dt ≡ 0) × (offset_seconds dt ≡ pos 0)
 
--- the date time of a text that is not empty: the moment for `now` and `today`, else unix seconds, else the first form
+-- the date time of a text that is not empty: the moment for `now` and `today`, otherwise unix seconds, otherwise the
+-- first form that fits
 abbrev pub IsDateTimeText : List ℕ → DateTime → DateTime → Type 0
 IsDateTimeText text moment dt =
     (text ≢ []) × ((IsNow text × (dt ≡ moment)) ⊎ ((¬ (IsNow text)) × (((z : ℤ) × IsWholeNumber text z × IsUnixTime z dt)

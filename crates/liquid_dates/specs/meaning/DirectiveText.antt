@@ -1,4 +1,4 @@
--- What a directive prints of a date time.
+-- What a directive prints for a date time.
 use Rattle.std.specs.Prelude.{ℕ, ◌+◌, ◌-◌, ◌/◌, ◌%◌, ◌^◌, min, nat_lt, if◌then◌else◌, ℤ, pos, unsigned_abs, int_lt, int_rem, List, [], ◌∷◌, ◌++◌, length, replicate, Option, unwrap_or, codes}
 use Rattle.std.specs.Fmt.{decimal}
 use Rattle.jiff_core.specs.Date.{weekday_of}
@@ -25,13 +25,13 @@ use Rattle.liquid_dates.specs.meaning.Printed.{sign_of}
 use Rattle.liquid_dates.specs.meaning.Numbers.{number_value, default_width, hour_of_12}
 use Rattle.liquid_dates.specs.meaning.Filling.{filled_number, filled_text, number_filling, text_filler, cased}
 
--- the width of a number: none under `-`, else the one given, else the default, with one more for a sign
+-- the width of a number: 0 with the flag `-`, otherwise the one given, otherwise the default, with one more for a sign
 abbrev pub number_width : Flags → Option ℕ → Number → ℤ → ℕ
 number_width flags width n z =
     if flags.unfilled then 0
     else unwrap_or width (default_width n + (if int_lt z (pos 0) then 1 else 0))
 
--- a number as its flags and its width say
+-- a number, following its flags and its width
 unfoldable pub number_text : Flags → Option ℕ → NumberFilling → Number → DateTime → List ℕ
 number_text flags width default n dt =
     filled_number (number_filling flags.filling default) (number_width flags width n (number_value n dt)) (number_value n dt)
@@ -43,13 +43,13 @@ upper_half hour = if nat_lt hour 12 then codes "AM" else codes "PM"
 abbrev pub lower_half : ℕ → List ℕ
 lower_half hour = if nat_lt hour 12 then codes "am" else codes "pm"
 
--- `AM` or `PM`, in lower case under `#`
+-- `AM` or `PM`, in lower case with the flag `#`
 abbrev pub upper_half_as : Case → ℕ → List ℕ
 upper_half_as Plain hour = upper_half hour
 upper_half_as Upper hour = upper_half hour
 upper_half_as Change hour = lower_half hour
 
--- `am` or `pm`, in upper case under `^` or `#`
+-- `am` or `pm`, in upper case with the flag `^` or `#`
 abbrev pub lower_half_as : Case → ℕ → List ℕ
 lower_half_as Plain hour = lower_half hour
 lower_half_as Upper hour = upper_half hour
@@ -67,13 +67,13 @@ name_of case LineFeed dt = 10 ∷ []
 name_of case Tab dt = 9 ∷ []
 name_of case Percent dt = 37 ∷ []
 
--- a name as its flags and its width say
+-- a name, following its flags and its width
 unfoldable pub name_text : Flags → Option ℕ → Name → DateTime → List ℕ
 name_text flags width n dt =
     filled_text (text_filler flags.filling) (if flags.unfilled then 0 else unwrap_or width 0)
     (length (name_of flags.case n dt)) (name_of flags.case n dt)
 
--- a number filled by zeros to two characters
+-- a number padded with zeros to two characters
 abbrev pub two : ℕ → List ℕ
 two n = filled_number ZerosBehindSign 2 (pos n)
 
@@ -91,7 +91,7 @@ clock_of_12 dt =
     two (hour_of_12 (civil_time dt).hour) ++ (58 ∷ (two (civil_time dt).minute
     ++ (58 ∷ (two (civil_time dt).second ++ (32 ∷ upper_half (civil_time dt).hour)))))
 
--- the year, filled by zeros to four characters with its sign
+-- the year, padded with zeros to four characters with its sign
 abbrev pub year_of_four : DateTime → List ℕ
 year_of_four dt = filled_number ZerosBehindSign 4 (civil_date dt).year
 
@@ -106,7 +106,7 @@ named_date_text dt =
     filled_number SpacesBeforeSign 2 (pos (civil_date dt).day)
     ++ (45 ∷ (cased Upper (short_month_name (civil_date dt).month) ++ (45 ∷ year_of_four dt)))
 
--- the remainder of the year by 100, filled by zeros to two characters with its sign
+-- the remainder of the year by 100, padded with zeros to two characters with its sign
 unfoldable pub year_of_two : DateTime → List ℕ
 year_of_two dt = filled_number ZerosBehindSign 2 (int_rem (civil_date dt).year (pos 100))
 
@@ -116,7 +116,7 @@ slashed_date_text dt =
     two (civil_date dt).month ++ (47 ∷ (two (civil_date dt).day
     ++ (47 ∷ year_of_two dt)))
 
--- `Www Mon `, and the day filled by a space to two characters
+-- `Www Mon `, and the day padded with a space to two characters
 unfoldable pub named_day : Case → DateTime → List ℕ
 named_day case dt =
     cased case (short_weekday_name (weekday_of (civil_date dt))) ++ (32 ∷ (cased case (short_month_name (civil_date dt).month)
@@ -126,7 +126,7 @@ named_day case dt =
 unfoldable pub date_and_time : Case → DateTime → List ℕ
 date_and_time case dt = named_day case dt ++ (32 ∷ (clock_of dt ++ (32 ∷ year_of_four dt)))
 
--- a composite without its filling
+-- a composite without its padding
 unfoldable pub composite_of : Case → Composite → DateTime → List ℕ
 composite_of case DashedDate dt = dashed_date_text dt
 composite_of case NamedDate dt = named_date_text dt
@@ -136,7 +136,7 @@ composite_of case Clock dt = clock_of dt
 composite_of case ClockOf12 dt = clock_of_12 dt
 composite_of case DateAndTime dt = date_and_time case dt
 
--- as how many characters a composite counts
+-- the number of characters that a composite counts as
 abbrev pub counted : Composite → ℕ
 counted DashedDate = 10
 counted NamedDate = 11
@@ -146,12 +146,12 @@ counted Clock = 8
 counted ClockOf12 = 11
 counted DateAndTime = 24
 
--- a composite as its flags and its width say: `-` is not heeded
+-- a composite, following its flags and its width; the flag `-` has no effect
 unfoldable pub composite_text : Flags → Option ℕ → Composite → DateTime → List ℕ
 composite_text flags width c dt =
     filled_text (text_filler flags.filling) (unwrap_or width 0) (counted c) (composite_of flags.case c dt)
 
--- the first digits of the nine of the fraction, and zeros past nine
+-- the first of the nine digits of the fraction, and zeros past nine
 unfoldable pub fraction_of : ℕ → ℕ → List ℕ
 fraction_of digits nano =
     filled_number ZerosBehindSign (min digits 9) (pos (nano / 10 ^ (9 - digits))) ++ replicate (digits - 9) 48
@@ -162,11 +162,11 @@ offset_length Joined = 5
 offset_length Minutes = 6
 offset_length Seconds = 9
 
--- how many characters the hours of an offset have
+-- the number of characters that the hours of an offset have
 abbrev pub hours_width : Option ℕ → Offset → ℕ
 hours_width width kind = 2 + (unwrap_or width 0 - offset_length kind)
 
--- the sign and the hours: spaces before the sign, or zeros behind it
+-- the sign and the hours: spaces before the sign, or zeros after it
 unfoldable pub signed_hours : Filling → ℕ → ℤ → List ℕ
 signed_hours Spaces width seconds =
     replicate (width - (1 + length (decimal (unsigned_abs seconds / 3600)))) 32
@@ -176,14 +176,14 @@ signed_hours Unset width seconds =
 signed_hours Zeros width seconds =
     sign_of seconds ∷ filled_number ZerosBehindSign width (pos (unsigned_abs seconds / 3600))
 
--- the minutes and seconds behind them
+-- the minutes and seconds after them
 unfoldable pub offset_minutes : Offset → ℤ → List ℕ
 offset_minutes Joined seconds = two (unsigned_abs seconds / 60 % 60)
 offset_minutes Minutes seconds = 58 ∷ two (unsigned_abs seconds / 60 % 60)
 offset_minutes Seconds seconds =
     58 ∷ (two (unsigned_abs seconds / 60 % 60) ++ (58 ∷ two (unsigned_abs seconds % 60)))
 
--- the offset as its flags and its width say: `-` is not heeded
+-- the offset, following its flags and its width; the flag `-` has no effect
 unfoldable pub offset_of : Flags → Option ℕ → Offset → DateTime → List ℕ
 offset_of flags width kind dt =
     signed_hours flags.filling (hours_width width kind) (offset_seconds dt)

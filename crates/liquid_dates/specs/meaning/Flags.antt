@@ -1,10 +1,10 @@
--- What stands between the per cent of a directive and its letter: flags, a width, a modifier.
+-- What is between the per cent of a directive and its letter: flags, a width, a modifier.
 use Rattle.std.specs.Prelude.{ℕ, ◌+◌, ◌-◌, ◌*◌, Bool, ◌&&◌, ◌||◌, ◌==◌, nat_le, if◌then◌else◌, List, [], ◌∷◌, Option, Some, None, fold, true, false, codes}
 use Rattle.liquid_dates.specs.declared.flags.Flags.{Flags}
 use Rattle.liquid_dates.specs.declared.flags.Filling.TheVariants.{Unset, Zeros, Spaces}
 use Rattle.liquid_dates.specs.declared.flags.Case.TheVariants.{Plain, Upper, Change}
 
--- a character is one of those
+-- a character is one of these
 abbrev pub is_one_of : List ℕ → ℕ → Bool
 is_one_of [] c = false
 is_one_of (d ∷ []) c = c == d
@@ -18,7 +18,7 @@ is_flag = is_one_of (codes "-_0^#")
 abbrev pub no_flags : Flags
 no_flags = record { unfilled = false; filling = Unset; case = Plain }
 
--- one flag more: `-` stays once given, a later `_` or `0` counts before an earlier one, and so of `^` and `#`
+-- one more flag: `-` stays set once given, a later `_` or `0` replaces an earlier one, and so do `^` and `#`
 abbrev pub with_flag : Flags → ℕ → Flags
 with_flag flags c =
     if is_one_of (codes "-") c then record flags { unfilled = true }
@@ -26,7 +26,7 @@ with_flag flags c =
     else (if is_one_of (codes "0") c then record flags { filling = Zeros }
     else (if is_one_of (codes "^") c then record flags { case = Upper } else record flags { case = Change })))
 
--- what the flags say together
+-- what all the flags say
 unfoldable pub flags_of : List ℕ → Flags
 flags_of flags = fold with_flag no_flags flags
 

@@ -57,7 +57,7 @@ abbrev pub IsInstant : ℤ → Type 0
 IsInstant n =
     IsBetween (neg_ℤ (pos 377_705_210_399_000_000_000)) (pos 253_402_394_398_999_999_999) n
 
--- which refusal an offset gets: a part out of range if it is none, else a result outside the years
+-- the error for an offset: an out-of-range part if it is not an offset, otherwise a result outside the years
 abbrev pub IsOffsetRefusal : ℤ → DateError → Type 0
 IsOffsetRefusal seconds PartOutOfRange = ¬ (IsOffsetSeconds seconds)
 IsOffsetRefusal seconds OutsideYears = IsOffsetSeconds seconds

@@ -1,4 +1,4 @@
--- The letters of directives, and what each stands for.
+-- The letters of directives, and what each means.
 use Rattle.std.specs.Prelude.{ℕ, ◌&&◌, if◌then◌else◌, List, [], ◌∷◌, Option, Some, None, option_map, codes}
 use Rattle.liquid_dates.specs.meaning.Flags.{is_one_of}
 use Rattle.liquid_dates.specs.declared.flags.NumberFilling.{NumberFilling}
@@ -35,7 +35,7 @@ number_letter c =
     else (if is_one_of (codes "V") c then Some IsoWeek
     else (if is_one_of (codes "s") c then Some UnixSeconds else None)))))))))))))))))
 
--- what fills a number where no flag says otherwise: spaces for `e`, `k` and `l`
+-- what pads a number if no flag says otherwise: spaces for `e`, `k` and `l`
 abbrev pub letter_filling : ℕ → NumberFilling
 letter_filling c =
     if is_one_of (codes "ekl") c then SpacesBeforeSign else ZerosBehindSign
@@ -64,7 +64,7 @@ composite_letter c =
     else (if is_one_of (codes "r") c then Some ClockOf12
     else (if is_one_of (codes "c") c then Some DateAndTime else None))))))
 
--- the letters of fractions, with the digits that they print where no width is given, and of offsets
+-- the letters of fractions, with the number of digits that they print if no width is given, and of offsets
 unfoldable pub fraction_letter : ℕ → Option Directive
 fraction_letter c =
     if is_one_of (codes "L") c then Some (OfFraction 3)
@@ -76,14 +76,14 @@ abbrev pub or_else : {A : Type 0} → Option A → Option A → Option A
 or_else (Some a) other = Some a
 or_else None other = other
 
--- what a letter stands for, if for anything
+-- the directive that a letter means, if it means any
 unfoldable pub letter_directive : ℕ → Option Directive
 letter_directive c =
     or_else (option_map (λ n. OfNumber n (letter_filling c)) (number_letter c))
     (or_else (option_map OfName (name_letter c))
     (or_else (option_map OfComposite (composite_letter c)) (fraction_letter c)))
 
--- the same where `:z` and `::z` may stand for a letter
+-- the same, where `:z` and `::z` may take the place of a letter
 unfoldable pub directive_of : List ℕ → Option Directive
 directive_of (c ∷ []) = letter_directive c
 directive_of (a ∷ b ∷ []) = if is_one_of (codes ":") a && is_one_of (codes "z") b then Some (OfOffset Minutes) else None

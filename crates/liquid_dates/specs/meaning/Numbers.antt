@@ -14,7 +14,7 @@ weekdays_passed weekday day zero = 0
 weekdays_passed weekday day (suc n) =
     weekdays_passed weekday day n + (if weekday_number (day -ℤ pos n) == weekday then 1 else 0)
 
--- the week of the year, where a week begins with each such weekday of the year, and week 0 stands before the first
+-- the week of the year, where a week begins with each such weekday of the year, and week 0 is before the first
 abbrev pub week_from : ℕ → DateTime → ℕ
 week_from weekday dt = weekdays_passed weekday (day_number dt) (ordinal (civil_date dt))
 
@@ -43,7 +43,7 @@ number_value IsoYearOfCentury dt = int_rem (iso_year (civil_date dt)) (pos 100)
 number_value IsoWeek dt = pos (iso_week (civil_date dt))
 number_value UnixSeconds dt = unix_seconds dt
 
--- the width of a number that is not negative, where none is given
+-- the width of a number that is not negative, if no width is given
 abbrev pub default_width : Number → ℕ
 default_width Year = 4
 default_width Century = 2

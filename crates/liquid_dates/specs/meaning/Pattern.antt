@@ -1,4 +1,5 @@
--- Patterns: a list of items whose spellings joined are the text, or such a list for a beginning and a rest that is refused.
+-- Patterns: a list of items whose joined spellings are the text, or such a list for a beginning and a rest that is
+-- refused.
 use Rattle.std.specs.Prelude.{◌≡◌, ℕ, ◌<◌, ◌^◌, ◌≤◌, Bool, true, false, ◌≢◌, ◌⊎◌, List, [], ◌∷◌, ◌++◌, Option, Some, None, Result, Ok, Err, encode_utf8, encode_utf8_all, String, string_bytes}
 use Rattle.std.specs.List.{list_all}
 use Rattle.liquid_dates.specs.declared.date_time.DateTime.{DateTime}
@@ -24,18 +25,18 @@ abbrev pub begins : (ℕ → Bool) → List ℕ → Bool
 begins p [] = false
 begins p (c ∷ cs) = p c
 
--- a run of characters that pass, as long as it goes
+-- a run of characters that pass, as long as possible
 pub record IsRun (p : ℕ → Bool) (run rest : List ℕ) : Type 0 where
   pub passes : list_all p run ≡ true
   pub ends : begins p rest ≡ false
 
--- the modifier: one character if the text has one there, else none
+-- the modifier: one character if the text has one, otherwise none
 abbrev pub IsModifier : List ℕ → List ℕ → Type 0
 IsModifier [] rest = begins is_modifier rest ≡ false
 IsModifier (c ∷ []) rest = is_modifier c ≡ true
 IsModifier (c ∷ d ∷ cs) rest = ⊥
 
--- the letter: any character, but `:` takes the next character, and a second `:` one more, where there is one
+-- the letter: any character, but `:` takes the next character, and a second `:` one more, if there is one
 abbrev pub IsLetter : List ℕ → List ℕ → Type 0
 IsLetter (c ∷ []) rest = (c ≢ 58) ⊎ (rest ≡ [])
 IsLetter (a ∷ b ∷ []) rest = (a ≡ 58) × ((b ≢ 58) ⊎ (rest ≡ []))
@@ -63,7 +64,7 @@ pub record EndsBehindWidth (text : List ℕ) : Type 0 where
   pub of_flags : IsRun is_flag flags digits
   pub of_digits : IsRun is_digit digits []
 
--- a per cent whose modifier ends the text, behind a width that is not too great
+-- a per cent whose modifier ends the text, after a width that is not too great
 pub record EndsBehindModifier (text : List ℕ) : Type 0 where
   pub flags : List ℕ
   pub digits : List ℕ
@@ -74,7 +75,7 @@ pub record EndsBehindModifier (text : List ℕ) : Type 0 where
   pub of_width : digits_number digits < 2 ^ 64
   pub of_modifier : is_modifier modifier ≡ true
 
--- a per cent with a width that no `usize` holds, and a character behind it
+-- a per cent with a width that is too great for a `usize`, and a character after it
 pub record HasGreatWidth (text : List ℕ) : Type 0 where
   pub flags : List ℕ
   pub digits : List ℕ
@@ -107,7 +108,7 @@ IsFront text (i ∷ items) rest =
 abbrev pub IsReading : List ℕ → List Item → Option DateFormatError → Type 0
 IsReading text items end = (rest : List ℕ) × IsFront text items rest × IsEnd end rest
 
--- what an item prints: its directive's text, or its own characters where it is none
+-- what an item prints: its directive's text, or its own characters if it has no directive
 abbrev pub directive_print : DateTime → Item → Option Directive → List ℕ → List ℕ → List ℕ
 directive_print dt item None flags digits = encode_utf8_all (spelling item)
 directive_print dt item (Some d) flags digits = directive_text dt (flags_of flags) (width_of digits) d
@@ -122,24 +123,24 @@ unfoldable pub print : DateTime → List Item → List ℕ
 print dt [] = []
 print dt (i ∷ items) = item_print dt i ++ print dt items
 
--- the answer of a reading: its print, or its refusal
+-- the answer of a reading: its print, or its error
 abbrev pub answer_of : DateTime → List Item → Option DateFormatError → Result (List ℕ) DateFormatError
 answer_of dt items None = Ok (print dt items)
 answer_of dt items (Some e) = Err e
 
--- a date time prints a pattern so
+-- what a date time prints for a pattern
 abbrev pub FormatsTo : DateTime → List ℕ → Result (List ℕ) DateFormatError → Type 0
 FormatsTo dt text answer =
     (items : List Item) × (end : Option DateFormatError) × IsReading text items end × (answer ≡ answer_of dt items end)
 
--- a fact for a refusal that is no want of memory
+-- a fact about an error that is not an out-of-memory error
 abbrev pub OnRefusal : DateFormatError → Type 0 → Type 0
 OnRefusal Memory P = Unit {0}
 OnRefusal NoFormatSpecifier P = P
 OnRefusal NoFormatSpecifierAfterModifier P = P
 OnRefusal InvalidWidth P = P
 
--- the result is the answer, or want of memory
+-- the result is the answer, or out of memory
 abbrev pub IsAnswer : {A : Type 0} → Result (String A) DateFormatError → Result (List ℕ) DateFormatError → Type 0
 IsAnswer (Ok s) answer = answer ≡ Ok (string_bytes s)
 IsAnswer (Err e) answer = OnRefusal e (answer ≡ Err e)

@@ -17,7 +17,7 @@ two_digits n = (48 + n / 10) ∷ (48 + n % 10) ∷ []
 abbrev pub four_digits : ℕ → List ℕ
 four_digits n = two_digits (n / 100) ++ two_digits (n % 100)
 
--- four digits, behind `-` for a year before 0
+-- four digits, after a `-` for a year before 0
 unfoldable pub year_text : ℤ → List ℕ
 year_text (pos n) = four_digits n
 year_text (negsuc n) = 45 ∷ four_digits (suc n)
@@ -36,7 +36,7 @@ fraction_digits zero n = []
 fraction_digits (suc k) n =
     (48 + n / 10 ^ k) ∷ (if n % 10 ^ k == 0 then [] else fraction_digits k (n % 10 ^ k))
 
--- `.` and the fraction of a second without its last zeros, where it is not 0
+-- `.` and the fraction of a second without its last zeros, if it is not 0
 unfoldable pub fraction_text : ℕ → List ℕ
 fraction_text nano = if nano == 0 then [] else 46 ∷ fraction_digits 9 nano
 
@@ -45,12 +45,12 @@ abbrev pub sign_of : ℤ → ℕ
 sign_of (pos n) = 43
 sign_of (negsuc n) = 45
 
--- `+hhmm`, of the whole minutes of the offset's size
+-- `+hhmm`, for the whole minutes of the offset's size
 unfoldable pub offset_text : ℤ → List ℕ
 offset_text seconds =
     sign_of seconds ∷ (two_digits (unsigned_abs seconds / 3600) ++ two_digits (unsigned_abs seconds / 60 % 60))
 
--- `YYYY-MM-DD HH:MM:SS +hhmm`, with the fraction behind the seconds
+-- `YYYY-MM-DD HH:MM:SS +hhmm`, with the fraction after the seconds
 abbrev pub date_time_text : DateTime → List ℕ
 date_time_text dt =
     date_text (civil_date dt) ++ (32 ∷ (clock_text (civil_time dt) ++ (fraction_text (nanosecond dt)
@@ -75,7 +75,7 @@ abbrev pub HasRfc2822Form : DateTime → Type 0
 HasRfc2822Form dt =
     (pos 1900 ≤ℤ (civil_date dt).year) × (unsigned_abs (offset_seconds dt) % 60 ≡ 0)
 
--- which refusal there is: no form, or want of memory for one that there is
+-- which error there is: no form, or out of memory if there is a form
 abbrev pub IsRfc2822Refusal : DateTime → DateError → Type 0
 IsRfc2822Refusal dt NoRfc2822Form = ¬ (HasRfc2822Form dt)
 IsRfc2822Refusal dt Memory = HasRfc2822Form dt

@@ -1,4 +1,5 @@
--- Readers of date texts. They are a bridge between the code and the forms of `DateText`: what they read is proved to be what those forms relate.
+-- Readers of date texts. They connect the code to the forms of `DateText`: what they read is proved to be what those
+-- forms relate.
 use Rattle.std.specs.Prelude.{true, false, ◌≡◌, ℕ, zero, suc, ◌+◌, ◌-◌, ◌*◌, ◌^◌, Bool, ◌&&◌, ◌==◌, nat_lt, if◌then◌else◌, ℤ, pos, neg_ℤ, List, [], ◌∷◌, take, drop, length, Option, Some, None, option_map, option_and_then}
 use Rattle.std.specs.Borrow.{Bor}
 use Rattle.std.specs.Str.{bytes_eq}
@@ -11,7 +12,7 @@ use Rattle.liquid_dates.specs.declared.stamps.Stamp.{Stamp}
 use Rattle.liquid_dates.specs.meaning.Flags.{is_digit}
 use Rattle.liquid_dates.specs.meaning.Names.{month_name, short_month_name, short_weekday_name}
 
--- a value, and what is behind it
+-- a value, and the rest after it
 abbrev pub Read : Type 0 → Type 0
 Read A = Option (A × List ℕ)
 
@@ -19,7 +20,7 @@ Read A = Option (A × List ℕ)
 abbrev pub read_of : {A : Type 0} → Option (A × Bor (List ℕ)) → Read A
 read_of r = option_map (λ p. (p.0, p.1.now)) r
 
--- what is behind a byte at the front
+-- the rest after a byte at the front
 abbrev pub after_byte : ℕ → List ℕ → Option (List ℕ)
 after_byte byte [] = None
 after_byte byte (c ∷ cs) = if c == byte then Some cs else None
@@ -41,7 +42,7 @@ four_at text = do
   year ← two_at 100 century.1
   Some (100 * century.0 + year.0, year.1)
 
--- a year, which may stand behind `-`
+-- a year, which may follow a `-`
 abbrev pub year_behind : Option (List ℕ) → List ℕ → Read ℤ
 year_behind (Some behind) text = option_map (λ y. (neg_ℤ (pos y.0), y.1)) (four_at behind)
 year_behind None text = option_map (λ y. (pos y.0, y.1)) (four_at text)
@@ -49,7 +50,7 @@ year_behind None text = option_map (λ y. (pos y.0, y.1)) (four_at text)
 unfoldable pub year_at : List ℕ → Read ℤ
 year_at text = year_behind (after_byte 45 text) text
 
--- a reader, a byte behind it, and a reader behind that
+-- a reader, a byte after it, and a reader after that
 abbrev pub joined_at : {A B : Type 0} → (List ℕ → Read A) → ℕ → (List ℕ → Read B) → List ℕ → Read (A × B)
 joined_at r byte s text = do
   a ← r text
@@ -74,7 +75,7 @@ short_name_at name count m (a ∷ b ∷ c ∷ rest) =
     option_map (λ k. (k, rest)) (find_name name (a ∷ b ∷ c ∷ []) count m)
 short_name_at name count m _ = None
 
--- what is behind a text at the front
+-- the rest after a text at the front
 unfoldable pub behind_text : List ℕ → List ℕ → Option (List ℕ)
 behind_text text all = if bytes_eq (take (length text) all) text then Some (drop (length text) all) else None
 
@@ -123,7 +124,7 @@ IsWholeDate None d = ⊥
 IsWholeDate (Some (ymd, rest)) d =
     (rest.now ≡ []) × (ymd.year ≡ d.year) × (ymd.month ≡ d.month) × (ymd.day ≡ d.day)
 
--- an offset behind its sign, in seconds
+-- an offset after its sign, in seconds
 unfoldable pub hours_at : List ℕ → Read ℕ
 hours_at text = do
   hours ← two_at 100 text
@@ -150,7 +151,7 @@ or_one_digit None text = one_digit_at text
 unfoldable pub short_day_at : List ℕ → Read ℕ
 short_day_at text = or_one_digit (two_at 100 text) text
 
--- how many digits there are, up to ten, the number that they write, and what is behind them
+-- the number of digits, up to ten, the number that they write, and the rest after them
 abbrev pub digits_from : ℕ → ℕ → List ℕ → (ℕ × ℕ) × List ℕ
 digits_from count value [] = ((count, value), [])
 digits_from count value (c ∷ cs) =
@@ -209,11 +210,11 @@ abbrev pub stamp_by_weekday : (ℕ × Stamp) × List ℕ → (ℕ × (ℕ × (�
 stamp_by_weekday p =
     ((p.0.0, (p.0.1.date.month, (p.0.1.date.day, (stamp_clock p.0.1, p.0.1.date.year)))), p.1)
 
--- an offset behind a space
+-- an offset after a space
 abbrev pub space_offset : List ℕ → Read ℤ
 space_offset text = option_and_then offset_at (after_byte 32 text)
 
--- the offset of what is left behind a date with a time: given there, or 0 where nothing is left
+-- the offset of what is left after a date with a time: the one given there, or 0 if nothing is left
 abbrev pub offset_end : Bool → List ℕ → Option ℤ
 offset_end true rest = whole_of (space_offset rest)
 offset_end false [] = Some (pos 0)
@@ -232,6 +233,6 @@ IsStamped given None dt = ⊥
 IsStamped given (Some (s, rest)) dt =
     (offset_end given rest.now ≡ Some (offset_seconds dt)) × HasStamp s dt
 
--- what is left of a stamp when its weekday is forgotten
+-- a stamp without its weekday
 abbrev pub without_weekday : (ℕ × Stamp) × Bor (List ℕ) → Stamp × Bor (List ℕ)
 without_weekday p = (p.0.1, p.1)

@@ -1,4 +1,5 @@
--- A reader of patterns, item by item. It is a bridge between the code and the relation of `Pattern`: what it reads is proved to be what that relation says.
+-- A reader of patterns, item by item. It connects the code to the relation of `Pattern`: what it reads is proved to be
+-- what that relation says.
 use Rattle.std.specs.Prelude.{ℕ, ◌+◌, ◌-◌, ◌*◌, ◌^◌, Bool, nat_lt, ◌==◌, if◌then◌else◌, List, [], ◌∷◌, ◌++◌, Result, Ok, Err, ◌≡◌}
 use Rattle.std.specs.Prelude.{Option, Some, None}
 use Rattle.liquid_dates.specs.declared.date_time.DateTime.{DateTime}
@@ -16,7 +17,7 @@ use Rattle.std.specs.Borrow.{Bor}
 use Rattle.liquid_dates.specs.meaning.Letters.{directive_of}
 use Rattle.liquid_dates.specs.meaning.Pattern.{Item, literal, directive, item_print}
 
--- the characters at the front that pass, and what is behind them
+-- the characters at the front that pass, and the rest after them
 abbrev pub front : (ℕ → Bool) → List ℕ → List ℕ
 front p [] = []
 front p (c ∷ cs) = if p c then c ∷ front p cs else []
@@ -34,18 +35,18 @@ flags_from flags (c ∷ cs) = if is_flag c then flags_from (with_flag flags c) c
 abbrev pub bounded_width : ℕ → Width
 bounded_width n = if nat_lt n (2 ^ 64) then Given n else TooGreat
 
--- a width with one digit more
+-- a width with one more digit
 abbrev pub with_digit : Width → ℕ → Width
 with_digit Unset c = Given (c - 48)
 with_digit (Given n) c = bounded_width (n * 10 + (c - 48))
 with_digit TooGreat c = TooGreat
 
--- the digits at the front, behind those before
+-- the digits at the front, after those before
 abbrev pub width_from : Width → List ℕ → Width
 width_from width [] = width
 width_from width (c ∷ cs) = if is_digit c then width_from (with_digit width c) cs else width
 
--- the letter at the front: up to three characters behind a `:`
+-- the letter at the front: up to three characters after a `:`
 abbrev pub after_second_colon : List ℕ → List ℕ
 after_second_colon [] = []
 after_second_colon (c ∷ cs) = c ∷ []
@@ -57,7 +58,7 @@ after_colon (c ∷ cs) = if c == 58 then 58 ∷ after_second_colon cs else c ∷
 abbrev pub letter_front : ℕ → List ℕ → List ℕ
 letter_front c cs = if c == 58 then 58 ∷ after_colon cs else c ∷ []
 
--- what is behind it
+-- the rest after it
 abbrev pub behind_second_colon : List ℕ → List ℕ
 behind_second_colon [] = []
 behind_second_colon (c ∷ cs) = cs
@@ -69,7 +70,7 @@ behind_colon (c ∷ cs) = if c == 58 then behind_second_colon cs else cs
 abbrev pub letter_behind : ℕ → List ℕ → List ℕ
 letter_behind c cs = if c == 58 then behind_colon cs else cs
 
--- an item and what is behind it, or a refusal
+-- an item and the rest after it, or an error
 abbrev pub ItemRead : Type 0
 ItemRead = Result (Item × List ℕ) DateFormatError
 
@@ -78,7 +79,7 @@ abbrev pub letter_at : List ℕ → List ℕ → List ℕ → ℕ → List ℕ �
 letter_at flags digits modifier c cs =
     Ok (directive flags digits modifier (letter_front c cs), letter_behind c cs)
 
--- from behind its modifier on
+-- from after its modifier on
 abbrev pub behind_modifier : List ℕ → List ℕ → ℕ → List ℕ → ItemRead
 behind_modifier flags digits modifier [] = Err NoFormatSpecifierAfterModifier
 behind_modifier flags digits modifier (c ∷ cs) = letter_at flags digits (modifier ∷ []) c cs
@@ -88,17 +89,17 @@ abbrev pub modifier_at : List ℕ → List ℕ → ℕ → List ℕ → ItemRead
 modifier_at flags digits c cs =
     if is_modifier c then behind_modifier flags digits c cs else letter_at flags digits [] c cs
 
--- from behind its width on
+-- from after its width on
 abbrev pub behind_width : List ℕ → List ℕ → List ℕ → ItemRead
 behind_width flags digits [] = Err NoFormatSpecifier
 behind_width flags digits (c ∷ cs) =
     if nat_lt (digits_number digits) (2 ^ 64) then modifier_at flags digits c cs else Err InvalidWidth
 
--- from behind its flags on
+-- from after its flags on
 abbrev pub behind_flags : List ℕ → List ℕ → ItemRead
 behind_flags flags text = behind_width flags (front is_digit text) (behind is_digit text)
 
--- from behind its per cent on
+-- from after its per cent on
 unfoldable pub directive_at : List ℕ → ItemRead
 directive_at text = behind_flags (front is_flag text) (behind is_flag text)
 
@@ -112,7 +113,7 @@ conversion_of (literal c) conversion = ⊥
 conversion_of (directive flags digits modifier letter) conversion =
     (conversion.flags ≡ flags_of flags) × (conversion.width ≡ width_of digits) × (conversion.directive ≡ directive_of letter)
 
--- a directive and the text behind it are what the reader says
+-- a directive and the text after it are what the reader says
 abbrev pub IsReadAs : Result (Conversion × Bor (List ℕ)) DateFormatError → ItemRead → Type 0
 IsReadAs (Ok (conversion, rest)) (Ok (item, more)) = conversion_of item conversion × (chars rest.now ≡ more) × IsUtf8 rest.now
 IsReadAs (Err e) (Err r) = e ≡ r
@@ -127,7 +128,7 @@ conversion_print dt flags width (Some d) spelling = directive_text dt flags widt
 abbrev pub HasRest : List ℕ → List ℕ → Type 0
 HasRest text rest = (front : List ℕ) × (text ≡ front ++ rest)
 
--- the item that was read is printed, and the rest behind it is left
+-- the item that was read is printed, and the rest after it is left
 abbrev pub IsPrinted : DateTime → ItemRead → List ℕ → List ℕ → List ℕ → Type 0
 IsPrinted dt (Ok (item, more)) rest old new = (more ≡ rest) × (new ≡ old ++ item_print dt item)
 IsPrinted dt (Err e) rest old new = ⊥

@@ -11,7 +11,7 @@ line text = text ++ 10 ∷ []
 abbrev pub entry_line : Entry → List ℕ
 entry_line e = line (codes "    " ++ (e.0 ++ (codes "=" ++ e.1)))
 
--- `  with:` and a line for each context, and nothing where there is none
+-- `  with:` and a line for each context, or nothing if there is none
 abbrev pub contexts_text : List Entry → List ℕ
 contexts_text [] = []
 contexts_text (e ∷ es) = line (codes "  with:") ++ flat_map entry_line (e ∷ es)
@@ -24,12 +24,12 @@ note_text n = line (codes "from: " ++ n.text) ++ contexts_text n.contexts
 abbrev pub refusal_text : Refusal → List ℕ
 refusal_text r = line (codes "liquid: " ++ r.message) ++ (contexts_text r.contexts ++ flat_map note_text r.traces)
 
--- want of memory has a text of its own
+-- an out-of-memory error has a text of its own
 abbrev pub error_text : Option Refusal → List ℕ
 error_text None = line (codes "liquid: out of memory")
 error_text (Some r) = refusal_text r
 
--- a cause displays the text of its error; the text of an error that was kept as a text ends in a line feed
+-- a cause prints the text of its error; the text of an error that was kept as a text ends in a line feed
 abbrev pub reason_text : Reason → List ℕ
 reason_text no_reason = []
 reason_text (by_text text) = line text

@@ -1,4 +1,4 @@
--- What the helpers on results do: an Ok stays, an Err tells something else, and want of memory stays want of memory.
+-- What the helpers on results do: an Ok stays, an Err says something else, and out of memory stays out of memory.
 use Rattle.std.specs.Prelude.{ℕ, List, ◌≡◌, Some, Result, Ok, Err, IfSome, IsErrAnd, option_map}
 use Rattle.liquid_error.specs.declared.error.Error.{Error}
 use Rattle.liquid_error.specs.declared.result_ext.Key.{Key}
@@ -11,12 +11,12 @@ abbrev pub ErrBecomes : {T : Type 0} → (Refusal → Refusal) → Result T Erro
 ErrBecomes change (Ok x) after = after ≡ Ok x
 ErrBecomes change (Err old) after = IsErrAnd after (λ new. Becomes change old new)
 
--- the same where the change is by something that was made for it
+-- the same, where the change uses a value that was made for it
 abbrev pub ErrBecomesBy : {T M : Type 0} → (M → Type 0) → (M → Refusal → Refusal) → Result T Error → Result T Error → Type 0
 ErrBecomesBy Made change (Ok x) after = after ≡ Ok x
 ErrBecomesBy {M = M} Made change (Err old) after = IsErrAnd after (λ new. IfSome (told new) (λ r. (made : M) × Made made × (option_map (change made) (told old) ≡ Some r)))
 
--- the result that waits for the value of a context
+-- the result that a value of a context is added to
 abbrev pub key_result : {T : Type 0} → Key T → Result T Error
 key_result k = k.builder
 

@@ -13,16 +13,16 @@ pub record Note : Type 0 where
   pub text : List ℕ
   pub contexts : List Entry
 
--- what stands behind a refusal: nothing, the text of some error, want of memory, or another refusal, given by its
--- message, contexts, traces and place, with what stands behind that
+-- what caused a refusal: nothing, the text of some error, an out-of-memory error, or another refusal, given by its
+-- message, contexts, traces and place, and by what caused it
 pub data Reason : Type 0 where
   no_reason : Reason
   by_text : List ℕ → Reason
   by_memory : Reason
   by_refusal : List ℕ → List Entry → List Note → Option Place → Reason → Reason
 
--- a refusal: its message with the contexts that were added to it, its traces, oldest first, where in a text it lies,
--- and what caused it
+-- a refusal: its message with the contexts that were added to it, its traces, oldest first, the place in a text that it
+-- is about, and what caused it
 pub record Refusal : Type 0 where
   pub message : List ℕ
   pub contexts : List Entry
@@ -38,26 +38,26 @@ plain message = record { message = message; contexts = []; traces = []; place = 
 abbrev pub place_text : Place → List ℕ
 place_text p = codes " (line " ++ (decimal p.line ++ (codes ", column " ++ (decimal p.column ++ codes ")")))
 
--- a message about a place, which stands behind the message too
+-- a message about a place, which is also written after the message
 abbrev pub located : List ℕ → Place → Refusal
 located message p = record (plain (message ++ place_text p)) { place = Some p }
 
--- the same refusal at its own place, and at this one where it has none
+-- the refusal with this place if it has none
 abbrev pub or_placed : Place → Refusal → Refusal
 or_placed place r = record r { place = option_or r.place (Some place) }
 
--- the newest trace, which stands last, gets the context
+-- the newest trace, which is the last, gets the context
 abbrev pub note_newest : Entry → List Note → List Note
 note_newest entry [] = []
 note_newest entry (n ∷ []) = record n { contexts = n.contexts ++ entry ∷ [] } ∷ []
 note_newest entry (n ∷ m ∷ ns) = n ∷ note_newest entry (m ∷ ns)
 
--- the message gets the context only while there is no trace
+-- the message gets the context only if there is no trace
 abbrev pub note_message : Entry → List Note → List Entry → List Entry
 note_message entry [] contexts = contexts ++ entry ∷ []
 note_message entry (n ∷ ns) contexts = contexts
 
--- a context goes to the newest trace, and to the message where there is none
+-- a context is added to the newest trace, or to the message if there is none
 abbrev pub with_context : List ℕ → List ℕ → Refusal → Refusal
 with_context key value r =
     record r { contexts = note_message (key, value) r.traces r.contexts; traces = note_newest (key, value) r.traces }
@@ -70,12 +70,12 @@ with_trace text r = record r { traces = r.traces ++ record { text = text; contex
 abbrev pub with_cause : Reason → Refusal → Refusal
 with_cause reason r = record r { cause = reason }
 
--- a refusal as a cause, and want of memory where there is none
+-- a refusal as a cause, or out of memory if there is none
 abbrev pub reason_of_told : Option Refusal → Reason
 reason_of_told None = by_memory
 reason_of_told (Some r) = by_refusal r.message r.contexts r.traces r.place r.cause
 
--- what caused the refusal, and nothing where there is no refusal
+-- what caused the refusal, or no reason if there is no refusal
 abbrev pub cause_of_told : Option Refusal → Reason
 cause_of_told None = no_reason
 cause_of_told (Some r) = r.cause
@@ -84,7 +84,7 @@ cause_of_told (Some r) = r.cause
 abbrev pub chained : List ℕ → Refusal → Refusal
 chained message r = with_cause (reason_of_told (Some r)) (plain message)
 
--- one answer after another: the value goes on, and the first refusal ends it
+-- one result after another: a value is passed on, and the first refusal is the result
 abbrev pub ok_then : {A B : Type 0} → Result A Refusal → (A → Result B Refusal) → Result B Refusal
 ok_then (Ok x) next = next x
 ok_then (Err refusal) next = Err refusal

@@ -1,4 +1,5 @@
--- The classes of bytes of the grammar. Letters and digits are those of ASCII, so a byte of a longer character is in no class.
+-- The classes of bytes of the grammar. Letters and digits are those of ASCII, so a byte of a longer character is in no
+-- class.
 use Rattle.std.specs.Prelude.{ℕ, Bool, ◌||◌, ◌==◌}
 use Rattle.std.specs.Char.{is_ascii_alphabetic, is_ascii_digit}
 

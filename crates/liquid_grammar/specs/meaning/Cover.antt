@@ -23,26 +23,26 @@ pub record Raw (s rest text : List ℕ) : Type 0 where
   pub closed : (k : ℕ) → k < length text → ¬ (Opens (drop k s))
   pub stops : 0 < length rest → Opens rest
 
--- an expression, where no tag begins
+-- an expression, if no tag begins here
 pub record Expression (s rest : List ℕ) (chain : Chain) : Type 0 where
   pub no_tag : ¬ (Begins TagRule s)
   pub match : ExpressionRule s rest chain
 
--- where an opener begins, but no tag and no expression: its white space and one `{`
+-- an opener that begins neither a tag nor an expression: its white space and one `{`
 pub record Invalid (s rest text : List ℕ) : Type 0 where
   pub opens : Opens s
   pub no_tag : ¬ (Begins TagRule s)
   pub no_expression : ¬ (Begins ExpressionRule s)
   pub brace : LoneBrace s rest text
 
--- what stands at s is of the element's kind and shape
+-- s begins with an element of this kind and shape
 abbrev pub IsKind : List ℕ → List ℕ → Element → Type 0
 IsKind s rest (raw text) = Raw s rest text
 IsKind s rest (tag_element tag text) = TagRule s rest tag
 IsKind s rest (expression chain text) = Expression s rest chain
 IsKind s rest (invalid text) = Invalid s rest text
 
--- the element stands at the beginning of s, and leaves rest
+-- the element is the beginning of s, and leaves rest
 pub record IsElement (s rest : List ℕ) (e : Element) : Type 0 where
   pub joined : s ≡ text_of e ++ rest
   pub kind : IsKind s rest e

@@ -30,7 +30,7 @@ pub record MeansChain (t : ChainText) (chain : shape.Chain) (text : List ℕ) : 
   pub text_is : t.text.now ≡ text
   pub fault_is : faults_of t.fault ≡ chain_fault chain
 
--- the element of the program stands for this one
+-- the element of the program means this one
 abbrev pub Means : CodeElement → Element → Type 0
 Means (Raw t) (raw text) = t.now ≡ text
 Means (Tag t) (tag_element tag text) = MeansTag t tag text

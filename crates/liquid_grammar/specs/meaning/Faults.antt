@@ -16,7 +16,7 @@ pub data FaultKind : Type 0 where
 abbrev pub Fault : Type 0
 Fault = FaultKind × List ℕ
 
--- one digit or more, and nothing else
+-- at least one digit, and nothing else
 abbrev pub is_numeral : List ℕ → Bool
 is_numeral digits = nat_lt 0 (length digits) && all_ascii_digits digits
 
@@ -24,7 +24,7 @@ is_numeral digits = nat_lt 0 (length digits) && all_ascii_digits digits
 abbrev pub fits_integer : Bool → ℕ → Bool
 fits_integer negative amount = nat_lt amount (2 ^ 63) || (negative && amount == 2 ^ 63)
 
--- the number that a sign and digits write, where it fits
+-- the number that a sign and digits write, if it fits
 abbrev pub integer_of : List ℕ → Option ℤ
 integer_of text =
     if is_numeral (without_leading_sign text) && fits_integer (starts_with_minus text) (digits_value 10 (without_leading_sign text))
@@ -39,15 +39,15 @@ literal_fault place (integer text) = integer_fault (integer_of text) place
 literal_fault place (decimal text) = Some (decimal_not_supported, place)
 literal_fault place _ = None
 
--- how many brackets may be open at once
+-- the greatest number of brackets that may be open at once
 abbrev pub bracket_limit : ℕ
 bracket_limit = 100
 
--- the fault of a bracket that opens inside so many open ones
+-- the fault of a bracket that opens inside this many open ones
 abbrev pub deep_fault : ℕ → List ℕ → Option Fault
 deep_fault depth place = if nat_lt depth bracket_limit then None else Some (nested_too_deep, place)
 
--- the first fault of a value in as many open brackets
+-- the first fault of a value inside this many open brackets
 abbrev mutual
   pub fault_within : ℕ → Value → Option Fault
   fault_within depth (literal_value place behind literal) = literal_fault place literal

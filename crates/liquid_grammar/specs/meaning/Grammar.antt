@@ -1,9 +1,9 @@
--- The grammar of templates, one definition a rule. A part that is repeated is taken as long as it matches.
+-- The grammar of templates, one definition for each rule. A part that is repeated is taken as long as it matches.
 use Rattle.std.specs.Prelude.{ℕ, Bool, not, ◌||◌, List, codes, bytes_eq}
 use Rattle.liquid_grammar.specs.meaning.Bytes.{is_white, starts_name, is_word}
 use Rattle.liquid_grammar.specs.meaning.Rules.{Rule, Begins, One, Then, Else, Repeated, Where, Text, Ahead, Byte, ◌▷◌, ◌◁◌}
 
--- any run of white space, the empty one too
+-- any run of white space, even an empty one
 abbrev pub White : Rule (List ℕ)
 White = Repeated (One is_white)
 
@@ -11,11 +11,11 @@ White = Repeated (One is_white)
 abbrev pub Braces : ℕ → Rule ℕ
 Braces kind = Byte 123 ▷ Byte kind
 
--- an opener with its dash and the white space before it; else the braces alone
+-- an opener with its dash and the white space before it; otherwise the braces alone
 abbrev pub Opener : ℕ → Rule ℕ
 Opener kind = Else (White ▷ Braces kind ▷ Byte 45) (Braces kind)
 
--- a closer with its dash and the white space behind it; else `}}` or `%}` alone
+-- a closer with its dash and the white space after it; otherwise `}}` or `%}` alone
 abbrev pub Closer : ℕ → Rule ℕ
 Closer kind = Else (Byte 45 ▷ Byte kind ▷ Byte 125 ◁ White) (Byte kind ▷ Byte 125)
 
@@ -27,22 +27,22 @@ AnyOpener = Else (Opener 123) (Opener 37)
 abbrev pub Opens : List ℕ → Type 0
 Opens s = Begins AnyOpener s
 
--- a byte inside an identifier: a dash only where a letter, a digit or `_` follows
+-- a byte inside an identifier: a dash only if a letter, a digit or `_` follows it
 abbrev pub NameByte : Rule ℕ
 NameByte = Else (One is_word) (Byte 45 ◁ Ahead (One is_word))
 
--- a letter or `_`, and all name bytes behind it
+-- a letter or `_`, and all name bytes after it
 abbrev pub Identifier : Rule (List ℕ)
 Identifier = Text (Then (One starts_name) (Repeated NameByte))
 
--- a word that stands for a literal
+-- a word that means a literal
 abbrev pub is_literal_word : List ℕ → Bool
 is_literal_word word =
     ((((bytes_eq word (codes "nil") || bytes_eq word (codes "null")) || bytes_eq word (codes "empty")) || bytes_eq word (codes "blank"))
     || bytes_eq word (codes "true"))
     || bytes_eq word (codes "false")
 
--- an identifier that is no literal
+-- an identifier that is not a literal
 abbrev pub Name : Rule (List ℕ)
 Name = Where (λ word. not (is_literal_word word)) Identifier
 

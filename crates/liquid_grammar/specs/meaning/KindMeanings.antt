@@ -35,6 +35,6 @@ pub record HasChainKind (s : List ℕ) (kind : TokenKind) : Type 0 where
 abbrev pub FindsKind : Option TokenKind → Option (Chain × List ℕ) → Type 0
 FindsKind result found = option_map token_kind_of result ≡ option_map (λ a. chain_kind a.0.what.0 a.0.what.1) found
 
--- the result is the kind of the value that the reader found, and what the reader left
+-- the result is the kind of the value that the reader found, and the rest that the reader left
 abbrev pub FindsValueKind : Option (TokenKind × Bor (List ℕ)) → Option (shape.Value × List ℕ) → Type 0
 FindsValueKind result found = option_map {U = Kind × List ℕ} (λ p. (token_kind_of p.0, p.1.now)) result ≡ option_map (λ a. (value_kind a.0, a.1)) found

@@ -30,7 +30,7 @@ kind_of (range r) = range_kind
 kind_of (chain c) = chain_kind c.what.0 c.what.1
 kind_of (symbol s) = symbol_kind
 
--- the identifier, where the kind is one
+-- the identifier, if the kind is one
 abbrev pub identifier_of : Kind → Option (List ℕ)
 identifier_of (identifier_kind name) = Some name
 identifier_of _ = None

@@ -15,7 +15,7 @@ pub data Literal : Type 0 where
   integer : List ℕ → Literal
   decimal : List ℕ → Literal
 
--- what a literal word stands for
+-- the literal that a literal word means
 abbrev pub word_literal : List ℕ → Literal
 word_literal word =
     if bytes_eq word (codes "nil") || bytes_eq word (codes "null") then nil
@@ -23,15 +23,15 @@ word_literal word =
     else if bytes_eq word (codes "blank") then blank
     else truth (bytes_eq word (codes "true"))
 
--- a word that stands for a literal, as a whole identifier
+-- a word that means a literal, as a whole identifier
 abbrev pub Word : Rule Literal
 Word = Seen word_literal (Where is_literal_word Identifier)
 
--- what stands between two quotes of one kind
+-- the text between two quotes of one kind
 abbrev pub Quoted : ℕ → Rule (List ℕ)
 Quoted quote = Byte quote ▷ Repeated (One (λ b. not (b == quote))) ◁ Byte quote
 
--- one digit and all digits behind it
+-- a digit and all digits after it
 abbrev pub Digits : Rule (List ℕ)
 Digits = Text (Then (One is_ascii_digit) (Repeated (One is_ascii_digit)))
 
@@ -43,7 +43,7 @@ Whole = Text (Then (Optional (One (λ b. b == 43 || b == 45))) Digits)
 abbrev pub Fractional : Rule (List ℕ)
 Fractional = Text (Then Whole (Then (Byte 46) Digits))
 
--- the longer of the two, with no letter and no `_` behind it
+-- the longer of the two, with no letter and no `_` after it
 abbrev pub Number : Rule Literal
 Number = Else (Seen decimal Fractional) (Seen integer Whole) ◁ Not (One starts_name)
 

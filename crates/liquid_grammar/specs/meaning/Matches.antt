@@ -1,4 +1,4 @@
--- How a call's answer stands to a rule: it found the match that begins there, or none begins.
+-- How a call's result relates to a rule: it found the match that begins there, or none begins.
 use Rattle.std.specs.Prelude.{◌≡◌, ℕ, ◌<◌, List, length, Option, MatchOption}
 use Rattle.std.specs.Borrow.{Bor}
 use Rattle.liquid_grammar.specs.declared.fault.Fault.{Fault as CodeFault}
@@ -6,7 +6,7 @@ use Rattle.liquid_grammar.specs.meaning.Rules.{Rule, Begins}
 use Rattle.liquid_grammar.specs.meaning.Faults.{Fault}
 use Rattle.liquid_grammar.specs.meaning.Meanings.{faults_of}
 
--- the answer's shape, seen through `of`, is that of the match
+-- the result's shape, seen through `of`, is that of the match
 abbrev pub Finds : {A C : Type 0} → Rule A → (C → A) → List ℕ → Option (C × Bor (List ℕ)) → Type 0
 Finds R of s result = MatchOption result (¬ (Begins R s)) (λ p. R s p.1.now (of p.0))
 
@@ -16,7 +16,7 @@ pub record HasMatch {A : Type 0} (R : Rule A) (fault : A → Option Fault) (s re
   pub match : R s rest shape
   pub is : found ≡ fault shape
 
--- the answer is the first fault of the match, and what the match leaves
+-- the result is the first fault of the match, and the rest that the match leaves
 abbrev pub Matches : {A : Type 0} → Rule A → (A → Option Fault) → List ℕ → Option (Option CodeFault × Bor (List ℕ)) → Type 0
 Matches R fault s result = MatchOption result (¬ (Begins R s)) (λ p. HasMatch R fault s p.1.now (faults_of p.0))
 
@@ -24,6 +24,6 @@ Matches R fault s result = MatchOption result (¬ (Begins R s)) (λ p. HasMatch 
 abbrev pub Single : {A : Type 0} → Rule A → Type 0
 Single {A} R = (s r₁ r₂ : List ℕ) (a₁ a₂ : A) → R s r₁ a₁ → R s r₂ a₂ → ◌≡◌ {A = A × List ℕ} (a₁, r₁) (a₂, r₂)
 
--- each match takes one byte at least
+-- each match takes at least one byte
 abbrev pub Takes : {A : Type 0} → Rule A → Type 0
 Takes {A} R = (s rest : List ℕ) (a : A) → R s rest a → length rest < length s

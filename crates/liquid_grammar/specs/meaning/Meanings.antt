@@ -1,4 +1,4 @@
--- What the literals and faults of the program mean, and how a call's answer stands to what a reader finds.
+-- What the literals and faults of the program mean, and how a call's result relates to what a reader finds.
 use Rattle.std.specs.Prelude.{◌≡◌, ℕ, List, Option, option_map}
 use Rattle.std.specs.Borrow.{Bor}
 use Rattle.liquid_grammar.specs.declared.literal.Literal.{Literal as CodeLiteral}
@@ -75,6 +75,6 @@ scanned_of p = (faults_of p.0, p.1.now)
 abbrev pub scan : {A : Type 0} → (A → Option Fault) → Option (A × List ℕ) → Option Scanned
 scan fault found = option_map (λ a. (fault a.0, a.1)) found
 
--- the result is the fault of the shape that the reader found, and what the reader left
+-- the result is the fault of the shape that the reader found, and the rest that the reader left
 abbrev pub Scans : {A : Type 0} → (A → Option Fault) → Option (Option CodeFault × Bor (List ℕ)) → Option (A × List ℕ) → Type 0
 Scans fault result found = option_map scanned_of result ≡ scan fault found

@@ -1,4 +1,4 @@
--- The parts of a matched text, from left to right: what a walk over it finds one after the other.
+-- The parts of a matched text, from left to right: what a walk over it finds one after another.
 use Rattle.std.specs.Prelude.{◌≡◌, ℕ, Bool, true, false, List, [], ◌∷◌, Option, Some, None, option_map}
 use Rattle.liquid_grammar.specs.declared.head.Head.{Head}
 use Rattle.liquid_grammar.specs.declared.head.Head.TheVariants as head
@@ -39,7 +39,7 @@ pub record IsLiteral (s rest : List ℕ) (literal : Literal) (after : List ℕ) 
   pub is : v ≡ literal_value s rest literal
   pub ends : after ≡ rest
 
--- a value that is a variable, with its indexes behind the name
+-- a value that is a variable, with its indexes after the name
 pub record IsVariable (s rest name after : List ℕ) (v : Value) : Type 0 where
   pub indexes : List Index
   pub is : v ≡ variable_value s rest name (gather indexes)
@@ -62,7 +62,7 @@ pub record IsNamed (rest name after : List ℕ) (i : Index) : Type 0 where
   pub is : i ≡ named_index name
   pub ends : after ≡ rest
 
--- an index in brackets: its value, and the close bracket behind it
+-- an index in brackets: its value, and the close bracket after it
 pub record IsBracketed (s rest inner : List ℕ) (i : Index) : Type 0 where
   pub value : Value
   pub behind : List ℕ
@@ -76,7 +76,7 @@ abbrev pub IsIndex : List ℕ → IndexStart → List ℕ → List ℕ → Index
 IsIndex s (start.Named name) after rest i = IsNamed rest name.now after i
 IsIndex s start.Bracket after rest i = IsBracketed s rest after i
 
--- the arguments from here on: the first one of a filter stands behind `:`, each further one behind a comma
+-- the arguments from here on: the first one of a filter is after `:`, each further one after a comma
 abbrev pub ArgumentsFrom : Bool → Rule (List Argument)
 ArgumentsFrom true = Seen arguments_of (Optional Arguments)
 ArgumentsFrom false = Repeated (Behind 44 ArgumentRule)
@@ -85,14 +85,14 @@ abbrev pub separator : Bool → ℕ
 separator true = 58
 separator false = 44
 
--- where a filter begins, its name, and its arguments behind the name
+-- where a filter begins, its name, and its arguments after the name
 pub record IsFilter (f : FilterStart) (rest : List ℕ) (filter : Filter) : Type 0 where
   pub place_is : filter.place ≡ f.place.now
   pub behind_is : filter.behind ≡ rest
   pub name_is : filter.what.0 ≡ f.name.now
   pub arguments : ArgumentsFrom true f.rest.now rest filter.what.1
 
--- a value as an argument, with a name or without
+-- a value as an argument, with or without a name
 abbrev pub argument_by : Option (List ℕ) → Value → Argument
 argument_by (Some name) value = keyword name value
 argument_by None value = positional value
@@ -150,13 +150,13 @@ pub record IsToken (t : TokenText) (rest : List ℕ) (token : Token) : Type 0 wh
   pub ends : t.rest.now ≡ rest
   pub has : HasParts t.parts t.place.now rest token
 
--- what stands before the chain of an expression, where no tag begins
+-- the opening before the chain of an expression, where no tag begins
 pub record OpensExpression (s start : List ℕ) : Type 0 where
   pub white : List ℕ
   pub match : ExpressionStart s start white
   pub no_tag : ¬ (Begins TagRule s)
 
--- what stands behind the chain of an expression
+-- the closing after the chain of an expression
 pub record ClosesExpression (s rest : List ℕ) : Type 0 where
   pub byte : ℕ
   pub match : (White ▷ Closer 125) s rest byte

@@ -1,5 +1,7 @@
--- Rules of a grammar, and how rules are put together.
--- A place in a text is what is left of the text there. So a rule relates a text, what its match leaves of it, and the shape of what was matched.
+-- Rules of a grammar, and how rules are combined.
+--
+-- A place in a text is the rest of the text there. So a rule relates a text, the rest that its match leaves, and the
+-- shape of what was matched.
 use Rattle.std.specs.Prelude.{◌≡◌, ℕ, ◌==◌, Bool, true, List, [], ◌∷◌, ◌++◌, Option, Some, None}
 
 infixl 20 ◌▷◌
@@ -18,18 +20,18 @@ pub record One (p : ℕ → Bool) (s rest : List ℕ) (byte : ℕ) : Type 0 wher
   pub front : s ≡ byte ∷ rest
   pub passes : p byte ≡ true
 
--- R, and S behind it
+-- R, and S after it
 pub record Then {A B : Type 0} (R : Rule A) (S : Rule B) (s rest : List ℕ) (shape : A × B) : Type 0 where
   pub middle : List ℕ
   pub before : R s middle shape.0
   pub after : S middle rest shape.1
 
--- R, or S where no match of R begins
+-- R, or S if no match of R begins here
 pub data Else {A : Type 0} (R S : Rule A) (s rest : List ℕ) (shape : A) : Type 0 where
   here : R s rest shape → Else R S s rest shape
   instead : ¬ (Begins R s) → S s rest shape → Else R S s rest shape
 
--- R as often as its next match begins, and no less often
+-- R as often as a match of it begins
 pub data Repeated {A : Type 0} (R : Rule A) : List ℕ → List ℕ → List A → Type 0 where
   ends : {s : List ℕ} → ¬ (Begins R s) → Repeated R s s []
   more : {s middle rest : List ℕ} {shape : A} {shapes : List A} → R s middle shape → Repeated R middle rest shapes → Repeated R s rest (shape ∷ shapes)
@@ -40,7 +42,7 @@ pub record Seen {A B : Type 0} (f : A → B) (R : Rule A) (s rest : List ℕ) (s
   pub match : R s rest from
   pub is : shape ≡ f from
 
--- R, where its shape passes the test
+-- R, if its shape passes the test
 pub record Where {A : Type 0} (p : A → Bool) (R : Rule A) (s rest : List ℕ) (shape : A) : Type 0 where
   pub match : R s rest shape
   pub passes : p shape ≡ true
@@ -51,12 +53,12 @@ pub record Text {A : Type 0} (R : Rule A) (s rest text : List ℕ) : Type 0 wher
   pub match : R s rest shape
   pub front : s ≡ text ++ rest
 
--- nothing, where a match of R begins
+-- nothing, if a match of R begins here
 pub record Ahead {A : Type 0} (R : Rule A) (s rest : List ℕ) (shape : Unit {0}) : Type 0 where
   pub stays : rest ≡ s
   pub begins : Begins R s
 
--- nothing, where no match of R begins
+-- nothing, if no match of R begins here
 pub record Not {A : Type 0} (R : Rule A) (s rest : List ℕ) (shape : Unit {0}) : Type 0 where
   pub stays : rest ≡ s
   pub none : ¬ (Begins R s)
@@ -66,7 +68,7 @@ pub record Nothing {A : Type 0} (a : A) (s rest : List ℕ) (shape : A) : Type 0
   pub stays : rest ≡ s
   pub is : shape ≡ a
 
--- a shape with the place where its match begins and the place behind it
+-- a shape with the place where its match begins and the place after it
 pub record Placed (A : Type 0) : Type 0 where
   pub place : List ℕ
   pub behind : List ℕ
@@ -78,7 +80,7 @@ pub record At {A : Type 0} (R : Rule A) (s rest : List ℕ) (shape : Placed A) :
   pub ends : shape.behind ≡ rest
   pub match : R s rest shape.what
 
--- R, where a match of it begins
+-- R, if a match of it begins here
 abbrev pub Optional : {A : Type 0} → Rule A → Rule (Option A)
 Optional R = Else (Seen Some R) (Nothing None)
 

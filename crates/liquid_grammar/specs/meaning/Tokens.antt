@@ -23,11 +23,11 @@ pub data Token : Type 0 where
   chain : Chain → Token
   symbol : Placed (List ℕ) → Token
 
--- the name of a tag, and its tokens with the places before and behind them
+-- the name of a tag, and its tokens with the places before and after them
 abbrev pub Tag : Type 0
 Tag = List ℕ × Placed (List Token)
 
--- an identifier and `:`, with the white space behind them
+-- an identifier and `:`, with the white space after them
 abbrev pub KeywordStart : Rule (List ℕ)
 KeywordStart = Identifier ◁ White ◁ Byte 58 ◁ White
 
@@ -35,15 +35,15 @@ KeywordStart = Identifier ◁ White ◁ Byte 58 ◁ White
 abbrev pub KeywordRule : Rule Argument
 KeywordRule = Seen (λ p. keyword p.0 p.1) (Then KeywordStart ValueRule)
 
--- an identifier, `:` and a value; else a value
+-- an identifier, `:` and a value; otherwise a value
 abbrev pub ArgumentRule : Rule Argument
 ArgumentRule = Else KeywordRule (Seen positional ValueRule)
 
--- the separator between white space, and R behind it
+-- the separator between white space, and R after it
 abbrev pub Behind : {A : Type 0} → ℕ → Rule A → Rule A
 Behind separator R = White ▷ Byte separator ▷ White ▷ R
 
--- `:` with an argument, and further ones behind commas
+-- `:` with an argument, and further ones after commas
 abbrev pub Arguments : Rule (List Argument)
 Arguments = Seen (λ p. p.0 ∷ p.1) (Then (Behind 58 ArgumentRule) (Repeated (Behind 44 ArgumentRule)))
 
@@ -52,11 +52,11 @@ abbrev pub arguments_of : Option (List Argument) → List Argument
 arguments_of (Some arguments) = arguments
 arguments_of None = []
 
--- an identifier, and arguments where they begin
+-- an identifier, and arguments if they begin here
 abbrev pub FilterRule : Rule Filter
 FilterRule = At (Seen (λ p. (p.0, arguments_of p.1)) (Then Identifier (Optional Arguments)))
 
--- a value, and all filters behind `|`
+-- a value, and all filters after `|`
 abbrev pub ChainRule : Rule Chain
 ChainRule = At (Then ValueRule (Repeated (Behind 124 FilterRule)))
 
@@ -64,7 +64,7 @@ ChainRule = At (Then ValueRule (Repeated (Behind 124 FilterRule)))
 abbrev pub Dots : Rule ℕ
 Dots = White ▷ Byte 46 ▷ Byte 46 ◁ White
 
--- `(` and the white space behind it
+-- `(` and the white space after it
 abbrev pub RangeStart : Rule (List ℕ)
 RangeStart = Byte 40 ▷ White
 
@@ -88,11 +88,11 @@ is_single b = (((b == 60 || b == 62) || b == 61) || b == 44) || b == 58
 abbrev pub SymbolRule : Rule (List ℕ)
 SymbolRule = Else (Text (Where is_double (Then (One (λ b. true)) (One (λ b. true))))) (Text (One is_single))
 
--- a range, else a chain, else a symbol
+-- a range, otherwise a chain, otherwise a symbol
 abbrev pub TokenRule : Rule Token
 TokenRule = Else (Seen range (At RangeRule)) (Else (Seen chain ChainRule) (Seen symbol (At SymbolRule)))
 
--- what stands before the chain of an expression
+-- the opening before the chain of an expression
 abbrev pub ExpressionStart : Rule (List ℕ)
 ExpressionStart = Opener 123 ▷ White
 

@@ -31,7 +31,7 @@ placed_variable p = variable_value p.place p.behind p.what.0 (gather p.what.1)
 abbrev pub placed_bracket : Placed Value → Index
 placed_bracket p = bracketed_index p.place p.behind p.what
 
--- `[` and the white space behind it
+-- `[` and the white space after it
 abbrev pub OpenBracket : Rule (List ℕ)
 OpenBracket = Byte 91 ▷ White
 
@@ -53,11 +53,11 @@ module _ (Inner : Rule Value) where
   abbrev pub VariableOver : Rule Value
   VariableOver = Seen placed_variable (At (Then Name (Repeated IndexOver)))
 
-  -- a literal, else a variable
+  -- a literal, otherwise a variable
   abbrev pub ValueOver : Rule Value
   ValueOver = Else (Seen placed_literal (At LiteralRule)) VariableOver
 
--- a value with fewer than this many brackets in one another
+-- a value with fewer than this many nested brackets
 unfoldable pub Nested : ℕ → Rule Value
 Nested zero s rest v = ⊥
 Nested (suc n) s rest v = ValueOver (Nested n) s rest v

@@ -1,4 +1,4 @@
--- Brackets inside one another, by a count of those that are open. No public clause names these.
+-- Nested brackets, matched with a count of those that are open. No public clause cites these definitions.
 use Rattle.std.specs.Prelude.{ℕ, zero, suc, pred, List, Option, Some, None, option_map, option_and_then}
 use Rattle.std.specs.Option.{option_or}
 use Rattle.liquid_grammar.specs.declared.bracket.Await.{Await}
@@ -21,16 +21,17 @@ index = index_over value
 abbrev pub indexes : Reader (List shape.Index)
 indexes = repeated index
 
--- with a close bracket, and go on behind it
+-- a close bracket, and what `next` finds after it
 abbrev pub closing : (List ℕ → Option Scanned) → List ℕ → Option Scanned
 closing next s = option_and_then (λ a. next a.1) (close_bracket s)
 
--- what is still to be found behind a name inside as many open brackets: its indexes, a close bracket, and what is behind that
+-- what is still to be found after a name inside this many open brackets: its indexes, a close bracket, and what follows
+-- it
 unfoldable pub resume : ℕ → List ℕ → Option Scanned
 resume zero s = Some (None, s)
 resume (suc depth) s = option_and_then (λ b. adds (indexes_fault (suc depth) (gather b.0)) (closing (resume depth) b.1)) (indexes s)
 
--- the same where a value begins inside the brackets
+-- the same, if a value begins inside the brackets
 unfoldable pub starts : ℕ → List ℕ → Option Scanned
 starts zero s = None
 starts (suc depth) s = option_and_then (λ v. adds (fault_within (suc depth) v.0) (closing (resume depth) v.1)) (value s)
@@ -49,7 +50,7 @@ awaited Close depth s = closing (resume (pred depth)) s
 abbrev pub going : Open → Option Scanned
 going o = adds (faults_of o.fault) (awaited o.awaits o.depth o.rest.now)
 
--- at each text where an index is awaited the next turn may take nothing
+-- the next turn may take nothing where an index is awaited
 abbrev pub rank : Await → ℕ
 rank Value = 0
 rank Index = 1

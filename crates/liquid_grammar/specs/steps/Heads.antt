@@ -1,4 +1,4 @@
--- What a value begins with: a literal, or a name. No public clause names these.
+-- How a value begins: with a literal, or with a name. No public clause cites these definitions.
 use Rattle.std.specs.Prelude.{◌≡◌, ℕ, true, false, List, Option, Some, None}
 use Rattle.std.specs.Borrow.{Bor}
 use Rattle.liquid_grammar.specs.declared.head.Head.{Head}
@@ -25,12 +25,12 @@ literal_in p = literal_at p.0 p.1.now
 abbrev pub name_in : Head × Bor (List ℕ) → Option (List ℕ × List ℕ)
 name_in p = name_at p.0 p.1.now
 
--- a word is a literal where it is a literal word, and else a name
+-- a word is a literal if it is a literal word, and otherwise a name
 abbrev pub IsHeadOf : List ℕ → Head → Type 0
 IsHeadOf word (head.Literal literal) = (is_literal_word word ≡ true) × (literal_of literal ≡ word_literal word)
 IsHeadOf word (head.Name name) = (is_literal_word word ≡ false) × (name.now ≡ word)
 
--- a colon between white space stands here, and a value behind it begins so
+-- a colon between white space is here, and the value after it begins in this way
 pub record HasColon (s : List ℕ) (h : Head) (after : List ℕ) : Type 0 where
   pub place : List ℕ
   pub white : List ℕ

@@ -1,4 +1,4 @@
--- Readers: what each rule finds, computed. They lead from code to rules, and no public clause names them.
+-- Readers: what each rule finds, computed. They connect the code to the rules, and no public clause cites them.
 use Rattle.std.specs.Prelude.{◌≡◌, ℕ, zero, suc, ◌-◌, ◌+◌, ◌<◌, ◌==◌, ◌&&◌, ◌||◌, Bool, cond, not, List, [], ◌∷◌, length, take, drop, slice_index, Option, Some, None, option_map, option_and_then, is_some}
 use Rattle.std.specs.Option.{option_or}
 use Rattle.std.specs.List.{prefix_len}
@@ -18,7 +18,7 @@ one p (b ∷ s) = cond (p b) (Some (b, s)) None
 abbrev pub byte : ℕ → Reader ℕ
 byte b = one (λ c. c == b)
 
--- f, and g behind it
+-- f, and g after it
 abbrev pub both : {A B : Type 0} → Reader A → Reader B → Reader (A × B)
 both f g s = option_and_then (λ a. option_map (λ b. ((a.0, b.0), b.1)) (g a.1)) (f s)
 
@@ -73,7 +73,7 @@ closer kind = either (dashed_closer kind) (right (byte kind) (byte 125))
 abbrev pub is_name_byte : ℕ → List ℕ → Bool
 is_name_byte b s = is_word b || (b == 45 && is_word (slice_index s 0))
 
--- how many name bytes the text begins with
+-- the number of name bytes that the text begins with
 unfoldable pub name_len : List ℕ → ℕ
 name_len [] = 0
 name_len (b ∷ s) = cond (is_name_byte b s) (1 + name_len s) 0
@@ -90,7 +90,7 @@ name = only (λ word. not (is_literal_word word)) identifier
 unfoldable pub lone_brace : Reader (List ℕ)
 lone_brace = text (both white (byte 123))
 
--- `{{` or `{%` stands at the index
+-- `{{` or `{%` is at the index
 abbrev pub begins_braces : List ℕ → ℕ → Bool
 begins_braces s at = slice_index s at == 123 && (slice_index s (at + 1) == 123 || slice_index s (at + 1) == 37)
 

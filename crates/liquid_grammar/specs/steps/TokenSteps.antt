@@ -1,4 +1,4 @@
--- Readers of literals, values, filters, chains, tokens and tags. Like those of Steps, no public clause names them.
+-- Readers of literals, values, filters, chains, tokens and tags. Like those of Steps, no public clause cites them.
 use Rattle.std.specs.Prelude.{ℕ, zero, suc, ◌==◌, ◌||◌, Bool, true, cond, not, List, [], ◌∷◌, length, Option, Some, None, option_map, is_some, drop, slice_index}
 use Rattle.std.specs.List.{prefix_len}
 use Rattle.std.specs.Char.{is_ascii_digit}
@@ -25,7 +25,7 @@ placed s a = (record { place = s; behind = a.1; what = a.0 }, a.1)
 abbrev pub at : {A : Type 0} → Reader A → Reader (Placed A)
 at f s = option_map (placed s) (f s)
 
--- one turn of a repetition: what was found first, and what the rest of it finds
+-- one turn of a repetition: what was found first, and what the other turns find
 abbrev pub repeat_turn : {A : Type 0} → Option (A × List ℕ) → List ℕ → Reader (List A) → Option (List A × List ℕ)
 repeat_turn None s more_of = Some ([], s)
 repeat_turn (Some a) s more_of = option_map (λ b. (a.0 ∷ b.0, b.1)) (more_of a.1)
@@ -122,7 +122,7 @@ argument = either keyword_argument (seen positional value)
 abbrev pub separated : ℕ → Reader (List ℕ)
 separated separator = right (right white (byte separator)) white
 
--- a separator between white space, and what stands behind it
+-- a separator between white space, and what is after it
 abbrev pub behind : {A : Type 0} → ℕ → Reader A → Reader A
 behind separator f = right (separated separator) f
 
@@ -132,7 +132,7 @@ arguments = seen (λ p. p.0 ∷ p.1) (both (behind 58 argument) (repeated (behin
 unfoldable pub filter : Reader Filter
 filter = at (seen (λ p. (p.0, arguments_of p.1)) (both identifier (optional arguments)))
 
--- `|` stands here behind white space
+-- `|` is here, after white space
 abbrev pub begins_filter : List ℕ → Bool
 begins_filter s = slice_index (drop (prefix_len is_white s) s) 0 == 124
 

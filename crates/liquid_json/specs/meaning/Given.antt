@@ -1,4 +1,5 @@
--- The value that JSON is, by recursion over the JSON: items in order, members in the order of their keys, and the first refusal ends it.
+-- The value of JSON, by recursion over the JSON: items in order, members in the order of their keys. The first refusal
+-- is the result.
 use Rattle.std.specs.Prelude.{ℕ, ℤ, List, pos, ◌^◌, nat_lt, codes, Option, Result, Ok, Err, option_map, if◌then◌else◌}
 use Rattle.serde_json.specs.Data as json
 use Rattle.serde_json.specs.Read.{read}
@@ -9,7 +10,8 @@ use Rattle.liquid_value.specs.meaning.Tree.{Tree, nil, scalar, array, object, It
 abbrev pub refused : {A : Type 0} → List ℕ → Result A Refusal
 refused message = Err (plain message)
 
--- a whole number of 64 bits with a sign is itself; one that needs the 64th bit does not fit; all others are kept as floats, and are refused as fractional
+-- a signed whole number of 64 bits is itself; one that needs the 64th bit does not fit; all others are kept as floats,
+-- and are refused as fractional
 abbrev pub number_given : json.Num → Result ℤ Refusal
 number_given (json.unsigned n) = if nat_lt n (2 ^ 63) then Ok (pos n) else refused (codes "Cannot fit number")
 number_given (json.negative n) = Ok n
@@ -33,7 +35,7 @@ abbrev mutual
   members_given json.no_members = Ok no_members
   members_given (json.member key d ms) = ok_then (value_given d) (λ t. ok_then (members_given ms) (λ ts. Ok (member key t ts)))
 
--- only an object is one
+-- only an object gives an object
 abbrev pub object_given : json.Data → Result Members Refusal
 object_given (json.object ms) = members_given ms
 object_given (json.array ds) = refused (codes "Object cannot be an array.")
@@ -48,6 +50,6 @@ scalar_given (json.string s) = Ok (text s)
 scalar_given (json.array ds) = refused (codes "Scalar must be a string.")
 scalar_given (json.object ms) = refused (codes "Scalar must be a string.")
 
--- what a text comes to as an object, and none where it is no JSON
+-- the object that a text gives, or its refusal; none if the text is not JSON
 abbrev pub object_read : List ℕ → Option (Result Members Refusal)
 object_read source = option_map object_given (read source)

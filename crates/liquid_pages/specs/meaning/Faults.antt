@@ -7,7 +7,8 @@ use Rattle.liquid_pages.specs.declared.fault.PageFault.{PageFault}
 use Rattle.liquid_pages.specs.declared.fault.PageFault.TheVariants as page
 use Rattle.liquid_pages.specs.declared.fault.PageText.{PageText}
 
--- a text that is no UTF-8, a text that is no JSON, JSON that is no object of values, a template that can't be read, and a refusal while it was rendered
+-- a text that is not UTF-8, a text that is not JSON, JSON that is not an object of values, a template that can't be
+-- parsed, and a refusal while it was rendered
 pub data Fault : Type 0 where
   no_text : PageText → Fault
   bad_json : Fault
@@ -23,12 +24,12 @@ fault_told (page.NoGlobals error) = option_map no_globals (told error)
 fault_told (page.Unparsed error) = option_map unparsed (told error)
 fault_told (page.Refused error) = option_map refused (told error)
 
--- the call returns what is meant: the value, or the fault; out of memory, it says nothing of the meaning
+-- the call returns what is meant: the value, or the fault; an out-of-memory error says nothing about the meaning
 abbrev pub Returns : {A B : Type 0} → (A → B) → Result A PageFault → Result B Fault → Type 0
 Returns of (Ok x) meant = meant ≡ Ok (of x)
 Returns of (Err fault) meant = IfSome (fault_told fault) (λ f. meant ≡ Err f)
 
--- one step after another: the value goes on, and the first fault ends it
+-- one step after another: a value is passed on, and the first fault is the result
 abbrev pub and_then : {A B : Type 0} → Result A Fault → (A → Result B Fault) → Result B Fault
 and_then (Ok x) next = next x
 and_then (Err fault) next = Err fault

@@ -1,4 +1,4 @@
--- The globals that a text of JSON gives.
+-- The globals of a text of JSON.
 use Rattle.std.specs.Prelude.{ℕ, List, [], ◌∷◌, Option, None, Some, Result, Ok, Err}
 use Rattle.std.specs.FinMap.{from_entries}
 use Rattle.liquid_error.specs.meaning.Refusal.{Refusal}
@@ -15,7 +15,7 @@ entries_of (member name t ms) = (name, t) ∷ entries_of ms
 abbrev pub global_names : Members → Names
 global_names ms = from_entries (entries_of ms)
 
--- what reading an object from JSON gives: its names, or the fault of a text that is no JSON or no object of values
+-- what reading an object from JSON gives: its names, or the fault of a text that is not JSON or not an object of values
 abbrev pub names_given : Option (Result Members Refusal) → Result Names Fault
 names_given None = Err bad_json
 names_given (Some (Err refusal)) = Err (no_globals refusal)

@@ -1,4 +1,4 @@
--- What rendering a page comes to: a text in a language, over globals, with partials or without.
+-- The result of rendering a page: a text in a language, over globals, with or without partials.
 use Rattle.std.specs.Prelude.{◌≡◌, ℕ, Bool, true, false, List, Option, None, Some, Result, Ok, Err}
 use Rattle.std.specs.FinMap.{empty}
 use Rattle.liquid_error.specs.declared.error.Error.{Error}
@@ -19,7 +19,7 @@ use Rattle.liquid_partials.specs.meaning.Rendered.{RenderedBy}
 use Rattle.liquid_partials.specs.meaning.Sources.{Texts}
 use Rattle.liquid_pages.specs.declared.options.PageOptions.{PageOptions}
 
--- the view of a built runtime of these globals, lenient or not, whose register holds nothing
+-- the view of a built runtime with these globals, lenient or not, whose register is empty
 abbrev pub built_over : Bool → Names → View (Unit {0})
 built_over lenient globals = leniently lenient (built_view tt 32 globals)
 
@@ -36,7 +36,7 @@ first_view options globals = built_over options.lenient (runtime_names options.s
 abbrev pub PageAnswer : Type 0 → Type 0 → Type 0 → Type 0
 PageAnswer F T B = Result (List (NodeShape F T B)) Refusal
 
--- a store of these texts finds what they are read as; where there are no texts there is no store
+-- a store of these texts finds the results of parsing them; without texts there is no store
 abbrev pub IsFoundIn : {F T L B : Type 0} → Lang F T L B → Option Texts → Option (Found F T B) → Type 0
 IsFoundIn l None found = found ≡ None
 IsFoundIn l (Some texts) None = ⊥
@@ -46,19 +46,20 @@ IsFoundIn l (Some texts) (Some found) = Compiled l texts found
 abbrev pub Settings : Type 0 → Type 0 → Type 0 → Type 0 → Type 0 → Type 0
 Settings F T P B Q = Option (Found F T B) → Setting (Unit {0}) F T P B Q
 
--- what nodes come to: in a sandbox, under a frame without a name whose data are the globals
+-- the rendering of nodes: in a sandbox, under a frame without a name whose data are the globals
 abbrev pub page_action : {F T P B Q : Type 0} → Settings F T P B Q → Bool → Option (Found F T B) → Names → List (NodeShape F T B) → Action (Unit {0})
 page_action s false found globals nodes = template_run (s found) (nodes_from nodes)
 page_action s true found globals nodes = sandboxed_run (s found) globals None (nodes_from nodes)
 
 module _ {F T P L B Q : Type 0} (s : Settings F T P B Q) (l : Lang F T L B) (options : PageOptions) where
-  -- what a text is read as was rendered, by these options, over a built runtime of these globals with a store of these partials, which left a view
+  -- the parsed text was rendered, with these options, over a built runtime with these globals and a store of these
+  -- partials, which left a view
   pub record RendersAnswer (answer : PageAnswer F T B) (globals : Names) (partials : Option Texts) (before after : Sunk) (result : Result (Unit {0}) Error) : Type 0 where
     pub left : View (Unit {0})
     pub rendered : (found : Option (Found F T B)) → IsFoundIn l partials found
         → RenderedBy (page_action s options.sandboxed found globals) answer (first_view options globals) before after left result
 
-  -- the same of what a text is read as in the language
+  -- the same for what a text is read as in the language
   abbrev pub Renders : List ℕ → Names → Option Texts → Sunk → Sunk → Result (Unit {0}) Error → Type 0
   Renders text globals partials before after result =
       (answer : PageAnswer F T B) → Reads l text answer → RendersAnswer answer globals partials before after result

@@ -1,5 +1,6 @@
--- What a page shows, by the bytes of its texts. They are read in this order: the template, the globals, each partial's name and then its
--- text, each of which is to be UTF-8, and the globals are to be an object of JSON; then the template is read, and rendered.
+-- What a page shows, by the bytes of its texts. They are read in this order: the template, the globals, each partial's
+-- name and then its text. Each of them must be UTF-8, and the globals must be an object of JSON. Then the template is
+-- parsed, and rendered.
 use Rattle.std.specs.Prelude.{◌≡◌, ℕ, suc, Bool, List, [], ◌∷◌, ◌++◌, Option, None, Some, Result, Ok, Err, MatchOption, option_map}
 use Rattle.std.specs.FinMap.{empty, insert}
 use Rattle.liquid_error.specs.declared.error.Error.{Error}
@@ -27,13 +28,13 @@ NameAndText = List ℕ × List ℕ
 abbrev pub bytes_of_partial : PartialBytes → NameAndText
 bytes_of_partial p = (p.name.now, p.text.now)
 
--- partials by their names, from the one of this number on; of two of one name the later stays
+-- partials by their names, from the one of this number on; of two with one name the later is kept
 abbrev pub partials_read : ℕ → List NameAndText → Texts → Result Texts Fault
 partials_read n [] texts = Ok texts
 partials_read n (p ∷ ps) texts =
     and_then (text_read (PartialName n) p.0) (λ name. and_then (text_read (PartialText n) p.1) (λ text. partials_read (suc n) ps (insert texts name text)))
 
--- the globals' names, of bytes that are a text of JSON
+-- the names of the globals, from bytes that are a text of JSON
 abbrev pub names_read : List ℕ → Result Names Fault
 names_read bytes = and_then (text_read Globals bytes) globals_read
 
@@ -45,7 +46,7 @@ abbrev pub page_read : List ℕ → List ℕ → List NameAndText → Result (Li
 page_read text globals partials =
     and_then (text_read Template text) (λ t. and_then (names_read globals) (λ names. partials_over t names partials))
 
--- what a page comes to: all that it writes, and the fault that ends it, if one does
+-- the result of a page: all that it writes, and the fault that ends it, if there is one
 pub record Page : Type 0 where
   pub output : List ℕ
   pub fault : Option Fault
@@ -60,17 +61,17 @@ abbrev pub page_of_answer : {F T B : Type 0} → (List (NodeShape F T B) → Run
 page_of_answer run_of (Ok nodes) = page_of_run (run_of nodes)
 page_of_answer run_of (Err refusal) = stopped (unparsed refusal)
 
--- what nodes come to by these options over these names, where a store finds this
+-- the run of nodes with these options over these names, where a store finds this
 abbrev pub page_run : {F T P B Q : Type 0} → Settings F T P B Q → PageOptions → Names → Option (Found F T B) → List (NodeShape F T B) → Run (Unit {0})
 page_run s options names found nodes = page_action s options.sandboxed found names nodes (first_view options names)
 
 module _ {F T P L B Q : Type 0} (s : Settings F T P B Q) (l : Lang F T L B) (options : PageOptions) where
-  -- a text over names, with these partials, comes to this page
+  -- a text over names, with these partials, is rendered as this page
   abbrev pub TextComesTo : List ℕ → Names → Texts → Page → Type 0
   TextComesTo text names texts page =
       (answer : PageAnswer F T B) × Reads l text answer × ((found : Option (Found F T B)) × IsFoundIn l (Some texts) found × (page ≡ page_of_answer (page_run s options names found) answer))
 
-  -- nodes over names, with these partials, come to this page
+  -- nodes over names, with these partials, are rendered as this page
   abbrev pub NodesComeTo : List (NodeShape F T B) → Names → Texts → Page → Type 0
   NodesComeTo nodes names texts page =
       (found : Option (Found F T B)) × IsFoundIn l (Some texts) found × (page ≡ page_of_run (page_run s options names found nodes))
@@ -79,11 +80,11 @@ module _ {F T P L B Q : Type 0} (s : Settings F T P B Q) (l : Lang F T L B) (opt
   ReadComesTo (Err fault) page = page ≡ stopped fault
   ReadComesTo (Ok read) page = TextComesTo read.0 read.1.0 read.1.1 page
 
-  -- these bytes come to this page
+  -- these bytes are rendered as this page
   abbrev pub ComesTo : List ℕ → List ℕ → List NameAndText → Page → Type 0
   ComesTo text globals partials page = ReadComesTo (page_read text globals partials) page
 
--- how a page ends whose rendering ended so
+-- how a page ends when its rendering ends in this way
 abbrev pub ended : Result (Unit {0}) Error → Result (Unit {0}) PageFault
 ended (Ok done) = Ok done
 ended (Err error) = Err (Refused error)
@@ -92,7 +93,8 @@ ended (Err error) = Err (Refused error)
 abbrev pub Begins : List ℕ → Page → Type 0
 Begins output page = (left : List ℕ) × (page.output ≡ output ++ left)
 
--- the output is all of the page's, and the call ends as the page does; out of memory, the output is a beginning of it
+-- the output is all of the page's, and the call ends as the page does; if it is out of memory, the output is a
+-- beginning of the page's
 abbrev pub Shows : Page → List ℕ → Result (Unit {0}) PageFault → Type 0
 Shows page output (Ok _) = (output ≡ page.output) × (page.fault ≡ None)
 Shows page output (Err fault) = MatchOption (fault_told fault) (Begins output page) (λ f. (output ≡ page.output) × (page.fault ≡ Some f))

@@ -1,4 +1,4 @@
--- An answer that changes nothing does not depend on hidden globals.
+-- A result that changes nothing does not depend on hidden globals.
 use Rattle.std.proofs.Common.{Ok, refl}
 use Rattle.liquid_plugins.proofs.Hiding.{answers_hide}
 use Rattle.liquid_plugins.specs.meaning.Discreet.{HidesGlobals}

@@ -1,4 +1,4 @@
--- What the cursor over a block's elements hands out, and what they are read as.
+-- What the cursor over a block's elements returns, and the result of parsing them.
 use Rattle.std.specs.Prelude.{◌≡◌, ℕ, Bool, false, true, List, [], ◌∷◌, ◌++◌, length, if◌then◌else◌, bytes_eq, Option, Some, None, Result, Ok, Err, IfSome}
 use Rattle.liquid_error.specs.declared.error.Error.{Error}
 use Rattle.liquid_error.specs.meaning.Refusal.{Refusal, ok_then}
@@ -15,7 +15,7 @@ use Rattle.liquid_parser.specs.meaning.Reading.{unclosed_by}
 
 -- a block that ends at this name
 module _ (source end_name : List ℕ) where
-  -- an element of it that was checked: itself, or nothing where it is the end tag, which has no tokens
+  -- a checked element of it: itself, or nothing if it is the end tag, which has no tokens
   abbrev pub or_end : Element → Result (Option Element) Refusal
   or_end (raw text) = Ok (Some (raw text))
   or_end (tag_element t text) =
@@ -25,22 +25,23 @@ module _ (source end_name : List ℕ) where
   or_end (expression c text) = Ok (Some (expression c text))
   or_end (invalid text) = Ok (Some (invalid text))
 
-  -- what is handed out where these elements are left
+  -- what is returned if these elements are left
   abbrev pub handed_out : List Element → Result (Option Element) Refusal
   handed_out [] = Err (unclosed_by source end_name)
   handed_out (e ∷ es) = ok_then (element_checked source e) (λ _. or_end e)
 
--- the end tag closes the block, and all else is handed out
+-- the end tag closes the block, and everything else is returned
 abbrev pub end_or : Element → Bool → Option Element
 end_or e true = None
 end_or e false = Some e
 
--- the elements behind the first, which is passed whatever it is
+-- the elements after the first, which is passed whatever it is
 abbrev pub behind_first : List Element → List Element
 behind_first [] = []
 behind_first (e ∷ es) = es
 
--- the call hands out what is meant; want of memory says nothing of the meaning. The block is closed exactly at its end tag
+-- the call returns what is meant; an out-of-memory error says nothing about the meaning. The block is closed exactly at
+-- its end tag
 abbrev pub HandsOut : Result (Option BlockElement) Error → TagBlock → Result (Option Element) Refusal → Type 0
 HandsOut (Ok (Some x)) block meant = (e : Element) × (meant ≡ Ok (Some e)) × StandsFor x block.source.now block.rest.now e × (block.is_closed ≡ false)
 HandsOut (Ok None) block meant = (meant ≡ Ok None) × (block.is_closed ≡ true)
@@ -54,21 +55,21 @@ pub record Passes (old new : TagBlock) : Type 0 where
   pub passed : List ℕ
   pub joined : old.rest.now ≡ passed ++ new.rest.now
 
--- how much of the source is left
+-- the length of the source that is left
 abbrev pub bytes_left : TagBlock → ℕ
 bytes_left block = length block.rest.now
 
--- the text up to the end of an escaped body, and the elements behind it; or the text has no end
+-- the text up to the end of an escaped body, and the elements after it; or the text has no end
 abbrev pub Escapes : {T : Type 0} → (T → List ℕ) → Result T Error → TagBlock → Option (List ℕ × List Element) → Type 0
 Escapes of (Ok t) block meant = (left : List Element) × Cover block.rest.now left × (meant ≡ Some (of t, left)) × (block.is_closed ≡ true)
 Escapes of (Err error) block meant = (meant ≡ None) × IfSome (told error) (λ r. r ≡ unclosed_by block.source.now block.end_name.now) × (block.rest.now ≡ []) × (block.is_closed ≡ false)
 
--- the node that an element is parsed to, and the elements that are left behind it; want of memory says nothing
+-- the node that an element is parsed into, and the elements that are left after it; an out-of-memory error says nothing
 abbrev pub Parsed : {A N : Type 0} → (A → N) → Result A Error → TagBlock → Result (List N × List Element) Refusal → Type 0
 Parsed of (Ok n) block meant = (left : List Element) × Cover block.rest.now left × (meant ≡ Ok (of n ∷ [], left))
 Parsed of (Err error) block meant = IfSome (told error) (λ r. meant ≡ Err r)
 
--- elements of a block are read in a language, in so many blocks that are open around them, with it
+-- elements of a block are read in a language, inside this many blocks that are open around them, including it
 module _ {F T P B : Type 0} (l : Lang F T P B) (source end_name : List ℕ) (outside : ℕ) where
   abbrev pub element_or_end : Option Element → List Element → Result (Option (List (NodeShape F T B)) × List Element) Refusal
   element_or_end None es = Ok (None, es)
@@ -82,14 +83,14 @@ module _ {F T P B : Type 0} (l : Lang F T P B) (source end_name : List ℕ) (out
 abbrev pub in_front : {N : Type 0} → List N → Result (List N × List Element) Refusal → Result (List N × List Element) Refusal
 in_front nodes a = ok_then a (λ p. Ok (nodes ++ p.0, p.1))
 
--- all nodes up to the end tag, with the elements behind it; the first refusal is the answer
+-- all nodes up to the end tag, with the elements after it; the first refusal is the result
 pub data AllRead {F T P B : Type 0} (l : Lang F T P B) (source end_name : List ℕ) (outside : ℕ) : List Element → Result (List (NodeShape F T B) × List Element) Refusal → Type 0 where
   refused : {es : List Element} {r : Refusal} → next_read l source end_name outside es ≡ Err r → AllRead l source end_name outside es (Err r)
   ended : {es left : List Element} → next_read l source end_name outside es ≡ Ok (None, left) → AllRead l source end_name outside es (Ok ([], left))
   one_more : {es left : List Element} {nodes : List (NodeShape F T B)} {a : Result (List (NodeShape F T B) × List Element) Refusal}
       → next_read l source end_name outside es ≡ Ok (Some nodes, left) → AllRead l source end_name outside left a → AllRead l source end_name outside es (in_front nodes a)
 
--- the same of calls: the next node, and all nodes
+-- the same for calls: the next node, and all nodes
 abbrev pub ParsedNext : {A N : Type 0} → (A → N) → Result (Option A) Error → TagBlock → Result (Option (List N) × List Element) Refusal → Type 0
 ParsedNext of (Ok (Some n)) block meant = (left : List Element) × Cover block.rest.now left × (meant ≡ Ok (Some (of n ∷ []), left)) × (block.is_closed ≡ false)
 ParsedNext of (Ok None) block meant = (left : List Element) × Cover block.rest.now left × (meant ≡ Ok (None, left)) × (block.is_closed ≡ true)

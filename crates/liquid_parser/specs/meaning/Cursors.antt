@@ -1,4 +1,4 @@
--- What the cursor over a tag's tokens hands out, and what attempts to read a token answer.
+-- What the cursor over a tag's tokens returns, and the results of attempts to read a token.
 use Rattle.std.specs.Prelude.{◌≡◌, ℕ, List, [], ◌∷◌, ◌++◌, length, Option, Some, None, Result, Ok, Err, IfSome, bytes_eq, if◌then◌else◌, ⊤, option_and_then, option_map}
 use Rattle.std.specs.Result.{result_ok}
 use Rattle.liquid_error.specs.declared.error.Error.{Error}
@@ -29,22 +29,22 @@ pub record IsToken (t : TagToken) (handed : Token) : Type 0 where
   pub fine : token_fault matched ≡ None
   pub is : handed ≡ handed_token t.source.now matched
 
--- a token was handed out, and the cursor stands behind it
+-- a token was returned, and the cursor is after it
 pub record IsHandedOut (t : TagToken) (cursor : TagTokenIter) (given : Token × Tokens) : Type 0 where
   pub token_is : IsToken t given.0
   pub left : AreTokens cursor given.1
 
--- what was handed out is meant; where that is nothing, the same tokens are left
+-- what was returned is meant; if that is nothing, the same tokens are left
 abbrev pub HandsOut : Option TagToken → TagTokenIter → Tokens → Option (Token × Tokens) → Type 0
 HandsOut (Some t) cursor ts meant = (given : Token × Tokens) × (meant ≡ Some given) × IsHandedOut t cursor given
 HandsOut None cursor ts meant = (meant ≡ None) × AreTokens cursor ts
 
--- the same of a call that refuses where no token is left; want of memory says nothing of the meaning
+-- the same for a call that refuses if no token is left; an out-of-memory error says nothing about the meaning
 abbrev pub HandsOutOr : Result TagToken Error → TagTokenIter → Tokens → Result (Token × Tokens) Refusal → Type 0
 HandsOutOr (Ok t) cursor ts meant = (given : Token × Tokens) × (meant ≡ Ok given) × IsHandedOut t cursor given
 HandsOutOr (Err e) cursor ts meant = IfSome (told e) (λ r. meant ≡ Err r) × AreTokens cursor ts
 
--- how much text is left behind the last token that was handed out: each further token makes it less
+-- the length of the text after the last token that was returned: each further token makes it less
 abbrev pub bytes_left : TagTokenIter → ℕ
 bytes_left t = length t.rest.now
 
@@ -57,7 +57,7 @@ Tries of token (Fails t) meant = (meant ≡ None) × (t ≡ token)
 abbrev pub expect_str : List ℕ → Token → Option (Unit {0})
 expect_str expected t = if bytes_eq t.text expected then Some tt else None
 
--- the filter that is made of arguments; none where there is no such filter or it refuses them
+-- the filter that is made from arguments; none if there is no such filter or if it refuses them
 abbrev pub made_by : {F : Type 0} → Option (Arguments → Result F Refusal) → Arguments → Option F
 made_by None arguments = None
 made_by (Some make) arguments = result_ok (make arguments)
@@ -80,17 +80,18 @@ abbrev pub matched_of : {A : Type 0} → TryMatchToken A → Option A
 matched_of (Matches x) = Some x
 matched_of (Fails t) = None
 
--- the token that is refused, where one is
+-- the token that is refused, if one is
 abbrev pub FailedToken : {A : Type 0} → TryMatchToken A → Token → Type 0
 FailedToken (Matches x) handed = ⊤
 FailedToken (Fails t) handed = IsToken t handed
 
--- the next token, as what is expected of it, and the tokens behind it; where none is left the refusal has this message
+-- the next token, as what is expected of it, and the tokens after it; if none is left the refusal has this message
 abbrev pub next_as : {A : Type 0} → List ℕ → (Token → Option A) → Tokens → Result (A × Tokens) Refusal
 next_as message expect ts =
     ok_then (expect_next message ts) (λ given. ok_then (or_unexpected given.0 (expect given.0)) (λ x. Ok (x, given.1)))
 
--- what was read, and the cursor behind it, are those that are meant; want of memory says nothing of the meaning
+-- what was read, and the cursor after it, are those that are meant; an out-of-memory error says nothing about the
+-- meaning
 abbrev pub Takes : {A M : Type 0} → (A → M) → Result A Error → TagTokenIter → Result (M × Tokens) Refusal → Type 0
 Takes of (Ok x) cursor meant = (rest : Tokens) × (meant ≡ Ok (of x, rest)) × AreTokens cursor rest
 Takes of (Err e) cursor meant = IfSome (told e) (λ r. meant ≡ Err r)

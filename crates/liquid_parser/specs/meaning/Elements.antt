@@ -1,4 +1,4 @@
--- What the cursors over a source's elements stand for.
+-- What the cursors over a source's elements mean.
 use Rattle.std.specs.Prelude.{◌≡◌, ℕ, List, ◌∷◌, None, option_map}
 use Rattle.liquid_grammar.specs.meaning.Cover as cover
 use Rattle.liquid_grammar.specs.meaning.Cover.{raw, tag_element, expression, invalid}
@@ -11,7 +11,7 @@ use Rattle.liquid_parser.specs.declared.cursor.element.BlockElement.{BlockElemen
 use Rattle.liquid_parser.specs.declared.cursor.element.BlockElement.TheVariants.{Raw, Tag, Expression, Invalid}
 use Rattle.liquid_parser.specs.meaning.WholeTag.{IsTag}
 
--- an expression of the source, with its name where it is one; its literals and brackets have no fault
+-- an expression of the source, with its name if it is one; its literals and brackets have no fault
 pub record IsExpression (x : ExpCursor) (source : List ℕ) (chain : Chain) : Type 0 where
   pub source_is : x.source.now ≡ source
   pub match : ChainRule x.chain.now chain.behind chain
@@ -23,7 +23,7 @@ pub record IsInvalid (x : InvalidLiquidToken) (source behind : List ℕ) : Type 
   pub source_is : x.source.now ≡ source
   pub brace_is : x.brace.now ≡ 123 ∷ behind
 
--- the cursor stands for this element of the source, which has this text behind it
+-- the cursor means this element of the source, which is followed by this text
 abbrev pub StandsFor : BlockElement → (source behind : List ℕ) → cover.Element → Type 0
 StandsFor (Raw x) source behind (raw text) = x.text.now ≡ text
 StandsFor (Tag x) source behind (tag_element tag text) = IsTag x source tag × (x.text.now ≡ text)

@@ -1,4 +1,4 @@
--- What plug-ins are handed: tokens without the text around them, and arguments of filters.
+-- What plug-ins are given: tokens without the text around them, and arguments of filters.
 use Rattle.std.specs.Prelude.{ℕ, ◌-◌, List, [], ◌∷◌, map, length, take, Option, Some, None, option_and_then, Result, Ok, Err, ok_or, unwrap_or, codes, pos}
 use Rattle.liquid_error.specs.declared.place.Place.{Place}
 use Rattle.liquid_error.specs.meaning.Refusal.{Refusal, located}
@@ -15,7 +15,7 @@ use Rattle.liquid_value.specs.declared.state.State.TheVariants.{Empty, Blank}
 use Rattle.liquid_plugins.specs.meaning.Expression.{ExpressionShape, literal, variable, Indexes, no_indexes, index, as_literal, as_variable}
 use Rattle.liquid_plugins.specs.meaning.ArgumentsOf.{Arguments}
 
--- what a literal stands for; an integer that is too great and a decimal are refused before they are asked for
+-- the value that a literal means; an integer that is too great and a decimal are refused before this is used
 abbrev pub literal_tree : matched.Literal → Tree
 literal_tree matched.nil = nil
 literal_tree matched.empty = state Empty
@@ -65,25 +65,25 @@ pub data TokenShape : Type 0 where
   chain : ExpressionShape → List Call → TokenShape
   symbol : List ℕ → TokenShape
 
--- a token, its text, where it stands, and the place just behind it
+-- a token, its text, its place, and the place just after it
 pub record Token : Type 0 where
   pub shape : TokenShape
   pub text : List ℕ
   pub place : Place
   pub behind : Place
 
--- the tokens that are left, and the place just behind what came before them
+-- the tokens that are left, and the place just after what came before them
 pub record Tokens : Type 0 where
   pub behind : Place
   pub left : List Token
 
--- line and column of a place in the source, that is of what is left of it
+-- line and column of a place in the source, given as the rest of the source there
 abbrev pub place_in : List ℕ → List ℕ → Place
 place_in source place =
     let at : ℕ × ℕ = line_and_column (take (length source - length place) source) in
     record { line = at.0; column = at.1 }
 
--- what stands between a place and the place behind it
+-- the text between a place and a later place
 abbrev pub slice_between : List ℕ → List ℕ → List ℕ
 slice_between place behind = take (length place - length behind) place
 
@@ -96,7 +96,7 @@ handed_token source (token.range r) = token_between source r.place r.behind (ran
 handed_token source (token.chain c) = token_between source c.place c.behind (chain (expression_meant c.what.0) (map call_of c.what.1))
 handed_token source (token.symbol s) = token_between source s.place s.behind (symbol s.what)
 
--- the tokens of a tag, behind its name
+-- the tokens of a tag, after its name
 abbrev pub handed : List ℕ → token.Tag → Tokens
 handed source tag = record { behind = place_in source tag.1.place; left = map (handed_token source) tag.1.what }
 
@@ -104,11 +104,11 @@ handed source tag = record { behind = place_in source tag.1.place; left = map (h
 abbrev pub token_error : List ℕ → Token → Refusal
 token_error message t = located message t.place
 
--- what a token answers to a plug-in that expects something else
+-- the refusal of a token that a plug-in does not expect
 abbrev pub unexpected : Token → Refusal
 unexpected t = token_error (codes "Unexpected token") t
 
--- what matched, else this token is refused
+-- what matched; otherwise this token is refused
 abbrev pub or_unexpected : {A : Type 0} → Token → Option A → Result A Refusal
 or_unexpected t found = ok_or found (unexpected t)
 
@@ -116,11 +116,11 @@ abbrev pub first_of : List Token → Option (Token × Tokens)
 first_of [] = None
 first_of (t ∷ more) = Some (t, record { behind = t.behind; left = more })
 
--- the next token and those behind it
+-- the next token and those after it
 abbrev pub next : Tokens → Option (Token × Tokens)
 next ts = first_of ts.left
 
--- the same, else a refusal with this message just behind the last token
+-- the same; otherwise a refusal with this message just after the last token
 abbrev pub expect_next : List ℕ → Tokens → Result (Token × Tokens) Refusal
 expect_next message ts = ok_or (next ts) (located message ts.behind)
 
@@ -128,7 +128,7 @@ abbrev pub none_left : List Token → Result (Unit {0}) Refusal
 none_left [] = Ok tt
 none_left (t ∷ ts) = Err (unexpected t)
 
--- no token, else the next one is refused
+-- no token; otherwise the next one is refused
 abbrev pub expect_nothing : Tokens → Result (Unit {0}) Refusal
 expect_nothing ts = none_left ts.left
 

@@ -1,20 +1,21 @@
--- What a language gives to the reading: its filters, tags and blocks, each by its name, as functions over what they are handed.
+-- What a language gives to the reading: its filters, tags and blocks, each by its name, as functions of what they are
+-- given.
 use Rattle.std.specs.Prelude.{ℕ, Bool, List, Option, Result, codes}
 use Rattle.std.specs.List.{join_by}
 use Rattle.liquid_error.specs.meaning.Refusal.{Refusal}
 use Rattle.liquid_plugins.specs.meaning.ArgumentsOf.{Arguments}
 use Rattle.liquid_parser.specs.meaning.Handed.{Tokens}
 
--- plug-ins by their registered names, which stand in byte order
+-- plug-ins by their registered names, which are in byte order
 pub record Registry (A : Type 0) : Type 0 where
   pub get : List ℕ → Option A
   pub names : List (List ℕ)
 
--- a filter of shape F is made of its arguments
+-- a filter of shape F is made from its arguments
 abbrev pub Filters : Type 0 → Type 0
 Filters F = Registry (Arguments → Result F Refusal)
 
--- what a block is handed at its end: how many parts it has, or the text of its escaped body
+-- what a block is given at its end: the number of its parts, or the text of its escaped body
 pub data Body : Type 0 where
   parts : ℕ → Body
   escaped : List ℕ → Body

@@ -6,7 +6,7 @@ use Rattle.liquid_parser.specs.meaning.Lang.{Block, BlockNames}
 abbrev pub no_names : BlockNames
 no_names = record { start_name = codes "nothing"; end_name = codes "endnothing" }
 
--- it has no dividers, and its tokens and its body are not looked at
+-- it has no dividers, and ignores its tokens and its body
 abbrev pub no_block : {F : Type 0} → Block F (Unit {0}) (Unit {0})
 no_block = record {
   names = no_names;

@@ -16,7 +16,7 @@ use Rattle.liquid_parser.specs.declared.plugin.language.Language.{Language}
 use Rattle.liquid_parser.specs.meaning.Handed.{Tokens, handed}
 use Rattle.liquid_parser.specs.meaning.Lang.{Registry, Filters, Lang, Block, Body, parts, escaped}
 
--- the tokens of a tag of the source, which begin where the cursor stands; their literals and brackets have no fault
+-- the tokens of a tag of the source, which begin at the cursor; their literals and brackets have no fault
 pub record AreTokens (t : TagTokenIter) (ts : Tokens) : Type 0 where
   pub tag : token.Tag
   pub begins : tag.1.place ≡ t.rest.now
@@ -35,7 +35,7 @@ abbrev pub language_of : {U V W F T P B : Type 0}
 language_of makes gives block l =
     record { filters = registry_of makes l.filters; tags = registry_of gives l.tags; blocks = registry_of block l.blocks }
 
--- what a block is handed at its end
+-- what a block is given at its end
 abbrev pub body_of : BlockBody → Body
 body_of (Parts n) = parts n
 body_of (Escaped t) = escaped t.now

@@ -1,4 +1,4 @@
--- What a text is read as: the answer is a function of the finished list of its elements.
+-- What a text is read as: the result is a function of the finite list of its elements.
 use Rattle.std.specs.Prelude.{◌≡◌, ℕ, zero, suc, ◌+◌, Bool, true, false, ◌&&◌, if◌then◌else◌, nat_lt, bytes_eq, List, [], ◌∷◌, ◌++◌, map, length, Option, Some, None, option_map, unwrap_or, Result, Ok, Err, IfSome, codes}
 use Rattle.std.specs.Option.{option_or, option_map_or}
 use Rattle.std.specs.List.{list_any}
@@ -15,7 +15,7 @@ use Rattle.liquid_plugins.specs.meaning.Nodes.{NodeShape, text_node, chain_node,
 use Rattle.liquid_parser.specs.meaning.Handed.{Tokens, expression_meant, arguments_meant, handed, expect_nothing, place_in, slice_between}
 use Rattle.liquid_parser.specs.meaning.Lang.{Filters, Lang, Block, Body, parts, escaped, listed}
 
--- how many blocks may be open at once
+-- the greatest number of blocks that may be open at once
 abbrev pub block_limit : ℕ
 block_limit = 100
 
@@ -24,12 +24,12 @@ fault_message integer_out_of_range = codes "Integer out of range"
 fault_message decimal_not_supported = codes "Decimal not supported"
 fault_message nested_too_deep = codes "Nested too deep"
 
--- a plug-in's own refusal: its place is its own, else this one
+-- a plug-in's own refusal: its place is its own, otherwise this one
 abbrev pub placed_at : {A : Type 0} → Place → Result A Refusal → Result A Refusal
 placed_at place (Ok x) = Ok x
 placed_at place (Err r) = Err (or_placed place r)
 
--- the same of a filter, with its text
+-- the same for a filter, with its text
 abbrev pub refusal_of_filter : Place → List ℕ → Refusal → Refusal
 refusal_of_filter place source r = with_context (codes "filter") source (with_trace (codes "Filter parsing error") (or_placed place r))
 
@@ -41,7 +41,7 @@ abbrev pub is_empty : {A : Type 0} → List A → Bool
 is_empty [] = true
 is_empty (x ∷ xs) = false
 
--- where a tag's name stands
+-- the place of a tag's name
 abbrev pub name_place : token.Tag → List ℕ
 name_place t = t.0 ++ t.1.place
 
@@ -49,7 +49,7 @@ name_place t = t.0 ++ t.1.place
 abbrev pub refused_at : List ℕ → List ℕ → List ℕ → Refusal
 refused_at source message place = located message (place_in source place)
 
--- literals and brackets, from left to right
+-- the check of literals and brackets, from left to right
 abbrev pub checked : List ℕ → Option Fault → Result (Unit {0}) Refusal
 checked source None = Ok tt
 checked source (Some fault) = Err (refused_at source (fault_message fault.0) fault.1)
@@ -60,7 +60,7 @@ module _ {F : Type 0} (filters : Filters F) (source : List ℕ) where
       with_context (codes "available filters") (listed filters.names)
       (with_context (codes "requested filter") f.what.0 (refused_at source (codes "Unknown filter") f.place))
 
-  -- the filter that the language has by this name, made of its arguments
+  -- the filter that the language has by this name, made from its arguments
   abbrev pub filter_or : Option (Arguments → Result F Refusal) → token.Filter → Result F Refusal
   filter_or None f = Err (unknown_filter f)
   filter_or (Some make) f = filter_refused (place_in source f.place) (slice_between f.place f.behind) (make (arguments_meant f.what.1))
@@ -73,8 +73,8 @@ module _ {F : Type 0} (filters : Filters F) (source : List ℕ) where
   abbrev pub chain_read : token.Chain → Result (ChainShape F) Refusal
   chain_read c = ok_then (filters_read c.what.1) (λ xs. Ok (record { entry = expression_meant c.what.0; filters = xs }))
 
--- in an escaped body a tag of the end name without tokens is an end, one of the start name a start where these nest, and all else
--- is content
+-- in an escaped body a tag of the end name without tokens is an end, one of the start name is a start if these nest,
+-- and everything else is content
 abbrev pub is_end : List ℕ → Element → Bool
 is_end end_name (tag_element t _) = bytes_eq t.0 end_name && is_empty t.1.what
 is_end end_name _ = false
@@ -83,7 +83,8 @@ abbrev pub is_start : List ℕ → Bool → Element → Bool
 is_start start_name nests (tag_element t _) = nests && bytes_eq t.0 start_name
 is_start start_name nests _ = false
 
--- how many starts wait for their ends behind an element that is an end, or else a start; none at the end of the body
+-- how many starts are without their ends after an element that is an end, or otherwise a start; none at the end of the
+-- body
 abbrev pub level_by : Bool → Bool → ℕ → Option ℕ
 level_by true start zero = None
 level_by true start (suc level) = Some level
@@ -93,14 +94,14 @@ level_by false false level = Some level
 abbrev pub level_behind : (end_name start_name : List ℕ) → Bool → ℕ → Element → Option ℕ
 level_behind end_name start_name nests level e = level_by (is_end end_name e) (is_start start_name nests e) level
 
--- the text of a body up to its end, behind what was read of it, and the elements behind that end; none where the end is missing
+-- the text of a body up to its end, after what was read of it, and the elements after that end; none if there is no end
 abbrev pub escape : (end_name start_name : List ℕ) → Bool → ℕ → List ℕ → List Element → Option (List ℕ × List Element)
 escape end_name start_name nests level so_far [] = None
 escape end_name start_name nests level so_far (e ∷ es) =
     option_map_or (λ next. escape end_name start_name nests next (so_far ++ text_of e) es) (level_behind end_name start_name nests level e) (Some (so_far, es))
 
--- a block that is open: what it is, where the name of its start tag stands, its plan, the nodes before it in the list that it
--- stands in, and its parts up to its last divider
+-- a block that is open: its kind, the place of the name of its start tag, its plan, the nodes before it in the list
+-- that it is in, and its parts up to its last divider
 pub record Open (F T P B : Type 0) : Type 0 where
   pub kind : Block F P B
   pub place : Place
@@ -108,8 +109,8 @@ pub record Open (F T P B : Type 0) : Type 0 where
   pub before : List (NodeShape F T B)
   pub parts : List (List (NodeShape F T B))
 
--- how far a text is read: among the innermost block's nodes, of which these stand so far; or inside an escaped body, of which
--- this text is read, and in which so many start tags wait for their ends
+-- how far a text is read: among the innermost block's nodes, of which there are these so far; or inside an escaped
+-- body, of which this text is read, and in which this many start tags are without their ends
 pub data State (F T P B : Type 0) : Type 0 where
   among : List (Open F T P B) → List (NodeShape F T B) → State F T P B
   inside : Open F T P B → List (Open F T P B) → ℕ → List ℕ → State F T P B
@@ -126,15 +127,15 @@ block_with made of = block_node made (parts_from (map nodes_from of))
 abbrev pub unclosed_by : List ℕ → List ℕ → Refusal
 unclosed_by source end_name = refused_at source (codes "Unclosed block. {% " ++ (end_name ++ codes " %} tag expected.")) []
 
--- one more node behind others, once it is made
+-- one more node after others, once it is made
 abbrev pub node_added : {F T P B : Type 0} → List (Open F T P B) → List (NodeShape F T B) → Result (NodeShape F T B) Refusal → Result (State F T P B) Refusal
 node_added blocks nodes made = ok_then made (λ node. Ok (among blocks (nodes ++ node ∷ [])))
 
--- a block ends with these parts: the list that it stands in, with its node as the last
+-- a block ends with these parts: the list that it is in, with its node as the last
 abbrev pub finished : {F T P B : Type 0} → Open F T P B → Body → List (List (NodeShape F T B)) → Result (List (NodeShape F T B)) Refusal
 finished b body of = ok_then (placed_at b.place (b.kind.means.finish b.plan body)) (λ made. Ok (b.before ++ block_with made of ∷ []))
 
--- an element of an escaped body: at its end this is the text up to there
+-- an element of an escaped body: at its end the body is the text up to there
 abbrev pub escape_read : {F T P B : Type 0} → Open F T P B → List (Open F T P B) → List ℕ → List ℕ → Option ℕ → Result (State F T P B) Refusal
 escape_read b blocks so_far content None = ok_then (finished b (escaped so_far) []) (λ nodes. Ok (among blocks nodes))
 escape_read b blocks so_far content (Some level) = Ok (inside b blocks level (so_far ++ content))
@@ -144,7 +145,7 @@ abbrev pub entered : {F T P B : Type 0} → Bool → Open F T P B → List (Open
 entered false b blocks = among (b ∷ blocks) []
 entered true b blocks = inside b blocks 0 []
 
--- where the text ends no block may be open
+-- no block may be open where the text ends
 abbrev pub ended : {F T P B : Type 0} → List ℕ → State F T P B → Result (List (NodeShape F T B)) Refusal
 ended source (among [] nodes) = Ok nodes
 ended source (among (b ∷ blocks) nodes) = Err (unclosed_by source b.kind.names.end_name)
@@ -160,7 +161,7 @@ tag_given source t filters make = ok_then (placed_at (place_in source (name_plac
 
 -- a tag of the source is read
 module _ {F T P B : Type 0} (source : List ℕ) (t : token.Tag) where
-  -- it begins a block behind these nodes
+  -- it begins a block after these nodes
   abbrev pub begun : Filters F → Block F P B → List (NodeShape F T B) → Result (Open F T P B) Refusal
   begun filters kind nodes =
       ok_then (placed_at (place_in source (name_place t)) (kind.means.begin filters (handed source t)))
@@ -199,7 +200,7 @@ unknown_tag l source t =
     (with_context (codes "available tags") (listed l.tags.names)
     (with_context (codes "requested") t.0 (refused_at source (codes "Unknown tag.") (name_place t))))
 
--- elements are read in a language, in so many blocks that are open around them all
+-- elements are read in a language, inside this many blocks that are open around them all
 module _ {F T P B : Type 0} (l : Lang F T P B) (source : List ℕ) (outside : ℕ) where
   -- a block begins in the open ones, unless these are too many
   abbrev pub block_begun : token.Tag → Block F P B → List (Open F T P B) → List (NodeShape F T B) → Result (State F T P B) Refusal
@@ -215,16 +216,17 @@ module _ {F T P B : Type 0} (l : Lang F T P B) (source : List ℕ) (outside : �
   abbrev pub as_block : List (Open F T P B) → List (NodeShape F T B) → token.Tag → Option (Result (State F T P B) Refusal)
   as_block blocks nodes t = option_map (λ kind. block_begun t kind blocks nodes) (l.blocks.get t.0)
 
-  -- a tag of the language, else a block of it, else a refusal
+  -- a tag of the language, otherwise a block of it, otherwise a refusal
   abbrev pub outer_read : token.Tag → List (Open F T P B) → List (NodeShape F T B) → Result (State F T P B) Refusal
   outer_read t blocks nodes = unwrap_or (option_or (as_tag blocks nodes t) (as_block blocks nodes t)) (Err (unknown_tag l source t))
 
   -- a tag is the innermost block's end, a divider of it, a tag of the language or a block of it: the first of these
+  -- that it is
   abbrev pub tag_read : List (Open F T P B) → List (NodeShape F T B) → token.Tag → Result (State F T P B) Refusal
   tag_read blocks nodes t =
       unwrap_or (option_or (as_end source t blocks nodes) (as_divider source t blocks nodes)) (outer_read t blocks nodes)
 
-  -- an element is read, with so much of the text behind it
+  -- an element is read, with this text after it
   abbrev pub element_read : List (Open F T P B) → List (NodeShape F T B) → Element → List ℕ → Result (State F T P B) Refusal
   element_read blocks nodes (raw t) behind = Ok (among blocks (nodes ++ text_node t ∷ []))
   element_read blocks nodes (expression c t) behind =
@@ -237,7 +239,7 @@ module _ {F T P B : Type 0} (l : Lang F T P B) (source : List ℕ) (outside : �
   step (inside b blocks level so_far) e behind =
       escape_read b blocks so_far (text_of e) (level_behind b.kind.names.end_name b.kind.names.start_name b.kind.means.nests level e)
 
-  -- the elements are handed out from left to right, and the first refusal is the answer
+  -- the elements are read from left to right, and the first refusal is the result
   abbrev pub read : State F T P B → List Element → Result (List (NodeShape F T B)) Refusal
   read s [] = ended source s
   read s (e ∷ es) = ok_then (step s e (joined es)) (λ next. read next es)
@@ -246,17 +248,17 @@ module _ {F T P B : Type 0} (l : Lang F T P B) (source : List ℕ) (outside : �
 abbrev pub answer : {F T P B : Type 0} → Lang F T P B → List ℕ → List Element → Result (List (NodeShape F T B)) Refusal
 answer l source es = read l source 0 beginning es
 
--- the text is read as this answer: it is the answer of the elements that cover the text
+-- the text is read as this result: it is the result of the elements that cover the text
 pub record Reads {F T P B : Type 0} (l : Lang F T P B) (s : List ℕ) (a : Result (List (NodeShape F T B)) Refusal) : Type 0 where
   pub elements : List Element
   pub cover : Cover s elements
   pub is : a ≡ answer l s elements
 
--- what the call answers is what the text is read as; want of memory says nothing
+-- what the call returns is what the text is read as; an out-of-memory error says nothing
 abbrev pub Answers : {F T P B A : Type 0} → (A → List (NodeShape F T B)) → Lang F T P B → List ℕ → Result A Error → Type 0
 Answers of l s (Ok nodes) = Reads l s (Ok (of nodes))
 Answers of l s (Err error) = IfSome (told error) (λ refusal. Reads l s (Err refusal))
 
--- each text is read as exactly one answer
+-- each text is read as exactly one result
 abbrev pub OneReading : {F T P B : Type 0} → Lang F T P B → Type 0
 OneReading {F} {T} {P} {B} l = (s : List ℕ) → (a : Result (List (NodeShape F T B)) Refusal) × Reads l s a × ((b : Result (List (NodeShape F T B)) Refusal) → Reads l s b → b ≡ a)

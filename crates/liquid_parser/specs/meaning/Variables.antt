@@ -1,4 +1,4 @@
--- What a text is read as that should be one variable.
+-- What a text that should be one variable is read as.
 use Rattle.std.specs.Prelude.{ℕ, List, [], Result, Ok}
 use Rattle.liquid_error.specs.meaning.Refusal.{Refusal, ok_then}
 use Rattle.liquid_grammar.specs.meaning.Faults.{value_fault}

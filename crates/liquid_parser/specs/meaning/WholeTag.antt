@@ -1,4 +1,4 @@
--- What a tag alone is, and what the call that makes one answers.
+-- A tag alone, and the result of the call that makes one.
 use Rattle.std.specs.Prelude.{◌≡◌, ℕ, List, [], None, Result, Ok, Err, IfSome}
 use Rattle.liquid_error.specs.declared.error.Error.{Error}
 use Rattle.liquid_error.specs.meaning.Refusal.{Refusal}
@@ -24,12 +24,12 @@ pub record IsTag (tag : Tag) (source : List ℕ) (t : token.Tag) : Type 0 where
   pub tokens_are : AreTokens tag.tokens (handed source t)
   pub fine : tag_fault t ≡ None
 
--- the tag that the source is, unless one of its literals or brackets is at fault; want of memory says nothing
+-- the tag that the source is, unless one of its literals or brackets has a fault; an out-of-memory error says nothing
 abbrev pub GivesTag : Result Tag Error → List ℕ → token.Tag → Type 0
 GivesTag (Ok tag) source t = (checked source (tag_fault t) ≡ Ok tt) × IsTag tag source t × (tag.text.now ≡ source)
 GivesTag (Err e) source t = IfSome (told e) (λ r. checked source (tag_fault t) ≡ Err r)
 
--- nothing but this refusal; want of memory says nothing
+-- only this refusal; an out-of-memory error says nothing
 abbrev pub Refuses : {A : Type 0} → Result A Error → Refusal → Type 0
 Refuses (Ok x) refusal = ⊥
 Refuses (Err e) refusal = IfSome (told e) (λ r. r ≡ refusal)

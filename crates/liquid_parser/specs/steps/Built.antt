@@ -1,4 +1,4 @@
--- How the answers of builders stand to what was matched.
+-- How the results of builders relate to what was matched.
 use Rattle.std.specs.Prelude.{◌≡◌, ℕ, List, Option, Some, None, Result, Ok, Err, IfSome}
 use Rattle.std.specs.Borrow.{Bor}
 use Rattle.liquid_error.specs.declared.error.Error.{Error}
@@ -16,7 +16,7 @@ use Rattle.liquid_parser.specs.declared.chain.fine.Walked.TheVariants.{Whole, No
 use Rattle.liquid_parser.specs.meaning.Lang.{Filters}
 use Rattle.liquid_parser.specs.meaning.Reading.{expression_read}
 
--- nothing was built where there is a fault; else what was built is this, and it leaves this rest
+-- nothing was built if there is a fault; otherwise what was built is this, and it leaves this rest
 abbrev pub BuiltUnless : {A M : Type 0} → Option Fault → (A → M) → Option (A × Bor (List ℕ)) → M → List ℕ → Type 0
 BuiltUnless fault of None meant rest = ¬ (fault ≡ None)
 BuiltUnless fault of (Some found) meant rest = (fault ≡ None) × (of found.0 ≡ meant) × (found.1.now ≡ rest)
@@ -25,25 +25,25 @@ BuiltUnless fault of (Some found) meant rest = (fault ≡ None) × (of found.0 �
 abbrev pub Made : {A M : Type 0} → Option Fault → (A → M) → A × Bor (List ℕ) → Result M Refusal → List ℕ → Type 0
 Made fault of found read rest = (fault ≡ None) × (read ≡ Ok (of found.0)) × (found.1.now ≡ rest)
 
--- the same up to the end of an expression, which stands behind this rest
+-- the same up to the end of an expression, which comes after this rest
 abbrev pub MadeToEnd : {A M : Type 0} → Option Fault → (A → M) → A × Bor (List ℕ) → Result M Refusal → List ℕ → Type 0
 MadeToEnd fault of found read rest = (fault ≡ None) × (read ≡ Ok (of found.0)) × ClosesExpression rest found.1.now
 
--- what was read whole is so; where no expression stands, this holds; what is undecided says nothing
+-- what was read whole satisfies the first; if there is no expression, the second holds; what is undecided says nothing
 abbrev pub ComesTo : {A : Type 0} → Walked A → (A → Type 0) → Type 0 → Type 0
 ComesTo (Whole found) is lacks = is found
 ComesTo NoExpression is lacks = lacks
 ComesTo Undecided is lacks = Unit
 
--- no expression ends here, behind white space or none
+-- no expression ends here, after white space or none
 abbrev pub Endless : List ℕ → Type 0
 Endless s = ¬ (Begins (White ▷ Closer 125) s)
 
--- an opener stands here, and neither a tag nor an expression
+-- an opener is here, and neither a tag nor an expression
 abbrev pub StandsInvalid : List ℕ → Type 0
 StandsInvalid s = (behind text : List ℕ) × IsElement s behind (invalid text)
 
--- an expression stands here that has no fault, and is read as this node
+-- an expression without a fault is here, and is read as this node
 pub record MakesNode {F T B : Type 0} (filters : Filters F) (source s rest : List ℕ) (node : NodeShape F T B) : Type 0 where
   pub chain : Chain
   pub text : List ℕ
@@ -51,7 +51,7 @@ pub record MakesNode {F T B : Type 0} (filters : Filters F) (source s rest : Lis
   pub fine : chain_fault chain ≡ None
   pub read : expression_read filters source chain ≡ Ok node
 
--- the call answers what is meant, and leaves this rest; want of memory says nothing
+-- the call returns what is meant, and leaves this rest; an out-of-memory error says nothing
 abbrev pub GivesUpTo : {A M : Type 0} → (A → M) → Result (A × Bor (List ℕ)) Error → Result M Refusal → List ℕ → Type 0
 GivesUpTo of (Ok found) meant rest = (meant ≡ Ok (of found.0)) × (found.1.now ≡ rest)
 GivesUpTo of (Err e) meant rest = IfSome (told e) (λ r. meant ≡ Err r)

@@ -1,4 +1,4 @@
--- How the answer of the walk over an escaped body stands to its elements.
+-- How the result of the walk over an escaped body relates to its elements.
 use Rattle.std.specs.Prelude.{◌≡◌, ℕ, List, Option, Some, None, MatchOption}
 use Rattle.std.specs.Borrow.{Bor}
 use Rattle.liquid_grammar.specs.meaning.Cover.{Element, Cover}

@@ -26,19 +26,20 @@ module _ {X N K L W F T B P : Type 0} (filter : X → F) (tag : N → T) (block 
     parts = map (λ v. shapes_of filter tag block v.items) o.parts.items;
   }
 
-  -- the innermost block stands last in the program
+  -- the innermost block is the last one in the program
   abbrev pub blocks_view : List (OpenBlock W L (Node X N K)) → List (Open F T P B)
   blocks_view bs = reverse (map open_view bs)
 
   abbrev pub state_view : ParserState W L (Node X N K) → State F T P B
   state_view s = among (blocks_view s.open.items) (shapes_of filter tag block s.nodes.items)
 
-  -- what the step says beside the state that it leaves
+  -- what the step says in addition to the state that it leaves
   abbrev pub next_view : Next W L (Node X N K) → ParserState W L (Node X N K) → State F T P B
   next_view Among s = state_view s
   next_view (Escaped b) s = inside (open_view b) (blocks_view s.open.items) 0 []
 
--- the escaped body of a block that has just begun is read to its end: how far the text is read then, and the elements that are left
+-- the escaped body of a block that has just begun is read to its end: how far the text is read then, and the elements
+-- that are left
 abbrev pub escaped_body : {F T P B : Type 0} → List ℕ → Open F T P B → List (Open F T P B) → Option (List ℕ × List Element)
     → Result (State F T P B × List Element) Refusal
 escaped_body source b blocks None = Err (unclosed_by source b.kind.names.end_name)
@@ -55,12 +56,13 @@ abbrev pub advanced : {F T P B : Type 0} → Lang F T P B → (source : List ℕ
     → List Element → Result (State F T P B × List Element) Refusal
 advanced l source outside st own behind e es = ok_then (step l own outside st e behind) (λ next. past_escaped source next es)
 
--- the state that a call leads to, and the elements that are left of the text behind it; want of memory says nothing
+-- the state that a call leads to, and the elements that are left of the text after it; an out-of-memory error says
+-- nothing
 abbrev pub LeadsTo : {A S : Type 0} → (A → S) → Result (A × Bor (List ℕ)) Error → Result (S × List Element) Refusal → Type 0
 LeadsTo of (Ok p) meant = (left : List Element) × Cover p.1.now left × (meant ≡ Ok (of p.0, left))
 LeadsTo of (Err e) meant = IfSome (told e) (λ r. meant ≡ Err r)
 
--- the same of a call to which the state is lent, and which leaves it at this one
+-- the same for a call to which the state is lent, and which leaves it at this one
 abbrev pub LeavesAt : {S : Type 0} → S → Result (Bor (List ℕ)) Error → Result (S × List Element) Refusal → Type 0
 LeavesAt st (Ok rest) meant = (left : List Element) × Cover rest.now left × (meant ≡ Ok (st, left))
 LeavesAt st (Err e) meant = IfSome (told e) (λ r. meant ≡ Err r)

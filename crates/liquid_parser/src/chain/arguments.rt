@@ -1,4 +1,4 @@
-//! The arguments of a filter, built from the text behind its name.
+//! The arguments of a filter, built from the text after its name.
 ghost use Rattle.std.specs.Prelude.{◌≤◌, ℕ, List, IfOk, IfSome, length, true};
 ghost use Rattle.liquid_grammar.specs.meaning.Faults.{argument_fault, first_fault};
 ghost use Rattle.liquid_grammar.specs.meaning.Parts.{ArgumentsFrom};
@@ -12,9 +12,9 @@ use liquid_grammar::next_argument;
 use liquid_plugins::FilterArguments;
 use std::alloc::{AllocError, Global};
 
-/// The arguments that stand behind a filter's name, and what follows them.
+/// Builds the arguments after a filter's name. Returns them and what follows them.
 ///
-/// None where a literal or a bracket of them is at fault.
+/// Returns `None` if one of their literals or brackets has a fault.
 pub(crate) fn build_arguments<'a>(
     alloc: Global,
     s: &'a str,

@@ -20,9 +20,10 @@ use liquid_scalar::ScalarOf;
 use liquid_value::{State, Value};
 use std::alloc::{AllocError, Global};
 
-/// The expression of the value that the text begins with, inside as many open brackets, and what follows it.
+/// Builds the expression of the value that the text begins with, inside this many open brackets. Returns it and what
+/// follows it.
 ///
-/// None where a literal or a bracket of it is at fault, and where no value begins.
+/// Returns `None` if one of its literals or brackets has a fault, or if no value begins here.
 #[cycle(build)]
 pub(crate) fn build_value<'a>(
     alloc: Global,
@@ -40,7 +41,7 @@ pub(crate) fn build_value<'a>(
     }
 }
 
-/// The same of a value that begins so, with what stands behind its beginning.
+/// Does the same for a value with this beginning, where the text follows that beginning.
 #[cycle(build)]
 pub(crate) fn build_from<'a>(
     alloc: Global,
@@ -62,7 +63,7 @@ pub(crate) fn build_from<'a>(
     }
 }
 
-/// The variable of this name, with the indexes that the text begins with.
+/// Builds the variable of this name, with the indexes that the text begins with.
 #[cycle(build)]
 pub(crate) fn build_variable<'a>(
     alloc: Global,
@@ -91,7 +92,7 @@ pub(crate) fn build_variable<'a>(
     Ok(Some((Expression::of_parts(name, indexes), rest)))
 }
 
-/// The index that begins so, with what stands behind its beginning.
+/// Builds the index with this beginning, where the text follows that beginning.
 #[cycle(build)]
 fn build_index<'a>(
     alloc: Global,
@@ -124,7 +125,7 @@ fn build_index<'a>(
     }
 }
 
-/// What a literal stands for. None where it is at fault.
+/// Returns the value of a literal, or `None` if it has a fault.
 #[inline(always)]
 pub(crate) fn literal_value(
     alloc: Global,

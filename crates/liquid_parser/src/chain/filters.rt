@@ -21,9 +21,10 @@ use liquid_grammar::{FilterStart, next_filter};
 use liquid_plugins::{FilterChain, ParseFilter, PluginRegistry};
 use std::alloc::Global;
 
-/// The chain that the text begins with. Its literals and brackets have been checked.
+/// Returns the chain that the text begins with. Its literals and brackets have been checked.
 ///
-/// Refuses a filter that the registry doesn't have, and what a filter refuses: the first from the left.
+/// Fails for a filter that the registry doesn't have, and with the error of a filter. The first error from the left is
+/// returned.
 pub(crate) fn parse_chain<F: ParseFilter + Drop>(
     alloc: Global,
     source: &str,
@@ -42,7 +43,7 @@ pub(crate) fn parse_chain<F: ParseFilter + Drop>(
     }
 }
 
-/// The filters that stand here, each behind `|`.
+/// Returns the filters that begin here, each after `|`.
 fn parse_filters<F: ParseFilter + Drop>(
     alloc: Global,
     source: &str,
@@ -66,7 +67,7 @@ fn parse_filters<F: ParseFilter + Drop>(
     Ok(filters)
 }
 
-/// The filter that begins so, and what follows it.
+/// Returns the filter with this beginning, and what follows it.
 fn parse_filter<'a, F: ParseFilter + Drop>(
     alloc: Global,
     source: &str,
@@ -91,7 +92,7 @@ fn parse_filter<'a, F: ParseFilter + Drop>(
     }
 }
 
-/// The refusal of a filter that the registry doesn't have.
+/// Returns the error for a filter that the registry doesn't have.
 fn unknown_filter<F: ParseFilter + Drop>(
     alloc: Global,
     source: &str,
@@ -110,7 +111,7 @@ fn unknown_filter<F: ParseFilter + Drop>(
         .context(alloc, "available filters", filters.as_str())
 }
 
-/// A filter's own refusal, with the filter's text, which ends where this rest begins.
+/// Returns a filter's own error, with the filter's text, which ends where this rest begins.
 fn filter_refused(alloc: Global, source: &str, place: &str, rest: &str, error: Error) -> Error
     ensures { (text : List ℕ) → place.now ≡ text ++ rest.now
         → Becomes (refusal_of_filter (spec.place_in source.now place.now) text) error result }

@@ -1,6 +1,6 @@
-//! Expressions in which nothing is refused, read in one walk.
+//! Expressions without an error, read in one walk.
 //!
-//! Where something in an expression may be refused, the walk leaves it undecided: what is told then, another reading finds.
+//! If something in an expression may be an error, the walk leaves it undecided, and another reading finds the error.
 ghost use Rattle.std.specs.Prelude.{◌≡◌, ◌∷◌, ◌<◌, ◌≤◌, ℕ, List, IfOk, IfSome, codes, length, map};
 ghost use Rattle.liquid_error.specs.meaning.Told.{told};
 ghost use Rattle.liquid_grammar.specs.meaning.Faults.{filter_fault, chain_fault, first_fault};
@@ -28,19 +28,19 @@ use liquid_grammar::{
 use liquid_plugins::{BRIEF_LIMIT, Brief, FilterChain, Node, ParseFilter, PluginRegistry};
 use std::alloc::{AllocError, Global};
 
-/// What a walk over an expression comes to.
+/// The result of a walk over an expression.
 #[derive(Drop)]
 pub(crate) enum Walked<V> {
     /// It was read to its end, as this.
     Whole(V),
-    /// No expression stands here.
+    /// There is no expression here.
     NoExpression,
-    /// Something in it may be refused.
+    /// Something in it may be an error.
     Undecided,
 }
 
-/// The node of the expression that the text begins with, and what follows it. Undecided too where a dash has white space
-/// before it, and where no expression opens.
+/// Returns the node of the expression that the text begins with, and what follows it. The result is undecided, too, if
+/// a dash has white space before it, or if no expression opens here.
 #[inline(always)]
 pub(crate) fn fine_expression<
     'a,
@@ -62,7 +62,7 @@ pub(crate) fn fine_expression<
     }
 }
 
-/// The same, from the chain on. It stands apart, so that the walk over tags and raw text stays short.
+/// Does the same, from the chain on. It is a function of its own, so that the walk over tags and raw text stays short.
 #[inline(never)]
 fn fine_behind<'a, F: ParseFilter + Drop, T: ParseTag<F> + Drop, B: ParseBlock<F> + Drop>(
     alloc: Global,
@@ -91,7 +91,7 @@ fn fine_behind<'a, F: ParseFilter + Drop, T: ParseTag<F> + Drop, B: ParseBlock<F
     }
 }
 
-/// The refusal "Invalid liquid" at the first brace of an opener, behind which neither a tag nor an expression stands.
+/// Returns the error "Invalid liquid" at the first brace of an opener of neither a tag nor an expression.
 pub(crate) fn no_expression(alloc: Global, source: &str, brace: &str) -> Error
     ensures { (behind : List ℕ) → brace.now ≡ 123 ∷ behind
         → IfSome (told result) (λ r. r ≡ refused_at source.now (codes "Invalid liquid") (123 ∷ behind)) }
@@ -99,7 +99,7 @@ pub(crate) fn no_expression(alloc: Global, source: &str, brace: &str) -> Error
     refused_at(alloc, source, "Invalid liquid", brace)
 }
 
-/// The node of a name alone.
+/// Returns the node of a name alone.
 #[inline(always)]
 pub(crate) fn name_node<F: ParseFilter, T: ParseTag<F>, B: ParseBlock<F>>(
     alloc: Global,
@@ -115,7 +115,7 @@ pub(crate) fn name_node<F: ParseFilter, T: ParseTag<F>, B: ParseBlock<F>>(
     Ok(Node::Name(brief))
 }
 
-/// The chain whose value begins so, with what stands behind that beginning, and what follows the expression's end.
+/// Returns the chain whose value has this beginning, where the text follows it, and what follows the expression's end.
 fn fine_chain<'a, F: ParseFilter + Drop>(
     alloc: Global,
     head: Head<'_>,
@@ -140,7 +140,7 @@ fn fine_chain<'a, F: ParseFilter + Drop>(
     }
 }
 
-/// The filters that stand here, each behind `|`, and what follows the expression's end.
+/// Returns the filters that begin here, each after `|`, and what follows the expression's end.
 fn fine_filters<'a, F: ParseFilter + Drop>(
     alloc: Global,
     s: &'a str,
@@ -168,7 +168,7 @@ fn fine_filters<'a, F: ParseFilter + Drop>(
     }
 }
 
-/// The filter that begins so, and what follows it. None where it may be refused.
+/// Returns the filter with this beginning, and what follows it. Returns `None` if it may be an error.
 fn fine_filter<'a, F: ParseFilter + Drop>(
     alloc: Global,
     start: FilterStart<'a>,

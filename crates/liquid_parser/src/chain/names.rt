@@ -7,7 +7,7 @@ ghost use Rattle.liquid_parser.specs.meaning.Lang.{listed};
 use liquid_plugins::PluginRegistry;
 use std::alloc::{AllocError, Global};
 
-/// The names of a registry, joined by `, `.
+/// Returns the names of a registry, joined by `, `.
 pub(crate) fn listed<P: Drop>(
     alloc: Global,
     registry: &PluginRegistry<P>,
@@ -21,7 +21,7 @@ pub(crate) fn listed<P: Drop>(
     names.join(alloc, ", ")
 }
 
-/// Whether the name is one of these.
+/// Returns `true` if the name is one of these.
 pub(crate) fn is_among(names: &[&str], name: &str) -> bool
     ensures { result ≡ list_any (bytes_eq name.now) (map (λ n. n.now) names.now) }
 {

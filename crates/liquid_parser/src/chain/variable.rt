@@ -16,10 +16,10 @@ use liquid_grammar::{Fault, match_identifier, match_variable, one_match};
 use liquid_plugins::Variable;
 use std::alloc::Global;
 
-/// The variable that the whole text is.
+/// Parses a text that is one variable.
 ///
-/// Refuses a text that is none as a whole ("Invalid liquid", at its beginning), and then the first
-/// fault of its literals and brackets.
+/// If the whole text is not a variable, the error is "Invalid liquid", at its beginning. Otherwise the error is the
+/// first fault of its literals and brackets, if there is one.
 pub fn parse_variable(alloc: Global, text: &str) -> std::result::Result<Variable, Error>
     ensures variable { (v : MatchedValue) → VariableRule text.now [] v → Gives variable_of result (variable_read text.now v) }
     ensures none { ¬ (WholeVariable text.now) → Refuses result (refused_at text.now (codes "Invalid liquid") text.now) }
@@ -36,7 +36,7 @@ pub fn parse_variable(alloc: Global, text: &str) -> std::result::Result<Variable
     }
 }
 
-/// The variable that was matched as the whole text, with its first fault.
+/// Returns the variable that was matched as the whole text, or the error of its first fault.
 fn whole_variable(
     alloc: Global,
     text: &str,

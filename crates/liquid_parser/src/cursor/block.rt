@@ -34,8 +34,8 @@ pub struct TagBlock<'a, 'n> {
 }
 
 impl<'a, 'n> TagBlock<'a, 'n> {
-    /// The elements of a block's body, and of what follows it. The block is open, and its start tag and end tag have
-    /// these names. Places are those in the body's text.
+    /// Returns the cursor over the elements of a block's body and of what follows it. The block is open, and its start
+    /// tag and end tag have these names. Places are those in the body's text.
     pub fn new(body_text: &'a str, start_name: &'n str, end_name: &'n str) -> TagBlock<'a, 'n>
         ensures source { result.source.now ≡ body_text.now }
         ensures rest { result.rest.now ≡ body_text.now }
@@ -52,11 +52,12 @@ impl<'a, 'n> TagBlock<'a, 'n> {
         }
     }
 
-    /// The next element, one that is invalid too. None at the end tag, which closes the block, and behind it.
+    /// Returns the next element, even an invalid one. Returns `None` at the end tag, which closes the block, and after
+    /// it.
     ///
-    /// Refuses the first literal or bracket of the element that is at fault, a token of the end tag ("Unexpected
-    /// token"), and a text that ends before the end tag ("Unclosed block."). After a refusal the block is open, and
-    /// the element is passed.
+    /// Fails at the first literal or bracket of the element that has a fault, at a token of the end tag ("Unexpected
+    /// token"), and if the text ends before the end tag ("Unclosed block."). After an error the block is open, and the
+    /// element is passed.
     pub fn next(&mut self, alloc: Global) -> std::result::Result<Option<BlockElement<'a>>, Error>
         ensures open { self.old.is_closed ≡ false → (es : List cover.Element) → Cover self.old.rest.now es
             → HandsOut result self.new (handed_out self.old.source.now self.old.end_name.now es)
@@ -88,11 +89,11 @@ impl<'a, 'n> TagBlock<'a, 'n> {
         }
     }
 
-    /// The text from the first element that is not handed out yet up to the end tag, which closes the block. Nothing
-    /// in it is read: all but an end tag without tokens is content, and where nesting is allowed a start tag in it
-    /// must have an end tag of its own.
+    /// Returns the text from the current element up to the end tag, which closes the block. Nothing in it is read.
+    /// Everything but an end tag without tokens is content. If nesting is allowed, a start tag in it must have its own
+    /// end tag.
     ///
-    /// Refuses a text that ends before that ("Unclosed block."). Then the block is open at the text's end.
+    /// Fails if the text ends before the end tag ("Unclosed block."). Then the block is open at the text's end.
     pub fn escape_liquid(
         &mut self,
         alloc: Global,
@@ -116,21 +117,21 @@ impl<'a, 'n> TagBlock<'a, 'n> {
         }
     }
 
-    /// The block must be closed.
+    /// Takes a cursor whose block must be closed.
     pub fn assert_empty(self)
         requires { self.is_closed ≡ true }
     {}
 
-    /// Whether the end tag was passed.
+    /// Returns `true` if the end tag was passed.
     pub fn is_closed(&self) -> bool
         ensures { result ≡ self.now.is_closed }
     {
         self.is_closed
     }
 
-    /// The node of the next element. None at the end tag, which closes the block, and behind it.
+    /// Returns the node of the next element. Returns `None` at the end tag, which closes the block, and after it.
     ///
-    /// Refuses what `next` refuses, and what parsing the element refuses. Then the place of the cursor is open.
+    /// Fails if `next` does, or if parsing the element does. Then the place of the cursor is unspecified.
     pub fn parse_next<F: ParseFilter + Drop, T: ParseTag<F> + Drop, B: ParseBlock<F> + Drop>(
         &mut self,
         alloc: Global,
@@ -156,9 +157,9 @@ impl<'a, 'n> TagBlock<'a, 'n> {
         }
     }
 
-    /// The nodes of all elements up to the end tag, which closes the block. None of a block that is closed.
+    /// Returns the nodes of all elements up to the end tag, which closes the block. A closed block has none.
     ///
-    /// Refuses the first fault, as `parse_next` does.
+    /// Fails with the first error, as `parse_next` does.
     pub fn parse_all<F: ParseFilter + Drop, T: ParseTag<F> + Drop, B: ParseBlock<F> + Drop>(
         &mut self,
         alloc: Global,
@@ -190,7 +191,7 @@ impl<'a, 'n> TagBlock<'a, 'n> {
     }
 }
 
-/// Whether the element is a tag of this end name. A token of such a tag is refused.
+/// Returns `true` if the element is a tag of this end name. A token of such a tag is an error.
 fn is_end(
     alloc: Global,
     element: BlockElement<'_>,

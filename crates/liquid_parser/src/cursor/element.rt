@@ -1,4 +1,4 @@
-//! The elements of a source, each alone: their texts, and their nodes.
+//! The elements of a source, one by one: their texts, and their nodes.
 ghost use Rattle.std.specs.Prelude.{◌≡◌, ◌∷◌, ℕ, List, IfOk, IfSome, codes};
 ghost use Rattle.liquid_error.specs.meaning.Told.{told, Gives};
 ghost use Rattle.liquid_grammar.specs.meaning.Cover.{IsElement, text_of, Cover};
@@ -27,24 +27,24 @@ use liquid_grammar::{Element, match_white, parts_are_matches};
 use liquid_plugins::{BRIEF_LIMIT, Brief, Node, ParseFilter};
 use std::alloc::{AllocError, Global};
 
-/// Text that is written as it stands. It borrows the source.
+/// Text that is written unchanged. It borrows the source.
 #[derive(Clone, Copy)]
 pub struct Raw<'a> {
     pub(crate) text: &'a str,
 }
 
-/// An expression whose literals and brackets are fine. It borrows the source.
+/// An expression whose literals and brackets have no fault. It borrows the source.
 #[derive(Clone, Copy)]
 pub struct Exp<'a> {
     pub(crate) source: &'a str,
     pub(crate) text: &'a str,
     /// The text from the chain on.
     pub(crate) chain: &'a str,
-    /// The name that the chain is, where it has neither indexes nor filters.
+    /// The name of the chain, if it is a name without indexes and filters.
     pub(crate) name: Option<&'a str>,
 }
 
-/// Where an opener begins, but neither a tag nor an expression does: its white space and one `{`. It borrows the source.
+/// The white space and one `{` of an opener that begins neither a tag nor an expression. It borrows the source.
 #[derive(Clone, Copy)]
 pub struct InvalidLiquidToken<'a> {
     pub(crate) source: &'a str,
@@ -63,14 +63,14 @@ pub enum BlockElement<'a> {
 }
 
 impl<'a> Raw<'a> {
-    /// The text.
+    /// Returns the text.
     pub fn as_str(&self) -> &'a str
         ensures { result.now ≡ self.now.text.now }
     {
         self.text
     }
 
-    /// The node that writes the text.
+    /// Returns the node that writes the text.
     #[inline(always)]
     pub fn into_renderable<X, N, K>(self, alloc: Global) -> Result<Node<X, N, K>, AllocError>
         ensures { IfOk result (λ node. IsText node self.entry.text.now) }
@@ -85,16 +85,17 @@ impl<'a> Raw<'a> {
 }
 
 impl<'a> Exp<'a> {
-    /// The whole text of the expression.
+    /// Returns the whole text of the expression.
     pub fn as_str(&self) -> &'a str
         ensures { result.now ≡ self.now.text.now }
     {
         self.text
     }
 
-    /// The node of the expression's chain, with its filters made from left to right.
+    /// Returns the node of the expression's chain. Its filters are made from left to right.
     ///
-    /// Refuses a filter that the language doesn't have, and what a filter refuses: the first from the left.
+    /// Fails for a filter that the language doesn't have, and with the error of a filter. The first error from the left
+    /// is returned.
     #[inline(always)]
     pub fn parse<F: ParseFilter + Drop, T: ParseTag<F> + Drop, B: ParseBlock<F> + Drop>(
         self,
@@ -105,7 +106,7 @@ impl<'a> Exp<'a> {
             → Gives (node_of F.Filter.shape T.Node.shape B.Node.shape) result
             (expression_read (registry_of F.makes language.now.filters) source chain) }
     {
-        // Most expressions are names, whose text need not be walked again.
+        // Most expressions are names, whose text doesn't have to be walked again.
         if let Some(name) = self.name {
             return Ok(name_node::<F, T, B>(alloc, name)?);
         }
@@ -117,14 +118,14 @@ impl<'a> Exp<'a> {
 }
 
 impl<'a> InvalidLiquidToken<'a> {
-    /// The white space before the `{`, and the `{`.
+    /// Returns the white space before the `{`, and the `{`.
     pub fn as_str(&self) -> &'a str
         ensures { result.now ≡ self.now.text.now }
     {
         self.text
     }
 
-    /// The refusal "Invalid liquid", at the `{`. The block stays as it is.
+    /// Returns the error "Invalid liquid", at the `{`. The block stays as it is.
     pub fn parse<X, N, K>(
         self,
         alloc: Global,
@@ -138,7 +139,7 @@ impl<'a> InvalidLiquidToken<'a> {
         Err(self.refusal(alloc))
     }
 
-    /// The same refusal.
+    /// Returns the same error.
     pub(crate) fn refusal(self, alloc: Global) -> Error
         ensures { (source behind : List ℕ) → IsInvalid self.entry source behind
             → IfSome (told result) (λ r. r ≡ refused_at source (codes "Invalid liquid") (123 ∷ behind)) }
@@ -148,7 +149,7 @@ impl<'a> InvalidLiquidToken<'a> {
 }
 
 impl<'a> BlockElement<'a> {
-    /// The text that the element takes of the source.
+    /// Returns the text of the element in the source.
     pub fn as_str(&self) -> &'a str
         ensures { (source behind : List ℕ) (e : cover.Element) → StandsFor self.now source behind e → result.now ≡ text_of e }
     {
@@ -160,10 +161,10 @@ impl<'a> BlockElement<'a> {
         }
     }
 
-    /// The node of the element. That of a block takes its body and its end from the cursor's elements.
+    /// Returns the node of the element. A block takes its body and its end from the cursor's elements.
     ///
-    /// Refuses an invalid element ("Invalid liquid"), and what an expression or a tag refuses. Then the place of the
-    /// cursor is open.
+    /// Fails for an invalid element ("Invalid liquid"), and with the error of an expression or a tag. Then the place of
+    /// the cursor is unspecified.
     pub fn parse<F: ParseFilter + Drop, T: ParseTag<F> + Drop, B: ParseBlock<F> + Drop>(
         self,
         alloc: Global,
@@ -186,7 +187,7 @@ impl<'a> BlockElement<'a> {
     }
 }
 
-/// An element that stands here is handed out, and before that its literals and brackets are checked.
+/// Returns an element of the source, after checking its literals and brackets.
 #[inline(always)]
 pub(crate) fn handed_over<'a>(
     alloc: Global,

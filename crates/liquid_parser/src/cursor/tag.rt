@@ -1,4 +1,4 @@
-//! A tag alone: its name, its text and its tokens.
+//! A single tag: its name, its text and its tokens.
 ghost use Rattle.std.specs.Prelude.{◌≡◌, [], codes, IfSome, MatchOption, ℕ, List};
 ghost use Rattle.liquid_grammar.specs.meaning.Elements.{MeansTag};
 ghost use Rattle.liquid_grammar.specs.meaning.Tokens.{Tag as MatchedTag, TagRule};
@@ -26,7 +26,7 @@ use liquid_grammar::{Element, TagText, next_element};
 use liquid_plugins::{Node, ParseFilter};
 use std::alloc::Global;
 
-/// A tag whose literals and brackets are fine. It borrows the source.
+/// A tag whose literals and brackets have no fault. It borrows the source.
 #[derive(Clone, Copy)]
 pub struct Tag<'a> {
     pub(crate) name: &'a str,
@@ -37,10 +37,10 @@ pub struct Tag<'a> {
 }
 
 impl<'a> Tag<'a> {
-    /// The tag that the whole text is, as `{% name token token %}`.
+    /// Parses a text that is one tag, such as `{% name token token %}`.
     ///
-    /// Where the whole text is no tag the call refuses: `Invalid liquid`, at line 1 and column 1. Else it refuses the
-    /// first literal or bracket from the left that is at fault: `Integer out of range`, `Decimal not supported` or
+    /// If the whole text is not a tag, the error is `Invalid liquid`, at line 1 and column 1. Otherwise the first
+    /// literal or bracket from the left with a fault is an error: `Integer out of range`, `Decimal not supported` or
     /// `Nested too deep`.
     pub fn new(alloc: Global, text: &'a str) -> std::result::Result<Tag<'a>, Error>
         ensures tag { (t : MatchedTag) → TagRule text.now [] t → GivesTag result text.now t }
@@ -63,39 +63,39 @@ impl<'a> Tag<'a> {
         }
     }
 
-    /// The tag's name.
+    /// Returns the tag's name.
     pub fn name(&self) -> &'a str
         ensures { result.now ≡ self.now.name.now }
     {
         self.name
     }
 
-    /// The whole text of the tag.
+    /// Returns the whole text of the tag.
     pub fn as_str(&self) -> &'a str
         ensures { result.now ≡ self.now.text.now }
     {
         self.text
     }
 
-    /// A cursor over the tag's tokens, from the first one on. It is a copy: what it hands out stays in the tag.
+    /// Returns a cursor over the tag's tokens, from the first one on. It is a copy: the tag keeps its tokens.
     pub fn tokens(&self) -> TagTokenIter<'a>
         ensures { result ≡ self.now.tokens }
     {
         self.tokens
     }
 
-    /// The cursor over the tag's tokens.
+    /// Returns the cursor over the tag's tokens.
     pub fn into_tokens(self) -> TagTokenIter<'a>
         ensures { result ≡ self.entry.tokens }
     {
         self.tokens
     }
 
-    /// The node of a tag of the language, or of a block of it, which takes its body and its end from the cursor's
+    /// Returns the node of a tag or a block of the language. A block takes its body and its end from the cursor's
     /// elements.
     ///
-    /// Refuses a tag that the language doesn't have ("Unknown tag."), what its plug-in refuses, and the first fault of
-    /// a block's body. Then the place of the cursor is open.
+    /// Fails for a tag that the language doesn't have ("Unknown tag."), with the error of its plug-in, and with the
+    /// first error in a block's body. Then the place of the cursor is unspecified.
     pub fn parse<F: ParseFilter + Drop, T: ParseTag<F> + Drop, B: ParseBlock<F> + Drop>(
         self,
         alloc: Global,
@@ -129,7 +129,7 @@ impl<'a> Tag<'a> {
     }
 }
 
-/// The tag that the whole text is.
+/// Returns the tag that is the whole text.
 fn whole_tag<'a>(text: &'a str) -> Option<TagText<'a>>
     ensures only { (t : MatchedTag) → TagRule text.now [] t → MatchOption result ⊥ (λ found. MeansTag found t text.now) }
     ensures found { IfSome result (λ _. WholeTag text.now) }

@@ -26,38 +26,38 @@ pub struct TagToken<'a> {
     pub(crate) text: TokenText<'a>,
 }
 
-/// What an attempt to read a token as an `A` answers.
+/// The result of an attempt to read a token as an `A`.
 #[derive(Drop)]
 pub enum TryMatchToken<'a, A> {
     /// The token is one.
     Matches(A),
-    /// It is none, and here it is again.
+    /// The token is not one. It is returned.
     Fails(TagToken<'a>),
 }
 
 impl<'a> TagToken<'a> {
-    /// The text of the token.
+    /// Returns the text of the token.
     pub fn as_str(&self) -> &'a str
         ensures { (t : Token) → IsToken self.now t → result.now ≡ t.text }
     {
         self.text.text
     }
 
-    /// The refusal `Unexpected token`, at the token.
+    /// Returns the error `Unexpected token`, at the token.
     pub fn raise_error(self, alloc: Global) -> Error
         ensures { (t : Token) → IsToken self.entry t → IfSome (told result) (λ r. r ≡ unexpected t) }
     {
         self.raise_custom_error(alloc, "Unexpected token")
     }
 
-    /// A refusal with this message, at the token.
+    /// Returns an error with this message, at the token.
     pub fn raise_custom_error(self, alloc: Global, message: &str) -> Error
         ensures { (t : Token) → IsToken self.entry t → IfSome (told result) (λ r. r ≡ token_error message.now t) }
     {
         refused_at(alloc, self.source, message, self.text.place)
     }
 
-    /// The name of a variable without indexes and filters.
+    /// Reads the name of a variable without indexes and filters.
     pub fn expect_identifier(self) -> TryMatchToken<'a, &'a str>
         ensures { (t : Token) → IsToken self.entry t → Tries (λ name. name.now) self.entry result (expect_identifier t) }
     {
@@ -70,7 +70,7 @@ impl<'a> TagToken<'a> {
         }
     }
 
-    /// Whether the token has this text, whatever it is.
+    /// Checks that the token has this text, whatever it is.
     pub fn expect_str(self, expected: &str) -> TryMatchToken<'a, ()>
         ensures { (t : Token) → IsToken self.entry t → Tries (λ u. u) self.entry result (expect_str expected.now t) }
     {
@@ -81,7 +81,7 @@ impl<'a> TagToken<'a> {
         }
     }
 
-    /// The value of a literal without filters.
+    /// Reads the value of a literal without filters.
     pub fn expect_literal(self, alloc: Global) -> Result<TryMatchToken<'a, Value>, AllocError>
         ensures { (t : Token) → IsToken self.entry t → IfOk result (λ m. Tries tree_of self.entry m (expect_literal t)) }
     {
@@ -101,7 +101,7 @@ impl<'a> TagToken<'a> {
         }
     }
 
-    /// A variable without filters.
+    /// Reads a variable without filters.
     pub fn expect_variable(self, alloc: Global) -> Result<TryMatchToken<'a, Variable>, AllocError>
         ensures { (t : Token) → IsToken self.entry t → IfOk result (λ m. Tries variable_of self.entry m (expect_variable t)) }
     {
@@ -111,7 +111,7 @@ impl<'a> TagToken<'a> {
         }
     }
 
-    /// A variable or a literal without filters.
+    /// Reads a variable or a literal without filters.
     pub fn expect_value(self, alloc: Global) -> Result<TryMatchToken<'a, Expression>, AllocError>
         ensures { (t : Token) → IsToken self.entry t → IfOk result (λ m. Tries expression_of self.entry m (expect_value t)) }
     {
@@ -121,7 +121,7 @@ impl<'a> TagToken<'a> {
         }
     }
 
-    /// The two ends of a range.
+    /// Reads the two ends of a range.
     pub fn expect_range(
         self,
         alloc: Global,
@@ -141,7 +141,7 @@ impl<'a> TagToken<'a> {
         }
     }
 
-    /// The value that the token is, if it is one.
+    /// Returns the value of the token, if it is one.
     fn value(self, alloc: Global) -> Result<Option<Expression>, AllocError>
         ensures { (t : Token) → IsToken self.entry t
             → IfOk result (λ v. MatchOption v (expect_value t ≡ None) (λ e. expect_value t ≡ Some (expression_of e))) }
@@ -158,8 +158,8 @@ impl<'a> TagToken<'a> {
         }
     }
 
-    /// The literal or the name alone that the token is, whose text need not be walked again. None tells nothing of a
-    /// token.
+    /// Returns the literal or the name of a token that is nothing more, whose text doesn't have to be walked again.
+    /// `None` says nothing about the token.
     fn plain_value(self, alloc: Global) -> Result<Option<Expression>, AllocError>
         ensures { (t : Token) → IsToken self.entry t
             → IfOk result (λ found. IfSome found (λ value. t.shape ≡ chain (expression_of value) [])) }
@@ -180,7 +180,7 @@ impl<'a> TagToken<'a> {
         }
     }
 
-    /// What the token's value is, if the token is one.
+    /// Returns the kind of the token's value, if the token is one.
     fn value_kind(self) -> Option<TokenKind<'a>>
         ensures { (t : Token) → IsToken self.entry t
             → MatchOption result (expect_value t ≡ None) (λ kind. IsValue self.entry.text.place.now t (token_kind_of kind)) }
@@ -196,9 +196,9 @@ impl<'a> TagToken<'a> {
         }
     }
 
-    /// A chain, with its filters made from the left to the right.
+    /// Reads a chain. Its filters are made from left to right.
     ///
-    /// A chain with a filter that the registry doesn't have, or that refuses its arguments, doesn't match.
+    /// A chain with a filter that the registry doesn't have, or that rejects its arguments, doesn't match.
     pub fn expect_filter_chain<F: ParseFilter + Drop>(
         self,
         alloc: Global,
@@ -229,7 +229,7 @@ impl<'a> TagToken<'a> {
 }
 
 impl<'a, A> TryMatchToken<'a, A> {
-    /// What matched. A token that didn't match is refused: `Unexpected token`.
+    /// Returns what matched. A token that didn't match is the error `Unexpected token`.
     pub fn into_result(self, alloc: Global) -> std::result::Result<A, Error>
         ensures { (t : Token) → FailedToken self.entry t → Gives (λ x. x) result (or_unexpected t (matched_of self.entry)) }
     {
@@ -239,7 +239,7 @@ impl<'a, A> TryMatchToken<'a, A> {
         }
     }
 
-    /// What matched. A token that didn't match is refused with this message.
+    /// Returns what matched. A token that didn't match is an error with this message.
     pub fn into_result_custom_msg(
         self,
         alloc: Global,

@@ -22,7 +22,8 @@ pub struct TagTokenIter<'a> {
 }
 
 impl<'a> TagTokenIter<'a> {
-    /// The next token, and the cursor behind it. None where no token is left: then the cursor stays where it is.
+    /// Returns the next token, and moves the cursor past it. Returns `None` if no token is left. Then the cursor stays
+    /// where it is.
     pub fn next(&mut self) -> Option<TagToken<'a>>
         ensures value { (ts : Tokens) → AreTokens self.old ts → HandsOut result self.new ts (next_of ts) }
         ensures shorter { IfSome result (λ t. bytes_left self.new < bytes_left self.old) }
@@ -40,10 +41,10 @@ impl<'a> TagTokenIter<'a> {
         }
     }
 
-    /// The next token, and the cursor behind it.
+    /// Returns the next token, and moves the cursor past it.
     ///
-    /// Where no token is left the call refuses with this message, just behind the last token that was handed out, or
-    /// behind the tag's name. The cursor stays where it is then.
+    /// If no token is left, the error has this message, just after the last token that was returned, or after the tag's
+    /// name. Then the cursor stays where it is.
     pub fn expect_next(
         &mut self,
         alloc: Global,
@@ -58,14 +59,14 @@ impl<'a> TagTokenIter<'a> {
         }
     }
 
-    /// A refusal with this message, just behind the last token that was handed out, or behind the tag's name.
+    /// Returns an error with this message, just after the last token that was returned, or after the tag's name.
     pub fn raise_error(&self, alloc: Global, message: &str) -> Error
         ensures { (ts : Tokens) → AreTokens self.now ts → IfSome (told result) (λ r. r ≡ located message.now ts.behind) }
     {
         refused_at(alloc, self.source, message, self.rest)
     }
 
-    /// No token is left; else the next one is refused.
+    /// Checks that no token is left. Otherwise the next one is an error.
     pub fn expect_nothing(self, alloc: Global) -> std::result::Result<(), Error>
         ensures { (ts : Tokens) → AreTokens self.entry ts → Gives (λ u. u) result (expect_nothing ts) }
     {
@@ -77,12 +78,12 @@ impl<'a> TagTokenIter<'a> {
     }
 }
 
-/// Each call reads the next token as what its name says, and leaves the cursor behind it.
+/// Each call reads the next token as what its name says, and moves the cursor past it.
 ///
-/// Where no token is left the call refuses as `expect_next` does, with the message. A token that is something else is
-/// refused: `Unexpected token`. A refusal leaves the cursor where it is.
+/// If no token is left, the error is that of `expect_next`, with the message. A token that is something else is the
+/// error `Unexpected token`. On an error the cursor stays where it is.
 impl<'a> TagTokenIter<'a> {
-    /// The name of a variable without indexes and filters.
+    /// Reads the name of a variable without indexes and filters.
     pub fn next_identifier(
         &mut self,
         alloc: Global,
@@ -106,7 +107,7 @@ impl<'a> TagTokenIter<'a> {
         }
     }
 
-    /// This text, whatever it is.
+    /// Reads this text, whatever it is.
     pub fn next_str(
         &mut self,
         alloc: Global,
@@ -131,7 +132,7 @@ impl<'a> TagTokenIter<'a> {
         }
     }
 
-    /// A variable or a literal without filters.
+    /// Reads a variable or a literal without filters.
     pub fn next_value(
         &mut self,
         alloc: Global,
@@ -155,9 +156,9 @@ impl<'a> TagTokenIter<'a> {
         }
     }
 
-    /// A chain, with its filters made from the left to the right.
+    /// Reads a chain. Its filters are made from left to right.
     ///
-    /// A chain with a filter that the registry doesn't have, or that refuses its arguments, is refused too.
+    /// A chain with a filter that the registry doesn't have, or that rejects its arguments, is an error, too.
     pub fn next_filter_chain<F: ParseFilter + Drop>(
         &mut self,
         alloc: Global,

@@ -10,27 +10,27 @@ use liquid_error::Error;
 use liquid_plugins::{Meant, ParseFilter, PluginRegistry};
 use std::alloc::Global;
 
-/// What a block tells about itself.
+/// What a block says about itself.
 pub trait BlockReflection {
     // the names of its start tag and its end tag
     ghost block_names: { Self → BlockNames };
 
-    /// The name of its start tag, by which nested starts of an escaped body are known.
+    /// Returns the name of its start tag, by which nested starts in an escaped body are found.
     fn start_tag(&self) -> &str
         ensures { result.now ≡ (block_names self.now).start_name };
 
-    /// The name of its end tag.
+    /// Returns the name of its end tag.
     fn end_tag(&self) -> &str
         ensures { result.now ≡ (block_names self.now).end_name };
 
     fn description(&self) -> &str;
 
-    /// An example of its use, if one is given.
+    /// Returns an example of its use, if one is given.
     fn example(&self) -> Option<&str> {
         None
     }
 
-    /// What its tokens and its body must be, if that is told.
+    /// Returns a description of its tokens and its body, if one is given.
     fn spec(&self) -> Option<&str> {
         None
     }
@@ -41,25 +41,25 @@ pub trait ParseBlock<F: ParseFilter>: BlockReflection {
     /// What the block plans while its body is read.
     type Plan: Meant + Drop;
 
-    /// What the block is made to at its end.
+    /// What the block is made into at its end.
     type Node: Meant + Drop;
 
     // the block: its names, and what it means
     ghost block: { Self → Block F.Filter.Shape Self.Plan.Shape Self.Node.Shape };
 
-    /// The names of the tags that divide its body into parts.
+    /// Returns the names of the tags that divide its body into parts.
     fn dividers(&self) -> &[&str]
         ensures { map (λ name. name.now) result.now ≡ (block self.now).means.dividers };
 
-    /// Whether its body is taken as a text, and no element in it is read.
+    /// Returns `true` if its body is taken as a text, and no element in it is read.
     fn escapes(&self) -> bool
         ensures { result ≡ (block self.now).means.escapes };
 
-    /// Whether start tags in an escaped body must have ends of their own.
+    /// Returns `true` if start tags in an escaped body must have their own end tags.
     fn nests(&self) -> bool
         ensures { result ≡ (block self.now).means.nests };
 
-    /// The plan of a block whose start tag has these tokens.
+    /// Returns the plan of a block whose start tag has these tokens.
     fn begin(
         &self,
         alloc: Global,
@@ -69,7 +69,7 @@ pub trait ParseBlock<F: ParseFilter>: BlockReflection {
         ensures { (ts : Tokens) → AreTokens tokens.entry ts
             → Gives Self.Plan.shape result ((block self.now).means.begin (registry_of F.makes filters.now) ts) };
 
-    /// Changes the plan at a divider of this name with these tokens. After a refusal the plan is dropped.
+    /// Changes the plan at a divider of this name with these tokens. After an error the plan is dropped.
     fn divide(
         &self,
         alloc: Global,
@@ -80,7 +80,7 @@ pub trait ParseBlock<F: ParseFilter>: BlockReflection {
         ensures { (ts : Tokens) → AreTokens tokens.entry ts
             → Gives (λ _. Self.Plan.shape plan.new) result ((block self.now).means.divide (Self.Plan.shape plan.old) name.now ts) };
 
-    /// The node of a block at its end.
+    /// Returns the node of a block at its end.
     fn finish(
         &self,
         alloc: Global,
@@ -89,11 +89,11 @@ pub trait ParseBlock<F: ParseFilter>: BlockReflection {
     ) -> std::result::Result<Self::Node, Error>
         ensures { Gives Self.Node.shape result ((block self.now).means.finish (Self.Plan.shape plan) (body_of body.entry)) };
 
-    // the names are those that it tells
+    // the names are those that it returns
     ghost named: { (b : Self) → Self.block_names b ≡ (block b).names };
 }
 
-/// How many parts a block has, or the text of its escaped body.
+/// The number of parts of a block, or the text of its escaped body.
 #[derive(Clone, Copy)]
 pub enum BlockBody<'a> {
     Parts(usize),

@@ -6,7 +6,7 @@ ghost use Rattle.liquid_plugins.specs.meaning.Registry.{IsCopy};
 use liquid_plugins::PluginRegistry;
 use std::alloc::{AllocError, Global};
 
-/// What a template may use: filters, tags and blocks, each by its name.
+/// What a template may use: filters, tags and blocks, each with its name.
 #[derive(Drop)]
 pub struct Language<F, T, B> {
     pub filters: PluginRegistry<F>,
@@ -15,7 +15,7 @@ pub struct Language<F, T, B> {
 }
 
 impl<F: Drop, T: Drop, B: Drop> Language<F, T, B> {
-    /// The language without filters, tags and blocks. Takes no memory.
+    /// Returns the language without filters, tags and blocks. It takes no memory.
     pub fn empty(alloc: Global) -> Language<F, T, B>
         ensures filters { result.filters ≡ empty }
         ensures tags { result.tags ≡ empty }

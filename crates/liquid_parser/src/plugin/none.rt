@@ -20,8 +20,8 @@ use std::alloc::Global;
 
 /// The type of the filters, the tags or the blocks of a language that has none.
 ///
-/// It is a plug-in itself, which does nothing: a filter that takes any arguments and gives nil, and a
-/// tag and a block that take any tokens and write nothing.
+/// It is itself a plug-in that does nothing: a filter that takes any arguments and returns nil, and a tag and a block
+/// that take any tokens and write nothing.
 #[derive(Debug, Clone, Copy, PartialEq, Eq)]
 pub struct NoPlugin;
 

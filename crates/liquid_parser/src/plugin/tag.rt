@@ -11,19 +11,19 @@ use liquid_error::Error;
 use liquid_plugins::{Meant, ParseFilter, PluginRegistry};
 use std::alloc::Global;
 
-/// What a tag tells about itself.
+/// What a tag says about itself.
 pub trait TagReflection {
-    /// The name that the tag is known by.
+    /// Returns the name that the tag is known by.
     fn tag(&self) -> &str;
 
     fn description(&self) -> &str;
 
-    /// An example of its use, if one is given.
+    /// Returns an example of its use, if one is given.
     fn example(&self) -> Option<&str> {
         None
     }
 
-    /// What its tokens must be, if that is told.
+    /// Returns a description of its tokens, if one is given.
     fn spec(&self) -> Option<&str> {
         None
     }
@@ -31,13 +31,13 @@ pub trait TagReflection {
 
 /// A tag plug-in over the filters `F`.
 pub trait ParseTag<F: ParseFilter>: TagReflection {
-    /// What the tag's tokens are made to.
+    /// What the tag's tokens are made into.
     type Node: Meant + Drop;
 
     // the shape of the node that tokens make, or the refusal
     ghost gives: { Self → Filters F.Filter.Shape → Tokens → Result Self.Node.Shape Refusal };
 
-    /// The node of a tag with these tokens.
+    /// Returns the node of a tag with these tokens.
     fn parse(
         &self,
         alloc: Global,

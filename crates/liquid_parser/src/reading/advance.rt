@@ -1,4 +1,4 @@
-//! The reading of one element, in the state that what came before it has left.
+//! Reading one element, in the state that the elements before it have left.
 ghost use Rattle.std.specs.Prelude.{◌≡◌, ◌++◌, ℕ, List, IfOk};
 ghost use Rattle.liquid_error.specs.meaning.Told.{Gives};
 ghost use Rattle.liquid_grammar.specs.meaning.Cover.{Cover};
@@ -21,10 +21,10 @@ use liquid_error::Error;
 use liquid_plugins::{Node, ParseFilter};
 use std::alloc::Global;
 
-/// An element is read, and the escaped body that it begins: what follows. A refusal ends the reading, and the state says
-/// nothing then.
+/// Reads one element (and the escaped body that it begins), and returns the rest of the text. An error ends the
+/// reading, and then the state is unspecified.
 ///
-/// So many blocks are open around all that is read. What stands behind the element is text of the source.
+/// This many blocks are open around everything that is read. The rest after the element is text of the source.
 #[inline(always)]
 pub(crate) fn advance<
     'a,
@@ -57,7 +57,7 @@ pub(crate) fn advance<
     }
 }
 
-/// An element is read.
+/// Reads an element.
 #[inline(always)]
 fn element_read<'a, F: ParseFilter + Drop, T: ParseTag<F> + Drop, B: ParseBlock<F> + Drop>(
     alloc: Global,
@@ -82,7 +82,7 @@ fn element_read<'a, F: ParseFilter + Drop, T: ParseTag<F> + Drop, B: ParseBlock<
     }
 }
 
-/// An expression is read.
+/// Reads an expression.
 #[inline(always)]
 fn expression_read<'a, F: ParseFilter + Drop, T: ParseTag<F> + Drop, B: ParseBlock<F> + Drop>(
     alloc: Global,

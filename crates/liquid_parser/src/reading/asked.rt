@@ -1,4 +1,4 @@
-//! What a tag is asked for, in its order.
+//! Classifies a tag: end, divider, tag or block.
 ghost use Rattle.std.specs.Prelude.{ℕ, List, [], ◌≡◌, ◌∷◌, Ok, IfSome};
 ghost use Rattle.liquid_error.specs.meaning.Refusal.{ok_then};
 ghost use Rattle.liquid_error.specs.meaning.Told.{told, Gives};
@@ -22,12 +22,13 @@ use liquid_plugins::{Node, ParseFilter};
 use std::alloc::Global;
 use std::mem;
 
-/// How many blocks may be open at once.
+/// The greatest number of blocks that may be open at once.
 pub const BLOCK_LIMIT: usize = 100;
 
-/// A tag is the innermost block's end, a divider of it, a tag of the language or a block of it: the first of these.
+/// Reads a tag as the innermost block's end, a divider of it, a tag of the language or a block of it: the first of
+/// these that it is.
 ///
-/// So many blocks are open around all that is read.
+/// This many blocks are open around everything that is read.
 pub(crate) fn tag_read<'a, F: ParseFilter + Drop, T: ParseTag<F> + Drop, B: ParseBlock<F> + Drop>(
     alloc: Global,
     outside: usize,
@@ -47,7 +48,7 @@ pub(crate) fn tag_read<'a, F: ParseFilter + Drop, T: ParseTag<F> + Drop, B: Pars
     }
 }
 
-/// The same where a block of this kind is the innermost.
+/// Does the same, where a block of this kind is the innermost.
 fn inner<'a, F: ParseFilter + Drop, T: ParseTag<F> + Drop, B: ParseBlock<F> + Drop>(
     alloc: Global,
     outside: usize,
@@ -73,7 +74,7 @@ fn inner<'a, F: ParseFilter + Drop, T: ParseTag<F> + Drop, B: ParseBlock<F> + Dr
     }
 }
 
-/// The innermost block ends: the nodes so far are its last part, and it is a node of the list that it stands in.
+/// Ends the innermost block. The nodes so far are its last part, and it becomes a node of the list that it is in.
 fn block_ended<'a, F: ParseFilter + Drop, T: ParseTag<F> + Drop, B: ParseBlock<F> + Drop>(
     alloc: Global,
     state: &mut ParserState<'a, B, B::Plan, Node<F::Filter, T::Node, B::Node>>,
@@ -101,7 +102,7 @@ fn block_ended<'a, F: ParseFilter + Drop, T: ParseTag<F> + Drop, B: ParseBlock<F
     }
 }
 
-/// A part of the innermost block ends: the nodes so far. The block stays where it stands.
+/// Ends a part of the innermost block. The nodes so far are that part. The block stays where it is.
 fn part_ended<'a, F: ParseFilter + Drop, T: ParseTag<F> + Drop, B: ParseBlock<F> + Drop>(
     alloc: Global,
     state: &mut ParserState<'a, B, B::Plan, Node<F::Filter, T::Node, B::Node>>,
@@ -126,7 +127,7 @@ fn part_ended<'a, F: ParseFilter + Drop, T: ParseTag<F> + Drop, B: ParseBlock<F>
     }
 }
 
-/// A tag of the language, else a block of it, else a refusal.
+/// Reads a tag of the language, otherwise a block of it. Anything else is an error.
 fn outer<'a, F: ParseFilter + Drop, T: ParseTag<F> + Drop, B: ParseBlock<F> + Drop>(
     alloc: Global,
     outside: usize,
@@ -155,7 +156,7 @@ fn outer<'a, F: ParseFilter + Drop, T: ParseTag<F> + Drop, B: ParseBlock<F> + Dr
     }
 }
 
-/// A block begins behind the nodes so far, unless too many are open.
+/// Begins a block after the nodes so far, unless too many are open.
 fn begun<'a, F: ParseFilter + Drop, T: ParseTag<F> + Drop, B: ParseBlock<F> + Drop>(
     alloc: Global,
     outside: usize,
@@ -186,7 +187,7 @@ fn begun<'a, F: ParseFilter + Drop, T: ParseTag<F> + Drop, B: ParseBlock<F> + Dr
     }
 }
 
-/// The refusal of a tag that the language has neither as a tag nor as a block.
+/// Returns the error for a tag that the language has neither as a tag nor as a block.
 fn unknown_tag<F: ParseFilter + Drop, T: ParseTag<F> + Drop, B: ParseBlock<F> + Drop>(
     alloc: Global,
     tag: Tag<'_>,

@@ -1,4 +1,4 @@
-//! What follows a tag is read up to where no block is open.
+//! Reading what follows a tag, until no block is open.
 ghost use Rattle.std.specs.Prelude.{◌≡◌, ◌++◌, ℕ, List, IfOk};
 ghost use Rattle.liquid_grammar.specs.meaning.Cover.{Cover};
 ghost use Rattle.liquid_plugins.specs.meaning.NodesOf.{shapes_of};
@@ -20,10 +20,10 @@ use liquid_grammar::next_element;
 use liquid_plugins::{Node, ParseFilter};
 use std::alloc::Global;
 
-/// How many blocks are open around what a cursor's elements are parsed to: the cursor's own.
+/// The number of blocks that are open around what a cursor's elements are parsed into: the cursor's own.
 pub(crate) const AROUND: usize = 1;
 
-/// What follows a tag is read up to where no block is open.
+/// Reads what follows a tag, until no block is open.
 pub(crate) fn behind_tag<
     'a,
     't: 'a,
@@ -56,7 +56,7 @@ pub(crate) fn behind_tag<
     }
 }
 
-/// The text is read up to where no block is open: the nodes then, and what follows.
+/// Reads the text until no block is open. Returns the nodes then, and what follows.
 fn closed<'a, 't: 'a, F: ParseFilter + Drop, T: ParseTag<F> + Drop, B: ParseBlock<F> + Drop>(
     alloc: Global,
     source: &'t str,

@@ -19,8 +19,8 @@ use liquid_grammar::{Element, next_element, next_token, parts_are_matches};
 use liquid_plugins::{Node, ParseFilter};
 use std::alloc::{AllocError, Global};
 
-/// The escaped body of a block that has just begun is read to its end: what follows. The blocks around it are the state's,
-/// and its node is the last of the list that it stands in.
+/// Reads the escaped body of a block that has just begun to its end, and returns what follows. The blocks around it are
+/// the state's, and its node is the last of the list that it is in.
 pub(crate) fn escaped_read<'a, 't, F: ParseFilter, T: ParseTag<F>, B: ParseBlock<F>>(
     alloc: Global,
     source: &str,
@@ -47,7 +47,7 @@ pub(crate) fn escaped_read<'a, 't, F: ParseFilter, T: ParseTag<F>, B: ParseBlock
     }
 }
 
-/// The refusal of a text that ends inside a block with this end name.
+/// Returns the error for a text that ends inside a block with this end name.
 pub(crate) fn unclosed(alloc: Global, source: &str, end_name: &str) -> Error
     ensures { IfSome (told result) (λ r. r ≡ unclosed_by source.now end_name.now) }
 {
@@ -66,7 +66,7 @@ fn unclosed_message(alloc: Global, end_name: &str) -> Result<String, AllocError>
     Ok(message)
 }
 
-/// The text of an escaped body up to its end, and what follows the end. None where the end is missing.
+/// Returns the text of an escaped body up to its end, and what follows the end. Returns `None` if there is no end.
 pub(crate) fn escape<'a>(
     body: &'a str,
     end_name: &str,
@@ -94,7 +94,7 @@ pub(crate) fn escape<'a>(
     None
 }
 
-/// How many starts wait for their ends behind the element. None at the end of the body.
+/// Returns how many starts are still without their ends after the element. Returns `None` at the end of the body.
 fn level_behind(
     element: Element<'_>,
     end_name: &str,

@@ -1,4 +1,4 @@
-//! The reading of a whole text, element by element.
+//! Parsing a whole text, element by element.
 ghost use Rattle.std.specs.Prelude.{List, Result};
 ghost use Rattle.liquid_error.specs.meaning.Refusal.{Refusal};
 ghost use Rattle.liquid_error.specs.meaning.Told.{Gives};
@@ -22,12 +22,11 @@ use liquid_grammar::{match_white, next_element};
 use liquid_plugins::{Node, ParseFilter};
 use std::alloc::Global;
 
-/// The nodes of a template's text, in their order.
+/// Returns the nodes of a template's text, in order.
 ///
-/// Refuses the first fault of the reading, from left to right: what is neither text nor expression
-/// nor tag ("Invalid liquid"), a block without its end, an unknown tag or filter, a number that is
-/// no whole number of 64 bits, a token that nothing asked for, brackets or blocks more than a
-/// hundred deep, and what a plug-in refuses.
+/// Fails with the first error, from left to right: what is neither text nor expression nor tag ("Invalid liquid"), a
+/// block without its end, an unknown tag or filter, a number that is not a whole number of 64 bits, a token that
+/// nothing expects, brackets or blocks more than a hundred deep, and the error of a plug-in.
 pub fn parse<F: ParseFilter + Drop, T: ParseTag<F> + Drop, B: ParseBlock<F> + Drop>(
     alloc: Global,
     text: &str,
@@ -42,7 +41,7 @@ pub fn parse<F: ParseFilter + Drop, T: ParseTag<F> + Drop, B: ParseBlock<F> + Dr
     nodes_of(alloc, text, language)
 }
 
-/// Each text is read as exactly one answer.
+/// Each text is parsed with exactly one result.
 pub fn one_reading<F: ParseFilter + Drop, T: ParseTag<F> + Drop, B: ParseBlock<F> + Drop>(
     language: &Language<F, T, B>,
 )
@@ -86,7 +85,7 @@ fn nodes_of<'a, F: ParseFilter + Drop, T: ParseTag<F> + Drop, B: ParseBlock<F> +
     }
 }
 
-/// The nodes of a text that is read to its end.
+/// Returns the nodes of a text that is read to its end.
 pub(crate) fn ended<'a, F: ParseFilter + Drop, T: ParseTag<F> + Drop, B: ParseBlock<F> + Drop>(
     alloc: Global,
     source: &str,

@@ -9,7 +9,7 @@ use liquid_error::{Error, Place};
 use liquid_grammar::{Fault, FaultKind};
 use std::alloc::Global;
 
-/// Line and column, both from 1, of the place in the source that has this text behind it.
+/// Returns the line and column, both from 1, of the place in the source that is followed by this text.
 pub(crate) fn place_in(source: &str, behind: &str) -> Place
     ensures { result ≡ spec.place_in source.now behind.now }
 {
@@ -27,7 +27,7 @@ pub(crate) fn place_in(source: &str, behind: &str) -> Place
     Place { line, column }
 }
 
-/// What stands between a place and the place behind it.
+/// Returns the text between a place and a later place.
 pub(crate) fn slice_between<'a>(place: &'a str, behind: &str) -> &'a str
     ensures { (text : List ℕ) → place.now ≡ text ++ behind.now → result.now ≡ text }
 {
@@ -37,14 +37,14 @@ pub(crate) fn slice_between<'a>(place: &'a str, behind: &str) -> &'a str
     }
 }
 
-/// A refusal with this message about the place that has this text behind it.
+/// Returns an error with this message about the place that is followed by this text.
 pub(crate) fn refused_at(alloc: Global, source: &str, message: &str, behind: &str) -> Error
     ensures { IfSome (told result) (λ r. r ≡ refused_at source.now message.now behind.now) }
 {
     Error::at_place(alloc, message, place_in(source, behind))
 }
 
-/// Refuses the first fault of literals and brackets, if there is one.
+/// Fails with the first fault of literals and brackets, if there is one.
 pub(crate) fn check(
     alloc: Global,
     source: &str,

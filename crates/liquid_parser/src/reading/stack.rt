@@ -9,7 +9,7 @@ pub(crate) struct OpenBlock<'a, K, P, N> {
     /// The text from the name of its start tag on.
     pub(crate) from: &'a str,
     pub(crate) plan: P,
-    /// The nodes before it in the list that it stands in.
+    /// The nodes before it in the list that it is in.
     pub(crate) before: Vec<N>,
     /// Its parts up to its last divider.
     pub(crate) parts: Vec<Vec<N>>,
@@ -22,7 +22,7 @@ pub(crate) struct ParserState<'a, K, P, N> {
     pub(crate) nodes: Vec<N>,
 }
 
-/// What an element leads to: its nodes stand in the state, or the escaped body comes next of a block that has just begun.
+/// What an element leads to: its nodes are in the state, or the escaped body of a block that has just begun comes next.
 /// The blocks around that one are the state's.
 #[derive(Drop)]
 pub(crate) enum Next<'a, K, P, N> {

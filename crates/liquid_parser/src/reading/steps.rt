@@ -1,4 +1,4 @@
-//! What begins, divides and ends a block, and the node of a tag.
+//! Beginning, dividing and ending a block, and the node of a tag.
 ghost use Rattle.std.specs.Prelude.{ℕ, List, []};
 ghost use Rattle.liquid_error.specs.meaning.Told.{Gives};
 ghost use Rattle.liquid_parser.specs.meaning.Lang.{escaped};
@@ -18,7 +18,7 @@ use liquid_error::Error;
 use liquid_plugins::{Node, ParseFilter, PluginRegistry};
 use std::alloc::Global;
 
-/// The node of a tag.
+/// Returns the node of a tag.
 pub(crate) fn tag_node<F: ParseFilter, T: ParseTag<F>, B: ParseBlock<F>>(
     alloc: Global,
     plug_in: &T,
@@ -35,7 +35,7 @@ pub(crate) fn tag_node<F: ParseFilter, T: ParseTag<F>, B: ParseBlock<F>>(
     }
 }
 
-/// A block begins behind these nodes.
+/// Begins a block after these nodes.
 pub(crate) fn opened<'a, F: ParseFilter, T: ParseTag<F>, B: ParseBlock<F>>(
     alloc: Global,
     kind: &'a B,
@@ -61,7 +61,7 @@ pub(crate) fn opened<'a, F: ParseFilter, T: ParseTag<F>, B: ParseBlock<F>>(
     }
 }
 
-/// A part of a block ends at a divider.
+/// Ends a part of a block at a divider.
 pub(crate) fn divided<'a, F: ParseFilter, T: ParseTag<F>, B: ParseBlock<F>>(
     alloc: Global,
     block: &mut OpenBlock<'a, B, B::Plan, Node<F::Filter, T::Node, B::Node>>,
@@ -85,7 +85,7 @@ pub(crate) fn divided<'a, F: ParseFilter, T: ParseTag<F>, B: ParseBlock<F>>(
     }
 }
 
-/// A block ends: the nodes of the list that it stands in, with it as the last.
+/// Ends a block. Returns the nodes of the list that it is in, with its own as the last.
 pub(crate) fn closed<'a, F: ParseFilter, T: ParseTag<F>, B: ParseBlock<F>>(
     alloc: Global,
     block: OpenBlock<'a, B, B::Plan, Node<F::Filter, T::Node, B::Node>>,
@@ -119,7 +119,8 @@ pub(crate) fn closed<'a, F: ParseFilter, T: ParseTag<F>, B: ParseBlock<F>>(
     }
 }
 
-/// A block with an escaped body of this text ends: the nodes of the list that it stands in, with it as the last.
+/// Ends a block with an escaped body of this text. Returns the nodes of the list that it is in, with its own as the
+/// last.
 pub(crate) fn sliced<'a, F: ParseFilter, T: ParseTag<F>, B: ParseBlock<F>>(
     alloc: Global,
     block: OpenBlock<'a, B, B::Plan, Node<F::Filter, T::Node, B::Node>>,

@@ -1,4 +1,4 @@
--- What a store finds that was compiled of a source and a language.
+-- What a store finds that was compiled from a source and a language.
 use Rattle.std.specs.Prelude.{◌≡◌, ℕ, Bool, true, false, List, Option, None, Some, Result, Ok, Err}
 use Rattle.std.specs.FinMap.{get}
 use Rattle.liquid_error.specs.meaning.Refusal.{Refusal}
@@ -8,7 +8,7 @@ use Rattle.liquid_parser.specs.meaning.Reading.{Reads}
 use Rattle.liquid_template.specs.meaning.Partials.{Found}
 use Rattle.liquid_partials.specs.meaning.Sources.{Texts}
 
--- a reading with its nodes as a tree, or with its fault
+-- the result of parsing with its nodes as a tree, or with its fault
 abbrev pub as_tree : {F T B : Type 0} → Result (List (NodeShape F T B)) Refusal → Result (Nodes F T B) Refusal
 as_tree (Ok nodes) = Ok (nodes_from nodes)
 as_tree (Err refusal) = Err refusal
@@ -26,7 +26,7 @@ module _ {F T P B : Type 0} (l : Lang F T P B) where
   abbrev pub OneStore : Type 0
   OneStore = (texts : Texts) (finds others : Found F T B) → Compiled texts finds → Compiled texts others → others ≡ finds
 
--- how many texts a request reads: one where the name is there, else none
+-- the number of texts that a request parses: one if the source has the name, otherwise none
 abbrev pub once : Bool → ℕ
 once true = 1
 once false = 0

@@ -21,11 +21,11 @@ use Rattle.liquid_partials.specs.meaning.Sources.{Texts}
 use Rattle.liquid_partials.specs.meaning.Compiled.{as_tree}
 
 module _ {F T P B : Type 0} (l : Lang F T P B) where
-  -- the one answer that a text is read as
+  -- the one result that a text is read as
   unfoldable pub reading : List ℕ → Result (List (NodeShape F T B)) Refusal
   reading text = answer l text (cover_of text).elements
 
-  -- all texts of a source, each read
+  -- all texts of a source, each parsed
   abbrev pub readings : Texts → Found F T B
   readings texts = each (λ text. as_tree (reading text)) texts
 
@@ -34,7 +34,7 @@ abbrev pub shared_nodes : {X N K Z F T B : Type 0} → (X → F) → (N → T) �
 shared_nodes filter tag block template = template_nodes filter tag block template.value
 
 module _ {A F T B : Type 0} (of : A → Nodes F T B) where
-  -- what is kept of a text: its tree or its fault; want of memory is never kept
+  -- what is kept of a text: its tree or its fault; an out-of-memory error is never kept
   abbrev pub kept_as : Result A Error → Result (Nodes F T B) Refusal
   kept_as (Ok template) = Ok (of template)
   kept_as (Err error) = Err (unwrap_or (told error) (plain []))
@@ -42,7 +42,7 @@ module _ {A F T B : Type 0} (of : A → Nodes F T B) where
   abbrev pub all_kept : BTreeMap (String Global) (Result A Error) → Found F T B
   all_kept kept = each kept_as (by_name kept)
 
-  -- what a store finds that keeps its answers: what is kept, and of the other names what their texts are read as
+  -- what a store that keeps its results finds: what is kept, and for the other names the result of parsing their texts
   abbrev pub kept_or_read : {P : Type 0} → Lang F T P B → BTreeMap (String Global) (Result A Error) → Texts → Found F T B
   kept_or_read l kept texts = over (all_kept kept) (readings l texts)
 
@@ -55,6 +55,6 @@ module _ {X : Type 0} (kept : BTreeMap (String Global) X) (texts : Texts) where
   abbrev pub HasAll : Type 0
   HasAll = (name : List ℕ) → contains_key texts name ≡ true → contains_key (by_name kept) name ≡ true
 
--- what is read of a name: nothing where it is not there, its tree, or its fault
+-- what is read for a name: nothing if the source doesn't have it, its tree, or its fault
 abbrev pub tried : {A : Type 0} → NameMap (Result A Refusal) → List ℕ → Result (Option A) Refusal
 tried finds name = elim (get finds name) [ None ↦ Ok None | Some answer ↦ ok_then answer (λ tree. Ok (Some tree)) ]

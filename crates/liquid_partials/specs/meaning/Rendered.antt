@@ -1,4 +1,4 @@
--- What rendering a text comes to, by what the text is read as.
+-- The result of rendering a text, by what the text is read as.
 use Rattle.std.specs.Prelude.{◌≡◌, List, Result, Ok, Err, IfSome}
 use Rattle.liquid_error.specs.declared.error.Error.{Error}
 use Rattle.liquid_error.specs.meaning.Refusal.{Refusal}
@@ -11,17 +11,17 @@ use Rattle.liquid_template.specs.meaning.Rendering.{template_run}
 use Rattle.liquid_template.specs.meaning.Run.{Action}
 use Rattle.liquid_template.specs.meaning.Sunk.{Sunk}
 
--- the call is refused in this way; want of memory says nothing of the reason
+-- the call is refused in this way; an out-of-memory error says nothing about the reason
 abbrev pub Refuses : Refusal → Result (Unit {0}) Error → Type 0
 Refuses refusal (Ok _) = ⊥
 Refuses refusal (Err error) = IfSome (told error) (λ reason. reason ≡ refusal)
 
--- a text that is read as nodes comes to what they come to; one that is refused is refused alike, with nothing written and
--- nothing changed
+-- a text that is read as nodes is rendered as they are; one that is refused has the same refusal, with nothing written
+-- and nothing changed
 abbrev pub RenderedBy : {Reg F T B : Type 0} → (List (NodeShape F T B) → Action Reg) → Result (List (NodeShape F T B)) Refusal → View Reg → Sunk → Sunk → View Reg → Result (Unit {0}) Error → Type 0
 RenderedBy action (Ok nodes) v before after left result = Renders (action nodes v) v before after left result
 RenderedBy action (Err refusal) v before after left result = (after ≡ before) × ((left ≡ v) × Refuses refusal result)
 
--- nodes come to their template's run
+-- nodes are rendered as their template's run
 abbrev pub Rendered : {Reg F T P B Q : Type 0} → Setting Reg F T P B Q → Result (List (NodeShape F T B)) Refusal → View Reg → Sunk → Sunk → View Reg → Result (Unit {0}) Error → Type 0
 Rendered s = RenderedBy (λ nodes. template_run s (nodes_from nodes))

@@ -1,4 +1,4 @@
--- Where the value that a path leads to stands.
+-- Whether the value that a path leads to is borrowed in place.
 use Rattle.std.specs.Prelude.{◌≡◌, ℤ, ⊤}
 use Rattle.liquid_scalar.specs.meaning.Scalar.{integer}
 use Rattle.liquid_value.specs.declared.cow.ValueCow.{ValueCow}
@@ -10,7 +10,7 @@ use Rattle.liquid_value.specs.meaning.View.{view}
 abbrev pub IsNumber : Tree → Type 0
 IsNumber t = (n : ℤ) × (t ≡ scalar (integer n))
 
--- it is borrowed where it stands, and only a number is made: what `size` asks for
+-- the value is borrowed in place, or is a number made for `size`
 abbrev pub InPlace : ValueCow → Type 0
 InPlace (Borrowed value) = ⊤
 InPlace (Owned value) = IsNumber (view value)

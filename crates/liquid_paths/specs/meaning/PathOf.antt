@@ -1,4 +1,4 @@
--- The path that a list of scalars is.
+-- The path that a list of scalars means.
 use Rattle.std.specs.Prelude.{ℕ, List, ◌++◌, codes, map}
 use Rattle.std.specs.Cow.{cow_str_bytes}
 use Rattle.liquid_scalar.specs.meaning.Scalar.{Scal, scal, render_scalar}
@@ -25,6 +25,6 @@ path_of p = indexes_of p.indexes.items
 abbrev pub dotted : Scal → List ℕ
 dotted index = codes "." ++ render_scalar index
 
--- what a walk has still to give
+-- the indexes that an iterator has left
 abbrev pub path_iter_rest : PathIter → List (ScalarOf (CowStr Global))
 path_iter_rest s = iter_rest s.indexes

@@ -6,11 +6,11 @@ use Rattle.liquid_value.specs.meaning.Members.{get_member, item_count, member_co
 use Rattle.liquid_value.specs.meaning.Tree.{Tree, nil, state, scalar, array, object, Items}
 use Rattle.liquid_value.specs.meaning.Place.{item_at}
 
--- the word `size` asks for a number of parts
+-- the word `size` gives the number of parts
 abbrev pub size_asked : List ℕ → ℕ → Option Tree
 size_asked word count = if bytes_eq word (codes "size") then Some (scalar (integer (pos count))) else None
 
--- the words `first`, `last` and `size` ask for an array's first item, its last one, and how many there are
+-- the words `first`, `last` and `size` give an array's first item, its last one, and the number of items
 abbrev pub item_asked : List ℕ → Items → Option Tree
 item_asked word ts =
     if bytes_eq word (codes "first") then item_at (pos 0) ts
@@ -22,8 +22,8 @@ own_part (array ts) (integer n) = item_at n ts
 own_part (object ms) (text word) = get_member word ms
 own_part t index = None
 
--- an array has the item at the index's number, else what the index's text asks for; an object its own key, else its
--- size; a scalar the size of its text; nil and a state have nothing
+-- an array has the item at the index's number, otherwise what the index's text names; an object has its own key,
+-- otherwise its size; a scalar has the size of its text; nil and a state have nothing
 abbrev pub step : Tree → Scal → Option Tree
 step nil index = None
 step (state s) index = None

@@ -12,7 +12,8 @@ use Rattle.liquid_paths.specs.meaning.Step.{step}
 abbrev pub Path : Type 0
 Path = List Scal
 
--- the value at the end of a path: each step from where the one before it led, and the empty path leads nowhere else
+-- the value at the end of a path: each step starts where the one before it led; the empty path leads to the value
+-- itself
 abbrev pub walk : Tree → Path → Option Tree
 walk t [] = Some t
 walk t (index ∷ path) = option_and_then (λ next. walk next path) (step t index)
@@ -25,12 +26,12 @@ path_text path = join_by render_scalar (codes ".") path
 abbrev pub listed : List (List ℕ) → List ℕ
 listed texts = join_by (λ text. text) (codes ", ") texts
 
--- the indexes that an array of this many items has: from 0 to its last place, if it is not empty, and `first` and `last`
+-- the indexes that an array of this many items has: from 0 to its last one, if it is not empty, and `first` and `last`
 abbrev pub count_indexes : ℕ → List (List ℕ)
 count_indexes zero = codes "first" ∷ codes "last" ∷ []
 count_indexes (suc last) = (codes "0.." ++ decimal last) ∷ codes "first" ∷ codes "last" ∷ []
 
--- the indexes that a refusal names as available: an array's, an object's keys, and none for another value
+-- the indexes that a refusal lists as available: an array's, an object's keys, and none for another value
 abbrev pub indexes : Tree → List (List ℕ)
 indexes nil = []
 indexes (state s) = []
@@ -38,18 +39,18 @@ indexes (scalar x) = []
 indexes (array ts) = count_indexes (item_count ts)
 indexes (object ms) = names ms
 
--- a front that is not empty stands in the context `variable`
+-- a front that is not empty is shown in the context `variable`
 abbrev pub with_front : Path → Refusal → Refusal
 with_front [] refusal = refusal
 with_front (index ∷ front) refusal = with_context (codes "variable") (path_text (index ∷ front)) refusal
 
--- the refusal of an index that the value behind the front does not have
+-- the refusal of an index that the value after the front does not have
 abbrev pub unknown_index : Path → Tree → Scal → Refusal
 unknown_index front t index =
     with_context (codes "available indexes") (listed (indexes t))
     (with_context (codes "requested index") (render_scalar index) (with_front front (plain (codes "Unknown index"))))
 
--- the same walk behind a front: the value at its end, or the refusal of the first index that is not there
+-- the same walk after a front: the value at its end, or the refusal of the first index that has nothing at it
 abbrev pub find_behind : Path → Tree → Path → Result Tree Refusal
 find_behind front t [] = Ok t
 find_behind front t (index ∷ path) = ok_then (ok_or (step t index) (unknown_index front t index)) (λ next. find_behind (front ++ index ∷ []) next path)

@@ -1,4 +1,4 @@
--- What an expression comes to in a view.
+-- The value of an expression in a view.
 use Rattle.std.specs.Prelude.{◌≡◌, [], ◌∷◌, codes, Option, Some, Result, Ok, IfOk, ok_or, option_map, option_and_then}
 use Rattle.liquid_error.specs.meaning.Refusal.{Refusal, plain, with_context}
 use Rattle.liquid_scalar.specs.meaning.Scalar.{Scal}
@@ -11,11 +11,11 @@ use Rattle.liquid_runtime.specs.meaning.Lookup.{try_path, found}
 use Rattle.liquid_paths.specs.meaning.Walk.{Path}
 use Rattle.liquid_plugins.specs.meaning.Expression.{ExpressionShape, literal, variable, Indexes, no_indexes, index}
 
--- the refusal of an index that is no scalar
+-- the refusal of an index that is not a scalar
 abbrev pub expected_scalar : Tree → Refusal
 expected_scalar t = with_context (codes "found") (source t) (plain (codes "Expected scalar"))
 
--- a literal is its value; a variable is what its path gives, once its indexes are known, from left to right
+-- a literal is its value; a variable is what its path gives, after its indexes are evaluated from left to right
 abbrev mutual
   pub evaluate : {Reg : Type 0} → View Reg → ExpressionShape → Result Tree Refusal
   evaluate v (literal t) = Ok t
@@ -26,7 +26,7 @@ abbrev mutual
   path_of v (index e es) =
       ok_then (evaluate v e) (λ t. ok_then (ok_or (as_scalar t) (expected_scalar t)) (λ scalar. ok_then (path_of v es) (λ path. Ok (scalar ∷ path))))
 
--- the same where no reason is asked for
+-- the same without the reason of a failure
 abbrev mutual
   pub try_evaluate : {Reg : Type 0} → View Reg → ExpressionShape → Option Tree
   try_evaluate v (literal t) = Some t
@@ -44,6 +44,6 @@ named_path v name indexes = ok_then (path_of v indexes) (λ path. Ok (name ∷ p
 abbrev pub try_named_path : {Reg : Type 0} → View Reg → Scal → Indexes → Option Path
 try_named_path v name indexes = option_map (λ path. name ∷ path) (try_path_of v indexes)
 
--- a call that fails for want of memory alone has found what is meant, or nothing where nothing is
+-- a call that fails only when out of memory has found what is meant, or nothing if nothing is meant
 abbrev pub Finds : {A B E : Type 0} → (A → B) → Result (Option A) E → Option B → Type 0
 Finds of result meant = IfOk result (λ found. option_map of found ≡ meant)

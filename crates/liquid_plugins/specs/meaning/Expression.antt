@@ -14,7 +14,7 @@ mutual
     no_indexes : Indexes
     index : ExpressionShape → Indexes → Indexes
 
--- the text that is shown: a literal's source, a variable's name with each index in brackets
+-- the text that is shown: a literal's source, or a variable's name with each index in brackets
 abbrev mutual
   pub expression_text : ExpressionShape → List ℕ
   expression_text (literal t) = source t

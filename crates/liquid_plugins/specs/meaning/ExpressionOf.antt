@@ -15,7 +15,7 @@ abbrev pub indexes_of : List ExpressionShape → Indexes
 indexes_of [] = no_indexes
 indexes_of (e ∷ es) = index e (indexes_of es)
 
--- one level of an expression, with each expression inside already seen as its shape
+-- one level of an expression, with each expression inside already given as its shape
 abbrev pub expression_step : Expression-F ExpressionShape → ExpressionShape
 expression_step (Expression-F.Variable v) = variable (scal string_bytes v.variable) (indexes_of v.indexes.items)
 expression_step (Expression-F.Literal t) = literal (tree_of t)
@@ -46,7 +46,7 @@ literal_of x = literal (scalar x)
 abbrev pub variable_of : VariableOf Expression → ExpressionShape
 variable_of v = variable (name_of v) (own_indexes_of v)
 
--- the variable with more indexes behind its own
+-- the variable with more indexes after its own
 abbrev pub with_more : VariableOf Expression → List ExpressionShape → ExpressionShape
 with_more v more = variable (name_of v) (indexes_of (index_list v ++ more))
 

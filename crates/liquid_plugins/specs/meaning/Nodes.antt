@@ -1,8 +1,8 @@
--- What the nodes of a template are, as plain data: the reading gives them, and the run goes over them.
+-- The nodes of a template as plain data: the result of parsing, and what a run goes over.
 use Rattle.std.specs.Prelude.{ℕ, List, [], ◌∷◌}
 use Rattle.liquid_plugins.specs.meaning.Chain.{ChainShape}
 
--- over the shapes F of filters, T of tag nodes and B of block nodes: a text, a chain, a tag's node, or a block's node
+-- for the shapes F of filters, T of tag nodes and B of block nodes: a text, a chain, a tag's node, or a block's node
 -- with its parts, each of them a list of nodes
 mutual
   pub data NodeShape (F T B : Type 0) : Type 0 where

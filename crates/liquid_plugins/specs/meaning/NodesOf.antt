@@ -20,7 +20,7 @@ abbrev pub IsText : {X N K : Type 0} → Node X N K → List ℕ → Type 0
 IsText node bytes = ((t : String Global) × (node ≡ Text t) × (string_bytes t ≡ bytes)) ⊎ ((t : ArrayString) × (node ≡ Brief t) × (t.bytes ≡ bytes))
 
 module _ {X N K F T B : Type 0} (filter : X → F) (tag : N → T) (block : K → B) where
-  -- one level of a node, with each node inside already seen as its shape
+  -- one level of a node, with each node inside already given as its shape
   abbrev pub node_step : Node-F X N K (NodeShape F T B) → NodeShape F T B
   node_step (Node-F.Text s) = text_node (string_bytes s)
   node_step (Node-F.Brief s) = text_node s.bytes

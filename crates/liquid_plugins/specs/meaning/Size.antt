@@ -1,4 +1,4 @@
--- How many nodes of plug-ins a list of nodes has, at any depth.
+-- The number of plug-in nodes in a list of nodes, at any depth.
 use Rattle.std.specs.Prelude.{ℕ, ◌+◌}
 use Rattle.liquid_plugins.specs.meaning.Nodes.{NodeShape, text_node, chain_node, tag_node, block_node, Nodes, no_nodes, node, Parts, no_parts, part}
 

@@ -1,4 +1,4 @@
--- Codes of expressions and chains, so that markers can stand for them.
+-- Codes of expressions and chains, so that markers can be used for them.
 use Rattle.std.specs.Prelude.{◌≡◌, List, refl}
 use Rattle.std.specs.Coded.{Coded, code_by, coded×, coded_list}
 use Rattle.std.proofs.Common.{ap, ◌∙◌}

@@ -5,7 +5,7 @@ use Rattle.liquid_value.specs.meaning.Parts.{as_scalar}
 use Rattle.liquid_paths.specs.meaning.Step.{step}
 use Rattle.liquid_plugins.specs.meaning.Expression.{ExpressionShape, Indexes, no_indexes, index, as_literal}
 
--- the part of a value that an index asks for, if it is a literal and the part is there
+-- the part of a value at an index, if the index is a literal and the value has the part
 abbrev pub literal_part : Tree → ExpressionShape → Option Tree
 literal_part t e = option_and_then (λ i. option_and_then (λ x. step t x) (as_scalar i)) (as_literal e)
 

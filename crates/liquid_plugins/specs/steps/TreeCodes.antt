@@ -1,4 +1,5 @@
--- A code of trees, so that a marker can stand for them. (It speaks of values alone, and fits the crate of values as well.)
+-- A code of trees, so that a marker can be used for them. (It is about values only, and would fit the crate of values
+-- as well.)
 use Rattle.std.specs.Prelude.{◌≡◌, ℕ, ℤ, Bool, List, [], ◌⊎◌, refl}
 use Rattle.std.specs.Coded.{Coded, code_by, coded⊎, coded_ℕ, coded_ℤ, coded_bool, coded_list}
 use Rattle.std.proofs.Common.{ap, ◌∙◌, inl, inr}

@@ -11,10 +11,10 @@ globals_of builder = names_of builder.globals
 abbrev pub store_of : {V S : Type 0} → RuntimeBuilder V S → Option S
 store_of builder = builder.store
 
--- how many partial templates may be open inside one another
+-- the number of partial templates that may be nested
 abbrev pub depth_of : {V S : Type 0} → RuntimeBuilder V S → ℕ
 depth_of builder = builder.depth
 
--- whether a path without a value comes to nil
+-- whether a path without a value is nil
 abbrev pub lenient_of : {V S : Type 0} → RuntimeBuilder V S → Bool
 lenient_of builder = builder.lenient

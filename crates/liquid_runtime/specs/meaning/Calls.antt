@@ -1,4 +1,4 @@
--- Words for the calls of a runtime.
+-- Definitions for the calls of a runtime.
 use Rattle.std.specs.Prelude.{ℕ, List, Option, None, Some, option_map, string_bytes, unwrap_or}
 use Rattle.std.specs.Borrow.{MutBor, Fml, RattleType, Lends}
 use Rattle.std.specs.FinMap.{empty, get}
@@ -21,7 +21,7 @@ frame_of (frame.Sandboxed d n) = sandboxed_frame (names_of d) (option_map (λ s.
 frame_of (frame.Isolated d n) = isolated_frame (names_of d) (option_map (λ s. string_bytes s) n)
 frame_of frame.Global = global_frame
 
--- the interrupt that stands
+-- the interrupt that is set
 abbrev pub interrupt_of : InterruptRegister → Option Interrupt
 interrupt_of register = register.current
 
@@ -44,6 +44,6 @@ named name v = record v { name = Some name }
 abbrev pub value_in : Option Names → List ℕ → Option Tree
 value_in names name = get (unwrap_or names empty) name
 
--- s ends as F of the registers that were last behind r
+-- s becomes F of the last value of the registers that r lent
 abbrev pub LendsRegisters : (R V : RattleType) → MutBor R.Denot → MutBor (Registers V.Denot) → (Registers V.Denot → R.Denot) → Fml
 LendsRegisters R V s r F = Lends R (registers.the_row V) s r F

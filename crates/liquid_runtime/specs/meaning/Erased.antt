@@ -8,11 +8,11 @@ use Rattle.liquid_runtime.specs.meaning.View.{View}
 abbrev pub Erased : Type 0
 Erased = View (Unit {0})
 
--- names of which only their map's being there is left
+-- an empty map if there is a map
 abbrev pub without_names : Option Names → Option Names
 without_names names = option_map (λ _. empty) names
 
--- all of the view but its register, and what is assigned only where it is seen
+-- all of the view except its register, and except what is assigned if it is not seen
 abbrev pub erase : {Reg : Type 0} → View Reg → Erased
 erase v = record {
   locals = v.locals;

@@ -1,4 +1,4 @@
--- Frames: what each makes of the view below it, and what its ending restores.
+-- Frames: what each makes of the view below it, and what it restores when it ends.
 use Rattle.std.specs.Prelude.{ℕ, List, Bool, true, false, Option, None, Some}
 use Rattle.std.specs.Option.{option_or}
 use Rattle.std.specs.FinMap.{empty}
@@ -7,7 +7,8 @@ use Rattle.liquid_runtime.specs.declared.registers.Interrupt.{Interrupt}
 use Rattle.liquid_runtime.specs.meaning.View.{View, Floor, unsealed, sealed}
 use Rattle.liquid_runtime.specs.meaning.NamesSeen.{upper_names}
 
--- no frame, a stack frame, a sandboxed frame or an isolated frame of data, each with a name if one is set, or a global frame
+-- no frame, a stack frame, a sandboxed frame or an isolated frame of data, each with a name if one is set, or a global
+-- frame
 pub data FrameShape : Type 0 where
   no_frame : FrameShape
   stack_frame : Names → Option (List ℕ) → FrameShape
@@ -31,23 +32,23 @@ core_view register depth = record {
   lenient = false;
 }
 
--- the view in which a path without a value comes to nil, or in which it is refused
+-- the view in which a path without a value is nil, or in which it is refused
 abbrev pub leniently : {Reg : Type 0} → Bool → View Reg → View Reg
 leniently lenient v = record v { lenient = lenient }
 
--- an index frame: no index variable yet
+-- an index frame: no index variables yet
 abbrev pub begin_index : {Reg : Type 0} → View Reg → View Reg
 begin_index v = record v { index = Some empty }
 
--- a stack frame: its data stands before all names below
+-- a stack frame: its data hides the names below
 abbrev pub begin_stack : {Reg : Type 0} → Names → Option (List ℕ) → View Reg → View Reg
 begin_stack names name v = record v { locals = over names v.locals; name = option_or name v.name }
 
--- a global frame: nothing is assigned in it yet, and the names above the floor stand below it
+-- a global frame: nothing is assigned in it yet, and the names above the floor are below it
 abbrev pub begin_global : {Reg : Type 0} → View Reg → View Reg
 begin_global v = record v { locals = empty; globals = Some empty; base = upper_names v; shown = true }
 
--- a sandboxed frame: its data is all that is seen, and interrupt and register are fresh
+-- a sandboxed frame: only its data is seen, and interrupt and register are fresh
 abbrev pub begin_sandboxed : {Reg : Type 0} → Reg → Names → Option (List ℕ) → View Reg → View Reg
 begin_sandboxed fresh names name v = record v {
   locals = empty;
@@ -59,7 +60,7 @@ begin_sandboxed fresh names name v = record v {
   register = fresh;
 }
 
--- an isolated frame: a global frame within a sandboxed one, so what is assigned inside is seen there
+-- an isolated frame: a global frame inside a sandboxed one, so what is assigned in it is seen there
 abbrev pub begin_isolated : {Reg : Type 0} → Reg → Names → Option (List ℕ) → View Reg → View Reg
 begin_isolated fresh names name v = begin_global (begin_sandboxed fresh names name v)
 
@@ -75,7 +76,7 @@ beginning fresh global_frame v = begin_global v
 abbrev pub built_view : {Reg : Type 0} → Reg → ℕ → Names → View Reg
 built_view fresh depth globals = begin_global (begin_stack globals None (begin_index (core_view fresh depth)))
 
--- what the ending of a frame restores; the first is the place where scopes stand on their base, and ends nothing
+-- what a frame restores when it ends; the first one marks where scopes begin on their base, and ends nothing
 pub data Restore (Reg : Type 0) : Type 0 where
   scope_base : Restore Reg
   restore_nothing : Restore Reg
@@ -84,7 +85,7 @@ pub data Restore (Reg : Type 0) : Type 0 where
   restore_sandboxed : Names → Names → Bool → Floor → Option (List ℕ) → Option Interrupt → Reg → Restore Reg
   restore_isolated : Names → Option Names → Names → Bool → Floor → Option (List ℕ) → Option Interrupt → Reg → Restore Reg
 
--- what the frame's ending will restore of the view that it begins over
+-- what the frame will restore, when it ends, of the view that it begins over
 abbrev pub restored_by : {Reg : Type 0} → FrameShape → View Reg → Restore Reg
 restored_by no_frame v = restore_nothing
 restored_by (stack_frame names name) v = restore_stack v.locals v.name
@@ -92,7 +93,7 @@ restored_by (sandboxed_frame names name) v = restore_sandboxed v.locals v.base v
 restored_by (isolated_frame names name) v = restore_isolated v.locals v.globals v.base v.shown v.floor v.name v.interrupt v.register
 restored_by global_frame v = restore_global v.locals v.globals v.base v.shown
 
--- the view as the ending leaves it: what is not restored passes
+-- the view that is left when a frame ends: what is not restored stays as it is
 abbrev pub ending : {Reg : Type 0} → Restore Reg → View Reg → View Reg
 ending scope_base v = v
 ending restore_nothing v = v

@@ -1,4 +1,4 @@
--- Where the value that `get` answers stands.
+-- Whether the value that `get` returns is borrowed in place.
 use Rattle.std.specs.Prelude.{◌≡◌, ◌⊎◌, ⊤}
 use Rattle.liquid_paths.specs.meaning.InPlace.{IsNumber}
 use Rattle.liquid_value.specs.declared.cow.ValueCow.{ValueCow}
@@ -6,7 +6,7 @@ use Rattle.liquid_value.specs.declared.cow.ValueCow.TheVariants.{Owned, Borrowed
 use Rattle.liquid_value.specs.meaning.Tree.{nil}
 use Rattle.liquid_value.specs.meaning.View.{view}
 
--- it is borrowed where it stands, and only a number, or the nil of a path without a value, is made
+-- the value is borrowed in place; only a number, or the nil of a path without a value, is made
 abbrev pub InPlaceOrNil : ValueCow → Type 0
 InPlaceOrNil (Borrowed value) = ⊤
 InPlaceOrNil (Owned value) = IsNumber (view value) ⊎ (view value ≡ nil)

@@ -9,7 +9,7 @@ use Rattle.liquid_value.specs.meaning.Tree.{Tree}
 use Rattle.liquid_value.specs.meaning.View.{view}
 use Rattle.liquid_value.specs.declared.value.Value.{Value}
 
--- a finite map from names to what stands for them
+-- a finite map from names to what they mean
 abbrev pub NameMap : Type 0 → Type 0
 NameMap X = FinMap (slice_cmp nat_cmp) X
 
@@ -21,6 +21,6 @@ Names = NameMap Tree
 unfoldable pub names_of : BTreeMap (String Global) Value → Names
 names_of object = from_entries (map (λ entry. (string_bytes entry.0, view entry.1)) object.entries)
 
--- the left map's names before the right's
+-- the names of both maps; where both have a name, the value of the left one
 unfoldable pub over : {X : Type 0} → NameMap X → NameMap X → NameMap X
 over front back = from_entries (entries front ++ entries back)

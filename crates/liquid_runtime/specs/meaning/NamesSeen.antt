@@ -5,7 +5,7 @@ use Rattle.liquid_value.specs.meaning.Tree.{Tree}
 use Rattle.liquid_runtime.specs.meaning.Maps.{Names, over}
 use Rattle.liquid_runtime.specs.meaning.View.{View, Floor, unsealed, sealed}
 
--- what is assigned, where it is seen
+-- what is assigned, if it is seen
 abbrev pub shown_globals : {Reg : Type 0} → View Reg → Names
 shown_globals v = cond v.shown (unwrap_or v.globals empty) empty
 

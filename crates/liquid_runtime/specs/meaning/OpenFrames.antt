@@ -1,4 +1,4 @@
--- The frames that are open above a base, by what their endings restore, innermost first.
+-- The frames that are open above a base, by what they restore when they end, innermost first.
 use Rattle.std.specs.Prelude.{◌≡◌, List, [], ◌∷◌}
 use Rattle.liquid_runtime.specs.meaning.View.{View}
 use Rattle.liquid_runtime.specs.meaning.Frames.{Restore, scope_base, ending}

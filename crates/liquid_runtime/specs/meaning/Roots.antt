@@ -6,7 +6,7 @@ use Rattle.std.specs.FinMap.{get}
 use Rattle.std.specs.declared.alloc.Global.{Global}
 use Rattle.liquid_runtime.specs.meaning.Maps.{Names}
 
--- the set has just the names that the map has
+-- the set has exactly the names that the map has
 abbrev pub NamesOf : Names → BTreeSet (String Global) → Type 0
 NamesOf m set = (q : List ℕ) → contains_text set q ≡ is_some (get m q)
 

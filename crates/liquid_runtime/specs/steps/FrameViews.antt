@@ -1,4 +1,4 @@
--- The views that frames show, from what they hold.
+-- The views that frames show, given what they hold.
 use Rattle.std.specs.Prelude.{ℕ, List, Bool, Option, Some}
 use Rattle.liquid_runtime.specs.meaning.Maps.{Names}
 use Rattle.liquid_runtime.specs.meaning.View.{View}

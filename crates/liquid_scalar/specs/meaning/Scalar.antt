@@ -1,4 +1,4 @@
--- What a scalar means, its texts, the name of its kind, and what it converts to.
+-- What a scalar means, its texts, the name of its kind, and the numbers and truth values that it converts to.
 use Rattle.std.specs.Prelude.{ℕ, ℤ, ◌-◌, ◌^◌, List, ◌++◌, Bool, ◌&&◌, Option, None, Some, nat_lt, nat_le, length, codes, if◌then◌else◌}
 use Rattle.std.specs.Fmt.{signed_decimal}
 use Rattle.std.specs.Str.{all_ascii_digits}
@@ -17,7 +17,7 @@ pub data Scal : Type 0 where
   date : CivilDate → Scal
   date_time : DateTime → Scal
 
--- what a scalar means, from what its texts mean
+-- what a scalar means, given what its texts mean
 abbrev pub scal : {T : Type 0} → (T → List ℕ) → ScalarOf T → Scal
 scal f (scalar_of.Integer n) = integer n
 scal f (scalar_of.Bool b) = boolean b
@@ -37,7 +37,8 @@ render_scalar (text bytes) = bytes
 render_scalar (date d) = date_text d
 render_scalar (date_time dt) = date_time_text dt
 
--- the source of a text is the text between double quotes, unescaped; that of another scalar is what it renders as
+-- the source of a text is the text between double quotes, unescaped; the source of any other scalar is what it renders
+-- as
 abbrev pub source_scalar : Scal → List ℕ
 source_scalar (integer n) = signed_decimal n
 source_scalar (boolean b) = boolean_text b
@@ -53,7 +54,7 @@ scalar_type_name (text bytes) = codes "string"
 scalar_type_name (date d) = codes "date"
 scalar_type_name (date_time dt) = codes "date time"
 
--- the number that the digits of a numeral may be at most, so that with its sign it is from -2^63 to 2^63 - 1
+-- the greatest number that the digits of a numeral may write, so that with its sign it is from -2^63 to 2^63 - 1
 abbrev pub greatest_magnitude : List ℕ → ℕ
 greatest_magnitude bytes = if starts_with_minus bytes then 2 ^ 63 else 2 ^ 63 - 1
 
@@ -65,7 +66,7 @@ is_whole_number bytes = nat_lt 0 (length (without_leading_sign bytes)) && (all_a
 abbrev pub whole_number_of_text : List ℕ → Option ℤ
 whole_number_of_text bytes = if is_whole_number bytes then Some (signed_digits_value 10 bytes) else None
 
--- a number is itself, a text the whole number that it writes, and the other kinds are no number
+-- a number is itself, a text is the whole number that it writes, and the other kinds have no number
 abbrev pub to_integer : Scal → Option ℤ
 to_integer (integer n) = Some n
 to_integer (boolean b) = None
@@ -73,7 +74,7 @@ to_integer (text bytes) = whole_number_of_text bytes
 to_integer (date d) = None
 to_integer (date_time dt) = None
 
--- only a truth value is one
+-- only a truth value has one
 abbrev pub to_bool : Scal → Option Bool
 to_bool (integer n) = None
 to_bool (boolean b) = Some b

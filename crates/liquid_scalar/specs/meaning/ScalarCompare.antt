@@ -15,8 +15,9 @@ use Rattle.liquid_scalar.specs.meaning.Scalar.{Scal, integer, boolean, text, dat
 abbrev pub instant_on : CivilDate → DateTime → ℤ
 instant_on d dt = ((epoch_day d *ℤ pos 86_400 +ℤ pos (second_of_day dt)) -ℤ offset_seconds dt) *ℤ pos 1_000_000_000 +ℤ pos (nanosecond dt)
 
--- loose equality: one kind by value, dates by their day and date times by their instant; a date with a date time if
--- that date is the date time's own; a truth value with another kind gives the truth value itself; else unequal
+-- loose equality: scalars of one kind by value, dates by their day and date times by their instant; a date equals a
+-- date time if it is the date time's own date; a truth value and a scalar of another kind are equal if the truth value
+-- is true; all others are unequal
 abbrev pub scalar_eq : Scal → Scal → Bool
 scalar_eq (integer a) (integer b) = int_eq a b
 scalar_eq (boolean a) (boolean b) = beq a b
@@ -29,9 +30,9 @@ scalar_eq (boolean a) other = a
 scalar_eq other (boolean b) = b
 scalar_eq a b = false
 
--- loose order: one kind by its order, false below true, texts by bytes, dates by their day, date times by their
--- instant; a date with a date time compares the date time moved to that date with the date time itself, on the sides
--- where they stand; other pairs have none
+-- loose order: scalars of one kind by their order, false below true, texts by bytes, dates by their day, date times by
+-- their instant; a date and a date time compare as the date time moved to that date and the date time itself, each on
+-- its own side; other pairs have no order
 abbrev pub scalar_cmp : Scal → Scal → Option Ordering
 scalar_cmp (integer a) (integer b) = Some (int_cmp a b)
 scalar_cmp (boolean a) (boolean b) = Some (bool_cmp a b)
@@ -51,7 +52,7 @@ same_scalar (date a) (date b) = int_eq (epoch_day a) (epoch_day b)
 same_scalar (date_time a) (date_time b) = int_eq (instant a) (instant b)
 same_scalar a b = false
 
--- what a scalar feeds a hasher: a byte for its kind, and its content
+-- what a scalar feeds a hasher: a byte for its kind, then its content
 abbrev pub scalar_hash : Scal → List (List ℕ)
 scalar_hash (integer n) = writes.u8 0 ++ writes.i64 n
 scalar_hash (boolean b) = writes.u8 1 ++ writes.bool b

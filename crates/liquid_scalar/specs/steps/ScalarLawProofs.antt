@@ -15,7 +15,7 @@ use Rattle.liquid_dates.specs.meaning.Instant.{day_number, second_of_day, offset
 use Rattle.liquid_scalar.specs.meaning.Scalar.{Scal, integer, boolean, text, date, date_time}
 use Rattle.liquid_scalar.specs.meaning.ScalarCompare.{instant_on, scalar_eq, scalar_cmp, same_scalar, scalar_hash}
 
--- the same time of day and offset on two days: the instants stand as the days do
+-- with the same time of day and offset on two days, the instants compare as the days do
 ranked_by_day : (a b s o n : ℤ) (r : Ordering) → MatchOrdering r ((((a *ℤ pos 86_400 +ℤ s) -ℤ o) *ℤ pos 1_000_000_000 +ℤ n) <ℤ (((b *ℤ pos 86_400 +ℤ s) -ℤ o) *ℤ pos 1_000_000_000 +ℤ n)) ((((a *ℤ pos 86_400 +ℤ s) -ℤ o) *ℤ pos 1_000_000_000 +ℤ n) ≡ (((b *ℤ pos 86_400 +ℤ s) -ℤ o) *ℤ pos 1_000_000_000 +ℤ n)) ((((b *ℤ pos 86_400 +ℤ s) -ℤ o) *ℤ pos 1_000_000_000 +ℤ n) <ℤ (((a *ℤ pos 86_400 +ℤ s) -ℤ o) *ℤ pos 1_000_000_000 +ℤ n)) → MatchOrdering r (a <ℤ b) (a ≡ b) (b <ℤ a)
 ranked_by_day a b s o n Less h = omega (arith, ints)
 ranked_by_day a b s o n Equal h = omega (arith, ints)
@@ -24,7 +24,7 @@ ranked_by_day a b s o n Greater h = omega (arith, ints)
 cmp_by_day : (a b s o n : ℤ) → int_cmp (((a *ℤ pos 86_400 +ℤ s) -ℤ o) *ℤ pos 1_000_000_000 +ℤ n) (((b *ℤ pos 86_400 +ℤ s) -ℤ o) *ℤ pos 1_000_000_000 +ℤ n) ≡ int_cmp a b
 cmp_by_day a b s o n = int_cmp_is a b (int_cmp (((a *ℤ pos 86_400 +ℤ s) -ℤ o) *ℤ pos 1_000_000_000 +ℤ n) (((b *ℤ pos 86_400 +ℤ s) -ℤ o) *ℤ pos 1_000_000_000 +ℤ n)) (ranked_by_day a b s o n (int_cmp (((a *ℤ pos 86_400 +ℤ s) -ℤ o) *ℤ pos 1_000_000_000 +ℤ n) (((b *ℤ pos 86_400 +ℤ s) -ℤ o) *ℤ pos 1_000_000_000 +ℤ n)) (int_ranks (((a *ℤ pos 86_400 +ℤ s) -ℤ o) *ℤ pos 1_000_000_000 +ℤ n) (((b *ℤ pos 86_400 +ℤ s) -ℤ o) *ℤ pos 1_000_000_000 +ℤ n)))
 
--- a date time moved to a date stands to itself as that date to its own
+-- a date time moved to a date compares with itself as that date does with its own
 pub moved_before : (d : CivilDate) (dt : DateTime) → int_cmp (instant_on d dt) (instant dt) ≡ int_cmp (epoch_day d) (day_number dt)
 unfolding instant unix_seconds
 moved_before d dt = cmp_by_day (epoch_day d) (day_number dt) (pos (second_of_day dt)) (offset_seconds dt) (pos (nanosecond dt))
@@ -67,7 +67,7 @@ same_symm (date_time a) (boolean b) = refl
 same_symm (date_time a) (text b) = refl
 same_symm (date_time a) (date b) = refl
 
--- a strict equation of kinds
+-- strictly equal scalars of one kind have equal contents
 same_integer : (a b : ℤ) → same_scalar (integer a) (integer b) ≡ true → a ≡ b
 same_integer a b h = (signed_Decides a b).0 h
 
@@ -125,7 +125,7 @@ same_congr (date_time a) (date b) c h = cc
 pub same_scalar_equiv : IsEquivalence same_scalar
 same_scalar_equiv = record { refl = same_refl; symm = same_symm; congr = same_congr }
 
--- strictly equal scalars feed a hasher alike
+-- strictly equal scalars feed a hasher the same bytes
 pub hash_agrees : (a b : Scal) → same_scalar a b ≡ true → scalar_hash a ≡ scalar_hash b
 hash_agrees (integer a) (integer b) h = ap (λ (n : ℤ). writes.u8 0 ++ writes.i64 n) (same_integer a b h)
 hash_agrees (boolean true) (boolean true) h = refl

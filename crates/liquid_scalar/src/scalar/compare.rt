@@ -1,3 +1,4 @@
+//! Loose comparison, strict equality and the hash of scalars.
 ghost use Rattle.std.specs.Prelude.{◌≡◌};
 ghost use Rattle.std.specs.Cmp.{on_equiv, on_per, partial_equiv_from_equiv};
 ghost use Rattle.liquid_scalar.specs.meaning.Scalar.{scal};
@@ -10,8 +11,11 @@ use std::convert::AsStr;
 use std::hash::{Hash, Hasher};
 
 impl<T: AsStr> ScalarOf<T> {
-    /// Loose equality: scalars of one kind by value, date times by their instant. A date equals a date time whose own
-    /// date it is. A truth value with another kind gives the truth value itself, and other scalars are unequal.
+    /// Compares two scalars loosely for equality.
+    ///
+    /// Scalars of one kind are compared by value, and date times by their instant. A date equals a date time whose own
+    /// date it is. A truth value and a scalar of another kind are equal if the truth value is true. Other scalars are
+    /// unequal.
     pub fn scalar_eq<U: AsStr>(&self, other: &ScalarOf<U>) -> bool
         ensures { result ≡ scalar_eq (scal T.text self.now) (scal U.text other.now) }
     {
@@ -29,9 +33,11 @@ impl<T: AsStr> ScalarOf<T> {
         }
     }
 
-    /// Loose order: scalars of one kind by their order, false below true, texts by bytes and date times by their
-    /// instant. A date stands to a date time as the date time moved to that date stands to itself. Other scalars have
-    /// no order.
+    /// Compares two scalars loosely for order.
+    ///
+    /// Scalars of one kind are compared by their order: false is below true, texts are compared by bytes, and date
+    /// times by their instant. A date is compared with a date time as if it were that date time, moved to the date.
+    /// Other scalars have no order.
     #[tactic(auto, using(crate::specs::steps::ScalarLawProofs::moved_before, crate::specs::steps::ScalarLawProofs::moved_behind))]
     pub fn scalar_cmp<U: AsStr>(&self, other: &ScalarOf<U>) -> Option<Ordering>
         ensures { result ≡ scalar_cmp (scal T.text self.now) (scal U.text other.now) }
@@ -49,7 +55,7 @@ impl<T: AsStr> ScalarOf<T> {
     }
 }
 
-/// Strict equality: the same kind and the same content.
+/// Compares strictly: equal scalars have the same kind and the same content.
 impl<T: AsStr> PartialEq for ScalarOf<T> {
     ghost eq = { λ x y. same_scalar (scal T.text x) (scal T.text y) };
 

@@ -1,3 +1,4 @@
+//! The dates and date times that a scalar converts to.
 ghost use Rattle.std.specs.Prelude.{IfSome, IsSomeAnd};
 ghost use Rattle.jiff_core.specs.declared.civil.date.Date.{Date as CivilDate};
 ghost use Rattle.liquid_dates.specs.declared.date_time.DateTime.{DateTime as DateTimeShape};
@@ -10,12 +11,12 @@ use liquid_dates::{Date, DateTime};
 use std::convert::AsStr;
 
 impl<T: AsStr> ScalarOf<T> {
-    /// The date itself, a date time's own date, or the date that a text writes, where `today` is that of the moment.
-    /// None for every other scalar.
+    /// Returns the date itself, a date time's own date, or the date that a text writes, where `today` is the date of
+    /// the moment. Returns `None` for every other scalar.
     pub fn to_date(&self, moment: DateTime) -> Option<Date>
         ensures fits { IfSome result (λ d. IsDateOf (scal T.text self.now) moment d) }
 
-        // Whatever date the scalar has is the answer.
+        // If the scalar has a date, that date is returned.
         ensures only { (d : CivilDate) → IsDateOf (scal T.text self.now) moment d
             → IsSomeAnd result (λ r. SameDate r d) }
     {
@@ -27,12 +28,12 @@ impl<T: AsStr> ScalarOf<T> {
             ScalarOf::DateTime(date_time) => Some(date_time.date()),
         }
     }
-    /// The date time itself, or the date time that a text writes, where `now` and `today` are the moment. None for
-    /// every other scalar.
+    /// Returns the date time itself, or the date time that a text writes, where `now` and `today` are the moment.
+    /// Returns `None` for every other scalar.
     pub fn to_date_time(&self, moment: DateTime) -> Option<DateTime>
         ensures fits { IfSome result (λ dt. IsDateTimeOf (scal T.text self.now) moment dt) }
 
-        // Whatever date time the scalar has is the answer.
+        // If the scalar has a date time, that date time is returned.
         ensures only { (dt : DateTimeShape) → IsDateTimeOf (scal T.text self.now) moment dt
             → IsSomeAnd result (λ r. SameDateTime r dt) }
     {

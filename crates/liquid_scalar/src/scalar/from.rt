@@ -1,3 +1,4 @@
+//! Conversions into a scalar, which neither fail nor take memory.
 ghost use Rattle.std.specs.Prelude.{◌≡◌, pos, string_bytes};
 ghost use Rattle.std.specs.Cow.{cow_str_bytes};
 ghost use Rattle.liquid_scalar.specs.declared.scalar.ScalarOf.TheVariants as variant;

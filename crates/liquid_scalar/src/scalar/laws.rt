@@ -1,4 +1,4 @@
-// The laws of the comparisons of scalars. Each function only states its law.
+//! The laws of the comparisons of scalars. Each function only states its law.
 ghost use Rattle.liquid_scalar.specs.laws.ScalarLaws.{LooseEqualityIsReflexive, LooseEqualityIsSymmetric, OrderSwappedIsReversed, EqualInOrderIsLooselyEqual, StrictEqualityIsEquivalence, StrictlyEqualIsLooselyEqual, HashAgreesWithEquality};
 
 /// Each scalar loosely equals itself.
@@ -7,13 +7,13 @@ pub fn loose_equality_is_reflexive()
     ensures { LooseEqualityIsReflexive }
 {}
 
-/// Loose equality of scalars holds both ways.
+/// Loose equality of scalars is symmetric.
 #[tactic(auto, using(crate::specs::steps::ScalarLawProofs::loose_symm))]
 pub fn loose_equality_is_symmetric()
     ensures { LooseEqualityIsSymmetric }
 {}
 
-/// The order of two scalars swapped is their order reversed, and none stays none.
+/// Swapping two scalars reverses their order, or leaves them without one.
 #[tactic(auto, using(crate::specs::steps::ScalarLawProofs::order_swapped))]
 pub fn order_swapped_is_reversed()
     ensures { OrderSwappedIsReversed }
@@ -37,7 +37,7 @@ pub fn strictly_equal_is_loosely_equal()
     ensures { StrictlyEqualIsLooselyEqual }
 {}
 
-/// Strictly equal scalars feed a hasher alike.
+/// Strictly equal scalars feed a hasher the same bytes.
 #[tactic(auto, using(crate::specs::steps::ScalarLawProofs::hash_agrees))]
 pub fn hash_agrees_with_equality()
     ensures { HashAgreesWithEquality }

@@ -1,3 +1,4 @@
+//! The texts of a scalar: its rendered text, its source and the name of its kind.
 ghost use Rattle.std.specs.Prelude.{◌≡◌, Some, IfOk};
 ghost use Rattle.std.specs.Cow.{cow_str_bytes};
 ghost use Rattle.liquid_scalar.specs.meaning.Scalar.{scal, render_scalar, source_scalar, scalar_type_name};
@@ -9,21 +10,21 @@ use std::convert::AsStr;
 use std::fmt;
 
 impl<T: AsStr> ScalarOf<T> {
-    /// What the scalar renders as, to be printed.
+    /// Returns a value that prints what the scalar renders as.
     pub fn render(&self) -> ScalarRender<'_, T>
         ensures { result.scalar.now ≡ self.now }
     {
         ScalarRender { scalar: self }
     }
 
-    /// The source of the scalar, to be printed.
+    /// Returns a value that prints the source of the scalar.
     pub fn source(&self) -> ScalarSource<'_, T>
         ensures { result.scalar.now ≡ self.now }
     {
         ScalarSource { scalar: self }
     }
 
-    /// The name of the scalar's kind: `whole number`, `boolean`, `string`, `date` or `date time`.
+    /// Returns the name of the scalar's kind: `whole number`, `boolean`, `string`, `date` or `date time`.
     pub fn type_name(&self) -> &'static str
         ensures { result.now ≡ scalar_type_name (scal T.text self.now) }
     {
@@ -36,7 +37,7 @@ impl<T: AsStr> ScalarOf<T> {
         }
     }
 
-    /// The text that the scalar renders as. A text is borrowed, a truth value too.
+    /// Returns the text that the scalar renders as. A text or a truth value is borrowed.
     pub fn to_kstr(&self, alloc: Global) -> Result<CowStr<'_>, AllocError>
         ensures { IfOk result (λ t. cow_str_bytes t ≡ render_scalar (scal T.text self.now)) }
     {
@@ -51,7 +52,7 @@ impl<T: AsStr> ScalarOf<T> {
     }
 }
 
-/// Displays what a scalar renders as: a number in decimal, `true` or `false`, a text as it is, and a date or a date time
+/// Prints what a scalar renders as: a number in decimal, `true` or `false`, a text as it is, and a date or a date time
 /// in its printed form.
 #[derive(Clone, Copy)]
 pub struct ScalarRender<'s, T> {
@@ -72,7 +73,7 @@ impl<T: AsStr> fmt::Display for ScalarRender<'_, T> {
     }
 }
 
-/// Displays the source of a scalar: a text between double quotes, unescaped, and another scalar as it renders.
+/// Prints the source of a scalar: a text between double quotes, unescaped, and any other scalar as it renders.
 #[derive(Clone, Copy)]
 pub struct ScalarSource<'s, T> {
     pub scalar: &'s ScalarOf<T>,

@@ -1,4 +1,4 @@
--- Frames over a base as plain data, the oldest first, and what they show: both forms of scopes stand on these.
+-- Frames over a base as plain data, the oldest first, and what they show: both forms of scopes are built on these.
 use Rattle.std.specs.Prelude.{◌≡◌, ◌++◌, ◌&&◌, ℕ, List, [], ◌∷◌, length, Option, Some, None, Bool, true, false, ⊤, is_none}
 use Rattle.std.specs.Prelude.{String}
 use Rattle.std.specs.BTreeSet.{BTreeSet}
@@ -14,7 +14,7 @@ use Rattle.liquid_runtime.specs.steps.FrameViews.{assigned_view}
 use Rattle.liquid_runtime.specs.meaning.Calls.{registers_of, with_registers}
 use Rattle.liquid_runtime.specs.declared.registers.Registers.{Registers}
 
--- a frame with what it holds; a sandboxed one and an isolated one hold the registers that their endings give back
+-- a frame with what it holds; a sandboxed one and an isolated one hold the registers that are given back when they end
 pub data Layer (Reg : Type 0) : Type 0 where
   none_layer : Layer Reg
   stack_layer : Names → Option (List ℕ) → Layer Reg
@@ -32,7 +32,7 @@ module _ {Reg : Type 0} where
   layer_view (sandboxed_layer d n saved) v = with_registers (registers_of v) (begin_sandboxed v.register d n v)
   layer_view (isolated_layer d g n saved) v = assigned_view g (with_registers (registers_of v) (begin_sandboxed v.register d n v))
 
-  -- what its ending restores
+  -- what it restores when it ends
   abbrev pub layer_restores : Layer Reg → View Reg → Restore Reg
   layer_restores none_layer v = restore_nothing
   layer_restores (stack_layer d n) v = restored_by (stack_frame d n) v

@@ -1,4 +1,4 @@
--- The layer that a link is.
+-- The layer that a link means.
 use Rattle.std.specs.Prelude.{List, map, option_map, string_bytes}
 use Rattle.liquid_runtime.specs.meaning.Maps.{names_of}
 use Rattle.liquid_runtime.specs.meaning.View.{View}
@@ -13,10 +13,10 @@ layer_of (link.Global g) = global_layer (names_of g)
 layer_of (link.Sandboxed d n saved) = sandboxed_layer (names_of d) (option_map (λ s. string_bytes s) n) saved
 layer_of (link.Isolated d g n saved) = isolated_layer (names_of d) (names_of g) (option_map (λ s. string_bytes s) n) saved
 
--- the layers that links are
+-- the layers that links mean
 abbrev pub layers_of : {Reg : Type 0} → List (Link Reg) → List (Layer Reg)
 layers_of links = map layer_of links
 
--- the view over links that stand over this view
+-- the view of links over this view
 abbrev pub view_over : {Reg : Type 0} → View Reg → List (Link Reg) → View Reg
 view_over v links = shown_over v (layers_of links)

@@ -1,4 +1,4 @@
--- Which frames give a name a value: what an index of names says, and what the layers are.
+-- Which frames give a name a value: what an index of names says, and what the layers mean.
 use Rattle.std.specs.Prelude.{◌≡◌, ℕ, zero, suc, List, [], ◌∷◌, Option, Some, None, Bool, true, false, ◌&&◌, ◌||◌, not, cond, is_some, is_none, nat_eq, nat_lt, String, option_map}
 use Rattle.std.specs.Option.{option_or}
 use Rattle.std.specs.BTreeMap.{BTreeMap, get_by_text}
@@ -9,7 +9,7 @@ use Rattle.liquid_scopes.specs.declared.frames.Frames.{Frames}
 use Rattle.liquid_scopes.specs.steps.NamePlaces.{is_place, is_at, is_under}
 use Rattle.liquid_scopes.specs.steps.Layers.{Layer, none_layer, stack_layer, global_layer, sandboxed_layer, isolated_layer, layer_found}
 
--- for each name its frames
+-- the frames of each name
 abbrev pub Places : Type 0
 Places = BTreeMap (String Global) Frames
 
@@ -33,7 +33,7 @@ Noted has frame old new = (q : List ℕ) (j : ℕ) → stands new q j ≡ (stand
 abbrev pub PartlyNoted : (List ℕ → Bool) → ℕ → Places → Places → Type 0
 PartlyNoted has frame old new = (q : List ℕ) (j : ℕ) → (stands new q j || (has q && nat_eq j frame)) ≡ (stands old q j || (has q && nat_eq j frame))
 
--- the names that pass don't have this frame any more
+-- the names that pass no longer have this frame
 abbrev pub Forgotten : (List ℕ → Bool) → ℕ → Places → Places → Type 0
 Forgotten has frame old new = (q : List ℕ) (j : ℕ) → stands new q j ≡ (stands old q j && not (has q && nat_eq j frame))
 
@@ -44,15 +44,15 @@ two_looks None (Some s) value below = None
 two_looks (Some i) None value below = value
 two_looks (Some i) (Some s) value below = cond (nat_lt i s) None value
 
--- whether a name is the own name of a sandboxed frame, by its last place, the last sandboxed frame, what that frame seals,
--- and the base
+-- whether a name is the own name of a sandboxed frame, by its last place, the last sandboxed frame, what that frame
+-- seals, and the base
 abbrev pub sealed_by : Option ℕ → Option ℕ → (ℕ → Bool) → Bool → Bool
 sealed_by None None seals below = below
 sealed_by None (Some s) seals below = seals s
 sealed_by (Some i) None seals below = false
 sealed_by (Some i) (Some s) seals below = not (nat_lt s i) && seals s
 
--- the place of the unlisted frame, if neither the name's last listed place nor the last sandboxed frame stands over it
+-- the place of the unlisted frame, if neither the name's last listed place nor the last sandboxed frame is over it
 abbrev pub seen_over : Option ℕ → Option ℕ → Option ℕ → Option ℕ
 seen_over listed seal None = None
 seen_over listed seal (Some i) = cond (is_under i seal || is_under i listed) None (Some i)
@@ -74,7 +74,7 @@ module _ {Reg : Type 0} where
   abbrev pub has_at : List (Layer Reg) → List ℕ → ℕ → Bool
   has_at ls q j = is_some (own_at j ls q)
 
-  -- the same, but for the unlisted frame
+  -- the same, except for the unlisted frame
   abbrev pub listed_at : List (Layer Reg) → Option ℕ → List ℕ → ℕ → Bool
   listed_at ls unlisted q j = has_at ls q j && not (is_at unlisted j)
 
@@ -89,7 +89,7 @@ module _ {Reg : Type 0} where
   is_sandboxed (sandboxed_layer d n saved) = true
   is_sandboxed (isolated_layer d g n saved) = true
 
-  -- whether a sandboxed layer seals a name that no layer over it gives: an isolated one doesn't where the name is assigned
+  -- whether a sandboxed layer seals a name that no layer over it gives: an isolated one doesn't if the name is assigned
   abbrev pub seals_own : Layer Reg → List ℕ → Bool
   seals_own none_layer q = true
   seals_own (stack_layer d n) q = true

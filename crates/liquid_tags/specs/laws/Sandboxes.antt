@@ -14,13 +14,13 @@ use Rattle.liquid_tags.specs.declared.blocks.BlockShape.{BlockShape}
 use Rattle.liquid_tags.specs.meaning.Library.{library}
 
 module _ {Reg F : Type 0} (fresh : Reg) (m : FilterMeaning F) where
-  -- under a sandboxed frame a template renders over any outside as over that outside emptied
+  -- under a sandboxed frame a template renders over any outside with globals as over that outside emptied
   abbrev pub LibraryIsolated : Type 0
   LibraryIsolated =
       (finds : Option (Found F (TagShape F) BlockShape)) (names : Names) (name : Option (List ℕ)) (ns : Nodes F (TagShape F) BlockShape) (outside : View Reg) → HasGlobals outside →
       sandboxed_run (library fresh m finds) names name ns outside ≡ run_over_outside outside (sandboxed_run (library fresh m finds) names name ns (emptied fresh outside))
 
-  -- so two outsides that agree on depth, leniency, index variables and name get the same text, refusal and writes
+  -- so two such outsides that agree on depth, leniency, index variables and name get the same text, refusal and writes
   abbrev pub LibraryAgrees : Type 0
   LibraryAgrees =
       (finds : Option (Found F (TagShape F) BlockShape)) (names : Names) (name : Option (List ℕ)) (ns : Nodes F (TagShape F) BlockShape) (o p : View Reg) → HasGlobals o → HasGlobals p →

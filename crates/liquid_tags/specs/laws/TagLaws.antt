@@ -25,7 +25,7 @@ use Rattle.liquid_tags.specs.meaning.Partials.{Pair, bound, included, inclusion_
 use Rattle.liquid_tags.specs.meaning.Tags.{assigns, tag_nodes, tag_takes}
 use Rattle.liquid_plugins.specs.meaning.Turning.{answers, begins_with}
 
--- one answer after another, where what comes behind is the same
+-- one result after another, where what follows is the same
 ok_then_same : {A B : Type 0} (r : Result A Refusal) (f g : A → Result B Refusal) → ((x : A) → f x ≡ g x) → ok_then r f ≡ ok_then r g
 ok_then_same (Ok x) f g e = e x
 ok_then_same (Err refusal) f g e = refl
@@ -35,7 +35,7 @@ module _ {F Reg : Type 0} (m : FilterMeaning F) where
   chain_hidden : (c : ChainShape F) (g : Names) (v : View Reg) → chain_value m c (hiding g v) ≡ chain_value m c (hiding empty v)
   chain_hidden c g v = ap (λ r. ok_then r (filtered m (erase (hiding empty v)) c.filters)) (evaluate_hidden g v c.entry)
 
-  -- to assign a name over hidden globals is to lay it over them
+  -- assigning a name over hidden globals is laying it over them
   assigns_hide : {P : Type 0} (name : List ℕ) (r : Result Tree Refusal) (p : P) (g : Names) (v : View Reg) → assigns name r p (hiding g v) ≡ overlaid g (assigns name r p (hiding empty v))
   assigns_hide name (Ok t) p g v =
       ap (λ n. answers (Ok end_turn) p (hiding n v)) (ap (λ n. insert n name t) (sym (empty-over g)) ∙ sym (insert-over empty g name t))

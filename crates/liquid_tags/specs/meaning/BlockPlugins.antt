@@ -1,4 +1,4 @@
--- The names of the blocks, and what they make of their tokens and bodies.
+-- The names of the blocks, and what they make from their tokens and bodies.
 use Rattle.std.specs.Prelude.{ℕ, List, [], ◌∷◌, ◌++◌, codes, Bool, true, false, cond, bytes_eq, Option, None, Some, option_map, Result, Ok, Err}
 use Rattle.liquid_error.specs.meaning.Refusal.{Refusal, located, ok_then}
 use Rattle.liquid_parser.specs.meaning.Cursors.{expect_str}
@@ -76,7 +76,7 @@ divided_on p name ts =
 abbrev pub divided : PlanShape → List ℕ → Tokens → Result PlanShape Refusal
 divided p name ts = cond p.is_closed (Err (located (codes "Divider after else") ts.behind)) (divided_on p name ts)
 
--- `raw` is the text of its body, the others are as planned
+-- `raw` is the text of its body, and the others are as planned
 abbrev pub finished : PlanShape → Body → Result BlockShape Refusal
 finished p (escaped t) = Ok (shape.Raw t)
 finished p (parts n) = Ok p.node

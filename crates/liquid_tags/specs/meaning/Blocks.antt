@@ -50,7 +50,7 @@ block_count (Loop r) = r.turns
 abbrev pub in_loop : {Reg : Type 0} → Answered TurnShape RoundsShape Reg → Answered TurnShape ProgressShape Reg
 in_loop t = record { answer = t.answer; progress = Loop t.progress; written = t.written }
 
--- what a block's turn answers; a part is rendered without a frame
+-- what a block's turn returns; a part is rendered without a frame
 abbrev pub block_takes : {Reg : Type 0} → BlockShape → ProgressShape → View Reg → Answered TurnShape ProgressShape Reg
 block_takes (shape.Raw slice) p v = answers (Ok (text_turn slice)) p v
 block_takes (shape.For name s) (Loop r) v = in_loop (loop_takes name r v)

@@ -37,7 +37,7 @@ pairs_given (c ∷ n ∷ d ∷ e ∷ more) =
 abbrev pub call_given : Tokens → Result CallShape Refusal
 call_given ts = ok_then (next_as expect_value ts) (λ value. ok_then (pairs_given value.1.left) (λ pairs. Ok (value.0, pairs)))
 
--- the pair that the next tokens make, behind its comma, and the tokens behind it
+-- the pair that the next tokens make, after its comma, and the tokens after it
 abbrev pub pair_given : Tokens → Result (Pair × Tokens) Refusal
 pair_given ts =
     ok_then (next_as expect_identifier ts) (λ name. ok_then (next_as expect_colon name.1) (λ sign.

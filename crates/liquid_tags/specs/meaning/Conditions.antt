@@ -28,7 +28,7 @@ abbrev pub is_truthy : Option Tree → Bool
 is_truthy None = false
 is_truthy (Some t) = query_state t Truthy
 
--- whether an order is one of those that a comparison asks for
+-- whether an order is one of those that a comparison accepts
 abbrev pub ordered : Comparison → Ordering → Bool
 ordered comparison.Less ordering.Less = true
 ordered comparison.Greater ordering.Greater = true
@@ -38,7 +38,7 @@ ordered comparison.AtLeast ordering.Greater = true
 ordered comparison.AtLeast ordering.Equal = true
 ordered op order = false
 
--- the same where there may be no order, which is none of them
+-- the same if there may be no order, which no comparison accepts
 abbrev pub is_ordered : Comparison → Option Ordering → Bool
 is_ordered op None = false
 is_ordered op (Some order) = ordered op order
@@ -54,8 +54,8 @@ abbrev pub holds : {Reg : Type 0} → View Reg → ConditionShape → Result Boo
 holds v (Holds e) = Ok (is_truthy (try_evaluate v e))
 holds v (Compares l op r) = ok_then (evaluate v l) (λ a. ok_then (evaluate v r) (λ b. Ok (compares op a b)))
 
--- the part behind the first condition that holds, counted from this one on, and behind them all where none does; what
--- stands behind one that holds is not evaluated
+-- the part after the first condition that holds, counted from this one on, or the part after them all if none does; the
+-- conditions after one that holds are not evaluated
 abbrev pub chosen : {Reg : Type 0} → View Reg → ℕ → List ConditionShape → Result ℕ Refusal
 chosen v place [] = Ok place
 chosen v place (c ∷ cs) = ok_then (holds v c) (λ it_holds. cond it_holds (Ok place) (chosen v (place + 1) cs))

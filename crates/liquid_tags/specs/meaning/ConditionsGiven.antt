@@ -9,7 +9,7 @@ use Rattle.liquid_tags.specs.declared.condition.Comparison.TheVariants as compar
 use Rattle.liquid_tags.specs.declared.condition.ConditionShape.{ConditionShape}
 use Rattle.liquid_tags.specs.declared.condition.ConditionShape.TheVariants.{Holds, Compares}
 
--- the comparison that a token's text stands for
+-- the comparison that a token's text means
 abbrev pub comparison_of : List ℕ → Option Comparison
 comparison_of text =
     cond (bytes_eq text (codes "==")) (Some comparison.Equal)
@@ -20,7 +20,7 @@ comparison_of text =
     (cond (bytes_eq text (codes "<=")) (Some comparison.AtMost)
     (cond (bytes_eq text (codes ">=")) (Some comparison.AtLeast) None))))))
 
--- behind the first value no token, or a comparison and a second value
+-- after the first value no token, or a comparison and a second value
 abbrev pub behind_value : ExpressionShape → List Token → Result ConditionShape Refusal
 behind_value e [] = Ok (Holds e)
 behind_value e (t ∷ more) =

@@ -12,18 +12,18 @@ use Rattle.liquid_runtime.specs.meaning.Sets.{old_index, put_index}
 use Rattle.liquid_plugins.specs.meaning.Turns.{TurnShape, text_turn, Answered}
 use Rattle.liquid_plugins.specs.meaning.Turning.{answers}
 
--- the number that a value counts from: its own, and 0 where it has none
+-- the number that a value counts from: its own, or 0 if it has none
 abbrev pub counts_from : Option Tree → ℤ
 counts_from t = unwrap_or (option_and_then to_integer (option_and_then as_scalar t)) (pos 0)
 
--- the number one higher, where it is none past the greatest
+-- the number plus one, or none if that is past the greatest
 abbrev pub one_higher : ℤ → Option ℤ
 one_higher n = cond (le_z (n +ℤ pos 1) (pos (2 ^ 63 - 1))) (Some (n +ℤ pos 1)) None
 
 abbrev pub past_limit : List ℕ → Refusal
 past_limit name = with_context (codes "name") name (plain (codes "Counter past its limit"))
 
--- the number is written, and the index variable is one higher; at the greatest number neither is done
+-- the number is written, and the index variable is increased by one; at the greatest number neither is done
 abbrev pub counted_on : {P Reg : Type 0} → List ℕ → ℤ → Option ℤ → P → View Reg → Answered TurnShape P Reg
 counted_on name n None p v = answers (Err (past_limit name)) p v
 counted_on name n (Some higher) p v =

@@ -1,4 +1,4 @@
--- The items that a loop still goes over, as a list.
+-- The items that a loop has left, as a list.
 use Rattle.std.specs.Prelude.{List, drop}
 use Rattle.liquid_value.specs.meaning.Tree.{Tree}
 use Rattle.liquid_value.specs.meaning.View.{array_view}

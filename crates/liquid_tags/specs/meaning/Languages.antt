@@ -17,7 +17,7 @@ use Rattle.liquid_tags.specs.declared.block_plugins.Blocks.TheVariants.{If, For,
 use Rattle.liquid_tags.specs.meaning.TagPlugins.{tag_given}
 use Rattle.liquid_tags.specs.meaning.BlockPlugins.{whole_block}
 
--- plug-ins under their names; of two under one name the later stays
+-- plug-ins under their names; of two under one name the later is kept
 abbrev pub registered : {P : Type 0} → NameMap P → List (List ℕ × P) → NameMap P
 registered before [] = before
 registered before (p ∷ ps) = registered (insert before p.0 p.1) ps
@@ -31,7 +31,7 @@ the_tags =
 abbrev pub the_blocks : NameMap Blocks
 the_blocks = registered empty ((codes "if", If) ∷ (codes "for", For) ∷ (codes "raw", Raw) ∷ [])
 
--- what a language of such tags and blocks means, by what its filters make of their arguments
+-- what a language of such tags and blocks means, by what its filters make from their arguments
 abbrev pub meaning_of : {U F : Type 0} → (U → Arguments → Result F Refusal) → Language U Tags Blocks → Lang F (TagShape F) PlanShape BlockShape
 meaning_of makes = language_of makes tag_given whole_block
 

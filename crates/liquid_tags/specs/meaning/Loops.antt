@@ -1,4 +1,4 @@
--- The turns of a loop: one for each item, and one behind the last.
+-- The turns of a loop: one for each item, and one after the last.
 use Rattle.std.specs.Prelude.{ℕ, zero, suc, ◌+◌, ◌-◌, ◌==◌, List, drop, slice_get, codes, pos, Bool, true, false, cond, Option, None, Some, Ok}
 use Rattle.std.specs.FinMap.{empty, insert}
 use Rattle.liquid_scalar.specs.meaning.Scalar.{integer, boolean}
@@ -21,7 +21,7 @@ rounds_of r = record { left = items_left r.left; place = r.place; size = r.size;
 abbrev number : ℕ → Tree
 number n = scalar (integer (pos n))
 
--- the members of `forloop` of the item at a place, where places count from 0
+-- the members of `forloop` for the item at a place, where places count from 0
 abbrev pub forloop_members : ℕ → ℕ → Members
 forloop_members place size =
     member (codes "first") (scalar (boolean (place == 0))) (
@@ -39,7 +39,7 @@ forloop place size = object (forloop_members place size)
 abbrev pub names_of_item : List ℕ → Tree → Tree → Names
 names_of_item name loop t = insert (insert empty (codes "forloop") loop) name t
 
--- the turn of the item at a place, and the end where there is none
+-- the turn of the item at a place, or the end if there is none
 abbrev pub item_turn : List ℕ → ℕ → ℕ → Option Tree → TurnShape
 item_turn name place size None = end_turn
 item_turn name place size (Some t) = body_turn 0 (stack_frame (names_of_item name (forloop place size) t) None) None
@@ -49,16 +49,16 @@ abbrev pub is_left : ℕ → Option Interrupt → Bool
 is_left (suc place) (Some Break) = true
 is_left place interrupt = false
 
--- behind each body, and not before the first, no interrupt stands any more
+-- after each body the interrupt is cleared, but not before the first
 abbrev pub rested : {Reg : Type 0} → ℕ → View Reg → View Reg
 rested zero v = v
 rested (suc place) v = record v { interrupt = None }
 
--- the next item is taken out
+-- the next item is removed
 abbrev pub behind : RoundsShape → RoundsShape
 behind r = record r { left = drop 1 r.left; place = r.place + 1 }
 
--- what a turn tells: the next item's body, and the end where there is none or `Break` stands
+-- what a turn returns: the next item's body, or the end if there is none or `Break` is set
 abbrev pub loop_takes : {Reg : Type 0} → List ℕ → RoundsShape → View Reg → Answered TurnShape RoundsShape Reg
 loop_takes name r v =
     answers (Ok (cond (is_left r.place v.interrupt) end_turn (item_turn name r.place r.size (slice_get r.left 0)))) (behind r) (rested r.place v)

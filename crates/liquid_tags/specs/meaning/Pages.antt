@@ -1,4 +1,4 @@
--- What a page of the library comes to.
+-- The result of a page of the library.
 use Rattle.std.specs.Prelude.{List, ℕ, Some, Result}
 use Rattle.liquid_error.specs.declared.error.Error.{Error}
 use Rattle.liquid_error.specs.meaning.Refusal.{Refusal}
@@ -19,7 +19,7 @@ use Rattle.liquid_tags.specs.declared.blocks.BlockShape.{BlockShape}
 use Rattle.liquid_tags.specs.meaning.Languages.{tags_and_blocks}
 use Rattle.liquid_tags.specs.meaning.Library.{library}
 
--- how deep partials may be open inside one another
+-- the number of partials that may be nested
 abbrev pub page_depth : ℕ
 page_depth = 32
 
@@ -28,8 +28,9 @@ abbrev pub PageAnswer : Type 0 → Type 0
 PageAnswer F = Result (List (NodeShape F (TagShape F) BlockShape)) Refusal
 
 module _ {F : Type 0} where
-  -- a text that the library's language with these filters refuses is refused alike, with nothing written; else the outcome is
-  -- that of the run of what it is read as, in a view of the globals alone, where each partial is what its text is read as
+  -- a text that the library's language with these filters refuses has the same refusal, with nothing written; otherwise
+  -- the outcome is that of the run of its nodes, in a view of the globals alone, where each partial is the result of
+  -- parsing its text
   pub record RendersPage (m : FilterMeaning F) (filters : Filters F) (text : List ℕ) (globals : Names) (partials : Texts) (before after : Sunk) (result : Result (Unit {0}) Error) : Type 0 where
     pub left : View (Unit {0})
     pub rendered : (answer : PageAnswer F) → Reads (tags_and_blocks filters) text answer

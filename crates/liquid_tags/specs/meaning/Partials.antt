@@ -1,4 +1,4 @@
--- The tags `include` and `render`: what they read, and the partial that they ask for.
+-- The tags `include` and `render`: what they read, and the partial that they render.
 use Rattle.std.specs.Prelude.{ℕ, List, [], ◌∷◌, ◌++◌, codes, Some, map, string_bytes, String, ok_or, Result, Ok}
 use Rattle.std.specs.declared.alloc.Global.{Global}
 use Rattle.std.specs.FinMap.{empty, insert}
@@ -32,7 +32,7 @@ pair_of p = (string_bytes p.0, expression_of p.1)
 abbrev pub call_of : Call → CallShape
 call_of c = (expression_of c.name, map pair_of c.pairs.items)
 
--- the names of pairs with what their expressions come to, over these; of two pairs of one name the later wins
+-- the names of pairs with the values of their expressions, over these; of two pairs with one name the later wins
 abbrev pub bound : {Reg : Type 0} → View Reg → Names → List Pair → Result Names Refusal
 bound v names [] = Ok names
 bound v names (p ∷ ps) = ok_then (evaluate v p.1) (λ t. bound v (insert names p.0 t) ps)
@@ -41,7 +41,8 @@ bound v names (p ∷ ps) = ok_then (evaluate v p.1) (λ t. bound v (insert names
 abbrev pub partial_name : Tree → Result (List ℕ) Refusal
 partial_name t = ok_then (ok_or (as_scalar t) (expected (codes "Partial name expected") t)) (λ x. Ok (render_scalar x))
 
--- `include` shows its pairs over the names that are seen, `render` shows them alone; the frame has the partial's name
+-- `include` shows its pairs over the names that are seen, `render` shows only its pairs; the frame has the partial's
+-- name
 abbrev pub frame_for : Inclusion → Names → List ℕ → FrameShape
 frame_for Include names name = stack_frame names (Some name)
 frame_for Render names name = sandboxed_frame names (Some name)
@@ -54,7 +55,7 @@ word_of Render = codes "render"
 abbrev pub inclusion_turn : Inclusion → List ℕ → Names → TurnShape
 inclusion_turn i name names = partial_turn name (frame_for i names name) (Some (word_of i ++ (codes " " ++ name)))
 
--- what the tag asks for: the name is evaluated before the pairs, and these from left to right
+-- the tag's turn: the name is evaluated before the pairs, and the pairs from left to right
 abbrev pub included : {Reg : Type 0} → Inclusion → ExpressionShape → List Pair → View Reg → Result TurnShape Refusal
 included i e ps v =
     ok_then (evaluate v e) (λ t. ok_then (partial_name t) (λ name. ok_then (bound v empty ps) (λ names. Ok (inclusion_turn i name names))))

@@ -50,7 +50,7 @@ items_in (scalar x) = Err (expected (codes "Array expected") (scalar x))
 abbrev pub whole_number : Tree → Result ℤ Refusal
 whole_number t = ok_or (option_and_then to_integer (as_scalar t)) (expected (codes "Whole number expected") t)
 
--- so many numbers, from this one on
+-- that many numbers, from this one on
 abbrev pub counted : ℤ → ℕ → List Tree
 counted from zero = []
 counted from (suc n) = scalar (integer from) ∷ counted (from +ℤ pos 1) n
@@ -59,18 +59,18 @@ counted from (suc n) = scalar (integer from) ∷ counted (from +ℤ pos 1) n
 abbrev pub range_too_long : ℤ → ℤ → Refusal
 range_too_long from to = with_context (codes "stop") (signed_decimal to) (with_context (codes "start") (signed_decimal from) (plain (codes "Range too long")))
 
--- the numbers that a range may have at most
+-- the greatest number of items of a range
 abbrev pub longest : ℕ
 longest = 1000000
 
--- the numbers from one to another; none where the first is greater
+-- the numbers from one to another; none if the first is greater
 abbrev pub items_between : ℤ → ℤ → Result (List Tree) Refusal
 items_between from to =
     cond (le_z from to)
     (cond (nat_lt (unsigned_abs (to -ℤ from)) longest) (Ok (counted from (unsigned_abs (to -ℤ from) + 1))) (Err (range_too_long from to)))
     (Ok [])
 
--- the items of a series; of a range the first end is evaluated, and has to be a number, before the second
+-- the items of a series; of a range the first end is evaluated, and must be a number, before the second
 abbrev pub items_of : {Reg : Type 0} → View Reg → SeriesShape → Result (List Tree) Refusal
 items_of v (Of e) = ok_then (evaluate v e) items_in
 items_of v (Between from to) =

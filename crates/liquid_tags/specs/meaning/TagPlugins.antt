@@ -1,4 +1,4 @@
--- What the tags make of their tokens.
+-- What the tags make from their tokens.
 use Rattle.std.specs.Prelude.{codes, Result, Ok}
 use Rattle.liquid_error.specs.meaning.Refusal.{Refusal, ok_then}
 use Rattle.liquid_runtime.specs.declared.registers.Interrupt.TheVariants.{Break, Continue}

@@ -22,12 +22,12 @@ tag_of shape (tag.Increment name) = Increment (string_bytes name)
 tag_of shape (tag.Interrupts i) = Interrupts i
 tag_of shape (tag.Includes i c) = Includes i (expression_of c.value.name) (map pair_of c.value.pairs.items)
 
--- a name is assigned; nothing is where the chain is refused
+-- a name is assigned; nothing is assigned if the chain is refused
 abbrev pub assigns : {P Reg : Type 0} → List ℕ → Result Tree Refusal → P → View Reg → Answered TurnShape P Reg
 assigns name (Ok t) p v = answers (ok_then (old_global v name) (λ old. Ok end_turn)) p (put_global v name t)
 assigns name (Err refusal) p v = answers (Err refusal) p v
 
--- what a tag's turn answers
+-- what a tag's turn returns
 abbrev pub tag_takes : {F P Reg : Type 0} → FilterMeaning F → TagShape F → P → View Reg → Answered TurnShape P Reg
 tag_takes m (Assign name c) p v = assigns name (chain_value m c v) p v
 tag_takes m (Increment name) p v = increments name p v

@@ -19,7 +19,7 @@ seven a b c d e f g =
 abbrev pub IsForloop : Members → Type 0
 IsForloop ms = (a : Tree) × (b : Tree) × (c : Tree) × (d : Tree) × (e : Tree) × (f : Tree) × (g : Tree) × (ms ≡ seven a b c d e f g)
 
--- what `forloop` says of the item at a place, of so many
+-- what `forloop` says about the item at a place, for this number of items
 abbrev pub AreNumbers : Numbers → ℕ → ℕ → Type 0
 AreNumbers n place size =
     (n.is_first ≡ (place == 0)) × (n.index ≡ pos (place + 1)) × (n.index0 ≡ pos place) × (n.is_last ≡ (place + 1 == size))
@@ -35,7 +35,7 @@ member_at n place =
     cond (place == 4) (scalar (integer n.length)) (
     cond (place == 5) (scalar (integer n.rindex)) (scalar (integer n.rindex0)))))))
 
--- the place after a place, and the last one after itself
+-- the place after a place, and for the last one that place itself
 abbrev pub next_place : ℕ → ℕ
 next_place place = cond (nat_lt place 7) (place + 1) place
 

@@ -22,7 +22,7 @@ abbrev pub Writes : List ℕ → Tree → List (String Global × Value) → List
 Writes name t before after =
     (w : Value) × (view w ≡ t) × (after ≡ set_value (is_at (against name)) before w) × (is_some (lookup (is_at (against name)) before) ≡ true)
 
--- these names were written, or the item comes back
+-- these names were written, or the item is given back
 abbrev pub IsWritten : Names → Tree → Written → Type 0
 IsWritten names t (written.Names object) = names_of object ≡ names
 IsWritten names t (written.Item item) = view item ≡ t

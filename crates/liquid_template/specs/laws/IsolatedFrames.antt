@@ -9,7 +9,7 @@ use Rattle.liquid_template.specs.meaning.Nodes.{Setting}
 use Rattle.liquid_template.specs.meaning.Rendering.{isolated_run}
 use Rattle.liquid_template.specs.meaning.Isolated.{run_given_back}
 
--- two runs are the same one, over the one outside and over the other
+-- two runs are the same one, over one outside and over the other
 pub record SameIsolatedRun {Reg : Type 0} (o p : View Reg) (r q : Run Reg) : Type 0 where
   pub run : Run Reg
   pub over_one : r ≡ run_given_back o run
@@ -22,7 +22,8 @@ module _ {Reg F T P B Q : Type 0} (s : Setting Reg F T P B Q) where
       (names : Names) (name : Option (List ℕ)) (ns : Nodes F T B) (outside : View Reg) →
       isolated_run s names name ns outside ≡ run_given_back outside (isolated_run s names name ns (emptied s.fresh outside))
 
-  -- so over two outsides that agree on depth, leniency, index variables and name the text, the refusal and the writes are the same
+  -- so over two outsides that agree on depth, leniency, index variables and name, the text, the refusal and the writes
+  -- are the same
   abbrev pub IsolatedOutsidesAgree : Type 0
   IsolatedOutsidesAgree =
       (names : Names) (name : Option (List ℕ)) (ns : Nodes F T B) (o p : View Reg) →

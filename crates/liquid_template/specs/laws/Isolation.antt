@@ -10,21 +10,22 @@ use Rattle.liquid_template.specs.meaning.Nodes.{Setting}
 use Rattle.liquid_template.specs.meaning.Rendering.{sandboxed_run}
 use Rattle.liquid_template.specs.meaning.Sandboxed.{HasGlobals, run_over_outside}
 
--- two runs are the same one, over the one outside and over the other
+-- two runs are the same one, over one outside and over the other
 pub record SameRun {Reg : Type 0} (o p : View Reg) (r q : Run Reg) : Type 0 where
   pub run : Run Reg
   pub over_one : r ≡ run_over_outside o run
   pub over_other : q ≡ run_over_outside p run
 
 module _ {Reg F T P B Q : Type 0} (s : Setting Reg F T P B Q) where
-  -- under a sandboxed frame discreet nodes render over any outside as over that outside emptied
+  -- under a sandboxed frame discreet nodes render over any outside with globals as over that outside emptied
   abbrev pub Isolated : Type 0
   Isolated =
       Discreet s.tags → Discreet s.blocks →
       (names : Names) (name : Option (List ℕ)) (ns : Nodes F T B) (outside : View Reg) → HasGlobals outside →
       sandboxed_run s names name ns outside ≡ run_over_outside outside (sandboxed_run s names name ns (emptied s.fresh outside))
 
-  -- so over two outsides that agree on depth, leniency, index variables and name the text, the refusal and the writes are the same
+  -- so over two such outsides that agree on depth, leniency, index variables and name, the text, the refusal and the
+  -- writes are the same
   abbrev pub OutsidesAgree : Type 0
   OutsidesAgree =
       Discreet s.tags → Discreet s.blocks →

@@ -1,4 +1,4 @@
--- What an isolated rendering comes to.
+-- The result of an isolated rendering.
 use Rattle.std.specs.Prelude.{◌≡◌, map, Result}
 use Rattle.liquid_error.specs.declared.error.Error.{Error}
 use Rattle.liquid_runtime.specs.meaning.View.{View}
@@ -7,7 +7,8 @@ use Rattle.liquid_template.specs.meaning.Run.{Step, Run, Action}
 use Rattle.liquid_template.specs.meaning.Sunk.{Sunk}
 use Rattle.liquid_template.specs.meaning.Outcome.{Renders}
 
--- a view that comes of an emptied outside, as it is over the real one: what was taken away is given back, the globals too
+-- a view that results over an emptied outside, as it is over the real one: what was taken away is given back, the
+-- globals too
 abbrev pub given_back : {Reg : Type 0} → View Reg → View Reg → View Reg
 given_back outside v = record v {
   locals = outside.locals;
@@ -19,7 +20,7 @@ given_back outside v = record v {
   register = outside.register;
 }
 
--- the same of a step, and of a run: the pieces, the traces and the refusal stay
+-- the same for a step, and for a run: the pieces, the traces and the refusal stay
 abbrev pub step_given_back : {Reg : Type 0} → View Reg → Step Reg → Step Reg
 step_given_back outside step = record step { at = given_back outside step.at }
 
@@ -30,7 +31,8 @@ run_given_back outside r = record {
   view = given_back outside r.view;
 }
 
--- a call that renders in isolation: the outcome of its run over the outside, which is that of its run over the outside emptied
+-- a call that renders in isolation: its outcome is that of its run over the outside, and also that of its run over the
+-- emptied outside, given back
 pub record RendersIsolated {Reg : Type 0} (fresh : Reg) (action : Action Reg) (outside : View Reg) (before after : Sunk) (left : View Reg) (answer : Result (Unit {0}) Error) : Type 0 where
   pub renders : Renders (action outside) outside before after left answer
   pub isolated : Renders (run_given_back outside (action (emptied fresh outside))) outside before after left answer

@@ -3,7 +3,7 @@ use Rattle.std.specs.Prelude.{ℕ, List, [], take, Result, Ok, Err}
 use Rattle.liquid_template.specs.declared.sink.SinkFault.{SinkFault}
 use Rattle.liquid_template.specs.declared.sink.SinkFault.TheVariants.{Failed, Memory}
 
--- the bytes that a put takes of its piece: the first ones, or none where it is refused
+-- the bytes that a put takes of its piece: the first ones, or none if it fails
 abbrev pub taken_part : Result ℕ SinkFault → List ℕ → List ℕ
 taken_part (Ok count) piece = take count piece
 taken_part (Err fault) piece = []

@@ -1,4 +1,4 @@
--- What rendering a template comes to.
+-- The result of rendering a template.
 use Rattle.std.specs.Prelude.{ℕ, List, Option, None}
 use Rattle.liquid_runtime.specs.meaning.Maps.{Names}
 use Rattle.liquid_runtime.specs.meaning.Frames.{sandboxed_frame, isolated_frame}
@@ -9,11 +9,11 @@ use Rattle.liquid_template.specs.meaning.Nodes.{Setting, run_nodes}
 use Rattle.liquid_template.specs.meaning.Partials.{partials_at}
 
 module _ {Reg F T P B Q : Type 0} (s : Setting Reg F T P B Q) where
-  -- nodes, where so many partials may still be open
+  -- nodes, where this many partials may still be nested
   abbrev pub nodes_run : ℕ → Nodes F T B → Action Reg
   nodes_run depth ns = run_nodes s (partials_at s depth) ns
 
-  -- a template's nodes, in a view that says how many
+  -- a template's nodes, with the depth of the view
   abbrev pub template_run : Nodes F T B → Action Reg
   template_run ns v = nodes_run v.depth ns v
 

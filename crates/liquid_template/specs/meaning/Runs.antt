@@ -1,4 +1,4 @@
--- What each function of the renderer writes, where so many partials may still be open.
+-- What each function of the renderer writes, where this many partials may still be nested.
 use Rattle.std.specs.Prelude.{ℕ, List, [], Option, option_map}
 use Rattle.liquid_runtime.specs.meaning.Frames.{FrameShape}
 use Rattle.liquid_plugins.specs.meaning.Chain.{FilterMeaning}

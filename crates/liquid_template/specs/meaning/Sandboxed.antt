@@ -1,4 +1,4 @@
--- What a sandboxed rendering comes to.
+-- The result of a sandboxed rendering.
 use Rattle.std.specs.Prelude.{◌≡◌, map, true, is_some, option_map, Result, unwrap_or}
 use Rattle.std.specs.FinMap.{empty}
 use Rattle.liquid_error.specs.declared.error.Error.{Error}
@@ -13,8 +13,8 @@ use Rattle.liquid_template.specs.meaning.Outcome.{Renders}
 abbrev pub HasGlobals : {Reg : Type 0} → View Reg → Type 0
 HasGlobals v = is_some v.globals ≡ true
 
--- a view that comes of an emptied outside, as it is over the real one: what was taken away is given back, and the globals
--- are the outside's overlaid by those that are left
+-- a view that results over an emptied outside, as it is over the real one: what was taken away is given back, and the
+-- globals are the outside's overlaid by those that are left
 abbrev pub over_outside : {Reg : Type 0} → View Reg → View Reg → View Reg
 over_outside outside v = record v {
   locals = outside.locals;
@@ -26,7 +26,7 @@ over_outside outside v = record v {
   register = outside.register;
 }
 
--- the same of a step, and of a run: the pieces, the traces and the refusal stay
+-- the same for a step, and for a run: the pieces, the traces and the refusal stay
 abbrev pub step_over_outside : {Reg : Type 0} → View Reg → Step Reg → Step Reg
 step_over_outside outside step = record step { at = over_outside outside step.at }
 
@@ -37,13 +37,13 @@ run_over_outside outside r = record {
   view = over_outside outside r.view;
 }
 
--- a call that renders in a sandbox: the outcome of its run over the outside, which is that of its run over the outside
--- emptied, where the outside has globals
+-- a call that renders in a sandbox: its outcome is that of its run over the outside, and if the outside has globals,
+-- also that of its run over the emptied outside
 pub record RendersSandboxed {Reg : Type 0} (fresh : Reg) (action : Action Reg) (outside : View Reg) (before after : Sunk) (left : View Reg) (answer : Result (Unit {0}) Error) : Type 0 where
   pub renders : Renders (action outside) outside before after left answer
   pub isolated : HasGlobals outside → Renders (run_over_outside outside (action (emptied fresh outside))) outside before after left answer
 
--- interrupt and register are those that were there before
+-- interrupt and register are as they were before
 pub record Untouched {Reg : Type 0} (before after : View Reg) : Type 0 where
   pub interrupt : after.interrupt ≡ before.interrupt
   pub register : after.register ≡ before.register

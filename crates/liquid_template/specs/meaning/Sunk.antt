@@ -1,7 +1,7 @@
--- What a sink is at one moment.
+-- The state of a sink at one moment.
 use Rattle.std.specs.Prelude.{ℕ, List, [], ◌∷◌, Option, None}
 
--- every byte that it has taken, how often it failed, the bytes that lie behind it, where they are known, and the ghost
+-- every byte that it has taken, how often it failed, the bytes in its destination, if they are known, and the ghost
 -- names of what it borrows
 pub record Sunk : Type 0 where
   pub taken : List ℕ
@@ -12,7 +12,7 @@ pub record Sunk : Type 0 where
 abbrev pub sunk : List ℕ → ℕ → Option (List ℕ) → List ℕ → Sunk
 sunk taken failures behind lent = record { taken = taken; failures = failures; behind = behind; lent = lent }
 
--- a sink of which it isn't known what lies behind it, and which borrows nothing
+-- a sink for which the bytes in its destination aren't known, and which borrows nothing
 abbrev pub alone : List ℕ → ℕ → Sunk
 alone taken failures = sunk taken failures None []
 

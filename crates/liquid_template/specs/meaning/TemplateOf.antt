@@ -1,4 +1,4 @@
--- What a template is, as plain data.
+-- A template as plain data.
 use Rattle.std.specs.Prelude.{List}
 use Rattle.liquid_plugins.specs.declared.tree.Node.{Node}
 use Rattle.liquid_plugins.specs.meaning.Nodes.{Nodes}

@@ -1,4 +1,4 @@
--- What the cycle owes while it goes on with the turns of a node.
+-- What the cycle owes while it continues with the turns of a node.
 use Rattle.std.specs.Prelude.{◌≡◌, Bool, true, false, is_ok, ℕ, suc, ◌-◌, ◌<◌, ◌≤◌, List, [], ◌∷◌, Option, None, Some, Result, Ok, Err, IsOk, IsErrAnd, IfSome}
 use Rattle.liquid_error.specs.declared.error.Error.{Error}
 use Rattle.liquid_error.specs.meaning.Told.{told}
@@ -27,13 +27,13 @@ module _ {Reg F T P B Q : Type 0} (s : Setting Reg F T P B Q) (depth : ℕ) wher
     abbrev pub Ends : Answer → Type 0
     Ends answer = (parts : List (Action Reg)) → (k : ℕ) → RendersWithin (turns s (partials_at s depth) m n parts (suc k) p v) v b c w answer
 
-    -- the turn is done, and the others come
+    -- the turn is done, and the others follow
     abbrev pub Goes : Type 0
     Goes = (parts : List (Action Reg)) → (k : ℕ) → (a : Output) → (x : View Reg) → (answer : Answer)
         → RendersWithin (turns s (partials_at s depth) m n parts k q w) w c a x answer
         → RendersWithin (turns s (partials_at s depth) m n parts (suc k) p v) v b a x answer
 
-    -- the turn's frame is open: what is rendered under it, and then the others, is what the turns come to
+    -- the turn's frame is open: what is rendered under it, and then the others, are the turns
     pub record Opens (trace : Option (List ℕ)) (inner : List (Action Reg) → Action Reg) (rs rs1 : List (Restore Reg)) : Type 0 where
       pub frame : FrameShape
       pub from : View Reg
@@ -47,7 +47,7 @@ module _ {Reg F T P B Q : Type 0} (s : Setting Reg F T P B Q) (depth : ℕ) wher
           → RendersWithin (under s.fresh frame trace (inner parts) from) from c d x (Err e)
           → RendersWithin (turns s (partials_at s depth) m n parts (suc k) p v) v b d x (Err e)
 
-    -- the turn's frame is open: of what is rendered under it nothing is written, and the node is given its text
+    -- the turn's frame is open: nothing of what is rendered under it is written, and the node is given its text
     pub record Captures (trace : Option (List ℕ)) (inner : List (Action Reg) → Action Reg) (rs rs1 : List (Restore Reg)) : Type 0 where
       pub frame : FrameShape
       pub from : View Reg
@@ -61,7 +61,7 @@ module _ {Reg F T P B Q : Type 0} (s : Setting Reg F T P B Q) (depth : ℕ) wher
           → RendersWithin (silent (under s.fresh frame trace (inner parts) from)) from c d x (Err e)
           → RendersWithin (turns s (partials_at s depth) m n parts (suc k) p v) v b d x (Err e)
 
-    -- what a turn comes to, by what is to be rendered of it
+    -- the result of a turn, by what it has to render
     abbrev pub Turned : {X A C : Type 0} → (X → F) → (A → T) → (C → B) → Option (List ℕ) → List (Restore Reg) → List (Restore Reg)
         → Answer → Step X A C → Type 0
     Turned filter tag block trace rs rs1 answer step.Stop = Ends answer × (rs1 ≡ rs)
@@ -72,14 +72,15 @@ module _ {Reg F T P B Q : Type 0} (s : Setting Reg F T P B Q) (depth : ℕ) wher
         Opens trace (λ parts. nodes_run s (depth - 1) (template_nodes filter tag block template.value)) rs rs1 × IsOk answer
 
   module _ {N R : Type 0} (m : NodeMeaning N R Reg) (n : N) (parts : List (Action Reg)) (p q : R) (v w : View Reg) (b c : Output) where
-    -- a turn that was taken: the others come, or it was the last one
+    -- a turn that was taken: the others follow, or it was the last one
     abbrev pub Takes : Answer → Bool → Type 0
     Takes answer true = IsOk answer × ((k : ℕ) → (a : Output) → (x : View Reg) → (later : Answer)
         → RendersWithin (turns s (partials_at s depth) m n parts k q w) w c a x later
         → RendersWithin (turns s (partials_at s depth) m n parts (suc k) p v) v b a x later)
     Takes answer false = (k : ℕ) → RendersWithin (turns s (partials_at s depth) m n parts (suc k) p v) v b c w answer
 
--- what was rendered to an open text, from one output of the text to the other, is aside of the sink, of which turns alone were asked
+-- what was rendered to an open text, from one output of the text to the other, does not reach the sink, which was asked
+-- only for turns
 pub record Aside (before opened closed after : Output) : Type 0 where
   pub empty : opened.sunk.taken ≡ []
   pub no_bytes : opened.bytes ≡ None
@@ -87,7 +88,8 @@ pub record Aside (before opened closed after : Output) : Type 0 where
   pub failures : closed.sunk.failures ≡ opened.sunk.failures
   pub back : after ≡ record before { turns = closed.turns }
 
--- a part was rendered aside under its frame, which has ended, and the node was given the text, unless the part was refused
+-- a part was rendered aside under its frame, which has ended, and the node was given the text, unless the part was
+-- refused
 pub record Captured {Reg N R : Type 0} (m : NodeMeaning N R Reg) (n : N) (inner : Action Reg) (trace : Option (List ℕ)) (p q : R) (v w : View Reg) (rs rs1 : List (Restore Reg)) (b c : Output) (answer : Answer) (result : Bool) : Type 0 where
   pub start : Output
   pub last : Output
@@ -100,7 +102,7 @@ pub record Captured {Reg N R : Type 0} (m : NodeMeaning N R Reg) (n : N) (inner 
   pub goes_on : result ≡ is_ok answer
   pub progress : result ≡ true → q ≡ m.catches n p last.sunk.taken
 
--- a partial is within the bound, and one more may be open
+-- a partial is within the bound, and one more may be nested
 abbrev pub Small : {X A C F T B : Type 0} → (X → F) → (A → T) → (C → B) → ℕ → ℕ → Step X A C → Type 0
 Small filter tag block depth bound step.Stop = Unit {0}
 Small filter tag block depth bound step.Next = Unit {0}
@@ -110,7 +112,7 @@ Small filter tag block depth bound (step.Partial template) =
     (0 < depth) × (size_nodes (template_nodes filter tag block template.value) ≤ bound)
 
 module _ {Reg F T P B Q : Type 0} (s : Setting Reg F T P B Q) (depth : ℕ) {A : Type 0} (of : A → Nodes F T B) (name : List ℕ) where
-  -- what a name comes to: the nodes that are found, with one partial less that may be open, or a refusal
+  -- what a name gives: the nodes that are found, with one less partial that may be nested, or a refusal
   abbrev pub Finds : Result A Error → Type 0
   Finds (Ok found) = (0 < depth) × (partials_at s depth name ≡ nodes_run s (depth - 1) (of found))
   Finds (Err e) = IfSome (told e) (λ r. partials_at s depth name ≡ refuses r)

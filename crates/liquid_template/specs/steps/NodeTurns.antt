@@ -1,4 +1,4 @@
--- What the start and the turns of one node come to.
+-- The results of the start and of the turns of one node.
 use Rattle.std.specs.Prelude.{◌≡◌, Option, None, Some, Result, Ok, Err, IsOk, IsErrAnd, IfSome, OnSome}
 use Rattle.liquid_error.specs.declared.error.Error.{Error}
 use Rattle.liquid_error.specs.meaning.Told.{told}

@@ -1,4 +1,4 @@
--- What putting one piece out comes to, through a gate to a sink, or to a text.
+-- The result of putting out one piece, through a gate to a sink, or to a text.
 use Rattle.std.specs.Prelude.{◌≡◌, ℕ, ◌+◌, ◌<◌, ◌⊎◌, List, [], ◌++◌, length, Option, None, Result, Ok, Err, IsErrAnd, MatchOption}
 use Rattle.liquid_error.specs.declared.error.Error.{Error}
 use Rattle.liquid_error.specs.meaning.Refusal.{Refusal}
@@ -52,6 +52,6 @@ pub record PieceOut (piece : List ℕ) (before after : Output) (answer : Result 
   pub turns : after.turns ≡ before.turns
   pub pours : Pours before.sunk after.sunk answer
 
--- the text of a value put out as one piece; or nothing, where there was no memory for it
+-- the text of a value put out as one piece; or nothing, if there was no memory for it
 abbrev pub ValueOut : List ℕ → Output → Output → Result (Unit {0}) Error → Type 0
 ValueOut text before after answer = PieceOut text before after answer ⊎ ((after ≡ before) × IsErrAnd answer (λ error. told error ≡ None))

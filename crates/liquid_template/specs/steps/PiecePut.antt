@@ -1,4 +1,4 @@
--- What putting one piece to a sink comes to, over as many puts as it takes.
+-- The result of putting one piece to a sink, over as many puts as it takes.
 use Rattle.std.specs.Prelude.{◌≡◌, ℕ, ◌+◌, ◌<◌, ◌⊎◌, List, [], ◌++◌, length, Result, Ok, Err, MatchOption}
 use Rattle.liquid_error.specs.declared.error.Error.{Error}
 use Rattle.liquid_error.specs.meaning.Told.{told}

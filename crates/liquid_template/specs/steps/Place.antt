@@ -1,10 +1,11 @@
--- Where pieces go while a part may be captured: the innermost open text, else the caller's sink.
+-- Where pieces go while a part may be captured: the innermost open text, otherwise the caller's sink.
 use Rattle.std.specs.Prelude.{◌≡◌, ℕ, List, Bool, true, false, Option, None, Some, option_map, string_bytes, String}
 use Rattle.std.specs.declared.alloc.Global.{Global}
 use Rattle.liquid_template.specs.meaning.Sunk.{Sunk}
 use Rattle.liquid_template.specs.meaning.Output.{Output, Passed, Passes, Refuses}
 
--- the caller's sink and what its gate was asked, the innermost open text, if there is one, and the ghost name of the sink
+-- the caller's sink and what its gate was asked, the innermost open text, if there is one, and the ghost name of the
+-- sink
 pub record Place : Type 0 where
   pub output : Output
   pub text : Option (List ℕ)
@@ -16,7 +17,7 @@ place output text sink_name = record { output = output; text = text; sink_name =
 abbrev pub text_of : Option (String Global) → Option (List ℕ)
 text_of text = option_map (λ s. string_bytes s) text
 
--- a question for so many passed, or was refused
+-- a request for n passed, or was refused
 abbrev pub Answers : Option Passed → ℕ → Option Passed → Bool → Type 0
 Answers before n after true = Passes before n after
 Answers before n after false = Refuses before 0 after
@@ -26,7 +27,7 @@ pub record TurnAsked (before after : Output) (answer : Bool) : Type 0 where
   pub turns : Answers before.turns 1 after.turns answer
   pub rest : after ≡ record before { turns = after.turns }
 
--- what takes the pieces, as an output: the open text, for which no bytes are asked, else the sink
+-- what takes the pieces, as an output: the open text, for which no bytes are asked, otherwise the sink
 abbrev pub target_of : Output → Option (List ℕ) → Output
 target_of output None = output
 target_of output (Some text) = record {

@@ -1,4 +1,4 @@
--- What asking for a partial answers.
+-- What a request for a partial returns.
 use Rattle.std.specs.Prelude.{ℕ, List, Option, None, Some, Result, Err}
 use Rattle.liquid_error.specs.meaning.Refusal.{Refusal}
 use Rattle.liquid_plugins.specs.meaning.Nodes.{Nodes}

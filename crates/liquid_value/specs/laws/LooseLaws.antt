@@ -1,4 +1,4 @@
--- What holds of loose equality and of loose order.
+-- Laws of loose equality and of loose order.
 use Rattle.std.specs.Prelude.{◌≡◌, ℕ, List, [], Bool, true, false, ◌&&◌, ◌==◌, Option, None, Some, option_map}
 use Rattle.std.specs.declared.cmp.Ordering.TheVariants.{Equal}
 use Rattle.std.specs.Ordering.{nat_cmp, is_lt, ordering_reverse}
@@ -11,7 +11,7 @@ use Rattle.liquid_value.specs.meaning.Members.{get_member, member_count}
 use Rattle.liquid_value.specs.meaning.Order.{value_cmp}
 use Rattle.liquid_value.specs.meaning.Tree.{Tree, nil, state, scalar, array, object, Items, no_items, item, Members, no_members, member}
 
--- the state is another than the truthy one
+-- the state is not the truthy one
 abbrev pub is_not_truthy : State → Bool
 is_not_truthy Truthy = false
 is_not_truthy DefaultValue = true
@@ -39,7 +39,7 @@ abbrev mutual
 abbrev pub LooseEqualityIsReflexive : Type 0
 LooseEqualityIsReflexive = (t : Tree) → without_truthy t ≡ true → value_eq t t ≡ true
 
--- between values without the truthy state, loose equality holds both ways
+-- between values without the truthy state, loose equality is symmetric
 abbrev pub LooseEqualityIsSymmetric : Type 0
 LooseEqualityIsSymmetric = (l r : Tree) → without_truthy l ≡ true → without_truthy r ≡ true → value_eq l r ≡ value_eq r l
 
@@ -48,7 +48,7 @@ LooseEqualityIsSymmetric = (l r : Tree) → without_truthy l ≡ true → withou
 abbrev pub LooseEqualityIsNotTransitive : Type 0
 LooseEqualityIsNotTransitive = (value_eq (scalar (text [])) (state Empty) ≡ true) × (value_eq (state Empty) (array no_items) ≡ true) × (value_eq (scalar (text [])) (array no_items) ≡ false)
 
--- the order of two values swapped is their order reversed, and none stays none
+-- swapping two values reverses their order, or leaves them without one
 abbrev pub OrderSwappedIsReversed : Type 0
 OrderSwappedIsReversed = (l r : Tree) → value_cmp r l ≡ option_map ordering_reverse (value_cmp l r)
 
@@ -56,30 +56,30 @@ OrderSwappedIsReversed = (l r : Tree) → value_cmp r l ≡ option_map ordering_
 abbrev pub EqualInOrderIsLooselyEqual : Type 0
 EqualInOrderIsLooselyEqual = (l r : Tree) → value_cmp l r ≡ Some Equal → value_eq l r ≡ true
 
--- a name comes before all of these
+-- a name is before all of these
 abbrev pub comes_before : List ℕ → Members → Bool
 comes_before k no_members = true
 comes_before k (member q t ms) = is_lt (slice_cmp nat_cmp k q) && comes_before k ms
 
--- the names stand in byte order, each once
+-- the names are in byte order, each once
 abbrev pub in_name_order : Members → Bool
 in_name_order no_members = true
 in_name_order (member k t ms) = comes_before k ms && in_name_order ms
 
--- there is a value on the right, and it loosely equals the one on the left: the comparison the other way round
+-- the right has a value, and it loosely equals the one on the left, with the sides swapped
 abbrev pub equal_back : Tree → Option Tree → Bool
 equal_back l None = false
 equal_back l (Some r) = value_eq r l
 
--- each name of the left is in the right, and the values are equal the other way round
+-- each name of the left is in the right, and the values are equal with the sides swapped
 abbrev pub each_is_in : Members → Members → Bool
 each_is_in no_members rs = true
 each_is_in (member k l ls) rs = equal_back l (get_member k rs) && each_is_in ls rs
 
--- equal sizes, and each name of the left is in the right with the values compared the other way round
+-- equal sizes, and each name of the left is in the right with the values compared with the sides swapped
 abbrev pub objects_equal_by_name : Members → Members → Bool
 objects_equal_by_name ls rs = (member_count ls == member_count rs) && each_is_in ls rs
 
--- loose equality of objects goes by their names
+-- loose equality of objects is decided by their names
 abbrev pub LooseEqualityOfObjectsGoesByName : Type 0
 LooseEqualityOfObjectsGoesByName = (ls rs : Members) → in_name_order ls ≡ true → in_name_order rs ≡ true → value_eq (object ls) (object rs) ≡ objects_equal_by_name ls rs

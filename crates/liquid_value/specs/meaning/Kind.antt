@@ -21,12 +21,12 @@ type_name (scalar s) = scalar_type_name s
 type_name (array items) = codes "array"
 type_name (object ms) = codes "object"
 
--- whether an array has no item
+-- whether an array has no items
 abbrev pub has_no_items : Items → Bool
 has_no_items no_items = true
 has_no_items (item t items) = false
 
--- whether an object has no entry
+-- whether an object has no entries
 abbrev pub has_no_members : Members → Bool
 has_no_members no_members = true
 has_no_members (member key t entries) = false
@@ -38,21 +38,21 @@ absent_state DefaultValue = true
 absent_state Empty = true
 absent_state Blank = true
 
--- an array or an object is truthy, and in the other states where it is empty
+-- an array or an object is truthy, and in the other states if it is empty
 abbrev pub container_state : Bool → State → Bool
 container_state is_empty Truthy = true
 container_state is_empty DefaultValue = is_empty
 container_state is_empty Empty = is_empty
 container_state is_empty Blank = is_empty
 
--- a text is truthy, default and empty where it has no byte, and blank where it is white space alone
+-- a text is truthy, default and empty if it has no bytes, and blank if it has nothing but white space
 abbrev pub text_state : List ℕ → State → Bool
 text_state t Truthy = true
 text_state t DefaultValue = length t == 0
 text_state t Empty = length t == 0
 text_state t Blank = length (trim t) == 0
 
--- a truth value is truthy where it is true, default and blank where it is false, and never empty
+-- a truth value is truthy if it is true, default and blank if it is false, and never empty
 abbrev pub boolean_state : Bool → State → Bool
 boolean_state b Truthy = b
 boolean_state b DefaultValue = not b

@@ -7,13 +7,13 @@ use Rattle.liquid_scalar.specs.meaning.ScalarCompare.{scalar_eq}
 use Rattle.liquid_value.specs.meaning.Kind.{query_state}
 use Rattle.liquid_value.specs.meaning.Tree.{Tree, nil, state, scalar, array, object, Items, no_items, item, Members, no_members, member}
 
--- the truth value is there, and is this one
+-- there is a truth value, and it is this one
 abbrev pub is_truth : Bool → Option Bool → Bool
 is_truth b None = false
 is_truth b (Some own) = beq b own
 
--- the table for values that are not both arrays and not both objects; the first line that fits counts.
--- A state equals the values in it; a scalar equals nil only where it is false, and an array or object only where it is true
+-- the table for values that are not both arrays and not both objects; the first line that fits counts. A state equals
+-- the values in it; a scalar equals nil only if it is false, and an array or object only if it is true
 abbrev pub leaf_eq : Tree → Tree → Bool
 leaf_eq nil nil = true
 leaf_eq (state s) r = query_state r s
@@ -30,9 +30,9 @@ abbrev pub leaf_facing : Bool → Tree → Tree → Bool
 leaf_facing true l r = leaf_eq l r
 leaf_facing false l r = leaf_eq r l
 
--- `facing true l r` is the loose equality of l with r, and `facing false l r` that of r with l.
--- Arrays are compared place by place; objects entry by entry in the order of their names, where the names are
--- the same and the values are compared the other way round
+-- `facing true l r` is the loose equality of l with r, and `facing false l r` that of r with l. Arrays are compared
+-- item by item; objects entry by entry in the order of their names: the names must be the same, and the values are
+-- compared with the sides swapped
 abbrev mutual
   pub facing : Bool → Tree → Tree → Bool
   facing onward (array ls) (array rs) = items_facing onward ls rs

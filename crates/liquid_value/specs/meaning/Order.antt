@@ -7,15 +7,15 @@ use Rattle.std.specs.Cmp.Lexicographic.{slice_cmp}
 use Rattle.liquid_scalar.specs.meaning.ScalarCompare.{scalar_cmp}
 use Rattle.liquid_value.specs.meaning.Tree.{Tree, scalar, array, object, Items, no_items, item, Members, no_members, member}
 
--- the first order decides, unless it is `Equal`; where there is none, there is none
+-- the first order decides, unless it is `Equal`; without a first order there is none
 abbrev pub deciding : Option Ordering → Option Ordering → Option Ordering
 deciding None rest = None
 deciding (Some Less) rest = Some Less
 deciding (Some Equal) rest = rest
 deciding (Some Greater) rest = Some Greater
 
--- scalars by their own order; arrays item by item, objects entry by entry with the name first, and a beginning is less;
--- other pairs have no order
+-- scalars by their own order; arrays item by item, objects entry by entry with the name first, and a beginning is less
+-- than the whole; other pairs have no order
 abbrev mutual
   pub value_cmp : Tree → Tree → Option Ordering
   value_cmp (scalar x) (scalar y) = scalar_cmp x y

@@ -3,7 +3,7 @@ use Rattle.std.specs.Prelude.{ℕ, zero, suc, ◌-◌, ℤ, pos, negsuc, Option,
 use Rattle.liquid_value.specs.meaning.Members.{item_count}
 use Rattle.liquid_value.specs.meaning.Tree.{Tree, Items, no_items, item}
 
--- an index from 0 on counts from the front, a negative one from the end: -1 is the last place
+-- an index from 0 on counts from the front, a negative one from the end: -1 is the last item
 abbrev pub place_at : ℤ → ℕ → Option ℕ
 place_at (pos k) length = if nat_lt k length then Some k else None
 place_at (negsuc k) length = if nat_lt k length then Some (length - suc k) else None

@@ -4,8 +4,8 @@ use Rattle.liquid_scalar.specs.meaning.Scalar.{render_scalar, source_scalar}
 use Rattle.liquid_value.specs.meaning.Tree.{Tree, nil, state, scalar, array, object, Items, no_items, item, Members, no_members, member}
 use Rattle.liquid_value.specs.meaning.Kind.{type_name}
 
--- the rendered text: an array's items joined with nothing between, an object's keys and values likewise,
--- and nothing for a state and for nil
+-- the rendered text: an array's items joined with nothing between them, an object's keys and values likewise, and
+-- nothing for a state and for nil
 abbrev mutual
   pub render : Tree → List ℕ
   render nil = []
@@ -22,21 +22,21 @@ abbrev mutual
   render_members no_members = []
   render_members (member key t ms) = (key ++ render t) ++ render_members ms
 
--- each item rendered, with a comma and a space behind it
+-- each item rendered, with a comma and a space after it
 abbrev pub listed_items : Items → List ℕ
 listed_items no_items = []
 listed_items (item t items) = (render t ++ codes ", ") ++ listed_items items
 
--- an entry: its key in double quotes, a colon, a space and the rendered value, with a comma and a space behind it
+-- an entry: its key in double quotes, a colon, a space and the rendered value, with a comma and a space after it
 abbrev pub listed_member : List ℕ → Tree → List ℕ
 listed_member key t = codes "\"" ++ (key ++ (codes "\": " ++ (render t ++ codes ", ")))
 
--- each entry so
+-- each entry written so
 abbrev pub listed_members : Members → List ℕ
 listed_members no_members = []
 listed_members (member key t ms) = listed_member key t ++ listed_members ms
 
--- the source text: of a state and of nil the name of its type, of a text that text in double quotes
+-- the source text: for a state and for nil, the name of the type; for a text, that text in double quotes
 abbrev pub source : Tree → List ℕ
 source nil = type_name nil
 source (state s) = type_name (state s)

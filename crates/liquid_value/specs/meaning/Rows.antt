@@ -1,4 +1,4 @@
--- The types that a value holds, as the logic has them, for the clauses on what a `&mut` lends.
+-- The types that a value holds, as the logic has them, for the clauses about what a `&mut` lends.
 use denote.RattleType.{RattleType}
 use Rattle.std.specs.contracts.alloc.Global as global
 use Rattle.std.specs.contracts.vec.Vec as vec

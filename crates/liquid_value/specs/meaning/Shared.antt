@@ -1,4 +1,4 @@
--- The list and the map that a value holds, its own or shared ones.
+-- The list and the map that a value holds, its own or shared.
 use Rattle.std.specs.Prelude.{String}
 use Rattle.std.specs.BTreeMap.{BTreeMap}
 use Rattle.std.specs.Global.{Vec}

@@ -18,7 +18,7 @@ abbrev pub members_of : List (String Global × Tree) → Members
 members_of [] = no_members
 members_of (e ∷ es) = member (string_bytes e.0) e.1 (members_of es)
 
--- one level of a value, with each value inside already seen as its tree
+-- one level of a value, with each value inside already given as its tree
 abbrev pub view_step : Value-F Items Members Tree → Tree
 view_step (Value-F.Scalar s) = scalar (scal string_bytes s)
 view_step (Value-F.Array a) = array a

@@ -1,4 +1,4 @@
--- Facts on tests joined by `&&`.
+-- Facts about tests joined by `&&`.
 use Rattle.std.proofs.Common.{◌≡◌, Bool, true, false, ◌&&◌, refl}
 
 pub both_true : {a b : Bool} → a ≡ true → b ≡ true → a && b ≡ true

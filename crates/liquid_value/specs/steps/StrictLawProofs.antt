@@ -70,7 +70,7 @@ mutual
       ∙ ap (λ b. pointwise nat_eq q k && (same_value r l && b)) (members_symm ls rs)
 
 mutual
-  -- strictly equal values compare alike with any other
+  -- strictly equal values compare alike with any other value
   pub same_congr : (l r other : Tree) → same_value l r ≡ true → same_value l other ≡ same_value r other
   same_congr nil nil nil same = refl
   same_congr nil nil (state v) same = refl
@@ -141,7 +141,7 @@ pub same_value_equiv : IsEquivalence same_value
 same_value_equiv = record { refl = same_refl; symm = same_symm; congr = same_congr }
 
 mutual
-  -- strictly equal values feed a hasher alike
+  -- strictly equal values feed a hasher the same bytes
   pub hash_agrees : (l r : Tree) → same_value l r ≡ true → value_hash l ≡ value_hash r
   hash_agrees nil nil same = refl
   hash_agrees nil (state u) same = cc

@@ -5,7 +5,7 @@ use denote.Bor.{Bor}
 use Rattle.liquid_value.specs.meaning.Members.{put_member}
 use Rattle.liquid_value.specs.meaning.Tree.{Tree, Members, no_members, member}
 
--- the entries put into the members one after another, so that the members stand in byte order of their names
+-- the entries put into the members one after another, so that the members are in byte order of their names
 abbrev pub put_entries : {V : Type 0} → (V → Tree) → List (String Global × V) → Members → Members
 put_entries tree [] ms = ms
 put_entries tree (e ∷ es) ms = put_entries tree es (put_member (string_bytes e.0) (tree e.1) ms)

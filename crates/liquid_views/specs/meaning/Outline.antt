@@ -1,4 +1,4 @@
--- What the kind of a value says of it: the scalar or state, or whether an array or object is empty.
+-- What the kind of a value says about it: the scalar or state, or whether an array or object is empty.
 use Rattle.std.specs.Prelude.{ℕ, List, Bool, true, false, Option, Some, None, codes}
 use Rattle.std.specs.Cow.{cow_str_bytes}
 use Rattle.liquid_scalar.specs.meaning.Scalar.{Scal, scal, scalar_type_name}
@@ -23,7 +23,7 @@ outline (tree.scalar x) = scalar_outline x
 outline (tree.array ts) = array_outline (has_no_items ts)
 outline (tree.object ms) = object_outline (has_no_members ms)
 
--- the outline that a kind tells
+-- the outline that a kind gives
 abbrev pub told_outline : ViewKind → Outline
 told_outline Nil = nil_outline
 told_outline (StateKind s) = state_outline s

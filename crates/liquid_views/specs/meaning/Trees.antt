@@ -1,9 +1,9 @@
--- The trees of what may be absent, of lists and of maps, from the trees of what they hold.
+-- The trees of options, of lists and of maps, from the trees of what they hold.
 use Rattle.std.specs.Prelude.{ℕ, List, [], ◌∷◌, Option, None, Some, map}
 use Rattle.liquid_value.specs.meaning.Tree.{Tree, nil, Items, Members, no_members, member}
 use Rattle.liquid_value.specs.meaning.View.{items_of}
 
--- what is absent is nil
+-- an absent value is nil
 abbrev pub option_tree : {T : Type 0} → (T → Tree) → Option T → Tree
 option_tree tree None = nil
 option_tree tree (Some x) = tree x

@@ -1,2 +1,2 @@
--- The names of an object's members: the definition stands with the values.
+-- The names of an object's members: the definition is the one of the values.
 pub use Rattle.liquid_value.specs.meaning.Names.{names}

@@ -1,4 +1,4 @@
--- The names of the blocks, and what they make of their tokens and bodies.
+-- The names of the blocks, and what they make from their tokens and bodies.
 use Rattle.std.specs.Prelude.{ℕ, List, [], ◌∷◌, codes, Bool, false, Result, Ok}
 use Rattle.liquid_error.specs.meaning.Refusal.{Refusal, ok_then}
 use Rattle.liquid_parser.specs.meaning.Cursors.{next_as}
@@ -47,7 +47,7 @@ begun (blocks.Library b) ts = ok_then (library.begun b ts) (λ p. Ok (plan.Libra
 begun blocks.Stock ts = stock_given ts
 begun blocks.Twice ts = alone plan.Twice ts
 
--- a divider of the library's blocks is theirs; `soldout` takes no token and changes nothing
+-- a divider of the library's blocks is one of the library; `soldout` takes no token and changes nothing
 abbrev pub divided : ShopBlocks → ShopPlanShape → List ℕ → Tokens → Result ShopPlanShape Refusal
 divided (blocks.Library b) (plan.Library p) name ts = ok_then (library.divided p name ts) (λ q. Ok (plan.Library q))
 divided (blocks.Library b) (plan.Stock e) name ts = alone (plan.Stock e) ts

@@ -35,7 +35,7 @@ progress_of (progress.Library p) = shape.Library (library.progress_of p)
 progress_of progress.Body = shape.Body
 progress_of (progress.Text s) = shape.Text (string_bytes s)
 
--- the first part for a number above 0, else the second
+-- the first part for a number above 0, otherwise the second
 abbrev pub part_of : Option ℤ → ℕ
 part_of None = 1
 part_of (Some n) = cond (le_z n (pos 0)) 1 0
@@ -43,7 +43,7 @@ part_of (Some n) = cond (le_z n (pos 0)) 1 0
 abbrev pub part_for : Tree → ℕ
 part_for left = part_of (option_and_then to_integer (as_scalar left))
 
--- what a call of the library's blocks answers and leaves, in a block of the shop
+-- what a call of the library's blocks returns and leaves, in a block of the shop
 abbrev pub starts_as : {Reg : Type 0} → Answered ProgressShape (Unit {0}) Reg → Answered ShopProgressShape (Unit {0}) Reg
 starts_as t = record { answer = ok_then t.answer (λ p. Ok (shape.Library p)); progress = tt; written = t.written }
 
@@ -73,7 +73,7 @@ twice_turn (shape.Library p) = end_turn
 twice_turn shape.Body = capture_turn 0 no_frame None
 twice_turn (shape.Text text) = text_turn (text ++ text)
 
--- what a block's turn answers
+-- what a block's turn returns
 abbrev pub block_takes : {Reg : Type 0} → ShopBlockShape → ShopProgressShape → View Reg → Answered TurnShape ShopProgressShape Reg
 block_takes (Library n) (shape.Library p) v = takes_as (library.block_takes n p v)
 block_takes (Library n) shape.Body v = answers (Ok end_turn) shape.Body v

@@ -16,7 +16,7 @@ use Rattle.shop.specs.declared.tag_plugins.ShopTags.TheVariants as shop_tags
 use Rattle.shop.specs.declared.block_plugins.ShopBlocks.{ShopBlocks}
 use Rattle.shop.specs.declared.block_plugins.ShopBlocks.TheVariants as shop_blocks
 
--- the standard filters, to which `now` and `today` are no dates, and the shop's own
+-- the standard filters, for which `now` and `today` are not dates, and the shop's own
 abbrev pub the_filters : NameMap (FilterPlugin (Beside StdKind Quoted))
 the_filters = filters_beside quoted None (record {} ∷ [])
 

@@ -26,7 +26,7 @@ abbrev pub tag_of : {X F : Type 0} → (X → F) → ShopTag X → ShopTagShape 
 tag_of shape (tag.Library n) = Library (node.tag_of shape n)
 tag_of shape (tag.Badge e) = Badge (expression_of e.value)
 
--- this, where no token is left
+-- this, if no token is left
 abbrev pub alone : {A : Type 0} → A → Tokens → Result A Refusal
 alone x ts = ok_then (expect_nothing ts) (λ u. Ok x)
 
@@ -47,7 +47,7 @@ badged t = codes "[" ++ (render t ++ codes "]")
 abbrev pub badge_turn : Result Tree Refusal → Result TurnShape Refusal
 badge_turn value = ok_then value (λ t. Ok (text_turn (badged t)))
 
--- what a tag's turn answers
+-- what a tag's turn returns
 abbrev pub tag_takes : {F P Reg : Type 0} → FilterMeaning F → ShopTagShape F → P → View Reg → Answered TurnShape P Reg
 tag_takes m (Library n) p v = node.tag_takes m n p v
 tag_takes m (Badge e) p v = answers (badge_turn (evaluate v e)) p v

@@ -4,6 +4,6 @@ use Rattle.liquid_dates.specs.declared.date_time.DateTime.{DateTime}
 use Rattle.liquid_value.specs.meaning.Tree.{Tree}
 use Rattle.std_dates.specs.meaning.Moments.{IsMomentOf}
 
--- no value stands for two moments
+-- no value means two moments
 abbrev pub ValuesHaveOneMoment : Type 0
 ValuesHaveOneMoment = (now : Option DateTime) (t : Tree) (a b : DateTime) → IsMomentOf now t a → IsMomentOf now t b → a ≡ b

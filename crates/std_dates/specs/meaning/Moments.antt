@@ -1,4 +1,4 @@
--- The moment that a value stands for: a date time.
+-- The moment that a value means: a date time.
 use Rattle.std.specs.Prelude.{◌≡◌, pos, Option, None, Some}
 use Rattle.jiff_core.specs.Time.{time_nanos}
 use Rattle.jiff_core.specs.declared.civil.date.Date.{Date as CivilDate}
@@ -16,11 +16,12 @@ IsMidnight d dt = SameDate (civil_date dt) d × (time_nanos (civil_time dt) ≡ 
 abbrev pub IsMidnightText : DateTime → Form DateTime
 IsMidnightText now bytes dt = (d : CivilDate) × IsDateText bytes now d × IsMidnight d dt
 
--- the date time that a text writes, or else midnight of the date that it writes, where `now` and `today` are this moment
+-- the date time that a text writes, otherwise midnight of the date that it writes, where `now` and `today` are this
+-- moment
 abbrev pub IsTextAt : DateTime → Form DateTime
 IsTextAt now = first (λ bytes dt. IsDateTimeText bytes now dt) (IsMidnightText now)
 
--- the same without such a moment: `now` and `today` are none, and any other text stands for what it always does
+-- the same without such a moment: `now` and `today` mean none, and any other text means the same at each moment
 abbrev pub IsMomentText : Option DateTime → Form DateTime
 IsMomentText (Some now) bytes dt = IsTextAt now bytes dt
 IsMomentText None bytes dt = (¬ (IsNow bytes)) × ((now : DateTime) → IsTextAt now bytes dt)

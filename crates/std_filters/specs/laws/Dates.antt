@@ -9,7 +9,7 @@ use Rattle.liquid_value.specs.meaning.Tree.{Tree}
 use Rattle.std_dates.specs.meaning.Moments.{IsMomentOf}
 use Rattle.std_filters.specs.meaning.Dates.{dated, printed}
 
--- of an input that stands for a moment it returns what the moment prints the pattern as
+-- for an input that means a moment it returns what the moment prints by the pattern
 abbrev pub MomentsArePrinted : Type 0
 MomentsArePrinted =
     (now : Option DateTime) (input pattern : Tree) (dt : DateTime) (answer : Result (List ℕ) DateFormatError)

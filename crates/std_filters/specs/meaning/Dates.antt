@@ -1,4 +1,4 @@
--- What the filter `date` answers.
+-- What the filter `date` returns.
 use Rattle.std.proofs.Common.{inl, inr}
 use Rattle.std.specs.Prelude.{◌⊎◌, ℕ, List, [], ◌∷◌, length, nat_eq, cond, Option, Result, Ok, Err}
 use Rattle.std.specs.Str.{chars}
@@ -16,7 +16,7 @@ use Rattle.std_dates.specs.meaning.Moments.{IsMomentOf}
 use Rattle.std_dates.proofs.MomentLemmas.{moment_of}
 use Rattle.std_values.specs.meaning.Errors.{unexpected_arguments}
 
--- what a date time prints a pattern as: the answer of the one reading that the pattern has
+-- what a date time prints by a pattern: the result of the one reading that the pattern has
 abbrev pub formatted : DateTime → List ℕ → Result (List ℕ) DateFormatError
 formatted dt pattern = answer_of dt (some_reading (chars pattern)).items (some_reading (chars pattern)).end
 
@@ -25,12 +25,12 @@ abbrev pub printed : List ℕ → Result (List ℕ) DateFormatError → Result T
 printed pattern (Ok bytes) = Ok (scalar (text bytes))
 printed pattern (Err e) = Err (pattern_error (date_format_error_text e) pattern)
 
--- what is printed of the moment that an input stands for, and the input where it stands for none
+-- what is printed for the moment that an input means, or the input if it means none
 abbrev pub printed_moment : {P : DateTime → Type 0} → Tree → List ℕ → (((dt : DateTime) × P dt) ⊎ ((dt : DateTime) → ¬ (P dt))) → Result Tree Refusal
 printed_moment input pattern (inl (dt, _)) = printed pattern (formatted dt pattern)
 printed_moment input pattern (inr _) = Ok input
 
--- the same, but for an empty pattern, with which the input is kept
+-- the same, except for an empty pattern, with which the input is kept
 abbrev pub printed_by : Option DateTime → Tree → List ℕ → Result Tree Refusal
 printed_by now input pattern = cond (nat_eq (length pattern) 0) (Ok input) (printed_moment {P = IsMomentOf now input} input pattern (moment_of now input))
 

@@ -4,7 +4,7 @@ use Rattle.liquid_value.specs.meaning.Cow.{cow_view}
 use Rattle.liquid_value.specs.meaning.Tree.{Tree}
 use Rattle.std_filters.specs.declared.arguments.CallArguments.{CallArguments}
 
--- the values by place, and those by keyword
+-- the positional values, and those with a keyword
 pub record Given : Type 0 where
   pub positional : List Tree
   pub keyword : List (List ℕ × Tree)
@@ -13,6 +13,6 @@ pub record Given : Type 0 where
 abbrev pub given : CallArguments → Given
 given a = record { positional = map cow_view a.positional.now; keyword = map (λ k. (k.0.now, cow_view k.1)) a.keyword.now }
 
--- values by place, and none by keyword
+-- positional values, and none with a keyword
 abbrev pub alone : List Tree → Given
 alone ts = record { positional = ts; keyword = [] }

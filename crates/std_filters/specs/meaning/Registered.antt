@@ -15,7 +15,7 @@ use Rattle.std_filters.specs.declared.plugin.FilterPlugin.{FilterPlugin}
 use Rattle.std_filters.specs.meaning.Sense.{FilterSense}
 use Rattle.std_filters.specs.meaning.Standard.{std_sense}
 
--- what a kind means that is a library's or a host's own
+-- what a kind means that is a library's or a host's own kind
 abbrev pub sense_beside : {L O : Type 0} → (L → FilterSense) → (O → FilterSense) → Beside L O → FilterSense
 sense_beside library own (Library kind) = library kind
 sense_beside library own (Own kind) = own kind
@@ -24,7 +24,7 @@ sense_beside library own (Own kind) = own kind
 abbrev pub register : {K : Type 0} → (K → FilterSense) → NameMap (FilterPlugin K) → K → NameMap (FilterPlugin K)
 register sense before kind = insert before (sense kind).name (record { kind = kind })
 
--- filters under their names; of two of one name the later stays
+-- filters under their names; of two with one name the later is kept
 abbrev pub registered : {K : Type 0} → (K → FilterSense) → NameMap (FilterPlugin K) → List K → NameMap (FilterPlugin K)
 registered sense before [] = before
 registered sense before (kind ∷ kinds) = registered sense (register sense before kind) kinds
@@ -47,7 +47,7 @@ timeless_kinds =
     ∷ std.Numbers numbers.Round ∷ std.Numbers numbers.Times ∷ std.Values values.Default ∷ std.Values values.Json
     ∷ std.Values values.Size ∷ []
 
--- `date`, to which `now` and `today` are this moment, if there is one
+-- `date`, for which `now` and `today` are this moment, if there is one
 abbrev pub date_kind : Option DateTime → StdKind
 date_kind now = std.Dates (record { now = now })
 
@@ -55,7 +55,7 @@ date_kind now = std.Dates (record { now = now })
 abbrev pub standard_filters : Option DateTime → NameMap (FilterPlugin StdKind)
 standard_filters now = register std_sense (registered std_sense empty timeless_kinds) (date_kind now)
 
--- the same, as a part of a table with a host's own
+-- the same, as a part of a table with a host's own filters
 abbrev pub library_filters : {O : Type 0} → (O → FilterSense) → Option DateTime → NameMap (FilterPlugin (Beside StdKind O))
 library_filters own now = register (sense_beside std_sense own) (registered (sense_beside std_sense own) empty (map Library timeless_kinds)) (Library (date_kind now))
 

@@ -1,9 +1,9 @@
--- A filter's row beside its meaning.
+-- A filter's row and its meaning.
 use Rattle.std.specs.Prelude.{◌≡◌, map}
 use Rattle.std_filters.specs.declared.row.FilterRow.{FilterRow}
 use Rattle.std_filters.specs.meaning.Sense.{FilterSense}
 
--- the row has the name, parameters that are optional where the argument may be left out, and the keywords
+-- the row has the name, parameters that are optional if the argument may be left out, and the keywords
 pub record IsRow (sense : FilterSense) (row : FilterRow) : Type 0 where
   pub name : row.name.now ≡ sense.name
   pub parameters : map (λ p. p.is_optional) row.parameters.now ≡ sense.optional

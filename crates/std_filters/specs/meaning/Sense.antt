@@ -4,7 +4,8 @@ use Rattle.liquid_error.specs.meaning.Refusal.{Refusal}
 use Rattle.liquid_value.specs.meaning.Tree.{Tree}
 use Rattle.std_filters.specs.meaning.Given.{Given}
 
--- the name; for each argument by place whether it may be left out; the keywords; what it makes of an input and arguments
+-- the name; for each positional argument whether it may be left out; the keywords; what it makes of an input and
+-- arguments
 pub record FilterSense : Type 0 where
   pub name : List ℕ
   pub optional : List Bool

@@ -1,4 +1,4 @@
--- The standard filters: each kind's name, parameters and answer.
+-- The standard filters: each kind's name, parameters and result.
 use Rattle.std.specs.Prelude.{ℕ, List, [], ◌∷◌, Bool, true, false, codes, Result, Ok}
 use Rattle.liquid_error.specs.meaning.Refusal.{Refusal}
 use Rattle.liquid_value.specs.meaning.Tree.{Tree}
@@ -33,7 +33,7 @@ use Rattle.std_filters.specs.meaning.Sense.{FilterSense}
 use Rattle.std_filters.specs.meaning.Json.{as_json}
 use Rattle.std_filters.specs.meaning.Values.{defaulted, size}
 
--- what a filter takes by place: for each argument whether it may be left out
+-- the positional arguments that a filter takes: for each whether it may be left out
 abbrev pub none : List Bool
 none = []
 
@@ -52,7 +52,7 @@ one_or_two = false ∷ true ∷ []
 abbrev pub at_most_two : List Bool
 at_most_two = true ∷ true ∷ []
 
--- a filter of this name that takes arguments by place alone
+-- a filter of this name that takes only positional arguments
 abbrev pub placed : List ℕ → List Bool → (Tree → List Tree → Result Tree Refusal) → FilterSense
 placed name optional answers = record { name = name; optional = optional; keywords = []; answers = λ input g. answers input g.positional }
 

@@ -1,4 +1,4 @@
--- What the filters on any value answer.
+-- What the filters on any value return.
 use Rattle.std.specs.Prelude.{ℕ, pos, List, [], ◌∷◌, ◌&&◌, Bool, true, false, not, cond, codes, Option, None, Some, Result, Ok, Err}
 use Rattle.liquid_error.specs.meaning.Refusal.{Refusal}
 use Rattle.liquid_scalar.specs.meaning.Scalar.{integer, boolean, text}
@@ -20,11 +20,11 @@ abbrev pub allows_false : Option Tree → Bool
 allows_false None = false
 allows_false (Some t) = truthy t
 
--- whether the input is nil, false or empty, except for `false` where it is kept
+-- whether the input is nil, false or empty, except for a `false` that is kept
 abbrev pub is_missing : Tree → Option Tree → Bool
 is_missing input allow = query_state input DefaultValue && not (is_false input && allows_false allow)
 
--- the argument, or the empty text without one, where the input is missing; else the input
+-- the argument, or the empty text without one, if the input is missing; otherwise the input
 abbrev pub chosen : Tree → List Tree → Bool → Result Tree Refusal
 chosen input [] missing = Ok (cond missing (scalar (text [])) input)
 chosen input (t ∷ []) missing = Ok (cond missing t input)
@@ -33,6 +33,6 @@ chosen input other missing = Err unexpected_arguments
 abbrev pub defaulted : Tree → Given → Result Tree Refusal
 defaulted input g = chosen input g.positional (is_missing input (keyword_of (codes "allow_false") g.keyword))
 
--- how many entries or characters there are, as a value
+-- the number of entries or characters, as a value
 abbrev pub size : Tree → Tree
 size input = scalar (integer (pos (size_of input)))

@@ -1,4 +1,4 @@
--- What the filters that choose items by their keys answer.
+-- What the filters that choose items by their keys return.
 use Rattle.std.specs.Prelude.{List, [], ◌∷◌, Bool, not, map, filter, Some, Result, Ok, Err}
 use Rattle.liquid_error.specs.meaning.Refusal.{Refusal, ok_then}
 use Rattle.liquid_value.specs.meaning.Parts.{is_nil}
@@ -31,7 +31,7 @@ mapped input other = Err unexpected_arguments
 abbrev pub compacted : Tree → List Tree → Result Tree Refusal
 compacted input arguments = ok_then (entries input arguments) (λ es. Ok (having (λ key. not (is_nil key)) es))
 
--- whether a property is as wanted: the same, or truthy where no value is wanted
+-- whether a property is as wanted: the same, or truthy if no value is wanted
 abbrev pub is_wanted : Tree → Tree → Bool
 is_wanted nil key = truthy key
 is_wanted t key = same_value key t
@@ -45,7 +45,7 @@ where_property input (name ∷ []) = having_property input name nil
 where_property input (name ∷ wanted ∷ []) = having_property input name wanted
 where_property input other = Err unexpected_arguments
 
--- the entries of which none before has the same key
+-- the entries whose key is not the same as one before
 abbrev pub distinct : List (Tree × Tree) → List (Tree × Tree)
 distinct [] = []
 distinct (e ∷ es) = e ∷ filter (λ later. not (same_value e.0 later.0)) (distinct es)

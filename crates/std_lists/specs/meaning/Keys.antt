@@ -1,4 +1,4 @@
--- What a filter looks at in an item: the item itself, or a property of it.
+-- What a filter reads of an item: the item itself, or a property of it.
 use Rattle.std.specs.Prelude.{ℕ, List, [], ◌∷◌, Option, Some, None, Result, Ok, Err}
 use Rattle.liquid_error.specs.meaning.Refusal.{Refusal, ok_then}
 use Rattle.liquid_value.specs.meaning.Render.{render}

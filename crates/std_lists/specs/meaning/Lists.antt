@@ -1,4 +1,4 @@
--- What the filters on whole lists answer.
+-- What the filters on whole lists return.
 use Rattle.std.specs.Prelude.{ℕ, List, [], ◌∷◌, ◌++◌, codes, reverse, Result, Ok, Err}
 use Rattle.std.specs.List.{join_by}
 use Rattle.liquid_error.specs.meaning.Refusal.{Refusal}
@@ -13,7 +13,7 @@ use Rattle.std_values.specs.meaning.Items.{flat, own_items}
 abbrev pub list_of : List Tree → Tree
 list_of ts = array (items_of ts)
 
--- an array's first item, the name and the value of an object's first member, and else nil
+-- an array's first item, the name and the value of an object's first member, otherwise nil
 abbrev pub first_item : Items → Tree
 first_item no_items = nil
 first_item (item t ts) = t
@@ -27,7 +27,7 @@ first (array ts) = first_item ts
 first (object ms) = first_member ms
 first other = nil
 
--- an array's last item, and else nil
+-- an array's last item, otherwise nil
 abbrev pub last_item : Tree → Items → Tree
 last_item before no_items = before
 last_item before (item t ts) = last_item t ts
@@ -40,7 +40,7 @@ last other = nil
 abbrev pub reversed : Tree → Tree
 reversed input = list_of (reverse (flat input))
 
--- the items, then those of another array as they are
+-- the items, then those of another array, unchanged
 abbrev pub concatenated : Tree → Tree → Result Tree Refusal
 concatenated input (array ts) = Ok (list_of (flat input ++ own_items ts))
 concatenated input other = Err (array_expected other)
@@ -53,7 +53,7 @@ concat input other = Err unexpected_arguments
 abbrev pub joined : List ℕ → Tree → Tree
 joined separator input = scalar (text (join_by render separator (flat input)))
 
--- the same, with a space where no separator is given
+-- the same, with a space if no separator is given
 abbrev pub join : Tree → List Tree → Result Tree Refusal
 join input [] = Ok (joined (codes " ") input)
 join input (t ∷ []) = Ok (joined (render t) input)

@@ -1,4 +1,4 @@
--- What the filters on numbers answer.
+-- What the filters on numbers return.
 use Rattle.std.specs.Prelude.{ℤ, pos, ◌+ℤ◌, ◌-ℤ◌, ◌*ℤ◌, unsigned_abs, List, [], ◌∷◌, cond, Result, Ok, Err}
 use Rattle.std.specs.Int.{int_max, int_min}
 use Rattle.std.specs.Ordering.{int_eq}
@@ -25,18 +25,18 @@ minus input arguments = ok_then (operands input arguments) (λ p. limited (fits 
 abbrev pub times : Tree → List Tree → Result Tree Refusal
 times input arguments = ok_then (operands input arguments) (λ p. limited (fits (p.0 *ℤ p.1)))
 
--- the same of a division, whose second number is not 0
+-- the same for a division, whose second number is not 0
 abbrev pub division_operands : Tree → List Tree → Result (ℤ × ℤ) Refusal
 division_operands input arguments = ok_then (operands input arguments) (λ p. cond (int_eq p.1 (pos 0)) (Err divided_by_zero) (Ok p))
 
--- the quotient rounded down, and what it leaves
+-- the quotient rounded down, and its remainder
 abbrev pub divided_by : Tree → List Tree → Result Tree Refusal
 divided_by input arguments = ok_then (division_operands input arguments) (λ p. limited (fits (floor_quotient p.0 p.1)))
 
 abbrev pub modulo : Tree → List Tree → Result Tree Refusal
 modulo input arguments = ok_then (division_operands input arguments) (λ p. limited (fits (floor_remainder p.0 p.1)))
 
--- the greater one, the lesser one
+-- the greater number, the lesser number
 abbrev pub at_least : Tree → List Tree → Result Tree Refusal
 at_least input arguments = ok_then (operands input arguments) (λ p. Ok (scalar (integer (int_max p.0 p.1))))
 
@@ -51,12 +51,12 @@ abs input = ok_then (number input) (λ n. limited (fits (pos (unsigned_abs n))))
 abbrev pub whole_number : Tree → Result Tree Refusal
 whole_number input = ok_then (number input) (λ n. Ok (scalar (integer n)))
 
--- how many digits to round to: none, or as many as the argument says
+-- the number of digits to round to: none, or as many as the argument says
 abbrev pub digits : List Tree → Result ℤ Refusal
 digits [] = Ok (pos 0)
 digits (t ∷ []) = number t
 digits other = Err unexpected_arguments
 
--- the number rounded to so many digits
+-- the number rounded to that many digits
 abbrev pub round : Tree → List Tree → Result Tree Refusal
 round input arguments = ok_then (number input) (λ n. ok_then (digits arguments) (λ d. limited (fits (rounded n d))))

@@ -17,7 +17,7 @@ use Rattle.std_lists.specs.meaning.Choices.{items_in, keys_of}
 use Rattle.std_lists.specs.meaning.Keys.{entries}
 use Rattle.std_lists.specs.meaning.Lists.{list_of}
 
--- the place of each kind of scalars
+-- the rank of each kind of scalars
 abbrev pub scalar_rank : Scal → ℕ
 scalar_rank (integer n) = 0
 scalar_rank (boolean b) = 1
@@ -25,7 +25,7 @@ scalar_rank (text t) = 2
 scalar_rank (date d) = 3
 scalar_rank (date_time dt) = 4
 
--- the place of each kind of keys: the kinds of scalars, then all that has no order, and nil last
+-- the rank of each kind of keys: the kinds of scalars, then everything that has no order, and nil last
 abbrev pub rank : Tree → ℕ
 rank (scalar x) = scalar_rank x
 rank nil = 6
@@ -36,20 +36,20 @@ abbrev pub order_in_kind : Tree → Tree → Option Ordering
 order_in_kind (scalar x) (scalar y) = scalar_cmp x y
 order_in_kind x y = None
 
--- which of two keys comes first: by their kinds, and in a kind by the order of scalars
+-- which of two keys is first: by their kinds, and in one kind by the order of scalars
 abbrev pub key_cmp : Tree → Tree → Ordering
 key_cmp x y = ordering_then (nat_cmp (rank x) (rank y)) (unwrap_or (order_in_kind x y) Equal)
 
--- whether an entry comes before another, since its key does
+-- whether an entry comes before another because its key does
 abbrev pub comes_before : Tree × Tree → Tree × Tree → Bool
 comes_before a b = is_lt (key_cmp a.0 b.0)
 
--- an entry put before the first one that does not have to come before it
+-- an entry put before the first one that does not have to be before it
 abbrev pub put_in : {X : Type 0} → (X → X → Bool) → X → List X → List X
 put_in before x [] = x ∷ []
 put_in before x (y ∷ ys) = cond (before y x) (y ∷ put_in before x ys) (x ∷ y ∷ ys)
 
--- the entries in order; where neither has to come first they stay as they are
+-- the entries in order; those where neither has to be first stay as they are
 abbrev pub in_order : {X : Type 0} → (X → X → Bool) → List X → List X
 in_order before [] = []
 in_order before (x ∷ xs) = put_in before x (in_order before xs)
@@ -73,7 +73,7 @@ abbrev pub checked : Option (Tree × Tree) → Result (Unit {0}) Refusal
 checked (Some p) = Err (without_order p.0 p.1)
 checked None = Ok tt
 
--- the keys that are there
+-- the keys that are not nil
 abbrev pub present : List Tree → List Tree
 present keys = filter (λ key. not (is_nil key)) keys
 

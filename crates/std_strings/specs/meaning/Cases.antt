@@ -7,7 +7,7 @@ use Rattle.std.specs.Char.Unicode.ToUppercase.{to_uppercase}
 abbrev pub lowercased : List ℕ → List ℕ
 lowercased bytes = encode_utf8_all (flat_map to_lowercase (chars bytes))
 
--- of characters: the first in upper case, the others in lower case
+-- for characters: the first in upper case, the others in lower case
 abbrev pub capital_first : List ℕ → List ℕ
 capital_first [] = []
 capital_first (c ∷ cs) = to_uppercase c ++ flat_map to_lowercase cs

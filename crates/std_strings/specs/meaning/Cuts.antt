@@ -5,18 +5,18 @@ use Rattle.std.specs.List.{join_by}
 use Rattle.std.specs.Str.{trim_end}
 use Rattle.std_strings.specs.meaning.Split.{words}
 
--- the text if it has at most that many characters, else its first ones and the ending, with that many in all if the ending
--- has no more
+-- the text if it has at most that many characters, otherwise its first ones and the ending, with that many in all if
+-- the ending has no more
 abbrev pub truncated : ℤ → List ℕ → List ℕ → List ℕ
 truncated (pos n) ending text =
     cond (nat_le (length (chars text)) n) text (encode_utf8_all (take (n - length (chars ending)) (chars text)) ++ ending)
 truncated (negsuc n) ending text = ending
 
--- whether anything follows the word at that count, white space too
+-- whether anything follows the word at that count, even white space
 abbrev pub goes_on : ℕ → List ℕ → Bool
 goes_on n text = nat_lt n (length (words text)) || (length (words text) == n && not (length (trim_end text) == length text))
 
--- the text if nothing follows the word at that count, which is at least 1, else the words up to it and the ending
+-- the text if nothing follows the word at that count, which is at least 1, otherwise the words up to it and the ending
 abbrev pub truncated_at : ℕ → List ℕ → List ℕ → List ℕ
 truncated_at n ending text = cond (goes_on n text) (join_by (λ word. word) (codes " ") (take n (words text)) ++ ending) text
 

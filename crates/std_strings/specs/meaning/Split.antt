@@ -10,12 +10,12 @@ use Rattle.std_strings.specs.meaning.Pieces.{pieces}
 abbrev pub words : List ℕ → List (List ℕ)
 words text = map encode_utf8_all (filter (λ part. nat_lt 0 (length part)) (slice_split is_whitespace (chars text)))
 
--- the pieces but for empty ones at the end
+-- the pieces without empty ones at the end
 abbrev pub without_empty_end : List (List ℕ) → List (List ℕ)
 without_empty_end [] = []
 without_empty_end (p ∷ ps) = cond (length p == 0 && length (without_empty_end ps) == 0) [] (p ∷ without_empty_end ps)
 
--- the words where the separator is a space, the characters where it is empty, else the pieces between its places
+-- the words if the separator is a space, the characters if it is empty, otherwise the pieces between its places
 abbrev pub split : List ℕ → List ℕ → List (List ℕ)
 split separator text =
     if bytes_eq separator (codes " ") then words text

@@ -4,7 +4,8 @@ use Rattle.std.specs.Prelude.{Option, Some, None, codes, drop, length, nat_eq, o
 use Rattle.std.specs.List.{starts_with}
 use Rattle.memchr.specs.Find.{first_of, matches}
 
--- how long the part is with which a text begins: an opener, and all up to the first closer after it and that closer
+-- the length of the part with which a text begins: an opener, and everything up to the first closer after it and that
+-- closer
 abbrev pub part_len : List ℕ → List ℕ → List ℕ → Option ℕ
 part_len opener closer text =
     if starts_with nat_eq text opener
@@ -16,7 +17,7 @@ abbrev pub first_some : Option ℕ → Option ℕ → Option ℕ
 first_some None other = other
 first_some (Some n) other = Some n
 
--- the same by the first of these openers and closers of which there is one
+-- the same for the first of these openers and closers that has one
 abbrev pub first_part : List (List ℕ × List ℕ) → List ℕ → Option ℕ
 first_part [] text = None
 first_part (kind ∷ kinds) text = first_some (part_len kind.0 kind.1 text) (first_part kinds text)
@@ -26,12 +27,12 @@ abbrev pub byte_kept : Option ℕ → ℕ → List ℕ
 byte_kept None b = b ∷ []
 byte_kept (Some n) b = []
 
--- how many bytes of a part follow its first
+-- the number of bytes of a part after its first
 abbrev pub then_passed : Option ℕ → ℕ
 then_passed None = 0
 then_passed (Some n) = n - 1
 
--- after so many bytes that are passed over, the text without its parts of these kinds, from left to right
+-- after that many bytes that are left out, the text without its parts of these kinds, from left to right
 abbrev pub without_after : List (List ℕ × List ℕ) → ℕ → List ℕ → List ℕ
 without_after kinds n [] = []
 without_after kinds zero (b ∷ bs) =

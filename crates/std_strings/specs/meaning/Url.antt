@@ -5,7 +5,7 @@ use Rattle.std_strings.specs.declared.url.TheConstants.{ESCAPED}
 use Rattle.std_strings.specs.meaning.Replace.{replaced}
 use Rattle.std_strings.specs.meaning.Utf8.{text_of_bytes}
 
--- each byte escaped but ASCII letters, digits, `_.-~` and the space, which is then a plus sign
+-- each byte escaped except ASCII letters, digits, `_.-~` and the space, which is then a plus sign
 abbrev pub url_encoded : List ℕ → List ℕ
 url_encoded text = replaced (codes " ") (codes "+") (percent_encode ESCAPED text)
 

@@ -1,4 +1,4 @@
--- Kinds of parts that a text is read without.
+-- Kinds of parts that are left out of a text.
 use Rattle.std.specs.Prelude.{ℕ, ◌<◌, List, length}
 use Rattle.memchr.specs.Find.{OccursAt}
 use Rattle.std_strings.specs.declared.tags.Kind.{Kind}

@@ -1,4 +1,4 @@
--- What filters that cut a text or an array answer.
+-- What filters that cut a text or an array return.
 use Rattle.std.specs.Prelude.{ℕ, ℤ, pos, List, [], ◌∷◌, codes, Result, Ok, Err}
 use Rattle.liquid_error.specs.meaning.Refusal.{Refusal, ok_then}
 use Rattle.liquid_value.specs.meaning.Render.{render}
@@ -16,7 +16,7 @@ abbrev pub truncated : ℤ → List ℕ → Tree → Tree
 truncated n ending nil = nil
 truncated n ending input = written (strings.truncated n ending (render input))
 
--- the same by a value that is a whole number, which nil does not ask for
+-- the same for a value that must be a whole number, unless the input is nil
 abbrev pub truncated_to : Tree → List ℕ → Tree → Result Tree Refusal
 truncated_to count ending nil = Ok nil
 truncated_to count ending input = ok_then (whole count) (λ n. Ok (truncated n ending input))
@@ -33,7 +33,7 @@ abbrev pub words_truncated : ℤ → List ℕ → Tree → Tree
 words_truncated n ending nil = nil
 words_truncated n ending input = written (strings.truncated_words n ending (render input))
 
--- the same by a value that is a whole number, which nil does not ask for
+-- the same for a value that must be a whole number, unless the input is nil
 abbrev pub words_truncated_to : Tree → List ℕ → Tree → Result Tree Refusal
 words_truncated_to count ending nil = Ok nil
 words_truncated_to count ending input = ok_then (whole count) (λ n. Ok (words_truncated n ending input))
@@ -45,16 +45,16 @@ truncatewords input (count ∷ []) = words_truncated_to count (codes "...") inpu
 truncatewords input (count ∷ ending ∷ []) = words_truncated_to count (render ending) input
 truncatewords input other = Err unexpected_arguments
 
--- the items of an array from a place on, as many as asked
+-- the items of an array from a place on, that many of them
 abbrev pub sliced_items : ℤ → ℤ → Items → Tree
 sliced_items start length items = array (items_of (slices.sliced start length (own_items items)))
 
--- the same of an array, and of the characters of another value's text
+-- the same for an array, and for the characters of another value's text
 abbrev pub sliced : ℤ → ℤ → Tree → Tree
 sliced start length (array items) = sliced_items start length items
 sliced start length input = written (slices.sliced_text start length (render input))
 
--- how many a value asks for; nil asks for one
+-- the length that a value gives; nil gives 1
 abbrev pub slice_length : Tree → Result ℤ Refusal
 slice_length nil = Ok (pos 1)
 slice_length other = whole other

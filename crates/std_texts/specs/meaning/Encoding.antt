@@ -1,4 +1,4 @@
--- What filters that encode and decode a text answer.
+-- What filters that encode and decode a text return.
 use Rattle.std.specs.Prelude.{ℕ, List, Option, Some, None, Result, Ok, Err}
 use Rattle.base64.specs.declared.decode.DecodeError.{DecodeError}
 use Rattle.base64.specs.Engines.{standard}
@@ -35,6 +35,6 @@ abbrev pub decoded_bytes : Result (List ℕ) DecodeError → Result Tree Refusal
 decoded_bytes (Ok bytes) = decoded_text (text_of_bytes bytes)
 decoded_bytes (Err e) = Err invalid_base64
 
--- the text of which the input is the base64
+-- the text whose base64 is the input
 abbrev pub base64_decoded : Tree → Result Tree Refusal
 base64_decoded input = decoded_bytes (decode_of standard (render input))

@@ -1,4 +1,4 @@
--- What filters for HTML answer.
+-- What filters for HTML return.
 use Rattle.liquid_value.specs.meaning.Render.{render}
 use Rattle.liquid_value.specs.meaning.Tree.{Tree, nil}
 use Rattle.std_strings.specs.meaning.Escape.{escaped, escaped_once}
@@ -10,7 +10,7 @@ abbrev pub html_escaped : Tree → Tree
 html_escaped nil = nil
 html_escaped input = written (escaped (render input))
 
--- the same, but for ampersands that begin an entity
+-- the same, except for ampersands that begin an entity
 abbrev pub html_escaped_once : Tree → Tree
 html_escaped_once nil = nil
 html_escaped_once input = written (escaped_once (render input))

@@ -1,4 +1,4 @@
--- What filters that join two texts answer.
+-- What filters that join two texts return.
 use Rattle.std.specs.Prelude.{List, [], ◌∷◌, ◌++◌, Result, Ok, Err}
 use Rattle.liquid_error.specs.meaning.Refusal.{Refusal}
 use Rattle.liquid_value.specs.meaning.Render.{render}
@@ -6,7 +6,7 @@ use Rattle.liquid_value.specs.meaning.Tree.{Tree}
 use Rattle.std_values.specs.meaning.Errors.{unexpected_arguments}
 use Rattle.std_texts.specs.meaning.Written.{written}
 
--- the texts of two values, one after the other
+-- the texts of two values, one after another
 abbrev pub joined : Tree → Tree → Tree
 joined front back = written (render front ++ render back)
 

@@ -1,4 +1,4 @@
--- What filters that change the case of letters answer.
+-- What filters that change the case of letters return.
 use Rattle.std.specs.StrCase.Upper.{str_to_uppercase}
 use Rattle.liquid_value.specs.meaning.Render.{render}
 use Rattle.liquid_value.specs.meaning.Tree.{Tree}

@@ -1,4 +1,4 @@
--- What filters on the ends of lines answer.
+-- What filters on the ends of lines return.
 use Rattle.std.specs.Prelude.{codes}
 use Rattle.liquid_value.specs.meaning.Render.{render}
 use Rattle.liquid_value.specs.meaning.Tree.{Tree}

@@ -12,7 +12,7 @@ unexpected_arguments = plain (codes "Unexpected arguments")
 abbrev pub found_error : List ℕ → Tree → Refusal
 found_error message t = with_context (codes "found") (source t) (plain message)
 
--- a value that is no number
+-- a value that is not a number
 abbrev pub whole_number_expected : Tree → Refusal
 whole_number_expected t = found_error (codes "Whole number expected") t
 
@@ -24,15 +24,15 @@ past_limit = plain (codes "Number past its limit")
 abbrev pub divided_by_zero : Refusal
 divided_by_zero = plain (codes "Divided by zero")
 
--- a value that is no array
+-- a value that is not an array
 abbrev pub array_expected : Tree → Refusal
 array_expected t = found_error (codes "Array expected") t
 
--- a value that has no property of this name, since it is no object
+-- a value that has no property of this name, since it is not an object
 abbrev pub object_expected : List ℕ → Tree → Refusal
 object_expected name t = with_context (codes "found") (source t) (with_context (codes "property") name (plain (codes "Object expected")))
 
--- two values of which neither comes first
+-- two values that have no order
 abbrev pub without_order : Tree → Tree → Refusal
 without_order first second = with_context (codes "second") (source second) (with_context (codes "first") (source first) (plain (codes "Values without an order")))
 

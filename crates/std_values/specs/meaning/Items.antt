@@ -2,7 +2,7 @@
 use Rattle.std.specs.Prelude.{List, [], ◌∷◌, ◌++◌}
 use Rattle.liquid_value.specs.meaning.Tree.{Tree, nil, state, scalar, array, object, Items, no_items, item}
 
--- an item itself, and for an array among the items its own ones, at every depth
+-- an item itself, or for an array among the items its own items, at every depth
 abbrev mutual
   pub flat_item : Tree → List Tree
   flat_item nil = nil ∷ []
@@ -15,7 +15,7 @@ abbrev mutual
   flat_items no_items = []
   flat_items (item t ts) = flat_item t ++ flat_items ts
 
--- nothing of nil and of a state, an array's items, and else the value itself
+-- nothing for nil and for a state, an array's items, otherwise the value itself
 abbrev pub flat : Tree → List Tree
 flat nil = []
 flat (state s) = []
@@ -23,7 +23,7 @@ flat (scalar x) = scalar x ∷ []
 flat (array ts) = flat_items ts
 flat (object ms) = object ms ∷ []
 
--- the items of an array as they are, without those of arrays among them
+-- the items of an array, unchanged, without those of arrays among them
 abbrev pub own_items : Items → List Tree
 own_items no_items = []
 own_items (item t ts) = t ∷ own_items ts

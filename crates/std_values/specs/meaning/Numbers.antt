@@ -7,12 +7,12 @@ use Rattle.liquid_scalar.specs.meaning.Scalar.{Scal, integer, text, to_integer, 
 use Rattle.liquid_value.specs.meaning.Tree.{Tree, nil, scalar}
 use Rattle.std_values.specs.meaning.Errors.{past_limit, whole_number_expected}
 
--- the number of a scalar: a number itself, and what a text writes between white space
+-- the number of a scalar: a number itself, or what a text writes between white space
 abbrev pub scalar_number : Scal → Option ℤ
 scalar_number (text t) = whole_number_of_text (trim t)
 scalar_number other = to_integer other
 
--- the whole number that a value is, if it is one
+-- the whole number of a value, if it is one
 abbrev pub whole_of : Tree → Option ℤ
 whole_of (scalar x) = scalar_number x
 whole_of other = None
@@ -22,19 +22,19 @@ abbrev pub number_of : Tree → Option ℤ
 number_of nil = Some (pos 0)
 number_of other = whole_of other
 
--- the whole number, or the error of a value that is none
+-- the whole number, or the error for a value that is not one
 abbrev pub whole : Tree → Result ℤ Refusal
 whole t = ok_or (whole_of t) (whole_number_expected t)
 
--- the number, or the error of a value that has none
+-- the number, or the error for a value that has none
 abbrev pub number : Tree → Result ℤ Refusal
 number t = ok_or (number_of t) (whole_number_expected t)
 
--- the number where it is from -2^63 to 2^63 - 1
+-- the number if it is from -2^63 to 2^63 - 1
 abbrev pub fits : ℤ → Option ℤ
 fits n = cond (le_z (neg_ℤ (pos (2 ^ 63))) n && le_z n (pos (2 ^ 63 - 1))) (Some n) None
 
--- the value of a number, and the error where it does not fit
+-- the value of a number, or the error if it does not fit
 abbrev pub limited : Option ℤ → Result Tree Refusal
 limited (Some n) = Ok (scalar (integer n))
 limited None = Err past_limit

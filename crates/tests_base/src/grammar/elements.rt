@@ -5,9 +5,9 @@ use liquid_grammar::{
 use std::test::Fail;
 use tests_lines::{Line, holds, rows_hold, same};
 
-// A text and the texts of its elements, in order. A tag's text stands behind `tag:`, an
-// expression's behind `exp:`, an invalid element's behind `bad:`: such as text alone, elements, dashes
-// that take white space, and openers that begin no element of the language.
+// A text and the texts of its elements, in order. A tag's text follows `tag:`, an expression's follows `exp:`, and an
+// invalid element's follows `bad:`. There are texts alone, elements, dashes that take white space, and openers that
+// begin no element of the language.
 const COVERS: &str = r#"["", []]
 ["a{b}c % }}", ["a{b}c % }}"]]
 [" \t\r\n ", [" \t\r\n "]]
@@ -27,7 +27,7 @@ const COVERS: &str = r#"["", []]
 ["{{ \"a\" | append, \"b\" }}", ["bad:{", "{ \"a\" | append, \"b\" }}"]]
 ["é{{ 'é漢' }}漢😀{{ é }}", ["é", "exp:{{ 'é漢' }}", "漢😀", "bad:{", "{ é }}"]]"#;
 
-/// Whether the row's text has the row's elements, in order, and no others.
+/// Returns `true` if the row's text has the row's elements, in order, and no others.
 fn covers(row: &Line) -> Result<bool, Fail> {
     let mut rest = row.text(0)?;
     for element in row.list(1)? {
@@ -71,7 +71,7 @@ fn tags_have_parts(_rt: HostRuntime) -> Result<(), Fail> {
     }
 }
 
-/// The kind of the first fault.
+/// Returns the kind of the first fault.
 fn kind_of(fault: Option<Fault<'_>>) -> Option<FaultKind> {
     match fault {
         Some(fault) => Some(fault.kind),

@@ -1,4 +1,4 @@
-//! The parts that each walk over a matched text hands out.
+//! The parts that each walk over a matched text returns.
 use super::told;
 use liquid_grammar::{
     ArgumentStart, ChainStep, FilterStart, Head, IndexStart, Literal, TokenKind, TokenParts,
@@ -60,8 +60,8 @@ fn arguments_begin_by_a_colon_or_a_comma(_rt: HostRuntime) -> Result<(), Fail> {
     holds(next_argument("", false).is_none(), "none")
 }
 
-// Arguments behind a comma: the name, or nothing where the argument has none, the kind of what its value begins with
-// and the text of that, and what is left behind it. An identifier is a name only where a colon and a value follow it.
+// Arguments after a comma: the name, or nothing if the argument has none, the kind of what its value begins with and
+// the text of that, and what is left after it. An identifier is a name only if a colon and a value follow it.
 const ARGUMENTS: &str = r#"[", a: b", "a", "name", "b", ""]
 [", a : b c", "a", "name", "b", " c"]
 [" ,a:b", "a", "name", "b", ""]
@@ -82,7 +82,7 @@ const ARGUMENTS: &str = r#"[", a: b", "a", "name", "b", ""]
 [", "]
 ["a: b"]"#;
 
-/// What a value begins with, as the tables name it.
+/// Returns what a value begins with, as the tables name it.
 fn head_told<'a>(head: Head<'a>) -> (&'a str, &'a str) {
     match head {
         Head::Literal(literal) => told(literal),

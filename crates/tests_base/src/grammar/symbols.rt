@@ -5,13 +5,13 @@ use std::alloc::Global;
 use std::test::Fail;
 use tests_lines::{Line, rows_hold};
 
-// A symbol, and what it leaves of each symbol behind it: the longest symbol is taken.
+// A symbol, and what it leaves of each symbol after it: the longest symbol is taken.
 const SHORT_FIRST: &str =
     r#"["<", [["<=", "<="], [">=", "="], ["==", "="], ["!=", "!="], ["<>", "<>"], ["<", "<"], [">", ""], ["=", ""], [",", ","], [":", ":"]]]
 [">", [["<=", "<="], [">=", ">="], ["==", "="], ["!=", "!="], ["<>", "<>"], ["<", "<"], [">", ">"], ["=", ""], [",", ","], [":", ":"]]]
 ["=", [["<=", "<="], [">=", ">="], ["==", "="], ["!=", "!="], ["<>", "<>"], ["<", "<"], [">", ">"], ["=", ""], [",", ","], [":", ":"]]]"#;
 
-// A symbol that no other begins, and the symbols behind it, which it leaves whole.
+// A symbol that begins no other, and the symbols after it, which it leaves whole.
 const LONG_FIRST: &str = r#"["<=", ["<=", ">=", "==", "!=", "<>", "<", ">", "=", ",", ":"]]
 [">=", ["<=", ">=", "==", "!=", "<>", "<", ">", "=", ",", ":"]]
 ["==", ["<=", ">=", "==", "!=", "<>", "<", ">", "=", ",", ":"]]
@@ -26,7 +26,7 @@ fn is_behind_symbol(alloc: Global, first: &str, second: &str, rest: &str) -> Res
     leaves("token", text.as_str(), Some(rest))
 }
 
-/// The text at a place of a list.
+/// Returns the text at a place of a list.
 fn text_at(list: &Json, place: usize) -> Result<&str, Fail> {
     match list.get(place) {
         Some(member) => match member.as_str() {
@@ -37,7 +37,8 @@ fn text_at(list: &Json, place: usize) -> Result<&str, Fail> {
     }
 }
 
-/// Whether the row's symbol leaves of each second symbol what stands beside it, where the longest is taken.
+/// Returns `true` if the row's symbol leaves of each second symbol what the row lists for it, where the longest is
+/// taken.
 fn is_short(alloc: Global, row: &Line) -> Result<bool, Fail> {
     let first = row.text(0)?;
     for pair in row.list(1)? {
@@ -49,7 +50,7 @@ fn is_short(alloc: Global, row: &Line) -> Result<bool, Fail> {
     Ok(true)
 }
 
-/// Whether the row's symbol leaves each of these symbols whole.
+/// Returns `true` if the row's symbol leaves each of these symbols whole.
 fn is_whole(alloc: Global, row: &Line) -> Result<bool, Fail> {
     let first = row.text(0)?;
     for symbol in row.list(1)? {

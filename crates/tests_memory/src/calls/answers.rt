@@ -1,3 +1,4 @@
+//! The results of calls, and their texts.
 use crate::problem::Problem;
 use bench::filters::AnyFilter;
 use bench::{Blocks, Filters, Tags};
@@ -11,14 +12,14 @@ use std::alloc::{AllocError, AllocFailed, Global};
 use std::borrow::CowStr;
 use std::collections::BTreeSet;
 
-/// What a call answers.
+/// The result of a call.
 #[derive(Drop)]
 pub enum Answer<'g> {
-    /// Want of memory.
+    /// The call was out of memory.
     Memory,
-    /// Nothing more than that the call did what it does.
+    /// The call did what it does, and has no other result.
     Done,
-    /// Nothing is there.
+    /// There is nothing.
     Nothing,
     Truth(bool),
     Refused(Error),
@@ -79,7 +80,7 @@ impl<'g> From<DateFormatError> for Answer<'g> {
     }
 }
 
-/// An answer on either side: the calls of a group use `?` on what they are answered.
+/// A result on either side: the calls of a group use `?` on their results.
 pub type Answered<'g> = Result<Answer<'g>, Answer<'g>>;
 
 fn listed(alloc: Global, names: &Vec<&str>) -> Result<String, AllocError> {
@@ -104,7 +105,7 @@ fn registered(alloc: Global, registry: &PluginRegistry<Filters>) -> Result<Strin
     Ok(all)
 }
 
-/// The text of an answer that is a part of a template or of a language, or an error.
+/// Returns the text of a result that is a part of a template or of a language, or an error.
 fn part_shown(alloc: Global, answer: Answer<'_>) -> Result<String, AllocError> {
     match answer {
         Answer::Cause(cause) => cause.to_string(alloc),
@@ -121,7 +122,7 @@ fn part_shown(alloc: Global, answer: Answer<'_>) -> Result<String, AllocError> {
     }
 }
 
-/// The answer's text, or none for want of memory.
+/// Returns the result's text, or `None` if it is out of memory.
 pub fn shown(alloc: Global, answer: Answer<'_>) -> Result<Option<String>, Problem> {
     let text = match answer {
         Answer::Memory => return Ok(None),

@@ -1,9 +1,10 @@
+//! Calls of dates.
 use crate::calls::answers::{Answer, Answered};
 use crate::calls::given::Given;
 use liquid_core::model::DateTime;
 use std::alloc::Global;
 
-/// What each call of dates answers.
+/// Returns the result of each call of dates.
 pub fn wanted(word: &str) -> &'static str {
     match word {
         "format" => "2016-047, Tuesday",

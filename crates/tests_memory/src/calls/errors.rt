@@ -1,3 +1,4 @@
+//! Calls of errors.
 use crate::calls::answers::{Answer, Answered};
 use crate::calls::given::Given;
 use liquid_core::error::{
@@ -6,7 +7,7 @@ use liquid_core::error::{
 };
 use std::alloc::Global;
 
-/// What each call of errors answers.
+/// Returns the result of each call of errors.
 pub fn wanted(word: &str) -> &'static str {
     match word {
         "with_msg" => "liquid: m\n",
@@ -30,7 +31,7 @@ fn cloned_report<'g>(error: Error) -> Answered<'g> {
     }
 }
 
-/// The calls of Results that are refused.
+/// Makes the calls of Results that have an error.
 fn of_results<'g>(alloc: Global, word: &str, error: Error) -> Answered<'g> {
     let failed: Result<()> = Err(error);
     match word {
@@ -47,7 +48,7 @@ fn of_results<'g>(alloc: Global, word: &str, error: Error) -> Answered<'g> {
     Ok(Answer::Done)
 }
 
-/// The calls that make an error.
+/// Makes the calls that make an error.
 fn of_new<'g>(alloc: Global, word: &str, given: &'g mut Given) -> Answered<'g> {
     match word {
         "with_msg" => Ok(Answer::from(Error::with_msg(alloc, "m"))),
@@ -62,7 +63,7 @@ fn of_new<'g>(alloc: Global, word: &str, given: &'g mut Given) -> Answered<'g> {
     }
 }
 
-/// The calls that add to an error.
+/// Makes the calls that add to an error.
 fn of_changes<'g>(alloc: Global, word: &str, given: &'g mut Given, error: Error) -> Answered<'g> {
     match word {
         "trace" => Ok(Answer::from(Error::trace(error, alloc, "t"))),
@@ -81,7 +82,7 @@ fn of_changes<'g>(alloc: Global, word: &str, given: &'g mut Given, error: Error)
     }
 }
 
-/// The calls that copy an error, or keep it.
+/// Makes the calls that copy an error, or keep it.
 fn of_copies<'g>(alloc: Global, word: &str, given: &'g Given, error: Error) -> Answered<'g> {
     match word {
         "clone" => Ok(Answer::from(Error::clone(&error)?)),

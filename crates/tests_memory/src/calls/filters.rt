@@ -87,7 +87,7 @@ fn row(word: &str) -> Result<Row, Problem> {
     Err(Problem::Case)
 }
 
-/// The filter of this name.
+/// Returns the filter of this name.
 fn kind(alloc: Global, name: &str) -> Result<StdKind, Problem> {
     let registry = filters(alloc, None)?;
     match registry.get(name) {
@@ -100,7 +100,7 @@ fn value(alloc: Global, json: &str) -> Result<Value, Problem> {
     Ok(to_value(alloc, &Json::from_str(alloc, json)?)?)
 }
 
-/// The arguments of a list.
+/// Returns the arguments of a list.
 fn arguments(alloc: Global, json: &str) -> Result<Vec<ValueCow<'static>>, Problem> {
     let mut all = Vec::new(alloc);
     match value(alloc, json)? {
@@ -114,7 +114,7 @@ fn arguments(alloc: Global, json: &str) -> Result<Vec<ValueCow<'static>>, Proble
     Ok(all)
 }
 
-/// What an answer is where this text is wanted.
+/// Compares a result with the text that is wanted.
 fn told(alloc: Global, answer: Result<Value, Error>, wanted: &str) -> Result<Told, AllocError> {
     match answer {
         Ok(value) => {
@@ -126,7 +126,7 @@ fn told(alloc: Global, answer: Result<Value, Error>, wanted: &str) -> Result<Tol
     }
 }
 
-/// Calls the filter behind so many boxes, and then once more.
+/// Calls the filter after that many boxes, and then once more.
 pub fn tried(alloc: Global, word: &str, boxes: usize) -> Result<Seen, Problem> {
     let (_, input, given, wanted) = row(word)?;
     let kind = kind(alloc, word)?;

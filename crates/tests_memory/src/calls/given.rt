@@ -1,3 +1,4 @@
+//! What the calls are made with.
 use crate::problem::Problem;
 use bench::filters::AnyFilter;
 use bench::languages::language;
@@ -12,7 +13,7 @@ use std::alloc::Global;
 
 pub type Built = BuiltRuntime<(), ()>;
 
-/// What all calls are made of. Calls that take a value whole take the error, the text and the member.
+/// What all calls are made with. Calls that take a whole value take the error, the text and the member.
 #[derive(Drop)]
 pub struct Given {
     pub error: Error,
@@ -59,7 +60,7 @@ fn error(alloc: Global) -> Result<Error, Problem> {
     }
 }
 
-/// A chain of a name and a filter with an argument.
+/// Returns a chain of a name and a filter with an argument.
 fn chain(alloc: Global) -> Result<FilterChain<AnyFilter>, Problem> {
     let mut positional = Vec::new(alloc);
     positional.push(Expression::with_literal(text(alloc, "!")?))?;
@@ -105,20 +106,20 @@ fn expressions(alloc: Global) -> Result<Vec<Expression>, Problem> {
     Ok(expressions)
 }
 
-/// An error, a cause and an error that is kept.
+/// Returns an error, a cause and an error that is kept.
 fn errors(alloc: Global) -> Result<(Error, Cause, CloneableError), Problem> {
     let cause = CauseOf::Error(Box::new(alloc, error(alloc)?)?);
     let kept = CloneableError::new(alloc, error(alloc)?)?;
     Ok((error(alloc)?, cause, kept))
 }
 
-/// A list as a value.
+/// Returns a list as a value.
 fn value(alloc: Global) -> Result<Value, Problem> {
     let array = Json::from_str(alloc, r#"[1, "two", {"k": "v"}]"#)?;
     Ok(liquid_core::to_value(alloc, &array)?)
 }
 
-/// The globals as JSON and as an object, and a list.
+/// Returns the globals as JSON and as an object, and a list.
 fn values(alloc: Global) -> Result<(Json, Object, Value), Problem> {
     let json = Json::from_str(alloc, GLOBALS)?;
     Ok((json, object(alloc)?, value(alloc)?))
@@ -130,33 +131,33 @@ fn path(alloc: Global) -> Result<Path<'static>, Problem> {
     Ok(path)
 }
 
-/// A variable, by itself and as an expression.
+/// Returns a variable, by itself and as an expression.
 fn variables(alloc: Global) -> Result<(Variable, Expression), Problem> {
     let variable = parse_variable(alloc, "a[i]")?;
     let expression = Expression::Variable(parse_variable(alloc, "a[i]")?);
     Ok((variable, expression))
 }
 
-/// A name, a member and a date time.
+/// Returns a name, a member and a date time.
 fn alone(alloc: Global) -> Result<(String, Value, DateTime), Problem> {
     let moment = DateTime::from_ymd(2016, 2, 16)?;
     Ok((text(alloc, "n")?, Value::scalar(text(alloc, "m")?), moment))
 }
 
-/// What calls put into an object and an array.
+/// Returns what calls put into an object and an array.
 fn members(alloc: Global) -> Result<(Vec<(String, Value)>, Vec<Value>), Problem> {
     let pairs = pairs(alloc)?;
     Ok((pairs, items(alloc)?))
 }
 
-/// What calls put into a path and a variable.
+/// Returns what calls put into a path and a variable.
 fn steps(alloc: Global) -> Result<(Vec<ScalarCow<'static>>, Vec<Expression>), Problem> {
     let indexes = indexes(alloc)?;
     Ok((indexes, expressions(alloc)?))
 }
 
 impl Given {
-    /// Each part is made by a function of its own: a check costs with what is held where a call may be refused.
+    /// Makes each part by its own function: a check costs more with each value that is held where a call may fail.
     pub fn new(alloc: Global) -> Result<Given, Problem> {
         let errors = errors(alloc)?;
         let values = values(alloc)?;
@@ -191,7 +192,7 @@ impl Given {
         })
     }
 
-    /// Makes anew what calls take whole.
+    /// Makes again what calls take whole.
     pub fn refresh(&mut self, alloc: Global) -> Result<(), Problem> {
         self.error = error(alloc)?;
         self.cause = CauseOf::Error(Box::new(alloc, error(alloc)?)?);
@@ -201,7 +202,7 @@ impl Given {
         Ok(())
     }
 
-    /// The text of all that a call may change.
+    /// Returns the text of all that a call may change.
     pub fn shown(&self, alloc: Global) -> Result<String, Problem> {
         let path = self.path.to_string(alloc)?;
         let variable = self.variable.to_string(alloc)?;
@@ -214,7 +215,7 @@ impl Given {
     }
 }
 
-/// The text of what a call extends.
+/// Returns the text of what a call extends.
 pub fn extended(alloc: Global, given: &Given, group: &str, word: &str) -> Result<String, Problem> {
     match (group, word) {
         ("paths", "extend") => Ok(given.path.to_string(alloc)?),
@@ -236,7 +237,7 @@ fn filter_names(
     Ok(all)
 }
 
-/// The names of an object, with the source of each value.
+/// Returns the names of an object, with the source of each value.
 fn names_of(alloc: Global, object: &Object) -> Result<String, Problem> {
     let mut all = String::new(alloc);
     for (name, value) in object {
@@ -246,7 +247,7 @@ fn names_of(alloc: Global, object: &Object) -> Result<String, Problem> {
     Ok(all)
 }
 
-/// What names have a value, and which index variables.
+/// Returns what names have a value, and which index variables.
 fn names_shown<R: Runtime>(alloc: Global, runtime: &R) -> Result<String, Problem> {
     let mut all = String::new(alloc);
     for name in ["a", "i", "n", "own"] {

@@ -1,3 +1,4 @@
+//! Calls of JSON.
 use crate::calls::answers::{Answer, Answered};
 use crate::calls::given::{GLOBALS, Given};
 use liquid_core::model::{
@@ -6,7 +7,7 @@ use liquid_core::model::{
 use serde_json::Value as Json;
 use std::alloc::Global;
 
-/// What each call of JSON answers.
+/// Returns the result of each call of JSON.
 pub fn wanted(word: &str) -> &'static str {
     match word {
         "to_value" | "to_object" | "into_value" | "into_object" | "object_from_str" =>

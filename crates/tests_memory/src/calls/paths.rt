@@ -1,9 +1,10 @@
+//! Calls of paths.
 use crate::calls::answers::{Answer, Answered};
 use crate::calls::given::Given;
 use liquid_core::model::{Path, ScalarCow, find, find_behind, step, try_find};
 use std::alloc::Global;
 
-/// What each call of paths answers.
+/// Returns the result of each call of paths.
 pub fn wanted(word: &str) -> &'static str {
     match word {
         "with_index" => "a",
@@ -18,7 +19,7 @@ pub fn wanted(word: &str) -> &'static str {
     }
 }
 
-/// The calls that make a path, or add to it.
+/// Makes the calls that make a path, or add to it.
 fn of_paths<'g>(alloc: Global, word: &str, given: &'g mut Given) -> Answered<'g> {
     match word {
         "with_index" => Ok(Answer::Path(Path::with_index(alloc, "a")?)),
@@ -39,7 +40,7 @@ fn of_paths<'g>(alloc: Global, word: &str, given: &'g mut Given) -> Answered<'g>
     }
 }
 
-/// The calls that go along a path.
+/// Makes the calls that walk along a path.
 fn of_walks<'g>(alloc: Global, word: &str, given: &'g Given) -> Answered<'g> {
     let size = ScalarCow::from("size");
     let x = ScalarCow::from("x");

@@ -1,3 +1,4 @@
+//! Calls of registries, expressions and chains.
 use crate::calls::answers::{Answer, Answered};
 use crate::calls::given::Given;
 use bench::Filters;
@@ -8,7 +9,7 @@ use liquid_core::parser::{FilterArguments, FilterChain, Language, PluginRegistry
 use liquid_core::runtime::{Expression, Variable};
 use std::alloc::Global;
 
-/// What each call of registries, expressions and chains answers.
+/// Returns the result of each call of registries, expressions and chains.
 pub fn wanted(word: &str) -> &'static str {
     match word {
         "register" => "false",
@@ -25,7 +26,7 @@ pub fn wanted(word: &str) -> &'static str {
     }
 }
 
-/// The calls of registries and filters.
+/// Makes the calls of registries and filters.
 fn of_filters<'g>(alloc: Global, word: &str, given: &'g mut Given) -> Answered<'g> {
     match word {
         "register" => {
@@ -48,7 +49,7 @@ fn of_filters<'g>(alloc: Global, word: &str, given: &'g mut Given) -> Answered<'
     }
 }
 
-/// The calls of variables.
+/// Makes the calls of variables.
 fn of_variables<'g>(alloc: Global, word: &str, given: &'g mut Given) -> Answered<'g> {
     match word {
         "clone_variable" => Ok(Answer::Variable(Variable::clone(&given.variable)?)),

@@ -1,10 +1,11 @@
+//! Calls of a built runtime.
 use crate::calls::answers::{Answer, Answered};
 use crate::calls::given::Given;
 use liquid_core::model::{ScalarCow, Value};
 use liquid_core::runtime::Runtime;
 use std::alloc::Global;
 
-/// What each call of a built runtime answers.
+/// Returns the result of each call of a built runtime.
 pub fn wanted(word: &str) -> &'static str {
     match word {
         "get" | "try_get" => "1",
@@ -15,7 +16,7 @@ pub fn wanted(word: &str) -> &'static str {
     }
 }
 
-/// The calls that look up a name.
+/// Makes the calls that look up a name.
 fn of_lookups<'g>(alloc: Global, word: &str, given: &'g Given) -> Answered<'g> {
     let path = [ScalarCow::from("a"), ScalarCow::from("size")];
     let found = match word {
@@ -29,7 +30,7 @@ fn of_lookups<'g>(alloc: Global, word: &str, given: &'g Given) -> Answered<'g> {
     }
 }
 
-/// The old value of a name that was set.
+/// Returns the old value of a name that was set.
 fn old<'g>(value: Option<Value>) -> Answer<'g> {
     match value {
         Some(value) => Answer::Value(value),
@@ -37,7 +38,7 @@ fn old<'g>(value: Option<Value>) -> Answer<'g> {
     }
 }
 
-/// The calls that set a name.
+/// Makes the calls that set a name.
 fn of_sets<'g>(alloc: Global, word: &str, given: &'g mut Given) -> Answered<'g> {
     let name = std::mem::replace(&mut given.text, String::new(alloc));
     let value = std::mem::replace(&mut given.member, Value::Nil);

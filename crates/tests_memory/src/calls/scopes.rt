@@ -1,3 +1,4 @@
+//! Calls of scopes.
 ghost use Rattle.std.specs.Prelude.{◌≡◌};
 
 use crate::calls::given::{Built, object, runtime, text};
@@ -10,7 +11,7 @@ use liquid_core::{Error, ValueCow};
 use std::alloc::{AllocError, Global};
 use std::collections::BTreeSet;
 
-/// What an answer is that is of use where a condition holds, and want of memory where another does.
+/// Classifies a result: `Whole` needs the first condition, and `Memory` the second.
 fn told<T: Drop>(answer: Result<T, Error>, is_made: bool, stands: bool) -> Told {
     match answer {
         Ok(_) => Told::Whole.only_if(is_made),
@@ -19,7 +20,7 @@ fn told<T: Drop>(answer: Result<T, Error>, is_made: bool, stands: bool) -> Told 
     }
 }
 
-/// A frame of names, of which `own` is one.
+/// Returns a frame of names, of which `own` is one.
 fn frame(alloc: Global, is_isolated: bool) -> Result<Frame, Problem> {
     let mut names = object(alloc)?;
     names.insert(text(alloc, "own")?, Value::scalar(1i64))?;
@@ -47,7 +48,7 @@ fn pushed<S: Scopes>(scopes: &mut S, frame: Frame) -> Told
     }
 }
 
-/// Begins a frame behind so many boxes, and then another.
+/// Begins a frame after that many boxes, and then another.
 fn push<S>(alloc: Global, base: S::Base, is_isolated: bool, boxes: usize) -> Result<Seen, Problem>
 where
     S: Scopes<Register = (), Store = ()>,
@@ -68,7 +69,7 @@ where
     })
 }
 
-/// Sets `n` where it has no value yet.
+/// Sets `n`, which has no value yet.
 fn set<S: Scopes>(scopes: &mut S, word: &str, name: String) -> Told
     ensures owes { S.restores scopes.new ≡ S.restores scopes.old }
 {
@@ -81,7 +82,7 @@ fn set<S: Scopes>(scopes: &mut S, word: &str, name: String) -> Told
     told(answer, is_set, !is_set)
 }
 
-/// Sets a name behind so many boxes, and then once more.
+/// Sets a name after that many boxes, and then once more.
 fn sets<S>(alloc: Global, base: S::Base, word: &str, boxes: usize) -> Result<Seen, Problem>
 where
     S: Scopes<Register = (), Store = ()>,
@@ -102,7 +103,7 @@ where
     })
 }
 
-/// What the names are that are seen over the globals.
+/// Classifies the names that are seen over the globals.
 fn roots_told(roots: Result<BTreeSet<String>, AllocError>) -> Told {
     match roots {
         Ok(names) => {
@@ -112,7 +113,7 @@ fn roots_told(roots: Result<BTreeSet<String>, AllocError>) -> Told {
     }
 }
 
-/// Asks for the names behind so many boxes, and then once more.
+/// Requests the names after that many boxes, and then once more.
 fn roots<S>(alloc: Global, base: S::Base, boxes: usize) -> Result<Seen, Problem>
 where
     S: Scopes<Register = (), Store = ()>,
@@ -133,7 +134,7 @@ where
     })
 }
 
-/// What the size of the only member of `a` is.
+/// Classifies the size of the only member of `a`.
 fn size_told(found: Result<Option<ValueCow<'_>>, AllocError>) -> Told {
     match found {
         Ok(Some(value)) => Told::Whole.only_if(*value.as_view() == Value::scalar(1i64)),
@@ -142,7 +143,7 @@ fn size_told(found: Result<Option<ValueCow<'_>>, AllocError>) -> Told {
     }
 }
 
-/// Looks up a path in flat scopes behind so many boxes, and then once more.
+/// Looks up a path in flat scopes after that many boxes, and then once more.
 fn seek(alloc: Global, base: Built, boxes: usize) -> Result<Seen, Problem> {
     let path = [ScalarCow::from("a"), ScalarCow::from("size")];
     let mut looks = Looks::new();
@@ -162,7 +163,7 @@ fn seek(alloc: Global, base: Built, boxes: usize) -> Result<Seen, Problem> {
     })
 }
 
-/// Makes a call of chained scopes behind so many boxes, and then once more.
+/// Makes a call of chained scopes after that many boxes, and then once more.
 fn chained(alloc: Global, base: Built, word: &str, boxes: usize) -> Result<Seen, Problem> {
     match word {
         "chained_push" => push::<Chained<()>>(alloc, base, false, boxes),
@@ -174,7 +175,7 @@ fn chained(alloc: Global, base: Built, word: &str, boxes: usize) -> Result<Seen,
     }
 }
 
-/// Makes a call of flat scopes behind so many boxes, and then once more.
+/// Makes a call of flat scopes after that many boxes, and then once more.
 fn flat(alloc: Global, base: Built, word: &str, boxes: usize) -> Result<Seen, Problem> {
     match word {
         "flat_push" => push::<Flat<()>>(alloc, base, false, boxes),
@@ -187,7 +188,7 @@ fn flat(alloc: Global, base: Built, word: &str, boxes: usize) -> Result<Seen, Pr
     }
 }
 
-/// Makes a call of scopes behind so many boxes, and then once more.
+/// Makes a call of scopes after that many boxes, and then once more.
 pub fn tried(alloc: Global, word: &str, boxes: usize) -> Result<Seen, Problem> {
     let base = runtime(alloc)?;
     if word.starts_with("chained") {

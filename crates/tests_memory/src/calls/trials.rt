@@ -1,3 +1,4 @@
+//! Trials of the calls of a group.
 use crate::calls::answers::{Answer, shown};
 use crate::calls::given::{Given, extended};
 use crate::calls::{dates, errors, filters, json_calls, paths, plugins, runtimes, scopes, values};
@@ -5,7 +6,7 @@ use crate::growths::{MOST, Seen, Told, taken};
 use crate::problem::Problem;
 use std::alloc::Global;
 
-/// What a call answers with ample memory, and an empty text where there is no such call.
+/// Returns the result of a call with ample memory, or an empty text if there is no such call.
 fn wanted(group: &str, word: &str) -> &'static str {
     match group {
         "dates" => dates::wanted(word),
@@ -19,7 +20,7 @@ fn wanted(group: &str, word: &str) -> &'static str {
     }
 }
 
-/// What an `extend` may leave: each of its items, in order, up to one of them.
+/// Returns what an `extend` may leave: each of its items, in order, up to one of them.
 fn beginnings(group: &str, word: &str) -> &'static [&'static str] {
     match (group, word) {
         ("paths", "extend") => &["a.b", "a.b.c", "a.b.c.d", "a.b.c.d.e", "a.b.c.d.e.f"],
@@ -51,7 +52,7 @@ fn beginnings(group: &str, word: &str) -> &'static [&'static str] {
 /// The names and values of the object that is extended.
 const OBJECT: &str = "a{\"b\": 1two, }i\"b\"";
 
-/// Makes the call. It is told by what it answers, on whichever side of a Result.
+/// Makes the call. Its result may be on either side of a Result.
 fn answer<'g>(alloc: Global, group: &str, word: &str, given: &'g mut Given) -> Answer<'g> {
     let answered = match group {
         "dates" => dates::call(alloc, word, given),
@@ -67,7 +68,7 @@ fn answer<'g>(alloc: Global, group: &str, word: &str, given: &'g mut Given) -> A
     }
 }
 
-/// What an answer's text is.
+/// Compares a result's text with the one that is wanted.
 fn told(text: &Option<String>, wanted: &str) -> Told {
     match text {
         None => Told::Memory,
@@ -75,7 +76,7 @@ fn told(text: &Option<String>, wanted: &str) -> Told {
     }
 }
 
-/// Whether a text is one of these.
+/// Returns `true` if a text is one of these.
 fn is_among(text: &str, texts: &[&str]) -> bool {
     let mut is_there = false;
     for one in texts {
@@ -84,7 +85,7 @@ fn is_among(text: &str, texts: &[&str]) -> bool {
     is_there
 }
 
-/// Makes the call of a group behind so many boxes, and then once more.
+/// Makes the call of a group after that many boxes, and then once more.
 pub fn tried(alloc: Global, group: &str, word: &str, boxes: usize) -> Result<Seen, Problem> {
     if group == "scopes" {
         return scopes::tried(alloc, word, boxes);

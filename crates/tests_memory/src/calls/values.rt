@@ -1,10 +1,11 @@
+//! Calls of values.
 use crate::calls::answers::{Answer, Answered};
 use crate::calls::given::Given;
 use liquid_core::model::{Object, Scalar, ScalarCow, Value, ValueCow, array_of, object_of};
 use liquid_core::{ObjectView, ValueView};
 use std::alloc::Global;
 
-/// What each call of values answers.
+/// Returns the result of each call of values.
 pub fn wanted(word: &str) -> &'static str {
     match word {
         "clone" | "into_owned" | "to_value" => "[1, two, kv, ]",
@@ -22,7 +23,7 @@ pub fn wanted(word: &str) -> &'static str {
     }
 }
 
-/// The calls of scalars.
+/// Makes the calls of scalars.
 fn of_scalars<'g>(alloc: Global, word: &str, member: Value) -> Answered<'g> {
     let number = ScalarCow::from(7i64);
     match word {
@@ -44,7 +45,7 @@ fn of_scalars<'g>(alloc: Global, word: &str, member: Value) -> Answered<'g> {
     }
 }
 
-/// The calls that put a member into an array or an object.
+/// Makes the calls that put a member into an array or an object.
 fn of_growing<'g>(alloc: Global, word: &str, given: &'g mut Given, member: Value) -> Answered<'g> {
     let name = std::mem::replace(&mut given.text, String::new(alloc));
     let pairs = std::mem::replace(&mut given.pairs, Vec::new(alloc));
@@ -61,7 +62,7 @@ fn of_growing<'g>(alloc: Global, word: &str, given: &'g mut Given, member: Value
     Ok(Answer::Done)
 }
 
-/// The calls that look into an object, or make one.
+/// Makes the calls that search an object, or make one.
 fn of_objects<'g>(alloc: Global, word: &str, given: &'g Given) -> Answered<'g> {
     match word {
         "object_of" => Ok(Answer::Value(Value::from(object_of(alloc, &[("k", 1i64)])?))),
@@ -73,7 +74,7 @@ fn of_objects<'g>(alloc: Global, word: &str, given: &'g Given) -> Answered<'g> {
     }
 }
 
-/// The calls that make an array.
+/// Makes the calls that make an array.
 fn of_arrays<'g>(alloc: Global, word: &str, given: &'g mut Given) -> Answered<'g> {
     match word {
         "array" => {
@@ -84,7 +85,7 @@ fn of_arrays<'g>(alloc: Global, word: &str, given: &'g mut Given) -> Answered<'g
     }
 }
 
-/// The calls that copy a value, or show its text.
+/// Makes the calls that copy a value, or show its text.
 fn of_copies<'g>(alloc: Global, word: &str, given: &'g Given) -> Answered<'g> {
     match word {
         "clone" => Ok(Answer::Value(Value::clone(&given.value)?)),

@@ -1,9 +1,10 @@
+//! Boxes that are taken before and after a call.
 use std::alloc::Global;
 
-/// How many boxes are taken behind the call, of which one is refused if the call met no refusal.
+/// The number of boxes that are taken after the call. One of them fails if no allocation of the call did.
 pub const MOST: usize = 1000;
 
-/// Takes and drops so many boxes. Answers how many were had before one was refused, or none where none was.
+/// Takes and drops that many boxes. Returns how many were allocated before one failed, or `None` if none did.
 pub fn taken(alloc: Global, count: usize) -> Option<usize> {
     for had in 0..count {
         match Box::new(alloc, had) {

@@ -1,18 +1,19 @@
+//! The outcome of a call in which one allocation may fail.
 use std::fmt;
 
-/// What one answer of a call is.
+/// What one result of a call is.
 #[derive(Clone, Copy, Debug, PartialEq, Eq)]
 pub enum Told {
-    /// Want of memory, with everything as it may then be.
+    /// Out of memory, with everything in a state that is then allowed.
     Memory,
-    /// Exactly the row's answer.
+    /// Exactly the row's result.
     Whole,
     /// Something else.
     Other,
 }
 
 impl Told {
-    /// What two answers are together.
+    /// Returns what two results are together.
     pub fn and(self, other: Told) -> Told {
         match (self, other) {
             (Told::Other, _) | (_, Told::Other) => Told::Other,
@@ -21,14 +22,14 @@ impl Told {
         }
     }
 
-    /// The same, or something else where a condition that goes with it does not hold.
+    /// Returns the same, or something else if a condition for it is not true.
     pub fn only_if(self, holds: bool) -> Told {
         if holds { self } else { Told::Other }
     }
 }
 
-/// What a call came to, and where the one refusal came: how many boxes were had before a box was refused, in
-/// front of the call and behind it, and none where no box was refused there.
+/// The results of a call, and where the one failure was: how many boxes were allocated before one failed, before the
+/// call and after it, or `None` if no box failed there.
 #[derive(Drop)]
 pub struct Seen {
     pub before: Option<usize>,
@@ -38,8 +39,8 @@ pub struct Seen {
 }
 
 impl Seen {
-    /// Whether the call answered what it may: want of memory only where a growth in it was refused, and else
-    /// the row's answer, which the next call always gives.
+    /// Returns `true` if the call returned what it may: out of memory only if an allocation in it failed, and otherwise
+    /// the row's result, which the next call always returns.
     fn holds(&self) -> bool {
         let is_cause = self.before.is_none() && self.after.is_none();
         let first = match self.first {

@@ -1,3 +1,4 @@
+//! Compiling a row's partials.
 use crate::growths::{MOST, Seen, Told, taken};
 use crate::problem::Problem;
 use crate::rows::row::Row;
@@ -10,7 +11,7 @@ use liquid_core::PartialStore;
 use liquid_core::partials::{EagerCompiler, LazyCompiler, OnDemandCompiler, PartialCompiler};
 use std::alloc::{AllocError, Global};
 
-/// What an answer of `compile` is: a store is the row's where it answers the row's requests.
+/// Classifies a result of `compile`: a store is the row's if it has the row's results for its requests.
 fn store_told<S>(
     alloc: Global,
     made: Result<S, AllocError>,

@@ -1,3 +1,4 @@
+//! Parsing a row's template.
 use crate::growths::{MOST, Seen, Told, taken};
 use crate::problem::Problem;
 use crate::rows::row::Row;
@@ -13,7 +14,7 @@ use std::rc::Rc;
 
 type Nodes = Vec<Node<AnyFilter, TagNode, BlockNode>>;
 
-/// What an answer of `parse` is: a tree is the row's where it writes what the row writes.
+/// Classifies a result of `parse`: a tree is the row's if it writes what the row writes.
 fn read_told(
     alloc: Global,
     row: &Row,
@@ -32,7 +33,7 @@ fn read_told(
     }
 }
 
-/// Reads the row's text.
+/// Parses the row's text.
 pub fn parsed(alloc: Global, row: &Row, boxes: usize) -> Result<Seen, Problem> {
     let language = shared_language(alloc)?;
     let before = taken(alloc, boxes);

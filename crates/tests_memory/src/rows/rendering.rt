@@ -1,3 +1,4 @@
+//! Rendering a row's template.
 ghost use Rattle.std.specs.Prelude.{◌≡◌};
 
 use crate::growths::{MOST, Seen, Told, taken};
@@ -10,7 +11,7 @@ use liquid_core::runtime::{BuiltRuntime, Frame, Runtime, Scopes};
 use liquid_core::{Error, TextSink};
 use std::alloc::Global;
 
-/// Whether each of the names has its value in the runtime.
+/// Returns `true` if each of the names has its value in the runtime.
 fn are_seen<R: Runtime>(alloc: Global, runtime: &R, names: &Object) -> Result<bool, Problem> {
     for (name, value) in names {
         let Some(found) = runtime.try_get_name(name.as_str()) else {
@@ -24,7 +25,7 @@ fn are_seen<R: Runtime>(alloc: Global, runtime: &R, names: &Object) -> Result<bo
     Ok(true)
 }
 
-/// What an answer is, where the frames stand as they stood before.
+/// Classifies a result, if the frames are as they were before.
 fn rendered(
     alloc: Global,
     row: &Row,
@@ -36,7 +37,7 @@ fn rendered(
     Ok(told.only_if(stands))
 }
 
-/// Whether a built runtime has the frames that it was built with: no name, its globals, its depth; and, where
+/// Returns `true` if a built runtime has the frames that it was built with: no name, its globals, its depth; and, if
 /// the call came to its end, what the row leaves.
 fn stands<R: Runtime>(
     alloc: Global,
@@ -53,7 +54,7 @@ fn stands<R: Runtime>(
     Ok(frames && left)
 }
 
-/// What a call over a built runtime came to, which was given these globals.
+/// Classifies a call over a built runtime, which was given these globals.
 fn came_to<R: Runtime>(
     alloc: Global,
     row: &Row,
@@ -128,12 +129,12 @@ pub fn in_isolation(alloc: Global, row: &Row, boxes: usize) -> Result<Seen, Prob
     })
 }
 
-/// Whether one frame is open, and its name and its own name are there.
+/// Returns `true` if one frame is open, with its name and its own name.
 fn has_its_frame<S: Scopes>(scopes: &S) -> bool {
     scopes.frames() == 1 && scopes.name() == Some("frame") && scopes.try_get_name("own").is_some()
 }
 
-/// The frame that stands open around the call.
+/// Returns the frame that is open around the call.
 fn frame(alloc: Global) -> Result<Frame, Problem> {
     let mut names = Object::new(alloc);
     names.insert(String::from_str(alloc, "own")?, Value::scalar(1i64))?;
@@ -168,7 +169,7 @@ where
     })
 }
 
-/// Scopes of one form over a base, with a frame that is ended behind the calls.
+/// Makes scopes of one form over a base, with a frame that is ended after the calls.
 fn framed<S>(
     alloc: Global,
     row: &Row,
@@ -197,7 +198,7 @@ where
     answer
 }
 
-/// The row's template, and a runtime of globals over a lazy store.
+/// Returns the row's template, and a runtime of globals over a lazy store.
 fn made(
     alloc: Global,
     row: &Row,

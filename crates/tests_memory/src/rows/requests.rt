@@ -1,3 +1,4 @@
+//! Requests to stores.
 use crate::growths::{MOST, Seen, Told, taken};
 use crate::problem::Problem;
 use crate::rows::row::Row;
@@ -12,9 +13,9 @@ use liquid_core::{Error, PartialStore};
 use std::alloc::Global;
 use std::rc::Rc;
 
-/// A store that may say whether it keeps the answer for a name.
+/// A store that may know whether it keeps the result for a name.
 trait Keeping {
-    /// Whether the answer for the name is kept, or none where the store says nothing of that.
+    /// Returns whether the result for the name is kept, or `None` if the store doesn't know.
     fn keeps(&self, name: &str) -> Option<bool>;
 }
 
@@ -36,7 +37,7 @@ impl Keeping for Lazy {
     }
 }
 
-/// An answer, and whether the name was kept in front of the request and behind it.
+/// A result, and whether the name was kept before the request and after it.
 #[derive(Drop)]
 struct Answered {
     found: Result<Rc<Page>, Error>,
@@ -44,7 +45,7 @@ struct Answered {
     kept_after: Option<bool>,
 }
 
-/// Asks for each name. The list has room for all answers, so that only the requests take memory.
+/// Requests each name. The list has room for all results, so that only the requests take memory.
 fn asked<S>(
     alloc: Global,
     store: &mut S,
@@ -68,8 +69,8 @@ where
     Ok(())
 }
 
-/// Whether the name is kept as it should be: want of memory changes nothing, and else exactly a name that is
-/// there is kept.
+/// Returns `true` if the name is kept as it should be: an out-of-memory error changes nothing, and otherwise a name is
+/// kept exactly if the store has it.
 fn is_kept_so(answered: &Answered, told: Told, is_there: bool) -> bool {
     match answered.kept_after {
         None => true,
@@ -78,7 +79,7 @@ fn is_kept_so(answered: &Answered, told: Told, is_there: bool) -> bool {
     }
 }
 
-/// What all answers are together.
+/// Returns what all results are together.
 fn together<S>(
     alloc: Global,
     store: &S,
@@ -97,7 +98,7 @@ where
     Ok(all)
 }
 
-/// Asks a store for the row's names, and then once more.
+/// Requests the row's names from a store, and then once more.
 fn requested<S>(alloc: Global, row: &Row, boxes: usize, store: &mut S) -> Result<Seen, Problem>
 where
     S: PartialStore<AnyFilter, TagNode, BlockNode> + Keeping,

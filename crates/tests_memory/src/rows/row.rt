@@ -1,3 +1,4 @@
+//! The rows.
 use crate::problem::Problem;
 use crate::rows::stores::Request;
 use liquid_core::model::{Object, to_object};
@@ -6,10 +7,10 @@ use liquid_core::runtime::{BuiltRuntime, RuntimeBuilder};
 use serde_json::Value as Json;
 use std::alloc::Global;
 
-/// The rows, each a line of JSON: its name, its template, what it sees, what it writes and the text of its
-/// refusal. `parent` is what stands around a sandbox of it, and `left` are names with their text afterwards;
-/// `partials` are its partials, or the template alone under the name `t`; `requests` are names that a store of
-/// them is asked for one after the other, each with what the partial is by itself.
+/// The rows, each a line of JSON: its name, its template, what it sees, what it writes and the text of its error.
+/// `parent` is what is around a sandbox of it, and `left` are names with their text afterwards. `partials` are its
+/// partials, or the template alone under the name `t`. `requests` are names that are requested from a store of them one
+/// after another, each with what the partial is by itself.
 const ROWS: &str =
     r#"{"name": "raw", "template": "{% raw %}{{ a }}{{% endraw %}{% raw %} x {%- endraw %}", "written": "{{ a }}{ x", "requests": [["t", "{{ a }}{ x"]]}
 {"name": "frames", "template": "{% with x 1 %}a{% sbox %}b{% glob %}{% set g 2 %}{{ g }}{% endglob %}{% endsbox %}{{ x }}{% endwith %}", "written": "ab21", "requests": [["t", "ab21"]]}
@@ -27,7 +28,7 @@ pub struct Row {
 }
 
 impl Row {
-    /// The row of this name.
+    /// Returns the row of this name.
     pub fn named(alloc: Global, name: &str) -> Result<Row, Problem> {
         for line in ROWS.lines() {
             let row = Row {
@@ -66,22 +67,22 @@ impl Row {
         }
     }
 
-    /// What the template sees.
+    /// Returns what the template sees.
     pub fn globals(&self, alloc: Global) -> Result<Object, Problem> {
         self.object(alloc, "globals")
     }
 
-    /// What stands around a sandbox.
+    /// Returns what is around a sandbox.
     pub fn parent(&self, alloc: Global) -> Result<Object, Problem> {
         self.object(alloc, "parent")
     }
 
-    /// The names that the row leaves, with their values.
+    /// Returns the names that the row leaves, with their values.
     pub fn left(&self, alloc: Global) -> Result<Object, Problem> {
         self.object(alloc, "left")
     }
 
-    /// How many partials may be open inside one another.
+    /// Returns the number of partials that may be nested.
     pub fn depth(&self) -> u32 {
         match self.json.get("depth") {
             Some(depth) => match depth.as_u64() {
@@ -92,7 +93,7 @@ impl Row {
         }
     }
 
-    /// A runtime of these globals over a store.
+    /// Returns a runtime of these globals over a store.
     pub fn runtime<S: Drop>(
         &self,
         alloc: Global,
@@ -107,7 +108,7 @@ impl Row {
             .build()
     }
 
-    /// The partials.
+    /// Returns the partials.
     pub fn source(&self, alloc: Global) -> Result<InMemorySource, Problem> {
         let mut source = InMemorySource::new(alloc);
         let Some(partials) = self.json.get("partials") else {
@@ -125,7 +126,7 @@ impl Row {
         Ok(source)
     }
 
-    /// The names that a store is asked for, each with what the partial is by itself.
+    /// Returns the names that are requested from a store, each with what the partial is by itself.
     pub fn requests(&self, alloc: Global) -> Result<Vec<Request>, Problem> {
         let mut requests = Vec::new(alloc);
         let Some(Json::Array(list)) = self.json.get("requests") else {

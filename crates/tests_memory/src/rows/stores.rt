@@ -1,3 +1,4 @@
+//! The stores of a row's partials.
 use crate::growths::Told;
 use crate::problem::Problem;
 use crate::rows::row::Row;
@@ -25,20 +26,20 @@ pub type Lazy = LazyStore<InMemorySource, Filters, Tags, Blocks>;
 
 pub type OnDemand = OnDemandStore<InMemorySource, Filters, Tags, Blocks>;
 
-/// A name that a store is asked for, and what the partial is by itself: what it writes over a runtime without
-/// names, with the text of its refusal behind it.
+/// A name that is requested from a store, and what the partial is by itself: what it writes over a runtime without
+/// names, with the text of its error after it.
 #[derive(Drop)]
 pub struct Request {
     pub name: String,
     pub answer: String,
 }
 
-/// The language that all rows are read in.
+/// Returns the language that all rows are parsed in.
 pub fn shared_language(alloc: Global) -> Result<Rc<TheLanguage>, Problem> {
     Ok(Rc::new(alloc, language(alloc)?)?)
 }
 
-/// The row's template, read.
+/// Returns the row's template, parsed.
 pub fn page(alloc: Global, row: &Row, language: &TheLanguage) -> Result<Page, Problem> {
     match parse(alloc, row.template(), language) {
         Ok(nodes) => Ok(Template::new(nodes)),
@@ -47,12 +48,12 @@ pub fn page(alloc: Global, row: &Row, language: &TheLanguage) -> Result<Page, Pr
     }
 }
 
-/// A lazy store of the row's partials.
+/// Returns a lazy store of the row's partials.
 pub fn lazy_store(alloc: Global, row: &Row, language: &Rc<TheLanguage>) -> Result<Lazy, Problem> {
     Ok(LazyCompiler::new(row.source(alloc)?).compile(alloc, language.clone()?)?)
 }
 
-/// What an answer with what was written before it is: a text, and the text of a refusal.
+/// Compares a result and what was written before it with a text, followed by the text of an error.
 pub fn told(
     alloc: Global,
     written: &[u8],
@@ -72,7 +73,7 @@ pub fn told(
     }
 }
 
-/// What a partial is by itself.
+/// Returns what a partial is by itself.
 fn shown(alloc: Global, template: &Page) -> Result<String, Problem> {
     let mut runtime: BuiltRuntime<(), ()> = RuntimeBuilder::new(alloc).build();
     let mut sink = TextSink::new(alloc);
@@ -86,7 +87,7 @@ fn shown(alloc: Global, template: &Page) -> Result<String, Problem> {
     Ok(text)
 }
 
-/// What the answer of a store to a request is.
+/// Compares the result of a store for a request with the row's.
 pub fn request_told(
     alloc: Global,
     request: &Request,
@@ -100,7 +101,7 @@ pub fn request_told(
     Ok(Told::Whole.only_if(text.as_str() == request.answer.as_str()))
 }
 
-/// What a store answers to all requests, one after the other.
+/// Compares the results of a store for all requests, one after another, with the row's.
 pub fn all_told<S>(alloc: Global, store: &mut S, requests: &[Request]) -> Result<Told, Problem>
 where
     S: PartialStore<AnyFilter, TagNode, BlockNode>,

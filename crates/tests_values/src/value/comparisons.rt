@@ -7,9 +7,8 @@ use std::hash::{DefaultHasher, Hash, Hasher};
 use std::test::Fail;
 use tests_lines::{Line, rows_hold};
 
-// Two values, and whether they are loosely equal. A text and an array without members each equal the
-// state `empty`, but not each other, so that loose equality is not transitive; and within an object
-// the right value is asked about the left one.
+// Two values, and whether they are loosely equal. A text and an array without members each equal the state `empty`, but
+// not each other, so that loose equality is not transitive; and within an object the sides are swapped.
 const EQUALITIES: &str = r#"[true, "", true]
 [null, false, true]
 [null, true, false]
@@ -104,7 +103,7 @@ const SAME: &str = r#"[{"a": 1, "b": 2}, {"b": 2, "a": 1}, true]
 [{"day": 16}, {"moment": [10, 3600]}, false]
 [{"moment": [10, 3600]}, {"moment": [9, 0]}, true]"#;
 
-/// Whether two values are the same as the row says, and have one hash where they are.
+/// Returns `true` if two values are the same as the row says, and have one hash where they are.
 fn is_sameness(alloc: Global, row: &Line) -> Result<bool, Fail> {
     let (left, right) = pair_of(alloc, row)?;
     let is_same = left == right;

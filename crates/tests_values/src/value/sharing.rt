@@ -4,21 +4,21 @@ use std::alloc::{AllocError, Global};
 use std::test::Fail;
 use tests_lines::{holds, same};
 
-/// The array `[1]`, whose copies share it.
+/// Returns the array `[1]`, whose copies share it.
 fn array(alloc: Global) -> Result<Value, AllocError> {
     let mut items = Array::new(alloc);
     items.push(Value::scalar(1i64))?;
     Ok(Value::Array(SharedArray::shared(alloc, items)?))
 }
 
-/// The object `{"a": 1}`, whose copies share it.
+/// Returns the object `{"a": 1}`, whose copies share it.
 fn object(alloc: Global) -> Result<Value, AllocError> {
     let mut members = Object::new(alloc);
     drop(members.insert(String::from_str(alloc, "a")?, Value::scalar(1i64))?);
     Ok(Value::Object(SharedObject::shared(alloc, members)?))
 }
 
-/// Writes 2 behind the items, or as the member `b`.
+/// Writes 2 after the items, or as the member `b`.
 fn write(alloc: Global, value: &mut Value) -> Result<(), AllocError> {
     match value {
         Value::Array(items) => SharedArray::to_mut(items)?.push(Value::scalar(2i64))?,
@@ -31,7 +31,7 @@ fn write(alloc: Global, value: &mut Value) -> Result<(), AllocError> {
     Ok(())
 }
 
-/// Whether the value can be written to in place.
+/// Returns `true` if the value can be written to in place.
 fn is_alone(value: &mut Value) -> bool {
     match value {
         Value::Array(items) => items.get_mut().is_some(),
@@ -40,7 +40,7 @@ fn is_alone(value: &mut Value) -> bool {
     }
 }
 
-/// Whether a write to a value that shares its content leaves the other value as it was.
+/// Fails unless a write to a value that shares its content leaves the other value as it was.
 fn shares(alloc: Global, mut first: Value, before: &str, after: &str) -> Result<(), Fail> {
     holds(is_alone(&mut first), "one value is alone")?;
     let mut second = first.clone()?;
@@ -64,7 +64,7 @@ fn a_write_leaves_the_other_owner_as_it_was(rt: HostRuntime) -> Result<(), Fail>
     shares(alloc, object(alloc)?, "a1", "a1b2")
 }
 
-/// The items of a copy of an array.
+/// Returns the items of a copy of an array.
 fn taken_array(value: &Value) -> Result<Array, Fail> {
     match value {
         Value::Array(items) => Ok(SharedArray::into_array(SharedArray::clone(items)?)?),
@@ -72,7 +72,7 @@ fn taken_array(value: &Value) -> Result<Array, Fail> {
     }
 }
 
-/// The members of a copy of an object.
+/// Returns the members of a copy of an object.
 fn taken_object(value: &Value) -> Result<Object, Fail> {
     match value {
         Value::Object(members) => Ok(SharedObject::into_object(SharedObject::clone(members)?)?),
@@ -80,7 +80,7 @@ fn taken_object(value: &Value) -> Result<Object, Fail> {
     }
 }
 
-/// Whether the content can be taken while another value shares it, which keeps it.
+/// Fails unless the content can be taken while another value shares it, which keeps it.
 fn is_taken(alloc: Global) -> Result<(), Fail> {
     let (items, members) = (array(alloc)?, object(alloc)?);
     let mut taken = taken_array(&items)?;

@@ -24,7 +24,7 @@ const TEXTS: &str = r#"["", "nil", null]
 ["abc", "{\"a\": , \"b\": , \"c\": , }", {"a": null, "b": {"state": "empty"}, "c": [null]}]
 ["a", "[a, , ]", [{"a": null}, {"state": "blank"}]]"#;
 
-/// Whether the view displays the two texts.
+/// Returns `true` if the view displays the two texts.
 fn shows<V: ValueView>(
     alloc: Global,
     view: &V,
@@ -36,7 +36,7 @@ fn shows<V: ValueView>(
     Ok(displayed && view.to_kstr(alloc)?.as_str() == render)
 }
 
-/// Whether the object displays the two texts.
+/// Returns `true` if the object displays the two texts.
 fn object_shows<O: ObjectView>(
     alloc: Global,
     object: &O,
@@ -48,7 +48,7 @@ fn object_shows<O: ObjectView>(
     Ok(displayed && shows(alloc, object, render, source)?)
 }
 
-/// Whether a reference to the object displays the two texts.
+/// Returns `true` if a reference to the object displays the two texts.
 fn lent_object_shows<O: ObjectView>(
     alloc: Global,
     object: &O,
@@ -58,7 +58,7 @@ fn lent_object_shows<O: ObjectView>(
     object_shows(alloc, &object, render, source)
 }
 
-/// Whether a reference to the view displays the two texts.
+/// Returns `true` if a reference to the view displays the two texts.
 fn lent_shows<V: ValueView>(
     alloc: Global,
     view: &V,
@@ -68,7 +68,7 @@ fn lent_shows<V: ValueView>(
     shows(alloc, &view, render, source)
 }
 
-/// Whether the types that display a value write the two texts.
+/// Returns `true` if the types that display a value write the two texts.
 fn value_is_displayed(
     alloc: Global,
     value: &Value,
@@ -80,7 +80,7 @@ fn value_is_displayed(
     Ok(rendered.as_str() == render && shown.as_str() == source)
 }
 
-/// Whether the value displays the two texts.
+/// Returns `true` if the value displays the two texts.
 fn value_shows(
     alloc: Global,
     value: &Value,
@@ -90,7 +90,7 @@ fn value_shows(
     shows(alloc, value, render, source)
 }
 
-/// Whether a reference to the value displays the two texts.
+/// Returns `true` if a reference to the value displays the two texts.
 fn lent_value_shows(
     alloc: Global,
     value: &Value,
@@ -100,7 +100,7 @@ fn lent_value_shows(
     lent_shows(alloc, value, render, source)
 }
 
-/// Whether an object among the values displays the two texts.
+/// Returns `true` if an object among the values displays the two texts.
 fn own_object_shows(
     alloc: Global,
     object: &Object,
@@ -110,7 +110,7 @@ fn own_object_shows(
     object_shows(alloc, object, render, source)
 }
 
-/// Whether a reference to an object among the values displays the two texts.
+/// Returns `true` if a reference to an object among the values displays the two texts.
 fn lent_own_object_shows(
     alloc: Global,
     object: &Object,
@@ -120,7 +120,7 @@ fn lent_own_object_shows(
     lent_object_shows(alloc, object, render, source)
 }
 
-/// Whether the value is no object, or it and a reference to it display the two texts as an object.
+/// Returns `true` if the value is not an object, or if it and a reference to it display the two texts as an object.
 fn held_object_shows(
     alloc: Global,
     value: Value,
@@ -136,7 +136,7 @@ fn held_object_shows(
     }
 }
 
-/// Whether the value of a row displays the row's texts, by itself and behind a reference.
+/// Returns `true` if the value of a row displays the row's texts, by itself and through a reference.
 fn is_shown(alloc: Global, row: &Line) -> Result<bool, Fail> {
     let value = value_at(alloc, row, 2)?;
     let (render, source) = (row.text(0)?, row.text(1)?);
@@ -146,7 +146,7 @@ fn is_shown(alloc: Global, row: &Line) -> Result<bool, Fail> {
     )
 }
 
-/// Whether the types that display a value or the object that it is write the row's texts.
+/// Returns `true` if the types that display a value or the object that it is write the row's texts.
 fn is_displayed(alloc: Global, row: &Line) -> Result<bool, Fail> {
     let value = value_at(alloc, row, 2)?;
     let (render, source) = (row.text(0)?, row.text(1)?);

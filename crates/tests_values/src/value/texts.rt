@@ -19,7 +19,7 @@ const TEXTS: &str = r#"["1", "1", "whole number", 1]
 ["", "empty", "empty", {"state": "empty"}]
 ["", "nil", "nil", null]"#;
 
-/// Whether the types that display a value write the row's texts.
+/// Returns `true` if the types that display a value write the row's texts.
 fn is_displayed(alloc: Global, row: &Line) -> Result<bool, Fail> {
     let value = value_at(alloc, row, 3)?;
     let rendered = ValueRender::new(&value).to_string(alloc)?;
@@ -27,7 +27,7 @@ fn is_displayed(alloc: Global, row: &Line) -> Result<bool, Fail> {
     Ok(rendered.as_str() == row.text(0)? && shown.as_str() == row.text(1)?)
 }
 
-/// Whether the value's own text and the name of its type are the row's.
+/// Returns `true` if the value's own text and the name of its type are the row's.
 fn has_text(alloc: Global, row: &Line) -> Result<bool, Fail> {
     let value = value_at(alloc, row, 3)?;
     Ok(value.to_kstr(alloc)?.as_str() == row.text(0)? && value.type_name() == row.text(2)?)
@@ -39,7 +39,7 @@ fn values_have_texts(rt: HostRuntime) -> Result<(), Fail> {
     rows_hold(rt.alloc(), TEXTS, has_text)
 }
 
-/// The names of the states that a value is in.
+/// Returns the names of the states that a value is in.
 fn states_of(alloc: Global, value: &Value) -> Result<String, AllocError> {
     let mut names = String::new(alloc);
     for (state, name) in [

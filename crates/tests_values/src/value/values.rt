@@ -1,4 +1,4 @@
-//! What values hold, what they are made of, and walks over objects.
+//! What values contain, what they are made from, and walks over objects.
 use super::{value_at, value_in};
 use liquid_scalar::Scalar;
 use liquid_value::steps::{
@@ -16,7 +16,7 @@ const PARTS: &str = r#"["scalar", 1]
 ["state", {"state": "empty"}]
 ["nil", null]"#;
 
-/// Whether a value gives what it holds where it is this kind of value, and nothing where it isn't.
+/// Returns `true` if a value gives what it contains if it is of this kind, and nothing if it isn't.
 fn gives(value: Value, kind: &str) -> Result<bool, AllocError> {
     Ok(
         value.clone()?.into_scalar().is_some() == (kind == "scalar")
@@ -26,7 +26,7 @@ fn gives(value: Value, kind: &str) -> Result<bool, AllocError> {
     )
 }
 
-/// Whether a value lends what it holds where it is this kind of value, and nothing where it isn't.
+/// Returns `true` if a value lends what it contains if it is of this kind, and nothing if it isn't.
 fn lends(value: &mut Value, kind: &str) -> bool {
     value.as_array().is_some() == (kind == "array")
         && value.as_object().is_some() == (kind == "object")
@@ -71,7 +71,7 @@ fn has_a_clone(alloc: Global, row: &Line) -> Result<bool, Fail> {
     Ok(value.clone()? == value)
 }
 
-/// Whether a borrowed value is as the value, lends what it does, and is its clone where it is owned.
+/// Returns `true` if a borrowed value is as the value, lends what it does, and is its clone if it is owned.
 fn is_borrowed(alloc: Global, row: &Line) -> Result<bool, Fail> {
     let value = value_at(alloc, row, 1)?;
     let kind = row.text(0)?;

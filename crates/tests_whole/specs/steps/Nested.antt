@@ -1,4 +1,4 @@
--- A block that takes its body as a text, in which its own starts have ends of their own.
+-- A block that takes its body as a text, in which nested starts have their own ends.
 use Rattle.std.specs.Prelude.{true}
 use Rattle.liquid_parser.specs.meaning.Lang.{Block}
 use Rattle.bench.specs.meaning.BlockPlugins.{block_meaning, names_told}

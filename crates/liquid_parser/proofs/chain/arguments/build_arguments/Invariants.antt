@@ -12,7 +12,7 @@ use Rattle.liquid_parser.proofs.chain.arguments.build_arguments.Given as goal
 abbrev pub decreases-arguments : goal.decreases-arguments
 decreases-arguments l = length l.rest
 
--- what is left of the arguments stands here
+-- what is left of the arguments is here
 abbrev pub invariant-arguments : goal.invariant-arguments
 invariant-arguments l =
     shadow (Utf8 l.rest)

@@ -24,7 +24,7 @@ decreases-build_index l = 4 * (100 - l.depth)
 abbrev pub decreases-build_variable-indexes : goal.decreases-build_variable-indexes
 decreases-build_variable-indexes l = length l.rest
 
--- what is left of the indexes stands here
+-- what is left of the indexes is here
 abbrev pub invariant-build_variable-indexes : goal.invariant-build_variable-indexes
 invariant-build_variable-indexes l =
     shadow (Utf8 l.rest)

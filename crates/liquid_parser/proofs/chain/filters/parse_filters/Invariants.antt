@@ -13,7 +13,7 @@ use Rattle.liquid_parser.proofs.chain.filters.parse_filters.Given as goal
 abbrev pub decreases-filters : goal.decreases-filters
 decreases-filters g l = length l.rest
 
--- what is left of the filters stands here
+-- what is left of the filters is here
 abbrev pub invariant-filters : goal.invariant-filters
 invariant-filters g l =
     shadow (Utf8 l.rest)

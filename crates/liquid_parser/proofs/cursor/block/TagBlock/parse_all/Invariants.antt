@@ -8,7 +8,7 @@ use Rattle.liquid_parser.proofs.cursor.block.TagBlock.parse_all.Given as goal
 abbrev pub decreases-nodes : goal.decreases-nodes
 decreases-nodes g l = length l.self.rest.now
 
--- the cursor went on, and so far all were read; that of a closed block stays
+-- the cursor has moved on, and so far all were read; that of a closed block stays
 abbrev pub invariant-nodes : goal.invariant-nodes
 invariant-nodes g l =
     Passes l.fn.self l.self
