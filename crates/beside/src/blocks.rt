@@ -1,8 +1,9 @@
 //! Blocks of two types as blocks of one.
-ghost use Rattle.liquid_error.specs.meaning.Told.{Gives};
+ghost use Rattle.std.specs.Prelude.{◌≡◌, IfSome};
+ghost use Rattle.liquid_error.specs.meaning.Told.{Gives, told};
 ghost use Rattle.liquid_parser.specs.meaning.Handed.{Tokens};
 ghost use Rattle.liquid_parser.specs.meaning.Plugins.{AreTokens, body_of};
-ghost use Rattle.beside.specs.meaning.Plugins.{block_beside, names_beside};
+ghost use Rattle.beside.specs.meaning.Plugins.{block_beside, names_beside, other_plan};
 ghost use Rattle.beside.specs.laws.Named.{named_beside};
 
 use crate::one_of::Beside;
@@ -108,10 +109,19 @@ impl<F: ParseFilter, L: ParseBlock<F>, O: ParseBlock<F>> ParseBlock<F> for Besid
     ) -> Result<(), Error> {
         match (self, plan) {
             (Beside::Library(block), Beside::Library(plan)) => {
-                block.divide(alloc, plan, name, tokens)
+                match block.divide(alloc, plan, name, tokens) {
+                    Ok(()) => Ok(()),
+                    Err(error) => Err(error),
+                }
             }
-            (Beside::Own(block), Beside::Own(plan)) => block.divide(alloc, plan, name, tokens),
-            _ => Err(other_plan(alloc)),
+            (Beside::Own(block), Beside::Own(plan)) => {
+                match block.divide(alloc, plan, name, tokens) {
+                    Ok(()) => Ok(()),
+                    Err(error) => Err(error),
+                }
+            }
+            (Beside::Library(_), Beside::Own(_)) => Err(other_plan(alloc)),
+            (Beside::Own(_), Beside::Library(_)) => Err(other_plan(alloc)),
         }
     }
 
@@ -132,12 +142,15 @@ impl<F: ParseFilter, L: ParseBlock<F>, O: ParseBlock<F>> ParseBlock<F> for Besid
                 Ok(node) => Ok(Beside::Own(node)),
                 Err(error) => Err(error),
             },
-            _ => Err(other_plan(alloc)),
+            (Beside::Library(_), Beside::Own(_)) => Err(other_plan(alloc)),
+            (Beside::Own(_), Beside::Library(_)) => Err(other_plan(alloc)),
         }
     }
 }
 
 /// Returns the error of a block that is handed the plan of another one.
-fn other_plan(alloc: Global) -> Error {
+fn other_plan(alloc: Global) -> Error
+    ensures { IfSome (told result) (λ r. r ≡ other_plan) }
+{
     Error::with_msg(alloc, "Plan of another block")
 }

@@ -30,7 +30,7 @@ module _ {Reg : Type 0} where
   pieces-silent [] = refl
   pieces-silent (s ∷ ss) = pieces-silent ss
 
-  checkpoints-silent : (ss : List (Step Reg)) → checkpoints (map silent_step ss) ≡ checkpoints ss
+  pub checkpoints-silent : (ss : List (Step Reg)) → checkpoints (map silent_step ss) ≡ checkpoints ss
   checkpoints-silent [] = refl
   checkpoints-silent (s ∷ ss) = ap (λ n. one_if s.checkpoint + n) (checkpoints-silent ss)
 

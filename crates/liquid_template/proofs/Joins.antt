@@ -236,7 +236,7 @@ module _ {Reg : Type 0} where
   pieces-outside restores trace [] = refl
   pieces-outside restores trace (s ∷ ss) = ap (λ t. s.piece ++ t) (pieces-outside restores trace ss)
 
-  checkpoints-outside : (restores : Restore Reg) (trace : Option (List ℕ)) (ss : List (Step Reg)) → checkpoints (map (step_outside restores trace) ss) ≡ checkpoints ss
+  pub checkpoints-outside : (restores : Restore Reg) (trace : Option (List ℕ)) (ss : List (Step Reg)) → checkpoints (map (step_outside restores trace) ss) ≡ checkpoints ss
   checkpoints-outside restores trace [] = refl
   checkpoints-outside restores trace (s ∷ ss) = ap (λ n. one_if s.checkpoint + n) (checkpoints-outside restores trace ss)
 

@@ -1,7 +1,9 @@
 //! Laws of sandboxed runs and of isolated ones, each as the contract of a function. `V` is the type of the register.
 //! `F`, `T` and `B` are the shapes of filters, tags and blocks. `P` and `Q` are the progress of tags and of blocks.
+ghost use Rattle.liquid_template.specs.laws.Checkpoints.{Kept, NoneElsewhere, OneEachTurn};
 ghost use Rattle.liquid_template.specs.laws.IsolatedFrames.{IsolatedFromOutside, IsolatedOutsidesAgree};
 ghost use Rattle.liquid_template.specs.laws.Isolation.{Isolated, OutsidesAgree};
+ghost use Rattle.liquid_plugins.specs.meaning.Turns.{NodeMeaning};
 ghost use Rattle.liquid_template.specs.meaning.Nodes.{Setting};
 
 use liquid_runtime::Fresh;
@@ -31,4 +33,13 @@ pub fn isolated_runs_are_apart<V: Fresh, F, T, P, B, Q>()
 /// and the same writes.
 pub fn isolated_outsides_agree<V: Fresh, F, T, P, B, Q>()
     ensures { (s : Setting V F T P B Q) → IsolatedOutsidesAgree s }
+{}
+
+/// Each turn of a tag or a block has exactly one checkpoint of its own, and nothing else has one. Frames, traces
+/// and captures keep them. So a gate that lets `n` checkpoints pass lets `n` turns begin.
+#[tactic(auto, using(crate::proofs::Checkpoints::one_each_turn, crate::proofs::Checkpoints::none_elsewhere, crate::proofs::Checkpoints::kept))]
+pub fn checkpoints_count_turns<V: Fresh, F, T, P, B, Q, N, R>()
+    ensures turns { (s : Setting V F T P B Q) (m : NodeMeaning N R V) → OneEachTurn s m }
+    ensures elsewhere { NoneElsewhere V }
+    ensures kept { Kept V }
 {}

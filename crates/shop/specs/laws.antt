@@ -1,2 +1,2 @@
-pub mod TagLaws
-pub mod BlockLaws
+pub mod BadgeLaws
+pub mod StockLaws

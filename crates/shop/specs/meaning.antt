@@ -1,5 +1,5 @@
+pub mod Badges
 pub mod Filters
-pub mod Tags
-pub mod Blocks
-pub mod BlockPlugins
 pub mod Languages
+pub mod Stocks
+pub mod Twices

@@ -2,16 +2,24 @@
 ghost use Rattle.std.specs.Prelude.{◌≡◌, IfOk};
 ghost use Rattle.shop.specs.meaning.Languages.{the_blocks, the_filters, the_tags};
 
-use crate::block_plugins::ShopBlocks;
+use crate::badge::Badge;
 use crate::filters::{Quoted, ShopFilters};
-use crate::tag_plugins::ShopTags;
+use crate::stock::Stock;
+use crate::twice::Twice;
+use beside::Beside;
 use liquid_core::parser::{Language, PluginRegistry};
 use liquid_tags::{Blocks, Tags};
 use std::alloc::{AllocError, Global};
 use std_filters::filters_beside;
+use text_blocks::TextBlockPlugin;
 
-/// The standard filters and `quoted`, the tags and blocks of the library, the tag `badge` and the blocks `stock` and
-/// `twice`.
+/// The tags of the library, and `badge`.
+pub type ShopTags = Beside<Tags, Badge>;
+
+/// The blocks of the library, `stock` and `twice`.
+pub type ShopBlocks = Beside<Blocks, Beside<Stock, TextBlockPlugin<Twice>>>;
+
+/// The standard filters and `quoted`, and these tags and blocks.
 pub type ShopLanguage = Language<ShopFilters, ShopTags, ShopBlocks>;
 
 /// Returns the plug-ins, each under its name.
@@ -22,14 +30,15 @@ pub fn language(alloc: Global) -> Result<ShopLanguage, AllocError>
 {
     let filters = filters_beside(alloc, None, &[Quoted])?;
     let mut tags = PluginRegistry::new(alloc);
-    tags.register("assign", ShopTags::Library(Tags::Assign))?;
-    tags.register("include", ShopTags::Library(Tags::Include))?;
-    tags.register("badge", ShopTags::Badge)?;
+    tags.register("assign", Beside::Library(Tags::Assign))?;
+    tags.register("include", Beside::Library(Tags::Include))?;
+    tags.register("badge", Beside::Own(Badge))?;
     let mut blocks = PluginRegistry::new(alloc);
-    blocks.register("if", ShopBlocks::Library(Blocks::If))?;
-    blocks.register("for", ShopBlocks::Library(Blocks::For))?;
-    blocks.register("stock", ShopBlocks::Stock)?;
-    blocks.register("twice", ShopBlocks::Twice)?;
+    blocks.register("if", Beside::Library(Blocks::If))?;
+    blocks.register("for", Beside::Library(Blocks::For))?;
+    blocks.register("stock", Beside::Own(Beside::Library(Stock)))?;
+    let twice = TextBlockPlugin { kind: Twice };
+    blocks.register("twice", Beside::Own(Beside::Own(twice)))?;
     Ok(Language {
         filters,
         tags,

@@ -2,15 +2,14 @@
 //! and blocks of its own.
 #![tactic(auto)]
 
-pub mod block_plugins;
-pub mod blocks;
+pub mod badge;
 pub mod filters;
 pub mod languages;
 pub mod pages;
-pub mod tag_plugins;
-pub mod tags;
+pub mod stock;
 #[cfg(test)]
 mod tests;
+pub mod twice;
 
 use liquid_core::{Error, WriterSink};
 use pages::{Shop, write_review};

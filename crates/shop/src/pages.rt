@@ -1,8 +1,6 @@
 //! The shop's page, and what its customers write.
-use crate::block_plugins::ShopBlocks;
 use crate::filters::ShopFilters;
-use crate::languages::{ShopLanguage, language};
-use crate::tag_plugins::ShopTags;
+use crate::languages::{ShopBlocks, ShopLanguage, ShopTags, language};
 use liquid_core::model::{Object, Value, object_from_str};
 use liquid_core::parser::parse;
 use liquid_core::partials::{InMemorySource, LazyCompiler, LazyStore, PartialCompiler};

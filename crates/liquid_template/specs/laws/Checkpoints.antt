@@ -19,13 +19,13 @@ abbrev pub asked_after : {Reg : Type 0} → Option Refusal → View Reg → Acti
 asked_after None v next = asked_in (next v)
 asked_after (Some refusal) v next = 0
 
-module _ {Reg F T P B Q : Type 0} (s : Setting Reg F T P B Q) (partials : List ℕ → Action Reg) where
-  -- each turn of a tag or a block has one checkpoint, beside those of what it renders and of the turns after it
-  abbrev pub OneEachTurn : Type (suc 0)
-  OneEachTurn =
-      {N R : Type 0} (m : NodeMeaning N R Reg) (n : N) (parts : List (Action Reg)) (left : ℕ) (progress : R) (v : View Reg) →
-      asked_in (turns s partials m n parts (suc left) progress v) ≡ suc (asked_in (answered s partials m n parts
-          (m.takes n progress v).answer (m.takes n progress v).progress (turns s partials m n parts left) (with_written (m.takes n progress v).written v)))
+-- each turn of a node has one checkpoint, beside those of what it renders and of the turns after it
+pub record OneEachTurn {Reg F T P B Q N R : Type 0} (s : Setting Reg F T P B Q) (m : NodeMeaning N R Reg) : Type 0 where
+  pub turn : (partials : List ℕ → Action Reg) (n : N) (parts : List (Action Reg)) (left : ℕ) (progress : R) (v : View Reg) →
+      asked_in (turns s partials m n parts (suc left) progress v) ≡ 1 + asked_in (answered s partials m n parts
+      (m.takes n progress v).answer (m.takes n progress v).progress (turns s partials m n parts left) (with_written (m.takes n progress v).written v))
+  pub none : (partials : List ℕ → Action Reg) (n : N) (parts : List (Action Reg)) (progress : R) (v : View Reg) →
+      asked_in (turns s partials m n parts 0 progress v) ≡ 0
 
 -- pieces, values and refusals have none, and what is rendered one after the other has those of both
 pub record NoneElsewhere (Reg : Type 0) : Type 0 where

@@ -11,21 +11,26 @@ use Rattle.std_filters.specs.declared.beside.Beside.{Beside}
 use Rattle.std_filters.specs.declared.kinds.StdKind.{StdKind}
 use Rattle.std_filters.specs.declared.plugin.FilterPlugin.{FilterPlugin}
 use Rattle.std_filters.specs.meaning.Registered.{filters_beside}
-use Rattle.shop.specs.declared.tag_plugins.ShopTags.{ShopTags}
-use Rattle.shop.specs.declared.tag_plugins.ShopTags.TheVariants as shop_tags
-use Rattle.shop.specs.declared.block_plugins.ShopBlocks.{ShopBlocks}
-use Rattle.shop.specs.declared.block_plugins.ShopBlocks.TheVariants as shop_blocks
+use Rattle.beside.specs.declared.one_of.Beside as one_of
+use Rattle.beside.specs.declared.one_of.Beside.TheVariants.{Library, Own}
+use Rattle.text_blocks.specs.declared.plugin.TextBlockPlugin.{TextBlockPlugin}
+use Rattle.liquid_tags.specs.declared.tag_plugins.Tags.{Tags}
+use Rattle.liquid_tags.specs.declared.block_plugins.Blocks.{Blocks}
+use Rattle.shop.specs.declared.badge.Badge.{Badge}
+use Rattle.shop.specs.declared.stock.Stock.{Stock}
+use Rattle.shop.specs.declared.twice.Twice.{Twice}
 
 -- the standard filters, for which `now` and `today` are not dates, and the shop's own
 abbrev pub the_filters : NameMap (FilterPlugin (Beside StdKind Quoted))
 the_filters = filters_beside quoted None (record {} ∷ [])
 
-abbrev pub the_tags : NameMap ShopTags
+abbrev pub the_tags : NameMap (one_of.Beside Tags Badge)
 the_tags =
     registered empty
-    ((codes "assign", shop_tags.Library tags.Assign) ∷ (codes "include", shop_tags.Library tags.Include) ∷ (codes "badge", shop_tags.Badge) ∷ [])
+    ((codes "assign", Library tags.Assign) ∷ (codes "include", Library tags.Include) ∷ (codes "badge", Own (record {})) ∷ [])
 
-abbrev pub the_blocks : NameMap ShopBlocks
+abbrev pub the_blocks : NameMap (one_of.Beside Blocks (one_of.Beside Stock (TextBlockPlugin Twice)))
 the_blocks =
     registered empty
-    ((codes "if", shop_blocks.Library blocks.If) ∷ (codes "for", shop_blocks.Library blocks.For) ∷ (codes "stock", shop_blocks.Stock) ∷ (codes "twice", shop_blocks.Twice) ∷ [])
+    ((codes "if", Library blocks.If) ∷ (codes "for", Library blocks.For) ∷ (codes "stock", Own (Library (record {})))
+    ∷ (codes "twice", Own (Own (record { kind = record {} }))) ∷ [])
