@@ -51,16 +51,31 @@ impl Default for InterruptRegister {
     }
 }
 
-/// A register's first value, which is always the same.
+/// A type of registers: what contracts see of a register, and its first value.
+///
+/// Contracts see a register by its shape, which is plain data, so that it may hold texts and maps: two
+/// registers of one shape differ at most in where their content stands. The type `Shape` stands for
+/// that data in contracts, and no program makes a value of it; a register that owns no memory is its
+/// own shape.
 pub trait Fresh: Drop {
-    ghost fresh: { Self };
+    type Shape;
 
+    ghost shape: { Self → Self.Shape };
+
+    ghost fresh: { Self.Shape };
+
+    /// The first value, which has always the same shape. It takes no memory, so texts, lists and maps
+    /// are empty in it.
     fn fresh() -> Self
-        ensures { result ≡ fresh };
+        ensures { shape result ≡ fresh };
 }
 
 /// A register for callers that need none.
 impl Fresh for () {
+    type Shape = ();
+
+    ghost shape = { λ unit. unit };
+
     ghost fresh = { tt };
 
     fn fresh() {}
@@ -74,10 +89,10 @@ pub struct Registers<V> {
 }
 
 impl<V: Fresh> Registers<V> {
-    ghost use Rattle.liquid_runtime.specs.meaning.Calls.{fresh_registers};
+    ghost use Rattle.liquid_runtime.specs.meaning.Calls.{fresh_registers, shaped};
 
     pub(crate) fn fresh() -> Registers<V>
-        ensures { result ≡ fresh_registers V.fresh }
+        ensures { shaped V.shape result ≡ fresh_registers V.fresh }
     {
         Registers {
             interrupt: InterruptRegister { current: None },
@@ -88,9 +103,9 @@ impl<V: Fresh> Registers<V> {
 
 /// No interrupt, and the register's first value.
 impl<V: Fresh> Default for Registers<V> {
-    ghost use Rattle.liquid_runtime.specs.meaning.Calls.{fresh_registers};
+    ghost use Rattle.liquid_runtime.specs.meaning.Calls.{fresh_registers, shaped};
 
-    ghost is_default = { λ registers. registers ≡ fresh_registers V.fresh };
+    ghost is_default = { λ registers. shaped V.shape registers ≡ fresh_registers V.fresh };
 
     fn default() -> Registers<V> {
         Registers::fresh()
