@@ -7,5 +7,5 @@ use liquid_runtime::Fresh;
 /// differ in that global alone it makes different texts. So a language with `leak` is not rendered
 /// in a sandbox.
 pub fn leak_is_not_discreet<V: Fresh>()
-    ensures { LeakIsNotDiscreet V }
+    ensures { LeakIsNotDiscreet V.Shape }
 {}

@@ -53,10 +53,8 @@ impl Default for InterruptRegister {
 
 /// A type of registers: what contracts see of a register, and its first value.
 ///
-/// Contracts see a register by its shape, which is plain data, so that it may hold texts and maps: two
-/// registers of one shape differ at most in where their content stands. The type `Shape` stands for
-/// that data in contracts, and no program makes a value of it; a register that owns no memory is its
-/// own shape.
+/// Contracts see a register by its shape, which is plain data, so it may own texts, lists and maps. No
+/// program makes a value of the type `Shape`. A register that owns no memory is its own shape.
 pub trait Fresh: Drop {
     type Shape;
 
@@ -64,8 +62,8 @@ pub trait Fresh: Drop {
 
     ghost fresh: { Self.Shape };
 
-    /// The first value, which has always the same shape. It takes no memory, so texts, lists and maps
-    /// are empty in it.
+    /// The first value. It is made without an allocator, so a field that takes memory is an `Option`
+    /// here, and `None`.
     fn fresh() -> Self
         ensures { shape result ≡ fresh };
 }

@@ -9,11 +9,11 @@ use liquid_runtime::Fresh;
 /// names: the same steps and the same end, with the outside's own names, interrupt and register as
 /// they were, and its globals overlaid by those that the run leaves.
 pub fn library_is_isolated<V: Fresh, F>()
-    ensures { (fresh : V) (m : FilterMeaning F) → LibraryIsolated fresh m }
+    ensures { (fresh : V.Shape) (m : FilterMeaning F) → LibraryIsolated fresh m }
 {}
 
 /// So two outsides that agree on partials, depth, leniency, index variables and name get the same
 /// text, the same refusal and the same writes.
 pub fn outsides_agree_on_the_library<V: Fresh, F>()
-    ensures { (fresh : V) (m : FilterMeaning F) → LibraryAgrees fresh m }
+    ensures { (fresh : V.Shape) (m : FilterMeaning F) → LibraryAgrees fresh m }
 {}

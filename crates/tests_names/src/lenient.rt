@@ -99,7 +99,7 @@ const NAMES: &str = r#"[[], "", ["base"]]
 [[["stack", {"a": 1}], ["isolated", {"b": 2}]], "a", ["a", "b"]]"#;
 
 /// A frame, as a row tells it.
-fn frame_of(alloc: Global, told: &Json) -> Result<Frame, Error> {
+pub(crate) fn frame_of(alloc: Global, told: &Json) -> Result<Frame, Error> {
     match (told.get(0).and_then(Json::as_str), told.get(1)) {
         (Some("none"), _) => Ok(Frame::None),
         (Some("global"), _) => Ok(Frame::Global),
