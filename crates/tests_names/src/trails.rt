@@ -49,15 +49,13 @@ impl Fresh for Trail {
 impl Trail {
     /// Adds a page to those before the last one.
     fn keep(&mut self, alloc: Global, page: String) -> Result<(), AllocError> {
-        match self.before.as_mut() {
-            Some(pages) => pages.push(page),
-            None => {
-                let mut pages = Vec::new(alloc);
-                pages.push(page)?;
-                self.before = Some(pages);
-                Ok(())
-            }
+        if self.before.is_none() {
+            self.before = Some(Vec::new(alloc));
         }
+        if let Some(pages) = self.before.as_mut() {
+            pages.push(page)?;
+        }
+        Ok(())
     }
 
     /// Adds a page as the last one.
