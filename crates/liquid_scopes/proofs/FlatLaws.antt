@@ -147,13 +147,13 @@ kept_or_dropped None false w true true h k = refl
 kept_or_dropped (Some t) false w true true h k = let m = h refl refl in absurd (cc)
 kept_or_dropped o false w false true h k = refl
 
-module _ {V : Type 0} where
+module _ {Reg : Type 0} where
   -- no frame stands yet at the place of the next one
-  nothing_there : (ls : List (Layer V)) (q : List ℕ) (j n : ℕ) → n ≡ length ls → (has_at ls q j && nat_eq j n) ≡ false
+  nothing_there : (ls : List (Layer Reg)) (q : List ℕ) (j n : ℕ) → n ≡ length ls → (has_at ls q j && nat_eq j n) ≡ false
   nothing_there ls q j n e = same_place (nat_eq j n) j n refl (has_at ls q) (ap (has_at ls q) e ∙ nothing_behind ls q)
 
   -- the places when the next frame is the unlisted one
-  pub fits_push : (ls : List (Layer V)) (l : Layer V) (U : Option ℕ) (q : List ℕ) (j n : ℕ) (S : Bool) → n ≡ length ls → U ≡ None → S ≡ listed_at ls U q j → S ≡ listed_at (ls ++ l ∷ []) (Some n) q j
+  pub fits_push : (ls : List (Layer Reg)) (l : Layer Reg) (U : Option ℕ) (q : List ℕ) (j n : ℕ) (S : Bool) → n ≡ length ls → U ≡ None → S ≡ listed_at ls U q j → S ≡ listed_at (ls ++ l ∷ []) (Some n) q j
   fits_push ls l U q j n S e none fit =
       let A = has_at ls q j in
       let o = is_some (own l q) in
@@ -161,17 +161,17 @@ module _ {V : Type 0} where
       ∙ ap (λ b. b && not (nat_eq j n)) (ap (λ i. A || (o && nat_eq j i)) e ∙ sym (has_at-push ls l q j))
 
   -- the next frame is the unlisted one, and doesn't stand there yet
-  pub fits_next : (ls : List (Layer V)) (U : Option ℕ) (q : List ℕ) (j n : ℕ) (S : Bool) → n ≡ length ls → U ≡ None → S ≡ listed_at ls U q j → S ≡ listed_at ls (Some n) q j
+  pub fits_next : (ls : List (Layer Reg)) (U : Option ℕ) (q : List ℕ) (j n : ℕ) (S : Bool) → n ≡ length ls → U ≡ None → S ≡ listed_at ls U q j → S ≡ listed_at ls (Some n) q j
   fits_next ls U q j n S e none fit =
       fit ∙ ap (λ u. has_at ls q j && not (is_at u j)) none ∙ sym (and_all (has_at ls q j)) ∙ sym (absent (has_at ls q) n j (nat_eq j n) refl (ap (has_at ls q) e ∙ nothing_behind ls q))
 
   -- the places when the next frame is one without names
-  pub fits_nameless : (ls : List (Layer V)) (l : Layer V) (U : Option ℕ) (q : List ℕ) (j : ℕ) (S : Bool) → own l q ≡ None → S ≡ listed_at ls U q j → S ≡ listed_at (ls ++ l ∷ []) U q j
+  pub fits_nameless : (ls : List (Layer Reg)) (l : Layer Reg) (U : Option ℕ) (q : List ℕ) (j : ℕ) (S : Bool) → own l q ≡ None → S ≡ listed_at ls U q j → S ≡ listed_at (ls ++ l ∷ []) U q j
   fits_nameless ls l U q j S none fit =
       let A = has_at ls q j in
       fit ∙ ap (λ b. b && not (is_at U j)) (or_nothing A ∙ ap (λ o. A || (is_some o && nat_eq j (length ls))) (sym none) ∙ sym (has_at-push ls l q j))
 
-  put_own : (l : Layer V) (k q : List ℕ) (t : Tree) → is_global l ≡ true → is_some (own (assigning (insert (assigned l) k t) l) q) ≡ (is_some (own l q) || (bytes_eq k q && nat_eq 0 0))
+  put_own : (l : Layer Reg) (k q : List ℕ) (t : Tree) → is_global l ≡ true → is_some (own (assigning (insert (assigned l) k t) l) q) ≡ (is_some (own l q) || (bytes_eq k q && nat_eq 0 0))
   put_own none_layer k q t e = absurd (cc)
   put_own (stack_layer d n) k q t e = absurd (cc)
   put_own (global_layer g) k q t e = put_name g k q t
@@ -179,14 +179,14 @@ module _ {V : Type 0} where
   put_own (isolated_layer d g n s) k q t e = put_over (get g q) (get d q) (bytes_eq k q && nat_eq 0 0) (get (insert g k t) q) (put_name g k q t)
 
   -- a global frame with one value more
-  has_at-put : (before after : List (Layer V)) (l : Layer V) (k q : List ℕ) (t : Tree) (j : ℕ) → is_global l ≡ true
+  has_at-put : (before after : List (Layer Reg)) (l : Layer Reg) (k q : List ℕ) (t : Tree) (j : ℕ) → is_global l ≡ true
       → has_at (before ++ assigning (insert (assigned l) k t) l ∷ after) q j ≡ (has_at (before ++ l ∷ after) q j || (bytes_eq k q && nat_eq j (length before)))
   has_at-put [] after l k q t zero e = put_own l k q t e
   has_at-put [] after l k q t (suc j) e = no_more (has_at after q j) (bytes_eq k q) (nat_eq (suc j) 0) (suc_not_zero j)
   has_at-put (m ∷ before) after l k q t zero e = no_more (is_some (own m q)) (bytes_eq k q) (nat_eq 0 (suc (length before))) (zero_not_suc (length before))
   has_at-put (m ∷ before) after l k q t (suc j) e = has_at-put before after l k q t j e ∙ ap (λ b. has_at (before ++ l ∷ after) q j || (bytes_eq k q && b)) (sym (suc_eq j (length before)))
 
-  module _ {X : Type 0} (f : X → Layer V) where
+  module _ {X : Type 0} (f : X → Layer Reg) where
     pub no_items : (xs : List X) → map f xs ≡ [] → xs ≡ []
     no_items [] e = refl
     no_items (x ∷ xs) e = absurd (cc)
@@ -249,20 +249,20 @@ module _ {V : Type 0} where
         ∙ ap (λ ls. has_at ls q j || (bytes_eq k q && nat_eq j i)) (sym p.is)
 
   -- the places after a value was set in the listed frame at place i
-  pub fits_put : (ls ms : List (Layer V)) (U : Option ℕ) (i : ℕ) (k q : List ℕ) (j : ℕ) (S T : Bool) → is_at U i ≡ false → has_at ms q j ≡ (has_at ls q j || (bytes_eq k q && nat_eq j i))
+  pub fits_put : (ls ms : List (Layer Reg)) (U : Option ℕ) (i : ℕ) (k q : List ℕ) (j : ℕ) (S T : Bool) → is_at U i ≡ false → has_at ms q j ≡ (has_at ls q j || (bytes_eq k q && nat_eq j i))
       → S ≡ listed_at ls U q j → T ≡ (S || (bytes_eq k q && nat_eq j i)) → T ≡ listed_at ms U q j
   fits_put ls ms U i k q j S T apart more fit noted = noted ∙ ap (λ b. b || (bytes_eq k q && nat_eq j i)) fit
       ∙ put_listed (has_at ls q j) (bytes_eq k q) (nat_eq j i) (is_at U j) (same_at U i j false apart)
       ∙ ap (λ b. b && not (is_at U j)) (sym more)
 
   -- the same in the unlisted one
-  pub fits_put_unlisted : (ls ms : List (Layer V)) (U : Option ℕ) (i : ℕ) (k q : List ℕ) (j : ℕ) (S : Bool) → is_at U i ≡ true → has_at ms q j ≡ (has_at ls q j || (bytes_eq k q && nat_eq j i))
+  pub fits_put_unlisted : (ls ms : List (Layer Reg)) (U : Option ℕ) (i : ℕ) (k q : List ℕ) (j : ℕ) (S : Bool) → is_at U i ≡ true → has_at ms q j ≡ (has_at ls q j || (bytes_eq k q && nat_eq j i))
       → S ≡ listed_at ls U q j → S ≡ listed_at ms U q j
   fits_put_unlisted ls ms U i k q j S here more fit = fit ∙ put_unlisted (has_at ls q j) (bytes_eq k q) (nat_eq j i) (is_at U j) (same_at U i j true here)
       ∙ ap (λ b. b && not (is_at U j)) (sym more)
 
   -- the place that was noted for a name that was not given a value: it goes unless the frame had the name before
-  pub fits_kept : (ls ms : List (Layer V)) (U : Option ℕ) (i : ℕ) (k q : List ℕ) (j : ℕ) (S T V : Bool) → is_at U i ≡ false → ms ≡ ls → S ≡ listed_at ls U q j
+  pub fits_kept : (ls ms : List (Layer Reg)) (U : Option ℕ) (i : ℕ) (k q : List ℕ) (j : ℕ) (S T V : Bool) → is_at U i ≡ false → ms ≡ ls → S ≡ listed_at ls U q j
       → T ≡ (S || (bytes_eq k q && nat_eq j i)) → V ≡ (T && not ((bytes_eq k q && is_none (own_at i ms k)) && nat_eq j i)) → V ≡ listed_at ms U q j
   fits_kept ls ms U i k q j S T V apart same fit noted dropped =
       dropped
@@ -271,5 +271,5 @@ module _ {V : Type 0} where
       ∙ kept_or_dropped (own_at i ls k) (has_at ls q j) (is_at U j) (bytes_eq k q) (nat_eq j i) (λ b e. had ls k q i j b e) (λ e. same_at U i j false apart e)
       ∙ sym (ap (λ xs. listed_at xs U q j) same)
     where
-      had : (xs : List (Layer V)) (k q : List ℕ) (i j : ℕ) → bytes_eq k q ≡ true → nat_eq j i ≡ true → has_at xs q j ≡ is_some (own_at i xs k)
+      had : (xs : List (Layer Reg)) (k q : List ℕ) (i j : ℕ) → bytes_eq k q ≡ true → nat_eq j i ≡ true → has_at xs q j ≡ is_some (own_at i xs k)
       had xs k q i j b e = let m : j ≡ i = grind (arith, nat_tests) in ap (has_at xs q) m ∙ ap (λ p. has_at xs p i) (sym (same_text k q b))
