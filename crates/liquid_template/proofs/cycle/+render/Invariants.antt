@@ -47,7 +47,6 @@ abbrev pub invariant-render_list-loop-node : goal.invariant-render_list-loop-nod
 invariant-render_list-loop-node g l = record {
   owes : g.S.Runtime.restores l.scopes ≡ g.S.Runtime.restores l.fn.scopes;
   store : option_map g.S.Store.PartialStore.finds (g.S.Runtime.store l.scopes) ≡ option_map g.S.Store.PartialStore.finds (g.S.Runtime.store l.fn.scopes);
-  bound : partials_size (option_map g.S.Store.PartialStore.finds (g.S.Runtime.store l.scopes)) ≡ partials_size (option_map g.S.Store.PartialStore.finds (g.S.Runtime.store l.fn.scopes));
   answer : IsOk l.answer;
   borrows : g.S.Runtime.lent l.scopes ≡ g.S.Runtime.lent l.fn.scopes;
   around : around (g.O.Out.place l.out) ≡ around (g.O.Out.place l.fn.out);
@@ -60,7 +59,6 @@ abbrev pub invariant-render_tag-loop : goal.invariant-render_tag-loop
 invariant-render_tag-loop g l = record {
   owes : g.S.Runtime.restores l.scopes ≡ g.S.Runtime.restores l.fn.scopes;
   store : option_map g.S.Store.PartialStore.finds (g.S.Runtime.store l.scopes) ≡ option_map g.S.Store.PartialStore.finds (g.S.Runtime.store l.fn.scopes);
-  bound : partials_size (option_map g.S.Store.PartialStore.finds (g.S.Runtime.store l.scopes)) ≡ partials_size (option_map g.S.Store.PartialStore.finds (g.S.Runtime.store l.fn.scopes));
   answer : IsOk l.answer;
   borrows : g.S.Runtime.lent l.scopes ≡ g.S.Runtime.lent l.fn.scopes;
   around : around (g.O.Out.place l.out) ≡ around (g.O.Out.place l.fn.out);
@@ -73,7 +71,6 @@ abbrev pub invariant-render_block-loop : goal.invariant-render_block-loop
 invariant-render_block-loop g l = record {
   owes : g.S.Runtime.restores l.scopes ≡ g.S.Runtime.restores l.fn.scopes;
   store : option_map g.S.Store.PartialStore.finds (g.S.Runtime.store l.scopes) ≡ option_map g.S.Store.PartialStore.finds (g.S.Runtime.store l.fn.scopes);
-  bound : partials_size (option_map g.S.Store.PartialStore.finds (g.S.Runtime.store l.scopes)) ≡ partials_size (option_map g.S.Store.PartialStore.finds (g.S.Runtime.store l.fn.scopes));
   answer : IsOk l.answer;
   borrows : g.S.Runtime.lent l.scopes ≡ g.S.Runtime.lent l.fn.scopes;
   around : around (g.O.Out.place l.out) ≡ around (g.O.Out.place l.fn.out);
