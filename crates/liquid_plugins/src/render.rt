@@ -34,7 +34,7 @@ pub trait Renderable<V: Fresh>: Meant + Drop {
     type Progress: Meant + Drop;
 
     // what each call returns and leaves, by the shapes of the node and of the progress, and the view
-    ghost means: { NodeMeaning Self.Shape Self.Progress.Shape V };
+    ghost means: { NodeMeaning Self.Shape Self.Progress.Shape V.Shape };
 
     fn start<R: Runtime<Register = V>>(
         &self,

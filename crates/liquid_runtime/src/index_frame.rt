@@ -1,6 +1,7 @@
 //! The frame of the index variables.
 ghost use Rattle.std.specs.Prelude.{◌≡◌, [], Some};
 ghost use Rattle.liquid_runtime.specs.meaning.Frames.{begin_index};
+ghost use Rattle.liquid_runtime.specs.meaning.Calls.{shaped};
 ghost use Rattle.liquid_runtime.specs.steps.FrameViews.{core_with, indexed_view};
 ghost use Rattle.liquid_runtime.specs.meaning.Maps.{names_of};
 
@@ -39,7 +40,7 @@ impl<V: Fresh, S: Drop> Runtime for IndexFrame<V, S> {
 
     type Store = S;
 
-    ghost view = { λ f. indexed_view (names_of f.variables) (core_with f.parent.registers f.parent.depth f.parent.lenient) };
+    ghost view = { λ f. indexed_view (names_of f.variables) (core_with (shaped V.shape f.parent.registers) f.parent.depth f.parent.lenient) };
 
     ghost store = { λ f. f.parent.store };
 

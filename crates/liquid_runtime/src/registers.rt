@@ -51,16 +51,29 @@ impl Default for InterruptRegister {
     }
 }
 
-/// The first value of a register, which is always the same.
+/// A type of registers: what contracts see of a register, and its first value.
+///
+/// Contracts see a register by its shape, which is plain data, so it may own texts, lists and maps. No
+/// program makes a value of the type `Shape`. A register that owns no memory is its own shape.
 pub trait Fresh: Drop {
-    ghost fresh: { Self };
+    type Shape;
 
+    ghost shape: { Self → Self.Shape };
+
+    ghost fresh: { Self.Shape };
+
+    /// The first value. It is made without an allocator, so a field that takes memory is an `Option`
+    /// here, and `None`.
     fn fresh() -> Self
-        ensures { result ≡ fresh };
+        ensures { shape result ≡ fresh };
 }
 
 /// A register for callers that don't need one.
 impl Fresh for () {
+    type Shape = ();
+
+    ghost shape = { λ unit. unit };
+
     ghost fresh = { tt };
 
     fn fresh() {}
@@ -74,10 +87,10 @@ pub struct Registers<V> {
 }
 
 impl<V: Fresh> Registers<V> {
-    ghost use Rattle.liquid_runtime.specs.meaning.Calls.{fresh_registers};
+    ghost use Rattle.liquid_runtime.specs.meaning.Calls.{fresh_registers, shaped};
 
     pub(crate) fn fresh() -> Registers<V>
-        ensures { result ≡ fresh_registers V.fresh }
+        ensures { shaped V.shape result ≡ fresh_registers V.fresh }
     {
         Registers {
             interrupt: InterruptRegister { current: None },
@@ -88,9 +101,9 @@ impl<V: Fresh> Registers<V> {
 
 /// Returns no interrupt, and the register's first value.
 impl<V: Fresh> Default for Registers<V> {
-    ghost use Rattle.liquid_runtime.specs.meaning.Calls.{fresh_registers};
+    ghost use Rattle.liquid_runtime.specs.meaning.Calls.{fresh_registers, shaped};
 
-    ghost is_default = { λ registers. registers ≡ fresh_registers V.fresh };
+    ghost is_default = { λ registers. shaped V.shape registers ≡ fresh_registers V.fresh };
 
     fn default() -> Registers<V> {
         Registers::fresh()

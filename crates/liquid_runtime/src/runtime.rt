@@ -7,7 +7,7 @@ ghost use Rattle.liquid_paths.specs.meaning.InPlace.{InPlace};
 ghost use Rattle.liquid_paths.specs.meaning.PathOf.{indexes_of};
 ghost use Rattle.liquid_value.specs.meaning.View.{view as tree_of};
 ghost use Rattle.liquid_value.specs.meaning.Cow.{cow_view};
-ghost use Rattle.liquid_runtime.specs.meaning.Calls.{LendsRegisters, registers_of, with_registers, value_in};
+ghost use Rattle.liquid_runtime.specs.meaning.Calls.{LendsRegisters, registers_of, with_registers, shaped, value_in};
 ghost use Rattle.liquid_runtime.specs.meaning.Frames.{Restore};
 ghost use Rattle.liquid_runtime.specs.meaning.InPlaceOrNil.{InPlaceOrNil};
 ghost use Rattle.liquid_runtime.specs.meaning.Lookup.{try_path, found, unknown_variable as unknown_variable_refusal};
@@ -36,7 +36,7 @@ pub trait Runtime {
 
     ghost use Rattle.liquid_runtime.specs.declared.registers.Registers.{Registers};
 
-    ghost view: { Self → View Self.Register };
+    ghost view: { Self → View Self.Register.Shape };
 
     ghost store: { Self → Option Self.Store };
 
@@ -46,7 +46,7 @@ pub trait Runtime {
     ghost restored: { Self → Self.Store → Self };
 
     // what its frames restore when they end, the innermost first
-    ghost restores: { Self → List (Restore Self.Register) };
+    ghost restores: { Self → List (Restore Self.Register.Shape) };
 
     // the references that it is built on, the outermost first: no call replaces one of them
     ghost lent: { Self → List ℕ };
@@ -156,16 +156,16 @@ pub trait Runtime {
 
     /// Returns the interrupt and the register, those of the nearest sandboxed frame if there is one.
     fn registers(&self) -> &Registers<Self::Register>
-        ensures { result.now ≡ registers_of (view self.now) };
+        ensures { shaped Self.Register.shape result.now ≡ registers_of (view self.now) };
 
     /// Returns the same registers, to be changed.
     fn registers_mut(&mut self) -> &mut Registers<Self::Register>
         ensures* lends { sem 𝓛 (LendsRegisters Self.row Self.Register.row self.entry result (relent self.old)) }
-        ensures after { (w : Registers Self.Register) → view (relent self.old w) ≡ with_registers w (view self.old) }
+        ensures after { (w : Registers Self.Register) → view (relent self.old w) ≡ with_registers (shaped Self.Register.shape w) (view self.old) }
         ensures store { (w : Registers Self.Register) → store (relent self.old w) ≡ store self.old }
         ensures owes { (w : Registers Self.Register) → restores (relent self.old w) ≡ restores self.old }
         ensures borrows { (w : Registers Self.Register) → lent (relent self.old w) ≡ lent self.old }
-        ensures value { result.now ≡ registers_of (view self.old) };
+        ensures value { shaped Self.Register.shape result.now ≡ registers_of (view self.old) };
 
     /// Returns the store of partial templates, to be changed, if one was set.
     fn partials(&mut self) -> Option<&mut Self::Store>

@@ -1,6 +1,7 @@
 //! The lowest runtime, over which frames are laid.
 ghost use Rattle.std.specs.Prelude.{◌≡◌, [], None, Some};
 ghost use Rattle.liquid_runtime.specs.meaning.Frames.{core_view, leniently};
+ghost use Rattle.liquid_runtime.specs.meaning.Calls.{shaped};
 ghost use Rattle.liquid_runtime.specs.steps.FrameViews.{core_with};
 
 use crate::registers::{Fresh, Registers};
@@ -61,7 +62,7 @@ impl<V: Fresh, S: Drop> Runtime for RuntimeCore<V, S> {
 
     type Store = S;
 
-    ghost view = { λ c. core_with c.registers c.depth c.lenient };
+    ghost view = { λ c. core_with (shaped V.shape c.registers) c.depth c.lenient };
 
     ghost store = { λ c. c.store };
 

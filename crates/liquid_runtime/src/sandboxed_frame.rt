@@ -1,6 +1,6 @@
 //! A frame that hides all names below it.
 ghost use Rattle.std.specs.Prelude.{◌≡◌, ◌∷◌, None, string_bytes, option_map};
-ghost use Rattle.liquid_runtime.specs.meaning.Calls.{named};
+ghost use Rattle.liquid_runtime.specs.meaning.Calls.{named, shaped};
 ghost use Rattle.liquid_runtime.specs.meaning.Frames.{begin_sandboxed, restored_by, sandboxed_frame};
 ghost use Rattle.liquid_runtime.specs.steps.FrameViews.{sandboxed_with};
 ghost use Rattle.liquid_runtime.specs.meaning.Maps.{names_of};
@@ -58,7 +58,7 @@ impl<P: Runtime> Runtime for SandboxedStackFrame<P> {
 
     type Store = P::Store;
 
-    ghost view = { λ f. sandboxed_with f.registers (names_of f.names) (option_map (λ s. string_bytes s) f.name) (P.view f.parent) };
+    ghost view = { λ f. sandboxed_with (shaped P.Register.shape f.registers) (names_of f.names) (option_map (λ s. string_bytes s) f.name) (P.view f.parent) };
 
     ghost store = { λ f. P.store f.parent };
 

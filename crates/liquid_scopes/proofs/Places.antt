@@ -43,27 +43,27 @@ cond_front : (b : Bool) (n : ℕ) (R T : List ℕ) → cond b (n ∷ (R ++ T)) (
 cond_front true n R T = refl
 cond_front false n R T = refl
 
-module _ {Reg : Type 0} (P : Layer Reg → Bool) where
-  places-push : (n : ℕ) (ls : List (Layer Reg)) (l : Layer Reg) → places_where P n (ls ++ l ∷ []) ≡ places_where P n ls ++ cond (P l) ((n + length ls) ∷ []) []
+module _ {V : Type 0} (P : Layer V → Bool) where
+  places-push : (n : ℕ) (ls : List (Layer V)) (l : Layer V) → places_where P n (ls ++ l ∷ []) ≡ places_where P n ls ++ cond (P l) ((n + length ls) ∷ []) []
   places-push n [] l = let e : n ≡ n + 0 = omega arith in ap (λ k. cond (P l) (k ∷ []) []) e
   places-push n (m ∷ ls) l =
       let e : suc n + length ls ≡ n + suc (length ls) = omega arith in
       ap (λ R. cond (P m) (n ∷ R) R) (places-push (suc n) ls l ∙ ap (λ k. places_where P (suc n) ls ++ cond (P l) (k ∷ []) []) e)
       ∙ cond_front (P m) n (places_where P (suc n) ls) (cond (P l) ((n + suc (length ls)) ∷ []) [])
 
-  last_where : (n : ℕ) (ls : List (Layer Reg)) → slice_get (places_where P n ls) (length (places_where P n ls) - 1) ≡ option_map (λ i. n + i) (last_place P ls)
+  last_where : (n : ℕ) (ls : List (Layer V)) → slice_get (places_where P n ls) (length (places_where P n ls) - 1) ≡ option_map (λ i. n + i) (last_place P ls)
   last_where n [] = refl
   last_where n (l ∷ ls) = last_joined (P l) n (places_where P (suc n) ls) (last_place P ls) (last_where (suc n) ls)
 
   -- the last of the places
-  pub last_of_places : (ls : List (Layer Reg)) (xs : List ℕ) → xs ≡ places_where P 0 ls → slice_get xs (length xs - 1) ≡ last_place P ls
+  pub last_of_places : (ls : List (Layer V)) (xs : List ℕ) → xs ≡ places_where P 0 ls → slice_get xs (length xs - 1) ≡ last_place P ls
   last_of_places ls xs e = ap (λ ys. slice_get ys (length ys - 1)) e ∙ last_where 0 ls ∙ from_zero (last_place P ls)
 
-  places-same : (k : ℕ) (before after : List (Layer Reg)) (l m : Layer Reg) → P l ≡ P m → places_where P k (before ++ l ∷ after) ≡ places_where P k (before ++ m ∷ after)
+  places-same : (k : ℕ) (before after : List (Layer V)) (l m : Layer V) → P l ≡ P m → places_where P k (before ++ l ∷ after) ≡ places_where P k (before ++ m ∷ after)
   places-same k [] after l m s = ap (λ b. cond b (k ∷ places_where P (suc k) after) (places_where P (suc k) after)) s
   places-same k (x ∷ before) after l m s = ap (λ R. cond (P x) (k ∷ R) R) (places-same (suc k) before after l m s)
 
-  module _ {X : Type 0} (f : X → Layer Reg) where
+  module _ {X : Type 0} (f : X → Layer V) where
     pub kept_place : (xs ys : List X) (x : X) (n : ℕ) (old new : List ℕ) → ys ≡ xs ++ x ∷ [] → n ≡ length xs → old ≡ places_where P 0 (map f xs) → new ≡ old ++ cond (P (f x)) (n ∷ []) [] → new ≡ places_where P 0 (map f ys)
     kept_place xs ys x n old new is e was h =
         let k : n ≡ 0 + length (map f xs) = omega (arith, e, map_length f xs) in
@@ -73,28 +73,28 @@ module _ {Reg : Type 0} (P : Layer Reg → Bool) where
     pub dropped_place : (xs ys : List X) (x : X) (old new : List ℕ) → xs ≡ ys ++ x ∷ [] → old ≡ places_where P 0 (map f xs) → ((kept : List ℕ) (place : ℕ) → old ≡ kept ++ cond (P (f x)) (place ∷ []) [] → new ≡ kept) → new ≡ places_where P 0 (map f ys)
     dropped_place xs ys x old new is was h = h (places_where P 0 (map f ys)) (0 + length (map f ys)) (was ∙ ap (places_where P 0) (ap (map f) is ∙ map_append f ys (x ∷ [])) ∙ places-push 0 (map f ys) (f x))
 
-    pub put_places : ((m : Names) (l : Layer Reg) → P (assigning m l) ≡ P l) → (xs : List X) (i : ℕ) (x : X) (k : List ℕ) (t : Tree) (p : GlobalAt (map f xs) i) → f x ≡ assigning (insert (assigned p.layer) k t) p.layer → places_where P 0 (map f (set xs i x)) ≡ places_where P 0 (map f xs)
+    pub put_places : ((m : Names) (l : Layer V) → P (assigning m l) ≡ P l) → (xs : List X) (i : ℕ) (x : X) (k : List ℕ) (t : Tree) (p : GlobalAt (map f xs) i) → f x ≡ assigning (insert (assigned p.layer) k t) p.layer → places_where P 0 (map f (set xs i x)) ≡ places_where P 0 (map f xs)
     put_places s xs i x k t p a =
         let m = insert (assigned p.layer) k t in
         ap (places_where P 0) (set_put f xs i x k t p a) ∙ places-same 0 p.before p.after (assigning m p.layer) p.layer (s m p.layer) ∙ sym (ap (places_where P 0) p.is)
 
 -- assigning in a layer makes it neither global nor sandboxed
-pub assigning_sandboxed : {Reg : Type 0} (m : Names) (l : Layer Reg) → is_sandboxed (assigning m l) ≡ is_sandboxed l
+pub assigning_sandboxed : {V : Type 0} (m : Names) (l : Layer V) → is_sandboxed (assigning m l) ≡ is_sandboxed l
 assigning_sandboxed m none_layer = refl
 assigning_sandboxed m (stack_layer d n) = refl
 assigning_sandboxed m (global_layer g) = refl
 assigning_sandboxed m (sandboxed_layer d n s) = refl
 assigning_sandboxed m (isolated_layer d g n s) = refl
 
-pub assigning_global : {Reg : Type 0} (m : Names) (l : Layer Reg) → is_global (assigning m l) ≡ is_global l
+pub assigning_global : {V : Type 0} (m : Names) (l : Layer V) → is_global (assigning m l) ≡ is_global l
 assigning_global m none_layer = refl
 assigning_global m (stack_layer d n) = refl
 assigning_global m (global_layer g) = refl
 assigning_global m (sandboxed_layer d n s) = refl
 assigning_global m (isolated_layer d g n s) = refl
 
-module _ {Reg : Type 0} where
-  global_step : (l : Layer Reg) (ls : List (Layer Reg)) (o : Option ℕ) → LastGlobal ls o → LastGlobal (l ∷ ls) (option_or (option_map (λ i. suc i) o) (cond (is_global l) (Some 0) None))
+module _ {V : Type 0} where
+  global_step : (l : Layer V) (ls : List (Layer V)) (o : Option ℕ) → LastGlobal ls o → LastGlobal (l ∷ ls) (option_or (option_map (λ i. suc i) o) (cond (is_global l) (Some 0) None))
   global_step l ls (Some i) p = record { before = l ∷ p.before; layer = p.layer; after = p.after; is = ap (λ xs. l ∷ xs) p.is; global = p.global; place = ap suc p.place; plain = p.plain }
   global_step none_layer ls None p = (refl, p)
   global_step (stack_layer d n) ls None p = (refl, p)
@@ -102,6 +102,6 @@ module _ {Reg : Type 0} where
   global_step (sandboxed_layer d n s) ls None p = (refl, p)
   global_step (isolated_layer d g n s) ls None p = record { before = []; layer = isolated_layer d g n s; after = ls; is = refl; global = refl; place = refl; plain = p }
 
-  pub last_global_is : (ls : List (Layer Reg)) → LastGlobal ls (last_place is_global ls)
+  pub last_global_is : (ls : List (Layer V)) → LastGlobal ls (last_place is_global ls)
   last_global_is [] = tt
   last_global_is (l ∷ ls) = global_step l ls (last_place is_global ls) (last_global_is ls)

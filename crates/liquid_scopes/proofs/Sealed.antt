@@ -55,29 +55,51 @@ first_missing : (a b : Option Tree) → is_some (option_or a b) ≡ false → is
 first_missing None b e = refl
 first_missing (Some t) b e = absurd (cc)
 
-module _ {Reg : Type 0} where
-  owner : (l : Layer Reg) (q : List ℕ) (b : Bool) → is_some (own l q) ≡ true → layer_seals l q b ≡ (is_sandboxed l && seals_own l q)
+module _ {V : Type 0} where
+  owner : (l : Layer V) (q : List ℕ) (b : Bool) → is_some (own l q) ≡ true → layer_seals l q b ≡ (is_sandboxed l && seals_own l q)
   owner none_layer q b e = absurd (cc)
   owner (stack_layer d n) q b e = hidden_by (get d q) b e
   owner (global_layer g) q b e = hidden_by (get g q) b e
   owner (sandboxed_layer d n s) q b e = refl
   owner (isolated_layer d g n s) q b e = refl
 
-  other : (l : Layer Reg) (q : List ℕ) (b : Bool) → is_some (own l q) ≡ false → layer_seals l q b ≡ (is_sandboxed l || b)
+  other : (l : Layer V) (q : List ℕ) (b : Bool) → is_some (own l q) ≡ false → layer_seals l q b ≡ (is_sandboxed l || b)
   other none_layer q b e = refl
   other (stack_layer d n) q b e = passed_by (get d q) b e
   other (global_layer g) q b e = passed_by (get g q) b e
   other (sandboxed_layer d n s) q b e = refl
   other (isolated_layer d g n s) q b e = first_missing (get g q) (get d q) e
 
-  seals_missing : (l : Layer Reg) (q : List ℕ) → is_some (own l q) ≡ false → seals_own l q ≡ true
+  seals_missing : (l : Layer V) (q : List ℕ) → is_some (own l q) ≡ false → seals_own l q ≡ true
   seals_missing none_layer q e = refl
   seals_missing (stack_layer d n) q e = refl
   seals_missing (global_layer g) q e = refl
   seals_missing (sandboxed_layer d n s) q e = refl
   seals_missing (isolated_layer d g n s) q e = first_missing (get g q) (get d q) e
 
-  by_top : (v : View Reg) (ls : List (Layer Reg)) (q : List ℕ) (top : Option ℕ) → TopOf (has_at ls q) top → comes_from_seal (shown_over v ls) q ≡ sealed_by top (last_seal ls) (seals_at ls q) (comes_from_seal v q)
+  -- an unlisted frame that may be asked, and has the name, is the name's last one
+  asked : (ls : List (Layer V)) (q : List ℕ) (listed : Option ℕ) (u i : ℕ) (a b : Bool) → is_under u listed ≡ b → cond (a || b) None (Some u) ≡ Some i
+      → TopOf (listed_at ls (Some u) q) listed → has_at ls q i ≡ true → TopOf (has_at ls q) (Some i)
+  asked ls q listed u i true b eb e h has = absurd (cc)
+  asked ls q listed u i false true eb e h has = absurd (cc)
+  asked ls q listed u i false false eb e h has =
+      let k : u ≡ i = same_Some u i e in
+      subst (λ j. TopOf (has_at ls q) (Some j)) k (top_here (has_at ls q) u listed eb (ap (has_at ls q) k ∙ has) h)
+
+  module _ {X : Type 0} (f : X → Layer V) where
+    -- what the layer at a place seals
+    pub seals_within : (xs : List X) (i : ℕ) (x : X) (q : List ℕ) → i < length xs → x ≡ get_or xs i x → seals_own (f x) q ≡ seals_at (map f xs) q i
+    seals_within [] i x q h e = absurd (omega arith)
+    seals_within (y ∷ xs) zero x q h e = ap (λ z. seals_own (f z) q) e
+    seals_within (y ∷ xs) (suc i) x q h e = seals_within xs i x q (omega arith) e
+
+    pub seals_past : (xs : List X) (i : ℕ) (q : List ℕ) → length xs ≤ i → true ≡ seals_at (map f xs) q i
+    seals_past [] i q h = refl
+    seals_past (y ∷ xs) zero q h = absurd (omega arith)
+    seals_past (y ∷ xs) (suc i) q h = seals_past xs i q (omega arith)
+
+module _ {V Reg : Type 0} where
+  by_top : (v : View Reg) (ls : List (Layer V)) (q : List ℕ) (top : Option ℕ) → TopOf (has_at ls q) top → comes_from_seal (shown_over v ls) q ≡ sealed_by top (last_seal ls) (seals_at ls q) (comes_from_seal v q)
   by_top v [] q None h = refl
   by_top v [] q (Some i) h = absurd (cc)
   by_top v (l ∷ ls) q None h =
@@ -92,62 +114,41 @@ module _ {Reg : Type 0} where
       by_top (layer_view l v) ls q (Some i) (tail_top l ls q i h)
       ∙ later_own (is_sandboxed l) (last_seal ls) i (seals_at (l ∷ ls) q) (comes_from_seal (layer_view l v) q) (comes_from_seal v q)
 
-  -- an unlisted frame that may be searched, and has the name, is the name's last one
-  asked : (ls : List (Layer Reg)) (q : List ℕ) (listed : Option ℕ) (u i : ℕ) (a b : Bool) → is_under u listed ≡ b → cond (a || b) None (Some u) ≡ Some i
-      → TopOf (listed_at ls (Some u) q) listed → has_at ls q i ≡ true → TopOf (has_at ls q) (Some i)
-  asked ls q listed u i true b eb e h has = absurd (cc)
-  asked ls q listed u i false true eb e h has = absurd (cc)
-  asked ls q listed u i false false eb e h has =
-      let k : u ≡ i = same_Some u i e in
-      subst (λ j. TopOf (has_at ls q) (Some j)) k (top_here (has_at ls q) u listed eb (ap (has_at ls q) k ∙ has) h)
-
   -- the unlisted frame has the name
-  pub sealed_here : (v : View Reg) (ls : List (Layer Reg)) (q : List ℕ) (listed U O : Option ℕ) (i : ℕ) → O ≡ seen_over listed (last_seal ls) U → O ≡ Some i
+  pub sealed_here : (v : View Reg) (ls : List (Layer V)) (q : List ℕ) (listed U O : Option ℕ) (i : ℕ) → O ≡ seen_over listed (last_seal ls) U → O ≡ Some i
       → TopOf (listed_at ls U q) listed → has_at ls q i ≡ true → comes_from_seal (shown_over v ls) q ≡ sealed_by (Some i) (last_seal ls) (seals_at ls q) (comes_from_seal v q)
   sealed_here v ls q listed None O i over is h has = absurd (cc)
   sealed_here v ls q listed (Some u) O i over is h has = by_top v ls q (Some i) (asked ls q listed u i (is_under u (last_seal ls)) (is_under u listed) refl (sym over ∙ is) h has)
 
-  missed : (v : View Reg) (ls : List (Layer Reg)) (q : List ℕ) (listed : Option ℕ) (u i : ℕ) (c : Bool) → cond c None (Some u) ≡ Some i
+  missed : (v : View Reg) (ls : List (Layer V)) (q : List ℕ) (listed : Option ℕ) (u i : ℕ) (c : Bool) → cond c None (Some u) ≡ Some i
       → TopOf (listed_at ls (Some u) q) listed → has_at ls q i ≡ false → comes_from_seal (shown_over v ls) q ≡ sealed_by listed (last_seal ls) (seals_at ls q) (comes_from_seal v q)
   missed v ls q listed u i true e h none = absurd (cc)
   missed v ls q listed u i false e h none = by_top v ls q listed (absent_top ls q listed u (ap (has_at ls q) (same_Some u i e) ∙ none) h)
 
   -- the unlisted frame doesn't have the name
-  pub sealed_past : (v : View Reg) (ls : List (Layer Reg)) (q : List ℕ) (listed U O : Option ℕ) (i : ℕ) → O ≡ seen_over listed (last_seal ls) U → O ≡ Some i
+  pub sealed_past : (v : View Reg) (ls : List (Layer V)) (q : List ℕ) (listed U O : Option ℕ) (i : ℕ) → O ≡ seen_over listed (last_seal ls) U → O ≡ Some i
       → TopOf (listed_at ls U q) listed → has_at ls q i ≡ false → comes_from_seal (shown_over v ls) q ≡ sealed_by listed (last_seal ls) (seals_at ls q) (comes_from_seal v q)
   sealed_past v ls q listed None O i over is h none = absurd (cc)
   sealed_past v ls q listed (Some u) O i over is h none = missed v ls q listed u i (is_under u (last_seal ls) || is_under u listed) (sym over ∙ is) h none
 
-  under_listed : (v : View Reg) (ls : List (Layer Reg)) (q : List ℕ) (listed : Option ℕ) (u : ℕ) → is_under u listed ≡ true
+  under_listed : (v : View Reg) (ls : List (Layer V)) (q : List ℕ) (listed : Option ℕ) (u : ℕ) → is_under u listed ≡ true
       → TopOf (listed_at ls (Some u) q) listed → comes_from_seal (shown_over v ls) q ≡ sealed_by listed (last_seal ls) (seals_at ls q) (comes_from_seal v q)
   under_listed v ls q None u e h = absurd (cc)
   under_listed v ls q (Some k) u e h = let lt : u < k = grind (arith, nat_tests) in by_top v ls q (Some k) (top_over (has_at ls q) u k lt h)
 
-  under_seal : (v : View Reg) (ls : List (Layer Reg)) (q : List ℕ) (listed : Option ℕ) (u : ℕ) (has : Bool) → has_at ls q u ≡ has → is_under u (last_seal ls) ≡ true → is_under u listed ≡ false
+  under_seal : (v : View Reg) (ls : List (Layer V)) (q : List ℕ) (listed : Option ℕ) (u : ℕ) (has : Bool) → has_at ls q u ≡ has → is_under u (last_seal ls) ≡ true → is_under u listed ≡ false
       → TopOf (listed_at ls (Some u) q) listed → comes_from_seal (shown_over v ls) q ≡ sealed_by listed (last_seal ls) (seals_at ls q) (comes_from_seal v q)
   under_seal v ls q listed u true has e f h = by_top v ls q (Some u) (top_here (has_at ls q) u listed f has h) ∙ hidden_alike listed (last_seal ls) u (seals_at ls q) (comes_from_seal v q) e f
   under_seal v ls q listed u false has e f h = by_top v ls q listed (absent_top ls q listed u has h)
 
-  unasked : (v : View Reg) (ls : List (Layer Reg)) (q : List ℕ) (listed : Option ℕ) (u : ℕ) (a b : Bool) → is_under u (last_seal ls) ≡ a → is_under u listed ≡ b → cond (a || b) None (Some u) ≡ None
+  unasked : (v : View Reg) (ls : List (Layer V)) (q : List ℕ) (listed : Option ℕ) (u : ℕ) (a b : Bool) → is_under u (last_seal ls) ≡ a → is_under u listed ≡ b → cond (a || b) None (Some u) ≡ None
       → TopOf (listed_at ls (Some u) q) listed → comes_from_seal (shown_over v ls) q ≡ sealed_by listed (last_seal ls) (seals_at ls q) (comes_from_seal v q)
   unasked v ls q listed u a true ea eb e h = under_listed v ls q listed u eb h
   unasked v ls q listed u true false ea eb e h = under_seal v ls q listed u (has_at ls q u) refl ea eb h
   unasked v ls q listed u false false ea eb e h = absurd (cc)
 
   -- no unlisted frame is over the last listed place and every sandboxed frame
-  pub sealed_unasked : (v : View Reg) (ls : List (Layer Reg)) (q : List ℕ) (listed U O : Option ℕ) → O ≡ seen_over listed (last_seal ls) U → O ≡ None
+  pub sealed_unasked : (v : View Reg) (ls : List (Layer V)) (q : List ℕ) (listed U O : Option ℕ) → O ≡ seen_over listed (last_seal ls) U → O ≡ None
       → TopOf (listed_at ls U q) listed → comes_from_seal (shown_over v ls) q ≡ sealed_by listed (last_seal ls) (seals_at ls q) (comes_from_seal v q)
   sealed_unasked v ls q listed None O over is h = by_top v ls q listed (top_same (listed_at ls None q) (has_at ls q) listed (λ j. and_true (has_at ls q j)) h)
   sealed_unasked v ls q listed (Some u) O over is h = unasked v ls q listed u (is_under u (last_seal ls)) (is_under u listed) refl refl (sym over ∙ is) h
-
-  module _ {X : Type 0} (f : X → Layer Reg) where
-    -- what the layer at a place seals
-    pub seals_within : (xs : List X) (i : ℕ) (x : X) (q : List ℕ) → i < length xs → x ≡ get_or xs i x → seals_own (f x) q ≡ seals_at (map f xs) q i
-    seals_within [] i x q h e = absurd (omega arith)
-    seals_within (y ∷ xs) zero x q h e = ap (λ z. seals_own (f z) q) e
-    seals_within (y ∷ xs) (suc i) x q h e = seals_within xs i x q (omega arith) e
-
-    pub seals_past : (xs : List X) (i : ℕ) (q : List ℕ) → length xs ≤ i → true ≡ seals_at (map f xs) q i
-    seals_past [] i q h = refl
-    seals_past (y ∷ xs) zero q h = absurd (omega arith)
-    seals_past (y ∷ xs) (suc i) q h = seals_past xs i q (omega arith)

@@ -90,9 +90,9 @@ base_sealed top S s w o t e = sym (ap (λ k. two_looks k S w o) t ∙ ap (λ k. 
 pub base_seen : (top S : Option ℕ) (w o : Option Tree) → top ≡ None → S ≡ None → o ≡ two_looks top S w o
 base_seen top S w o t e = sym (ap (λ k. two_looks k S w o) t ∙ ap (λ k. two_looks None k w o) e)
 
-module _ {Reg : Type 0} where
+module _ {V : Type 0} where
   -- a layer that has the name gives its own value
-  own_found : (l : Layer Reg) (q : List ℕ) (below : Option Tree) → is_some (own l q) ≡ true → layer_found l q below ≡ own l q
+  own_found : (l : Layer V) (q : List ℕ) (below : Option Tree) → is_some (own l q) ≡ true → layer_found l q below ≡ own l q
   own_found none_layer q below e = absurd (cc)
   own_found (stack_layer d n) q below e = or_of_own (get d q) below e
   own_found (global_layer g) q below e = or_of_own (get g q) below e
@@ -100,20 +100,20 @@ module _ {Reg : Type 0} where
   own_found (isolated_layer d g n s) q below e = refl
 
   -- a layer that doesn't have it passes what is below, unless it is sandboxed
-  passes : (l : Layer Reg) (q : List ℕ) (below : Option Tree) → is_some (own l q) ≡ false → layer_found l q below ≡ cond (is_sandboxed l) None below
+  passes : (l : Layer V) (q : List ℕ) (below : Option Tree) → is_some (own l q) ≡ false → layer_found l q below ≡ cond (is_sandboxed l) None below
   passes none_layer q below e = refl
   passes (stack_layer d n) q below e = or_of_none (get d q) below e
   passes (global_layer g) q below e = or_of_none (get g q) below e
   passes (sandboxed_layer d n s) q below e = not_there (get d q) e
   passes (isolated_layer d g n s) q below e = not_there (option_or (get g q) (get d q)) e
 
-  pub tail_top : (l : Layer Reg) (ls : List (Layer Reg)) (q : List ℕ) (i : ℕ) → TopOf (has_at (l ∷ ls) q) (Some (suc i)) → TopOf (has_at ls q) (Some i)
+  pub tail_top : (l : Layer V) (ls : List (Layer V)) (q : List ℕ) (i : ℕ) → TopOf (has_at (l ∷ ls) q) (Some (suc i)) → TopOf (has_at ls q) (Some i)
   tail_top l ls q i h = (h.0, λ j lt. h.1 (suc j) (omega arith))
 
-  pub none_after : (l : Layer Reg) (ls : List (Layer Reg)) (q : List ℕ) → TopOf (has_at (l ∷ ls) q) (Some 0) → TopOf (has_at ls q) None
+  pub none_after : (l : Layer V) (ls : List (Layer V)) (q : List ℕ) → TopOf (has_at (l ∷ ls) q) (Some 0) → TopOf (has_at ls q) None
   none_after l ls q h = λ j. h.1 (suc j) (omega arith)
 
-  pub looks_are_enough : (ls : List (Layer Reg)) (q : List ℕ) (top : Option ℕ) (below : Option Tree) → TopOf (has_at ls q) top → found_over ls q below ≡ two_looks top (last_seal ls) (own_at_top top ls q) below
+  pub looks_are_enough : (ls : List (Layer V)) (q : List ℕ) (top : Option ℕ) (below : Option Tree) → TopOf (has_at ls q) top → found_over ls q below ≡ two_looks top (last_seal ls) (own_at_top top ls q) below
   looks_are_enough [] q None below h = refl
   looks_are_enough [] q (Some i) below h = absurd (cc)
   looks_are_enough (l ∷ ls) q None below h =
@@ -128,22 +128,23 @@ module _ {Reg : Type 0} where
       looks_are_enough ls q (Some i) (layer_found l q below) (tail_top l ls q i h)
       ∙ later_own (is_sandboxed l) (last_seal ls) i (own_at i ls q) below (layer_found l q below)
 
-  -- what the layers show is what they find
-  pub lookup_over : (v : View Reg) (ls : List (Layer Reg)) (q : List ℕ) → lookup (shown_over v ls) q ≡ found_over ls q (lookup v q)
-  lookup_over v [] q = refl
-  lookup_over v (l ∷ ls) q = lookup_over (layer_view l v) ls q ∙ ap (found_over ls q) (lookup_link l v q)
-
   -- the names of the list with one more layer
-  pub has_at-push : (ls : List (Layer Reg)) (l : Layer Reg) (q : List ℕ) (j : ℕ) → has_at (ls ++ l ∷ []) q j ≡ (has_at ls q j || (is_some (own l q) && nat_eq j (length ls)))
+  pub has_at-push : (ls : List (Layer V)) (l : Layer V) (q : List ℕ) (j : ℕ) → has_at (ls ++ l ∷ []) q j ≡ (has_at ls q j || (is_some (own l q) && nat_eq j (length ls)))
   has_at-push [] l q zero = sym (and_true (is_some (own l q)))
   has_at-push [] l q (suc j) = sym (ap (λ b. is_some (own l q) && b) (suc_not_zero j) ∙ and_false (is_some (own l q)))
   has_at-push (m ∷ ls) l q zero = sym (ap (λ b. is_some (own m q) || (is_some (own l q) && b)) (zero_not_suc (length ls)) ∙ ap (λ b. is_some (own m q) || b) (and_false (is_some (own l q))) ∙ or_false (is_some (own m q)))
   has_at-push (m ∷ ls) l q (suc j) = has_at-push ls l q j ∙ ap (λ b. has_at ls q j || (is_some (own l q) && b)) (sym (suc_eq j (length ls)))
 
-  pub nothing_behind : (ls : List (Layer Reg)) (q : List ℕ) → has_at ls q (length ls) ≡ false
+  pub nothing_behind : (ls : List (Layer V)) (q : List ℕ) → has_at ls q (length ls) ≡ false
   nothing_behind [] q = refl
   nothing_behind (l ∷ ls) q = nothing_behind ls q
 
+module _ {V Reg : Type 0} where
+  -- what the layers show is what they find
+  pub lookup_over : (v : View Reg) (ls : List (Layer V)) (q : List ℕ) → lookup (shown_over v ls) q ≡ found_over ls q (lookup v q)
+  lookup_over v [] q = refl
+  lookup_over v (l ∷ ls) q = lookup_over (layer_view l v) ls q ∙ ap (found_over ls q) (lookup_link l v q)
+
   -- what a lookup finds, by the last place and the seal
-  pub sought : (v : View Reg) (ls : List (Layer Reg)) (q : List ℕ) (top S : Option ℕ) → TopOf (has_at ls q) top → S ≡ last_seal ls → lookup (shown_over v ls) q ≡ two_looks top S (own_at_top top ls q) (lookup v q)
+  pub sought : (v : View Reg) (ls : List (Layer V)) (q : List ℕ) (top S : Option ℕ) → TopOf (has_at ls q) top → S ≡ last_seal ls → lookup (shown_over v ls) q ≡ two_looks top S (own_at_top top ls q) (lookup v q)
   sought v ls q top S h e = lookup_over v ls q ∙ looks_are_enough ls q top (lookup v q) h ∙ ap (λ s. two_looks top s (own_at_top top ls q) (lookup v q)) (sym e)

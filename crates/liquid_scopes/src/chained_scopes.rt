@@ -11,7 +11,7 @@ use crate::link::{Link, closing, opening};
 use crate::links::{name_over, roots_over};
 use liquid_error::Error;
 use liquid_runtime::names::value_of;
-use liquid_runtime::{Frame, Registers, Runtime, Scopes};
+use liquid_runtime::{Frame, Fresh, Registers, Runtime, Scopes};
 use liquid_value::{Object, Value};
 use std::alloc::{AllocError, Global};
 use std::collections::BTreeSet;
@@ -51,7 +51,7 @@ impl<R: Runtime> Runtime for ChainedScopes<R> {
 
     ghost restored = { λ s w. record s { base = R.restored s.base w } };
 
-    ghost restores = { λ s. restoring (R.view s.base) (layers_of s.links.items) (scope_base ∷ R.restores s.base) };
+    ghost restores = { λ s. restoring R.Register.shape (R.view s.base) (layers_of s.links.items) (scope_base ∷ R.restores s.base) };
 
     ghost lent = { λ s. R.lent s.base };
 
@@ -215,8 +215,8 @@ impl<V> Link<V> {
 }
 
 // Returns `true` if the name, if it has a value, is the own name of a sandboxed frame.
-fn seals_over<V>(links: &[Link<V>], name: &str, below: bool) -> bool
-    ensures { (v : View V) → below ≡ comes_from_seal v name.now → result ≡ comes_from_seal (view_over v links.now) name.now }
+fn seals_over<V: Fresh>(links: &[Link<V>], name: &str, below: bool) -> bool
+    ensures { (v : View V.Shape) → below ≡ comes_from_seal v name.now → result ≡ comes_from_seal (view_over v links.now) name.now }
 {
     let mut sealed = below;
     for link in links {

@@ -130,7 +130,7 @@ impl<R: Runtime> Runtime for FlatScopes<R> {
 
     ghost restored = { λ s w. record s { base = R.restored s.base w } };
 
-    ghost restores = { λ s. restoring (R.view s.base) (layers_of s.table.links.items) (scope_base ∷ R.restores s.base) };
+    ghost restores = { λ s. restoring R.Register.shape (R.view s.base) (layers_of s.table.links.items) (scope_base ∷ R.restores s.base) };
 
     ghost lent = { λ s. R.lent s.base };
 

@@ -285,10 +285,10 @@ fn has_names(names: &Object) -> bool
 #[tactic(auto, using(liquid_runtime::proofs::Objects::changed_objects))]
 pub(crate) fn opening<R: Runtime>(alloc: Global, base: &mut R, frame: Frame) -> Link<R::Register>
     ensures registers { R.view base.new ≡ with_registers (registers_of (R.view base.new)) (R.view base.old) }
-    ensures begins { (v : View R.Register) → registers_of v ≡ registers_of (R.view base.old)
+    ensures begins { (v : View R.Register.Shape) → registers_of v ≡ registers_of (R.view base.old)
         → layer_view (layer_of result) (with_registers (registers_of (R.view base.new)) v) ≡ beginning R.Register.fresh (frame_of frame) v }
-    ensures restores { (v : View R.Register) → registers_of v ≡ registers_of (R.view base.old)
-        → layer_restores (layer_of result) (with_registers (registers_of (R.view base.new)) v) ≡ restored_by (frame_of frame) v }
+    ensures restores { (v : View R.Register.Shape) → registers_of v ≡ registers_of (R.view base.old)
+        → layer_restores R.Register.shape (layer_of result) (with_registers (registers_of (R.view base.new)) v) ≡ restored_by (frame_of frame) v }
     ensures store { R.store base.new ≡ R.store base.old }
     ensures owes { R.restores base.new ≡ R.restores base.old }
     ensures borrows { R.lent base.new ≡ R.lent base.old }
@@ -312,8 +312,8 @@ pub(crate) fn opening<R: Runtime>(alloc: Global, base: &mut R, frame: Frame) -> 
 #[inline(always)]
 pub(crate) fn closing<R: Runtime>(base: &mut R, link: Link<R::Register>) -> Option<Object>
     ensures registers { R.view base.new ≡ with_registers (registers_of (R.view base.new)) (R.view base.old) }
-    ensures ends { (v : View R.Register) → registers_of v ≡ registers_of (R.view base.old)
-        → with_registers (registers_of (R.view base.new)) v ≡ ending (layer_restores (layer_of link) v) (layer_view (layer_of link) v) }
+    ensures ends { (v : View R.Register.Shape) → registers_of v ≡ registers_of (R.view base.old)
+        → with_registers (registers_of (R.view base.new)) v ≡ ending (layer_restores R.Register.shape (layer_of link) v) (layer_view (layer_of link) v) }
     ensures store { R.store base.new ≡ R.store base.old }
     ensures owes { R.restores base.new ≡ R.restores base.old }
     ensures borrows { R.lent base.new ≡ R.lent base.old }

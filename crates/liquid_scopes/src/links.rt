@@ -14,13 +14,17 @@ ghost use Rattle.liquid_scopes.specs.steps.LinkLayers.{layer_of, layers_of, view
 use crate::index::Index;
 use crate::link::Link;
 use liquid_error::Error;
+use liquid_runtime::Fresh;
 use liquid_value::Value;
 use std::alloc::{AllocError, Global};
 use std::collections::BTreeSet;
 
 // Returns the name of the template.
-pub(crate) fn name_over<'a, V>(links: &'a [Link<V>], below: Option<&'a str>) -> Option<&'a str>
-    ensures { (v : View V) → option_map (λ r. r.now) below.entry ≡ v.name → option_map (λ r. r.now) result ≡ (view_over v links.now).name }
+pub(crate) fn name_over<'a, V: Fresh>(
+    links: &'a [Link<V>],
+    below: Option<&'a str>,
+) -> Option<&'a str>
+    ensures { (v : View V.Shape) → option_map (λ r. r.now) below.entry ≡ v.name → option_map (λ r. r.now) result ≡ (view_over v links.now).name }
 {
     let mut name = below;
     for link in links {
@@ -30,12 +34,12 @@ pub(crate) fn name_over<'a, V>(links: &'a [Link<V>], below: Option<&'a str>) -> 
 }
 
 // Returns the names that have a value.
-pub(crate) fn roots_over<V>(
+pub(crate) fn roots_over<V: Fresh>(
     alloc: Global,
     links: &[Link<V>],
     below: BTreeSet<String>,
 ) -> Result<BTreeSet<String>, AllocError>
-    ensures { (v : View V) → NamesOf (names_seen v) below → IfOk result (λ names. NamesOf (names_seen (view_over v links.now)) names) }
+    ensures { (v : View V.Shape) → NamesOf (names_seen v) below → IfOk result (λ names. NamesOf (names_seen (view_over v links.now)) names) }
 {
     let mut names = below;
     for link in links {
@@ -56,18 +60,18 @@ pub(crate) fn forget_absent<V>(links: &[Link<V>], index: &mut Index, name: &str,
 }
 
 // Gives a name a value in the global frame at this place, wherever the name is listed.
-pub(crate) fn put<V>(
+pub(crate) fn put<V: Fresh>(
     links: &mut Vec<Link<V>>,
     place: usize,
     name: String,
     value: Value,
 ) -> Result<Option<Value>, Error>
     requires { GlobalAt (layers_of links.old.items) place }
-    ensures gives { (v : View V) → Gives (option_map tree_of) result (old_global (view_over v links.old.items) (string_bytes name)) }
-    ensures sets { (v : View V) → OnOk result (view_over v links.new.items
+    ensures gives { (v : View V.Shape) → Gives (option_map tree_of) result (old_global (view_over v links.old.items) (string_bytes name)) }
+    ensures sets { (v : View V.Shape) → OnOk result (view_over v links.new.items
         ≡ put_global (view_over v links.old.items) (string_bytes name) (tree_of value)) }
-    ensures owes { (v : View V) (rs : List (Restore V)) → restoring v (layers_of links.new.items) rs
-        ≡ restoring v (layers_of links.old.items) rs }
+    ensures owes { (v : View V.Shape) (rs : List (Restore V.Shape)) → restoring V.shape v (layers_of links.new.items) rs
+        ≡ restoring V.shape v (layers_of links.old.items) rs }
     ensures names { OnOk result ((q : List ℕ) (j : ℕ) → has_at (layers_of links.new.items) q j
         ≡ (has_at (layers_of links.old.items) q j || (bytes_eq (string_bytes name) q && nat_eq j place))) }
     ensures seals { OnOk result (places_where is_sandboxed 0 (layers_of links.new.items)

@@ -21,7 +21,7 @@ use crate::link::Link;
 use crate::links::{forget_absent, name_over, put, roots_over};
 use crate::place::{drop_place, is_at, is_under, keep_place, last_of};
 use liquid_error::Error;
-use liquid_runtime::Runtime;
+use liquid_runtime::{Fresh, Runtime};
 use liquid_value::Value;
 use std::alloc::{AllocError, Global};
 use std::collections::BTreeSet;
@@ -43,7 +43,7 @@ pub(crate) struct Table<V> {
     ghost globals_are: { globals.items ≡ places_where is_global 0 (layers_of links.items) },
 }
 
-impl<V> Table<V> {
+impl<V: Fresh> Table<V> {
     pub(crate) fn new(alloc: Global) -> Table<V>
         ensures { result.links.items ≡ [] }
     {
@@ -65,7 +65,7 @@ impl<V> Table<V> {
 
     // Returns the name of the template over that of the base.
     pub(crate) fn name_over<'a>(&'a self, below: Option<&'a str>) -> Option<&'a str>
-        ensures { (v : View V) → option_map (λ r. r.now) below.entry ≡ v.name
+        ensures { (v : View V.Shape) → option_map (λ r. r.now) below.entry ≡ v.name
             → option_map (λ r. r.now) result ≡ (view_over v self.now.links.items).name }
     {
         name_over(self.links.as_slice(), below)
@@ -77,7 +77,7 @@ impl<V> Table<V> {
         alloc: Global,
         below: BTreeSet<String>,
     ) -> Result<BTreeSet<String>, AllocError>
-        ensures { (v : View V) → NamesOf (names_seen v) below
+        ensures { (v : View V.Shape) → NamesOf (names_seen v) below
             → IfOk result (λ names. NamesOf (names_seen (view_over v self.now.links.items)) names) }
     {
         roots_over(alloc, self.links.as_slice(), below)
@@ -87,7 +87,7 @@ impl<V> Table<V> {
     // the base. It takes at most two frame lookups.
     pub(crate) fn seals_over(&self, name: &str, below: bool, count: &mut Count) -> bool
         requires { count.old.looks + 2 < 2 ^ 64 }
-        ensures seals { (v : View V) → below ≡ comes_from_seal v name.now
+        ensures seals { (v : View V.Shape) → below ≡ comes_from_seal v name.now
             → result ≡ comes_from_seal (view_over v self.now.links.items) name.now }
         ensures looks { count.new.looks ≤ count.old.looks + 2 }
     {
@@ -104,7 +104,7 @@ impl<V> Table<V> {
     // Returns the last place of the name. If a sandboxed frame is over all its places, returns one of these or none.
     fn top(&self, name: &str, count: &mut Count) -> Option<usize>
         requires { count.old.looks + 1 < 2 ^ 64 }
-        ensures seals { (v : View V) → comes_from_seal (view_over v self.now.links.items) name.now
+        ensures seals { (v : View V.Shape) → comes_from_seal (view_over v self.now.links.items) name.now
             ≡ sealed_by result (last_seal (layers_of self.now.links.items))
             (seals_at (layers_of self.now.links.items) name.now) (comes_from_seal v name.now) }
         ensures looks { count.new.looks ≤ count.old.looks + 1 }
@@ -297,13 +297,13 @@ impl<V> Table<V> {
         value: Value,
     ) -> Result<Option<Value>, Error>
         requires { GlobalAt (layers_of self.old.links.items) place }
-        ensures gives { (v : View V) → Gives (option_map tree_of) result
+        ensures gives { (v : View V.Shape) → Gives (option_map tree_of) result
             (old_global (view_over v self.old.links.items) (string_bytes name)) }
-        ensures sets { (v : View V) → OnOk result (view_over v self.new.links.items
+        ensures sets { (v : View V.Shape) → OnOk result (view_over v self.new.links.items
             ≡ put_global (view_over v self.old.links.items) (string_bytes name) (tree_of value)) }
-        ensures owes { (v : View V) (rs : List (Restore V)) → restoring v (layers_of self.new.links.items) rs
-            ≡ restoring v (layers_of self.old.links.items) rs }
-        ensures unchanged { (v : View V) → OnErr result (view_over v self.new.links.items ≡ view_over v self.old.links.items) }
+        ensures owes { (v : View V.Shape) (rs : List (Restore V.Shape)) → restoring V.shape v (layers_of self.new.links.items) rs
+            ≡ restoring V.shape v (layers_of self.old.links.items) rs }
+        ensures unchanged { (v : View V.Shape) → OnErr result (view_over v self.new.links.items ≡ view_over v self.old.links.items) }
     {
         if is_at(self.unlisted, place) {
             return put(&mut self.links, place, name, value);

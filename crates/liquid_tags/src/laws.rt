@@ -9,11 +9,11 @@ use liquid_runtime::Fresh;
 /// and the same end. The outside's own names, interrupt and register are as they were, and its globals are overlaid by
 /// those that the run leaves. The outside must have a global frame.
 pub fn library_is_isolated<V: Fresh, F>()
-    ensures { (fresh : V) (m : FilterMeaning F) → LibraryIsolated fresh m }
+    ensures { (fresh : V.Shape) (m : FilterMeaning F) → LibraryIsolated fresh m }
 {}
 
 /// So two such outsides that agree on partials, depth, leniency, index variables and name get the same text, the same
 /// error and the same writes.
 pub fn outsides_agree_on_the_library<V: Fresh, F>()
-    ensures { (fresh : V) (m : FilterMeaning F) → LibraryAgrees fresh m }
+    ensures { (fresh : V.Shape) (m : FilterMeaning F) → LibraryAgrees fresh m }
 {}

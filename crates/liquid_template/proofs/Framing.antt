@@ -29,6 +29,9 @@ module _ {Reg : Type 0} where
   opened_restored (isolated_frame names name) v rs = omega arith
   opened_restored global_frame v rs = omega arith
 
+  pub owed_open : (frame : FrameShape) (v : View Reg) (rs rs1 rs2 : List (Restore Reg)) → rs1 ≡ restored_by frame v ∷ rs → rs2 ≡ rs1 → 0 < length (opened rs2)
+  owed_open frame v rs rs1 rs2 owes same = subst (λ z. 0 < length (opened z)) (sym (same ∙ owes)) (opened_restored frame v rs)
+
   -- memory ran out before anything was rendered
   pub renders_memory : (r : Run Reg) (v : View Reg) (b : Output) (e : Error) → told e ≡ None → RendersWithin r v b b v (Err e)
   renders_memory r v b e h = renders_refused r v v b e (rw h tt) refl

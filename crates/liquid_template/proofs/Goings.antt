@@ -209,10 +209,6 @@ module _ {Reg F T P B Q : Type 0} (s : Setting Reg F T P B Q) (depth : ℕ) wher
   finds_given of name (Ok x) h i = finds_one of name x h i
   finds_given of name (Err e) h i = finds_refusal of name e h i
 
-  -- a turn's frame is open until it is ended
-  pub opens_open : {N R : Type 0} (m : NodeMeaning N R Reg) (n : N) (p q : R) (v w : View Reg) (b c : Output) (trace : Option (List ℕ)) (inner : List (Action Reg) → Action Reg) (rs rs1 rs2 : List (Restore Reg)) → Opens s depth m n p q v w b c trace inner rs rs1 → rs2 ≡ rs1 → 0 < length (opened rs2)
-  opens_open m n p q v w b c trace inner rs rs1 rs2 o same = subst (λ z. 0 < length (opened z)) (sym (same ∙ o.owes)) (opened_restored o.frame o.from rs)
-
   -- what was owed before a turn is owed when its frame has ended
   pub opens_kept : {N R : Type 0} (m : NodeMeaning N R Reg) (n : N) (p q : R) (v w x y : View Reg) (b c : Output) (trace : Option (List ℕ)) (inner : List (Action Reg) → Action Reg) (rs rs1 rs2 rs3 : List (Restore Reg)) → Opens s depth m n p q v w b c trace inner rs rs1 → rs2 ≡ rs1 → EndsFirst rs2 x rs3 y → rs3 ≡ rs
   opens_kept m n p q v w x y b c trace inner rs rs1 rs2 rs3 o same ends = framed_kept o.frame o.from x y rs rs1 rs2 rs3 o.owes same ends

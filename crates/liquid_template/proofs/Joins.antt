@@ -10,9 +10,8 @@ use Rattle.liquid_runtime.specs.meaning.View.{View}
 use Rattle.liquid_runtime.specs.meaning.Written.{written_of, with_written, SameFrames}
 use Rattle.liquid_runtime.specs.meaning.Frames.{FrameShape, no_frame, stack_frame, sandboxed_frame, isolated_frame, global_frame, Restore, beginning, restored_by, ending}
 use Rattle.liquid_template.specs.meaning.Run.{Step, Run, Action, pieces, written, one_if, checkpoints}
-use Rattle.liquid_template.specs.meaning.Actions.{refused_through, done, refuses, writes, goes_on, and_then, step_outside, outside, under}
+use Rattle.liquid_template.specs.meaning.Actions.{refused_through, done, refuses, goes_on, and_then, step_outside, outside, under}
 use Rattle.liquid_template.proofs.Pouring.{pours_nothing, pours_refused, pours_then, pours_through}
-use Rattle.liquid_template.specs.steps.PieceOut.{PieceLost, PieceFails, PieceRefused, Partial, PieceTaken, PieceOut}
 use Rattle.liquid_template.specs.meaning.Output.{Output, Passes, Refuses, PassesSome}
 use Rattle.liquid_template.specs.meaning.Outcome.{Whole, SinkFails, GateRefuses, BrokenOff, Cut, Stopped, Outcome, RendersWithin}
 use Rattle.liquid_template.proofs.Passing.{passes_none, passes_then, refuses_then, some_then, some_more, all_pass, none_pass, one_refused, passes_at, some_at, refuses_at}
@@ -27,14 +26,11 @@ at_most_once m n k e (inr h) = inr (h ∙ ap (λ i. i + 1) e)
 and_none : (n : ℕ) → n + 0 ≡ n
 and_none n = omega arith
 
-none_and : (n : ℕ) → 0 + n ≡ n
+pub none_and : (n : ℕ) → 0 + n ≡ n
 none_and n = omega arith
 
 sum_of : (k m n : ℕ) → k + (m + n) ≡ k + m + n
 sum_of k m n = omega arith
-
-turns_same : (b a : Output) → a.turns ≡ b.turns → Passes b.turns 0 a.turns
-turns_same b a e = e ∙ passes_none b.turns
 
 module _ {Reg : Type 0} where
   pub pieces-append : (ss ts : List (Step Reg)) → pieces (ss ++ ts) ≡ pieces ss ++ pieces ts
@@ -379,63 +375,3 @@ module _ {Reg : Type 0} where
     frames = same_frames_ended fresh frame v w h.frames;
     pours = pours_through (refused_through trace) b.sunk a.sunk answer answer' e h.pours;
   }
-
-  abbrev put_step : List ℕ → View Reg → Step Reg
-  put_step piece v = record { piece = piece; checkpoint = false; traces = []; at = v }
-
-  put_cause : (piece part rest : List ℕ) (v : View Reg) (b a : Output) (refusal : Refusal) → a.turns ≡ b.turns → PieceFails piece rest b a refusal ⊎ PieceRefused piece part b a refusal
-      → SinkFails (put_step piece v) rest 0 0 b a refusal ⊎ GateRefuses (put_step piece v) part 0 0 b a refusal
-  put_cause piece part rest v b a refusal e (inl h) = inl (record {
-    some_left = h.some_left;
-    failures = h.failures;
-    turns = turns_same b a e;
-    bytes = passes_at b.bytes a.bytes (length piece) (0 + length piece) (sym (none_and (length piece))) h.bytes;
-    reason = h.reason;
-  })
-  put_cause piece part rest v b a refusal e (inr h) = inr (record {
-    nothing = h.nothing;
-    failures = h.failures;
-    refused = inr (h.some_asked, turns_same b a e, h.bytes);
-    reason = h.reason;
-  })
-
-  told_put : (t : Option Refusal) (piece : List ℕ) (v : View Reg) (b a : Output) → a.turns ≡ b.turns → Partial piece b a t
-      → MatchOption t (Cut (writes piece v) b a) (Stopped (writes piece v) b a v)
-  told_put None piece v b a e p = record {
-    part = p.part;
-    rest = p.rest;
-    pieces_are = append-nil piece ∙ p.is;
-    taken = p.taken;
-    failures = p.cause.failures;
-    turns = all_pass b.turns a.turns 0 0 (turns_same b a e);
-    bytes = some_at b.bytes a.bytes (length piece) (length (piece ++ [])) (sym (ap length (append-nil piece))) p.cause.bytes;
-  }
-  told_put (Some refusal) piece v b a e p = inr (record {
-    front = [];
-    step = put_step piece v;
-    later = [];
-    part = p.part;
-    rest = p.rest;
-    steps = refl;
-    piece = p.is;
-    taken = p.taken;
-    view = refl;
-    cause = put_cause piece p.part p.rest v b a refusal e p.cause;
-  })
-
-  outcome_put : (piece : List ℕ) (v : View Reg) (b a : Output) (answer : Result (Unit {0}) Error) → a.turns ≡ b.turns → PieceTaken piece b a answer → Outcome (writes piece v) b a v answer
-  outcome_put piece v b a (Ok u) e h = (
-    record {
-      taken = h.taken ∙ ap (λ t. b.sunk.taken ++ t) (sym (append-nil piece));
-      failures = h.failures;
-      turns = turns_same b a e;
-      bytes = passes_at b.bytes a.bytes (length piece) (length (piece ++ [])) (sym (ap length (append-nil piece))) h.bytes;
-      view = refl;
-    },
-    refl,
-  )
-  outcome_put piece v b a (Err x) e h = told_put (told x) piece v b a e h
-
-  -- one piece is put out
-  pub renders_put : (piece : List ℕ) (v : View Reg) (b a : Output) (answer : Result (Unit {0}) Error) → PieceOut piece b a answer → RendersWithin (writes piece v) v b a v answer
-  renders_put piece v b a answer h = record { outcome = outcome_put piece v b a answer h.turns h.taken; frames = refl; pours = h.pours }

@@ -25,7 +25,8 @@ use Rattle.liquid_template.specs.meaning.Output.{Output}
 use Rattle.liquid_template.specs.meaning.Outcome.{RendersWithin}
 use Rattle.liquid_template.specs.steps.PieceOut.{PieceOut, ValueOut}
 use Rattle.liquid_template.proofs.Framing.{renders_memory}
-use Rattle.liquid_template.proofs.Joins.{renders_done, renders_refused, renders_put}
+use Rattle.liquid_template.proofs.Joins.{renders_done, renders_refused}
+use Rattle.liquid_template.proofs.Putting.{renders_put}
 use Rattle.liquid_template.proofs.Steps.{turns_done, start_goes, list_fails, list_stops, list_goes, list_done}
 use Rattle.liquid_template.specs.steps.PartsOf.{parts_of}
 use Rattle.liquid_template.specs.steps.Sought.{store_answer}

@@ -18,7 +18,8 @@ use Rattle.liquid_template.specs.meaning.Nodes.{Setting, performed, answered, tu
 use Rattle.liquid_template.specs.meaning.Output.{Output}
 use Rattle.liquid_template.specs.meaning.Outcome.{RendersWithin}
 use Rattle.liquid_template.specs.steps.PieceOut.{PieceOut}
-use Rattle.liquid_template.proofs.Joins.{same_frames_then, renders_then, renders_first, renders_done, renders_refused, renders_put}
+use Rattle.liquid_template.proofs.Joins.{same_frames_then, renders_then, renders_first, renders_done, renders_refused}
+use Rattle.liquid_template.proofs.Putting.{renders_put}
 
 abbrev Answer : Type 0
 Answer = Result (Unit {0}) Error

@@ -12,7 +12,6 @@ ghost use Rattle.liquid_template.specs.meaning.Outcome.{RendersWithin};
 ghost use Rattle.liquid_template.specs.meaning.Runs.{setting, node_run, tag_run, block_run, part_run};
 ghost use Rattle.liquid_template.specs.meaning.TemplateOf.{template_nodes};
 ghost use Rattle.liquid_template.specs.steps.PartsOf.{parts_of};
-ghost use Rattle.liquid_template.specs.steps.Bound.{partials_size};
 ghost use Rattle.liquid_template.specs.steps.Going.{Takes, Captured};
 ghost use Rattle.liquid_template.specs.steps.Place.{target, around};
 
@@ -54,8 +53,6 @@ where
         (S.view scopes.old) (target (O.place out.old)) (target (O.place out.new)) (S.view scopes.new) answer.new }
     ensures owes { S.restores scopes.new ≡ S.restores scopes.old }
     ensures store { partials_of S.Store.finds (S.store scopes.new) ≡ partials_of S.Store.finds (S.store scopes.old) }
-    ensures bound { partials_size (partials_of S.Store.finds (S.store scopes.new))
-        ≡ partials_size (partials_of S.Store.finds (S.store scopes.old)) }
     ensures borrows { S.lent scopes.new ≡ S.lent scopes.old }
     ensures around { around (O.place out.new) ≡ around (O.place out.old) }
 {
@@ -96,8 +93,6 @@ where
         (S.view scopes.old) (target (O.place out.old)) (target (O.place out.new)) (S.view scopes.new) answer.new }
     ensures owes { S.restores scopes.new ≡ S.restores scopes.old }
     ensures store { partials_of S.Store.finds (S.store scopes.new) ≡ partials_of S.Store.finds (S.store scopes.old) }
-    ensures bound { partials_size (partials_of S.Store.finds (S.store scopes.new))
-        ≡ partials_size (partials_of S.Store.finds (S.store scopes.old)) }
     ensures borrows { S.lent scopes.new ≡ S.lent scopes.old }
     ensures around { around (O.place out.new) ≡ around (O.place out.old) }
 {
@@ -137,8 +132,6 @@ where
         (S.view scopes.old) (target (O.place out.old)) (target (O.place out.new)) (S.view scopes.new) answer.new }
     ensures owes { S.restores scopes.new ≡ S.restores scopes.old }
     ensures store { partials_of S.Store.finds (S.store scopes.new) ≡ partials_of S.Store.finds (S.store scopes.old) }
-    ensures bound { partials_size (partials_of S.Store.finds (S.store scopes.new))
-        ≡ partials_size (partials_of S.Store.finds (S.store scopes.old)) }
     ensures borrows { S.lent scopes.new ≡ S.lent scopes.old }
     ensures around { around (O.place out.new) ≡ around (O.place out.old) }
 {
@@ -178,17 +171,15 @@ where
         (S.view scopes.old) (S.view scopes.new) (target (O.place out.old)) (target (O.place out.new)) answer.new result }
     ensures owes { S.restores scopes.new ≡ S.restores scopes.old }
     ensures store { partials_of S.Store.finds (S.store scopes.new) ≡ partials_of S.Store.finds (S.store scopes.old) }
-    ensures bound { partials_size (partials_of S.Store.finds (S.store scopes.new))
-        ≡ partials_size (partials_of S.Store.finds (S.store scopes.old)) }
     ensures borrows { S.lent scopes.new ≡ S.lent scopes.old }
     ensures around { around (O.place out.new) ≡ around (O.place out.old) }
 {
     match turned(alloc, tag, going, depth, out, scopes, answer) {
         Step::Stop => false,
         Step::Next => true,
-        Step::Part(_) => closed(alloc, tag, going, scopes, answer),
+        Step::Part(_) => closed::<T, S::Register>(alloc, tag, going, scopes.pop_names(), answer),
         Step::Captured(_) => {
-            let goes_on = closed(alloc, tag, going, scopes, answer);
+            let goes_on = closed::<T, S::Register>(alloc, tag, going, scopes.pop_names(), answer);
             if goes_on {
                 tag.caught(&mut going.progress, String::new(alloc));
             }
@@ -196,7 +187,7 @@ where
         }
         Step::Partial(template) => {
             render_partial(alloc, template, depth, out, scopes, answer);
-            closed(alloc, tag, going, scopes, answer)
+            closed::<T, S::Register>(alloc, tag, going, scopes.pop_names(), answer)
         }
     }
 }
@@ -227,8 +218,6 @@ where
         (S.view scopes.old) (target (O.place out.old)) (target (O.place out.new)) (S.view scopes.new) answer.new }
     ensures owes { S.restores scopes.new ≡ S.restores scopes.old }
     ensures store { partials_of S.Store.finds (S.store scopes.new) ≡ partials_of S.Store.finds (S.store scopes.old) }
-    ensures bound { partials_size (partials_of S.Store.finds (S.store scopes.new))
-        ≡ partials_size (partials_of S.Store.finds (S.store scopes.old)) }
     ensures borrows { S.lent scopes.new ≡ S.lent scopes.old }
     ensures around { around (O.place out.new) ≡ around (O.place out.old) }
 {
@@ -274,8 +263,6 @@ where
         (S.view scopes.old) (S.view scopes.new) (target (O.place out.old)) (target (O.place out.new)) answer.new result }
     ensures owes { S.restores scopes.new ≡ S.restores scopes.old }
     ensures store { partials_of S.Store.finds (S.store scopes.new) ≡ partials_of S.Store.finds (S.store scopes.old) }
-    ensures bound { partials_size (partials_of S.Store.finds (S.store scopes.new))
-        ≡ partials_size (partials_of S.Store.finds (S.store scopes.old)) }
     ensures borrows { S.lent scopes.new ≡ S.lent scopes.old }
     ensures around { around (O.place out.new) ≡ around (O.place out.old) }
 {
@@ -284,7 +271,7 @@ where
         Step::Next => true,
         Step::Part(place) => {
             render_part(alloc, parts, place, depth, out, scopes, answer);
-            closed(alloc, block, going, scopes, answer)
+            closed::<B, S::Register>(alloc, block, going, scopes.pop_names(), answer)
         }
         Step::Captured(place) => {
             take_captured(
@@ -293,7 +280,7 @@ where
         }
         Step::Partial(template) => {
             render_partial(alloc, template, depth, out, scopes, answer);
-            closed(alloc, block, going, scopes, answer)
+            closed::<B, S::Register>(alloc, block, going, scopes.pop_names(), answer)
         }
     }
 }
@@ -330,15 +317,13 @@ where
         (S.view scopes.old) (S.view scopes.new) (S.restores scopes.old) (S.restores scopes.new)
         (target (O.place out.old)) (target (O.place out.new)) answer.new result }
     ensures store { partials_of S.Store.finds (S.store scopes.new) ≡ partials_of S.Store.finds (S.store scopes.old) }
-    ensures bound { partials_size (partials_of S.Store.finds (S.store scopes.new))
-        ≡ partials_size (partials_of S.Store.finds (S.store scopes.old)) }
     ensures borrows { S.lent scopes.new ≡ S.lent scopes.old }
     ensures around { around (O.place out.new) ≡ around (O.place out.old) }
 {
     let outer = out.open(alloc);
     render_part(alloc, parts, place, depth, out, scopes, answer);
     let text = out.close(outer);
-    let goes_on = closed(alloc, block, going, scopes, answer);
+    let goes_on = closed::<B, S::Register>(alloc, block, going, scopes.pop_names(), answer);
     if goes_on {
         block.caught(&mut going.progress, text);
     }
@@ -371,8 +356,6 @@ where
         (S.view scopes.old) (target (O.place out.old)) (target (O.place out.new)) (S.view scopes.new) answer.new }
     ensures owes { S.restores scopes.new ≡ S.restores scopes.old }
     ensures store { partials_of S.Store.finds (S.store scopes.new) ≡ partials_of S.Store.finds (S.store scopes.old) }
-    ensures bound { partials_size (partials_of S.Store.finds (S.store scopes.new))
-        ≡ partials_size (partials_of S.Store.finds (S.store scopes.old)) }
     ensures borrows { S.lent scopes.new ≡ S.lent scopes.old }
     ensures around { around (O.place out.new) ≡ around (O.place out.old) }
 {
@@ -408,8 +391,6 @@ where
         (S.view scopes.old) (target (O.place out.old)) (target (O.place out.new)) (S.view scopes.new) answer.new }
     ensures owes { S.restores scopes.new ≡ S.restores scopes.old }
     ensures store { partials_of S.Store.finds (S.store scopes.new) ≡ partials_of S.Store.finds (S.store scopes.old) }
-    ensures bound { partials_size (partials_of S.Store.finds (S.store scopes.new))
-        ≡ partials_size (partials_of S.Store.finds (S.store scopes.old)) }
     ensures borrows { S.lent scopes.new ≡ S.lent scopes.old }
     ensures around { around (O.place out.new) ≡ around (O.place out.old) }
 {

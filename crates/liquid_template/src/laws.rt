@@ -13,26 +13,26 @@ use liquid_runtime::Fresh;
 /// those that the run leaves. The outside must have a global frame.
 #[tactic(auto, using(crate::proofs::Isolation::isolated))]
 pub fn sandboxed_runs_are_isolated<V: Fresh, F, T, P, B, Q>()
-    ensures { (s : Setting V F T P B Q) → Isolated s }
+    ensures { (s : Setting V.Shape F T P B Q) → Isolated s }
 {}
 
 /// So two such outsides that agree on partials, depth, leniency, index variables and name get the same text, the same
 /// error and the same writes.
 pub fn outsides_agree<V: Fresh, F, T, P, B, Q>()
-    ensures { (s : Setting V F T P B Q) → OutsidesAgree s }
+    ensures { (s : Setting V.Shape F T P B Q) → OutsidesAgree s }
 {}
 
 /// Under an isolated frame, any list of nodes has the same run as over an outside without names: the same steps and the
 /// same end. All that the outside had is as it was, except for index variables.
 #[tactic(auto, using(crate::proofs::IsolatedFrames::from_outside))]
 pub fn isolated_runs_are_apart<V: Fresh, F, T, P, B, Q>()
-    ensures { (s : Setting V F T P B Q) → IsolatedFromOutside s }
+    ensures { (s : Setting V.Shape F T P B Q) → IsolatedFromOutside s }
 {}
 
 /// So two outsides that agree on partials, depth, leniency, index variables and name get the same text, the same error
 /// and the same writes.
 pub fn isolated_outsides_agree<V: Fresh, F, T, P, B, Q>()
-    ensures { (s : Setting V F T P B Q) → IsolatedOutsidesAgree s }
+    ensures { (s : Setting V.Shape F T P B Q) → IsolatedOutsidesAgree s }
 {}
 
 /// Each turn of a tag or a block has exactly one checkpoint of its own, and nothing else has one. Frames, traces

@@ -1,7 +1,6 @@
 //! Ending what a turn has opened.
-ghost use Rattle.std.specs.Prelude.{◌≡◌, ◌<◌, length, is_ok, option_map, string_bytes};
+ghost use Rattle.std.specs.Prelude.{◌≡◌, is_ok, option_map, string_bytes};
 ghost use Rattle.liquid_error.specs.meaning.Helpers.{ErrBecomes};
-ghost use Rattle.liquid_runtime.specs.meaning.OpenFrames.{opened, EndsFirst};
 ghost use Rattle.liquid_template.specs.meaning.Actions.{refused_through};
 
 use crate::begun::Going;
@@ -9,33 +8,30 @@ use crate::template::Template;
 use crate::trace::with_own_trace;
 use liquid_error::Error;
 use liquid_plugins::Renderable;
-use liquid_runtime::Scopes;
+use liquid_runtime::Fresh;
+use liquid_value::Object;
 use std::alloc::Global;
 use std::mem;
 use std::rc::Rc;
 
-/// Ends the frame of a turn, adds the turn's trace to an error, and returns whether there is no error. The node takes
-/// back the object of the frame.
+/// Closes a turn whose frame has ended: gives the node the object of the frame back, puts the turn's trace on an error,
+/// and returns whether there is none.
 #[inline(never)]
-pub(crate) fn closed<N, S>(
+pub(crate) fn closed<N, V>(
     alloc: Global,
     node: &N,
     going: &mut Going<N::Progress>,
-    scopes: &mut S,
+    names: Option<Object>,
     answer: &mut Result<(), Error>,
 ) -> bool
 where
-    S: Scopes,
-    N: Renderable<S::Register>,
-    requires { 0 < length (opened (S.restores scopes.old)) }
-    ensures ends { EndsFirst (S.restores scopes.old) (S.view scopes.old) (S.restores scopes.new) (S.view scopes.new) }
+    V: Fresh,
+    N: Renderable<V>,
     ensures traced { ErrBecomes (refused_through (option_map (λ s. string_bytes s) going.old.trace)) answer.old answer.new }
     ensures goes_on { result ≡ is_ok answer.new }
     ensures progress { N.Progress.shape going.new.progress ≡ N.Progress.shape going.old.progress }
-    ensures store { S.store scopes.new ≡ S.store scopes.old }
-    ensures borrows { S.lent scopes.new ≡ S.lent scopes.old }
 {
-    if let Some(names) = scopes.pop_names() {
+    if let Some(names) = names {
         node.recycle(&mut going.progress, names);
     }
     match answer {

@@ -18,4 +18,6 @@ mod paths;
 #[cfg(test)]
 mod runtimes;
 #[cfg(test)]
+mod trails;
+#[cfg(test)]
 mod values;

@@ -19,6 +19,10 @@ struct Marks {
 }
 
 impl Fresh for Marks {
+    type Shape = Marks;
+
+    ghost shape = { λ marks. marks };
+
     ghost fresh = { record { count = 0 } };
 
     fn fresh() -> Marks {

@@ -13,6 +13,10 @@ pub(crate) struct Visits {
 }
 
 impl Fresh for Visits {
+    type Shape = Visits;
+
+    ghost shape = { λ visits. visits };
+
     ghost fresh = { record { count = 0 } };
 
     fn fresh() -> Visits {

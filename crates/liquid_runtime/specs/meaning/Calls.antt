@@ -29,6 +29,10 @@ interrupt_of register = register.current
 abbrev pub fresh_registers : {Reg : Type 0} → Reg → Registers Reg
 fresh_registers fresh = record { interrupt = record { current = None }; value = fresh }
 
+-- registers, with the register as it is seen
+abbrev pub shaped : {V Reg : Type 0} → (V → Reg) → Registers V → Registers Reg
+shaped shape r = record { interrupt = r.interrupt; value = shape r.value }
+
 -- the registers of a view, and the view with others
 abbrev pub registers_of : {Reg : Type 0} → View Reg → Registers Reg
 registers_of v = record { interrupt = record { current = v.interrupt }; value = v.register }

@@ -15,48 +15,49 @@ use Rattle.liquid_runtime.specs.meaning.Calls.{registers_of, with_registers}
 use Rattle.liquid_runtime.specs.declared.registers.Registers.{Registers}
 
 -- a frame with what it holds; a sandboxed one and an isolated one hold the registers that are given back when they end
-pub data Layer (Reg : Type 0) : Type 0 where
-  none_layer : Layer Reg
-  stack_layer : Names → Option (List ℕ) → Layer Reg
-  global_layer : Names → Layer Reg
-  sandboxed_layer : Names → Option (List ℕ) → Registers Reg → Layer Reg
+pub data Layer (V : Type 0) : Type 0 where
+  none_layer : Layer V
+  stack_layer : Names → Option (List ℕ) → Layer V
+  global_layer : Names → Layer V
+  sandboxed_layer : Names → Option (List ℕ) → Registers V → Layer V
   -- its data, what is assigned in it, its name
-  isolated_layer : Names → Names → Option (List ℕ) → Registers Reg → Layer Reg
+  isolated_layer : Names → Names → Option (List ℕ) → Registers V → Layer V
 
-module _ {Reg : Type 0} where
+module _ {V Reg : Type 0} where
   -- the view over the one below; the registers are always the base's
-  abbrev pub layer_view : Layer Reg → View Reg → View Reg
+  abbrev pub layer_view : Layer V → View Reg → View Reg
   layer_view none_layer v = v
   layer_view (stack_layer d n) v = begin_stack d n v
   layer_view (global_layer g) v = assigned_view g v
   layer_view (sandboxed_layer d n saved) v = with_registers (registers_of v) (begin_sandboxed v.register d n v)
   layer_view (isolated_layer d g n saved) v = assigned_view g (with_registers (registers_of v) (begin_sandboxed v.register d n v))
 
-  -- what it restores when it ends
-  abbrev pub layer_restores : Layer Reg → View Reg → Restore Reg
-  layer_restores none_layer v = restore_nothing
-  layer_restores (stack_layer d n) v = restored_by (stack_frame d n) v
-  layer_restores (global_layer g) v = restored_by global_frame v
-  layer_restores (sandboxed_layer d n saved) v = restore_sandboxed v.locals v.base v.shown v.floor v.name saved.interrupt.current saved.value
-  layer_restores (isolated_layer d g n saved) v = restore_isolated v.locals v.globals v.base v.shown v.floor v.name saved.interrupt.current saved.value
+  -- what its ending restores, where the register is seen by its shape
+  abbrev pub layer_restores : (V → Reg) → Layer V → View Reg → Restore Reg
+  layer_restores shape none_layer v = restore_nothing
+  layer_restores shape (stack_layer d n) v = restored_by (stack_frame d n) v
+  layer_restores shape (global_layer g) v = restored_by global_frame v
+  layer_restores shape (sandboxed_layer d n saved) v = restore_sandboxed v.locals v.base v.shown v.floor v.name saved.interrupt.current (shape saved.value)
+  layer_restores shape (isolated_layer d g n saved) v = restore_isolated v.locals v.globals v.base v.shown v.floor v.name saved.interrupt.current (shape saved.value)
 
-  abbrev pub shown_over : View Reg → List (Layer Reg) → View Reg
+  abbrev pub shown_over : View Reg → List (Layer V) → View Reg
   shown_over v [] = v
   shown_over v (l ∷ ls) = shown_over (layer_view l v) ls
 
-  abbrev pub restoring : View Reg → List (Layer Reg) → List (Restore Reg) → List (Restore Reg)
-  restoring v [] rs = rs
-  restoring v (l ∷ ls) rs = restoring (layer_view l v) ls (layer_restores l v ∷ rs)
+  abbrev pub restoring : (V → Reg) → View Reg → List (Layer V) → List (Restore Reg) → List (Restore Reg)
+  restoring shape v [] rs = rs
+  restoring shape v (l ∷ ls) rs = restoring shape (layer_view l v) ls (layer_restores shape l v ∷ rs)
 
+module _ {V : Type 0} where
   -- what a layer finds over what is found below it
-  abbrev pub layer_found : Layer Reg → List ℕ → Option Tree → Option Tree
+  abbrev pub layer_found : Layer V → List ℕ → Option Tree → Option Tree
   layer_found none_layer q o = o
   layer_found (stack_layer d n) q o = option_or (get d q) o
   layer_found (global_layer g) q o = option_or (get g q) o
   layer_found (sandboxed_layer d n saved) q o = get d q
   layer_found (isolated_layer d g n saved) q o = option_or (get g q) (get d q)
 
-  abbrev pub layer_seals : Layer Reg → List ℕ → Bool → Bool
+  abbrev pub layer_seals : Layer V → List ℕ → Bool → Bool
   layer_seals none_layer q b = b
   layer_seals (stack_layer d n) q b = is_none (get d q) && b
   layer_seals (global_layer g) q b = is_none (get g q) && b
@@ -64,7 +65,7 @@ module _ {Reg : Type 0} where
   layer_seals (isolated_layer d g n saved) q b = is_none (get g q)
 
   -- the name that a layer gives over the one below it
-  abbrev pub layer_name : Layer Reg → Option (List ℕ) → Option (List ℕ)
+  abbrev pub layer_name : Layer V → Option (List ℕ) → Option (List ℕ)
   layer_name none_layer o = o
   layer_name (stack_layer d n) o = option_or n o
   layer_name (global_layer g) o = o
@@ -72,14 +73,14 @@ module _ {Reg : Type 0} where
   layer_name (isolated_layer d g n saved) o = option_or n o
 
   -- the names that are seen under a layer, from those that are seen below it
-  abbrev pub LayerNames : Layer Reg → BTreeSet (String Global) → BTreeSet (String Global) → Type 0
+  abbrev pub LayerNames : Layer V → BTreeSet (String Global) → BTreeSet (String Global) → Type 0
   LayerNames none_layer below set = set ≡ below
   LayerNames (stack_layer d n) below set = NamesOver d below set
   LayerNames (global_layer g) below set = NamesOver g below set
   LayerNames (sandboxed_layer d n saved) below set = NamesOf d set
   LayerNames (isolated_layer d g n saved) below set = NamesOf (over g d) set
 
-  abbrev pub is_global : Layer Reg → Bool
+  abbrev pub is_global : Layer V → Bool
   is_global none_layer = false
   is_global (stack_layer d n) = false
   is_global (global_layer g) = true
@@ -87,7 +88,7 @@ module _ {Reg : Type 0} where
   is_global (isolated_layer d g n saved) = true
 
   -- what is assigned in a layer
-  abbrev pub assigned : Layer Reg → Names
+  abbrev pub assigned : Layer V → Names
   assigned none_layer = empty
   assigned (stack_layer d n) = empty
   assigned (global_layer g) = g
@@ -95,7 +96,7 @@ module _ {Reg : Type 0} where
   assigned (isolated_layer d g n saved) = g
 
   -- the layer with this assigned in it, if it is a global one
-  abbrev pub assigning : Names → Layer Reg → Layer Reg
+  abbrev pub assigning : Names → Layer V → Layer V
   assigning m none_layer = none_layer
   assigning m (stack_layer d n) = stack_layer d n
   assigning m (global_layer g) = global_layer m
@@ -103,20 +104,20 @@ module _ {Reg : Type 0} where
   assigning m (isolated_layer d g n saved) = isolated_layer d m n saved
 
   -- no global frame among them
-  abbrev pub Plain : List (Layer Reg) → Type 0
+  abbrev pub Plain : List (Layer V) → Type 0
   Plain [] = ⊤
   Plain (l ∷ ls) = (is_global l ≡ false) × Plain ls
 
-  pub record GlobalAt (ls : List (Layer Reg)) (i : ℕ) : Type 0 where
-    pub before : List (Layer Reg)
-    pub layer : Layer Reg
-    pub after : List (Layer Reg)
+  pub record GlobalAt (ls : List (Layer V)) (i : ℕ) : Type 0 where
+    pub before : List (Layer V)
+    pub layer : Layer V
+    pub after : List (Layer V)
     pub is : ls ≡ before ++ layer ∷ after
     pub global : is_global layer ≡ true
     pub place : i ≡ length before
     pub plain : Plain after
 
   -- the place of the last global frame, if there is one
-  abbrev pub LastGlobal : List (Layer Reg) → Option ℕ → Type 0
+  abbrev pub LastGlobal : List (Layer V) → Option ℕ → Type 0
   LastGlobal ls None = Plain ls
   LastGlobal ls (Some i) = GlobalAt ls i

@@ -6,7 +6,7 @@ use Rattle.liquid_scopes.specs.steps.Layers.{Layer, none_layer, stack_layer, glo
 use Rattle.liquid_scopes.specs.declared.link.Link.{Link}
 use Rattle.liquid_scopes.specs.declared.link.Link.TheVariants as link
 
-abbrev pub layer_of : {Reg : Type 0} → Link Reg → Layer Reg
+abbrev pub layer_of : {V : Type 0} → Link V → Layer V
 layer_of link.None = none_layer
 layer_of (link.Stack d n) = stack_layer (names_of d) (option_map (λ s. string_bytes s) n)
 layer_of (link.Global g) = global_layer (names_of g)
@@ -14,9 +14,9 @@ layer_of (link.Sandboxed d n saved) = sandboxed_layer (names_of d) (option_map (
 layer_of (link.Isolated d g n saved) = isolated_layer (names_of d) (names_of g) (option_map (λ s. string_bytes s) n) saved
 
 -- the layers that links mean
-abbrev pub layers_of : {Reg : Type 0} → List (Link Reg) → List (Layer Reg)
+abbrev pub layers_of : {V : Type 0} → List (Link V) → List (Layer V)
 layers_of links = map layer_of links
 
 -- the view of links over this view
-abbrev pub view_over : {Reg : Type 0} → View Reg → List (Link Reg) → View Reg
+abbrev pub view_over : {V Reg : Type 0} → View Reg → List (Link V) → View Reg
 view_over v links = shown_over v (layers_of links)

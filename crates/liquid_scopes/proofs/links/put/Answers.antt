@@ -44,7 +44,7 @@ returns-in-Ok-clause-owes g c = λ v rs.
     let here = read_here layer_of xs i c.index_mut.result.now c.requires in
     let t = tree_of c.args.value in
     let set = c.in-Ok.ensures.sets ∙ ap (λ k. assigning (insert (assigned (layer_of k)) q t) (layer_of k)) c.index_mut.ensures.value ∙ ap (λ k. assigning (insert (assigned k) q t) k) here in
-    set_restoring layer_of v xs i x q t rs c.requires set
+    set_restoring g.V.Fresh.shape layer_of v xs i x q t rs c.requires set
 
 pub returns-in-Ok-clause-names : goal.returns-in-Ok-clause-names
 returns-in-Ok-clause-names g c = λ p j.
@@ -87,7 +87,7 @@ returns-in-Err-clause-owes g c = λ v rs.
     let x = c.assign.new.self in
     let here = read_here layer_of xs i c.index_mut.result.now c.requires in
     let same = set_same layer_of xs i x c.requires (c.in-Err.ensures.unchanged ∙ ap layer_of c.index_mut.ensures.value ∙ here) in
-    ap (λ ys. restoring v ys rs) same
+    ap (λ ys. restoring g.V.Fresh.shape v ys rs) same
 
 pub returns-in-Err-clause-unchanged : goal.returns-in-Err-clause-unchanged
 returns-in-Err-clause-unchanged g c =

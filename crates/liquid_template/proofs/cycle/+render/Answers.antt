@@ -5,7 +5,8 @@ use Rattle.liquid_template.specs.steps.PartsOf.{parts_of}
 use Rattle.liquid_template.specs.steps.Bound.{partials_size}
 use Rattle.liquid_template.proofs.Shapes.{nodes_drop, nodes_end, size_member, size_part, node_text, node_brief, node_name, node_chain, node_tag, node_block}
 use Rattle.liquid_template.proofs.Renderings.{stands, stands_not, left_more, left_none, none_yet, start_goes_at, node_puts, node_chains, node_tags, node_blocks, part_renders, no_part_renders}
-use Rattle.liquid_template.proofs.Goings.{renders_ok, done_ok, start_none, takes_more, takes_ok, takes_last, turns_over, node_fails, node_stops, node_goes, nodes_over, opens_open, opens_kept, opens_taken, captured_taken, true_not_false}
+use Rattle.liquid_template.proofs.Framing.{owed_open}
+use Rattle.liquid_template.proofs.Goings.{renders_ok, done_ok, start_none, takes_more, takes_ok, takes_last, turns_over, node_fails, node_stops, node_goes, nodes_over, opens_kept, opens_taken, captured_taken, true_not_false}
 use Rattle.liquid_template.proofs.Capturing.{closed_aside, closed_text, nothing_open, nothing_aside}
 use Rattle.liquid_template.specs.steps.Place.{target}
 use Rattle.liquid_template.proofs.cycle.+render.Goals as goal
@@ -13,33 +14,33 @@ use Rattle.liquid_template.proofs.cycle.+render.Goals as goal
 pub render_list-render_node-requires : goal.render_list-render_node-requires
 render_list-render_node-requires g t c =
     let h : size_node (node_of g.X.Meant.shape g.T.Meant.shape g.B.Meant.shape c.node-item.result) ≤ size_nodes (nodes_of g.X.Meant.shape g.T.Meant.shape g.B.Meant.shape c.args.nodes.now) = size_member g.X.Meant.shape g.T.Meant.shape g.B.Meant.shape c.args.nodes.now c.loop-node.node-index c.node-item.result c.loop-node-test.true c.node-item.is in
-    let b = c.loop-node.invariant.bound in
+    let b = ap partials_size c.loop-node.invariant.store in
     search rules
 
 pub render_list-loop-node-init : goal.render_list-loop-node-init
 render_list-loop-node-init g t c =
-    record { owes = refl; store = refl; bound = refl; answer = search rules; borrows = refl; around = refl; renders = λ after left answer h. h }
+    record { owes = refl; store = refl; answer = search rules; borrows = refl; around = refl; renders = λ after left answer h. h }
 
 pub render_list-returns-in-Err : goal.render_list-returns-in-Err
 render_list-returns-in-Err g t c =
     let q = nodes_drop g.X.Meant.shape g.T.Meant.shape g.B.Meant.shape c.args.nodes.now c.loop-node.node-index c.node-item.result c.loop-node-test.true c.node-item.is in
-    record { renders = c.loop-node.invariant.renders _ _ _ (node_fails _ _ _ _ _ q _ _ _ _ _ (rw c.loop-node.invariant.store at c.render_node.ensures.renders) _ c.in-Err.is); owes = c.render_node.ensures.owes ∙ c.loop-node.invariant.owes; store = c.render_node.ensures.store ∙ c.loop-node.invariant.store; bound = c.render_node.ensures.bound ∙ c.loop-node.invariant.bound; borrows = c.render_node.ensures.borrows ∙ c.loop-node.invariant.borrows; around = c.render_node.ensures.around ∙ c.loop-node.invariant.around }
+    record { renders = c.loop-node.invariant.renders _ _ _ (node_fails _ _ _ _ _ q _ _ _ _ _ (rw c.loop-node.invariant.store at c.render_node.ensures.renders) _ c.in-Err.is); owes = c.render_node.ensures.owes ∙ c.loop-node.invariant.owes; store = c.render_node.ensures.store ∙ c.loop-node.invariant.store; borrows = c.render_node.ensures.borrows ∙ c.loop-node.invariant.borrows; around = c.render_node.ensures.around ∙ c.loop-node.invariant.around }
 
 pub render_list-returns-then-interrupted : goal.render_list-returns-then-interrupted
 render_list-returns-then-interrupted g t c =
     let q = nodes_drop g.X.Meant.shape g.T.Meant.shape g.B.Meant.shape c.args.nodes.now c.loop-node.node-index c.node-item.result c.loop-node-test.true c.node-item.is in
     let i : is_some (g.S.Runtime.view c.render_node.new.scopes).interrupt ≡ _ = ap (λ x. is_some x.interrupt.current) (sym c.registers.ensures) ∙ stands _ _ c.interrupted.ensures c.if-interrupted.true in
-    record { renders = c.loop-node.invariant.renders _ _ _ (node_stops _ _ _ _ _ q _ _ _ _ _ (rw c.loop-node.invariant.store at c.render_node.ensures.renders) _ c.in-Ok.is i); owes = c.render_node.ensures.owes ∙ c.loop-node.invariant.owes; store = c.render_node.ensures.store ∙ c.loop-node.invariant.store; bound = c.render_node.ensures.bound ∙ c.loop-node.invariant.bound; borrows = c.render_node.ensures.borrows ∙ c.loop-node.invariant.borrows; around = c.render_node.ensures.around ∙ c.loop-node.invariant.around }
+    record { renders = c.loop-node.invariant.renders _ _ _ (node_stops _ _ _ _ _ q _ _ _ _ _ (rw c.loop-node.invariant.store at c.render_node.ensures.renders) _ c.in-Ok.is i); owes = c.render_node.ensures.owes ∙ c.loop-node.invariant.owes; store = c.render_node.ensures.store ∙ c.loop-node.invariant.store; borrows = c.render_node.ensures.borrows ∙ c.loop-node.invariant.borrows; around = c.render_node.ensures.around ∙ c.loop-node.invariant.around }
 
 pub render_list-loop-node-preserved : goal.render_list-loop-node-preserved
 render_list-loop-node-preserved g t c =
     let q = nodes_drop g.X.Meant.shape g.T.Meant.shape g.B.Meant.shape c.args.nodes.now c.loop-node.node-index c.node-item.result c.loop-node-test.true c.node-item.is in
     let i : is_some (g.S.Runtime.view c.render_node.new.scopes).interrupt ≡ _ = ap (λ x. is_some x.interrupt.current) (sym c.registers.ensures) ∙ stands_not _ _ c.interrupted.ensures c.if-interrupted.false in
-    record { owes = c.render_node.ensures.owes ∙ c.loop-node.invariant.owes; store = c.render_node.ensures.store ∙ c.loop-node.invariant.store; bound = c.render_node.ensures.bound ∙ c.loop-node.invariant.bound; borrows = c.render_node.ensures.borrows ∙ c.loop-node.invariant.borrows; around = c.render_node.ensures.around ∙ c.loop-node.invariant.around; answer = rw c.in-Ok.is refl; renders = λ after left answer h. c.loop-node.invariant.renders after left answer (node_goes _ _ _ _ _ q _ _ _ _ _ (rw c.loop-node.invariant.store at c.render_node.ensures.renders) _ _ _ _ c.in-Ok.is i h) }
+    record { owes = c.render_node.ensures.owes ∙ c.loop-node.invariant.owes; store = c.render_node.ensures.store ∙ c.loop-node.invariant.store; borrows = c.render_node.ensures.borrows ∙ c.loop-node.invariant.borrows; around = c.render_node.ensures.around ∙ c.loop-node.invariant.around; answer = rw c.in-Ok.is refl; renders = λ after left answer h. c.loop-node.invariant.renders after left answer (node_goes _ _ _ _ _ q _ _ _ _ _ (rw c.loop-node.invariant.store at c.render_node.ensures.renders) _ _ _ _ c.in-Ok.is i h) }
 
 pub render_list-returns : goal.render_list-returns
 render_list-returns g t c =
-    record { renders = c.loop-node.invariant.renders _ _ _ (nodes_over _ _ _ _ _ _ (nodes_end g.X.Meant.shape g.T.Meant.shape g.B.Meant.shape c.args.nodes.now c.loop-node.node-index c.loop-node-test.false) c.loop-node.invariant.answer); owes = c.loop-node.invariant.owes; store = c.loop-node.invariant.store; bound = c.loop-node.invariant.bound; borrows = c.loop-node.invariant.borrows; around = c.loop-node.invariant.around }
+    record { renders = c.loop-node.invariant.renders _ _ _ (nodes_over _ _ _ _ _ _ (nodes_end g.X.Meant.shape g.T.Meant.shape g.B.Meant.shape c.args.nodes.now c.loop-node.node-index c.loop-node-test.false) c.loop-node.invariant.answer); owes = c.loop-node.invariant.owes; store = c.loop-node.invariant.store; borrows = c.loop-node.invariant.borrows; around = c.loop-node.invariant.around }
 
 pub render_node-render_tag-requires : goal.render_node-render_tag-requires
 render_node-render_tag-requires g t c =
@@ -81,52 +82,52 @@ render_tag-returns-in-None-clause-renders g t c =
 
 pub render_tag-loop-init : goal.render_tag-loop-init
 render_tag-loop-init g t c =
-    record { owes = c.begun.ensures.owes; store = ap (option_map g.S.Store.PartialStore.finds) c.begun.ensures.store; bound = ap (λ store. partials_size (option_map g.S.Store.PartialStore.finds store)) c.begun.ensures.store; answer = c.in-Some.ensures.begins.0; borrows = c.begun.ensures.borrows; around = refl; renders = λ after left answer h. start_goes_at _ _ _ _ _ _ _ _ _ _ _ _ _ (none_yet c.turns-end.result _ c.turns-end.ensures) c.in-Some.ensures.begins.1 c.in-Some.ensures.begins.2 c.begun.ensures.frames h }
+    record { owes = c.begun.ensures.owes; store = ap (option_map g.S.Store.PartialStore.finds) c.begun.ensures.store; answer = c.in-Some.ensures.begins.0; borrows = c.begun.ensures.borrows; around = refl; renders = λ after left answer h. start_goes_at _ _ _ _ _ _ _ _ _ _ _ _ _ (none_yet c.turns-end.result _ c.turns-end.ensures) c.in-Some.ensures.begins.1 c.in-Some.ensures.begins.2 c.begun.ensures.frames h }
 
 pub render_tag-returns-then-not-take_tag : goal.render_tag-returns-then-not-take_tag
 render_tag-returns-then-not-take_tag g t c =
     let x = rw c.loop.invariant.store at c.take_tag.ensures.takes in
-    record { renders = c.loop.invariant.renders _ _ _ (takes_last _ _ _ _ _ _ _ _ _ _ _ _ _ _ _ _ (left_more c.loop.counter c.turns-end.result c.loop-test.true) refl c.if-not-take_tag.true x); owes = c.take_tag.ensures.owes ∙ c.loop.invariant.owes; store = c.take_tag.ensures.store ∙ c.loop.invariant.store; bound = c.take_tag.ensures.bound ∙ c.loop.invariant.bound; borrows = c.take_tag.ensures.borrows ∙ c.loop.invariant.borrows; around = c.take_tag.ensures.around ∙ c.loop.invariant.around }
+    record { renders = c.loop.invariant.renders _ _ _ (takes_last _ _ _ _ _ _ _ _ _ _ _ _ _ _ _ _ (left_more c.loop.counter c.turns-end.result c.loop-test.true) refl c.if-not-take_tag.true x); owes = c.take_tag.ensures.owes ∙ c.loop.invariant.owes; store = c.take_tag.ensures.store ∙ c.loop.invariant.store; borrows = c.take_tag.ensures.borrows ∙ c.loop.invariant.borrows; around = c.take_tag.ensures.around ∙ c.loop.invariant.around }
 
 pub render_tag-loop-preserved : goal.render_tag-loop-preserved
 render_tag-loop-preserved g t c =
     let x = rw c.loop.invariant.store at c.take_tag.ensures.takes in
-    record { owes = c.take_tag.ensures.owes ∙ c.loop.invariant.owes; store = c.take_tag.ensures.store ∙ c.loop.invariant.store; bound = c.take_tag.ensures.bound ∙ c.loop.invariant.bound; answer = takes_ok _ _ _ _ _ _ _ _ _ _ _ _ _ c.if-not-take_tag.false x; borrows = c.take_tag.ensures.borrows ∙ c.loop.invariant.borrows; around = c.take_tag.ensures.around ∙ c.loop.invariant.around; renders = λ after left answer h. c.loop.invariant.renders after left answer (takes_more _ _ _ _ _ _ _ _ _ _ _ _ _ _ _ _ _ _ _ (left_more c.loop.counter c.turns-end.result c.loop-test.true) refl c.if-not-take_tag.false x h) }
+    record { owes = c.take_tag.ensures.owes ∙ c.loop.invariant.owes; store = c.take_tag.ensures.store ∙ c.loop.invariant.store; answer = takes_ok _ _ _ _ _ _ _ _ _ _ _ _ _ c.if-not-take_tag.false x; borrows = c.take_tag.ensures.borrows ∙ c.loop.invariant.borrows; around = c.take_tag.ensures.around ∙ c.loop.invariant.around; renders = λ after left answer h. c.loop.invariant.renders after left answer (takes_more _ _ _ _ _ _ _ _ _ _ _ _ _ _ _ _ _ _ _ (left_more c.loop.counter c.turns-end.result c.loop-test.true) refl c.if-not-take_tag.false x h) }
 
 pub render_tag-returns : goal.render_tag-returns
 render_tag-returns g t c =
-    record { renders = c.loop.invariant.renders _ _ _ (turns_over _ _ _ _ _ _ _ _ _ _ (left_none c.loop.counter c.turns-end.result c.loop-test.false) c.loop.invariant.answer); owes = c.loop.invariant.owes; store = c.loop.invariant.store; bound = c.loop.invariant.bound; borrows = c.loop.invariant.borrows; around = c.loop.invariant.around }
+    record { renders = c.loop.invariant.renders _ _ _ (turns_over _ _ _ _ _ _ _ _ _ _ (left_none c.loop.counter c.turns-end.result c.loop-test.false) c.loop.invariant.answer); owes = c.loop.invariant.owes; store = c.loop.invariant.store; borrows = c.loop.invariant.borrows; around = c.loop.invariant.around }
 
 pub take_tag-returns-in-Stop : goal.take_tag-returns-in-Stop
 take_tag-returns-in-Stop g t c =
-    record { takes = λ k. c.in-Stop.ensures.turned.0 [] k; owes = c.in-Stop.ensures.turned.1; store = c.in-Stop.ensures.store; bound = c.in-Stop.ensures.bound; borrows = c.in-Stop.ensures.borrows; around = c.in-Stop.ensures.around }
+    record { takes = λ k. c.in-Stop.ensures.turned.0 [] k; owes = c.in-Stop.ensures.turned.1; store = c.in-Stop.ensures.store; borrows = c.in-Stop.ensures.borrows; around = c.in-Stop.ensures.around }
 
 pub take_tag-returns-in-Next : goal.take_tag-returns-in-Next
 take_tag-returns-in-Next g t c =
-    record { takes = (c.in-Next.ensures.turned.1, λ k a x later rest. c.in-Next.ensures.turned.0 [] k a x later rest); owes = c.in-Next.ensures.turned.2; store = c.in-Next.ensures.store; bound = c.in-Next.ensures.bound; borrows = c.in-Next.ensures.borrows; around = c.in-Next.ensures.around }
+    record { takes = (c.in-Next.ensures.turned.1, λ k a x later rest. c.in-Next.ensures.turned.0 [] k a x later rest); owes = c.in-Next.ensures.turned.2; store = c.in-Next.ensures.store; borrows = c.in-Next.ensures.borrows; around = c.in-Next.ensures.around }
 
-pub take_tag-closed-requires : goal.take_tag-closed-requires
-take_tag-closed-requires g t c =
-    opens_open _ _ _ _ _ _ _ _ _ _ _ _ _ _ _ c.in-Part.ensures.turned.0 refl
+pub take_tag-pop_names-requires : goal.take_tag-pop_names-requires
+take_tag-pop_names-requires g t c =
+    owed_open _ _ _ _ _ c.in-Part.ensures.turned.0.owes refl
 
 pub take_tag-returns-in-Part : goal.take_tag-returns-in-Part
 take_tag-returns-in-Part g t c =
-    record { takes = rw c.closed.ensures.progress (opens_taken _ _ _ _ _ _ _ _ _ _ _ _ _ _ _ _ _ _ _ _ c.in-Part.ensures.turned.0 refl c.closed.ensures.ends _ _ _ c.closed.ensures.goes_on c.closed.ensures.traced (done_ok _ _ _ c.in-Part.ensures.turned.1)); owes = opens_kept _ _ _ _ _ _ _ _ _ _ _ _ _ _ _ _ _ _ c.in-Part.ensures.turned.0 refl c.closed.ensures.ends; store = ap (option_map g.S.Store.PartialStore.finds) c.closed.ensures.store ∙ c.in-Part.ensures.store; bound = ap (λ store. partials_size (option_map g.S.Store.PartialStore.finds store)) c.closed.ensures.store ∙ c.in-Part.ensures.bound; borrows = c.closed.ensures.borrows ∙ c.in-Part.ensures.borrows; around = c.in-Part.ensures.around }
+    record { takes = rw c.closed.ensures.progress (opens_taken _ _ _ _ _ _ _ _ _ _ _ _ _ _ _ _ _ _ _ _ c.in-Part.ensures.turned.0 refl c.pop_names.ensures.ends _ _ _ c.closed.ensures.goes_on c.closed.ensures.traced (done_ok _ _ _ c.in-Part.ensures.turned.1)); owes = opens_kept _ _ _ _ _ _ _ _ _ _ _ _ _ _ _ _ _ _ c.in-Part.ensures.turned.0 refl c.pop_names.ensures.ends; store = ap (option_map g.S.Store.PartialStore.finds) c.pop_names.ensures.store ∙ c.in-Part.ensures.store; borrows = c.pop_names.ensures.borrows ∙ c.in-Part.ensures.borrows; around = c.in-Part.ensures.around }
 
 pub take_tag-returns-then-goes_on-clause-takes : goal.take_tag-returns-then-goes_on-clause-takes
 take_tag-returns-then-goes_on-clause-takes g t c =
     let b = target (g.O.Out.place c.turned.new.out) in
     let e = c.caught.ensures ∙ ap (λ x. g.T.Renderable.means.catches (g.T.Meant.shape c.args.tag.now) x (string_bytes c.new.result)) c.closed-goes_on.ensures.progress ∙ ap (λ x. g.T.Renderable.means.catches (g.T.Meant.shape c.args.tag.now) (g.T.Progress.Meant.shape c.turned.new.going.progress) x) c.new.ensures.bytes in
     captured_taken _ _ _ _ _ _ _ _ _ _ _ _ _ _ _ _ _ _ _ _ _ c.in-Captured.ensures.turned.0
-    (record { start = nothing_open b; last = nothing_open b; left = g.S.Runtime.view c.turned.new.scopes; own = c.turned.new.answer; rendered = done_ok _ _ _ c.in-Captured.ensures.turned.1; aside = nothing_aside b; ends = c.closed-goes_on.ensures.ends; traced = c.closed-goes_on.ensures.traced; goes_on = c.closed-goes_on.ensures.goes_on; progress = λ _. e })
+    (record { start = nothing_open b; last = nothing_open b; left = g.S.Runtime.view c.turned.new.scopes; own = c.turned.new.answer; rendered = done_ok _ _ _ c.in-Captured.ensures.turned.1; aside = nothing_aside b; ends = c.pop_names-in-Captured.ensures.ends; traced = c.closed-goes_on.ensures.traced; goes_on = c.closed-goes_on.ensures.goes_on; progress = λ _. e })
 
-pub take_tag-closed-requires-in-Partial : goal.take_tag-closed-requires-in-Partial
-take_tag-closed-requires-in-Partial g t c =
-    opens_open _ _ _ _ _ _ _ _ _ _ _ _ _ _ _ c.in-Partial.ensures.turned.0 c.render_partial.ensures.owes
+pub take_tag-pop_names-requires-in-Partial : goal.take_tag-pop_names-requires-in-Partial
+take_tag-pop_names-requires-in-Partial g t c =
+    owed_open _ _ _ _ _ c.in-Partial.ensures.turned.0.owes c.render_partial.ensures.owes
 
 pub take_tag-returns-in-Partial : goal.take_tag-returns-in-Partial
 take_tag-returns-in-Partial g t c =
-    record { takes = rw c.closed-in-Partial.ensures.progress (opens_taken _ _ _ _ _ _ _ _ _ _ _ _ _ _ _ _ _ _ _ _ c.in-Partial.ensures.turned.0 c.render_partial.ensures.owes c.closed-in-Partial.ensures.ends _ _ _ c.closed-in-Partial.ensures.goes_on c.closed-in-Partial.ensures.traced (rw c.in-Partial.ensures.store at c.render_partial.ensures.renders)); owes = opens_kept _ _ _ _ _ _ _ _ _ _ _ _ _ _ _ _ _ _ c.in-Partial.ensures.turned.0 c.render_partial.ensures.owes c.closed-in-Partial.ensures.ends; store = ap (option_map g.S.Store.PartialStore.finds) c.closed-in-Partial.ensures.store ∙ c.render_partial.ensures.store ∙ c.in-Partial.ensures.store; bound = ap (λ store. partials_size (option_map g.S.Store.PartialStore.finds store)) c.closed-in-Partial.ensures.store ∙ c.render_partial.ensures.bound ∙ c.in-Partial.ensures.bound; borrows = c.closed-in-Partial.ensures.borrows ∙ c.render_partial.ensures.borrows ∙ c.in-Partial.ensures.borrows; around = c.render_partial.ensures.around ∙ c.in-Partial.ensures.around }
+    record { takes = rw c.closed-in-Partial.ensures.progress (opens_taken _ _ _ _ _ _ _ _ _ _ _ _ _ _ _ _ _ _ _ _ c.in-Partial.ensures.turned.0 c.render_partial.ensures.owes c.pop_names-in-Partial.ensures.ends _ _ _ c.closed-in-Partial.ensures.goes_on c.closed-in-Partial.ensures.traced (rw c.in-Partial.ensures.store at c.render_partial.ensures.renders)); owes = opens_kept _ _ _ _ _ _ _ _ _ _ _ _ _ _ _ _ _ _ c.in-Partial.ensures.turned.0 c.render_partial.ensures.owes c.pop_names-in-Partial.ensures.ends; store = ap (option_map g.S.Store.PartialStore.finds) c.pop_names-in-Partial.ensures.store ∙ c.render_partial.ensures.store ∙ c.in-Partial.ensures.store; borrows = c.pop_names-in-Partial.ensures.borrows ∙ c.render_partial.ensures.borrows ∙ c.in-Partial.ensures.borrows; around = c.render_partial.ensures.around ∙ c.in-Partial.ensures.around }
 
 pub render_block-returns-in-None-clause-renders : goal.render_block-returns-in-None-clause-renders
 render_block-returns-in-None-clause-renders g t c =
@@ -134,45 +135,45 @@ render_block-returns-in-None-clause-renders g t c =
 
 pub render_block-loop-init : goal.render_block-loop-init
 render_block-loop-init g t c =
-    record { owes = c.begun_apart.ensures.owes; store = ap (option_map g.S.Store.PartialStore.finds) c.begun_apart.ensures.store; bound = ap (λ store. partials_size (option_map g.S.Store.PartialStore.finds store)) c.begun_apart.ensures.store; answer = c.in-Some.ensures.begins.0; borrows = c.begun_apart.ensures.borrows; around = refl; renders = λ after left answer h. start_goes_at _ _ _ _ _ _ _ _ _ _ _ _ _ (none_yet c.turns-end.result _ (c.turns-end.ensures ∙ ap (λ x. g.B.Renderable.means.count (g.B.Progress.Meant.shape x.progress)) c.deref.ensures)) c.in-Some.ensures.begins.1 c.in-Some.ensures.begins.2 c.begun_apart.ensures.frames h }
+    record { owes = c.begun_apart.ensures.owes; store = ap (option_map g.S.Store.PartialStore.finds) c.begun_apart.ensures.store; answer = c.in-Some.ensures.begins.0; borrows = c.begun_apart.ensures.borrows; around = refl; renders = λ after left answer h. start_goes_at _ _ _ _ _ _ _ _ _ _ _ _ _ (none_yet c.turns-end.result _ (c.turns-end.ensures ∙ ap (λ x. g.B.Renderable.means.count (g.B.Progress.Meant.shape x.progress)) c.deref.ensures)) c.in-Some.ensures.begins.1 c.in-Some.ensures.begins.2 c.begun_apart.ensures.frames h }
 
 pub render_block-returns-then-not-take_block : goal.render_block-returns-then-not-take_block
 render_block-returns-then-not-take_block g t c =
     let x = rw c.loop.invariant.store at c.take_block.ensures.takes in
-    record { renders = c.loop.invariant.renders _ _ _ (takes_last _ _ _ _ _ _ _ _ _ _ _ _ _ _ _ _ (left_more c.loop.counter c.turns-end.result c.loop-test.true) (ap (λ x. g.B.Progress.Meant.shape x.progress) c.deref_mut.ensures.value) c.if-not-take_block.true x); owes = c.take_block.ensures.owes ∙ c.loop.invariant.owes; store = c.take_block.ensures.store ∙ c.loop.invariant.store; bound = c.take_block.ensures.bound ∙ c.loop.invariant.bound; borrows = c.take_block.ensures.borrows ∙ c.loop.invariant.borrows; around = c.take_block.ensures.around ∙ c.loop.invariant.around }
+    record { renders = c.loop.invariant.renders _ _ _ (takes_last _ _ _ _ _ _ _ _ _ _ _ _ _ _ _ _ (left_more c.loop.counter c.turns-end.result c.loop-test.true) (ap (λ x. g.B.Progress.Meant.shape x.progress) c.deref_mut.ensures.value) c.if-not-take_block.true x); owes = c.take_block.ensures.owes ∙ c.loop.invariant.owes; store = c.take_block.ensures.store ∙ c.loop.invariant.store; borrows = c.take_block.ensures.borrows ∙ c.loop.invariant.borrows; around = c.take_block.ensures.around ∙ c.loop.invariant.around }
 
 pub render_block-loop-preserved : goal.render_block-loop-preserved
 render_block-loop-preserved g t c =
     let x = rw c.loop.invariant.store at c.take_block.ensures.takes in
-    record { owes = c.take_block.ensures.owes ∙ c.loop.invariant.owes; store = c.take_block.ensures.store ∙ c.loop.invariant.store; bound = c.take_block.ensures.bound ∙ c.loop.invariant.bound; answer = takes_ok _ _ _ _ _ _ _ _ _ _ _ _ _ c.if-not-take_block.false x; borrows = c.take_block.ensures.borrows ∙ c.loop.invariant.borrows; around = c.take_block.ensures.around ∙ c.loop.invariant.around; renders = λ after left answer h. c.loop.invariant.renders after left answer (takes_more _ _ _ _ _ _ _ _ _ _ _ _ _ _ _ _ _ _ _ (left_more c.loop.counter c.turns-end.result c.loop-test.true) (ap (λ x. g.B.Progress.Meant.shape x.progress) c.deref_mut.ensures.value) c.if-not-take_block.false x h) }
+    record { owes = c.take_block.ensures.owes ∙ c.loop.invariant.owes; store = c.take_block.ensures.store ∙ c.loop.invariant.store; answer = takes_ok _ _ _ _ _ _ _ _ _ _ _ _ _ c.if-not-take_block.false x; borrows = c.take_block.ensures.borrows ∙ c.loop.invariant.borrows; around = c.take_block.ensures.around ∙ c.loop.invariant.around; renders = λ after left answer h. c.loop.invariant.renders after left answer (takes_more _ _ _ _ _ _ _ _ _ _ _ _ _ _ _ _ _ _ _ (left_more c.loop.counter c.turns-end.result c.loop-test.true) (ap (λ x. g.B.Progress.Meant.shape x.progress) c.deref_mut.ensures.value) c.if-not-take_block.false x h) }
 
 pub render_block-returns : goal.render_block-returns
 render_block-returns g t c =
-    record { renders = c.loop.invariant.renders _ _ _ (turns_over _ _ _ _ _ _ _ _ _ _ (left_none c.loop.counter c.turns-end.result c.loop-test.false) c.loop.invariant.answer); owes = c.loop.invariant.owes; store = c.loop.invariant.store; bound = c.loop.invariant.bound; borrows = c.loop.invariant.borrows; around = c.loop.invariant.around }
+    record { renders = c.loop.invariant.renders _ _ _ (turns_over _ _ _ _ _ _ _ _ _ _ (left_none c.loop.counter c.turns-end.result c.loop-test.false) c.loop.invariant.answer); owes = c.loop.invariant.owes; store = c.loop.invariant.store; borrows = c.loop.invariant.borrows; around = c.loop.invariant.around }
 
 pub take_block-returns-in-Stop : goal.take_block-returns-in-Stop
 take_block-returns-in-Stop g t c =
-    record { takes = λ k. c.in-Stop.ensures.turned.0 _ k; owes = c.in-Stop.ensures.turned.1; store = c.in-Stop.ensures.store; bound = c.in-Stop.ensures.bound; borrows = c.in-Stop.ensures.borrows; around = c.in-Stop.ensures.around }
+    record { takes = λ k. c.in-Stop.ensures.turned.0 _ k; owes = c.in-Stop.ensures.turned.1; store = c.in-Stop.ensures.store; borrows = c.in-Stop.ensures.borrows; around = c.in-Stop.ensures.around }
 
 pub take_block-returns-in-Next : goal.take_block-returns-in-Next
 take_block-returns-in-Next g t c =
-    record { takes = (c.in-Next.ensures.turned.1, λ k a x later rest. c.in-Next.ensures.turned.0 _ k a x later rest); owes = c.in-Next.ensures.turned.2; store = c.in-Next.ensures.store; bound = c.in-Next.ensures.bound; borrows = c.in-Next.ensures.borrows; around = c.in-Next.ensures.around }
+    record { takes = (c.in-Next.ensures.turned.1, λ k a x later rest. c.in-Next.ensures.turned.0 _ k a x later rest); owes = c.in-Next.ensures.turned.2; store = c.in-Next.ensures.store; borrows = c.in-Next.ensures.borrows; around = c.in-Next.ensures.around }
 
-pub take_block-closed-requires : goal.take_block-closed-requires
-take_block-closed-requires g t c =
-    opens_open _ _ _ _ _ _ _ _ _ _ _ _ _ _ _ c.in-Part.ensures.turned.0 c.render_part.ensures.owes
+pub take_block-pop_names-requires : goal.take_block-pop_names-requires
+take_block-pop_names-requires g t c =
+    owed_open _ _ _ _ _ c.in-Part.ensures.turned.0.owes c.render_part.ensures.owes
 
 pub take_block-returns-in-Part : goal.take_block-returns-in-Part
 take_block-returns-in-Part g t c =
-    record { takes = rw c.closed.ensures.progress (opens_taken _ _ _ _ _ _ _ _ _ _ _ _ _ _ _ _ _ _ _ _ c.in-Part.ensures.turned.0 c.render_part.ensures.owes c.closed.ensures.ends _ _ _ c.closed.ensures.goes_on c.closed.ensures.traced (rw c.in-Part.ensures.store at c.render_part.ensures.renders)); owes = opens_kept _ _ _ _ _ _ _ _ _ _ _ _ _ _ _ _ _ _ c.in-Part.ensures.turned.0 c.render_part.ensures.owes c.closed.ensures.ends; store = ap (option_map g.S.Store.PartialStore.finds) c.closed.ensures.store ∙ c.render_part.ensures.store ∙ c.in-Part.ensures.store; bound = ap (λ store. partials_size (option_map g.S.Store.PartialStore.finds store)) c.closed.ensures.store ∙ c.render_part.ensures.bound ∙ c.in-Part.ensures.bound; borrows = c.closed.ensures.borrows ∙ c.render_part.ensures.borrows ∙ c.in-Part.ensures.borrows; around = c.render_part.ensures.around ∙ c.in-Part.ensures.around }
+    record { takes = rw c.closed.ensures.progress (opens_taken _ _ _ _ _ _ _ _ _ _ _ _ _ _ _ _ _ _ _ _ c.in-Part.ensures.turned.0 c.render_part.ensures.owes c.pop_names.ensures.ends _ _ _ c.closed.ensures.goes_on c.closed.ensures.traced (rw c.in-Part.ensures.store at c.render_part.ensures.renders)); owes = opens_kept _ _ _ _ _ _ _ _ _ _ _ _ _ _ _ _ _ _ c.in-Part.ensures.turned.0 c.render_part.ensures.owes c.pop_names.ensures.ends; store = ap (option_map g.S.Store.PartialStore.finds) c.pop_names.ensures.store ∙ c.render_part.ensures.store ∙ c.in-Part.ensures.store; borrows = c.pop_names.ensures.borrows ∙ c.render_part.ensures.borrows ∙ c.in-Part.ensures.borrows; around = c.render_part.ensures.around ∙ c.in-Part.ensures.around }
 
-pub take_block-closed-requires-in-Partial : goal.take_block-closed-requires-in-Partial
-take_block-closed-requires-in-Partial g t c =
-    opens_open _ _ _ _ _ _ _ _ _ _ _ _ _ _ _ c.in-Partial.ensures.turned.0 c.render_partial.ensures.owes
+pub take_block-pop_names-requires-in-Partial : goal.take_block-pop_names-requires-in-Partial
+take_block-pop_names-requires-in-Partial g t c =
+    owed_open _ _ _ _ _ c.in-Partial.ensures.turned.0.owes c.render_partial.ensures.owes
 
 pub take_block-returns-in-Partial : goal.take_block-returns-in-Partial
 take_block-returns-in-Partial g t c =
-    record { takes = rw c.closed-in-Partial.ensures.progress (opens_taken _ _ _ _ _ _ _ _ _ _ _ _ _ _ _ _ _ _ _ _ c.in-Partial.ensures.turned.0 c.render_partial.ensures.owes c.closed-in-Partial.ensures.ends _ _ _ c.closed-in-Partial.ensures.goes_on c.closed-in-Partial.ensures.traced (rw c.in-Partial.ensures.store at c.render_partial.ensures.renders)); owes = opens_kept _ _ _ _ _ _ _ _ _ _ _ _ _ _ _ _ _ _ c.in-Partial.ensures.turned.0 c.render_partial.ensures.owes c.closed-in-Partial.ensures.ends; store = ap (option_map g.S.Store.PartialStore.finds) c.closed-in-Partial.ensures.store ∙ c.render_partial.ensures.store ∙ c.in-Partial.ensures.store; bound = ap (λ store. partials_size (option_map g.S.Store.PartialStore.finds store)) c.closed-in-Partial.ensures.store ∙ c.render_partial.ensures.bound ∙ c.in-Partial.ensures.bound; borrows = c.closed-in-Partial.ensures.borrows ∙ c.render_partial.ensures.borrows ∙ c.in-Partial.ensures.borrows; around = c.render_partial.ensures.around ∙ c.in-Partial.ensures.around }
+    record { takes = rw c.closed-in-Partial.ensures.progress (opens_taken _ _ _ _ _ _ _ _ _ _ _ _ _ _ _ _ _ _ _ _ c.in-Partial.ensures.turned.0 c.render_partial.ensures.owes c.pop_names-in-Partial.ensures.ends _ _ _ c.closed-in-Partial.ensures.goes_on c.closed-in-Partial.ensures.traced (rw c.in-Partial.ensures.store at c.render_partial.ensures.renders)); owes = opens_kept _ _ _ _ _ _ _ _ _ _ _ _ _ _ _ _ _ _ c.in-Partial.ensures.turned.0 c.render_partial.ensures.owes c.pop_names-in-Partial.ensures.ends; store = ap (option_map g.S.Store.PartialStore.finds) c.pop_names-in-Partial.ensures.store ∙ c.render_partial.ensures.store ∙ c.in-Partial.ensures.store; borrows = c.pop_names-in-Partial.ensures.borrows ∙ c.render_partial.ensures.borrows ∙ c.in-Partial.ensures.borrows; around = c.render_partial.ensures.around ∙ c.in-Partial.ensures.around }
 
 pub take_block-returns-in-Captured-clause-takes : goal.take_block-returns-in-Captured-clause-takes
 take_block-returns-in-Captured-clause-takes g t c =
@@ -181,11 +182,11 @@ take_block-returns-in-Captured-clause-takes g t c =
 pub take_captured-returns-then-goes_on-clause-captures : goal.take_captured-returns-then-goes_on-clause-captures
 take_captured-returns-then-goes_on-clause-captures g t c =
     let e = c.caught.ensures ∙ ap (λ x. g.B.Renderable.means.catches (g.B.Meant.shape c.args.block.now) x (string_bytes c.close-text.result)) c.closed-goes_on.ensures.progress ∙ ap (λ x. g.B.Renderable.means.catches (g.B.Meant.shape c.args.block.now) (g.B.Progress.Meant.shape c.args.going.now.progress) x) (closed_text _ _ _ _ c.open-outer.ensures.opened c.render_part.ensures.around c.close-text.ensures.text) in
-    record { start = target (g.O.Out.place c.open-outer.new.self); last = target (g.O.Out.place c.render_part.new.out); left = g.S.Runtime.view c.render_part.new.scopes; own = c.render_part.new.answer; rendered = c.render_part.ensures.renders; aside = closed_aside _ _ _ _ _ c.open-outer.ensures.opened c.render_part.ensures.around c.open-outer.ensures.outer c.close-text.ensures.closed; ends = rw c.render_part.ensures.owes at c.closed-goes_on.ensures.ends; traced = c.closed-goes_on.ensures.traced; goes_on = c.closed-goes_on.ensures.goes_on; progress = λ _. e }
+    record { start = target (g.O.Out.place c.open-outer.new.self); last = target (g.O.Out.place c.render_part.new.out); left = g.S.Runtime.view c.render_part.new.scopes; own = c.render_part.new.answer; rendered = c.render_part.ensures.renders; aside = closed_aside _ _ _ _ _ c.open-outer.ensures.opened c.render_part.ensures.around c.open-outer.ensures.outer c.close-text.ensures.closed; ends = rw c.render_part.ensures.owes at c.pop_names.ensures.ends; traced = c.closed-goes_on.ensures.traced; goes_on = c.closed-goes_on.ensures.goes_on; progress = λ _. e }
 
 pub take_captured-returns-else-goes_on-clause-captures : goal.take_captured-returns-else-goes_on-clause-captures
 take_captured-returns-else-goes_on-clause-captures g t c =
-    record { start = target (g.O.Out.place c.open-outer.new.self); last = target (g.O.Out.place c.render_part.new.out); left = g.S.Runtime.view c.render_part.new.scopes; own = c.render_part.new.answer; rendered = c.render_part.ensures.renders; aside = closed_aside _ _ _ _ _ c.open-outer.ensures.opened c.render_part.ensures.around c.open-outer.ensures.outer c.close-text.ensures.closed; ends = rw c.render_part.ensures.owes at c.closed-goes_on.ensures.ends; traced = c.closed-goes_on.ensures.traced; goes_on = c.closed-goes_on.ensures.goes_on; progress = λ i. absurd (true_not_false _ i c.if-goes_on.false) }
+    record { start = target (g.O.Out.place c.open-outer.new.self); last = target (g.O.Out.place c.render_part.new.out); left = g.S.Runtime.view c.render_part.new.scopes; own = c.render_part.new.answer; rendered = c.render_part.ensures.renders; aside = closed_aside _ _ _ _ _ c.open-outer.ensures.opened c.render_part.ensures.around c.open-outer.ensures.outer c.close-text.ensures.closed; ends = rw c.render_part.ensures.owes at c.pop_names.ensures.ends; traced = c.closed-goes_on.ensures.traced; goes_on = c.closed-goes_on.ensures.goes_on; progress = λ i. absurd (true_not_false _ i c.if-goes_on.false) }
 
 pub render_part-render_list-requires : goal.render_part-render_list-requires
 render_part-render_list-requires g t c =

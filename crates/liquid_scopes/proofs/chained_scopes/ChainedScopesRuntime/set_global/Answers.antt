@@ -34,7 +34,7 @@ returns-in-Ok-clause-owes g c =
     let q = string_bytes c.args.name in
     let xs = c.args.self.now.links.items in
     let l = c.index_mut.result.now in
-    set_restoring layer_of (g.R.Runtime.view c.args.self.now.base) xs c.in-Some.i c.assign.new.self q (tree_of c.args.value) (scope_base ∷ g.R.Runtime.restores c.args.self.now.base) c.in-Some.ensures
+    set_restoring g.R.Register.Fresh.shape layer_of (g.R.Runtime.view c.args.self.now.base) xs c.in-Some.i c.assign.new.self q (tree_of c.args.value) (scope_base ∷ g.R.Runtime.restores c.args.self.now.base) c.in-Some.ensures
     (c.in-Ok.ensures.sets ∙ ap (λ k. assigning (insert (assigned (layer_of k)) q (tree_of c.args.value)) (layer_of k)) c.index_mut.ensures.value ∙ ap (λ k. assigning (insert (assigned k) q (tree_of c.args.value)) k) (read_here layer_of xs c.in-Some.i l c.in-Some.ensures))
 
 pub returns-in-Err-clause-unchanged : goal.returns-in-Err-clause-unchanged
@@ -48,7 +48,7 @@ pub returns-in-Err-clause-owes : goal.returns-in-Err-clause-owes
 returns-in-Err-clause-owes g c =
     let xs = c.args.self.now.links.items in
     let l = c.index_mut.result.now in
-    ap (λ ys. restoring (g.R.Runtime.view c.args.self.now.base) ys (scope_base ∷ g.R.Runtime.restores c.args.self.now.base)) (set_same layer_of xs c.in-Some.i c.assign.new.self c.in-Some.ensures
+    ap (λ ys. restoring g.R.Register.Fresh.shape (g.R.Runtime.view c.args.self.now.base) ys (scope_base ∷ g.R.Runtime.restores c.args.self.now.base)) (set_same layer_of xs c.in-Some.i c.assign.new.self c.in-Some.ensures
     (c.in-Err.ensures.unchanged ∙ ap layer_of c.index_mut.ensures.value ∙ read_here layer_of xs c.in-Some.i l c.in-Some.ensures))
 
 pub returns-in-Ok-set_global-clause-gives : goal.returns-in-Ok-set_global-clause-gives
@@ -64,8 +64,8 @@ returns-in-Ok-set_global-clause-owes g c =
     let v = g.R.Runtime.view c.args.self.now.base in
     let ls = map layer_of c.args.self.now.links.items in
     let rs = scope_base ∷ g.R.Runtime.restores c.set_global.new.self in
-    ap (λ u. restoring u ls rs) c.in-Ok-set_global.ensures.sets ∙ restoring_put_global v ls (string_bytes c.args.name) (tree_of c.args.value) rs c.in-None.ensures
-    ∙ ap (λ xs. restoring v ls (scope_base ∷ xs)) c.in-Ok-set_global.ensures.owes
+    ap (λ u. restoring g.R.Register.Fresh.shape u ls rs) c.in-Ok-set_global.ensures.sets ∙ restoring_put_global g.R.Register.Fresh.shape v ls (string_bytes c.args.name) (tree_of c.args.value) rs c.in-None.ensures
+    ∙ ap (λ xs. restoring g.R.Register.Fresh.shape v ls (scope_base ∷ xs)) c.in-Ok-set_global.ensures.owes
 
 pub returns-in-Err-set_global-clause-gives : goal.returns-in-Err-set_global-clause-gives
 returns-in-Err-set_global-clause-gives g c = subst (λ o. IfSome (told c.in-Err-set_global.e) (λ r. old_value no_global_frame o (string_bytes c.args.name) ≡ Err r)) (sym (shown_globals_are (g.R.Runtime.view c.args.self.now.base) (map layer_of c.args.self.now.links.items) c.in-None.ensures)) c.in-Err-set_global.ensures.gives

@@ -22,7 +22,7 @@ returns-in-Ok-clause-owes g c =
     let v = g.R.Runtime.view c.args.self.now.base in
     let ls = map layer_of c.args.self.now.links.items in
     let rs = scope_base ∷ g.R.Runtime.restores c.set_index.new.self in
-    ap (λ u. restoring u ls rs) c.in-Ok.ensures.sets ∙ restoring_put_index v ls (string_bytes c.args.name) (tree_of c.args.value) rs ∙ ap (λ xs. restoring v ls (scope_base ∷ xs)) c.in-Ok.ensures.owes
+    ap (λ u. restoring g.R.Register.Fresh.shape u ls rs) c.in-Ok.ensures.sets ∙ restoring_put_index g.R.Register.Fresh.shape v ls (string_bytes c.args.name) (tree_of c.args.value) rs ∙ ap (λ xs. restoring g.R.Register.Fresh.shape v ls (scope_base ∷ xs)) c.in-Ok.ensures.owes
 
 pub returns-in-Err-clause-gives : goal.returns-in-Err-clause-gives
 returns-in-Err-clause-gives g c = subst (λ i. IfSome (told c.in-Err.e) (λ r. old_value no_index_frame i (string_bytes c.args.name) ≡ Err r)) (sym (shown_index (g.R.Runtime.view c.args.self.now.base) (map layer_of c.args.self.now.links.items))) c.in-Err.ensures.gives

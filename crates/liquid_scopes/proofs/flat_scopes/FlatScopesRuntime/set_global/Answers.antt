@@ -40,8 +40,8 @@ returns-in-Ok-set_global-clause-owes g c =
     let v = g.R.Runtime.view c.args.self.now.base in
     let ls = map layer_of c.args.self.now.table.links.items in
     let rs = scope_base ∷ g.R.Runtime.restores c.set_global.new.self in
-    ap (λ u. restoring u ls rs) c.in-Ok-set_global.ensures.sets ∙ restoring_put_global v ls (string_bytes c.args.name) (tree_of c.args.value) rs c.in-None.ensures
-    ∙ ap (λ xs. restoring v ls (scope_base ∷ xs)) c.in-Ok-set_global.ensures.owes
+    ap (λ u. restoring g.R.Register.Fresh.shape u ls rs) c.in-Ok-set_global.ensures.sets ∙ restoring_put_global g.R.Register.Fresh.shape v ls (string_bytes c.args.name) (tree_of c.args.value) rs c.in-None.ensures
+    ∙ ap (λ xs. restoring g.R.Register.Fresh.shape v ls (scope_base ∷ xs)) c.in-Ok-set_global.ensures.owes
 
 pub returns-in-Err-set_global-clause-gives : goal.returns-in-Err-set_global-clause-gives
 returns-in-Err-set_global-clause-gives g c = subst (λ o. IfSome (told c.in-Err-set_global.e) (λ r. old_value no_global_frame o (string_bytes c.args.name) ≡ Err r)) (sym (shown_globals_are (g.R.Runtime.view c.args.self.now.base) (map layer_of c.args.self.now.table.links.items) c.in-None.ensures)) c.in-Err-set_global.ensures.gives
