@@ -156,7 +156,8 @@ type Base = BuiltRuntime<Trail, ()>;
 
 /// The pages that are visited first, a frame, the pages that are visited under it, and the trail when the frame has
 /// begun, before it ends and when it has ended. A sandboxed frame and an isolated one have a trail of their own.
-const ROWS: &str = r#"[["home", "shop"], ["none"], ["cart"], " home shop; home shop cart; home shop cart;"]
+const ROWS: &str =
+    r#"[["home", "shop"], ["none"], ["cart"], " home shop; home shop cart; home shop cart;"]
 [["home"], ["stack", {"a": 1}], ["shop", "cart"], " home; home shop cart; home shop cart;"]
 [[], ["global"], ["home"], "; home; home;"]
 [["home", "shop"], ["sandboxed", {}], ["cart"], "; cart; home shop;"]
@@ -193,7 +194,7 @@ fn over_flat(alloc: Global, row: &Line) -> Result<String, Fail> {
     Ok(log)
 }
 
-/// Whether both forms show what a row tells.
+/// Returns `true` if both forms show what a row says.
 fn is_shown(alloc: Global, row: &Line) -> Result<bool, Fail> {
     let told = row.text(3)?;
     Ok(over_chained(alloc, row)?.as_str() == told && over_flat(alloc, row)?.as_str() == told)
