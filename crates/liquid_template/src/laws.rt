@@ -1,5 +1,6 @@
-//! Laws of sandboxed runs and of isolated ones, each as the contract of a function. `V` is the type of the register.
-//! `F`, `T` and `B` are the shapes of filters, tags and blocks. `P` and `Q` are the progress of tags and of blocks.
+//! Laws of sandboxed runs, of isolated ones and of checkpoints, each as the contract of a function. `V` is the type of
+//! the register. `F`, `T` and `B` are the shapes of filters, tags and blocks. `P` and `Q` are the progress of tags and of
+//! blocks.
 ghost use Rattle.liquid_template.specs.laws.Checkpoints.{Kept, NoneElsewhere, OneEachTurn};
 ghost use Rattle.liquid_template.specs.laws.IsolatedFrames.{IsolatedFromOutside, IsolatedOutsidesAgree};
 ghost use Rattle.liquid_template.specs.laws.Isolation.{Isolated, OutsidesAgree};
@@ -39,7 +40,7 @@ pub fn isolated_outsides_agree<V: Fresh, F, T, P, B, Q>()
 /// and captures keep them. So a gate that lets `n` checkpoints pass lets `n` turns begin.
 #[tactic(auto, using(crate::proofs::Checkpoints::one_each_turn, crate::proofs::Checkpoints::none_elsewhere, crate::proofs::Checkpoints::kept))]
 pub fn checkpoints_count_turns<V: Fresh, F, T, P, B, Q, N, R>()
-    ensures turns { (s : Setting V F T P B Q) (m : NodeMeaning N R V) → OneEachTurn s m }
-    ensures elsewhere { NoneElsewhere V }
-    ensures kept { Kept V }
+    ensures turns { (s : Setting V.Shape F T P B Q) (m : NodeMeaning N R V.Shape) → OneEachTurn s m }
+    ensures elsewhere { NoneElsewhere V.Shape }
+    ensures kept { Kept V.Shape }
 {}
