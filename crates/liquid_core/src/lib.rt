@@ -182,7 +182,8 @@ pub use liquid_runtime::names::no_names;
 pub use liquid_runtime::{BuiltRuntime, Frame, Fresh, IndexFrame, Runtime, RuntimeBuilder, Scopes};
 pub use liquid_scopes::{ChainedScopes, FlatScopes, Looks};
 pub use liquid_template::{
-    Gate, GatedSink, History, Limits, PartialStore, Sink, SinkFault, Template, TextSink, WriterSink,
+    Gate, GatedSink, History, Limits, PartialStore, Sink, SinkFault, Template, TextSink, Watch,
+    Watched, WriterSink,
 };
 pub use liquid_value::{Object, SharedArray, SharedObject, Value, ValueCow};
 pub use liquid_views::{ObjectView, ValueView, array_of, object_of, scalar_of};

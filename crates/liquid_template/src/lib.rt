@@ -21,15 +21,18 @@ mod template;
 mod text_sink;
 mod trace;
 mod turn;
+mod watched;
 mod writer_sink;
 
 pub use crate::gate::{Gate, GatedSink, Limits};
 pub use crate::history::History;
 pub use crate::laws::{
-    isolated_outsides_agree, isolated_runs_are_apart, outsides_agree, sandboxed_runs_are_isolated,
+    checkpoints_count_turns, isolated_outsides_agree, isolated_runs_are_apart, outsides_agree,
+    sandboxed_runs_are_isolated,
 };
 pub use crate::sink::{Sink, SinkFault};
 pub use crate::store::{PartialStore, unknown_partial};
 pub use crate::template::Template;
 pub use crate::text_sink::TextSink;
+pub use crate::watched::{Watch, Watched};
 pub use crate::writer_sink::WriterSink;

@@ -1,0 +1,83 @@
+//! Gates that are open as long as a host says so: until a deadline, or until someone cancels.
+ghost use Rattle.std.specs.Prelude.{◌≡◌, ◌+◌};
+ghost use Rattle.liquid_template.specs.meaning.Output.{asked, gated_by, passed};
+
+use crate::gate::Gate;
+use crate::history::History;
+
+/// Says whether rendering may continue.
+pub trait Watch {
+    /// Called before each turn and before each piece. Once it returns `false`, rendering ends with "Rendering was
+    /// stopped".
+    fn is_open(&mut self) -> bool;
+}
+
+/// A gate that lets everything pass while its watch is open, and counts what has passed.
+#[derive(Drop)]
+pub struct Watched<W: Watch> {
+    watch: W,
+    turns: u64,
+    bytes: u64,
+    turns_refused: History,
+    bytes_refused: History,
+}
+
+impl<W: Watch> Watched<W> {
+    /// Returns a gate with this watch, through which nothing has passed.
+    pub fn new(watch: W) -> Watched<W>
+        ensures none { (⟦<Watched<W> as Gate>⟧.gated result) ≡ gated_by (passed 0 0) (passed 0 0) }
+    {
+        Watched {
+            watch,
+            turns: 0,
+            bytes: 0,
+            turns_refused: History::new(),
+            bytes_refused: History::new(),
+        }
+    }
+
+    /// Returns the number of turns that have passed.
+    pub fn turns_passed(&self) -> u64
+        ensures { result ≡ (⟦<Watched<W> as Gate>⟧.gated self.now).turns.count }
+    {
+        self.turns
+    }
+
+    /// Returns the number of bytes that have passed.
+    pub fn bytes_passed(&self) -> u64
+        ensures { result ≡ (⟦<Watched<W> as Gate>⟧.gated self.now).bytes.count }
+    {
+        self.bytes
+    }
+}
+
+impl<W: Watch> Gate for Watched<W> {
+    ghost gated = { λ w. record {
+      turns = record { count = w.turns; refusals = w.turns_refused.failures };
+      bytes = record { count = w.bytes; refusals = w.bytes_refused.failures };
+    } };
+
+    /// Lets a turn pass if the watch is open. A gate also refuses what its counts have no room for.
+    fn turn(&mut self) -> bool {
+        if self.watch.is_open() {
+            if let Some(turns) = self.turns.checked_add(1) {
+                self.turns = turns;
+                return true;
+            }
+        }
+        self.turns_refused.failed();
+        false
+    }
+
+    /// Lets bytes pass if the watch is open.
+    fn bytes(&mut self, count: u64) -> bool {
+        if self.watch.is_open() {
+            if let Some(bytes) = self.bytes.checked_add(count) {
+                self.bytes = bytes;
+                return true;
+            }
+        }
+        self.bytes_refused.failed();
+        false
+    }
+}
