@@ -117,9 +117,12 @@ pub mod laws {
         pub use liquid_scopes::chained_and_flat_scopes_answer_alike;
     }
 
-    /// Of runs in a sandbox.
+    /// Of runs in a sandbox and in isolation, and of checkpoints.
     pub mod template {
-        pub use liquid_template::{outsides_agree, sandboxed_runs_are_isolated};
+        pub use liquid_template::{
+            checkpoints_count_turns, isolated_outsides_agree, isolated_runs_are_apart,
+            outsides_agree, sandboxed_runs_are_isolated,
+        };
     }
 
     /// Of names and frames.
