@@ -1,9 +1,10 @@
 -- From what globals of JSON give to what a command comes to.
-use Rattle.std.proofs.Common.{◌≡◌, ◌⊎◌, ℕ, None, Some, Option, Result, Ok, Err, inl, inr, sym, subst}
+use Rattle.std.proofs.Common.{◌≡◌, None, Some, Option, Result, Ok, Err}
+use Rattle.std.specs.Prelude.{IfSome, IsNone, option_map}
 use Rattle.liquid_error.specs.meaning.Refusal.{Refusal}
 use Rattle.liquid_value.specs.meaning.Tree.{Members}
 use Rattle.liquid_runtime.specs.meaning.Maps.{Names}
-use Rattle.liquid_pages.specs.meaning.Faults.{Fault}
+use Rattle.liquid_pages.specs.meaning.Faults.{Fault, no_globals}
 use Rattle.liquid_pages.specs.meaning.Globals.{global_names, names_given}
 use Rattle.liquid.specs.meaning.Gathered.{WithGlobals}
 
@@ -18,3 +19,15 @@ pub names_refused : (given : Option (Result Members Refusal)) (fault : Fault) (s
 names_refused None fault stop next is stops = stops
 names_refused (Some (Err refusal)) fault stop next is stops = stops
 names_refused (Some (Ok members)) fault stop next is stops = cc is
+
+-- where memory ran out, whatever was given
+pub names_anyhow : (given : Option (Result Members Refusal)) (stop : Type 0) (next : Names → Type 0) → stop → ((names : Names) → next names) → WithGlobals given stop next
+names_anyhow None stop next stops any = stops
+names_anyhow (Some (Err refusal)) stop next stops any = stops
+names_anyhow (Some (Ok members)) stop next stops any = any (global_names members)
+
+-- names that are no object of values, which are told
+pub refused_unless : (given : Option (Result Members Refusal)) (t : Option Refusal) (stop : Type 0) (next : Names → Type 0)
+    → ¬ (IsNone t) → IfSome (option_map no_globals t) (λ fault. names_given given ≡ Err fault) → stop → WithGlobals given stop next
+refused_unless given None stop next told is stops = absurd (told tt)
+refused_unless given (Some refusal) stop next told is stops = names_refused given (no_globals refusal) stop next is stops

@@ -27,13 +27,3 @@ pub all_turns : {X : Type 0} (f : X → List ℕ) (P : List ℕ → List ℕ →
 all_turns f P old new xs first os used whole n count is turns same =
     subst (λ k. AllTurns P (map f xs) old new first os k whole) is
     (record { used = used; turns = subst (λ gs. InTurn P old gs (take n os) new used whole) (sym (take-map f n xs)) turns; later = same })
-
-in_turn_by : {P Q : List ℕ → List ℕ → List ℕ → Outcome → Type 0} {old : List ℕ} {gs : List (List ℕ)} {os : List Outcome} {new : List ℕ} {used whole : ℕ}
-    → ((g before after : List ℕ) (o : Outcome) → P g before after o → Q g before after o) → InTurn P old gs os new used whole → InTurn Q old gs os new used whole
-in_turn_by follows begun = begun
-in_turn_by follows (rendered turns front leaves) = rendered (in_turn_by follows turns) front (follows _ _ _ _ leaves)
-
--- what follows of each turn
-pub all_turns_by : {P Q : List ℕ → List ℕ → List ℕ → Outcome → Type 0} (globals : List (List ℕ)) (old new : List ℕ) (first left : List Outcome) (count whole : ℕ)
-    → ((g before after : List ℕ) (o : Outcome) → P g before after o → Q g before after o) → AllTurns P globals old new first left count whole → AllTurns Q globals old new first left count whole
-all_turns_by globals old new first left count whole follows all = record { used = all.used; turns = in_turn_by follows all.turns; later = all.later }

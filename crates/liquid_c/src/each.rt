@@ -1,11 +1,11 @@
 //! Many pages of one template, rendered one after another into the caller's memory.
 ghost use Rattle.std.specs.Prelude.{◌≡◌, ◌≤◌, ◌+◌, length, map, min, take, drop};
-ghost use Rattle.liquid_c.specs.meaning.Outcomes.{LeavesBy, LeavesOver};
+ghost use Rattle.liquid_c.specs.meaning.Outcomes.{LeavesOver};
 ghost use Rattle.liquid_c.specs.meaning.Turns.{AllTurns, one_if_whole};
+ghost use Rattle.liquid_c.specs.steps.Chosen.{IsChosen};
 
 use crate::page::{Outcome, Page};
-use crate::rendering::{Asked, asked_of, render_one};
-use liquid_pages::TemplatePages;
+use crate::rendering::{Chosen, choose_language, render_over};
 use std::alloc::Global;
 
 /// Renders a page over each of these globals, as far as there are outcomes, each into the bytes of `out` that
@@ -21,27 +21,12 @@ pub fn render_each(
     ensures { AllTurns (LeavesOver page.now) (map (λ g. g.now) globals.now) out.old out.new outcomes.old outcomes.new
         (min (length globals.now) (length outcomes.old)) result }
 {
-    let asked = asked_of(alloc, page);
-    render_turns(alloc, &asked, globals, out, message, outcomes)
-}
-
-/// Renders the pages in turn, as `render_each` does.
-fn render_turns<P: TemplatePages>(
-    alloc: Global,
-    asked: &Asked<P>,
-    globals: &[&[u8]],
-    out: &mut [u8],
-    message: &mut [u8],
-    outcomes: &mut [Outcome],
-) -> usize
-    ensures { AllTurns (LeavesBy P.comes asked.now) (map (λ g. g.now) globals.now) out.old out.new outcomes.old outcomes.new
-        (min (length globals.now) (length outcomes.old)) result }
-{
+    let chosen = choose_language(alloc, page.options);
     let count = fewer(globals.len(), outcomes.len());
     let mut used: usize = 0;
     let mut whole: usize = 0;
     for place in 0..count {
-        let outcome = render_turn(alloc, asked, globals[place], used, out, message);
+        let outcome = render_turn(alloc, &chosen, page, globals[place], used, out, message);
         used += outcome.written;
         whole += one_if_whole(&outcome);
         outcomes[place] = outcome;
@@ -50,22 +35,24 @@ fn render_turns<P: TemplatePages>(
 }
 
 /// Renders a page into the bytes of `out` after those that are used.
-fn render_turn<P: TemplatePages>(
+fn render_turn(
     alloc: Global,
-    asked: &Asked<P>,
+    chosen: &Chosen,
+    page: &Page<'_>,
     globals: &[u8],
     used: usize,
     out: &mut [u8],
     message: &mut [u8],
 ) -> Outcome
     requires { used ≤ length out.old }
-    ensures leaves { LeavesBy P.comes asked.now globals.now (drop used out.old) (drop used out.new) result }
+    ensures leaves { IsChosen page.now.options chosen.now
+        → LeavesOver page.now globals.now (drop used out.old) (drop used out.new) result }
     ensures front { take used out.new ≡ take used out.old }
     ensures room { used + result.written ≤ length out.old }
     ensures size { length out.new ≡ length out.old }
 {
     let (_, room) = out.split_at_mut(used);
-    render_one(alloc, asked, globals, room, message)
+    render_over(alloc, chosen, page, globals, room, message)
 }
 
 fn fewer(a: usize, b: usize) -> usize

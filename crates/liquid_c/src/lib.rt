@@ -40,9 +40,9 @@ pub extern "C" fn liquid_render(
     *outcome = render(alloc, page, out, message);
 }
 
-/// Reads the page's template and partials once, and renders it over each of these globals in turn, as
-/// `liquid_render` does over `page.globals`, which are passed over. The pages are in `out` one after another,
-/// and `outcomes` has one outcome for each, as far as it has room. `message` has the text of the last error.
+/// Renders the page over each of these globals in turn, as `liquid_render` does over `page.globals`, which are
+/// passed over. The pages are in `out` one after another, and `outcomes` has one outcome for each, as far as
+/// it has room. `message` has the text of the last error.
 ///
 /// Returns how many pages are whole, and in `out`.
 #[unsafe(no_mangle)]

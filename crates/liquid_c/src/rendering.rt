@@ -1,34 +1,31 @@
 //! Rendering pages into the caller's memory.
-ghost use Rattle.std.specs.Prelude.{◌≡◌, ◌≤◌, ◌++◌, ℕ, List, length, min, take, drop, IfOk, IfSome, MatchOption, None, Some, Ok, Err};
-ghost use Rattle.liquid_template.specs.meaning.Sunk.{Sunk};
+ghost use Rattle.std.specs.Prelude.{◌≡◌, ◌≤◌, ◌++◌, if◌then◌else◌, length, min, nat_le, take, drop, IfOk, MatchOption, None};
 ghost use Rattle.liquid_error.specs.meaning.Told.{told};
 ghost use Rattle.liquid_tags.specs.meaning.Languages.{meaning_of};
 ghost use Rattle.liquid_pages.specs.meaning.Faults.{fault_told};
 ghost use Rattle.liquid_pages.specs.meaning.Shown.{Page as Shown, Shows};
 ghost use Rattle.liquid_c.specs.meaning.Options.{filter_made, filters_chosen, has_bit, language_chosen, has_standard, page_options};
-ghost use Rattle.liquid_c.specs.meaning.Outcomes.{IsPlaced, IsWhere, IsWhich, Leaves, LeavesAsked, LeavesBy, LeavesOver, kind_of};
+ghost use Rattle.liquid_c.specs.meaning.Outcomes.{IsPlaced, IsWhere, IsWhich, Leaves, LeavesAsked, LeavesOver, kind_of};
+ghost use Rattle.liquid_c.specs.steps.Chosen.{IsChosen};
 
 use crate::page::{EMPTY, LENIENT, Outcome, Page, SANDBOXED, STANDARD};
 use liquid_core::parser::{Language, PluginRegistry};
 use liquid_core::{Error, Place, Sink, TextSink};
-use liquid_pages::{PageFault, PageOptions, PageText, Pages, Rendered, TemplatePages};
+use liquid_pages::{PageFault, PageOptions, PageText, Rendered, render_page};
 use liquid_tags::{Blocks, Tags, language};
 use std::alloc::{AllocError, Global};
 use std::rc::Rc;
 use std_filters::{FilterPlugin, StdKind, filters};
 
-/// The language of the tag library with standard filters, or none.
+/// The language of the tag library with the standard filters, or with none.
 type StdLanguage = Language<FilterPlugin<StdKind>, Tags, Blocks>;
 
-/// Pages in this language.
-pub type StdPages = Pages<FilterPlugin<StdKind>, Tags, Blocks>;
-
-/// The kinds of an outcome.
-const NO_OPTIONS: u32 = 8;
+/// The kinds of an outcome that no fault has.
+const NO_MEMORY: u32 = 6;
 
 const SHORT: u32 = 7;
 
-const NO_MEMORY: u32 = 6;
+const NO_OPTIONS: u32 = 8;
 
 fn has_bit(options: u32, bit: u32) -> bool
     ensures { result ≡ has_bit options bit }
@@ -67,57 +64,55 @@ fn language_chosen(alloc: Global, options: u32) -> Result<Rc<StdLanguage>, Alloc
     Ok(Rc::new(alloc, language(alloc, filters_chosen(alloc, options)?)?)?)
 }
 
-/// What the pages of a call are rendered by.
+/// The language that the options of a page choose.
 #[derive(Drop)]
-pub enum Asked<P> {
+pub enum Chosen {
     /// There are no such options.
     NoOptions,
     /// Memory ran out.
     NoMemory,
-    /// By these options, from these pages.
-    Pages(PageOptions, P),
+    Language(Rc<StdLanguage>),
 }
 
-/// Reads what the pages share: their options, their template and their partials.
-pub fn asked_of(alloc: Global, page: &Page<'_>) -> Asked<StdPages>
-    ensures { (globals old new : List ℕ) (outcome : Outcome)
-        → LeavesBy ⟦<StdPages as TemplatePages>⟧.comes result globals old new outcome → LeavesOver page.now globals old new outcome }
+/// Returns the language that these options choose, if there are such options.
+pub fn choose_language(alloc: Global, options: u32) -> Chosen
+    ensures { IsChosen options result }
 {
-    if STANDARD * 2 <= page.options {
-        return Asked::NoOptions;
+    if STANDARD * 2 <= options {
+        return Chosen::NoOptions;
     }
-    match language_chosen(alloc, page.options) {
-        Ok(language) => Asked::Pages(
-            page_options(page.options),
-            Pages::new(alloc, &language, page.text, page.partials),
-        ),
-        Err(_) => Asked::NoMemory,
+    match language_chosen(alloc, options) {
+        Ok(language) => Chosen::Language(language),
+        Err(_) => Chosen::NoMemory,
     }
 }
 
-/// Renders a page over these globals into `out`, and writes the text of its error to `message`.
-pub fn render_one<P: TemplatePages>(
+/// Renders a page over these globals into `out`, in the language that its options choose, and writes the
+/// text of its error to `message`.
+pub fn render_over(
     alloc: Global,
-    asked: &Asked<P>,
+    chosen: &Chosen,
+    page: &Page<'_>,
     globals: &[u8],
     out: &mut [u8],
     message: &mut [u8],
 ) -> Outcome
-    ensures leaves { LeavesBy P.comes asked.now globals.now out.old out.new result }
+    ensures leaves { IsChosen page.now.options chosen.now → LeavesOver page.now globals.now out.old out.new result }
     ensures room { result.written ≤ length out.old }
     ensures size { length out.new ≡ length out.old }
 {
-    match asked {
-        Asked::NoOptions => Outcome {
+    match chosen {
+        Chosen::NoOptions => Outcome {
             kind: NO_OPTIONS,
             ..EMPTY
         },
-        Asked::NoMemory => Outcome {
+        Chosen::NoMemory => Outcome {
             kind: NO_MEMORY,
             ..EMPTY
         },
-        Asked::Pages(options, pages) => {
-            let rendered = pages.render(alloc, *options, globals);
+        Chosen::Language(language) => {
+            let options = page_options(page.options);
+            let rendered = render_page(alloc, language, options, page.text, globals, page.partials);
             finish(alloc, &rendered, out, message)
         }
     }
@@ -127,8 +122,8 @@ pub fn render_one<P: TemplatePages>(
 pub fn render(alloc: Global, page: &Page<'_>, out: &mut [u8], message: &mut [u8]) -> Outcome
     ensures { LeavesAsked page.now out.old out.new result }
 {
-    let asked = asked_of(alloc, page);
-    render_one(alloc, &asked, page.globals, out, message)
+    let chosen = choose_language(alloc, page.options);
+    render_over(alloc, &chosen, page, page.globals, out, message)
 }
 
 /// Hands out what was rendered, and returns how the page ended.
@@ -140,10 +135,11 @@ fn finish(alloc: Global, rendered: &Rendered, out: &mut [u8], message: &mut [u8]
 {
     let bytes = rendered.output.as_bytes();
     let needed = bytes.len();
+    let room = out.len();
     let written = copy_front(bytes, out);
     match &rendered.end {
         Ok(()) => Outcome {
-            kind: if needed <= out.len() { 0 } else { SHORT },
+            kind: whole_kind(needed, room),
             needed,
             written,
             ..EMPTY
@@ -158,6 +154,13 @@ fn finish(alloc: Global, rendered: &Rendered, out: &mut [u8], message: &mut [u8]
             }
         }
     }
+}
+
+/// Returns the kind of a page that was rendered to its end: whether it fits into so much room.
+fn whole_kind(needed: usize, room: usize) -> u32
+    ensures { result ≡ (if nat_le needed room then 0 else 7) }
+{
+    if needed <= room { 0 } else { SHORT }
 }
 
 /// Returns the outcome of a fault: its kind and where it is.

@@ -1,16 +1,13 @@
 -- What a call leaves with its caller: bytes in the caller's memory, and a record that says how the page ended.
-use Rattle.std.specs.Prelude.{◌≡◌, ℕ, ◌≤◌, min, ◌⊎◌, List, ◌++◌, length, take, drop, nat_le, Option, None, Some, map, if◌then◌else◌, true, false, nat_lt, ⊤}
+use Rattle.std.specs.Prelude.{◌≡◌, ℕ, ◌<◌, ◌≤◌, min, ◌⊎◌, List, ◌++◌, length, take, drop, nat_le, Option, None, Some, map, if◌then◌else◌, ⊤}
 use Rattle.liquid_error.specs.declared.place.Place.{Place}
 use Rattle.liquid_tags.specs.meaning.Library.{library}
 use Rattle.liquid_pages.specs.declared.fault.PageText.{PageText}
 use Rattle.liquid_pages.specs.declared.fault.PageText.TheVariants.{Template, Globals, PartialName, PartialText}
 use Rattle.liquid_pages.specs.meaning.Faults.{Fault, no_text, bad_json, no_globals, unparsed, refused}
 use Rattle.liquid_pages.specs.meaning.Shown.{Page, Begins, ComesTo, bytes_of_partial}
-use Rattle.liquid_pages.specs.declared.options.PageOptions.{PageOptions}
 use Rattle.liquid_c.specs.declared.page.Outcome.{Outcome}
 use Rattle.liquid_c.specs.declared.page.Page.{Page as Asked}
-use Rattle.liquid_c.specs.declared.rendering.Asked.{Asked as AskedPages}
-use Rattle.liquid_c.specs.declared.rendering.Asked.TheVariants.{NoOptions, NoMemory, Pages}
 use Rattle.liquid_c.specs.meaning.Options.{filter_calls, has_standard, language_chosen, page_options}
 
 -- the kinds, by their numbers in the header
@@ -59,20 +56,13 @@ pub record Leaves (page : Page) (old new : List ℕ) (o : Outcome) : Type 0 wher
 abbrev pub Unasked : List ℕ → List ℕ → Outcome → Type 0
 Unasked old new o = (o.kind ≡ 8) × ((o.needed ≡ 0) × ((o.written ≡ 0) × (new ≡ old)))
 
--- what is left of a page over these globals, by what its pages come to; out of memory, any page may be left at its beginning
-abbrev pub LeavesBy : {P : Type 0} → (P → PageOptions → List ℕ → Page → Type 0) → AskedPages P → List ℕ → List ℕ → List ℕ → Outcome → Type 0
-LeavesBy comes NoOptions globals old new o = Unasked old new o
-LeavesBy comes NoMemory globals old new o = (page : Page) → Leaves page old new o
-LeavesBy comes (Pages options pages) globals old new o = (page : Page) → comes pages options globals page → Leaves page old new o
-
 -- what a call leaves of the page that it was asked for, over these globals
 abbrev pub LeavesOver : Asked → List ℕ → List ℕ → List ℕ → Outcome → Type 0
 LeavesOver asked globals old new o =
-    if nat_lt asked.options 8
-    then ((page : Page)
+    (asked.options < 8 → (page : Page)
     → ComesTo (library tt filter_calls) (language_chosen (has_standard asked.options)) (page_options asked.options) asked.text.now globals (map bytes_of_partial asked.partials.now) page
     → Leaves page old new o)
-    else Unasked old new o
+    × (8 ≤ asked.options → Unasked old new o)
 
 -- the same over the page's own globals
 abbrev pub LeavesAsked : Asked → List ℕ → List ℕ → Outcome → Type 0
