@@ -5,13 +5,11 @@ use Rattle.liquid_error.specs.meaning.Told.{told}
 use Rattle.liquid_runtime.specs.meaning.Maps.{Names}
 use Rattle.liquid_template.specs.meaning.Sunk.{Sunk}
 use Rattle.liquid_partials.specs.meaning.Sources.{Texts}
-use Rattle.liquid_tags.specs.meaning.Library.{library}
 use Rattle.liquid_pages.proofs.PageLemmas.{nothing_rendered as no_page}
-use Rattle.std_filters.specs.meaning.Calls.{calls}
 use Rattle.liquid.specs.declared.command.Options.{Options}
 use Rattle.liquid.specs.meaning.Program.{Renders, page_options}
-use Rattle.liquid.specs.meaning.ProgramLanguage.{program_language, program_sense}
+use Rattle.liquid.specs.meaning.ProgramLanguage.{program_language, setting_over}
 
 pub nothing_rendered : (options : Options) (text : List ℕ) (globals : Names) (partials : Option Texts) (at : Sunk) (error : Error) → told error ≡ None → Renders options text globals partials at at (Err error)
 nothing_rendered options text globals partials at error memory =
-    λ answer reads. no_page (library tt (calls program_sense)) (program_language options.standard) (page_options options) answer globals partials at error memory
+    λ answer reads. no_page setting_over (program_language options.standard) (page_options options) answer globals partials at error memory

@@ -6,22 +6,20 @@ use Rattle.liquid_template.specs.meaning.Sunk.{Sunk, sunk}
 use Rattle.liquid_error.specs.declared.error.Error.{Error}
 use Rattle.liquid_runtime.specs.meaning.Maps.{Names}
 use Rattle.liquid_partials.specs.meaning.Sources.{Texts}
-use Rattle.liquid_tags.specs.meaning.Library.{library}
 use Rattle.liquid_pages.specs.declared.options.PageOptions.{PageOptions}
 use Rattle.liquid_pages.specs.meaning.Pages.{Renders as RendersPage}
-use Rattle.std_filters.specs.meaning.Calls.{calls}
 use Rattle.liquid.specs.declared.command.Options.{Options}
 use Rattle.liquid.specs.meaning.Program.{Prints, Renders, Runs, page_options}
-use Rattle.liquid.specs.meaning.ProgramLanguage.{ProgramLang, program_language, program_sense}
+use Rattle.liquid.specs.meaning.ProgramLanguage.{ProgramLang, program_language, setting_over}
 use Rattle.liquid.specs.meaning.Status.{settled}
 
 -- a page of the program's language, rendered by its options
 pub page_rendered : (options : Options) (chosen : PageOptions) (l : ProgramLang) (text : List ℕ) (globals : Names) (partials : Option Texts) (before after : Sunk) (result : Result (Unit {0}) Error)
-    → chosen ≡ page_options options → l ≡ program_language options.standard → RendersPage (library tt (calls program_sense)) l chosen text globals partials before after result
+    → chosen ≡ page_options options → l ≡ program_language options.standard → RendersPage setting_over l chosen text globals partials before after result
     → Renders options text globals partials before after result
 page_rendered options chosen l text globals partials before after result is same renders =
-    subst (λ o. RendersPage (library tt (calls program_sense)) (program_language options.standard) o text globals partials before after result) is
-    (subst (λ m. RendersPage (library tt (calls program_sense)) m chosen text globals partials before after result) same renders)
+    subst (λ o. RendersPage setting_over (program_language options.standard) o text globals partials before after result) is
+    (subst (λ m. RendersPage setting_over m chosen text globals partials before after result) same renders)
 
 appends_kept : (before between after : Option (List ℕ)) (more : List ℕ) → Appends before between more → Keeps between after → Appends before after more
 appends_kept None between after more appended kept = tt

@@ -14,10 +14,8 @@ use Rattle.liquid_template.specs.meaning.Outcome.{BrokenOff, Cut, Stopped, Outco
 use Rattle.liquid_template.proofs.Joins.{pieces-append}
 use Rattle.liquid_partials.specs.meaning.Rendered.{RenderedBy}
 use Rattle.liquid_partials.specs.meaning.Sources.{Texts}
-use Rattle.liquid.specs.meaning.ProgramLanguage.{ProgramAnswer, ProgramFound, program_sense}
-use Rattle.liquid_tags.specs.meaning.Library.{library}
+use Rattle.liquid.specs.meaning.ProgramLanguage.{ProgramAnswer, ProgramFound, setting_over}
 use Rattle.liquid_pages.specs.meaning.Pages.{first_view, page_action}
-use Rattle.std_filters.specs.meaning.Calls.{calls}
 use Rattle.liquid.specs.meaning.Program.{page_options, status_of, Fails, Finishes, Executes, Prints}
 use Rattle.liquid.specs.meaning.Command.{options_of, paths_of}
 use Rattle.liquid.specs.meaning.Status.{settled}
@@ -75,7 +73,7 @@ module _ (behind behind_after : Option (List ℕ)) (lent : List ℕ) where
   shown_outcome r output failures flushed left (Err error) o = inr (refused_status flushed, stopped_begins r output failures left (told error) o)
 
   shown_answer : (options : Options) (globals : Names) (found : Option ProgramFound) (answer : ProgramAnswer) (output : List ℕ) (failures : ℕ) (flushed : Bool) (left : View (Unit {0})) (result : Result (Unit {0}) Error)
-      → RenderedBy (page_action (library tt (calls program_sense)) options.sandboxed found globals) answer (first_view (page_options options) globals) fresh (filled output failures) left result
+      → RenderedBy (page_action setting_over options.sandboxed found globals) answer (first_view (page_options options) globals) fresh (filled output failures) left result
       → ShowsAnswer (program_run options globals found) answer output (settled (status_of result) flushed)
   shown_answer options globals found (Ok nodes) output failures flushed left result o = shown_outcome (program_run options globals found nodes) output failures flushed left result o.outcome
   shown_answer options globals found (Err refusal) output failures flushed left (Ok u) o = absurd o.1.1

@@ -2,7 +2,7 @@
 use Rattle.std.proofs.Common.{◌≡◌, ℕ, ◌+◌, ◌<◌, List, [], ◌∷◌, ◌++◌, length, map, take, drop, set, get_or, refl, sym, ap, subst, ◌∙◌, arith}
 use Rattle.std.proofs.lemmas.List.{drop-drop, drop-set-lt, map-append, take-map, take_more, take_more_set}
 use Rattle.liquid_c.specs.declared.page.Outcome.{Outcome}
-use Rattle.liquid_c.specs.meaning.Turns.{AllTurns, InTurn, begun, rendered, one_if_whole}
+use Rattle.liquid_c.specs.meaning.Turns.{AllTurns, InTurn, rendered, one_if_whole}
 
 one_more : {X : Type 0} (f : X → List ℕ) (xs : List X) (n : ℕ) (d : X) → n < length xs → map f (take (n + 1) xs) ≡ map f (take n xs) ++ f (get_or xs n d) ∷ []
 one_more f xs n d within = ap (map f) (take_more xs n d within) ∙ map-append f (take n xs) (get_or xs n d ∷ [])

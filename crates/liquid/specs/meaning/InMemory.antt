@@ -9,12 +9,10 @@ use Rattle.liquid.specs.declared.in_memory.InMemoryFolder.{InMemoryFolder}
 use Rattle.liquid.specs.meaning.Command.{is_command, options_of, paths_of}
 use Rattle.liquid.specs.declared.command.Options.{Options}
 use Rattle.liquid.specs.meaning.Gathered.{Gathers}
-use Rattle.liquid_tags.specs.meaning.Library.{library}
 use Rattle.liquid_pages.specs.meaning.Pages.{IsFoundIn}
 use Rattle.liquid_pages.specs.meaning.Shown.{page_run}
-use Rattle.std_filters.specs.meaning.Calls.{calls}
 use Rattle.liquid.specs.meaning.Program.{page_options}
-use Rattle.liquid.specs.meaning.ProgramLanguage.{ProgramAnswer, ProgramFound, ProgramNode, program_language, program_sense}
+use Rattle.liquid.specs.meaning.ProgramLanguage.{ProgramAnswer, ProgramFound, ProgramNode, program_language, setting_over}
 
 -- the bytes of the file at a path
 abbrev pub bytes_at : InMemoryFolder → List ℕ → Option (List ℕ)
@@ -34,7 +32,7 @@ IsBeginning r output = (left : List ℕ) × (written r ≡ output ++ left)
 
 -- what the program's templates of these nodes come to, by these options, over these globals, where a store finds this
 abbrev pub program_run : Options → Names → Option ProgramFound → List ProgramNode → Run (Unit {0})
-program_run options globals found nodes = page_run (library tt (calls program_sense)) (page_options options) globals found nodes
+program_run options globals found nodes = page_run setting_over (page_options options) globals found nodes
 
 -- status 0 shows the whole run of what the text is read as, status 1 a beginning of it; a text that is refused shows nothing
 abbrev pub ShowsAnswer : (List ProgramNode → Run (Unit {0})) → ProgramAnswer → List ℕ → ℕ → Type 0

@@ -5,11 +5,9 @@ use Rattle.liquid_error.specs.declared.error.Error.{Error}
 use Rattle.liquid_runtime.specs.meaning.Maps.{Names}
 use Rattle.liquid_template.specs.meaning.Sunk.{Sunk, sunk}
 use Rattle.liquid_partials.specs.meaning.Sources.{Texts}
-use Rattle.liquid_tags.specs.meaning.Library.{library}
 use Rattle.liquid_pages.specs.declared.options.PageOptions.{PageOptions}
 use Rattle.liquid_pages.specs.meaning.Pages.{Renders as RendersPage}
-use Rattle.std_filters.specs.meaning.Calls.{calls}
-use Rattle.liquid.specs.meaning.ProgramLanguage.{program_language, program_sense}
+use Rattle.liquid.specs.meaning.ProgramLanguage.{program_language, setting_over}
 use Rattle.liquid.specs.meaning.Command.{is_command, options_of, paths_of}
 use Rattle.liquid.specs.declared.command.Options.{Options}
 use Rattle.liquid.specs.meaning.Gathered.{Gathers}
@@ -22,7 +20,7 @@ page_options options = record { sandboxed = options.sandboxed; lenient = options
 -- what the text is read as in the program's language was rendered, by these options, over these globals with these partials
 abbrev pub Renders : Options → List ℕ → Names → Option Texts → Sunk → Sunk → Result (Unit {0}) Error → Type 0
 Renders options text globals partials before after result =
-    RendersPage (library tt (calls program_sense)) (program_language options.standard) (page_options options) text globals partials before after result
+    RendersPage setting_over (program_language options.standard) (page_options options) text globals partials before after result
 
 -- 0 where the template was rendered, 1 where it was refused
 abbrev pub status_of : Result (Unit {0}) Error → ℕ

@@ -8,20 +8,23 @@ use Rattle.liquid_plugins.specs.meaning.Nodes.{NodeShape}
 use Rattle.liquid_parser.specs.declared.plugin.language.Language.{Language}
 use Rattle.liquid_parser.specs.meaning.Lang.{Lang}
 use Rattle.liquid_parser.specs.meaning.Plugins.{registry_of}
+use Rattle.liquid_template.specs.meaning.Nodes.{Setting}
 use Rattle.liquid_template.specs.meaning.Partials.{Found}
 use Rattle.liquid_tags.specs.declared.tags.TagShape.{TagShape}
 use Rattle.liquid_tags.specs.declared.blocks.BlockShape.{BlockShape}
+use Rattle.liquid_tags.specs.declared.blocks.ProgressShape.{ProgressShape}
 use Rattle.liquid_tags.specs.declared.block_plugins.PlanShape.{PlanShape}
 use Rattle.liquid_tags.specs.declared.block_plugins.Blocks.{Blocks}
 use Rattle.liquid_tags.specs.declared.tag_plugins.Tags.{Tags}
 use Rattle.liquid_tags.specs.meaning.Languages.{tags_and_blocks}
 use Rattle.liquid_tags.specs.meaning.Languages as library
+use Rattle.liquid_tags.specs.meaning.Library.{library as library_setting}
 use Rattle.std_filters.specs.declared.beside.Beside.{Beside}
 use Rattle.std_filters.specs.declared.beside.Beside.TheVariants.{Own}
 use Rattle.std_filters.specs.declared.call.CallShape.{CallShape}
 use Rattle.std_filters.specs.declared.kinds.StdKind.{StdKind}
 use Rattle.std_filters.specs.declared.plugin.FilterPlugin.{FilterPlugin}
-use Rattle.std_filters.specs.meaning.Calls.{call_made}
+use Rattle.std_filters.specs.meaning.Calls.{call_made, calls}
 use Rattle.std_filters.specs.meaning.Registered.{filters_beside, registered, sense_beside}
 use Rattle.std_filters.specs.meaning.Sense.{FilterSense}
 use Rattle.std_filters.specs.meaning.Standard.{std_sense}
@@ -75,3 +78,10 @@ ProgramAnswer = Result (List ProgramNode) Refusal
 -- what a store of its partials finds
 abbrev pub ProgramFound : Type 0
 ProgramFound = Found ProgramShape (TagShape ProgramShape) BlockShape
+
+-- what its templates are rendered with, where a store finds this, or where there is no store; the register holds nothing
+abbrev pub ProgramSetting : Type 0
+ProgramSetting = Setting (Unit {0}) ProgramShape (TagShape ProgramShape) ℕ BlockShape ProgressShape
+
+abbrev pub setting_over : Option ProgramFound → ProgramSetting
+setting_over found = library_setting tt (calls program_sense) found

@@ -1,6 +1,6 @@
-use Rattle.std.proofs.Common.{rules, ◌≡◌, ◌≤◌, ◌<◌, ◌+◌, length, map, min, take, drop, ℕ, refl, ◌∙◌, arith}
+use Rattle.std.proofs.Common.{rules, ◌≡◌, refl, ◌∙◌}
 use Rattle.liquid_c.specs.meaning.Outcomes.{LeavesOver}
-use Rattle.liquid_c.specs.meaning.Turns.{AllTurns, begun}
+use Rattle.liquid_c.specs.meaning.Turns.{begun}
 use Rattle.liquid_c.proofs.TurnLemmas.{all_turns, later_turn, next_turn}
 use Rattle.liquid_c.proofs.each.render_each.Goals as goal
 
