@@ -5,13 +5,15 @@
  * before it returns. It keeps no pointer.
  *
  * What the caller owes, since nothing checks it here:
- *  1. Each pointer points to as many items as its count says, which stay as they are during the call.
- *     With a count of 0 it may be any pointer but null; liquid_bytes_of gives one.
+ *  1. Each pointer is aligned for its type and points to as many items as its count says, which are at most
+ *     PTRDIFF_MAX bytes and stay as they are during the call. With a count of 0 it may be any aligned pointer
+ *     but null; liquid_bytes_of gives one.
  *  2. out, message and outcome (outcomes) overlap neither one another nor the other arguments, and nobody else
  *     reads or writes them during the call.
  *  3. malloc, realloc and free are of one allocator, and align as C asks.
  *  4. No call is made from a signal handler, nor in the child of a fork of a process with threads.
  *  5. 1 MB of stack is free, for templates as deep as the limits allow.
+ *  6. The processor has the instructions of x86-64-v2.
  * What the bytes are is not the caller's to check: any bytes and any options have an outcome.
  *
  * Calls may run in several threads at once, each with an out, a message and an outcome of its own.
