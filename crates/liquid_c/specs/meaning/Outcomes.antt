@@ -60,7 +60,8 @@ Unasked old new o = (o.kind ≡ 8) × ((o.needed ≡ 0) × ((o.written ≡ 0) ×
 abbrev pub LeavesOver : Asked → List ℕ → List ℕ → List ℕ → Outcome → Type 0
 LeavesOver asked globals old new o =
     (asked.options < 8 → (page : Page)
-    → ComesTo (library tt filter_calls) (language_chosen (has_standard asked.options)) (page_options asked.options) asked.text.now globals (map bytes_of_partial asked.partials.now) page
+    → ComesTo (library tt filter_calls) (language_chosen (has_standard asked.options)) (page_options asked.options)
+    asked.text.now globals (map bytes_of_partial asked.partials.now) page
     → Leaves page old new o)
     × (8 ≤ asked.options → Unasked old new o)
 
