@@ -66,7 +66,7 @@ fn language_chosen(alloc: Global, options: u32) -> Result<Rc<StdLanguage>, Alloc
 
 /// The language that the options of a page choose.
 #[derive(Drop)]
-pub enum Chosen {
+pub(crate) enum Chosen {
     /// There are no such options.
     NoOptions,
     /// Memory ran out.
@@ -75,7 +75,7 @@ pub enum Chosen {
 }
 
 /// Returns the language that these options choose, if there are such options.
-pub fn choose_language(alloc: Global, options: u32) -> Chosen
+pub(crate) fn choose_language(alloc: Global, options: u32) -> Chosen
     ensures { IsChosen options result }
 {
     if STANDARD * 2 <= options {
@@ -89,7 +89,7 @@ pub fn choose_language(alloc: Global, options: u32) -> Chosen
 
 /// Renders a page over these globals into `out`, in the language that its options choose, and writes the
 /// text of its error to `message`.
-pub fn render_over(
+pub(crate) fn render_over(
     alloc: Global,
     chosen: &Chosen,
     page: &Page<'_>,

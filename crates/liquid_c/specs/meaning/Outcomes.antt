@@ -49,7 +49,7 @@ pub record Leaves (page : Page) (old new : List ℕ) (o : Outcome) : Type 0 wher
   pub needed : o.needed ≡ length rendered
   pub written : o.written ≡ min (length rendered) (length old)
   pub bytes : new ≡ take o.written rendered ++ drop o.written old
-  -- what was rendered is the page's output, and the outcome tells its end; out of memory (6) it is a beginning of it
+  -- what was rendered is the page's output, and the outcome says how it ended; out of memory (6) it is a beginning of it
   pub ends : ((o.kind ≡ 6) × Begins rendered page) ⊎ ((rendered ≡ page.output) × Tells page.fault (length old) o)
 
 -- options that there are none of are refused (8), and nothing is written
