@@ -1,0 +1,54 @@
+-- What a loop goes over, and its turns, do not depend on hidden globals.
+use Rattle.std.proofs.Common.{◌≡◌, ℕ, zero, suc, List, cond, pos, Option, None, Some, Result, Ok, Err, refl, ap, ◌∙◌}
+use Rattle.std.specs.Prelude.{unwrap_or, slice_get}
+use Rattle.std.specs.FinMap.{empty}
+use Rattle.liquid_error.specs.meaning.Refusal.{Refusal, ok_then}
+use Rattle.liquid_runtime.specs.meaning.Maps.{Names}
+use Rattle.liquid_runtime.specs.meaning.View.{View}
+use Rattle.liquid_plugins.specs.meaning.Discreet.{hiding, overlaid}
+use Rattle.liquid_plugins.specs.meaning.Evaluation.{evaluate}
+use Rattle.liquid_plugins.specs.meaning.Expression.{ExpressionShape}
+use Rattle.liquid_plugins.specs.meaning.Turns.{end_turn}
+use Rattle.liquid_plugins.proofs.Hiding.{answers_hide, evaluate_hidden}
+use Rattle.liquid_tags.specs.declared.rounds.RoundsShape.{RoundsShape}
+use Rattle.liquid_tags.specs.declared.series.SeriesShape.{SeriesShape}
+use Rattle.liquid_tags.specs.declared.series.SeriesShape.TheVariants.{Of, Between}
+use Rattle.liquid_tags.specs.meaning.Loops.{behind, is_left, item_turn, loop_takes, rested}
+use Rattle.liquid_tags.specs.meaning.Series.{items_between, items_in, items_of, whole_number}
+use Rattle.std_loops.specs.declared.loops.LoopShape.{LoopShape}
+use Rattle.std_loops.specs.meaning.Loops.{picked_items}
+use Rattle.std_loops.specs.meaning.Options.{number_given, option_number}
+use Rattle.std_loops.specs.meaning.Picked.{picked}
+
+then_same : {A B : Type 0} (r : Result A Refusal) (f g : A → Result B Refusal) → ((x : A) → f x ≡ g x) → ok_then r f ≡ ok_then r g
+then_same (Ok x) f g e = e x
+then_same (Err refusal) f g e = refl
+
+module _ {Reg : Type 0} (g : Names) (v : View Reg) where
+  series_hidden : (s : SeriesShape) → items_of (hiding g v) s ≡ items_of (hiding empty v) s
+  series_hidden (Of e) = ap (λ x. ok_then x items_in) (evaluate_hidden g v e)
+  series_hidden (Between from to) =
+      ap (λ x. ok_then (evaluate (hiding g v) from) (λ a. ok_then (whole_number a) (λ m. ok_then x (λ b. ok_then (whole_number b) (λ n. items_between m n))))) (evaluate_hidden g v to)
+      ∙ ap (λ x. ok_then x (λ a. ok_then (whole_number a) (λ m. ok_then (evaluate (hiding empty v) to) (λ b. ok_then (whole_number b) (λ n. items_between m n))))) (evaluate_hidden g v from)
+
+  option_hidden : (e : Option ExpressionShape) → option_number (hiding g v) e ≡ option_number (hiding empty v) e
+  option_hidden None = refl
+  option_hidden (Some e) = ap (λ x. ok_then x number_given) (evaluate_hidden g v e)
+
+  pub picked_hidden : (l : LoopShape) → picked_items (hiding g v) l ≡ picked_items (hiding empty v) l
+  picked_hidden l =
+      ap (λ x. ok_then (items_of (hiding g v) l.series) (λ ts. ok_then (option_number (hiding g v) l.options.offset) (λ offset. ok_then x (λ limit.
+      Ok (picked (unwrap_or offset (pos 0)) limit l.options.is_reversed ts))))) (option_hidden l.options.limit)
+      ∙ ap (λ x. ok_then (items_of (hiding g v) l.series) (λ ts. ok_then x (λ offset. ok_then (option_number (hiding empty v) l.options.limit) (λ limit.
+      Ok (picked (unwrap_or offset (pos 0)) limit l.options.is_reversed ts))))) (option_hidden l.options.offset)
+      ∙ ap (λ x. ok_then x (λ ts. ok_then (option_number (hiding empty v) l.options.offset) (λ offset. ok_then (option_number (hiding empty v) l.options.limit) (λ limit.
+      Ok (picked (unwrap_or offset (pos 0)) limit l.options.is_reversed ts))))) (series_hidden l.series)
+
+module _ {Reg : Type 0} where
+  rested_keeps : (place : ℕ) (g : Names) (v : View Reg) → rested place (hiding g v) ≡ hiding g (rested place v)
+  rested_keeps zero g v = refl
+  rested_keeps (suc place) g v = refl
+
+  pub loop_hides : (name : List ℕ) (r : RoundsShape) (g : Names) (v : View Reg) → loop_takes name r (hiding g v) ≡ overlaid g (loop_takes name r (hiding empty v))
+  loop_hides name r g v =
+      answers_hide (Ok (cond (is_left r.place v.interrupt) end_turn (item_turn name r.place r.size (slice_get r.left 0)))) (behind r) (rested r.place) (rested_keeps r.place) g v

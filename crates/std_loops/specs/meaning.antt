@@ -1,0 +1,4 @@
+pub mod Picked
+pub mod Options
+pub mod OptionsGiven
+pub mod Loops
