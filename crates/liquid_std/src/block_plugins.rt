@@ -6,7 +6,7 @@ ghost use Rattle.liquid_parser.specs.meaning.Plugins.{AreTokens};
 ghost use Rattle.std_conditions.specs.meaning.Branches.{case_of};
 ghost use Rattle.std_conditions.specs.meaning.Conditions.{condition_of};
 ghost use Rattle.liquid_std.specs.meaning.BlockPlugins.{begun, capture_given, case_given, condition_planned, finished_escaped, for_given, names_told};
-ghost use Rattle.liquid_std.specs.meaning.BlockPlugins.{node_divided, plan_of, planned, whole_block, with_alternatives, with_condition};
+ghost use Rattle.liquid_std.specs.meaning.BlockPlugins.{node_divided, plan_of, planned, tablerow_given, whole_block, with_alternatives, with_condition};
 ghost use Rattle.liquid_std.specs.declared.blocks.StdBlockShape.TheVariants.{If, Unless};
 ghost use Rattle.liquid_std.specs.meaning.Blocks.{block_of};
 
@@ -19,6 +19,7 @@ use std::alloc::Global;
 use std_conditions::read_condition::read_condition;
 use std_conditions::read_values::read_values;
 use std_conditions::{Case, Condition};
+use std_loops::LoopBlock;
 use std_loops::read_loop::read_loop;
 
 /// The dividers of `if` and `unless`.
@@ -42,6 +43,7 @@ pub enum StdBlocks {
     Unless,
     Case,
     For,
+    Tablerow,
     Capture,
     Comment,
     Raw,
@@ -75,6 +77,7 @@ impl BlockReflection for StdBlocks {
             StdBlocks::Unless => "unless",
             StdBlocks::Case => "case",
             StdBlocks::For => "for",
+            StdBlocks::Tablerow => "tablerow",
             StdBlocks::Capture => "capture",
             StdBlocks::Comment => "comment",
             StdBlocks::Raw => "raw",
@@ -87,6 +90,7 @@ impl BlockReflection for StdBlocks {
             StdBlocks::Unless => "endunless",
             StdBlocks::Case => "endcase",
             StdBlocks::For => "endfor",
+            StdBlocks::Tablerow => "endtablerow",
             StdBlocks::Capture => "endcapture",
             StdBlocks::Comment => "endcomment",
             StdBlocks::Raw => "endraw",
@@ -100,6 +104,7 @@ impl BlockReflection for StdBlocks {
                 "Renders its first part if its condition does not hold, else as an if does.",
             StdBlocks::Case => "Renders the part of the first when that has an equal value.",
             StdBlocks::For => "Renders its body for each item of an array, an object or a range.",
+            StdBlocks::Tablerow => "Renders its body in a cell of a table for each item.",
             StdBlocks::Capture => "Assigns the text of its part to a name.",
             StdBlocks::Comment => "Writes nothing.",
             StdBlocks::Raw => "Writes its body as it stands.",
@@ -121,7 +126,9 @@ impl<F: ParseFilter> ParseBlock<F> for StdBlocks {
             StdBlocks::If | StdBlocks::Unless => &IF_DIVIDERS,
             StdBlocks::Case => &CASE_DIVIDERS,
             StdBlocks::For => &FOR_DIVIDERS,
-            StdBlocks::Capture | StdBlocks::Comment | StdBlocks::Raw => &NO_DIVIDERS,
+            StdBlocks::Tablerow | StdBlocks::Capture | StdBlocks::Comment | StdBlocks::Raw => {
+                &NO_DIVIDERS
+            }
         }
     }
 
@@ -132,6 +139,7 @@ impl<F: ParseFilter> ParseBlock<F> for StdBlocks {
             | StdBlocks::Unless
             | StdBlocks::Case
             | StdBlocks::For
+            | StdBlocks::Tablerow
             | StdBlocks::Capture => false,
         }
     }
@@ -143,6 +151,7 @@ impl<F: ParseFilter> ParseBlock<F> for StdBlocks {
             | StdBlocks::Unless
             | StdBlocks::Case
             | StdBlocks::For
+            | StdBlocks::Tablerow
             | StdBlocks::Capture
             | StdBlocks::Raw => false,
         }
@@ -196,6 +205,7 @@ fn begun(alloc: Global, block: StdBlocks, tokens: TagTokenIter<'_>) -> Result<St
         StdBlocks::Unless => begun_unless(alloc, tokens),
         StdBlocks::Case => begun_case(alloc, tokens),
         StdBlocks::For => begun_for(alloc, tokens),
+        StdBlocks::Tablerow => begun_tablerow(alloc, tokens),
         StdBlocks::Capture => begun_capture(alloc, tokens),
         StdBlocks::Comment => alone(alloc, tokens, planned(StdBlock::Comment)),
         StdBlocks::Raw => alone(alloc, tokens, planned(StdBlock::Raw(String::new(alloc)))),
@@ -260,10 +270,22 @@ fn begun_case(alloc: Global, tokens: TagTokenIter<'_>) -> Result<StdPlan, Error>
 fn begun_for(alloc: Global, tokens: TagTokenIter<'_>) -> Result<StdPlan, Error>
     ensures { (ts : Tokens) → AreTokens tokens.entry ts → Gives plan_of result (for_given ts) }
 {
-    match read_loop(alloc, tokens) {
+    match read_loop(alloc, LoopBlock::For, tokens) {
         Ok(header) => {
             let header = Box::new(alloc, header)?;
             Ok(planned(StdBlock::For(header)))
+        }
+        Err(error) => Err(error),
+    }
+}
+
+fn begun_tablerow(alloc: Global, tokens: TagTokenIter<'_>) -> Result<StdPlan, Error>
+    ensures { (ts : Tokens) → AreTokens tokens.entry ts → Gives plan_of result (tablerow_given ts) }
+{
+    match read_loop(alloc, LoopBlock::Tablerow, tokens) {
+        Ok(header) => {
+            let header = Box::new(alloc, header)?;
+            Ok(planned(StdBlock::Tablerow(header)))
         }
         Err(error) => Err(error),
     }
@@ -290,8 +312,11 @@ fn divide_node(alloc: Global, node: &mut StdBlock, tokens: TagTokenIter<'_>) -> 
         StdBlock::If(conditions) => push_condition(alloc, conditions, tokens),
         StdBlock::Unless(conditions) => push_condition(alloc, conditions, tokens),
         StdBlock::Case(case) => push_alternatives(alloc, &mut **case, tokens),
-        StdBlock::For(_) | StdBlock::Capture(_) | StdBlock::Comment | StdBlock::Raw(_) =>
-            tokens.expect_nothing(alloc),
+        StdBlock::For(_)
+        | StdBlock::Tablerow(_)
+        | StdBlock::Capture(_)
+        | StdBlock::Comment
+        | StdBlock::Raw(_) => tokens.expect_nothing(alloc),
     }
 }
 

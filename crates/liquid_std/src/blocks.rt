@@ -1,8 +1,9 @@
 //! The nodes of blocks, and how they are rendered.
-ghost use Rattle.std.specs.Prelude.{◌≡◌, IfOk};
+ghost use Rattle.std.specs.Prelude.{◌≡◌, option_map, IfOk};
 ghost use Rattle.std_loops.specs.meaning.Picked.{picked_left};
 ghost use Rattle.liquid_std.specs.laws.BlockLaws.{blocks_hide};
-ghost use Rattle.liquid_std.specs.meaning.Blocks.{block_count, block_nodes, block_of, over_items, progress_of};
+ghost use Rattle.std_loops.specs.meaning.Tables.{table_of};
+ghost use Rattle.liquid_std.specs.meaning.Blocks.{block_count, block_nodes, block_of, over_items, over_table, progress_of};
 
 use crate::capture::capture_turn;
 use liquid_error::Error;
@@ -15,7 +16,10 @@ use std_conditions::branches::CaseShape;
 use std_conditions::condition::ConditionShape;
 use std_conditions::{Case, Condition, part_case, part_if, part_unless};
 use std_loops::loops::LoopShape;
-use std_loops::{Loop, Picked, Rounds, loop_turn, picked_items, rounds_over};
+use std_loops::tables::TableShape;
+use std_loops::{
+    Loop, Picked, Rounds, Table, loop_turn, picked_items, rounds_over, table_over, table_turn,
+};
 
 /// What a block is made to.
 #[derive(Drop)]
@@ -28,6 +32,8 @@ pub enum StdBlock {
     Case(Box<Case>),
     /// The first part for each item; the second if there is no item.
     For(Box<Loop>),
+    /// A table with its part in a cell for each item.
+    Tablerow(Box<Loop>),
     /// The text of its part, assigned to this name.
     Capture(String),
     /// Nothing.
@@ -42,6 +48,7 @@ pub enum StdBlockShape {
     Unless(ListOf<ConditionShape>),
     Case(CaseShape),
     For(LoopShape),
+    Tablerow(LoopShape),
     Capture(Bytes),
     Comment,
     Raw(Bytes),
@@ -54,6 +61,8 @@ pub enum StdProgress {
     Once(u64),
     /// A loop. It is in a box, so that the progress of the other blocks is small.
     Rounds(Box<Rounds>),
+    /// A table, in a box too.
+    Table(Box<Table>),
     /// A capture, and the text of its part after the part has been rendered.
     Capturing(Option<String>),
 }
@@ -62,6 +71,7 @@ pub enum StdProgress {
 pub enum StdProgressShape {
     Once(u64),
     Rounds(RoundsShape),
+    Table(TableShape),
     Capturing(Option<Bytes>),
 }
 
@@ -73,6 +83,7 @@ impl StdProgress {
         match self {
             StdProgress::Once(_) => 1,
             StdProgress::Rounds(rounds) => rounds.turns(),
+            StdProgress::Table(table) => table.turns(),
             StdProgress::Capturing(_) => 2,
         }
     }
@@ -119,6 +130,10 @@ impl<V: Fresh> Renderable<V> for StdBlock {
                 Ok(items) => Ok(over_items(alloc, items)?),
                 Err(error) => Err(error),
             },
+            StdBlock::Tablerow(header) => match table_over(alloc, &**header, &*runtime) {
+                Ok(table) => Ok(over_table(table)),
+                Err(error) => Err(error),
+            },
             StdBlock::Capture(_) => Ok(StdProgress::Capturing(None)),
             StdBlock::Comment | StdBlock::Raw(_) => Ok(StdProgress::Once(0)),
         }
@@ -140,18 +155,23 @@ impl<V: Fresh> Renderable<V> for StdBlock {
             (StdBlock::For(header), StdProgress::Rounds(rounds)) => {
                 loop_turn(alloc, &header.name, &mut **rounds, runtime)
             }
+            (StdBlock::Tablerow(header), StdProgress::Table(table)) => {
+                table_turn(alloc, &header.name, &mut **table, runtime)
+            }
             (StdBlock::Capture(name), StdProgress::Capturing(text)) => {
                 capture_turn(alloc, name, text, runtime)
             }
             (_, StdProgress::Once(part)) => Ok(Turn::Body(*part, Frame::None, None)),
-            (_, StdProgress::Rounds(_) | StdProgress::Capturing(_)) => Ok(Turn::End),
+            (_, StdProgress::Rounds(_) | StdProgress::Table(_) | StdProgress::Capturing(_)) => {
+                Ok(Turn::End)
+            }
         }
     }
 
     fn recycle(&self, progress: &mut StdProgress, names: Object) {
         match progress {
             StdProgress::Rounds(rounds) => rounds.recycle(names),
-            StdProgress::Once(_) | StdProgress::Capturing(_) => {}
+            StdProgress::Once(_) | StdProgress::Table(_) | StdProgress::Capturing(_) => {}
         }
     }
 
@@ -175,5 +195,15 @@ fn over_items(alloc: Global, items: Picked) -> Result<StdProgress, AllocError>
     match rounds_over(alloc, items)? {
         Some(rounds) => Ok(StdProgress::Rounds(rounds)),
         None => Ok(StdProgress::Once(1)),
+    }
+}
+
+/// Returns the progress of a table; without one nothing is rendered.
+fn over_table(table: Option<Box<Table>>) -> StdProgress
+    ensures { progress_of result ≡ over_table (option_map (λ t. table_of t.value) table) }
+{
+    match table {
+        Some(table) => StdProgress::Table(table),
+        None => StdProgress::Once(1),
     }
 }

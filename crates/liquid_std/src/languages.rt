@@ -32,6 +32,7 @@ pub fn language<F: ParseFilter>(
     blocks.register("unless", StdBlocks::Unless)?;
     blocks.register("case", StdBlocks::Case)?;
     blocks.register("for", StdBlocks::For)?;
+    blocks.register("tablerow", StdBlocks::Tablerow)?;
     blocks.register("capture", StdBlocks::Capture)?;
     blocks.register("comment", StdBlocks::Comment)?;
     blocks.register("raw", StdBlocks::Raw)?;

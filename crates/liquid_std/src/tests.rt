@@ -78,7 +78,14 @@ const ROWS: &str =
 ["{% render 'p', z: 2 %}{{ y }}", "{}", "12liquid: Unknown variable\n  with:\n    requested variable=y\n"]
 ["{% assign z = 3 %}{% render 'p' %}", "{}", "1liquid: Unknown variable\n  with:\n    requested variable=z\nfrom: render p\n"]
 ["{% assign z = 3 %}{% include 'p' %}{{ y }}", "{}", "131"]
-["{% capture x %}{% render 'p', z: 2 %}{% endcapture %}{{ x }}", "{}", "12"]"#;
+["{% capture x %}{% render 'p', z: 2 %}{% endcapture %}{{ x }}", "{}", "12"]
+["{% tablerow i in l cols: 2 offset: a %}{{ tablerowloop.rindex }}{{ tablerowloop.last }}{% endtablerow %}", "{\"a\": 1, \"l\": [3, 0, 5, 2]}", "<tr class=\"row1\">\n<td class=\"col1\">3false</td><td class=\"col2\">2false</td></tr>\n<tr class=\"row2\"><td class=\"col1\">1true</td></tr>\n"]
+["{% tablerow i in (1..2) cols: '1' %}{{ tablerowloop.col_last }}{{ tablerowloop.row }}{{ i }}{% endtablerow %}", "{}", "<tr class=\"row1\">\n<td class=\"col1\">true11</td></tr>\n<tr class=\"row2\"><td class=\"col1\">true22</td></tr>\n"]
+["{% tablerow i in l limit: a cols: -1 %}{{ tablerowloop.col0 }}{{ tablerowloop.col_first }}{% if i == 7 %}{% break %}{% endif %}.{% endtablerow %}!", "{\"a\": 3, \"l\": [8, 7, 6]}", "<tr class=\"row1\">\n<td class=\"col1\">0true.</td><td class=\"col2\">1false</td></tr>\n!"]
+["{% tablerow i in x limit: y cols: z %}a{% endtablerow %}{% tablerow i in e %}a{% endtablerow %}", "{\"x\": null, \"e\": []}", "<tr class=\"row1\">\n</tr>\n"]
+["{% tablerow i in x cols: p %}{{ i }}{% endtablerow %}", "{\"x\": [3, 6], \"p\": []}", "liquid: Whole number expected\n  with:\n    found=[]\n"]
+["{% tablerow i in x reversed %}{% endtablerow %}", "{}", "liquid: Unexpected token (line 1, column 20)\n"]
+["{% for i in x cols: 2 %}{% endfor %}", "{}", "liquid: Unexpected token (line 1, column 15)\n"]"#;
 
 #[test]
 fn rows_of_pages(rt: HostRuntime) -> Result<(), Fail> {
@@ -90,6 +97,6 @@ fn rows_of_pages(rt: HostRuntime) -> Result<(), Fail> {
         assert_eq!(rt; written.as_str(), row.text(2)?);
         rows = rows.saturating_add(1);
     }
-    assert_eq!(rt; rows, 43);
+    assert_eq!(rt; rows, 50);
     Ok(())
 }

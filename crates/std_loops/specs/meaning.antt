@@ -2,3 +2,5 @@ pub mod Picked
 pub mod Options
 pub mod OptionsGiven
 pub mod Loops
+pub mod Cells
+pub mod Tables

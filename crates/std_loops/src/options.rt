@@ -1,4 +1,4 @@
-//! The options of a loop: `limit`, `offset` and `reversed`.
+//! The options of a loop: `offset` and `limit`, `reversed` of a `for`, and `cols` of a `tablerow`.
 ghost use Rattle.std.specs.Prelude.{◌≡◌, option_map, unwrap_or, pos};
 ghost use Rattle.liquid_error.specs.meaning.Told.{Gives};
 ghost use Rattle.liquid_value.specs.meaning.View.{view as tree_of};
@@ -12,6 +12,13 @@ use liquid_value::Value;
 use std::alloc::{AllocError, Global};
 use std_values::numbers::whole;
 
+/// A block that goes over items.
+#[derive(Debug, Clone, Copy, PartialEq, Eq, Drop)]
+pub enum LoopBlock {
+    For,
+    Tablerow,
+}
+
 /// An option of a loop.
 #[derive(Debug, Clone, Copy, PartialEq, Eq, Drop)]
 pub enum LoopOption {
@@ -21,6 +28,8 @@ pub enum LoopOption {
     Limit,
     /// In reverse.
     Reversed,
+    /// In so many columns.
+    Cols,
 }
 
 /// The options that a loop was given.
@@ -29,6 +38,7 @@ pub struct Options {
     pub offset: Option<Expression>,
     pub limit: Option<Expression>,
     pub is_reversed: bool,
+    pub cols: Option<Expression>,
 }
 
 /// Stands for the shape of the options.
@@ -36,6 +46,7 @@ pub struct OptionsShape {
     pub offset: Option<ExpressionMark>,
     pub limit: Option<ExpressionMark>,
     pub is_reversed: bool,
+    pub cols: Option<ExpressionMark>,
 }
 
 impl Meant for Options {

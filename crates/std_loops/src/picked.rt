@@ -76,7 +76,7 @@ impl Picked {
 }
 
 /// Returns the number, or 0 if it is below 0.
-fn natural(number: i64) -> u64
+pub(crate) fn natural(number: i64) -> u64
     ensures { result ≡ natural number }
 {
     if number < 0 { 0 } else { number as u64 }

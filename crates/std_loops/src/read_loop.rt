@@ -8,11 +8,11 @@ ghost use Rattle.liquid_plugins.specs.meaning.ExpressionOf.{expression_of};
 ghost use Rattle.liquid_tags.specs.meaning.Asked.{next_as};
 ghost use Rattle.std_loops.specs.meaning.Loops.{loop_of};
 ghost use Rattle.std_loops.specs.meaning.Options.{options_of};
-ghost use Rattle.std_loops.specs.meaning.OptionsGiven.{expect_argument, loop_given, no_options, option_named, options_from};
+ghost use Rattle.std_loops.specs.meaning.OptionsGiven.{expect_argument, loop_given, no_options, option_named, options_from, range_named};
 ghost use Rattle.std_loops.specs.steps.Reading.{argument_given, option_given};
 
 use crate::loops::Loop;
-use crate::options::{LoopOption, Options};
+use crate::options::{LoopBlock, LoopOption, Options};
 use liquid_error::Error;
 use liquid_parser::{TagToken, TagTokenIter, TryMatchToken};
 use liquid_plugins::Expression;
@@ -20,18 +20,22 @@ use liquid_tags::asked::TOKEN_EXPECTED;
 use liquid_tags::block_plugins::next_series;
 use std::alloc::{AllocError, Global};
 
-/// Returns the loop that all tokens make: a name, `in`, a range or a value, and options.
+/// Returns the loop that all tokens make: a name, `in`, a range or a value, and the options that the block takes.
 ///
 /// What is missing is an `Err`, "Token expected". A token of another kind and an option that was given before are one too,
 /// "Unexpected token".
-pub fn read_loop(alloc: Global, tokens: TagTokenIter<'_>) -> Result<Loop, Error>
-    ensures { (ts : Tokens) → AreTokens tokens.entry ts → Gives loop_of result (loop_given ts) }
+pub fn read_loop(
+    alloc: Global,
+    block: LoopBlock,
+    tokens: TagTokenIter<'_>,
+) -> Result<Loop, Error>
+    ensures { (ts : Tokens) → AreTokens tokens.entry ts → Gives loop_of result (loop_given block ts) }
 {
     let mut tokens = tokens;
     match tokens.next_identifier(alloc, TOKEN_EXPECTED) {
         Ok(name) => match tokens.next_str(alloc, TOKEN_EXPECTED, "in") {
             Ok(()) => match next_series(alloc, &mut tokens) {
-                Ok(series) => match read_options(alloc, tokens) {
+                Ok(series) => match read_options(alloc, block, tokens) {
                     Ok(options) => {
                         let name = String::from_str(alloc, name)?;
                         Ok(Loop {
@@ -51,13 +55,17 @@ pub fn read_loop(alloc: Global, tokens: TagTokenIter<'_>) -> Result<Loop, Error>
 }
 
 /// Returns the options that all tokens make.
-fn read_options(alloc: Global, tokens: TagTokenIter<'_>) -> Result<Options, Error>
-    ensures { (ts : Tokens) → AreTokens tokens.entry ts → Gives options_of result (options_from no_options ts.left) }
+fn read_options(
+    alloc: Global,
+    block: LoopBlock,
+    tokens: TagTokenIter<'_>,
+) -> Result<Options, Error>
+    ensures { (ts : Tokens) → AreTokens tokens.entry ts → Gives options_of result (options_from block no_options ts.left) }
 {
     let mut tokens = tokens;
     let mut options = no_options();
     'options: while let Some(token) = tokens.next() {
-        match option_named(&options, token.as_str()) {
+        match option_named(block, &options, token.as_str()) {
             Some(option) => match take_option(alloc, option, &mut options, &mut tokens) {
                 Ok(()) => {}
                 Err(error) => return Err(error),
@@ -75,16 +83,34 @@ fn no_options() -> Options
         offset: None,
         limit: None,
         is_reversed: false,
+        cols: None,
     }
 }
 
-/// Returns the option that a text names, if it was not given yet.
-fn option_named(given: &Options, text: &str) -> Option<LoopOption>
-    ensures { result ≡ option_named (options_of given.now) text.now }
+/// Returns the option that a text names, if the block takes it and it was not given yet.
+fn option_named(block: LoopBlock, given: &Options, text: &str) -> Option<LoopOption>
+    ensures { result ≡ option_named block (options_of given.now) text.now }
 {
-    if text == "reversed" && !given.is_reversed {
-        Some(LoopOption::Reversed)
-    } else if text == "limit" && given.limit.is_none() {
+    match block {
+        LoopBlock::For => {
+            if text == "reversed" && !given.is_reversed {
+                return Some(LoopOption::Reversed);
+            }
+        }
+        LoopBlock::Tablerow => {
+            if text == "cols" && given.cols.is_none() {
+                return Some(LoopOption::Cols);
+            }
+        }
+    }
+    range_named(given, text)
+}
+
+/// Returns the option of either block that a text names, if it was not given yet.
+fn range_named(given: &Options, text: &str) -> Option<LoopOption>
+    ensures { result ≡ range_named (options_of given.now) text.now }
+{
+    if text == "limit" && given.limit.is_none() {
         Some(LoopOption::Limit)
     } else if text == "offset" && given.offset.is_none() {
         Some(LoopOption::Offset)
@@ -119,6 +145,13 @@ fn take_option(
         LoopOption::Limit => match next_argument(alloc, LoopOption::Limit, tokens) {
             Ok(value) => {
                 options.limit = Some(value);
+                Ok(())
+            }
+            Err(error) => Err(error),
+        },
+        LoopOption::Cols => match next_argument(alloc, LoopOption::Cols, tokens) {
+            Ok(value) => {
+                options.cols = Some(value);
                 Ok(())
             }
             Err(error) => Err(error),
@@ -172,6 +205,6 @@ fn expect_argument<'a>(
             }
             token.expect_value(alloc)
         }
-        LoopOption::Limit | LoopOption::Reversed => token.expect_value(alloc),
+        LoopOption::Limit | LoopOption::Reversed | LoopOption::Cols => token.expect_value(alloc),
     }
 }

@@ -11,12 +11,12 @@ use Rattle.liquid_plugins.specs.meaning.Turning.{answers}
 use Rattle.liquid_plugins.specs.meaning.Turns.{capture_turn, text_turn, end_turn}
 use Rattle.liquid_plugins.proofs.Hiding.{answers_hide}
 use Rattle.std_conditions.specs.laws.Hidden.{part_case_hidden, part_if_hidden, part_unless_hidden}
-use Rattle.std_loops.specs.laws.Hidden.{loop_hides, picked_hidden}
+use Rattle.std_loops.specs.laws.Hidden.{loop_hides, picked_hidden, table_hidden, table_hides}
 use Rattle.liquid_std.specs.declared.blocks.StdBlockShape.{StdBlockShape}
 use Rattle.liquid_std.specs.declared.blocks.StdBlockShape.TheVariants as shape
 use Rattle.liquid_std.specs.declared.blocks.StdProgressShape.{StdProgressShape}
-use Rattle.liquid_std.specs.declared.blocks.StdProgressShape.TheVariants.{Once, Rounds, Capturing}
-use Rattle.liquid_std.specs.meaning.Blocks.{begins_as, block_nodes, block_starts, block_takes, in_capture, in_rounds, over_items, part_turn}
+use Rattle.liquid_std.specs.declared.blocks.StdProgressShape.TheVariants.{Once, Rounds, Table, Capturing}
+use Rattle.liquid_std.specs.meaning.Blocks.{begins_as, block_nodes, block_starts, block_takes, in_capture, in_rounds, in_table, over_items, over_table, part_turn}
 use Rattle.liquid_std.specs.meaning.Captures.{captures, text_value}
 
 module _ {Reg : Type 0} where
@@ -25,6 +25,7 @@ module _ {Reg : Type 0} where
   begins_hidden (shape.Unless cs) g v = ap (λ r. ok_then r (λ part. Ok (Once part))) (part_unless_hidden g v cs)
   begins_hidden (shape.Case c) g v = ap (λ r. ok_then r (λ part. Ok (Once part))) (part_case_hidden g v c)
   begins_hidden (shape.For l) g v = ap (λ r. ok_then r (λ ts. Ok (over_items ts))) (picked_hidden g v l)
+  begins_hidden (shape.Tablerow l) g v = ap (λ r. ok_then r (λ t. Ok (over_table t))) (table_hidden g v l)
   begins_hidden (shape.Capture name) g v = refl
   begins_hidden shape.Comment g v = refl
   begins_hidden (shape.Raw text) g v = refl
@@ -43,6 +44,12 @@ module _ {Reg : Type 0} where
   block_turn_hides (shape.For l) (Rounds r) g v = ap in_rounds (loop_hides l.name r g v)
   block_turn_hides (shape.For l) (Once part) g v = answers_hide (Ok (part_turn (Once part))) (Once part) (λ w. w) (λ h w. refl) g v
   block_turn_hides (shape.For l) (Capturing caught) g v = answers_hide (Ok (part_turn (Capturing caught))) (Capturing caught) (λ w. w) (λ h w. refl) g v
+  block_turn_hides (shape.For l) (Table t) g v = answers_hide (Ok (part_turn (Table t))) (Table t) (λ w. w) (λ h w. refl) g v
+  block_turn_hides (shape.Tablerow l) (Table t) g v = ap in_table (table_hides l.name t g v)
+  block_turn_hides (shape.Tablerow l) (Once part) g v = answers_hide (Ok (part_turn (Once part))) (Once part) (λ w. w) (λ h w. refl) g v
+  block_turn_hides (shape.Tablerow l) (Rounds r) g v = answers_hide (Ok (part_turn (Rounds r))) (Rounds r) (λ w. w) (λ h w. refl) g v
+  block_turn_hides (shape.Tablerow l) (Capturing caught) g v = answers_hide (Ok (part_turn (Capturing caught))) (Capturing caught) (λ w. w) (λ h w. refl) g v
+  block_turn_hides (shape.Capture name) (Table t) g v = answers_hide (Ok (part_turn (Table t))) (Table t) (λ w. w) (λ h w. refl) g v
   block_turn_hides (shape.Capture name) (Capturing caught) g v = ap in_capture (captures_hide name caught g v)
   block_turn_hides (shape.Capture name) (Once part) g v = answers_hide (Ok (part_turn (Once part))) (Once part) (λ w. w) (λ h w. refl) g v
   block_turn_hides (shape.Capture name) (Rounds r) g v = answers_hide (Ok (part_turn (Rounds r))) (Rounds r) (λ w. w) (λ h w. refl) g v

@@ -8,11 +8,12 @@ use Rattle.std_conditions.specs.declared.branches.CaseShape.{CaseShape}
 use Rattle.std_conditions.specs.declared.condition.ConditionShape.{ConditionShape}
 use Rattle.std_conditions.specs.meaning.ConditionsGiven.{condition_given}
 use Rattle.std_conditions.specs.meaning.Values.{values_given}
+use Rattle.std_loops.specs.declared.options.LoopBlock.TheVariants as loop
 use Rattle.std_loops.specs.meaning.OptionsGiven.{loop_given}
 use Rattle.liquid_std.specs.declared.blocks.StdBlockShape.{StdBlockShape}
 use Rattle.liquid_std.specs.declared.blocks.StdBlockShape.TheVariants as shape
 use Rattle.liquid_std.specs.declared.block_plugins.StdBlocks.{StdBlocks}
-use Rattle.liquid_std.specs.declared.block_plugins.StdBlocks.TheVariants.{If, Unless, Case, For, Capture, Comment, Raw}
+use Rattle.liquid_std.specs.declared.block_plugins.StdBlocks.TheVariants.{If, Unless, Case, For, Tablerow, Capture, Comment, Raw}
 use Rattle.liquid_std.specs.declared.block_plugins.StdPlan.{StdPlan}
 use Rattle.liquid_std.specs.declared.block_plugins.StdPlanShape.{StdPlanShape}
 use Rattle.liquid_std.specs.meaning.Blocks.{block_of}
@@ -26,6 +27,7 @@ start_of If = codes "if"
 start_of Unless = codes "unless"
 start_of Case = codes "case"
 start_of For = codes "for"
+start_of Tablerow = codes "tablerow"
 start_of Capture = codes "capture"
 start_of Comment = codes "comment"
 start_of Raw = codes "raw"
@@ -35,6 +37,7 @@ end_of If = codes "endif"
 end_of Unless = codes "endunless"
 end_of Case = codes "endcase"
 end_of For = codes "endfor"
+end_of Tablerow = codes "endtablerow"
 end_of Capture = codes "endcapture"
 end_of Comment = codes "endcomment"
 end_of Raw = codes "endraw"
@@ -44,6 +47,7 @@ dividers_of If = codes "elsif" ∷ codes "else" ∷ []
 dividers_of Unless = codes "elsif" ∷ codes "else" ∷ []
 dividers_of Case = codes "when" ∷ codes "else" ∷ []
 dividers_of For = codes "else" ∷ []
+dividers_of Tablerow = []
 dividers_of Capture = []
 dividers_of Comment = []
 dividers_of Raw = []
@@ -53,6 +57,7 @@ escapes_of If = false
 escapes_of Unless = false
 escapes_of Case = false
 escapes_of For = false
+escapes_of Tablerow = false
 escapes_of Capture = false
 escapes_of Comment = true
 escapes_of Raw = true
@@ -74,9 +79,12 @@ condition_planned block ts = ok_then (condition_given ts) (λ c. Ok (planned (bl
 abbrev pub case_given : Tokens → Result StdPlanShape Refusal
 case_given ts = ok_then (next_as expect_value ts) (λ value. alone (planned (shape.Case (record { value = value.0; alternatives = [] }))) value.1)
 
--- `for` takes a loop
+-- `for` and `tablerow` take a loop
 abbrev pub for_given : Tokens → Result StdPlanShape Refusal
-for_given ts = ok_then (loop_given ts) (λ l. Ok (planned (shape.For l)))
+for_given ts = ok_then (loop_given loop.For ts) (λ l. Ok (planned (shape.For l)))
+
+abbrev pub tablerow_given : Tokens → Result StdPlanShape Refusal
+tablerow_given ts = ok_then (loop_given loop.Tablerow ts) (λ l. Ok (planned (shape.Tablerow l)))
 
 -- `capture` takes a name
 abbrev pub capture_given : Tokens → Result StdPlanShape Refusal
@@ -87,6 +95,7 @@ begun If ts = condition_planned shape.If ts
 begun Unless ts = condition_planned shape.Unless ts
 begun Case ts = case_given ts
 begun For ts = for_given ts
+begun Tablerow ts = tablerow_given ts
 begun Capture ts = capture_given ts
 begun Comment ts = alone (planned shape.Comment) ts
 begun Raw ts = alone (planned (shape.Raw [])) ts

@@ -15,7 +15,7 @@ use Rattle.liquid_std.specs.declared.block_plugins.StdPlanShape.{StdPlanShape}
 use Rattle.liquid_std.specs.declared.tag_plugins.StdTags.{StdTags}
 use Rattle.liquid_std.specs.declared.tag_plugins.StdTags.TheVariants.{Library, Decrement, Echo}
 use Rattle.liquid_std.specs.declared.block_plugins.StdBlocks.{StdBlocks}
-use Rattle.liquid_std.specs.declared.block_plugins.StdBlocks.TheVariants.{If, Unless, Case, For, Capture, Comment, Raw}
+use Rattle.liquid_std.specs.declared.block_plugins.StdBlocks.TheVariants.{If, Unless, Case, For, Tablerow, Capture, Comment, Raw}
 use Rattle.liquid_std.specs.meaning.TagPlugins.{tag_given}
 use Rattle.liquid_std.specs.meaning.BlockPlugins.{whole_block}
 
@@ -29,7 +29,8 @@ the_tags =
 abbrev pub the_blocks : NameMap StdBlocks
 the_blocks =
     registered empty
-    ((codes "if", If) ∷ (codes "unless", Unless) ∷ (codes "case", Case) ∷ (codes "for", For) ∷ (codes "capture", Capture) ∷ (codes "comment", Comment) ∷ (codes "raw", Raw) ∷ [])
+    ((codes "if", If) ∷ (codes "unless", Unless) ∷ (codes "case", Case) ∷ (codes "for", For) ∷ (codes "tablerow", Tablerow)
+    ∷ (codes "capture", Capture) ∷ (codes "comment", Comment) ∷ (codes "raw", Raw) ∷ [])
 
 -- what a language of such tags and blocks means, by what its filters make of their arguments
 abbrev pub meaning_of : {U F : Type 0} → (U → Arguments → Result F Refusal) → Language U StdTags StdBlocks → Lang F (StdTagShape F) StdPlanShape StdBlockShape

@@ -6,7 +6,7 @@ use Rattle.liquid_parser.specs.meaning.Cursors.{expect_str}
 use Rattle.liquid_parser.specs.meaning.Handed.{Tokens}
 use Rattle.liquid_tags.specs.meaning.Asked.{next_as}
 use Rattle.std_loops.specs.declared.options.LoopOption.{LoopOption}
-use Rattle.std_loops.specs.declared.options.LoopOption.TheVariants.{Offset, Limit, Reversed}
+use Rattle.std_loops.specs.declared.options.LoopOption.TheVariants.{Offset, Limit, Reversed, Cols}
 use Rattle.std_loops.specs.declared.options.OptionsShape.{OptionsShape}
 use Rattle.std_loops.specs.meaning.OptionsGiven.{expect_argument}
 
@@ -17,4 +17,5 @@ argument_given option ts = ok_then (next_as (expect_str (codes ":")) ts) (λ col
 abbrev pub option_given : LoopOption → OptionsShape → Tokens → Result (OptionsShape × Tokens) Refusal
 option_given Reversed o ts = Ok (record o { is_reversed = true }, ts)
 option_given Offset o ts = ok_then (argument_given Offset ts) (λ e. Ok (record o { offset = Some e.0 }, e.1))
+option_given Cols o ts = ok_then (argument_given Cols ts) (λ e. Ok (record o { cols = Some e.0 }, e.1))
 option_given Limit o ts = ok_then (argument_given Limit ts) (λ e. Ok (record o { limit = Some e.0 }, e.1))
