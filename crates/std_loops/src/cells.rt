@@ -90,12 +90,7 @@ fn loop_members(alloc: Global, place: u64, size: u64) -> Result<Object, AllocErr
 }
 
 /// Puts in a count. No memory has room for so many items that it is no number of a value.
-fn put_number(
-    alloc: Global,
-    members: &mut Object,
-    name: &str,
-    count: u64,
-) -> Result<(), AllocError>
+fn put_number(alloc: Global, members: &mut Object, name: &str, count: u64) -> Result<(), AllocError>
     ensures { IfOk result
         (λ _. members_view members.new.entries ≡ put_member name.now (scalar (integer (pos count))) (members_view members.old.entries)) }
 {

@@ -24,11 +24,7 @@ use std::alloc::{AllocError, Global};
 ///
 /// What is missing is an `Err`, "Token expected". A token of another kind and an option that was given before are one too,
 /// "Unexpected token".
-pub fn read_loop(
-    alloc: Global,
-    block: LoopBlock,
-    tokens: TagTokenIter<'_>,
-) -> Result<Loop, Error>
+pub fn read_loop(alloc: Global, block: LoopBlock, tokens: TagTokenIter<'_>) -> Result<Loop, Error>
     ensures { (ts : Tokens) → AreTokens tokens.entry ts → Gives loop_of result (loop_given block ts) }
 {
     let mut tokens = tokens;
@@ -55,11 +51,7 @@ pub fn read_loop(
 }
 
 /// Returns the options that all tokens make.
-fn read_options(
-    alloc: Global,
-    block: LoopBlock,
-    tokens: TagTokenIter<'_>,
-) -> Result<Options, Error>
+fn read_options(alloc: Global, block: LoopBlock, tokens: TagTokenIter<'_>) -> Result<Options, Error>
     ensures { (ts : Tokens) → AreTokens tokens.entry ts → Gives options_of result (options_from block no_options ts.left) }
 {
     let mut tokens = tokens;
