@@ -5,7 +5,7 @@ ghost use Rattle.liquid_value.specs.meaning.Members.{put_member};
 ghost use Rattle.liquid_value.specs.meaning.Tree.{scalar};
 ghost use Rattle.liquid_value.specs.meaning.View.{view as tree_of, members_view};
 ghost use Rattle.liquid_tags.specs.meaning.Loops.{forloop_members};
-ghost use Rattle.std_loops.specs.meaning.Cells.{begins, cell_members, column_at, next_row, opens_cell, row_at, tablerowloop, text_between};
+ghost use Rattle.std_loops.specs.meaning.Cells.{begins, cell_members, column_at, next_cell, next_row, row_at, tablerowloop, text_between};
 
 use liquid_value::{Object, SharedObject, Value};
 use std::alloc::{AllocError, Global};
@@ -119,9 +119,8 @@ pub(crate) fn text_between(
 {
     let begins = begins(place);
     if goes_on {
-        let column = column_at(columns, place)?;
-        let row = next_row(alloc, columns, place)?;
-        format!(in alloc; "{begins}{row}<td class=\"col{column}\">")
+        let cell = next_cell(alloc, columns, place)?;
+        format!(in alloc; "{begins}{cell}")
     } else {
         format!(in alloc; "{begins}</tr>\n")
     }
@@ -136,6 +135,15 @@ fn begins(place: u64) -> &'static str
     } else {
         "</td>"
     }
+}
+
+/// Returns what opens the cell of a place, after what is between its row and the one before if it begins a row.
+fn next_cell(alloc: Global, columns: u64, place: u64) -> Result<String, AllocError>
+    ensures { IfOk result (λ text. string_bytes text ≡ next_cell columns place) }
+{
+    let column = column_at(columns, place)?;
+    let row = next_row(alloc, columns, place)?;
+    format!(in alloc; "{row}<td class=\"col{column}\">")
 }
 
 /// Returns what is between two rows if a row begins at a place, and it is not the first.

@@ -37,7 +37,7 @@ closes_row = codes "</tr>\n"
 
 -- what opens the first row, or closes the cell before a place
 abbrev pub begins : ℕ → List ℕ
-begins zero = opens_row 1 ++ codes "\n"
+begins zero = codes "<tr class=\"row1\">\n"
 begins (suc place) = codes "</td>"
 
 -- what is between two rows, if a row begins at a place and is not the first
@@ -45,7 +45,10 @@ abbrev pub next_row : ℕ → ℕ → List ℕ
 next_row columns zero = []
 next_row columns (suc place) = cond (column_at columns (suc place) == 1) (closes_row ++ opens_row (row_at columns (suc place))) []
 
+abbrev pub next_cell : ℕ → ℕ → List ℕ
+next_cell columns place = next_row columns place ++ opens_cell (column_at columns place)
+
 -- the text before the body of the item at a place, or after the last body
 abbrev pub text_between : ℕ → ℕ → Bool → List ℕ
-text_between columns place true = begins place ++ (next_row columns place ++ opens_cell (column_at columns place))
+text_between columns place true = begins place ++ next_cell columns place
 text_between columns place false = begins place ++ closes_row
