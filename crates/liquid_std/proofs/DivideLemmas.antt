@@ -1,4 +1,4 @@
--- A divider behind `else`.
+-- A divider after `else`.
 use Rattle.std.proofs.Common.{◌≡◌, ℕ, List, codes, Option, None, Some, Err, cond, true, sym, ap, ◌∙◌}
 use Rattle.std.specs.Prelude.{IfSome}
 use Rattle.liquid_error.specs.meaning.Refusal.{Refusal, located}

@@ -1,4 +1,4 @@
--- From the contracts of the calls below to what a page comes to.
+-- From the contracts of the calls below to the result of a page.
 use Rattle.std.proofs.Common.{◌≡◌, ℕ, List, Option, None, Some, Result, Ok, Err, refl, sym, ap, subst, ◌∙◌}
 use Rattle.std.specs.Prelude.{IfSome}
 use Rattle.liquid_error.specs.declared.error.Error.{Error}

@@ -33,7 +33,7 @@ static FOR_DIVIDERS: [&str; 1] = ["else"];
 
 static NO_DIVIDERS: [&str; 0] = [];
 
-/// What stands between two values of a `when`.
+/// What separates two values of a `when`.
 static WHEN_SEPARATORS: [&str; 2] = [",", "or"];
 
 /// The standard blocks.
@@ -56,7 +56,7 @@ pub struct StdPlan {
     pub is_closed: bool,
 }
 
-/// Stands for the shape of a plan.
+/// Marks the shape of a plan.
 pub struct StdPlanShape {
     pub node: StdBlockShape,
     pub is_closed: bool,

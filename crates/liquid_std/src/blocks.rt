@@ -38,11 +38,11 @@ pub enum StdBlock {
     Capture(String),
     /// Nothing.
     Comment,
-    /// A text as it stands.
+    /// A text that is written unchanged.
     Raw(String),
 }
 
-/// Stands for the shape of a block.
+/// Marks the shape of a block.
 pub enum StdBlockShape {
     If(ListOf<ConditionShape>),
     Unless(ListOf<ConditionShape>),
@@ -67,7 +67,7 @@ pub enum StdProgress {
     Capturing(Option<String>),
 }
 
-/// Stands for the shape of a block's progress.
+/// Marks the shape of a block's progress.
 pub enum StdProgressShape {
     Once(u64),
     Rounds(RoundsShape),

@@ -11,7 +11,7 @@ use liquid_runtime::Runtime;
 use liquid_value::render::ValueRender;
 use std::alloc::Global;
 
-/// Writes what a chain comes to.
+/// Writes the value of a chain.
 #[inline(never)]
 pub(crate) fn echo<X: Filter, R: Runtime>(
     alloc: Global,

@@ -13,7 +13,7 @@ pub fn standard_is_isolated<V: Fresh, F>()
 {}
 
 /// So two outsides that agree on partials, depth, leniency, index variables and name get the same
-/// text, the same refusal and the same writes.
+/// text, the same error and the same writes.
 pub fn outsides_agree_on_the_standard<V: Fresh, F>()
     ensures { (fresh : V) (m : FilterMeaning F) → StandardAgrees fresh m }
 {}

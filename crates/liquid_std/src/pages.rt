@@ -25,11 +25,11 @@ use std::rc::Rc;
 /// A runtime of a page: names are strict, and 32 partials may be open inside one another.
 type PageRuntime<S, F> = BuiltRuntime<(), LazyStore<S, F, StdTags, StdBlocks>>;
 
-/// Writes what a page comes to: this text in the standard language with these filters, over these
+/// Renders a page and writes the result: this text in the standard language with these filters, over these
 /// globals, with the partials of this source.
 ///
-/// A text that is no template of the language is refused before anything is written. What was
-/// written before any other refusal stays written, and a failure of the sink is refused as "Failed
+/// A text that is not a template of the language is an error before anything is written. What was
+/// written before any other error stays written. If the sink fails, the error is "Failed
 /// to render".
 pub fn render_page<F, S, K>(
     alloc: Global,

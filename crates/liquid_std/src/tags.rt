@@ -19,11 +19,11 @@ pub enum StdTag<X> {
     Library(TagNode<X>),
     /// Writes an index variable, after it has set it one lower.
     Decrement(String),
-    /// Writes what a chain comes to.
+    /// Writes the value of a chain.
     Echo(Box<FilterChain<X>>),
 }
 
-/// Stands for the shape of a tag, over filters of shape `S`.
+/// Marks the shape of a tag, over filters of shape `S`.
 pub enum StdTagShape<S> {
     Library(TagShape<S>),
     Decrement(Bytes),

@@ -22,7 +22,7 @@ pub struct Case {
     pub alternatives: Vec<Vec<Expression>>,
 }
 
-/// Stands for the shape of a `case`.
+/// Marks the shape of a `case`.
 pub struct CaseShape {
     pub value: ExpressionMark,
     pub alternatives: ListOf<ListOf<ExpressionMark>>,
@@ -121,7 +121,7 @@ fn part_when<R: Runtime>(
     Ok(part)
 }
 
-/// Returns whether the value equals what one of the expressions comes to.
+/// Returns `true` if the value equals the value of one of the expressions.
 fn equals_one<R: Runtime>(
     alloc: Global,
     value: &Value,

@@ -31,7 +31,7 @@ pub enum Test {
     Passes(Expression, Operator, Expression),
 }
 
-/// Stands for the shape of a test.
+/// Marks the shape of a test.
 pub enum TestShape {
     Holds(ExpressionMark),
     Passes(ExpressionMark, Operator, ExpressionMark),
@@ -53,7 +53,7 @@ pub struct Condition {
     pub last: Test,
 }
 
-/// Stands for the shape of a condition.
+/// Marks the shape of a condition.
 pub struct ConditionShape {
     pub joined: ListOf<(TestShape, Connective)>,
     pub last: TestShape,

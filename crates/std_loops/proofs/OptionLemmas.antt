@@ -114,7 +114,7 @@ module _ (block : LoopBlock) where
   option_refused o ts given option e meant so_far first is refused =
       subst (λ q. IfSome e (λ r. q ≡ Err r)) (sym (so_far ∙ option_on o ts given option first is)) (then_refused e (option_given option o given.1) going_on refused)
 
-  -- a token that names no option is refused
+  -- a token that names no option is an error
   pub name_refused : (o : OptionsShape) (ts : List Token) (given : Token × Tokens) (e : Option Refusal) (meant : Result OptionsShape Refusal)
       → meant ≡ options_from block o ts → first_of ts ≡ Some given → option_named block o given.0.text ≡ None → IfSome e (λ r. r ≡ unexpected given.0) → IfSome e (λ r. meant ≡ Err r)
   name_refused o ts given None meant so_far first is told = told

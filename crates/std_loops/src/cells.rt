@@ -30,7 +30,7 @@ fn column_at(columns: u64, place: u64) -> Result<u64, AllocError>
     one_more(place % columns)
 }
 
-/// Returns the number after this one. No memory has room for so many items that there is none.
+/// Returns the number after this one. There is one, since memory has no room for that many items.
 fn one_more(number: u64) -> Result<u64, AllocError>
     ensures { IfOk result (λ n. n ≡ number + 1) }
 {
@@ -89,7 +89,7 @@ fn loop_members(alloc: Global, place: u64, size: u64) -> Result<Object, AllocErr
     Ok(members)
 }
 
-/// Puts in a count. No memory has room for so many items that it is no number of a value.
+/// Inserts a count. It is a number of a value, since memory has no room for more items.
 fn put_number(alloc: Global, members: &mut Object, name: &str, count: u64) -> Result<(), AllocError>
     ensures { IfOk result
         (λ _. members_view members.new.entries ≡ put_member name.now (scalar (integer (pos count))) (members_view members.old.entries)) }

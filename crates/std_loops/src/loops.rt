@@ -21,7 +21,7 @@ pub struct Loop {
     pub options: Options,
 }
 
-/// Stands for the shape of a loop.
+/// Marks the shape of a loop.
 pub struct LoopShape {
     pub name: Bytes,
     pub series: SeriesShape,

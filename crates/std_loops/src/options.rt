@@ -28,7 +28,7 @@ pub enum LoopOption {
     Limit,
     /// In reverse.
     Reversed,
-    /// In so many columns.
+    /// The number of columns.
     Cols,
 }
 
@@ -41,7 +41,7 @@ pub struct Options {
     pub cols: Option<Expression>,
 }
 
-/// Stands for the shape of the options.
+/// Marks the shape of the options.
 pub struct OptionsShape {
     pub offset: Option<ExpressionMark>,
     pub limit: Option<ExpressionMark>,
@@ -55,7 +55,7 @@ impl Meant for Options {
     ghost shape = { options_of };
 }
 
-/// Returns the whole number that an option comes to. An option that was not given, and one that comes to nil, has none. An
+/// Returns the whole number of an option. An option that is not given, or is nil, has none. An
 /// `Err` is that of another value.
 pub fn option_number<R: Runtime>(
     alloc: Global,

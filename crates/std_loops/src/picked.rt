@@ -82,7 +82,7 @@ pub(crate) fn natural(number: i64) -> u64
     if number < 0 { 0 } else { number as u64 }
 }
 
-/// Returns the place so many places after another, or 0 if it is below 0.
+/// Returns the place that is a number of places after another, or 0 if it is below 0.
 fn place_after(offset: i64, limit: i64) -> u64
     ensures { result ≡ natural (offset +ℤ limit) }
 {

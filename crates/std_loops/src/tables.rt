@@ -49,7 +49,7 @@ pub struct Table {
     turns: u64,
 }
 
-/// Stands for the shape of a table's progress.
+/// Marks the shape of a table's progress.
 pub struct TableShape {
     pub left: ListOf<TreeMark>,
     pub place: u64,
@@ -66,7 +66,7 @@ impl Meant for Table {
 }
 
 impl Table {
-    /// Returns a table of these items, in so many columns, or in one row if the number of columns is 0.
+    /// Returns a table of these items in this number of columns, or in one row if it is 0.
     fn of(items: Picked, columns: u64) -> Result<Table, AllocError>
         ensures { IfOk result (λ t. table_of t ≡ table (picked_left items) columns) }
     {
@@ -92,7 +92,7 @@ impl Table {
     }
 }
 
-/// Returns how many turns a table of so many items has, if that is a number.
+/// Returns the number of turns of a table of that many items, if it has 64 bits.
 fn turns_over(size: u64) -> Option<u64>
     ensures { IfSome result (λ turns. turns ≡ size + size + 2) }
 {
@@ -125,7 +125,7 @@ pub fn table_over<R: Runtime>(
     }
 }
 
-/// Returns whether a series is a value that comes to nil.
+/// Returns `true` if a series is a value that is nil.
 fn is_over_nil<R: Runtime>(alloc: Global, series: &Series, runtime: &R) -> Result<bool, Error>
     ensures { Gives (λ b. b) result (is_over_nil (R.view runtime.now) (series_of series.now)) }
 {

@@ -4,7 +4,7 @@ use liquid_pages::PartialBytes;
 use std::alloc::{AllocError, Global};
 use std::fs::{self, File};
 use std::io::Read;
-use std::path::Path;
+use std::path::AsPath;
 
 /// A page with its data and its partials, as bytes.
 #[derive(Drop)]
@@ -36,7 +36,7 @@ fn read(rt: &HostRuntime, folder: &str, name: &str) -> Result<Vec<u8>, Fault> {
     read_file(rt, path.as_str())
 }
 
-fn read_file<P: AsRef<Path>>(rt: &HostRuntime, path: P) -> Result<Vec<u8>, Fault> {
+fn read_file<P: AsPath>(rt: &HostRuntime, path: P) -> Result<Vec<u8>, Fault> {
     let mut bytes = Vec::new(rt.alloc());
     File::open(rt, path)?.read_to_end(&mut bytes)?;
     Ok(bytes)

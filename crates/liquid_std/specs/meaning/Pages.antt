@@ -1,4 +1,4 @@
--- What a page of the standard language comes to.
+-- The result of a page of the standard language.
 use Rattle.std.specs.Prelude.{List, ℕ, Some, Result}
 use Rattle.liquid_error.specs.declared.error.Error.{Error}
 use Rattle.liquid_error.specs.meaning.Refusal.{Refusal}

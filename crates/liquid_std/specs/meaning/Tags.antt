@@ -22,7 +22,7 @@ tag_of shape (tag.Library n) = Library (library.tag_of shape n)
 tag_of shape (tag.Decrement name) = Decrement (string_bytes name)
 tag_of shape (tag.Echo c) = Echo (chain_of shape c.value)
 
--- the text of what a chain comes to
+-- the text of a chain's value
 abbrev pub echo_turn : Result Tree Refusal → Result TurnShape Refusal
 echo_turn value = ok_then value (λ t. Ok (text_turn (render t)))
 

@@ -14,7 +14,7 @@ use Rattle.std_conditions.specs.declared.condition.Operator.TheVariants.{Compare
 use Rattle.std_conditions.specs.declared.condition.TestShape.{TestShape}
 use Rattle.std_conditions.specs.declared.condition.TestShape.TheVariants.{Holds, Passes}
 
--- the operator that a token's text stands for
+-- the operator that a token's text means
 abbrev pub operator_of : List ℕ → Option Operator
 operator_of text = cond (bytes_eq text (codes "contains")) (Some Contains) (option_map (λ comparison. Compares comparison) (comparison_of text))
 

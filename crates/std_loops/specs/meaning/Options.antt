@@ -1,4 +1,4 @@
--- The options of a loop, and the numbers that they come to.
+-- The options of a loop, and their numbers.
 use Rattle.std.specs.Prelude.{ℤ, Option, None, Some, option_map, Result, Ok}
 use Rattle.liquid_error.specs.meaning.Refusal.{Refusal, ok_then}
 use Rattle.liquid_value.specs.meaning.Tree.{Tree, nil}
@@ -19,7 +19,7 @@ abbrev pub number_given : Tree → Result (Option ℤ) Refusal
 number_given nil = Ok None
 number_given t = ok_then (whole t) (λ n. Ok (Some n))
 
--- the number that an option comes to, if it is given
+-- the number of an option, if it is given
 abbrev pub option_number : {Reg : Type 0} → View Reg → Option ExpressionShape → Result (Option ℤ) Refusal
 option_number v None = Ok None
 option_number v (Some e) = ok_then (evaluate v e) number_given

@@ -9,7 +9,7 @@ abbrev pub natural : ℤ → ℕ
 natural (pos n) = n
 natural (negsuc n) = 0
 
--- the items before the place so many places after another, and all if no number is given
+-- the items before the place that is a number of places after another, or all items if no number is given
 abbrev pub limited : {A : Type 0} → ℤ → Option ℤ → List A → List A
 limited offset None xs = xs
 limited offset (Some limit) xs = take (natural (offset +ℤ limit)) xs

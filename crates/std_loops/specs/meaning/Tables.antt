@@ -26,7 +26,7 @@ use Rattle.std_loops.specs.meaning.Picked.{natural, picked_left}
 abbrev pub table_of : Table → TableShape
 table_of t = record { left = picked_left t.left; place = t.place; size = t.size; columns = t.columns; stage = t.stage; turns = t.turns }
 
--- a table of these items in so many columns: a text and a body for each item, the last text, and the end
+-- a table of these items in this number of columns: a text and a body for each item, the last text, and the end
 abbrev pub table : List Tree → ℕ → TableShape
 table ts columns = record { left = ts; place = 0; size = length ts; columns = columns; stage = Text; turns = length ts + length ts + 2 }
 
@@ -70,7 +70,7 @@ body_of name t = cell_turn name t.columns t.place t.size (slice_get t.left 0)
 abbrev pub after_body : TableShape → TableShape
 after_body t = record t { left = drop 1 t.left; place = t.place + 1; stage = Text }
 
--- what a turn tells: texts and bodies by turns, and the end after the last text; `Break` leaves the table
+-- what a turn is: a text and a body in alternation, and the end after the last text; `break` leaves the table
 abbrev pub stage_takes : {Reg : Type 0} → Stage → List ℕ → TableShape → View Reg → Answered TurnShape TableShape Reg
 stage_takes Text name t v =
     answers (Ok (text_turn (text_at t (is_left t.place v.interrupt)))) (after_text t (is_left t.place v.interrupt)) (rested t.place v)
