@@ -5,7 +5,8 @@ ghost use Rattle.liquid_value.specs.meaning.Members.{put_member};
 ghost use Rattle.liquid_value.specs.meaning.Tree.{scalar};
 ghost use Rattle.liquid_value.specs.meaning.View.{view as tree_of, members_view};
 ghost use Rattle.liquid_tags.specs.meaning.Loops.{forloop_members};
-ghost use Rattle.std_loops.specs.meaning.Cells.{begins, cell_members, column_at, next_cell, next_row, row_at, tablerowloop, text_between};
+ghost use Rattle.std_loops.specs.meaning.Cells.{begins, cell_members, column_at, next_cell, next_row, opens_cell, row_at, tablerowloop};
+ghost use Rattle.std_loops.specs.meaning.Cells.{text_between};
 
 use liquid_value::{Object, SharedObject, Value};
 use std::alloc::{AllocError, Global};
@@ -120,7 +121,9 @@ pub(crate) fn text_between(
     let begins = begins(place);
     if goes_on {
         let cell = next_cell(alloc, columns, place)?;
-        format!(in alloc; "{begins}{cell}")
+        let mut text = String::from_str(alloc, begins)?;
+        text.push_str(cell.as_str())?;
+        Ok(text)
     } else {
         format!(in alloc; "{begins}</tr>\n")
     }
@@ -142,8 +145,16 @@ fn next_cell(alloc: Global, columns: u64, place: u64) -> Result<String, AllocErr
     ensures { IfOk result (λ text. string_bytes text ≡ next_cell columns place) }
 {
     let column = column_at(columns, place)?;
-    let row = next_row(alloc, columns, place)?;
-    format!(in alloc; "{row}<td class=\"col{column}\">")
+    let cell = opens_cell(alloc, column)?;
+    let mut text = next_row(alloc, columns, place)?;
+    text.push_str(cell.as_str())?;
+    Ok(text)
+}
+
+fn opens_cell(alloc: Global, column: u64) -> Result<String, AllocError>
+    ensures { IfOk result (λ text. string_bytes text ≡ opens_cell column) }
+{
+    format!(in alloc; "<td class=\"col{column}\">")
 }
 
 /// Returns what is between two rows if a row begins at a place, and it is not the first.
