@@ -98,7 +98,7 @@ const NAMES: &str = r#"[[], "", ["base"]]
 [[["stack", {"a": 1}], ["isolated", {"b": 2}]], "a", ["a", "b"]]"#;
 
 /// Returns the frame that a row describes.
-pub(crate) fn frame_of(alloc: Global, told: &Json) -> Result<Frame, Error> {
+fn frame_of(alloc: Global, told: &Json) -> Result<Frame, Error> {
     match (told.get(0).and_then(Json::as_str), told.get(1)) {
         (Some("none"), _) => Ok(Frame::None),
         (Some("global"), _) => Ok(Frame::Global),

@@ -18,6 +18,4 @@ mod paths;
 #[cfg(test)]
 mod runtimes;
 #[cfg(test)]
-mod trails;
-#[cfg(test)]
 mod values;
