@@ -1,3 +1,0 @@
-pub mod TagLaws
-pub mod BlockLaws
-pub mod Sandboxes
