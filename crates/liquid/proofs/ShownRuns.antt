@@ -14,8 +14,9 @@ use Rattle.liquid_template.specs.meaning.Outcome.{BrokenOff, Cut, Stopped, Outco
 use Rattle.liquid_template.proofs.Joins.{pieces-append}
 use Rattle.liquid_partials.specs.meaning.Rendered.{RenderedBy}
 use Rattle.liquid_partials.specs.meaning.Sources.{Texts}
-use Rattle.liquid.specs.meaning.ProgramLanguage.{ProgramAnswer, ProgramFound}
-use Rattle.liquid.specs.meaning.Program.{first_view, program_action, status_of, Fails, Finishes, Executes, Prints}
+use Rattle.liquid.specs.meaning.ProgramLanguage.{ProgramAnswer, ProgramFound, setting_over}
+use Rattle.liquid_pages.specs.meaning.Pages.{first_view, page_action}
+use Rattle.liquid.specs.meaning.Program.{page_options, status_of, Fails, Finishes, Executes, Prints}
 use Rattle.liquid.specs.meaning.Command.{options_of, paths_of}
 use Rattle.liquid.specs.meaning.Status.{settled}
 use Rattle.liquid.specs.meaning.InMemory.{IsBeginning, IsWhole, program_run, ShowsAnswer, ShowsNothing, ShowsText, ShowsCommand, Shows}
@@ -72,7 +73,7 @@ module _ (behind behind_after : Option (List ℕ)) (lent : List ℕ) where
   shown_outcome r output failures flushed left (Err error) o = inr (refused_status flushed, stopped_begins r output failures left (told error) o)
 
   shown_answer : (options : Options) (globals : Names) (found : Option ProgramFound) (answer : ProgramAnswer) (output : List ℕ) (failures : ℕ) (flushed : Bool) (left : View (Unit {0})) (result : Result (Unit {0}) Error)
-      → RenderedBy (program_action options.sandboxed found globals) answer (first_view options globals) fresh (filled output failures) left result
+      → RenderedBy (page_action setting_over options.sandboxed found globals) answer (first_view (page_options options) globals) fresh (filled output failures) left result
       → ShowsAnswer (program_run options globals found) answer output (settled (status_of result) flushed)
   shown_answer options globals found (Ok nodes) output failures flushed left result o = shown_outcome (program_run options globals found nodes) output failures flushed left result o.outcome
   shown_answer options globals found (Err refusal) output failures flushed left (Ok u) o = absurd o.1.1
@@ -86,7 +87,7 @@ module _ (behind behind_after : Option (List ℕ)) (lent : List ℕ) where
       → Finishes options text globals partials fresh (filled output failures) answered → ShowsText options text globals partials output (settled answered flushed)
   shown_text options text globals partials output failures answered flushed finishes = λ answer reads found is_found.
       subst (λ s. ShowsAnswer (program_run options globals found) answer output (settled s flushed)) (sym finishes.status_is)
-      (shown_answer options globals found answer output failures flushed finishes.renders.left finishes.result (finishes.renders.rendered answer reads found is_found))
+      (shown_answer options globals found answer output failures flushed (finishes.renders answer reads).left finishes.result ((finishes.renders answer reads).rendered found is_found))
 
   shown_command : (options : Options) (paths : List (List ℕ)) (files : List ℕ → Option (List ℕ)) (folders : List ℕ → Option (List (List ℕ))) (output : List ℕ) (failures answered : ℕ) (flushed : Bool)
       → Executes options paths (λ path. Some (files path)) (λ path. Some (folders path)) fresh (filled output failures) answered → ShowsCommand options paths files folders output (settled answered flushed)
