@@ -41,8 +41,8 @@ module _ (b o d : Output) (empty : o.sunk.taken ≡ []) (no_bytes : o.bytes ≡ 
   turns_passed : (n : ℕ) → Passes o.turns n d.turns → Passes b.turns n d.turns
   turns_passed n h = subst (λ t. Passes t n d.turns) turns h
 
-  never_bytes : (n : ℕ) → Refuses o.bytes n d.bytes → ⊥
-  never_bytes n h = subst (λ x. Refuses x n d.bytes) no_bytes h
+  never_bytes : (n more : ℕ) → Refuses o.bytes n more d.bytes → ⊥
+  never_bytes n more h = subst (λ x. Refuses x n more d.bytes) no_bytes h
 
   pours_silent : (answer : Answer) → Pours b.sunk b.sunk answer
   pours_silent (Ok u) = pours_nothing b.sunk u
@@ -70,14 +70,14 @@ module _ (b o d : Output) (empty : o.sunk.taken ≡ []) (no_bytes : o.bytes ≡ 
     cause_silent front step part rest refusal (inl h) = absurd (no_more d.sunk.failures o.sunk.failures failures h.failures)
     cause_silent front step part rest refusal (inr h) = inr (record { nothing = refl; failures = refl; refused = refused_silent h.refused; reason = h.reason })
       where
-        refused_silent : ((step.checkpoint ≡ true) × Refuses o.turns (checkpoints front) d.turns × Passes o.bytes (length (pieces front)) d.bytes) ⊎ ((0 < length step.piece) × Passes o.turns (checkpoints front) d.turns × Refuses o.bytes (length (pieces front)) d.bytes)
-            → ((step.checkpoint ≡ true) × Refuses b.turns (checkpoints (map silent_step front)) d.turns × Passes b.bytes (length (pieces (map silent_step front))) b.bytes) ⊎ ((0 < 0) × Passes b.turns (checkpoints (map silent_step front)) d.turns × Refuses b.bytes (length (pieces (map silent_step front))) b.bytes)
+        refused_silent : ((step.checkpoint ≡ true) × Refuses o.turns (checkpoints front) 1 d.turns × Passes o.bytes (length (pieces front)) d.bytes) ⊎ ((0 < length step.piece) × Passes o.turns (checkpoints front) d.turns × Refuses o.bytes (length (pieces front)) (length step.piece) d.bytes)
+            → ((step.checkpoint ≡ true) × Refuses b.turns (checkpoints (map silent_step front)) 1 d.turns × Passes b.bytes (length (pieces (map silent_step front))) b.bytes) ⊎ ((0 < 0) × Passes b.turns (checkpoints (map silent_step front)) d.turns × Refuses b.bytes (length (pieces (map silent_step front))) 0 b.bytes)
         refused_silent (inl x) = inl (
           x.0,
-          refuses_at b.turns d.turns (checkpoints front) (checkpoints (map silent_step front)) (sym (checkpoints-silent front)) (subst (λ t. Refuses t (checkpoints front) d.turns) turns x.1),
+          refuses_at b.turns d.turns (checkpoints front) (checkpoints (map silent_step front)) 1 (sym (checkpoints-silent front)) (subst (λ t. Refuses t (checkpoints front) 1 d.turns) turns x.1),
           bytes_none front,
         )
-        refused_silent (inr x) = absurd (never_bytes (length (pieces front)) x.2)
+        refused_silent (inr x) = absurd (never_bytes (length (pieces front)) (length step.piece) x.2)
 
     broken_silent : (r : Run Reg) (x : View Reg) (refusal : Refusal) → BrokenOff r o d x refusal → BrokenOff (silent r) b after x refusal
     broken_silent r x refusal h = record {

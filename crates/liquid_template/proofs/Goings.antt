@@ -84,14 +84,14 @@ module _ {Reg : Type 0} where
     pours = pours_nothing b.sunk u;
   })
 
-  refused_turn : (t : Option Refusal) (v : View Reg) (b c : Output) → Refuses b.turns 0 c.turns → IfSome t (λ r. r ≡ was_stopped []) → MatchOption t (Cut (asks v) b (record b { turns = c.turns })) (Stopped (asks v) b (record b { turns = c.turns }) v)
+  refused_turn : (t : Option Refusal) (v : View Reg) (b c : Output) → Refuses b.turns 0 1 c.turns → IfSome t (λ r. r ≡ was_stopped []) → MatchOption t (Cut (asks v) b (record b { turns = c.turns })) (Stopped (asks v) b (record b { turns = c.turns }) v)
   refused_turn None v b c q h = record {
     part = [];
     rest = [];
     pieces_are = refl;
     taken = sym (append-nil b.sunk.taken);
     failures = inl refl;
-    turns = one_refused b.turns c.turns 0 1 q;
+    turns = one_refused b.turns c.turns 0 1 1 q;
     bytes = all_pass b.bytes b.bytes 0 0 (passes_none b.bytes);
   }
   refused_turn (Some r) v b c q h = inr (record {

@@ -98,17 +98,17 @@ module _ {Reg : Type 0} where
     reason = h.reason;
   })
     where
-      refused_then : ((step.checkpoint ≡ true) × Refuses m.turns (checkpoints front) a.turns × Passes m.bytes (length (pieces front)) a.bytes) ⊎ ((0 < length step.piece) × Passes m.turns (checkpoints front) a.turns × Refuses m.bytes (length (pieces front)) a.bytes)
-          → ((step.checkpoint ≡ true) × Refuses b.turns (checkpoints (rs ++ front)) a.turns × Passes b.bytes (length (pieces (rs ++ front))) a.bytes) ⊎ ((0 < length step.piece) × Passes b.turns (checkpoints (rs ++ front)) a.turns × Refuses b.bytes (length (pieces (rs ++ front))) a.bytes)
+      refused_then : ((step.checkpoint ≡ true) × Refuses m.turns (checkpoints front) 1 a.turns × Passes m.bytes (length (pieces front)) a.bytes) ⊎ ((0 < length step.piece) × Passes m.turns (checkpoints front) a.turns × Refuses m.bytes (length (pieces front)) (length step.piece) a.bytes)
+          → ((step.checkpoint ≡ true) × Refuses b.turns (checkpoints (rs ++ front)) 1 a.turns × Passes b.bytes (length (pieces (rs ++ front))) a.bytes) ⊎ ((0 < length step.piece) × Passes b.turns (checkpoints (rs ++ front)) a.turns × Refuses b.bytes (length (pieces (rs ++ front))) (length step.piece) a.bytes)
       refused_then (inl x) = inl (
         x.0,
-        refuses_at b.turns a.turns (checkpoints rs + checkpoints front) (checkpoints (rs ++ front)) (sym (checkpoints-append rs front)) (refuses_then b.turns m.turns a.turns (checkpoints rs) (checkpoints front) t x.1),
+        refuses_at b.turns a.turns (checkpoints rs + checkpoints front) (checkpoints (rs ++ front)) 1 (sym (checkpoints-append rs front)) (refuses_then b.turns m.turns a.turns (checkpoints rs) (checkpoints front) 1 t x.1),
         passes_at b.bytes a.bytes (length (pieces rs) + length (pieces front)) (length (pieces (rs ++ front))) (sym (bytes-append rs front)) (passes_then b.bytes m.bytes a.bytes (length (pieces rs)) (length (pieces front)) u x.2),
       )
       refused_then (inr x) = inr (
         x.0,
         passes_at b.turns a.turns (checkpoints rs + checkpoints front) (checkpoints (rs ++ front)) (sym (checkpoints-append rs front)) (passes_then b.turns m.turns a.turns (checkpoints rs) (checkpoints front) t x.1),
-        refuses_at b.bytes a.bytes (length (pieces rs) + length (pieces front)) (length (pieces (rs ++ front))) (sym (bytes-append rs front)) (refuses_then b.bytes m.bytes a.bytes (length (pieces rs)) (length (pieces front)) u x.2),
+        refuses_at b.bytes a.bytes (length (pieces rs) + length (pieces front)) (length (pieces (rs ++ front))) (length step.piece) (sym (bytes-append rs front)) (refuses_then b.bytes m.bytes a.bytes (length (pieces rs)) (length (pieces front)) (length step.piece) u x.2),
       )
 
   broken_then : (r : Run Reg) (next : Action Reg) (b m a : Output) (w x : View Reg) (refusal : Refusal) → r.refusal ≡ None → Whole r b m w → BrokenOff (next w) m a x refusal → BrokenOff (and_then r next) b a x refusal
@@ -262,8 +262,8 @@ module _ {Reg : Type 0} where
     cause_outside step part rest t t' n n' b a refusal i j (inr h) = inr (record {
       nothing = h.nothing;
       failures = h.failures;
-      refused = subst (λ k. ((step.checkpoint ≡ true) × Refuses b.turns k a.turns × Passes b.bytes n' a.bytes) ⊎ ((0 < length step.piece) × Passes b.turns k a.turns × Refuses b.bytes n' a.bytes)) i
-          (subst (λ k. ((step.checkpoint ≡ true) × Refuses b.turns t a.turns × Passes b.bytes k a.bytes) ⊎ ((0 < length step.piece) × Passes b.turns t a.turns × Refuses b.bytes k a.bytes)) j h.refused);
+      refused = subst (λ k. ((step.checkpoint ≡ true) × Refuses b.turns k 1 a.turns × Passes b.bytes n' a.bytes) ⊎ ((0 < length step.piece) × Passes b.turns k a.turns × Refuses b.bytes n' (length step.piece) a.bytes)) i
+          (subst (λ k. ((step.checkpoint ≡ true) × Refuses b.turns t 1 a.turns × Passes b.bytes k a.bytes) ⊎ ((0 < length step.piece) × Passes b.turns t a.turns × Refuses b.bytes k (length step.piece) a.bytes)) j h.refused);
       reason = ap (refused_through trace) h.reason;
     })
 
@@ -313,17 +313,17 @@ module _ {Reg : Type 0} where
     cause_turns step part rest t n k b a refusal (inl h) = all_pass b.turns a.turns t k h.turns
     cause_turns step part rest t n k b a refusal (inr h) = turns_of h.refused
       where
-        turns_of : ((step.checkpoint ≡ true) × Refuses b.turns t a.turns × Passes b.bytes n a.bytes) ⊎ ((0 < length step.piece) × Passes b.turns t a.turns × Refuses b.bytes n a.bytes) → PassesSome b.turns (t + k) a.turns
-        turns_of (inl x) = one_refused b.turns a.turns t k x.1
+        turns_of : ((step.checkpoint ≡ true) × Refuses b.turns t 1 a.turns × Passes b.bytes n a.bytes) ⊎ ((0 < length step.piece) × Passes b.turns t a.turns × Refuses b.bytes n (length step.piece) a.bytes) → PassesSome b.turns (t + k) a.turns
+        turns_of (inl x) = one_refused b.turns a.turns t k 1 x.1
         turns_of (inr x) = all_pass b.turns a.turns t k x.1
 
     cause_bytes : (step : Step Reg) (part rest : List ℕ) (t n k : ℕ) (b a : Output) (refusal : Refusal) → SinkFails step rest t n b a refusal ⊎ GateRefuses step part t n b a refusal → PassesSome b.bytes (n + (length step.piece + k)) a.bytes
     cause_bytes step part rest t n k b a refusal (inl h) = some_at b.bytes a.bytes (n + length step.piece + k) (n + (length step.piece + k)) (sym (sum_of n (length step.piece) k)) (all_pass b.bytes a.bytes (n + length step.piece) k h.bytes)
     cause_bytes step part rest t n k b a refusal (inr h) = bytes_of h.refused
       where
-        bytes_of : ((step.checkpoint ≡ true) × Refuses b.turns t a.turns × Passes b.bytes n a.bytes) ⊎ ((0 < length step.piece) × Passes b.turns t a.turns × Refuses b.bytes n a.bytes) → PassesSome b.bytes (n + (length step.piece + k)) a.bytes
+        bytes_of : ((step.checkpoint ≡ true) × Refuses b.turns t 1 a.turns × Passes b.bytes n a.bytes) ⊎ ((0 < length step.piece) × Passes b.turns t a.turns × Refuses b.bytes n (length step.piece) a.bytes) → PassesSome b.bytes (n + (length step.piece + k)) a.bytes
         bytes_of (inl x) = all_pass b.bytes a.bytes n (length step.piece + k) x.2
-        bytes_of (inr x) = one_refused b.bytes a.bytes n (length step.piece + k) x.2
+        bytes_of (inr x) = one_refused b.bytes a.bytes n (length step.piece + k) (length step.piece) x.2
 
     -- a refusal whose trace found no memory is cut
     broken_cut : (r : Run Reg) (b a : Output) (x : View Reg) (refusal : Refusal) → BrokenOff r b a x refusal → Cut r b a

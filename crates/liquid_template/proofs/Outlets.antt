@@ -6,7 +6,7 @@ use Rattle.liquid_error.specs.declared.error.Error.{Error}
 use Rattle.liquid_error.specs.meaning.Refusal.{Refusal}
 use Rattle.liquid_error.specs.meaning.Told.{told}
 use Rattle.liquid_template.specs.meaning.Sunk.{Sunk}
-use Rattle.liquid_template.specs.meaning.Output.{Output, Passed, Gated, asked, Passes, Refuses, PassesSome, gated, ungated}
+use Rattle.liquid_template.specs.meaning.Output.{Output, Passed, Gated, IsPast, asked, Passes, Refuses, PassesSome, gated, ungated}
 use Rattle.liquid_template.specs.meaning.Pours.{Pours}
 use Rattle.liquid_template.specs.meaning.Outcome.{failed_to_render, was_stopped}
 use Rattle.liquid_template.specs.steps.PieceOut.{PieceLost, PieceFails, PieceRefused, Partial, PieceTaken, PieceOut}
@@ -79,12 +79,12 @@ sink_put piece s r answer h = through piece (ungated s) (ungated r) answer refl 
 pub gated_put : (piece : List ℕ) (s r : Sunk) (g h : Gated) (answer : Answer) (passed : Bool) → passed ≡ true → h.bytes ≡ asked passed (length piece) g.bytes → h.turns ≡ g.turns → PiecePut piece s r answer → PieceOut piece (gated s g) (gated r h) answer
 gated_put piece s r g h answer passed p e t put = through piece (gated s g) (gated r h) answer (ap Some (e ∙ ap (λ x. asked x (length piece) g.bytes) p)) (ap Some t) put
 
-refused_cause : (piece : List ℕ) (x y : Output) (t : Option Refusal) → 0 < length piece → y.sunk ≡ x.sunk → Refuses x.bytes 0 y.bytes → IfSome t (λ r. r ≡ was_stopped [])
+refused_cause : (piece : List ℕ) (x y : Output) (t : Option Refusal) → 0 < length piece → y.sunk ≡ x.sunk → Refuses x.bytes 0 (length piece) y.bytes → IfSome t (λ r. r ≡ was_stopped [])
     → MatchOption t (PieceLost piece x y) (λ refusal. PieceFails piece piece x y refusal ⊎ PieceRefused piece [] x y refusal)
-refused_cause piece x y None l i q h = record { failures = inl (ap (λ z. z.failures) i); bytes = record { some = 0; others = length piece; all = omega arith; passes = inr q } }
+refused_cause piece x y None l i q h = record { failures = inl (ap (λ z. z.failures) i); bytes = record { some = 0; others = length piece; more = length piece; all = omega arith; passes = inr q } }
 refused_cause piece x y (Some r) l i q h = inr (record { nothing = refl; some_asked = l; failures = ap (λ z. z.failures) i; bytes = q; reason = h })
 
-refused_at : (piece : List ℕ) (x y : Output) (e : Error) → 0 < length piece → y.sunk ≡ x.sunk → y.turns ≡ x.turns → Refuses x.bytes 0 y.bytes → IfSome (told e) (λ r. r ≡ was_stopped []) → PieceOut piece x y (Err e)
+refused_at : (piece : List ℕ) (x y : Output) (e : Error) → 0 < length piece → y.sunk ≡ x.sunk → y.turns ≡ x.turns → Refuses x.bytes 0 (length piece) y.bytes → IfSome (told e) (λ r. r ≡ was_stopped []) → PieceOut piece x y (Err e)
 refused_at piece x y e l i t q h = record {
   taken = record {
     part = [];
@@ -98,15 +98,18 @@ refused_at piece x y e l i t q h = record {
 }
 
 none_first : (p : Passed) → asked false 0 p ≡ asked false 0 (asked true 0 p)
-none_first p = ap (λ n. record { count = n; refusals = p.refusals + 1 }) (sym (and_none p.count))
+none_first p = ap (λ n. record p { count = n; refusals = p.refusals + 1 }) (sym (and_none p.count))
+
+past_first : (p : Passed) (n : ℕ) → IsPast p n → IsPast (asked true 0 p) n
+past_first p n h = subst (λ c. IsPast (record p { count = c }) n) (sym (and_none p.count)) h
 
 refused_any : (n : ℕ) (p : Passed) → asked false n p ≡ asked false 0 p
 refused_any n p = refl
 
-pub gated_refused : (piece : List ℕ) (s : Sunk) (g h : Gated) (e : Error) (passed : Bool) → passed ≡ false → 0 < length piece → h.bytes ≡ asked passed (length piece) g.bytes → h.turns ≡ g.turns → IfSome (told e) (λ r. r ≡ was_stopped [])
+pub gated_refused : (piece : List ℕ) (s : Sunk) (g h : Gated) (e : Error) (passed : Bool) → passed ≡ false → 0 < length piece → h.bytes ≡ asked passed (length piece) g.bytes → (passed ≡ false → IsPast g.bytes (length piece)) → h.turns ≡ g.turns → IfSome (told e) (λ r. r ≡ was_stopped [])
     → PieceOut piece (gated s g) (gated s h) (Err e)
-gated_refused piece s g h e passed p l b t i = refused_at piece (gated s g) (gated s h) e l refl (ap Some t)
-    (ap Some (b ∙ ap (λ x. asked x (length piece) g.bytes) p ∙ refused_any (length piece) g.bytes ∙ none_first g.bytes)) i
+gated_refused piece s g h e passed p l b past t i = refused_at piece (gated s g) (gated s h) e l refl (ap Some t)
+    (ap Some (b ∙ ap (λ x. asked x (length piece) g.bytes) p ∙ refused_any (length piece) g.bytes ∙ none_first g.bytes), past_first g.bytes (length piece) (past p)) i
 
 -- nothing is put if the piece is empty
 pub nothing_put : (piece : List ℕ) (o : Output) (u : Unit {0}) → piece ≡ [] → PieceOut piece o o (Ok u)

@@ -35,12 +35,13 @@ pub record SinkFails {Reg : Type 0} (step : Step Reg) (rest : List ℕ) (turns_b
   pub bytes : Passes before.bytes (bytes_before + length step.piece) after.bytes
   pub reason : refusal ≡ failed_to_render step.traces
 
--- or the gate refused the turn, or the bytes of the piece, of which nothing is written
+-- or the gate refused the turn, or the bytes of the piece, of which nothing is written. They were past the limit, if it
+-- is known
 pub record GateRefuses {Reg : Type 0} (step : Step Reg) (part : List ℕ) (turns_before bytes_before : ℕ) (before after : Output) (refusal : Refusal) : Type 0 where
   pub nothing : part ≡ []
   pub failures : after.sunk.failures ≡ before.sunk.failures
-  pub refused : ((step.checkpoint ≡ true) × Refuses before.turns turns_before after.turns × Passes before.bytes bytes_before after.bytes)
-      ⊎ ((0 < length step.piece) × Passes before.turns turns_before after.turns × Refuses before.bytes bytes_before after.bytes)
+  pub refused : ((step.checkpoint ≡ true) × Refuses before.turns turns_before 1 after.turns × Passes before.bytes bytes_before after.bytes)
+      ⊎ ((0 < length step.piece) × Passes before.turns turns_before after.turns × Refuses before.bytes bytes_before (length step.piece) after.bytes)
   pub reason : refusal ≡ was_stopped step.traces
 
 -- broken off at one step: the sink took all pieces before it, and a part of its own piece; the view is that step's, and

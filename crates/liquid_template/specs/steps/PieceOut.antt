@@ -19,7 +19,7 @@ pub record PieceRefused (piece part : List ℕ) (before after : Output) (refusal
   pub nothing : part ≡ []
   pub some_asked : 0 < length piece
   pub failures : after.sunk.failures ≡ before.sunk.failures
-  pub bytes : Refuses before.bytes 0 after.bytes
+  pub bytes : Refuses before.bytes 0 (length piece) after.bytes
   pub reason : refusal ≡ was_stopped []
 
 -- there was no memory
