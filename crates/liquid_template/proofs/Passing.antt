@@ -1,6 +1,6 @@
 -- What passes a gate, one action after another.
 use Rattle.std.proofs.Common.{◌≡◌, ℕ, ◌+◌, true, false, Option, Some, None, ◌⊎◌, inl, inr, refl, sym, ap, subst, ◌∙◌, arith, option_map}
-use Rattle.liquid_template.specs.meaning.Output.{IsPast, Passed, asked, Passes, Refuses, PassesSome}
+use Rattle.liquid_template.specs.meaning.Output.{IsPast, Passed, asked, Passes, Refuses, PassesUpTo}
 
 add_none : (p : Passed) → p ≡ asked true 0 p
 add_none p = ap (λ n. record p { count = n }) (omega arith)
@@ -20,30 +20,15 @@ pub refuses_then : (b m a : Option Passed) (k n more : ℕ) → Passes b k m →
 refuses_then None m a k n more h i = subst (λ o. Refuses o n more a) h i
 refuses_then (Some p) m a k n more h i = subst (λ q. (a ≡ Some (asked false 0 q)) × IsPast q more) (add_both p k n) (subst (λ o. Refuses o n more a) h i)
 
-some_then_cases : (b m a : Option Passed) (k n more : ℕ) → Passes b k m → Passes m n a ⊎ Refuses m n more a → Passes b (k + n) a ⊎ Refuses b (k + n) more a
-some_then_cases b m a k n more h (inl i) = inl (passes_then b m a k n h i)
-some_then_cases b m a k n more h (inr i) = inr (refuses_then b m a k n more h i)
-
-pub some_then : (b m a : Option Passed) (k n : ℕ) → Passes b k m → PassesSome m n a → PassesSome b (k + n) a
-some_then b m a k n h i = record { some = k + i.some; others = i.others; more = i.more; all = omega (arith, i.all); passes = some_then_cases b m a k i.some i.more h i.passes }
-
-pub some_more : (b a : Option Passed) (n k : ℕ) → PassesSome b n a → PassesSome b (n + k) a
-some_more b a n k i = record { some = i.some; others = i.others + k; more = i.more; all = omega (arith, i.all); passes = i.passes }
-
-pub all_pass : (b a : Option Passed) (n k : ℕ) → Passes b n a → PassesSome b (n + k) a
-all_pass b a n k h = record { some = n; others = k; more = 0; all = refl; passes = inl h }
-
-pub none_pass : (o : Option Passed) (n : ℕ) → PassesSome o n o
-none_pass o n = record { some = 0; others = n; more = 0; all = omega arith; passes = inl (passes_none o) }
-
-pub one_refused : (b a : Option Passed) (n k more : ℕ) → Refuses b n more a → PassesSome b (n + k) a
-one_refused b a n k more h = record { some = n; others = k; more = more; all = refl; passes = inr h }
+pub up_to_then : (b m a : Option Passed) (k n : ℕ) → Passes b k m → PassesUpTo m n a → PassesUpTo b (k + n) a
+up_to_then b m a k n h (inl i) = inl (passes_then b m a k n h i)
+up_to_then b m a k n h (inr i) = inr (i.0, refuses_then b m a k n i.0 h i.1)
 
 pub passes_at : (b a : Option Passed) (m n : ℕ) → m ≡ n → Passes b m a → Passes b n a
 passes_at b a m n e h = subst (λ i. Passes b i a) e h
 
-pub some_at : (b a : Option Passed) (m n : ℕ) → m ≡ n → PassesSome b m a → PassesSome b n a
-some_at b a m n e h = subst (λ i. PassesSome b i a) e h
+pub up_to_at : (b a : Option Passed) (m n : ℕ) → m ≡ n → PassesUpTo b m a → PassesUpTo b n a
+up_to_at b a m n e h = subst (λ i. PassesUpTo b i a) e h
 
 pub refuses_at : (b a : Option Passed) (m n more : ℕ) → m ≡ n → Refuses b m more a → Refuses b n more a
 refuses_at b a m n more e h = subst (λ i. Refuses b i more a) e h

@@ -50,10 +50,6 @@ abbrev pub Refuses : Option Passed → ℕ → ℕ → Option Passed → Type 0
 Refuses None n more after = ⊥
 Refuses (Some p) n more after = (after ≡ Some (asked false 0 (asked true n p))) × IsPast (asked true n p) more
 
--- at most n passed, and at most one request was refused
-pub record PassesSome (before : Option Passed) (n : ℕ) (after : Option Passed) : Type 0 where
-  pub some : ℕ
-  pub others : ℕ
-  pub more : ℕ
-  pub all : n ≡ some + others
-  pub passes : Passes before some after ⊎ Refuses before some more after
+-- n passed, and maybe another request was refused
+abbrev pub PassesUpTo : Option Passed → ℕ → Option Passed → Type 0
+PassesUpTo before n after = Passes before n after ⊎ ((more : ℕ) × Refuses before n more after)
