@@ -34,7 +34,7 @@ pub fn render_over<K: Sink>(
     ensures borrows { (K.sunk sink.new).lent ≡ (K.sunk sink.old).lent }
 {
     match shared_language(alloc, options.standard) {
-        Ok(language) => render_text(
+        Ok(language) => render_text::<(), ProgramFilters, Tags, Blocks, InMemorySource, K>(
             alloc,
             page_options(options),
             text,
@@ -61,7 +61,14 @@ fn page_options(options: Options) -> PageOptions
     let Options {
         sandboxed,
         lenient,
+        max_turns,
+        max_bytes,
         ..
     } = options;
-    PageOptions { sandboxed, lenient }
+    PageOptions {
+        sandboxed,
+        lenient,
+        max_turns,
+        max_bytes,
+    }
 }

@@ -9,9 +9,12 @@ use Rattle.liquid_runtime.specs.meaning.View.{View}
 use Rattle.liquid_template.specs.meaning.Outcome.{BrokenOff, Cut, GateRefuses, Outcome, Renders, RendersWithin, SinkFails, Stopped, Whole, was_stopped}
 use Rattle.liquid_template.specs.meaning.Output.{Gated, IsPast, Output, Passed, Passes, PassesUpTo, Refuses, asked, gated, gated_by, passed, ungated}
 use Rattle.liquid_template.specs.meaning.Run.{Run, Step, checkpoints, one_if, pieces, written}
-use Rattle.liquid_template.specs.meaning.Sunk.{Sunk}
+use Rattle.liquid_template.specs.meaning.Pours.{Pours}
+use Rattle.liquid_template.specs.meaning.Sunk.{Sunk, borrowed}
+use Rattle.liquid_template.proofs.Framing.{later_are}
 use Rattle.liquid_template.proofs.Joins.{checkpoints-append, pieces-append}
-use Rattle.liquid_pages.specs.meaning.Limited.{Room, has_room, room_after, run_within, steps_within, stopped_at, with_step}
+use Rattle.liquid_pages.specs.declared.options.Room.{Room}
+use Rattle.liquid_pages.specs.meaning.Limited.{has_room, room_after, run_within, steps_within, stopped_at, with_step}
 
 le_true : (m n : ℕ) → m ≤ n → nat_le m n ≡ true
 le_true m n h = omega (arith, h)
@@ -49,7 +52,7 @@ module _ {Reg : Type 0} where
   past_first room step front =
       ap (λ n. record { turns = n; bytes = room.bytes - length step.piece - length (pieces front) }) (left_over room.turns (one_if step.checkpoint) (checkpoints front))
       ∙ ap (λ n. record { turns = room.turns - (one_if step.checkpoint + checkpoints front); bytes = n })
-        (left_over room.bytes (length step.piece) (length (pieces front)) ∙ ap (λ n. room.bytes - n) (sym (pieces_first step front)))
+      (left_over room.bytes (length step.piece) (length (pieces front)) ∙ ap (λ n. room.bytes - n) (sym (pieces_first step front)))
 
   -- steps for which there is room stay
   front_stays : (room : Room) (front more : List (Step Reg)) (refusal : Option Refusal) (v : View Reg) → checkpoints front ≤ room.turns → length (pieces front) ≤ room.bytes
@@ -108,12 +111,13 @@ no_turn_left limit n h i = omega (arith, h, i)
 no_bytes_left : (limit n more : ℕ) → n ≤ limit → limit < n + more → limit - n < more
 no_bytes_left limit n more h i = omega (arith, h, i)
 
-module _ {Reg : Type 0} (room : Room) (r : Run Reg) (entry left : View Reg) (before after : Sunk) (gate : Gated) (turns_held : IsHeld (Some gate.turns)) (bytes_held : IsHeld (Some gate.bytes)) where
+-- the sink is lent to the gate: it is borrowed under one name before, and under another one after
+module _ {Reg : Type 0} (room : Room) (r : Run Reg) (entry left : View Reg) (before after : Sunk) (name later_name : ℕ) (gate : Gated) (turns_held : IsHeld (Some gate.turns)) (bytes_held : IsHeld (Some gate.bytes)) where
   abbrev At : Output
-  At = gated before (gated_by (passed 0 0 (Some room.turns)) (passed 0 0 (Some room.bytes)))
+  At = gated (borrowed name before) (gated_by (passed 0 0 (Some room.turns)) (passed 0 0 (Some room.bytes)))
 
   abbrev Then : Output
-  Then = gated after gate
+  Then = gated (borrowed later_name after) gate
 
   whole_limited : Whole r At Then left → Whole (run_within room r) (ungated before) (ungated after) left × (run_within room r ≡ r)
   whole_limited w =
@@ -170,8 +174,7 @@ module _ {Reg : Type 0} (room : Room) (r : Run Reg) (entry left : View Reg) (bef
           → (checkpoints b.front ≤ room.turns) × ((length (pieces b.front) ≤ room.bytes) × (has_room (room_past room b.front) b.step ≡ false))
       of_cause (inl x) =
           let turns = refuses_held room.turns (checkpoints b.front) 1 (Some gate.turns) turns_held x.1 in
-          let over : room.turns < 0 + checkpoints b.front + 1 = x.1.1 in
-          (
+          let over : room.turns < 0 + checkpoints b.front + 1 = x.1.1 in (
             turns,
             (
               passes_held room.bytes (length (pieces b.front)) (Some gate.bytes) bytes_held x.2,
@@ -181,8 +184,7 @@ module _ {Reg : Type 0} (room : Room) (r : Run Reg) (entry left : View Reg) (bef
           )
       of_cause (inr x) =
           let bytes = refuses_held room.bytes (length (pieces b.front)) (length b.step.piece) (Some gate.bytes) bytes_held x.2 in
-          let over : room.bytes < 0 + length (pieces b.front) + length b.step.piece = x.2.1 in
-          (
+          let over : room.bytes < 0 + length (pieces b.front) + length b.step.piece = x.2.1 in (
             passes_held room.turns (checkpoints b.front) (Some gate.turns) turns_held x.1,
             (
               bytes,
@@ -223,5 +225,12 @@ module _ {Reg : Type 0} (room : Room) (r : Run Reg) (entry left : View Reg) (bef
   outcome_limited (Ok u) o = ((whole_limited o.0).0, ap (λ p. p.refusal) (whole_limited o.0).1 ∙ o.1)
   outcome_limited (Err e) o = told_limited (told e) o
 
+  pours_limited : (answer : Result (Unit {0}) Error) → Pours (borrowed name before) (borrowed later_name after) answer → Pours before after answer
+  pours_limited answer p = record {
+    grows = record { more = p.grows.more; taken_is = p.grows.taken_is; behind_is = p.grows.behind_is };
+    lent = later_are later_name name after.lent before.lent p.lent;
+    text = p.text;
+  }
+
   pub renders_limited : (answer : Result (Unit {0}) Error) → RendersWithin r entry At Then left answer → Renders (run_within room r) entry before after left answer
-  renders_limited answer h = record { outcome = outcome_limited answer h.outcome; frames = h.frames; pours = h.pours }
+  renders_limited answer h = record { outcome = outcome_limited answer h.outcome; frames = h.frames; pours = pours_limited answer h.pours }

@@ -1,12 +1,12 @@
 -- What a run of the program over files in memory shows on its output.
-use Rattle.std.specs.Prelude.{◌≡◌, ℕ, Bool, true, false, ◌⊎◌, List, [], ◌++◌, Option, None, Some, Ok, Err, map, string_bytes, option_map}
+use Rattle.std.specs.Prelude.{◌≡◌, ℕ, ◌⊎◌, List, [], ◌++◌, Option, None, Some, MatchOption, Ok, Err, map, string_bytes, option_map}
 use Rattle.std.specs.BTreeMap.{get_by_text}
 use Rattle.liquid_runtime.specs.meaning.Maps.{Names}
 use Rattle.liquid_parser.specs.meaning.Reading.{Reads}
 use Rattle.liquid_template.specs.meaning.Run.{Run, written}
 use Rattle.liquid_partials.specs.meaning.Sources.{Texts}
 use Rattle.liquid.specs.declared.in_memory.InMemoryFolder.{InMemoryFolder}
-use Rattle.liquid.specs.meaning.Command.{is_command, options_of, paths_of}
+use Rattle.liquid.specs.meaning.Command.{command_of}
 use Rattle.liquid.specs.declared.command.Options.{Options}
 use Rattle.liquid.specs.meaning.Gathered.{Gathers}
 use Rattle.liquid_pages.specs.meaning.Pages.{IsFoundIn}
@@ -56,4 +56,4 @@ ShowsCommand options paths files folders output status =
 -- what the words show, by the files; words that are not a command show nothing
 abbrev pub Shows : List (List ℕ) → (List ℕ → Option (List ℕ)) → (List ℕ → Option (List (List ℕ))) → List ℕ → ℕ → Type 0
 Shows words files folders output status =
-    (is_command words ≡ true → ShowsCommand (options_of words) (paths_of words) files folders output status) × (is_command words ≡ false → (output ≡ []) × (status ≡ 2))
+    MatchOption (command_of words) ((output ≡ []) × (status ≡ 2)) (λ asked. ShowsCommand asked.options asked.paths files folders output status)

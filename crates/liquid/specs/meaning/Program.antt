@@ -1,5 +1,5 @@
 -- What the program does, by its words, the files that they name and the sink that it writes to.
-use Rattle.std.specs.Prelude.{◌≡◌, ℕ, Bool, true, false, ◌⊎◌, List, [], Option, Result, Ok, Err}
+use Rattle.std.specs.Prelude.{◌≡◌, ℕ, Bool, ◌⊎◌, List, [], Option, MatchOption, Result, Ok, Err}
 use Rattle.std.specs.Io.KnownBytes.{Appends}
 use Rattle.liquid_error.specs.declared.error.Error.{Error}
 use Rattle.liquid_runtime.specs.meaning.Maps.{Names}
@@ -8,14 +8,14 @@ use Rattle.liquid_partials.specs.meaning.Sources.{Texts}
 use Rattle.liquid_pages.specs.declared.options.PageOptions.{PageOptions}
 use Rattle.liquid_pages.specs.meaning.Pages.{Renders as RendersPage}
 use Rattle.liquid.specs.meaning.ProgramLanguage.{program_language, setting_over}
-use Rattle.liquid.specs.meaning.Command.{is_command, options_of, paths_of}
+use Rattle.liquid.specs.meaning.Command.{command_of}
 use Rattle.liquid.specs.declared.command.Options.{Options}
 use Rattle.liquid.specs.meaning.Gathered.{Gathers}
 use Rattle.liquid.specs.meaning.Status.{settled}
 
 -- the options of the page
 abbrev pub page_options : Options → PageOptions
-page_options options = record { sandboxed = options.sandboxed; lenient = options.lenient }
+page_options options = record { sandboxed = options.sandboxed; lenient = options.lenient; max_turns = options.max_turns; max_bytes = options.max_bytes }
 
 -- the text, parsed in the program's language, was rendered as a page, with these options, over these globals and these
 -- partials
@@ -45,7 +45,7 @@ Executes options paths known listed before after status = Gathers paths known li
 -- a command is executed; words that are not a command write nothing, with status 2
 abbrev pub Runs : List (List ℕ) → (List ℕ → Option (Option (List ℕ))) → (List ℕ → Option (Option (List (List ℕ)))) → Sunk → Sunk → ℕ → Type 0
 Runs words known listed before after status =
-    (is_command words ≡ true → Executes (options_of words) (paths_of words) known listed before after status) × (is_command words ≡ false → (after ≡ before) × (status ≡ 2))
+    MatchOption (command_of words) ((after ≡ before) × (status ≡ 2)) (λ asked. Executes asked.options asked.paths known listed before after status)
 
 -- the content of the output grew by what a fresh sink over it takes when the words are run; then the output was flushed
 pub record Prints (words : List (List ℕ)) (known : List ℕ → Option (Option (List ℕ))) (listed : List ℕ → Option (Option (List (List ℕ)))) (before after : Option (List ℕ)) (status : ℕ) : Type 0 where
