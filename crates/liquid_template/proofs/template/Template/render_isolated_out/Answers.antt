@@ -1,7 +1,7 @@
 use Rattle.std.proofs.Common.{refl}
 use Rattle.liquid_template.proofs.Pieces.{told_memory}
 use Rattle.liquid_template.proofs.IsolatedFrames.{isolated_memory, isolated_renders, kept_still, kept_after}
-use Rattle.liquid_template.proofs.template.Template.render_isolated_in.Goals as goal
+use Rattle.liquid_template.proofs.template.Template.render_isolated_out.Goals as goal
 
 pub returns-in-Err-clause-isolated : goal.returns-in-Err-clause-isolated
 returns-in-Err-clause-isolated g c = isolated_memory _ _ _ _ _ _ _ told_memory
@@ -12,7 +12,7 @@ returns-in-Err-push-clause-isolated g c = rw c.in-Err-push.ensures.unchanged (is
 pub returns-clause-isolated : goal.returns-clause-isolated
 returns-clause-isolated g c =
     isolated_renders _ _ _ _ _ _ _ _ _ _ _ _ _ _ _ _
-    c.in-Ok.ensures c.in-Ok-push.ensures.ok c.in-Ok-push.ensures.opens c.render_in-answer.ensures.owes c.pop.ensures.ends (rw c.in-Ok-push.ensures.store at c.render_in-answer.ensures.renders)
+    c.in-Ok.ensures c.in-Ok-push.ensures.ok c.in-Ok-push.ensures.opens c.render_out-answer.ensures.owes c.pop.ensures.ends (rw c.in-Ok-push.ensures.store at c.render_out-answer.ensures.renders)
 
 pub returns-in-Err-clause-kept : goal.returns-in-Err-clause-kept
 returns-in-Err-clause-kept g c = kept_still _ _ refl
@@ -23,6 +23,6 @@ returns-in-Err-push-clause-kept g c = kept_still _ _ c.in-Err-push.ensures.uncha
 pub returns-clause-kept : goal.returns-clause-kept
 returns-clause-kept g c =
     let v = g.S.Runtime.view c.args.scopes.now in
-    kept_after v _ _ _ _ _ _ c.in-Ok-push.ensures.opens c.render_in-answer.ensures.owes c.pop.ensures.ends
+    kept_after v _ _ _ _ _ _ c.in-Ok-push.ensures.opens c.render_out-answer.ensures.owes c.pop.ensures.ends
     (isolated_renders _ _ _ _ _ v _ _ _ _ _ _ _ _ _ _
-    c.in-Ok.ensures c.in-Ok-push.ensures.ok c.in-Ok-push.ensures.opens c.render_in-answer.ensures.owes c.pop.ensures.ends (rw c.in-Ok-push.ensures.store at c.render_in-answer.ensures.renders)).renders.frames
+    c.in-Ok.ensures c.in-Ok-push.ensures.ok c.in-Ok-push.ensures.opens c.render_out-answer.ensures.owes c.pop.ensures.ends (rw c.in-Ok-push.ensures.store at c.render_out-answer.ensures.renders)).renders.frames

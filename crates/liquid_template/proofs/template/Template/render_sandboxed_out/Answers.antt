@@ -1,7 +1,7 @@
 use Rattle.std.proofs.Common.{refl}
 use Rattle.liquid_template.proofs.Pieces.{told_memory}
 use Rattle.liquid_template.proofs.Sandboxing.{sandboxed_memory, sandboxed_renders, untouched_still, untouched_after}
-use Rattle.liquid_template.proofs.template.Template.render_sandboxed_in.Goals as goal
+use Rattle.liquid_template.proofs.template.Template.render_sandboxed_out.Goals as goal
 
 pub returns-in-Err-clause-sandboxed : goal.returns-in-Err-clause-sandboxed
 returns-in-Err-clause-sandboxed g c =
@@ -14,7 +14,7 @@ returns-in-Err-push-clause-sandboxed g c =
 pub returns-clause-sandboxed : goal.returns-clause-sandboxed
 returns-clause-sandboxed g c =
     sandboxed_renders _ g.met.T.Discreet.hides g.met.B.Discreet.hides _ _ _ _ _ _ _ _ _ _ _ _ _ _ _
-    c.in-Ok.ensures c.in-Ok-push.ensures.ok c.in-Ok-push.ensures.opens c.render_in-answer.ensures.owes c.pop.ensures.ends (rw c.in-Ok-push.ensures.store at c.render_in-answer.ensures.renders)
+    c.in-Ok.ensures c.in-Ok-push.ensures.ok c.in-Ok-push.ensures.opens c.render_out-answer.ensures.owes c.pop.ensures.ends (rw c.in-Ok-push.ensures.store at c.render_out-answer.ensures.renders)
 
 pub returns-in-Err-clause-untouched : goal.returns-in-Err-clause-untouched
 returns-in-Err-clause-untouched g c = untouched_still _ _ refl
@@ -23,4 +23,4 @@ pub returns-in-Err-push-clause-untouched : goal.returns-in-Err-push-clause-untou
 returns-in-Err-push-clause-untouched g c = untouched_still _ _ c.in-Err-push.ensures.unchanged
 
 pub returns-clause-untouched : goal.returns-clause-untouched
-returns-clause-untouched g c = untouched_after _ _ _ _ _ _ _ c.in-Ok-push.ensures.opens c.render_in-answer.ensures.owes c.pop.ensures.ends
+returns-clause-untouched g c = untouched_after _ _ _ _ _ _ _ c.in-Ok-push.ensures.opens c.render_out-answer.ensures.owes c.pop.ensures.ends
