@@ -3,7 +3,7 @@ use super::{answers, ran};
 use std::test::Fail;
 
 /// A loop of three takes a turn for each of its items and one for its end.
-const PAGE: &[u8] = "a{% for i in (1..3) %}bé{% endfor %}c".as_bytes();
+const PAGE: &[u8] = b"a{% for i in (1..3) %}b\xc3\xa9{% endfor %}c";
 
 /// A limit and its number, the status, and what is written.
 const ROWS: [(&str, &str, u8, &str); 15] = [
@@ -51,5 +51,10 @@ fn the_first_limit_ends_the_page(rt: HostRuntime) -> Result<(), Fail> {
 #[test]
 fn an_error_before_the_limit_is_that_error(rt: HostRuntime) -> Result<(), Fail> {
     let words = ["render", "--bytes", "1", "t", "g.json"];
-    answers(&ran(rt.alloc(), b"a{{ x }}b", b"{}", &words)?, 1, "a", super::UNKNOWN)
+    answers(
+        &ran(rt.alloc(), b"a{{ x }}b", b"{}", &words)?,
+        1,
+        "a",
+        super::UNKNOWN,
+    )
 }

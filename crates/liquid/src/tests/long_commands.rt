@@ -7,9 +7,31 @@ type Command = (&'static [&'static str], u8, &'static str, &'static str);
 
 /// Words that are a command in the long form alone.
 const LONG: [Command; 18] = [
-    (&["render", "t", "g.json", "--lenient", "--sandboxed"], 0, "x", ""),
-    (&["render", "--lenient", "t", "g.json", "--sandboxed", "--standard"], 0, "x", ""),
-    (&["render", "t", "--lenient", "g.json", "--sandboxed"], 0, "x", ""),
+    (
+        &["render", "t", "g.json", "--lenient", "--sandboxed"],
+        0,
+        "x",
+        "",
+    ),
+    (
+        &[
+            "render",
+            "--lenient",
+            "t",
+            "g.json",
+            "--sandboxed",
+            "--standard",
+        ],
+        0,
+        "x",
+        "",
+    ),
+    (
+        &["render", "t", "--lenient", "g.json", "--sandboxed"],
+        0,
+        "x",
+        "",
+    ),
     (
         &["render", "t", "g.json", "d", "--lenient"],
         3,
@@ -25,10 +47,34 @@ const LONG: [Command; 18] = [
     (&["render", "--turns", "5", "t", "g.json"], 0, "x", ""),
     (&["render", "t", "--turns", "5", "g.json"], 0, "x", ""),
     (&["render", "t", "g.json", "--turns", "5"], 0, "x", ""),
-    (&["render", "--turns", "0", "--bytes", "1", "t", "g.json"], 0, "x", ""),
-    (&["render", "--bytes", "1", "--standard", "--turns", "0", "t", "g.json"], 0, "x", ""),
+    (
+        &["render", "--turns", "0", "--bytes", "1", "t", "g.json"],
+        0,
+        "x",
+        "",
+    ),
+    (
+        &[
+            "render",
+            "--bytes",
+            "1",
+            "--standard",
+            "--turns",
+            "0",
+            "t",
+            "g.json",
+        ],
+        0,
+        "x",
+        "",
+    ),
     (&["render", "--bytes", "01", "t", "g.json"], 0, "x", ""),
-    (&["render", "--bytes", "18446744073709551615", "t", "g.json"], 0, "x", ""),
+    (
+        &["render", "--bytes", "18446744073709551615", "t", "g.json"],
+        0,
+        "x",
+        "",
+    ),
     (&["render", "--", "t", "g.json"], 0, "x", ""),
     (&["render", "--lenient", "--", "t", "g.json"], 0, "x", ""),
     (
