@@ -121,7 +121,7 @@ impl Gate for Limits {
         ensures turns { (⟦<Limits as Gate>⟧.gated self.new).turns ≡ asked result 1 (⟦<Limits as Gate>⟧.gated self.old).turns }
         ensures past { result ≡ false → IsPast (⟦<Limits as Gate>⟧.gated self.old).turns 1 }
         ensures bytes { (⟦<Limits as Gate>⟧.gated self.new).bytes ≡ (⟦<Limits as Gate>⟧.gated self.old).bytes }
-        ensures passes { (result ≡ true) ↔ (self.old.turns < self.old.max_turns) }
+        ensures passes { (result ≡ true) ↔ ((⟦<Limits as Gate>⟧.gated self.old).turns.count < self.old.max_turns) }
     {
         if self.turns < self.max_turns {
             self.turns += 1;
@@ -137,9 +137,10 @@ impl Gate for Limits {
         ensures bytes { (⟦<Limits as Gate>⟧.gated self.new).bytes ≡ asked result count (⟦<Limits as Gate>⟧.gated self.old).bytes }
         ensures past { result ≡ false → IsPast (⟦<Limits as Gate>⟧.gated self.old).bytes count }
         ensures turns { (⟦<Limits as Gate>⟧.gated self.new).turns ≡ (⟦<Limits as Gate>⟧.gated self.old).turns }
-        ensures passes { (result ≡ true) ↔ (self.old.bytes + count ≤ self.old.max_bytes) }
+        ensures passes { (result ≡ true) ↔ ((⟦<Limits as Gate>⟧.gated self.old).bytes.count + count ≤ self.old.max_bytes) }
     {
-        if let Some(left) = self.max_bytes.checked_sub(self.bytes) {
+        let passed = self.bytes_passed();
+        if let Some(left) = self.max_bytes.checked_sub(passed) {
             if count <= left {
                 self.bytes = self.max_bytes - (left - count);
                 return true;
