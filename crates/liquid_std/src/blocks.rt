@@ -1,0 +1,209 @@
+//! The nodes of blocks, and how they are rendered.
+ghost use Rattle.std.specs.Prelude.{◌≡◌, option_map, IfOk};
+ghost use Rattle.std_loops.specs.meaning.Picked.{picked_left};
+ghost use Rattle.liquid_std.specs.laws.BlockLaws.{blocks_hide};
+ghost use Rattle.std_loops.specs.meaning.Tables.{table_of};
+ghost use Rattle.liquid_std.specs.meaning.Blocks.{block_count, block_nodes, block_of, over_items, over_table, progress_of};
+
+use crate::capture::capture_turn;
+use liquid_error::Error;
+use liquid_plugins::{Bytes, Discreet, ListOf, Meant, Renderable, Turn};
+use liquid_runtime::{Frame, Fresh, Runtime};
+use liquid_tags::rounds::RoundsShape;
+use liquid_value::Object;
+use std::alloc::{AllocError, Global};
+use std_conditions::branches::CaseShape;
+use std_conditions::condition::ConditionShape;
+use std_conditions::{Case, Condition, part_case, part_if, part_unless};
+use std_loops::loops::LoopShape;
+use std_loops::tables::TableShape;
+use std_loops::{
+    Loop, Picked, Rounds, Table, loop_turn, picked_items, rounds_over, table_over, table_turn,
+};
+
+/// What a block is made to.
+#[derive(Drop)]
+pub enum StdBlock {
+    /// The part after the first condition that holds, and the part after them all if none does.
+    If(Vec<Condition>),
+    /// The same, but that the first condition must not hold.
+    Unless(Vec<Condition>),
+    /// The part of the first `when` with an equal value, and the part after them all if there is none.
+    Case(Box<Case>),
+    /// The first part for each item; the second if there is no item.
+    For(Box<Loop>),
+    /// A table with its part in a cell for each item.
+    Tablerow(Box<Loop>),
+    /// The text of its part, assigned to this name.
+    Capture(String),
+    /// Nothing.
+    Comment,
+    /// A text that is written unchanged.
+    Raw(String),
+}
+
+/// Marks the shape of a block.
+pub enum StdBlockShape {
+    If(ListOf<ConditionShape>),
+    Unless(ListOf<ConditionShape>),
+    Case(CaseShape),
+    For(LoopShape),
+    Tablerow(LoopShape),
+    Capture(Bytes),
+    Comment,
+    Raw(Bytes),
+}
+
+/// How far a block is.
+#[derive(Drop)]
+pub enum StdProgress {
+    /// This part comes, or the block's text, and no turn after it.
+    Once(u64),
+    /// A loop. It is in a box, so that the progress of the other blocks is small.
+    Rounds(Box<Rounds>),
+    /// A table, in a box too.
+    Table(Box<Table>),
+    /// A capture, and the text of its part after the part has been rendered.
+    Capturing(Option<String>),
+}
+
+/// Marks the shape of a block's progress.
+pub enum StdProgressShape {
+    Once(u64),
+    Rounds(RoundsShape),
+    Table(TableShape),
+    Capturing(Option<Bytes>),
+}
+
+impl StdProgress {
+    /// Returns how many turns there are at most.
+    pub fn turns(&self) -> u64
+        ensures { result ≡ block_count (progress_of self.now) }
+    {
+        match self {
+            StdProgress::Once(_) => 1,
+            StdProgress::Rounds(rounds) => rounds.turns(),
+            StdProgress::Table(table) => table.turns(),
+            StdProgress::Capturing(_) => 2,
+        }
+    }
+}
+
+impl Meant for StdBlock {
+    type Shape = StdBlockShape;
+
+    ghost shape = { block_of };
+}
+
+impl Meant for StdProgress {
+    type Shape = StdProgressShape;
+
+    ghost shape = { progress_of };
+}
+
+impl<V: Fresh> Renderable<V> for StdBlock {
+    type Progress = StdProgress;
+
+    ghost means = { block_nodes };
+
+    fn start<R: Runtime<Register = V>>(
+        &self,
+        alloc: Global,
+        runtime: &mut R,
+    ) -> Result<StdProgress, Error> {
+        match self {
+            StdBlock::If(conditions) => match part_if(alloc, conditions.as_slice(), &*runtime) {
+                Ok(part) => Ok(StdProgress::Once(part)),
+                Err(error) => Err(error),
+            },
+            StdBlock::Unless(conditions) => {
+                match part_unless(alloc, conditions.as_slice(), &*runtime) {
+                    Ok(part) => Ok(StdProgress::Once(part)),
+                    Err(error) => Err(error),
+                }
+            }
+            StdBlock::Case(case) => match part_case(alloc, &**case, &*runtime) {
+                Ok(part) => Ok(StdProgress::Once(part)),
+                Err(error) => Err(error),
+            },
+            StdBlock::For(header) => match picked_items(alloc, &**header, &*runtime) {
+                Ok(items) => Ok(over_items(alloc, items)?),
+                Err(error) => Err(error),
+            },
+            StdBlock::Tablerow(header) => match table_over(alloc, &**header, &*runtime) {
+                Ok(table) => Ok(over_table(table)),
+                Err(error) => Err(error),
+            },
+            StdBlock::Capture(_) => Ok(StdProgress::Capturing(None)),
+            StdBlock::Comment | StdBlock::Raw(_) => Ok(StdProgress::Once(0)),
+        }
+    }
+
+    fn turns(progress: &StdProgress) -> u64 {
+        progress.turns()
+    }
+
+    fn turn<R: Runtime<Register = V>>(
+        &self,
+        alloc: Global,
+        progress: &mut StdProgress,
+        runtime: &mut R,
+    ) -> Result<Turn, Error> {
+        match (self, progress) {
+            (StdBlock::Raw(text), _) => Ok(Turn::Text(text.clone()?)),
+            (StdBlock::Comment, _) => Ok(Turn::End),
+            (StdBlock::For(header), StdProgress::Rounds(rounds)) => {
+                loop_turn(alloc, &header.name, &mut **rounds, runtime)
+            }
+            (StdBlock::Tablerow(header), StdProgress::Table(table)) => {
+                table_turn(alloc, &header.name, &mut **table, runtime)
+            }
+            (StdBlock::Capture(name), StdProgress::Capturing(text)) => {
+                capture_turn(alloc, name, text, runtime)
+            }
+            (_, StdProgress::Once(part)) => Ok(Turn::Body(*part, Frame::None, None)),
+            (_, StdProgress::Rounds(_) | StdProgress::Table(_) | StdProgress::Capturing(_)) => {
+                Ok(Turn::End)
+            }
+        }
+    }
+
+    fn recycle(&self, progress: &mut StdProgress, names: Object) {
+        match progress {
+            StdProgress::Rounds(rounds) => rounds.recycle(names),
+            StdProgress::Once(_) | StdProgress::Table(_) | StdProgress::Capturing(_) => {}
+        }
+    }
+
+    fn caught(&self, progress: &mut StdProgress, text: String) {
+        match self {
+            StdBlock::Capture(_) => *progress = StdProgress::Capturing(Some(text)),
+            _ => drop(text),
+        }
+    }
+}
+
+impl<V: Fresh> Discreet<V> for StdBlock {
+    ghost hides = { blocks_hide };
+}
+
+/// Returns the progress of a loop over these items; without items the second part comes.
+#[inline(never)]
+fn over_items(alloc: Global, items: Picked) -> Result<StdProgress, AllocError>
+    ensures { IfOk result (λ p. progress_of p ≡ over_items (picked_left items)) }
+{
+    match rounds_over(alloc, items)? {
+        Some(rounds) => Ok(StdProgress::Rounds(rounds)),
+        None => Ok(StdProgress::Once(1)),
+    }
+}
+
+/// Returns the progress of a table; without one nothing is rendered.
+fn over_table(table: Option<Box<Table>>) -> StdProgress
+    ensures { progress_of result ≡ over_table (option_map (λ t. table_of t.value) table) }
+{
+    match table {
+        Some(table) => StdProgress::Table(table),
+        None => StdProgress::Once(1),
+    }
+}
