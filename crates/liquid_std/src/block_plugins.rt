@@ -45,6 +45,7 @@ pub enum StdBlocks {
     For,
     Tablerow,
     Capture,
+    Ifchanged,
     Comment,
     Raw,
 }
@@ -79,6 +80,7 @@ impl BlockReflection for StdBlocks {
             StdBlocks::For => "for",
             StdBlocks::Tablerow => "tablerow",
             StdBlocks::Capture => "capture",
+            StdBlocks::Ifchanged => "ifchanged",
             StdBlocks::Comment => "comment",
             StdBlocks::Raw => "raw",
         }
@@ -92,6 +94,7 @@ impl BlockReflection for StdBlocks {
             StdBlocks::For => "endfor",
             StdBlocks::Tablerow => "endtablerow",
             StdBlocks::Capture => "endcapture",
+            StdBlocks::Ifchanged => "endifchanged",
             StdBlocks::Comment => "endcomment",
             StdBlocks::Raw => "endraw",
         }
@@ -106,6 +109,8 @@ impl BlockReflection for StdBlocks {
             StdBlocks::For => "Renders its body for each item of an array, an object or a range.",
             StdBlocks::Tablerow => "Renders its body in a cell of a table for each item.",
             StdBlocks::Capture => "Assigns the text of its part to a name.",
+            StdBlocks::Ifchanged =>
+                "Renders its part, unless its text is that of the last ifchanged.",
             StdBlocks::Comment => "Writes nothing.",
             StdBlocks::Raw => "Writes its body as it stands.",
         }
@@ -126,9 +131,11 @@ impl<F: ParseFilter> ParseBlock<F> for StdBlocks {
             StdBlocks::If | StdBlocks::Unless => &IF_DIVIDERS,
             StdBlocks::Case => &CASE_DIVIDERS,
             StdBlocks::For => &FOR_DIVIDERS,
-            StdBlocks::Tablerow | StdBlocks::Capture | StdBlocks::Comment | StdBlocks::Raw => {
-                &NO_DIVIDERS
-            }
+            StdBlocks::Tablerow
+            | StdBlocks::Capture
+            | StdBlocks::Ifchanged
+            | StdBlocks::Comment
+            | StdBlocks::Raw => &NO_DIVIDERS,
         }
     }
 
@@ -140,7 +147,8 @@ impl<F: ParseFilter> ParseBlock<F> for StdBlocks {
             | StdBlocks::Case
             | StdBlocks::For
             | StdBlocks::Tablerow
-            | StdBlocks::Capture => false,
+            | StdBlocks::Capture
+            | StdBlocks::Ifchanged => false,
         }
     }
 
@@ -153,6 +161,7 @@ impl<F: ParseFilter> ParseBlock<F> for StdBlocks {
             | StdBlocks::For
             | StdBlocks::Tablerow
             | StdBlocks::Capture
+            | StdBlocks::Ifchanged
             | StdBlocks::Raw => false,
         }
     }
@@ -207,6 +216,7 @@ fn begun(alloc: Global, block: StdBlocks, tokens: TagTokenIter<'_>) -> Result<St
         StdBlocks::For => begun_for(alloc, tokens),
         StdBlocks::Tablerow => begun_tablerow(alloc, tokens),
         StdBlocks::Capture => begun_capture(alloc, tokens),
+        StdBlocks::Ifchanged => alone(alloc, tokens, planned(StdBlock::Ifchanged)),
         StdBlocks::Comment => alone(alloc, tokens, planned(StdBlock::Comment)),
         StdBlocks::Raw => alone(alloc, tokens, planned(StdBlock::Raw(String::new(alloc)))),
     }
@@ -315,6 +325,7 @@ fn divide_node(alloc: Global, node: &mut StdBlock, tokens: TagTokenIter<'_>) -> 
         StdBlock::For(_)
         | StdBlock::Tablerow(_)
         | StdBlock::Capture(_)
+        | StdBlock::Ifchanged
         | StdBlock::Comment
         | StdBlock::Raw(_) => tokens.expect_nothing(alloc),
     }

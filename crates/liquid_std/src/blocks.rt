@@ -8,7 +8,7 @@ ghost use Rattle.liquid_std.specs.meaning.Blocks.{block_count, block_nodes, bloc
 use crate::capture::capture_turn;
 use liquid_error::Error;
 use liquid_plugins::{Bytes, Discreet, ListOf, Meant, Renderable, Turn};
-use liquid_runtime::{Frame, Fresh, Runtime};
+use liquid_runtime::{Frame, Runtime};
 use liquid_tags::rounds::RoundsShape;
 use liquid_value::Object;
 use std::alloc::{AllocError, Global};
@@ -20,6 +20,7 @@ use std_loops::tables::TableShape;
 use std_loops::{
     Loop, Picked, Rounds, Table, loop_turn, picked_items, rounds_over, table_over, table_turn,
 };
+use std_marks::{HoldsMarks, changed_turn};
 
 /// What a block is made to.
 #[derive(Drop)]
@@ -36,6 +37,8 @@ pub enum StdBlock {
     Tablerow(Box<Loop>),
     /// The text of its part, assigned to this name.
     Capture(String),
+    /// Its part, unless its text is that of the last such block.
+    Ifchanged,
     /// Nothing.
     Comment,
     /// A text that is written unchanged.
@@ -50,6 +53,7 @@ pub enum StdBlockShape {
     For(LoopShape),
     Tablerow(LoopShape),
     Capture(Bytes),
+    Ifchanged,
     Comment,
     Raw(Bytes),
 }
@@ -63,7 +67,7 @@ pub enum StdProgress {
     Rounds(Box<Rounds>),
     /// A table, in a box too.
     Table(Box<Table>),
-    /// A capture, and the text of its part after the part has been rendered.
+    /// A capture or an `ifchanged`, and the text of its part after the part has been rendered.
     Capturing(Option<String>),
 }
 
@@ -101,10 +105,10 @@ impl Meant for StdProgress {
     ghost shape = { progress_of };
 }
 
-impl<V: Fresh> Renderable<V> for StdBlock {
+impl<V: HoldsMarks> Renderable<V> for StdBlock {
     type Progress = StdProgress;
 
-    ghost means = { block_nodes };
+    ghost means = { block_nodes V.holds };
 
     fn start<R: Runtime<Register = V>>(
         &self,
@@ -134,7 +138,7 @@ impl<V: Fresh> Renderable<V> for StdBlock {
                 Ok(table) => Ok(over_table(table)),
                 Err(error) => Err(error),
             },
-            StdBlock::Capture(_) => Ok(StdProgress::Capturing(None)),
+            StdBlock::Capture(_) | StdBlock::Ifchanged => Ok(StdProgress::Capturing(None)),
             StdBlock::Comment | StdBlock::Raw(_) => Ok(StdProgress::Once(0)),
         }
     }
@@ -161,6 +165,7 @@ impl<V: Fresh> Renderable<V> for StdBlock {
             (StdBlock::Capture(name), StdProgress::Capturing(text)) => {
                 capture_turn(alloc, name, text, runtime)
             }
+            (StdBlock::Ifchanged, StdProgress::Capturing(text)) => changed_turn(text, runtime),
             (_, StdProgress::Once(part)) => Ok(Turn::Body(*part, Frame::None, None)),
             (_, StdProgress::Rounds(_) | StdProgress::Table(_) | StdProgress::Capturing(_)) => {
                 Ok(Turn::End)
@@ -177,14 +182,16 @@ impl<V: Fresh> Renderable<V> for StdBlock {
 
     fn caught(&self, progress: &mut StdProgress, text: String) {
         match self {
-            StdBlock::Capture(_) => *progress = StdProgress::Capturing(Some(text)),
+            StdBlock::Capture(_) | StdBlock::Ifchanged => {
+                *progress = StdProgress::Capturing(Some(text))
+            }
             _ => drop(text),
         }
     }
 }
 
-impl<V: Fresh> Discreet<V> for StdBlock {
-    ghost hides = { blocks_hide };
+impl<V: HoldsMarks> Discreet<V> for StdBlock {
+    ghost hides = { blocks_hide V.holds };
 }
 
 /// Returns the progress of a loop over these items; without items the second part comes.

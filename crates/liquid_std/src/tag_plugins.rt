@@ -2,7 +2,7 @@
 ghost use Rattle.liquid_error.specs.meaning.Told.{Gives};
 ghost use Rattle.liquid_parser.specs.meaning.Handed.{Tokens};
 ghost use Rattle.liquid_parser.specs.meaning.Plugins.{AreTokens, registry_of};
-ghost use Rattle.liquid_std.specs.meaning.TagPlugins.{decrement_given, echo_given, tag_given};
+ghost use Rattle.liquid_std.specs.meaning.TagPlugins.{cycle_node_given, decrement_given, echo_given, tag_given};
 ghost use Rattle.liquid_std.specs.meaning.Tags.{tag_of};
 
 use crate::tags::StdTag;
@@ -12,6 +12,7 @@ use liquid_plugins::{Filter, ParseFilter, PluginRegistry};
 use liquid_tags::Tags;
 use liquid_tags::asked::{TOKEN_EXPECTED, alone};
 use std::alloc::Global;
+use std_marks::read_cycle;
 
 /// The standard tags.
 #[derive(Debug, Clone, Copy, PartialEq, Eq, Drop)]
@@ -20,6 +21,7 @@ pub enum StdTags {
     Library(Tags),
     Decrement,
     Echo,
+    Cycle,
 }
 
 impl TagReflection for StdTags {
@@ -28,6 +30,7 @@ impl TagReflection for StdTags {
             StdTags::Library(tag) => tag.tag(),
             StdTags::Decrement => "decrement",
             StdTags::Echo => "echo",
+            StdTags::Cycle => "cycle",
         }
     }
 
@@ -36,6 +39,7 @@ impl TagReflection for StdTags {
             StdTags::Library(tag) => tag.description(),
             StdTags::Decrement => "Sets a counter one lower, and writes its number.",
             StdTags::Echo => "Writes what a chain comes to.",
+            StdTags::Cycle => "Writes the values of a group, one after another.",
         }
     }
 }
@@ -58,6 +62,7 @@ impl<F: ParseFilter> ParseTag<F> for StdTags {
             },
             StdTags::Decrement => parse_decrement(alloc, tokens),
             StdTags::Echo => parse_echo(alloc, tokens, filters),
+            StdTags::Cycle => parse_cycle(alloc, tokens),
         }
     }
 }
@@ -91,6 +96,16 @@ fn parse_echo<F: ParseFilter>(
             let chain = Box::new(alloc, chain)?;
             alone(alloc, tokens, StdTag::Echo(chain))
         }
+        Err(error) => Err(error),
+    }
+}
+
+/// Returns the node of a `cycle`.
+fn parse_cycle<X: Filter>(alloc: Global, tokens: TagTokenIter<'_>) -> Result<StdTag<X>, Error>
+    ensures { (ts : Tokens) → AreTokens tokens.entry ts → Gives (tag_of X.shape) result (cycle_node_given ts) }
+{
+    match read_cycle(alloc, tokens) {
+        Ok(cycle) => Ok(StdTag::Cycle(Box::new(alloc, cycle)?)),
         Err(error) => Err(error),
     }
 }

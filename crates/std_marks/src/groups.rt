@@ -69,7 +69,11 @@ fn name_expected(alloc: Global, value: &Value) -> Error
     ensures { IfSome (told result) (λ r. r ≡ expected (codes "Group name expected") (tree_of value.now)) }
 {
     match ValueSource::new(value).to_string(alloc) {
-        Ok(source) => Error::with_msg(alloc, "Group name expected").context(alloc, "found", source.as_str()),
+        Ok(source) => Error::with_msg(alloc, "Group name expected").context(
+            alloc,
+            "found",
+            source.as_str(),
+        ),
         Err(_) => Error::Memory,
     }
 }

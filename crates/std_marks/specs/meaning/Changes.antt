@@ -11,7 +11,7 @@ module _ {Reg : Type 0} (held : MarksIn Reg) where
   -- the same text again is not written; another is, and is the last one then
   abbrev pub unless_last : List ℕ → View Reg → Bool → Answered TurnShape (Option (List ℕ)) Reg
   unless_last text v true = answers (Ok end_turn) None v
-  unless_last text v false = answers (Ok (text_turn text)) None (marked held (with_last text) v)
+  unless_last text v false = answers (Ok (text_turn text)) None (marked held (with_last text (marks_in held v)) v)
 
   -- the part is captured, without a frame; after that its text is compared with that of the last `ifchanged`, of any place
   abbrev pub changes : Option (List ℕ) → View Reg → Answered TurnShape (Option (List ℕ)) Reg

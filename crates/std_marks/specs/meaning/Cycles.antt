@@ -11,6 +11,7 @@ use Rattle.liquid_plugins.specs.meaning.Turning.{answers}
 use Rattle.liquid_plugins.specs.meaning.Turns.{TurnShape, text_turn, Answered}
 use Rattle.std_marks.specs.declared.cycle.Cycle.{Cycle}
 use Rattle.std_marks.specs.declared.cycle.CycleShape.{CycleShape}
+use Rattle.std_marks.specs.declared.marks.MarksShape.{MarksShape}
 use Rattle.std_marks.specs.meaning.Groups.{group_of, key_in}
 use Rattle.std_marks.specs.meaning.Held.{MarksIn, marked, marks_in}
 use Rattle.std_marks.specs.meaning.Marks.{place_of, with_place}
@@ -32,19 +33,18 @@ text_at v es place = text_of v (slice_get es place)
 abbrev pub next_place : ℕ → ℕ → ℕ
 next_place place count = cond (lt (place + 1) count) (place + 1) 0
 
-module _ {P Reg : Type 0} (held : MarksIn Reg) where
-  -- the text is written, and the group has its next place
-  abbrev pub written : List ExpressionShape → List ℕ → ℕ → P → View Reg → Result (List ℕ) Refusal → Answered TurnShape P Reg
-  written es key place p v (Ok text) = answers (Ok (text_turn text)) p (marked held (with_place key (next_place place (length es))) v)
-  written es key place p v (Err r) = answers (Err r) p v
+-- the text that comes next in a group, and the marks after it
+abbrev pub next_of : {Reg : Type 0} → View Reg → CycleShape → MarksShape → Result (List ℕ × MarksShape) Refusal
+next_of v c m = ok_then (key_in v c.group) (λ key. ok_then (text_at v c.values (place_of m key)) (λ text.
+    Ok (text, with_place key (next_place (place_of m key) (length c.values)) m)))
 
-  abbrev pub cycles_at : List ExpressionShape → List ℕ → ℕ → P → View Reg → Answered TurnShape P Reg
-  cycles_at es key place p v = written es key place p v (text_at v es place)
+-- the view with the marks after a text, if there is one
+abbrev pub view_after : {Reg : Type 0} → MarksIn Reg → View Reg → Result (List ℕ × MarksShape) Refusal → View Reg
+view_after held v (Ok next) = marked held next.1 v
+view_after held v (Err r) = v
 
-  abbrev pub cycles_in : List ExpressionShape → P → View Reg → Result (List ℕ) Refusal → Answered TurnShape P Reg
-  cycles_in es p v (Ok key) = cycles_at es key (place_of (marks_in held v) key) p v
-  cycles_in es p v (Err r) = answers (Err r) p v
-
-  -- the turn of a `cycle`: the value at the place of its group
-  abbrev pub cycles : CycleShape → P → View Reg → Answered TurnShape P Reg
-  cycles c p v = cycles_in c.values p v (key_in v c.group)
+-- the turn of a `cycle`: the text is written, and the group has its next place
+abbrev pub cycles : {P Reg : Type 0} → MarksIn Reg → CycleShape → P → View Reg → Answered TurnShape P Reg
+cycles held c p v =
+    let next = next_of v c (marks_in held v) in
+    answers (ok_then next (λ n. Ok (text_turn n.0))) p (view_after held v next)

@@ -16,9 +16,9 @@ marks_alone = record { marks = λ m. m; with_marks = λ m old. m }
 abbrev pub KeepsMarks : {Reg : Type 0} → MarksIn Reg → Type 0
 KeepsMarks {Reg} held = (m : MarksShape) (r : Reg) → held.marks (held.with_marks m r) ≡ m
 
--- the marks that a view holds, and the view with them changed
+-- the marks that a view holds, and the view with others
 abbrev pub marks_in : {Reg : Type 0} → MarksIn Reg → View Reg → MarksShape
 marks_in held v = held.marks v.register
 
-abbrev pub marked : {Reg : Type 0} → MarksIn Reg → (MarksShape → MarksShape) → View Reg → View Reg
-marked held change v = record v { register = held.with_marks (change (held.marks v.register)) v.register }
+abbrev pub marked : {Reg : Type 0} → MarksIn Reg → MarksShape → View Reg → View Reg
+marked held m v = record v { register = held.with_marks m v.register }
