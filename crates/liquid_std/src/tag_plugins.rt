@@ -12,7 +12,7 @@ use liquid_plugins::{Filter, ParseFilter, PluginRegistry};
 use liquid_tags::Tags;
 use liquid_tags::asked::{TOKEN_EXPECTED, alone};
 use std::alloc::Global;
-use std_marks::read_cycle;
+use std_marks::read_cycle::read_cycle;
 
 /// The standard tags.
 #[derive(Debug, Clone, Copy, PartialEq, Eq, Drop)]
