@@ -1,26 +1,21 @@
 //! The blocks, as plug-ins.
-ghost use Rattle.std.specs.Prelude.{◌≡◌, refl, map};
+ghost use Rattle.std.specs.Prelude.{◌≡◌, refl};
 ghost use Rattle.liquid_error.specs.meaning.Told.{Gives};
 ghost use Rattle.liquid_parser.specs.meaning.Handed.{Tokens};
 ghost use Rattle.liquid_parser.specs.meaning.Plugins.{AreTokens};
-ghost use Rattle.std_conditions.specs.meaning.Branches.{case_of};
-ghost use Rattle.std_conditions.specs.meaning.Conditions.{condition_of};
-ghost use Rattle.liquid_std.specs.meaning.BlockPlugins.{begun, capture_given, case_given, condition_planned, finished_escaped, for_given, names_told};
-ghost use Rattle.liquid_std.specs.meaning.BlockPlugins.{node_divided, plan_of, planned, tablerow_given, whole_block, with_alternatives, with_condition};
-ghost use Rattle.liquid_std.specs.declared.blocks.StdBlockShape.TheVariants.{If, Unless};
+ghost use Rattle.liquid_std.specs.meaning.BlockPlugins.{begun, finished_escaped, names_told, node_divided, plan_of, planned, whole_block};
 ghost use Rattle.liquid_std.specs.meaning.Blocks.{block_of};
 
 use crate::blocks::{StdBlock, StdBlockShape};
+use crate::capture::begun_capture;
+use crate::case::{begun_case, push_alternatives};
+use crate::conditionals::{begun_if, begun_unless, push_condition};
+use crate::loops::{begun_for, begun_tablerow};
 use liquid_error::Error;
 use liquid_parser::{BlockBody, BlockReflection, ParseBlock, TagTokenIter};
 use liquid_plugins::{Meant, ParseFilter, PluginRegistry};
-use liquid_tags::asked::{TOKEN_EXPECTED, alone};
+use liquid_tags::asked::alone;
 use std::alloc::Global;
-use std_conditions::read_condition::read_condition;
-use std_conditions::read_values::read_values;
-use std_conditions::{Case, Condition};
-use std_loops::LoopBlock;
-use std_loops::read_loop::read_loop;
 
 /// The dividers of `if` and `unless`.
 static IF_DIVIDERS: [&str; 2] = ["elsif", "else"];
@@ -32,9 +27,6 @@ static CASE_DIVIDERS: [&str; 2] = ["when", "else"];
 static FOR_DIVIDERS: [&str; 1] = ["else"];
 
 static NO_DIVIDERS: [&str; 0] = [];
-
-/// What separates two values of a `when`.
-static WHEN_SEPARATORS: [&str; 2] = [",", "or"];
 
 /// The standard blocks.
 #[derive(Debug, Clone, Copy, PartialEq, Eq, Drop)]
@@ -222,95 +214,13 @@ fn begun(alloc: Global, block: StdBlocks, tokens: TagTokenIter<'_>) -> Result<St
     }
 }
 
-fn planned(node: StdBlock) -> StdPlan
+/// Returns a plan that no `else` has closed yet.
+pub(crate) fn planned(node: StdBlock) -> StdPlan
     ensures { plan_of result ≡ planned (block_of node) }
 {
     StdPlan {
         node,
         is_closed: false,
-    }
-}
-
-fn begun_if(alloc: Global, tokens: TagTokenIter<'_>) -> Result<StdPlan, Error>
-    ensures { (ts : Tokens) → AreTokens tokens.entry ts → Gives plan_of result (condition_planned If ts) }
-{
-    match read_condition(alloc, tokens) {
-        Ok(first) => {
-            let mut conditions = Vec::new(alloc);
-            conditions.push(first)?;
-            Ok(planned(StdBlock::If(conditions)))
-        }
-        Err(error) => Err(error),
-    }
-}
-
-fn begun_unless(alloc: Global, tokens: TagTokenIter<'_>) -> Result<StdPlan, Error>
-    ensures { (ts : Tokens) → AreTokens tokens.entry ts → Gives plan_of result (condition_planned Unless ts) }
-{
-    match read_condition(alloc, tokens) {
-        Ok(first) => {
-            let mut conditions = Vec::new(alloc);
-            conditions.push(first)?;
-            Ok(planned(StdBlock::Unless(conditions)))
-        }
-        Err(error) => Err(error),
-    }
-}
-
-fn begun_case(alloc: Global, tokens: TagTokenIter<'_>) -> Result<StdPlan, Error>
-    ensures { (ts : Tokens) → AreTokens tokens.entry ts → Gives plan_of result (case_given ts) }
-{
-    let mut tokens = tokens;
-    match tokens.next_value(alloc, TOKEN_EXPECTED) {
-        Ok(value) => {
-            let alternatives = Vec::new(alloc);
-            let case = Box::new(
-                alloc,
-                Case {
-                    value,
-                    alternatives,
-                },
-            )?;
-            alone(alloc, tokens, planned(StdBlock::Case(case)))
-        }
-        Err(error) => Err(error),
-    }
-}
-
-fn begun_for(alloc: Global, tokens: TagTokenIter<'_>) -> Result<StdPlan, Error>
-    ensures { (ts : Tokens) → AreTokens tokens.entry ts → Gives plan_of result (for_given ts) }
-{
-    match read_loop(alloc, LoopBlock::For, tokens) {
-        Ok(header) => {
-            let header = Box::new(alloc, header)?;
-            Ok(planned(StdBlock::For(header)))
-        }
-        Err(error) => Err(error),
-    }
-}
-
-fn begun_tablerow(alloc: Global, tokens: TagTokenIter<'_>) -> Result<StdPlan, Error>
-    ensures { (ts : Tokens) → AreTokens tokens.entry ts → Gives plan_of result (tablerow_given ts) }
-{
-    match read_loop(alloc, LoopBlock::Tablerow, tokens) {
-        Ok(header) => {
-            let header = Box::new(alloc, header)?;
-            Ok(planned(StdBlock::Tablerow(header)))
-        }
-        Err(error) => Err(error),
-    }
-}
-
-fn begun_capture(alloc: Global, tokens: TagTokenIter<'_>) -> Result<StdPlan, Error>
-    ensures { (ts : Tokens) → AreTokens tokens.entry ts → Gives plan_of result (capture_given ts) }
-{
-    let mut tokens = tokens;
-    match tokens.next_identifier(alloc, TOKEN_EXPECTED) {
-        Ok(name) => {
-            let name = String::from_str(alloc, name)?;
-            alone(alloc, tokens, planned(StdBlock::Capture(name)))
-        }
-        Err(error) => Err(error),
     }
 }
 
@@ -328,31 +238,6 @@ fn divide_node(alloc: Global, node: &mut StdBlock, tokens: TagTokenIter<'_>) -> 
         | StdBlock::Ifchanged
         | StdBlock::Comment
         | StdBlock::Raw(_) => tokens.expect_nothing(alloc),
-    }
-}
-
-/// Appends the condition of an `elsif`.
-fn push_condition(
-    alloc: Global,
-    conditions: &mut Vec<Condition>,
-    tokens: TagTokenIter<'_>,
-) -> Result<(), Error>
-    ensures { (ts : Tokens) → AreTokens tokens.entry ts
-        → Gives (λ _. map condition_of conditions.new.items) result (with_condition (map condition_of conditions.old.items) ts) }
-{
-    match read_condition(alloc, tokens) {
-        Ok(condition) => Ok(conditions.push(condition)?),
-        Err(error) => Err(error),
-    }
-}
-
-/// Appends the alternatives of a `when`.
-fn push_alternatives(alloc: Global, case: &mut Case, tokens: TagTokenIter<'_>) -> Result<(), Error>
-    ensures { (ts : Tokens) → AreTokens tokens.entry ts → Gives (λ _. case_of case.new) result (with_alternatives (case_of case.old) ts) }
-{
-    match read_values(alloc, tokens, &WHEN_SEPARATORS) {
-        Ok(values) => Ok(case.alternatives.push(values)?),
-        Err(error) => Err(error),
     }
 }
 

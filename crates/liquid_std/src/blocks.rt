@@ -1,25 +1,22 @@
 //! The nodes of blocks, and how they are rendered.
-ghost use Rattle.std.specs.Prelude.{◌≡◌, option_map, IfOk};
-ghost use Rattle.std_loops.specs.meaning.Picked.{picked_left};
+ghost use Rattle.std.specs.Prelude.{◌≡◌};
 ghost use Rattle.liquid_std.specs.laws.BlockLaws.{blocks_hide};
-ghost use Rattle.std_loops.specs.meaning.Tables.{table_of};
-ghost use Rattle.liquid_std.specs.meaning.Blocks.{block_count, block_nodes, block_of, over_items, over_table, progress_of};
+ghost use Rattle.liquid_std.specs.meaning.Blocks.{block_count, block_nodes, block_of, progress_of};
 
 use crate::capture::capture_turn;
+use crate::loops::{over_items, over_table};
 use liquid_error::Error;
 use liquid_plugins::{Bytes, Discreet, ListOf, Meant, Renderable, Turn};
 use liquid_runtime::{Frame, Runtime};
 use liquid_tags::rounds::RoundsShape;
 use liquid_value::Object;
-use std::alloc::{AllocError, Global};
+use std::alloc::Global;
 use std_conditions::branches::CaseShape;
 use std_conditions::condition::ConditionShape;
 use std_conditions::{Case, Condition, part_case, part_if, part_unless};
 use std_loops::loops::LoopShape;
 use std_loops::tables::TableShape;
-use std_loops::{
-    Loop, Picked, Rounds, Table, loop_turn, picked_items, rounds_over, table_over, table_turn,
-};
+use std_loops::{Loop, Rounds, Table, loop_turn, picked_items, table_over, table_turn};
 use std_marks::{HoldsMarks, changed_turn};
 
 /// What a block is made to.
@@ -192,25 +189,4 @@ impl<V: HoldsMarks> Renderable<V> for StdBlock {
 
 impl<V: HoldsMarks> Discreet<V> for StdBlock {
     ghost hides = { blocks_hide V.holds };
-}
-
-/// Returns the progress of a loop over these items; without items the second part comes.
-#[inline(never)]
-fn over_items(alloc: Global, items: Picked) -> Result<StdProgress, AllocError>
-    ensures { IfOk result (λ p. progress_of p ≡ over_items (picked_left items)) }
-{
-    match rounds_over(alloc, items)? {
-        Some(rounds) => Ok(StdProgress::Rounds(rounds)),
-        None => Ok(StdProgress::Once(1)),
-    }
-}
-
-/// Returns the progress of a table; without one nothing is rendered.
-fn over_table(table: Option<Box<Table>>) -> StdProgress
-    ensures { progress_of result ≡ over_table (option_map (λ t. table_of t.value) table) }
-{
-    match table {
-        Some(table) => StdProgress::Table(table),
-        None => StdProgress::Once(1),
-    }
 }

@@ -1,16 +1,37 @@
 //! The block `capture`.
 ghost use Rattle.std.specs.Prelude.{◌≡◌, string_bytes};
 ghost use Rattle.liquid_error.specs.meaning.Told.{Gives};
+ghost use Rattle.liquid_parser.specs.meaning.Handed.{Tokens};
+ghost use Rattle.liquid_parser.specs.meaning.Plugins.{AreTokens};
 ghost use Rattle.liquid_runtime.specs.meaning.Written.{SameFrames};
 ghost use Rattle.liquid_plugins.specs.meaning.TurnOf.{turn_of, Leaves, LeavesProgress};
+ghost use Rattle.liquid_std.specs.meaning.BlockPlugins.{capture_given, plan_of};
 ghost use Rattle.liquid_std.specs.meaning.Captures.{captures, text_of};
 
+use crate::block_plugins::{StdPlan, planned};
+use crate::blocks::StdBlock;
 use liquid_error::Error;
+use liquid_parser::TagTokenIter;
 use liquid_plugins::Turn;
 use liquid_runtime::{Frame, Runtime};
+use liquid_tags::asked::{TOKEN_EXPECTED, alone};
 use liquid_value::Value;
 use std::alloc::Global;
 use std::mem;
+
+/// Returns what the start tag of a `capture` plans.
+pub(crate) fn begun_capture(alloc: Global, tokens: TagTokenIter<'_>) -> Result<StdPlan, Error>
+    ensures { (ts : Tokens) → AreTokens tokens.entry ts → Gives plan_of result (capture_given ts) }
+{
+    let mut tokens = tokens;
+    match tokens.next_identifier(alloc, TOKEN_EXPECTED) {
+        Ok(name) => {
+            let name = String::from_str(alloc, name)?;
+            alone(alloc, tokens, planned(StdBlock::Capture(name)))
+        }
+        Err(error) => Err(error),
+    }
+}
 
 /// Captures the part in the first turn, and assigns its text to the name in the second.
 #[inline(never)]

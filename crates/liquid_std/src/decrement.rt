@@ -1,17 +1,41 @@
 //! The tag `decrement`.
 ghost use Rattle.std.specs.Prelude.{◌≡◌, IfSome, string_bytes};
 ghost use Rattle.liquid_error.specs.meaning.Told.{told, Gives};
+ghost use Rattle.liquid_parser.specs.meaning.Handed.{Tokens};
+ghost use Rattle.liquid_parser.specs.meaning.Plugins.{AreTokens};
 ghost use Rattle.liquid_runtime.specs.meaning.Written.{SameFrames};
 ghost use Rattle.liquid_plugins.specs.meaning.TurnOf.{turn_of, Leaves};
 ghost use Rattle.liquid_tags.specs.meaning.Counters.{past_limit};
 ghost use Rattle.liquid_std.specs.meaning.Decrement.{decrements, one_lower};
+ghost use Rattle.liquid_std.specs.meaning.TagPlugins.{decrement_given};
+ghost use Rattle.liquid_std.specs.meaning.Tags.{tag_of};
 
+use crate::tags::StdTag;
 use liquid_error::Error;
-use liquid_plugins::Turn;
+use liquid_parser::TagTokenIter;
+use liquid_plugins::{Filter, Turn};
 use liquid_runtime::Runtime;
+use liquid_tags::asked::{TOKEN_EXPECTED, alone};
 use liquid_tags::increment::{counts_from, past_limit};
 use liquid_value::Value;
 use std::alloc::Global;
+
+/// Returns the node of a `decrement`.
+pub(crate) fn parse_decrement<X: Filter>(
+    alloc: Global,
+    tokens: TagTokenIter<'_>,
+) -> Result<StdTag<X>, Error>
+    ensures { (ts : Tokens) → AreTokens tokens.entry ts → Gives (tag_of X.shape) result (decrement_given ts) }
+{
+    let mut tokens = tokens;
+    match tokens.next_identifier(alloc, TOKEN_EXPECTED) {
+        Ok(name) => {
+            let name = String::from_str(alloc, name)?;
+            alone(alloc, tokens, StdTag::Decrement(name))
+        }
+        Err(error) => Err(error),
+    }
+}
 
 /// Sets an index variable one lower, and writes the lower number.
 #[inline(never)]

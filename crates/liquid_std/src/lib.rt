@@ -4,11 +4,15 @@
 pub mod block_plugins;
 pub mod blocks;
 mod capture;
+mod case;
+mod conditionals;
+mod cycle;
 mod decrement;
 mod echo;
 mod isolated;
 mod languages;
 pub mod laws;
+mod loops;
 mod pages;
 pub mod tag_plugins;
 pub mod tags;

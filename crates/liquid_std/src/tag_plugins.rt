@@ -1,18 +1,15 @@
 //! The tags, as plug-ins.
-ghost use Rattle.liquid_error.specs.meaning.Told.{Gives};
-ghost use Rattle.liquid_parser.specs.meaning.Handed.{Tokens};
-ghost use Rattle.liquid_parser.specs.meaning.Plugins.{AreTokens, registry_of};
-ghost use Rattle.liquid_std.specs.meaning.TagPlugins.{cycle_node_given, decrement_given, echo_given, tag_given};
-ghost use Rattle.liquid_std.specs.meaning.Tags.{tag_of};
+ghost use Rattle.liquid_std.specs.meaning.TagPlugins.{tag_given};
 
+use crate::cycle::parse_cycle;
+use crate::decrement::parse_decrement;
+use crate::echo::parse_echo;
 use crate::tags::StdTag;
 use liquid_error::Error;
 use liquid_parser::{ParseTag, TagReflection, TagTokenIter};
-use liquid_plugins::{Filter, ParseFilter, PluginRegistry};
+use liquid_plugins::{ParseFilter, PluginRegistry};
 use liquid_tags::Tags;
-use liquid_tags::asked::{TOKEN_EXPECTED, alone};
 use std::alloc::Global;
-use std_marks::read_cycle::read_cycle;
 
 /// The standard tags.
 #[derive(Debug, Clone, Copy, PartialEq, Eq, Drop)]
@@ -64,48 +61,5 @@ impl<F: ParseFilter> ParseTag<F> for StdTags {
             StdTags::Echo => parse_echo(alloc, tokens, filters),
             StdTags::Cycle => parse_cycle(alloc, tokens),
         }
-    }
-}
-
-/// Returns the node of a `decrement`.
-fn parse_decrement<X: Filter>(alloc: Global, tokens: TagTokenIter<'_>) -> Result<StdTag<X>, Error>
-    ensures { (ts : Tokens) → AreTokens tokens.entry ts → Gives (tag_of X.shape) result (decrement_given ts) }
-{
-    let mut tokens = tokens;
-    match tokens.next_identifier(alloc, TOKEN_EXPECTED) {
-        Ok(name) => {
-            let name = String::from_str(alloc, name)?;
-            alone(alloc, tokens, StdTag::Decrement(name))
-        }
-        Err(error) => Err(error),
-    }
-}
-
-/// Returns the node of an `echo`.
-fn parse_echo<F: ParseFilter>(
-    alloc: Global,
-    tokens: TagTokenIter<'_>,
-    filters: &PluginRegistry<F>,
-) -> Result<StdTag<F::Filter>, Error>
-    ensures { (ts : Tokens) → AreTokens tokens.entry ts
-        → Gives (tag_of F.Filter.shape) result (echo_given (registry_of F.makes filters.now) ts) }
-{
-    let mut tokens = tokens;
-    match tokens.next_filter_chain(alloc, TOKEN_EXPECTED, filters) {
-        Ok(chain) => {
-            let chain = Box::new(alloc, chain)?;
-            alone(alloc, tokens, StdTag::Echo(chain))
-        }
-        Err(error) => Err(error),
-    }
-}
-
-/// Returns the node of a `cycle`.
-fn parse_cycle<X: Filter>(alloc: Global, tokens: TagTokenIter<'_>) -> Result<StdTag<X>, Error>
-    ensures { (ts : Tokens) → AreTokens tokens.entry ts → Gives (tag_of X.shape) result (cycle_node_given ts) }
-{
-    match read_cycle(alloc, tokens) {
-        Ok(cycle) => Ok(StdTag::Cycle(Box::new(alloc, cycle)?)),
-        Err(error) => Err(error),
     }
 }
