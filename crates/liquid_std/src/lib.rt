@@ -8,6 +8,8 @@ mod case;
 mod conditionals;
 mod cycle;
 mod decrement;
+#[cfg(test)]
+mod desk_tests;
 mod echo;
 mod isolated;
 mod languages;
