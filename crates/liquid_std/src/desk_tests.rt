@@ -77,7 +77,7 @@ fn a_desk_keeps_marks_and_visits(rt: HostRuntime) -> Result<(), Fail> {
         rt.alloc(),
         "{% cycle 1, 2, 3 %}{% ifchanged %}a{% endifchanged %}",
     )?;
-    assert_eq!(rt; sink.as_bytes(), b"1a2");
+    assert_eq!(rt; sink.as_bytes(), b"1a2".as_slice());
     assert_eq!(rt; visits, 2);
     Ok(())
 }

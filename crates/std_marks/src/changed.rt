@@ -5,7 +5,7 @@ ghost use Rattle.liquid_runtime.specs.meaning.Written.{SameFrames};
 ghost use Rattle.liquid_plugins.specs.meaning.TurnOf.{turn_of, Leaves, LeavesProgress};
 ghost use Rattle.std_marks.specs.meaning.Changes.{changes};
 
-use crate::holder::HoldsMarks;
+use crate::holder::{HoldsMarks, keep_last};
 use liquid_error::Error;
 use liquid_plugins::Turn;
 use liquid_runtime::{Frame, Runtime};
@@ -32,11 +32,12 @@ pub fn changed_turn<V: HoldsMarks, R: Runtime<Register = V>>(
     match mem::replace(text, None) {
         Some(text) => {
             if runtime.registers().value.marks().is_last(text.as_str()) {
-                return Ok(Turn::End);
+                Ok(Turn::End)
+            } else {
+                let last = text.clone()?;
+                keep_last(&mut runtime.registers_mut().value, last);
+                Ok(Turn::Text(text))
             }
-            let kept = text.clone()?;
-            runtime.registers_mut().value.marks_mut().set_last(kept);
-            Ok(Turn::Text(text))
         }
         None => Ok(Turn::Capture(0, Frame::None, None)),
     }

@@ -8,7 +8,7 @@ ghost use Rattle.std.specs.Prelude.{string_bytes};
 ghost use Rattle.std_marks.specs.meaning.Cycles.{cycle_of, cycles, next_place, text_at};
 
 use crate::groups::{Group, GroupShape, key_in};
-use crate::holder::HoldsMarks;
+use crate::holder::{HoldsMarks, move_group};
 use liquid_error::Error;
 use liquid_plugins::{Expression, ExpressionMark, ListOf, Meant, Turn};
 use liquid_runtime::Runtime;
@@ -51,17 +51,17 @@ pub fn cycle_turn<V: HoldsMarks, R: Runtime<Register = V>>(
     ensures owes { R.restores runtime.new ≡ R.restores runtime.old }
     ensures borrows { R.lent runtime.new ≡ R.lent runtime.old }
 {
-    let key = match key_in(alloc, &cycle.group, &*runtime) {
-        Ok(key) => key,
-        Err(error) => return Err(error),
-    };
-    let place = runtime.registers().value.marks().place(key.as_str());
-    match text_at(alloc, cycle.values.as_slice(), place, &*runtime) {
-        Ok(text) => {
-            let next = next_place(place, cycle.values.len());
-            let marks = runtime.registers_mut().value.marks_mut();
-            marks.set_place(alloc, key, next)?;
-            Ok(Turn::Text(text))
+    match key_in(alloc, &cycle.group, &*runtime) {
+        Ok(key) => {
+            let place = runtime.registers().value.marks().place(key.as_str());
+            match text_at(alloc, cycle.values.as_slice(), place, &*runtime) {
+                Ok(text) => {
+                    let next = next_place(place, cycle.values.len());
+                    move_group(alloc, &mut runtime.registers_mut().value, key, next)?;
+                    Ok(Turn::Text(text))
+                }
+                Err(error) => Err(error),
+            }
         }
         Err(error) => Err(error),
     }

@@ -1,12 +1,13 @@
 //! Registers that hold marks.
-ghost use Rattle.std.specs.Prelude.{◌≡◌, refl};
+ghost use Rattle.std.specs.Prelude.{◌≡◌, refl, string_bytes, OnOk};
 ghost use Rattle.std.specs.Borrow.{sem, Lends};
 ghost use Rattle.std_marks.specs.contracts.marks.Marks as marks;
 ghost use Rattle.std_marks.specs.meaning.Held.{marks_alone, KeepsMarks, MarksIn};
-ghost use Rattle.std_marks.specs.meaning.Marks.{marks_of};
+ghost use Rattle.std_marks.specs.meaning.Marks.{marks_of, with_last, with_place};
 
 use crate::marks::Marks;
 use liquid_runtime::Fresh;
+use std::alloc::{AllocError, Global};
 
 /// A register that holds marks, so that a template over it may use `cycle` and `ifchanged`.
 ///
@@ -47,4 +48,25 @@ impl HoldsMarks for Marks {
     fn marks_mut(&mut self) -> &mut Marks {
         self
     }
+}
+
+/// Gives a group this place, in the marks of a register.
+pub(crate) fn move_group<V: HoldsMarks>(
+    alloc: Global,
+    register: &mut V,
+    key: String,
+    place: u64,
+) -> Result<(), AllocError>
+    ensures { OnOk result (V.shape register.new
+        ≡ V.holds.with_marks (with_place (string_bytes key) place (V.holds.marks (V.shape register.old))) (V.shape register.old)) }
+{
+    register.marks_mut().set_place(alloc, key, place)
+}
+
+/// Sets the text of the last `ifchanged`, in the marks of a register.
+pub(crate) fn keep_last<V: HoldsMarks>(register: &mut V, text: String)
+    ensures { V.shape register.new
+        ≡ V.holds.with_marks (with_last (string_bytes text) (V.holds.marks (V.shape register.old))) (V.shape register.old) }
+{
+    register.marks_mut().set_last(text)
 }

@@ -39,6 +39,7 @@ impl Fresh for Marks {
 
 impl Marks {
     /// Returns the place of the group with this key. It is 0 for a group that has no place yet.
+    #[tactic(auto, using(crate::proofs::MarkLemmas::no_place))]
     pub fn place(&self, key: &str) -> u64
         ensures { result ≡ place_of (marks_of self.now) key.now }
     {
@@ -52,15 +53,13 @@ impl Marks {
     pub fn set_place(&mut self, alloc: Global, key: String, place: u64) -> Result<(), AllocError>
         ensures { OnOk result (marks_of self.new ≡ with_place (string_bytes key) place (marks_of self.old)) }
     {
-        match self.places.as_mut() {
-            Some(places) => places.set(key, place),
-            None => {
-                let mut places = Places::new(alloc);
-                places.set(key, place)?;
-                self.places = Some(places);
-                Ok(())
-            }
-        }
+        let mut places = match self.places.take() {
+            Some(places) => places,
+            None => Places::new(alloc),
+        };
+        let answer = places.set(key, place);
+        self.places = Some(places);
+        answer
     }
 
     /// Returns `true` if this is the text of the last `ifchanged`.

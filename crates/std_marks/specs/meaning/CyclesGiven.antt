@@ -1,21 +1,19 @@
 -- What `cycle` makes of its tokens.
-use Rattle.std.specs.Prelude.{ℕ, List, [], ◌∷◌, codes, bytes_eq, cond, Option, None, Some, Result, Ok}
+use Rattle.std.specs.Prelude.{ℕ, List, [], ◌∷◌, codes, bytes_eq, cond, Option, None, Some, option_and_then, Result, Ok}
 use Rattle.liquid_error.specs.meaning.Refusal.{Refusal, ok_then}
 use Rattle.liquid_plugins.specs.meaning.Expression.{ExpressionShape}
-use Rattle.liquid_parser.specs.meaning.Handed.{Token, Tokens, expect_value, or_unexpected}
+use Rattle.liquid_parser.specs.meaning.Handed.{Token, Tokens, expect_value, next, or_unexpected}
 use Rattle.std_conditions.specs.meaning.Values.{values_given}
 use Rattle.std_marks.specs.declared.cycle.CycleShape.{CycleShape}
 use Rattle.std_marks.specs.declared.groups.GroupShape.TheVariants.{Named, Unnamed}
 use Rattle.std_marks.specs.meaning.Groups.{displayed, group_key, unnamed}
 
--- the first token and the tokens after the second, if the second is a colon
-abbrev pub before_colon : List Token → Option (Token × Tokens)
-before_colon [] = None
-before_colon (t ∷ []) = None
-before_colon (t ∷ u ∷ ts) = cond (bytes_eq u.text (codes ":")) (Some (t, record { behind = u.behind; left = ts })) None
+-- the next token and the tokens after a colon, if a colon follows it
+abbrev pub if_colon : Token → Token × Tokens → Option (Token × Tokens)
+if_colon name colon = cond (bytes_eq colon.0.text (codes ":")) (Some (name, colon.1)) None
 
 abbrev pub name_in : Tokens → Option (Token × Tokens)
-name_in ts = before_colon ts.left
+name_in ts = option_and_then (λ name. option_and_then (if_colon name.0) (next name.1)) (next ts)
 
 -- values with commas between them
 abbrev pub cycled : Tokens → Result (List ExpressionShape) Refusal
