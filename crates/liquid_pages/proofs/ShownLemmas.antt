@@ -33,7 +33,7 @@ not_text bytes false is none = refl
 pub no_text_is : (which : PageText) (bytes : List ℕ) → ¬ (IsUtf8 bytes) → text_read which bytes ≡ Err (no_text which)
 no_text_is which bytes none = rw (not_text bytes (is_utf8 bytes) refl none) refl
 
-module _ (r : Run (Unit {0})) (first last : List ℕ) (left : View (Unit {0})) (nothing : first ≡ []) where
+module _ {Reg : Type 0} (r : Run Reg) (first last : List ℕ) (left : View Reg) (nothing : first ≡ []) where
   abbrev At : List ℕ → Output
   At taken = ungated (alone taken 0)
 
@@ -43,10 +43,10 @@ module _ (r : Run (Unit {0})) (first last : List ℕ) (left : View (Unit {0})) (
   begins : Cut r (At first) (At last) → Begins last (page_of_run r)
   begins c = (c.rest, c.pieces_are ∙ ap (λ t. t ++ c.rest) (sym (c.taken ∙ ap (λ t. t ++ c.part) nothing)))
 
-  never_fails : (step : Step (Unit {0})) (rest : List ℕ) (turns bytes : ℕ) (refusal : Refusal) → SinkFails step rest turns bytes (At first) (At last) refusal → ⊥
+  never_fails : (step : Step Reg) (rest : List ℕ) (turns bytes : ℕ) (refusal : Refusal) → SinkFails step rest turns bytes (At first) (At last) refusal → ⊥
   never_fails step rest turns bytes refusal f = let one : 0 ≡ 0 + 1 = f.failures in omega (arith, one)
 
-  never_refused : (step : Step (Unit {0})) (part : List ℕ) (turns bytes : ℕ) (refusal : Refusal) → GateRefuses step part turns bytes (At first) (At last) refusal → ⊥
+  never_refused : (step : Step Reg) (part : List ℕ) (turns bytes : ℕ) (refusal : Refusal) → GateRefuses step part turns bytes (At first) (At last) refusal → ⊥
   never_refused step part turns bytes refusal g = elim g.refused as (λ _. ⊥) [ inl t ↦ t.1 | inr b ↦ b.2 ]
 
   never_broken : (refusal : Refusal) → BrokenOff r (At first) (At last) left refusal → ⊥
@@ -63,7 +63,7 @@ module _ (r : Run (Unit {0})) (first last : List ℕ) (left : View (Unit {0})) (
   shown_outcome (Err error) o = stopped_shown (told error) o
 
 -- what was read was rendered to an empty sink
-pub nodes_shown : {F T P L B Q : Type 0} (s : Settings F T P B Q) (l : Lang F T L B) (options : PageOptions) (nodes : List (NodeShape F T B)) (names : Names) (texts : Texts) (first last : List ℕ) (result : Result (Unit {0}) Error) (end : Result (Unit {0}) PageFault)
+pub nodes_shown : {Reg F T P L B Q : Type 0} (s : Settings Reg F T P B Q) (l : Lang F T L B) (options : PageOptions) (nodes : List (NodeShape F T B)) (names : Names) (texts : Texts) (first last : List ℕ) (result : Result (Unit {0}) Error) (end : Result (Unit {0}) PageFault)
     → first ≡ [] → end ≡ ended result → RendersAnswer s l options (Ok nodes) names (Some texts) (alone first 0) (alone last 0) result
     → (p : Page) → NodesComeTo s l options nodes names texts p → Shows p last end
 nodes_shown s l options nodes names texts first last result end nothing is renders p comes =

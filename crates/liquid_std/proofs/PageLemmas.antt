@@ -20,6 +20,9 @@ use Rattle.liquid_partials.specs.meaning.Compiled.{Compiled}
 use Rattle.liquid_partials.specs.meaning.Rendered.{Rendered}
 use Rattle.liquid_partials.specs.meaning.Sources.{Texts}
 use Rattle.liquid_partials.proofs.StoreLemmas.{one_store}
+use Rattle.std_marks.specs.declared.marks.MarksShape.{MarksShape}
+use Rattle.std_marks.specs.meaning.Held.{marks_alone}
+use Rattle.std_marks.specs.meaning.Marks.{no_marks}
 use Rattle.liquid_std.specs.declared.tags.StdTagShape.{StdTagShape}
 use Rattle.liquid_std.specs.declared.blocks.StdBlockShape.{StdBlockShape}
 use Rattle.liquid_std.specs.declared.block_plugins.StdPlanShape.{StdPlanShape}
@@ -35,27 +38,27 @@ compiled_alike l k texts others found same_l same_texts compiled =
 
 module _ {F : Type 0} (m : FilterMeaning F) (filters : Filters F) (text : List ℕ) (globals : Names) (partials : Texts) where
   -- a language that means the standard one, what the runtime's store finds, and the view of a built runtime
-  pub page_over : (l : Lang F (StdTagShape F) StdPlanShape StdBlockShape) (stored : Option (Found F (StdTagShape F) StdBlockShape)) (found : Found F (StdTagShape F) StdBlockShape) (v left : View (Unit {0})) (before after : Sunk) (result : Result (Unit {0}) Error)
-      → ((answer : PageAnswer F) → Reads l text answer → Rendered (standard tt m stored) answer v before after left result)
-      → l ≡ tags_and_blocks filters → stored ≡ Some found → v ≡ built_view tt page_depth globals → Compiled (tags_and_blocks filters) partials found
+  pub page_over : (l : Lang F (StdTagShape F) StdPlanShape StdBlockShape) (stored : Option (Found F (StdTagShape F) StdBlockShape)) (found : Found F (StdTagShape F) StdBlockShape) (v left : View MarksShape) (before after : Sunk) (result : Result (Unit {0}) Error)
+      → ((answer : PageAnswer F) → Reads l text answer → Rendered (standard marks_alone no_marks m stored) answer v before after left result)
+      → l ≡ tags_and_blocks filters → stored ≡ Some found → v ≡ built_view no_marks page_depth globals → Compiled (tags_and_blocks filters) partials found
       → RendersPage m filters text globals partials before after result
   page_over l stored found v left before after result given same_l same_stored same_v compiled = record {
     left = left;
     rendered = λ answer reads other is_other.
-        subst (λ w. Rendered (standard tt m (Some other)) answer w before after left result) same_v
-        (subst (λ s. Rendered (standard tt m s) answer v before after left result) (same_stored ∙ ap Some (sym (one_store (tags_and_blocks filters) partials found other compiled is_other)))
+        subst (λ w. Rendered (standard marks_alone no_marks m (Some other)) answer w before after left result) same_v
+        (subst (λ s. Rendered (standard marks_alone no_marks m s) answer v before after left result) (same_stored ∙ ap Some (sym (one_store (tags_and_blocks filters) partials found other compiled is_other)))
         (given answer (subst (λ k. Reads k text answer) (sym same_l) reads)));
   }
 
   -- where memory runs out before anything is written, that is an outcome of each page
   nothing_comes : (at : Sunk) (error : Error) → told error ≡ None → (answer : PageAnswer F) (finds : Found F (StdTagShape F) StdBlockShape)
-      → Rendered (standard (tt {0}) m (Some finds)) answer (built_view (tt {0}) page_depth globals) at at (built_view (tt {0}) page_depth globals) (Err error)
+      → Rendered (standard marks_alone no_marks m (Some finds)) answer (built_view no_marks page_depth globals) at at (built_view no_marks page_depth globals) (Err error)
   nothing_comes at error memory (Ok nodes) finds =
-      let start = built_view (tt {0}) page_depth globals in
-      let run = template_run (standard (tt {0}) m (Some finds)) (nodes_from nodes) start in
+      let start = built_view no_marks page_depth globals in
+      let run = template_run (standard marks_alone no_marks m (Some finds)) (nodes_from nodes) start in
       without_gate run start start at at (Err error) (renders_memory run start (ungated at) error memory)
   nothing_comes at error memory (Err refusal) finds =
       (refl, (refl, subst (λ (o : Option Refusal). IfSome o (λ reason. reason ≡ refusal)) (sym memory) tt))
 
   pub no_page : (at : Sunk) (error : Error) → told error ≡ None → RendersPage m filters text globals partials at at (Err error)
-  no_page at error memory = record { left = built_view (tt {0}) page_depth globals; rendered = λ answer reads finds compiled. nothing_comes at error memory answer finds }
+  no_page at error memory = record { left = built_view no_marks page_depth globals; rendered = λ answer reads finds compiled. nothing_comes at error memory answer finds }

@@ -37,6 +37,7 @@ pub enum StdBlocks {
     For,
     Tablerow,
     Capture,
+    Ifchanged,
     Comment,
     Raw,
 }
@@ -71,6 +72,7 @@ impl BlockReflection for StdBlocks {
             StdBlocks::For => "for",
             StdBlocks::Tablerow => "tablerow",
             StdBlocks::Capture => "capture",
+            StdBlocks::Ifchanged => "ifchanged",
             StdBlocks::Comment => "comment",
             StdBlocks::Raw => "raw",
         }
@@ -84,6 +86,7 @@ impl BlockReflection for StdBlocks {
             StdBlocks::For => "endfor",
             StdBlocks::Tablerow => "endtablerow",
             StdBlocks::Capture => "endcapture",
+            StdBlocks::Ifchanged => "endifchanged",
             StdBlocks::Comment => "endcomment",
             StdBlocks::Raw => "endraw",
         }
@@ -98,6 +101,8 @@ impl BlockReflection for StdBlocks {
             StdBlocks::For => "Renders its body for each item of an array, an object or a range.",
             StdBlocks::Tablerow => "Renders its body in a cell of a table for each item.",
             StdBlocks::Capture => "Assigns the text of its part to a name.",
+            StdBlocks::Ifchanged =>
+                "Renders its part, unless its text is that of the last ifchanged.",
             StdBlocks::Comment => "Writes nothing.",
             StdBlocks::Raw => "Writes its body as it stands.",
         }
@@ -118,9 +123,11 @@ impl<F: ParseFilter> ParseBlock<F> for StdBlocks {
             StdBlocks::If | StdBlocks::Unless => &IF_DIVIDERS,
             StdBlocks::Case => &CASE_DIVIDERS,
             StdBlocks::For => &FOR_DIVIDERS,
-            StdBlocks::Tablerow | StdBlocks::Capture | StdBlocks::Comment | StdBlocks::Raw => {
-                &NO_DIVIDERS
-            }
+            StdBlocks::Tablerow
+            | StdBlocks::Capture
+            | StdBlocks::Ifchanged
+            | StdBlocks::Comment
+            | StdBlocks::Raw => &NO_DIVIDERS,
         }
     }
 
@@ -132,7 +139,8 @@ impl<F: ParseFilter> ParseBlock<F> for StdBlocks {
             | StdBlocks::Case
             | StdBlocks::For
             | StdBlocks::Tablerow
-            | StdBlocks::Capture => false,
+            | StdBlocks::Capture
+            | StdBlocks::Ifchanged => false,
         }
     }
 
@@ -145,6 +153,7 @@ impl<F: ParseFilter> ParseBlock<F> for StdBlocks {
             | StdBlocks::For
             | StdBlocks::Tablerow
             | StdBlocks::Capture
+            | StdBlocks::Ifchanged
             | StdBlocks::Raw => false,
         }
     }
@@ -199,6 +208,7 @@ fn begun(alloc: Global, block: StdBlocks, tokens: TagTokenIter<'_>) -> Result<St
         StdBlocks::For => begun_for(alloc, tokens),
         StdBlocks::Tablerow => begun_tablerow(alloc, tokens),
         StdBlocks::Capture => begun_capture(alloc, tokens),
+        StdBlocks::Ifchanged => alone(alloc, tokens, planned(StdBlock::Ifchanged)),
         StdBlocks::Comment => alone(alloc, tokens, planned(StdBlock::Comment)),
         StdBlocks::Raw => alone(alloc, tokens, planned(StdBlock::Raw(String::new(alloc)))),
     }
@@ -225,6 +235,7 @@ fn divide_node(alloc: Global, node: &mut StdBlock, tokens: TagTokenIter<'_>) -> 
         StdBlock::For(_)
         | StdBlock::Tablerow(_)
         | StdBlock::Capture(_)
+        | StdBlock::Ifchanged
         | StdBlock::Comment
         | StdBlock::Raw(_) => tokens.expect_nothing(alloc),
     }

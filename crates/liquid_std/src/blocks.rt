@@ -7,7 +7,7 @@ use crate::capture::capture_turn;
 use crate::loops::{over_items, over_table};
 use liquid_error::Error;
 use liquid_plugins::{Bytes, Discreet, ListOf, Meant, Renderable, Turn};
-use liquid_runtime::{Frame, Fresh, Runtime};
+use liquid_runtime::{Frame, Runtime};
 use liquid_tags::rounds::RoundsShape;
 use liquid_value::Object;
 use std::alloc::Global;
@@ -17,6 +17,7 @@ use std_conditions::{Case, Condition, part_case, part_if, part_unless};
 use std_loops::loops::LoopShape;
 use std_loops::tables::TableShape;
 use std_loops::{Loop, Rounds, Table, loop_turn, picked_items, table_over, table_turn};
+use std_marks::{HoldsMarks, changed_turn};
 
 /// What a block is made to.
 #[derive(Drop)]
@@ -33,6 +34,8 @@ pub enum StdBlock {
     Tablerow(Box<Loop>),
     /// The text of its part, assigned to this name.
     Capture(String),
+    /// Its part, unless its text is that of the last such block.
+    Ifchanged,
     /// Nothing.
     Comment,
     /// A text that is written unchanged.
@@ -47,6 +50,7 @@ pub enum StdBlockShape {
     For(LoopShape),
     Tablerow(LoopShape),
     Capture(Bytes),
+    Ifchanged,
     Comment,
     Raw(Bytes),
 }
@@ -60,7 +64,7 @@ pub enum StdProgress {
     Rounds(Box<Rounds>),
     /// A table, in a box too.
     Table(Box<Table>),
-    /// A capture, and the text of its part after the part has been rendered.
+    /// A capture or an `ifchanged`, and the text of its part after the part has been rendered.
     Capturing(Option<String>),
 }
 
@@ -98,10 +102,10 @@ impl Meant for StdProgress {
     ghost shape = { progress_of };
 }
 
-impl<V: Fresh> Renderable<V> for StdBlock {
+impl<V: HoldsMarks> Renderable<V> for StdBlock {
     type Progress = StdProgress;
 
-    ghost means = { block_nodes };
+    ghost means = { block_nodes V.holds };
 
     fn start<R: Runtime<Register = V>>(
         &self,
@@ -131,7 +135,7 @@ impl<V: Fresh> Renderable<V> for StdBlock {
                 Ok(table) => Ok(over_table(table)),
                 Err(error) => Err(error),
             },
-            StdBlock::Capture(_) => Ok(StdProgress::Capturing(None)),
+            StdBlock::Capture(_) | StdBlock::Ifchanged => Ok(StdProgress::Capturing(None)),
             StdBlock::Comment | StdBlock::Raw(_) => Ok(StdProgress::Once(0)),
         }
     }
@@ -158,6 +162,7 @@ impl<V: Fresh> Renderable<V> for StdBlock {
             (StdBlock::Capture(name), StdProgress::Capturing(text)) => {
                 capture_turn(alloc, name, text, runtime)
             }
+            (StdBlock::Ifchanged, StdProgress::Capturing(text)) => changed_turn(text, runtime),
             (_, StdProgress::Once(part)) => Ok(Turn::Body(*part, Frame::None, None)),
             (_, StdProgress::Rounds(_) | StdProgress::Table(_) | StdProgress::Capturing(_)) => {
                 Ok(Turn::End)
@@ -174,12 +179,14 @@ impl<V: Fresh> Renderable<V> for StdBlock {
 
     fn caught(&self, progress: &mut StdProgress, text: String) {
         match self {
-            StdBlock::Capture(_) => *progress = StdProgress::Capturing(Some(text)),
+            StdBlock::Capture(_) | StdBlock::Ifchanged => {
+                *progress = StdProgress::Capturing(Some(text))
+            }
             _ => drop(text),
         }
     }
 }
 
-impl<V: Fresh> Discreet<V> for StdBlock {
-    ghost hides = { blocks_hide };
+impl<V: HoldsMarks> Discreet<V> for StdBlock {
+    ghost hides = { blocks_hide V.holds };
 }

@@ -27,6 +27,7 @@ pub fn language<F: ParseFilter>(
     tags.register("render", StdTags::Library(Tags::Render))?;
     tags.register("decrement", StdTags::Decrement)?;
     tags.register("echo", StdTags::Echo)?;
+    tags.register("cycle", StdTags::Cycle)?;
     let mut blocks = PluginRegistry::new(alloc);
     blocks.register("if", StdBlocks::If)?;
     blocks.register("unless", StdBlocks::Unless)?;
@@ -34,6 +35,7 @@ pub fn language<F: ParseFilter>(
     blocks.register("for", StdBlocks::For)?;
     blocks.register("tablerow", StdBlocks::Tablerow)?;
     blocks.register("capture", StdBlocks::Capture)?;
+    blocks.register("ifchanged", StdBlocks::Ifchanged)?;
     blocks.register("comment", StdBlocks::Comment)?;
     blocks.register("raw", StdBlocks::Raw)?;
     Ok(Language {

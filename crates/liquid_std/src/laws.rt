@@ -3,17 +3,17 @@
 ghost use Rattle.liquid_plugins.specs.meaning.Chain.{FilterMeaning};
 ghost use Rattle.liquid_std.specs.laws.Sandboxes.{StandardAgrees, StandardIsolated};
 
-use liquid_runtime::Fresh;
+use std_marks::HoldsMarks;
 
 /// Under a sandboxed frame a template of the standard language has the run that it has over an outside without
 /// names: the same steps and the same end, with the outside's own names, interrupt and register as
 /// they were, and its globals overlaid by those that the run leaves.
-pub fn standard_is_isolated<V: Fresh, F>()
-    ensures { (fresh : V) (m : FilterMeaning F) → StandardIsolated fresh m }
+pub fn standard_is_isolated<V: HoldsMarks, F>()
+    ensures { (fresh : V.Shape) (m : FilterMeaning F) → StandardIsolated V.holds fresh m }
 {}
 
 /// So two outsides that agree on partials, depth, leniency, index variables and name get the same
 /// text, the same error and the same writes.
-pub fn outsides_agree_on_the_standard<V: Fresh, F>()
-    ensures { (fresh : V) (m : FilterMeaning F) → StandardAgrees fresh m }
+pub fn outsides_agree_on_the_standard<V: HoldsMarks, F>()
+    ensures { (fresh : V.Shape) (m : FilterMeaning F) → StandardAgrees V.holds fresh m }
 {}

@@ -6,7 +6,10 @@ pub mod blocks;
 mod capture;
 mod case;
 mod conditionals;
+mod cycle;
 mod decrement;
+#[cfg(test)]
+mod desk_tests;
 mod echo;
 mod isolated;
 mod languages;

@@ -4,6 +4,7 @@ ghost use Rattle.liquid_runtime.specs.meaning.Frames.{built_view};
 ghost use Rattle.liquid_runtime.specs.meaning.Maps.{names_of};
 ghost use Rattle.liquid_parser.specs.meaning.Plugins.{registry_of};
 ghost use Rattle.liquid_partials.specs.meaning.Compiled.{Compiled};
+ghost use Rattle.std_marks.specs.meaning.Marks.{no_marks};
 ghost use Rattle.liquid_std.specs.meaning.Languages.{meaning_of, tags_and_blocks};
 ghost use Rattle.liquid_std.specs.meaning.Pages.{RendersPage, page_depth};
 
@@ -21,9 +22,10 @@ use liquid_template::{PartialStore, Sink};
 use liquid_value::Object;
 use std::alloc::{AllocError, Global};
 use std::rc::Rc;
+use std_marks::Marks;
 
 /// A runtime of a page: names are strict, and 32 partials may be open inside one another.
-type PageRuntime<S, F> = BuiltRuntime<(), LazyStore<S, F, StdTags, StdBlocks>>;
+type PageRuntime<S, F> = BuiltRuntime<Marks, LazyStore<S, F, StdTags, StdBlocks>>;
 
 /// Renders a page and writes the result: this text in the standard language with these filters, over these
 /// globals, with the partials of this source.
@@ -85,7 +87,7 @@ fn runtime_of<F: ParseFilter, S: PartialSource + Drop>(
     globals: Object,
     store: LazyStore<S, F, StdTags, StdBlocks>,
 ) -> PageRuntime<S, F>
-    ensures view { ⟦<PageRuntime<S, F> as Runtime>⟧.view result ≡ built_view tt page_depth (names_of globals) }
+    ensures view { ⟦<PageRuntime<S, F> as Runtime>⟧.view result ≡ built_view no_marks page_depth (names_of globals) }
     ensures store { ⟦<PageRuntime<S, F> as Runtime>⟧.store result ≡ Some store }
 {
     RuntimeBuilder::new(alloc)

@@ -1,6 +1,7 @@
 //! The tags, as plug-ins.
 ghost use Rattle.liquid_std.specs.meaning.TagPlugins.{tag_given};
 
+use crate::cycle::parse_cycle;
 use crate::decrement::parse_decrement;
 use crate::echo::parse_echo;
 use crate::tags::StdTag;
@@ -17,6 +18,7 @@ pub enum StdTags {
     Library(Tags),
     Decrement,
     Echo,
+    Cycle,
 }
 
 impl TagReflection for StdTags {
@@ -25,6 +27,7 @@ impl TagReflection for StdTags {
             StdTags::Library(tag) => tag.tag(),
             StdTags::Decrement => "decrement",
             StdTags::Echo => "echo",
+            StdTags::Cycle => "cycle",
         }
     }
 
@@ -33,6 +36,7 @@ impl TagReflection for StdTags {
             StdTags::Library(tag) => tag.description(),
             StdTags::Decrement => "Sets a counter one lower, and writes its number.",
             StdTags::Echo => "Writes what a chain comes to.",
+            StdTags::Cycle => "Writes the values of a group, one after another.",
         }
     }
 }
@@ -55,6 +59,7 @@ impl<F: ParseFilter> ParseTag<F> for StdTags {
             },
             StdTags::Decrement => parse_decrement(alloc, tokens),
             StdTags::Echo => parse_echo(alloc, tokens, filters),
+            StdTags::Cycle => parse_cycle(alloc, tokens),
         }
     }
 }

@@ -7,10 +7,12 @@ use crate::echo::echo;
 use crate::isolated::isolated;
 use liquid_error::Error;
 use liquid_plugins::{Bytes, ChainMark, Discreet, Filter, FilterChain, Meant, Renderable, Turn};
-use liquid_runtime::{Fresh, Runtime};
+use liquid_runtime::Runtime;
 use liquid_tags::TagNode;
 use liquid_tags::tags::TagShape;
 use std::alloc::Global;
+use std_marks::cycle::CycleShape;
+use std_marks::{Cycle, HoldsMarks, cycle_turn};
 
 /// What a tag is made to, over filters `X`.
 #[derive(Drop)]
@@ -21,6 +23,8 @@ pub enum StdTag<X> {
     Decrement(String),
     /// Writes the value of a chain.
     Echo(Box<FilterChain<X>>),
+    /// Writes the next value of a group.
+    Cycle(Box<Cycle>),
 }
 
 /// Marks the shape of a tag, over filters of shape `S`.
@@ -28,6 +32,7 @@ pub enum StdTagShape<S> {
     Library(TagShape<S>),
     Decrement(Bytes),
     Echo(ChainMark<S>),
+    Cycle(CycleShape),
 }
 
 impl<X: Filter> Meant for StdTag<X> {
@@ -37,10 +42,10 @@ impl<X: Filter> Meant for StdTag<X> {
 }
 
 /// Each tag takes one turn; the progress is the number of turns.
-impl<X: Filter, V: Fresh> Renderable<V> for StdTag<X> {
+impl<X: Filter, V: HoldsMarks> Renderable<V> for StdTag<X> {
     type Progress = u64;
 
-    ghost means = { tag_nodes X.means };
+    ghost means = { tag_nodes V.holds X.means };
 
     fn start<R: Runtime<Register = V>>(
         &self,
@@ -67,6 +72,7 @@ impl<X: Filter, V: Fresh> Renderable<V> for StdTag<X> {
             },
             StdTag::Decrement(name) => decrement(alloc, name, runtime),
             StdTag::Echo(chain) => echo(alloc, &**chain, &*runtime),
+            StdTag::Cycle(cycle) => cycle_turn(alloc, &**cycle, runtime),
         }
     }
 
@@ -75,6 +81,6 @@ impl<X: Filter, V: Fresh> Renderable<V> for StdTag<X> {
     }
 }
 
-impl<X: Filter, V: Fresh> Discreet<V> for StdTag<X> {
-    ghost hides = { tags_hide X.means };
+impl<X: Filter, V: HoldsMarks> Discreet<V> for StdTag<X> {
+    ghost hides = { tags_hide V.holds X.means };
 }

@@ -19,8 +19,12 @@ fn written(alloc: Global, text: &str, globals: &str) -> Result<String, Error> {
     let filters: PluginRegistry<NoPlugin> = PluginRegistry::new(alloc);
     let mut sink = TextSink::new(alloc);
     let mut partials = InMemorySource::new(alloc);
-    let name = String::from_str(alloc, "p")?;
-    partials.add(name, String::from_str(alloc, PARTIAL)?)?;
+    for (name, text) in PARTIALS {
+        partials.add(
+            String::from_str(alloc, name)?,
+            String::from_str(alloc, text)?,
+        )?;
+    }
     let answer = render_page(alloc, text, globals, partials, filters, &mut sink);
     let Ok(mut all) = sink.into_string() else {
         return Err(Error::with_msg(alloc, "no text"));
@@ -31,8 +35,11 @@ fn written(alloc: Global, text: &str, globals: &str) -> Result<String, Error> {
     Ok(all)
 }
 
-/// The partial `p` of each row.
-const PARTIAL: &str = "{% assign y = 1 %}{{ y }}{{ z }}";
+/// The partials of each row.
+const PARTIALS: [(&str, &str); 2] = [
+    ("p", "{% assign y = 1 %}{{ y }}{{ z }}"),
+    ("c", "{% cycle 1, 2 %}{% ifchanged %}a{% endifchanged %}"),
+];
 
 /// A text, its globals, and what it writes.
 const ROWS: &str =
@@ -84,6 +91,23 @@ const ROWS: &str =
 ["{% tablerow i in l limit: a cols: -1 %}{{ tablerowloop.col0 }}{{ tablerowloop.col_first }}{% if i == 7 %}{% break %}{% endif %}.{% endtablerow %}!", "{\"a\": 3, \"l\": [8, 7, 6]}", "<tr class=\"row1\">\n<td class=\"col1\">0true.</td><td class=\"col2\">1false</td></tr>\n!"]
 ["{% tablerow i in x limit: y cols: z %}a{% endtablerow %}{% tablerow i in e %}a{% endtablerow %}", "{\"x\": null, \"e\": []}", "<tr class=\"row1\">\n</tr>\n"]
 ["{% tablerow i in x cols: p %}{{ i }}{% endtablerow %}", "{\"x\": [3, 6], \"p\": []}", "liquid: Whole number expected\n  with:\n    found=[]\n"]
+["{% cycle 1, 2 %}{% cycle 'g': 1, 2 %}{% cycle 1, 2 %}{% render 'c' %}{% include 'c' %}{% include 'c' %}", "{}", "1121a1a2"]
+["{% for i in (1..5) %}{% cycle 'odd', 'even' %} {% endfor %}", "{}", "odd even odd even odd "]
+["{% cycle x: 1, 2, 3 %}{% cycle 'a': 4, 5, 6 %}{% cycle x: 7 %}{% cycle 'a': 8, 9 %}", "{\"x\": \"a\"}", "158"]
+["{% cycle x, 2 %}{% cycle y, 2 %}{% cycle x, 2 %}", "{\"x\": 1, \"y\": 1}", "112"]
+["{% cycle 'a', 'b' %}{% cycle '\"a\", \"b\"' %}{% cycle 'a', 'b' %}", "{}", "a\"a\", \"b\"b"]
+["{% cycle 1, nope %}{% cycle 2, 3 %}{% cycle 1, nope %}", "{}", "12liquid: Unknown variable\n  with:\n    requested variable=nope\n"]
+["{% cycle l: 1, 2 %}", "{\"l\": [1]}", "liquid: Group name expected\n  with:\n    found=[1, ]\n"]
+["{% cycle nil: 1, 2 %}", "{}", "liquid: Group name expected\n  with:\n    found=nil\n"]
+["{% cycle %}", "{}", "liquid: Token expected (line 1, column 9)\n"]
+["{% cycle 1 2 %}", "{}", "liquid: Unexpected token (line 1, column 12)\n"]
+["{% cycle a: b: c %}", "{}", "liquid: Unexpected token (line 1, column 14)\n"]
+["{% cycle a | upcase: 1, 2 %}", "{}", "liquid: Unexpected token (line 1, column 10)\n"]
+["{% for i in l %}{% ifchanged %}{{ i }}{% endifchanged %}{% endfor %}", "{\"l\": [1, 1, 2, 2, 1]}", "121"]
+["{% ifchanged %}a{% endifchanged %}{% ifchanged %}b{% endifchanged %}{% ifchanged %}b{% endifchanged %}{% ifchanged %}a{% endifchanged %}", "{}", "aba"]
+["{% ifchanged %}{% endifchanged %}[{% ifchanged %}a{% ifchanged %}b{% endifchanged %}{% endifchanged %}]{% ifchanged %}ab{% endifchanged %}", "{}", "[ab]"]
+["{% for i in (1..3) %}{% ifchanged %}{{ i }}{% break %}{% endifchanged %}{% endfor %}", "{}", "1"]
+["{% ifchanged x %}{% endifchanged %}", "{}", "liquid: Unexpected token (line 1, column 14)\n"]
 ["{% tablerow i in x reversed %}{% endtablerow %}", "{}", "liquid: Unexpected token (line 1, column 20)\n"]
 ["{% for i in x cols: 2 %}{% endfor %}", "{}", "liquid: Unexpected token (line 1, column 15)\n"]"#;
 
@@ -97,6 +121,6 @@ fn rows_of_pages(rt: HostRuntime) -> Result<(), Fail> {
         assert_eq!(rt; written.as_str(), row.text(2)?);
         rows = rows.saturating_add(1);
     }
-    assert_eq!(rt; rows, 50);
+    assert_eq!(rt; rows, 67);
     Ok(())
 }

@@ -10,6 +10,7 @@ use std::alloc::Global;
 use std::rc::Rc;
 use std::test::Fail;
 use std_filters::{FilterPlugin, StdKind, filters};
+use std_marks::Marks;
 use tests_lines::Row;
 
 /// Returns `true` if a row comes to what it says in a language.
@@ -21,8 +22,8 @@ fn holds_in<T, B>(
 where
     T: ParseTag<FilterPlugin<StdKind>> + Drop,
     B: ParseBlock<FilterPlugin<StdKind>> + Drop,
-    T::Node: Renderable<()>,
-    B::Node: Renderable<()>,
+    T::Node: Renderable<Marks>,
+    B::Node: Renderable<Marks>,
 {
     let language = Rc::new(alloc, language)?;
     let store = LazyCompiler::new(source_of(alloc, row)?).compile(alloc, language.clone()?)?;

@@ -4,10 +4,11 @@ use liquid_core::model::{Object, Value, to_object};
 use liquid_core::runtime::{BuiltRuntime, Interrupt, Runtime, RuntimeBuilder};
 use std::alloc::Global;
 use std::test::Fail;
+use std_marks::Marks;
 use tests_lines::{Line, Row};
 
 /// A parent over a store of partials.
-pub(crate) type Over<P> = BuiltRuntime<(), P>;
+pub(crate) type Over<P> = BuiltRuntime<Marks, P>;
 
 /// The parents, a row each: globals, and whether an interrupt is set. One has no name, and the globals of the other hide
 /// the names of the rows.

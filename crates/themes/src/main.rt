@@ -15,6 +15,7 @@ use std::io::{self, Write};
 use std::process::ExitCode;
 use std::rc::Rc;
 use std_filters::{FilterPlugin, StdKind, filters};
+use std_marks::Marks;
 use theme::{Theme, partials_of, read_theme};
 
 /// The standard tags, blocks and filters.
@@ -34,7 +35,7 @@ fn render(alloc: Global, language: &Rc<StdLanguage>, theme: &Theme) -> Result<Re
         lenient: true,
     };
     let (page, data) = (theme.page.as_slice(), theme.data.as_slice());
-    Ok(render_page(alloc, language, options, page, data, partials.as_slice()))
+    Ok(render_page::<Marks, _, _, _>(alloc, language, options, page, data, partials.as_slice()))
 }
 
 /// Writes the page of a theme, up to its error if it has one.

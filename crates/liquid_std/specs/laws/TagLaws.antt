@@ -17,13 +17,15 @@ use Rattle.liquid_plugins.specs.meaning.Turns.{text_turn}
 use Rattle.liquid_plugins.proofs.Hiding.{answers_hide, evaluate_hidden}
 use Rattle.liquid_tags.specs.laws.TagLaws as library
 use Rattle.liquid_tags.specs.meaning.Counters.{counts_from, past_limit}
+use Rattle.std_marks.specs.laws.Hidden.{cycles_hide}
+use Rattle.std_marks.specs.meaning.Held.{MarksIn}
 use Rattle.liquid_std.specs.declared.tags.StdTagShape.{StdTagShape}
-use Rattle.liquid_std.specs.declared.tags.StdTagShape.TheVariants.{Library, Decrement, Echo}
+use Rattle.liquid_std.specs.declared.tags.StdTagShape.TheVariants.{Library, Decrement, Echo, Cycle}
 use Rattle.liquid_std.specs.meaning.Decrement.{counted_down, one_lower}
 use Rattle.liquid_std.specs.meaning.Isolated.{library_turn}
 use Rattle.liquid_std.specs.meaning.Tags.{echo_turn, tag_nodes, tag_takes}
 
-module _ {F Reg : Type 0} (m : FilterMeaning F) where
+module _ {F Reg : Type 0} (held : MarksIn Reg) (m : FilterMeaning F) where
   chain_hidden : (c : ChainShape F) (g : Names) (v : View Reg) → chain_value m c (hiding g v) ≡ chain_value m c (hiding empty v)
   chain_hidden c g v = ap (λ r. ok_then r (filtered m (erase (hiding empty v)) c.filters)) (evaluate_hidden g v c.entry)
 
@@ -35,11 +37,12 @@ module _ {F Reg : Type 0} (m : FilterMeaning F) where
   tag_start_hides : (n : StdTagShape F) → HidesGlobals {A = ℕ} {P = Unit {0}} {Reg = Reg} (begins_with 1)
   tag_start_hides n g v = answers_hide (Ok 1) tt (λ w. w) (λ h w. refl) g v
 
-  tag_turn_hides : (n : StdTagShape F) (p : ℕ) → HidesGlobals {Reg = Reg} (tag_takes m n p)
+  tag_turn_hides : (n : StdTagShape F) (p : ℕ) → HidesGlobals {Reg = Reg} (tag_takes held m n p)
   tag_turn_hides (Library n) p g v = ap library_turn ((library.tags_hide m).turn n p g v)
   tag_turn_hides (Decrement name) p g v = counted_hides name (one_lower (counts_from (value_in v.index name))) p g v
   tag_turn_hides (Echo c) p g v =
       ap (λ r. answers (echo_turn r) p (hiding g v)) (chain_hidden c g v) ∙ answers_hide (echo_turn (chain_value m c (hiding empty v))) p (λ w. w) (λ h w. refl) g v
+  tag_turn_hides (Cycle c) p g v = cycles_hide held g v c p
 
-  pub tags_hide : Discreet {Reg = Reg} (tag_nodes m)
+  pub tags_hide : Discreet {Reg = Reg} (tag_nodes held m)
   tags_hide = record { start = tag_start_hides; turn = tag_turn_hides }

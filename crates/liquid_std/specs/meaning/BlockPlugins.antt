@@ -13,7 +13,7 @@ use Rattle.std_loops.specs.meaning.OptionsGiven.{loop_given}
 use Rattle.liquid_std.specs.declared.blocks.StdBlockShape.{StdBlockShape}
 use Rattle.liquid_std.specs.declared.blocks.StdBlockShape.TheVariants as shape
 use Rattle.liquid_std.specs.declared.block_plugins.StdBlocks.{StdBlocks}
-use Rattle.liquid_std.specs.declared.block_plugins.StdBlocks.TheVariants.{If, Unless, Case, For, Tablerow, Capture, Comment, Raw}
+use Rattle.liquid_std.specs.declared.block_plugins.StdBlocks.TheVariants.{If, Unless, Case, For, Tablerow, Capture, Ifchanged, Comment, Raw}
 use Rattle.liquid_std.specs.declared.block_plugins.StdPlan.{StdPlan}
 use Rattle.liquid_std.specs.declared.block_plugins.StdPlanShape.{StdPlanShape}
 use Rattle.liquid_std.specs.meaning.Blocks.{block_of}
@@ -29,6 +29,7 @@ start_of Case = codes "case"
 start_of For = codes "for"
 start_of Tablerow = codes "tablerow"
 start_of Capture = codes "capture"
+start_of Ifchanged = codes "ifchanged"
 start_of Comment = codes "comment"
 start_of Raw = codes "raw"
 
@@ -39,6 +40,7 @@ end_of Case = codes "endcase"
 end_of For = codes "endfor"
 end_of Tablerow = codes "endtablerow"
 end_of Capture = codes "endcapture"
+end_of Ifchanged = codes "endifchanged"
 end_of Comment = codes "endcomment"
 end_of Raw = codes "endraw"
 
@@ -49,6 +51,7 @@ dividers_of Case = codes "when" ∷ codes "else" ∷ []
 dividers_of For = codes "else" ∷ []
 dividers_of Tablerow = []
 dividers_of Capture = []
+dividers_of Ifchanged = []
 dividers_of Comment = []
 dividers_of Raw = []
 
@@ -59,6 +62,7 @@ escapes_of Case = false
 escapes_of For = false
 escapes_of Tablerow = false
 escapes_of Capture = false
+escapes_of Ifchanged = false
 escapes_of Comment = true
 escapes_of Raw = true
 
@@ -97,6 +101,7 @@ begun Case ts = case_given ts
 begun For ts = for_given ts
 begun Tablerow ts = tablerow_given ts
 begun Capture ts = capture_given ts
+begun Ifchanged ts = alone (planned shape.Ifchanged) ts
 begun Comment ts = alone (planned shape.Comment) ts
 begun Raw ts = alone (planned (shape.Raw [])) ts
 

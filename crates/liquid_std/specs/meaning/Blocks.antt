@@ -13,6 +13,8 @@ use Rattle.std_conditions.specs.meaning.Conditions.{condition_of}
 use Rattle.std_loops.specs.declared.tables.TableShape.{TableShape}
 use Rattle.std_loops.specs.meaning.Loops.{loop_of, picked_items, rounds_of, rounds_over}
 use Rattle.std_loops.specs.meaning.Tables.{table_of, table_over, table_takes}
+use Rattle.std_marks.specs.meaning.Changes.{changes}
+use Rattle.std_marks.specs.meaning.Held.{MarksIn}
 use Rattle.liquid_std.specs.meaning.Captures.{captures, text_of}
 use Rattle.liquid_std.specs.declared.blocks.StdBlock.{StdBlock}
 use Rattle.liquid_std.specs.declared.blocks.StdBlock.TheVariants as block
@@ -31,6 +33,7 @@ block_of (block.Case c) = shape.Case (case_of c.value)
 block_of (block.For l) = shape.For (loop_of l.value)
 block_of (block.Tablerow l) = shape.Tablerow (loop_of l.value)
 block_of (block.Capture name) = shape.Capture (string_bytes name)
+block_of block.Ifchanged = shape.Ifchanged
 block_of block.Comment = shape.Comment
 block_of (block.Raw text) = shape.Raw (string_bytes text)
 
@@ -61,6 +64,7 @@ begins_as (shape.Case c) v = ok_then (part_case v c) (λ part. Ok (Once part))
 begins_as (shape.For l) v = ok_then (picked_items v l) (λ ts. Ok (over_items ts))
 begins_as (shape.Tablerow l) v = ok_then (table_over v l) (λ t. Ok (over_table t))
 begins_as (shape.Capture name) v = Ok (Capturing None)
+begins_as shape.Ifchanged v = Ok (Capturing None)
 begins_as shape.Comment v = Ok (Once 0)
 begins_as (shape.Raw text) v = Ok (Once 0)
 
@@ -90,19 +94,21 @@ part_turn (Table t) = end_turn
 part_turn (Capturing text) = end_turn
 
 -- what a block's turn answers
-abbrev pub block_takes : {Reg : Type 0} → StdBlockShape → StdProgressShape → View Reg → Answered TurnShape StdProgressShape Reg
-block_takes (shape.Raw text) p v = answers (Ok (text_turn text)) p v
-block_takes shape.Comment p v = answers (Ok end_turn) p v
-block_takes (shape.For l) (Rounds r) v = in_rounds (loop_takes l.name r v)
-block_takes (shape.Tablerow l) (Table t) v = in_table (table_takes l.name t v)
-block_takes (shape.Capture name) (Capturing text) v = in_capture (captures name text v)
-block_takes n p v = answers (Ok (part_turn p)) p v
+abbrev pub block_takes : {Reg : Type 0} → MarksIn Reg → StdBlockShape → StdProgressShape → View Reg → Answered TurnShape StdProgressShape Reg
+block_takes held (shape.Raw text) p v = answers (Ok (text_turn text)) p v
+block_takes held shape.Comment p v = answers (Ok end_turn) p v
+block_takes held (shape.For l) (Rounds r) v = in_rounds (loop_takes l.name r v)
+block_takes held (shape.Tablerow l) (Table t) v = in_table (table_takes l.name t v)
+block_takes held (shape.Capture name) (Capturing text) v = in_capture (captures name text v)
+block_takes held shape.Ifchanged (Capturing text) v = in_capture (changes held text v)
+block_takes held n p v = answers (Ok (part_turn p)) p v
 
--- a `capture` keeps the text of its part
+-- a `capture` and an `ifchanged` keep the text of their part
 abbrev pub block_catches : StdBlockShape → StdProgressShape → List ℕ → StdProgressShape
 block_catches (shape.Capture name) p bytes = Capturing (Some bytes)
+block_catches shape.Ifchanged p bytes = Capturing (Some bytes)
 block_catches n p bytes = p
 
 -- what the nodes mean
-abbrev pub block_nodes : {Reg : Type 0} → NodeMeaning StdBlockShape StdProgressShape Reg
-block_nodes = record { starts = block_starts; count = block_count; takes = block_takes; catches = block_catches }
+abbrev pub block_nodes : {Reg : Type 0} → MarksIn Reg → NodeMeaning StdBlockShape StdProgressShape Reg
+block_nodes held = record { starts = block_starts; count = block_count; takes = block_takes held; catches = block_catches }

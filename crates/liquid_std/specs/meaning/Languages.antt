@@ -13,9 +13,9 @@ use Rattle.liquid_std.specs.declared.tags.StdTagShape.{StdTagShape}
 use Rattle.liquid_std.specs.declared.blocks.StdBlockShape.{StdBlockShape}
 use Rattle.liquid_std.specs.declared.block_plugins.StdPlanShape.{StdPlanShape}
 use Rattle.liquid_std.specs.declared.tag_plugins.StdTags.{StdTags}
-use Rattle.liquid_std.specs.declared.tag_plugins.StdTags.TheVariants.{Library, Decrement, Echo}
+use Rattle.liquid_std.specs.declared.tag_plugins.StdTags.TheVariants.{Library, Decrement, Echo, Cycle}
 use Rattle.liquid_std.specs.declared.block_plugins.StdBlocks.{StdBlocks}
-use Rattle.liquid_std.specs.declared.block_plugins.StdBlocks.TheVariants.{If, Unless, Case, For, Tablerow, Capture, Comment, Raw}
+use Rattle.liquid_std.specs.declared.block_plugins.StdBlocks.TheVariants.{If, Unless, Case, For, Tablerow, Capture, Ifchanged, Comment, Raw}
 use Rattle.liquid_std.specs.meaning.TagPlugins.{tag_given}
 use Rattle.liquid_std.specs.meaning.BlockPlugins.{whole_block}
 
@@ -24,13 +24,13 @@ the_tags =
     registered empty
     ((codes "assign", Library library.Assign) ∷ (codes "increment", Library library.Increment) ∷ (codes "break", Library library.Break)
     ∷ (codes "continue", Library library.Continue) ∷ (codes "include", Library library.Include) ∷ (codes "render", Library library.Render)
-    ∷ (codes "decrement", Decrement) ∷ (codes "echo", Echo) ∷ [])
+    ∷ (codes "decrement", Decrement) ∷ (codes "echo", Echo) ∷ (codes "cycle", Cycle) ∷ [])
 
 abbrev pub the_blocks : NameMap StdBlocks
 the_blocks =
     registered empty
     ((codes "if", If) ∷ (codes "unless", Unless) ∷ (codes "case", Case) ∷ (codes "for", For) ∷ (codes "tablerow", Tablerow)
-    ∷ (codes "capture", Capture) ∷ (codes "comment", Comment) ∷ (codes "raw", Raw) ∷ [])
+    ∷ (codes "capture", Capture) ∷ (codes "ifchanged", Ifchanged) ∷ (codes "comment", Comment) ∷ (codes "raw", Raw) ∷ [])
 
 -- what a language of such tags and blocks means, by what its filters make of their arguments
 abbrev pub meaning_of : {U F : Type 0} → (U → Arguments → Result F Refusal) → Language U StdTags StdBlocks → Lang F (StdTagShape F) StdPlanShape StdBlockShape

@@ -14,6 +14,9 @@ use Rattle.liquid_template.specs.meaning.Sunk.{Sunk}
 use Rattle.liquid_partials.specs.meaning.Compiled.{Compiled}
 use Rattle.liquid_partials.specs.meaning.Rendered.{Rendered}
 use Rattle.liquid_partials.specs.meaning.Sources.{Texts}
+use Rattle.std_marks.specs.declared.marks.MarksShape.{MarksShape}
+use Rattle.std_marks.specs.meaning.Held.{marks_alone}
+use Rattle.std_marks.specs.meaning.Marks.{no_marks}
 use Rattle.liquid_std.specs.declared.tags.StdTagShape.{StdTagShape}
 use Rattle.liquid_std.specs.declared.blocks.StdBlockShape.{StdBlockShape}
 use Rattle.liquid_std.specs.meaning.Languages.{tags_and_blocks}
@@ -31,7 +34,7 @@ module _ {F : Type 0} where
   -- a text that the standard language with these filters refuses is refused alike, with nothing written; else the outcome is
   -- that of the run of what it is read as, in a view of the globals alone, where each partial is what its text is read as
   pub record RendersPage (m : FilterMeaning F) (filters : Filters F) (text : List ℕ) (globals : Names) (partials : Texts) (before after : Sunk) (result : Result (Unit {0}) Error) : Type 0 where
-    pub left : View (Unit {0})
+    pub left : View MarksShape
     pub rendered : (answer : PageAnswer F) → Reads (tags_and_blocks filters) text answer
         → (finds : Found F (StdTagShape F) StdBlockShape) → Compiled (tags_and_blocks filters) partials finds
-        → Rendered (standard tt m (Some finds)) answer (built_view tt page_depth globals) before after left result
+        → Rendered (standard marks_alone no_marks m (Some finds)) answer (built_view no_marks page_depth globals) before after left result

@@ -11,7 +11,7 @@ returns-else-sandboxed-clause-renders g c =
 pub returns-then-sandboxed-clause-renders : goal.returns-then-sandboxed-clause-renders
 returns-then-sandboxed-clause-renders g c =
     answer_over _ _ c.args.options true _ _ _ _ _ _ _ _ _ _ c.if-sandboxed.true c.render_sandboxed.ensures.sandboxed.renders (ap (option_map _) c.runtime_of-runtime.ensures.store)
-    (c.runtime_of-runtime.ensures.view ∙ ap (built_over c.args.options.lenient) c.no_names.ensures) c.in-Ok.ensures
+    (c.runtime_of-runtime.ensures.view ∙ ap (built_over _ c.args.options.lenient) c.no_names.ensures) c.in-Ok.ensures
 
 pub returns-in-Err-clause-renders : goal.returns-in-Err-clause-renders
 returns-in-Err-clause-renders g c = nothing_rendered _ _ c.args.options _ _ _ _ _ (search (rules, the_lemmas))
