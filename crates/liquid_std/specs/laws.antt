@@ -1,0 +1,3 @@
+pub mod TagLaws
+pub mod BlockLaws
+pub mod Sandboxes

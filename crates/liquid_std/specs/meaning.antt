@@ -1,0 +1,10 @@
+pub mod Captures
+pub mod Decrement
+pub mod Isolated
+pub mod Tags
+pub mod TagPlugins
+pub mod Blocks
+pub mod BlockPlugins
+pub mod Languages
+pub mod Standard
+pub mod Pages

@@ -1,0 +1,41 @@
+-- The tags and blocks by their names, and what a language of them means.
+use Rattle.std.specs.Prelude.{ℕ, List, [], ◌∷◌, codes, Result}
+use Rattle.std.specs.FinMap.{empty}
+use Rattle.liquid_error.specs.meaning.Refusal.{Refusal}
+use Rattle.liquid_runtime.specs.meaning.Maps.{NameMap}
+use Rattle.liquid_plugins.specs.meaning.ArgumentsOf.{Arguments}
+use Rattle.liquid_parser.specs.declared.plugin.language.Language.{Language}
+use Rattle.liquid_parser.specs.meaning.Lang.{Filters, Lang}
+use Rattle.liquid_parser.specs.meaning.Plugins.{language_of, registry_of}
+use Rattle.liquid_tags.specs.declared.tag_plugins.Tags.TheVariants as library
+use Rattle.liquid_tags.specs.meaning.Languages.{registered}
+use Rattle.liquid_std.specs.declared.tags.StdTagShape.{StdTagShape}
+use Rattle.liquid_std.specs.declared.blocks.StdBlockShape.{StdBlockShape}
+use Rattle.liquid_std.specs.declared.block_plugins.StdPlanShape.{StdPlanShape}
+use Rattle.liquid_std.specs.declared.tag_plugins.StdTags.{StdTags}
+use Rattle.liquid_std.specs.declared.tag_plugins.StdTags.TheVariants.{Library, Decrement, Echo, Cycle}
+use Rattle.liquid_std.specs.declared.block_plugins.StdBlocks.{StdBlocks}
+use Rattle.liquid_std.specs.declared.block_plugins.StdBlocks.TheVariants.{If, Unless, Case, For, Tablerow, Capture, Ifchanged, Comment, Raw}
+use Rattle.liquid_std.specs.meaning.TagPlugins.{tag_given}
+use Rattle.liquid_std.specs.meaning.BlockPlugins.{whole_block}
+
+abbrev pub the_tags : NameMap StdTags
+the_tags =
+    registered empty
+    ((codes "assign", Library library.Assign) ∷ (codes "increment", Library library.Increment) ∷ (codes "break", Library library.Break)
+    ∷ (codes "continue", Library library.Continue) ∷ (codes "include", Library library.Include) ∷ (codes "render", Library library.Render)
+    ∷ (codes "decrement", Decrement) ∷ (codes "echo", Echo) ∷ (codes "cycle", Cycle) ∷ [])
+
+abbrev pub the_blocks : NameMap StdBlocks
+the_blocks =
+    registered empty
+    ((codes "if", If) ∷ (codes "unless", Unless) ∷ (codes "case", Case) ∷ (codes "for", For) ∷ (codes "tablerow", Tablerow)
+    ∷ (codes "capture", Capture) ∷ (codes "ifchanged", Ifchanged) ∷ (codes "comment", Comment) ∷ (codes "raw", Raw) ∷ [])
+
+-- what a language of such tags and blocks means, by what its filters make of their arguments
+abbrev pub meaning_of : {U F : Type 0} → (U → Arguments → Result F Refusal) → Language U StdTags StdBlocks → Lang F (StdTagShape F) StdPlanShape StdBlockShape
+meaning_of makes = language_of makes tag_given whole_block
+
+-- the standard language with these filters
+abbrev pub tags_and_blocks : {F : Type 0} → Filters F → Lang F (StdTagShape F) StdPlanShape StdBlockShape
+tags_and_blocks filters = record { filters = filters; tags = registry_of tag_given the_tags; blocks = registry_of whole_block the_blocks }

@@ -1,0 +1,32 @@
+-- What the tags make of their tokens.
+use Rattle.std.specs.Prelude.{Result, Ok}
+use Rattle.liquid_error.specs.meaning.Refusal.{Refusal, ok_then}
+use Rattle.liquid_parser.specs.meaning.Cursors.{expect_filter_chain}
+use Rattle.liquid_parser.specs.meaning.Handed.{Tokens, expect_identifier}
+use Rattle.liquid_parser.specs.meaning.Lang.{Filters}
+use Rattle.liquid_tags.specs.meaning.Asked.{alone, next_as}
+use Rattle.liquid_tags.specs.meaning.TagPlugins as library
+use Rattle.std_marks.specs.meaning.CyclesGiven.{cycle_given}
+use Rattle.liquid_std.specs.declared.tags.StdTagShape.{StdTagShape}
+use Rattle.liquid_std.specs.declared.tags.StdTagShape.TheVariants.{Library, Decrement, Echo, Cycle}
+use Rattle.liquid_std.specs.declared.tag_plugins.StdTags.{StdTags}
+use Rattle.liquid_std.specs.declared.tag_plugins.StdTags.TheVariants as tags
+
+-- `decrement` takes a name
+abbrev pub decrement_given : {F : Type 0} → Tokens → Result (StdTagShape F) Refusal
+decrement_given ts = ok_then (next_as expect_identifier ts) (λ name. alone (Decrement name.0) name.1)
+
+-- `echo` takes a chain
+abbrev pub echo_given : {F : Type 0} → Filters F → Tokens → Result (StdTagShape F) Refusal
+echo_given filters ts = ok_then (next_as (expect_filter_chain filters) ts) (λ chain. alone (Echo chain.0) chain.1)
+
+-- `cycle` takes values, and perhaps a name
+abbrev pub cycle_node_given : {F : Type 0} → Tokens → Result (StdTagShape F) Refusal
+cycle_node_given ts = ok_then (cycle_given ts) (λ c. Ok (Cycle c))
+
+-- what a tag's tokens make
+abbrev pub tag_given : {F : Type 0} → StdTags → Filters F → Tokens → Result (StdTagShape F) Refusal
+tag_given (tags.Library t) filters ts = ok_then (library.tag_given t filters ts) (λ n. Ok (Library n))
+tag_given tags.Decrement filters ts = decrement_given ts
+tag_given tags.Echo filters ts = echo_given filters ts
+tag_given tags.Cycle filters ts = cycle_node_given ts

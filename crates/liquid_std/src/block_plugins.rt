@@ -1,0 +1,252 @@
+//! The blocks, as plug-ins.
+ghost use Rattle.std.specs.Prelude.{◌≡◌, refl};
+ghost use Rattle.liquid_error.specs.meaning.Told.{Gives};
+ghost use Rattle.liquid_parser.specs.meaning.Handed.{Tokens};
+ghost use Rattle.liquid_parser.specs.meaning.Plugins.{AreTokens};
+ghost use Rattle.liquid_std.specs.meaning.BlockPlugins.{begun, finished_escaped, names_told, node_divided, plan_of, planned, whole_block};
+ghost use Rattle.liquid_std.specs.meaning.Blocks.{block_of};
+
+use crate::blocks::{StdBlock, StdBlockShape};
+use crate::capture::begun_capture;
+use crate::case::{begun_case, push_alternatives};
+use crate::conditionals::{begun_if, begun_unless, push_condition};
+use crate::loops::{begun_for, begun_tablerow};
+use liquid_error::Error;
+use liquid_parser::{BlockBody, BlockReflection, ParseBlock, TagTokenIter};
+use liquid_plugins::{Meant, ParseFilter, PluginRegistry};
+use liquid_tags::asked::alone;
+use std::alloc::Global;
+
+/// The dividers of `if` and `unless`.
+static IF_DIVIDERS: [&str; 2] = ["elsif", "else"];
+
+/// The dividers of `case`.
+static CASE_DIVIDERS: [&str; 2] = ["when", "else"];
+
+/// The divider of `for`.
+static FOR_DIVIDERS: [&str; 1] = ["else"];
+
+static NO_DIVIDERS: [&str; 0] = [];
+
+/// The standard blocks.
+#[derive(Debug, Clone, Copy, PartialEq, Eq, Drop)]
+pub enum StdBlocks {
+    If,
+    Unless,
+    Case,
+    For,
+    Tablerow,
+    Capture,
+    Ifchanged,
+    Comment,
+    Raw,
+}
+
+/// What is planned while a block is read: the node so far, and whether its `else` has come.
+#[derive(Drop)]
+pub struct StdPlan {
+    pub node: StdBlock,
+    pub is_closed: bool,
+}
+
+/// Marks the shape of a plan.
+pub struct StdPlanShape {
+    pub node: StdBlockShape,
+    pub is_closed: bool,
+}
+
+impl Meant for StdPlan {
+    type Shape = StdPlanShape;
+
+    ghost shape = { plan_of };
+}
+
+impl BlockReflection for StdBlocks {
+    ghost block_names = { names_told };
+
+    fn start_tag(&self) -> &str {
+        match self {
+            StdBlocks::If => "if",
+            StdBlocks::Unless => "unless",
+            StdBlocks::Case => "case",
+            StdBlocks::For => "for",
+            StdBlocks::Tablerow => "tablerow",
+            StdBlocks::Capture => "capture",
+            StdBlocks::Ifchanged => "ifchanged",
+            StdBlocks::Comment => "comment",
+            StdBlocks::Raw => "raw",
+        }
+    }
+
+    fn end_tag(&self) -> &str {
+        match self {
+            StdBlocks::If => "endif",
+            StdBlocks::Unless => "endunless",
+            StdBlocks::Case => "endcase",
+            StdBlocks::For => "endfor",
+            StdBlocks::Tablerow => "endtablerow",
+            StdBlocks::Capture => "endcapture",
+            StdBlocks::Ifchanged => "endifchanged",
+            StdBlocks::Comment => "endcomment",
+            StdBlocks::Raw => "endraw",
+        }
+    }
+
+    fn description(&self) -> &str {
+        match self {
+            StdBlocks::If => "Renders the part after the first condition that holds.",
+            StdBlocks::Unless =>
+                "Renders its first part if its condition does not hold, else as an if does.",
+            StdBlocks::Case => "Renders the part of the first when that has an equal value.",
+            StdBlocks::For => "Renders its body for each item of an array, an object or a range.",
+            StdBlocks::Tablerow => "Renders its body in a cell of a table for each item.",
+            StdBlocks::Capture => "Assigns the text of its part to a name.",
+            StdBlocks::Ifchanged =>
+                "Renders its part, unless its text is that of the last ifchanged.",
+            StdBlocks::Comment => "Writes nothing.",
+            StdBlocks::Raw => "Writes its body as it stands.",
+        }
+    }
+}
+
+impl<F: ParseFilter> ParseBlock<F> for StdBlocks {
+    type Plan = StdPlan;
+
+    type Node = StdBlock;
+
+    ghost block = { whole_block };
+
+    ghost named = { λ b. refl };
+
+    fn dividers(&self) -> &[&str] {
+        match self {
+            StdBlocks::If | StdBlocks::Unless => &IF_DIVIDERS,
+            StdBlocks::Case => &CASE_DIVIDERS,
+            StdBlocks::For => &FOR_DIVIDERS,
+            StdBlocks::Tablerow
+            | StdBlocks::Capture
+            | StdBlocks::Ifchanged
+            | StdBlocks::Comment
+            | StdBlocks::Raw => &NO_DIVIDERS,
+        }
+    }
+
+    fn escapes(&self) -> bool {
+        match self {
+            StdBlocks::Comment | StdBlocks::Raw => true,
+            StdBlocks::If
+            | StdBlocks::Unless
+            | StdBlocks::Case
+            | StdBlocks::For
+            | StdBlocks::Tablerow
+            | StdBlocks::Capture
+            | StdBlocks::Ifchanged => false,
+        }
+    }
+
+    fn nests(&self) -> bool {
+        match self {
+            StdBlocks::Comment => true,
+            StdBlocks::If
+            | StdBlocks::Unless
+            | StdBlocks::Case
+            | StdBlocks::For
+            | StdBlocks::Tablerow
+            | StdBlocks::Capture
+            | StdBlocks::Ifchanged
+            | StdBlocks::Raw => false,
+        }
+    }
+
+    fn begin(
+        &self,
+        alloc: Global,
+        tokens: TagTokenIter<'_>,
+        _filters: &PluginRegistry<F>,
+    ) -> Result<StdPlan, Error> {
+        begun(alloc, *self, tokens)
+    }
+
+    fn divide(
+        &self,
+        alloc: Global,
+        plan: &mut StdPlan,
+        name: &str,
+        tokens: TagTokenIter<'_>,
+    ) -> Result<(), Error> {
+        if plan.is_closed {
+            return Err(tokens.raise_error(alloc, "Divider after else"));
+        }
+        if name == "else" {
+            return match tokens.expect_nothing(alloc) {
+                Ok(()) => {
+                    plan.is_closed = true;
+                    Ok(())
+                }
+                Err(error) => Err(error),
+            };
+        }
+        divide_node(alloc, &mut plan.node, tokens)
+    }
+
+    fn finish(&self, alloc: Global, plan: StdPlan, body: BlockBody<'_>) -> Result<StdBlock, Error> {
+        match body {
+            BlockBody::Escaped(text) => finish_escaped(alloc, plan.node, text),
+            BlockBody::Parts(_) => Ok(plan.node),
+        }
+    }
+}
+
+/// Returns what a block's start tag plans.
+fn begun(alloc: Global, block: StdBlocks, tokens: TagTokenIter<'_>) -> Result<StdPlan, Error>
+    ensures { (ts : Tokens) → AreTokens tokens.entry ts → Gives plan_of result (begun block ts) }
+{
+    match block {
+        StdBlocks::If => begun_if(alloc, tokens),
+        StdBlocks::Unless => begun_unless(alloc, tokens),
+        StdBlocks::Case => begun_case(alloc, tokens),
+        StdBlocks::For => begun_for(alloc, tokens),
+        StdBlocks::Tablerow => begun_tablerow(alloc, tokens),
+        StdBlocks::Capture => begun_capture(alloc, tokens),
+        StdBlocks::Ifchanged => alone(alloc, tokens, planned(StdBlock::Ifchanged)),
+        StdBlocks::Comment => alone(alloc, tokens, planned(StdBlock::Comment)),
+        StdBlocks::Raw => alone(alloc, tokens, planned(StdBlock::Raw(String::new(alloc)))),
+    }
+}
+
+/// Returns a plan that no `else` has closed yet.
+pub(crate) fn planned(node: StdBlock) -> StdPlan
+    ensures { plan_of result ≡ planned (block_of node) }
+{
+    StdPlan {
+        node,
+        is_closed: false,
+    }
+}
+
+/// Takes in a divider that is not `else`: the condition of an `elsif`, or the alternatives of a `when`.
+fn divide_node(alloc: Global, node: &mut StdBlock, tokens: TagTokenIter<'_>) -> Result<(), Error>
+    ensures { (ts : Tokens) → AreTokens tokens.entry ts → Gives (λ _. block_of node.new) result (node_divided (block_of node.old) ts) }
+{
+    match node {
+        StdBlock::If(conditions) => push_condition(alloc, conditions, tokens),
+        StdBlock::Unless(conditions) => push_condition(alloc, conditions, tokens),
+        StdBlock::Case(case) => push_alternatives(alloc, &mut **case, tokens),
+        StdBlock::For(_)
+        | StdBlock::Tablerow(_)
+        | StdBlock::Capture(_)
+        | StdBlock::Ifchanged
+        | StdBlock::Comment
+        | StdBlock::Raw(_) => tokens.expect_nothing(alloc),
+    }
+}
+
+/// Returns the node of a block with an escaped body.
+fn finish_escaped(alloc: Global, node: StdBlock, text: &str) -> Result<StdBlock, Error>
+    ensures { Gives block_of result (finished_escaped (block_of node) text.now) }
+{
+    match node {
+        StdBlock::Raw(_) => Ok(StdBlock::Raw(String::from_str(alloc, text)?)),
+        other => Ok(other),
+    }
+}

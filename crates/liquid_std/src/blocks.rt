@@ -1,0 +1,192 @@
+//! The nodes of blocks, and how they are rendered.
+ghost use Rattle.std.specs.Prelude.{◌≡◌};
+ghost use Rattle.liquid_std.specs.laws.BlockLaws.{blocks_hide};
+ghost use Rattle.liquid_std.specs.meaning.Blocks.{block_count, block_nodes, block_of, progress_of};
+
+use crate::capture::capture_turn;
+use crate::loops::{over_items, over_table};
+use liquid_error::Error;
+use liquid_plugins::{Bytes, Discreet, ListOf, Meant, Renderable, Turn};
+use liquid_runtime::{Frame, Runtime};
+use liquid_tags::rounds::RoundsShape;
+use liquid_value::Object;
+use std::alloc::Global;
+use std_conditions::branches::CaseShape;
+use std_conditions::condition::ConditionShape;
+use std_conditions::{Case, Condition, part_case, part_if, part_unless};
+use std_loops::loops::LoopShape;
+use std_loops::tables::TableShape;
+use std_loops::{Loop, Rounds, Table, loop_turn, picked_items, table_over, table_turn};
+use std_marks::{HoldsMarks, changed_turn};
+
+/// What a block is made to.
+#[derive(Drop)]
+pub enum StdBlock {
+    /// The part after the first condition that holds, and the part after them all if none does.
+    If(Vec<Condition>),
+    /// The same, but that the first condition must not hold.
+    Unless(Vec<Condition>),
+    /// The part of the first `when` with an equal value, and the part after them all if there is none.
+    Case(Box<Case>),
+    /// The first part for each item; the second if there is no item.
+    For(Box<Loop>),
+    /// A table with its part in a cell for each item.
+    Tablerow(Box<Loop>),
+    /// The text of its part, assigned to this name.
+    Capture(String),
+    /// Its part, unless its text is that of the last such block.
+    Ifchanged,
+    /// Nothing.
+    Comment,
+    /// A text that is written unchanged.
+    Raw(String),
+}
+
+/// Marks the shape of a block.
+pub enum StdBlockShape {
+    If(ListOf<ConditionShape>),
+    Unless(ListOf<ConditionShape>),
+    Case(CaseShape),
+    For(LoopShape),
+    Tablerow(LoopShape),
+    Capture(Bytes),
+    Ifchanged,
+    Comment,
+    Raw(Bytes),
+}
+
+/// How far a block is.
+#[derive(Drop)]
+pub enum StdProgress {
+    /// This part comes, or the block's text, and no turn after it.
+    Once(u64),
+    /// A loop. It is in a box, so that the progress of the other blocks is small.
+    Rounds(Box<Rounds>),
+    /// A table, in a box too.
+    Table(Box<Table>),
+    /// A capture or an `ifchanged`, and the text of its part after the part has been rendered.
+    Capturing(Option<String>),
+}
+
+/// Marks the shape of a block's progress.
+pub enum StdProgressShape {
+    Once(u64),
+    Rounds(RoundsShape),
+    Table(TableShape),
+    Capturing(Option<Bytes>),
+}
+
+impl StdProgress {
+    /// Returns how many turns there are at most.
+    pub fn turns(&self) -> u64
+        ensures { result ≡ block_count (progress_of self.now) }
+    {
+        match self {
+            StdProgress::Once(_) => 1,
+            StdProgress::Rounds(rounds) => rounds.turns(),
+            StdProgress::Table(table) => table.turns(),
+            StdProgress::Capturing(_) => 2,
+        }
+    }
+}
+
+impl Meant for StdBlock {
+    type Shape = StdBlockShape;
+
+    ghost shape = { block_of };
+}
+
+impl Meant for StdProgress {
+    type Shape = StdProgressShape;
+
+    ghost shape = { progress_of };
+}
+
+impl<V: HoldsMarks> Renderable<V> for StdBlock {
+    type Progress = StdProgress;
+
+    ghost means = { block_nodes V.holds };
+
+    fn start<R: Runtime<Register = V>>(
+        &self,
+        alloc: Global,
+        runtime: &mut R,
+    ) -> Result<StdProgress, Error> {
+        match self {
+            StdBlock::If(conditions) => match part_if(alloc, conditions.as_slice(), &*runtime) {
+                Ok(part) => Ok(StdProgress::Once(part)),
+                Err(error) => Err(error),
+            },
+            StdBlock::Unless(conditions) => {
+                match part_unless(alloc, conditions.as_slice(), &*runtime) {
+                    Ok(part) => Ok(StdProgress::Once(part)),
+                    Err(error) => Err(error),
+                }
+            }
+            StdBlock::Case(case) => match part_case(alloc, &**case, &*runtime) {
+                Ok(part) => Ok(StdProgress::Once(part)),
+                Err(error) => Err(error),
+            },
+            StdBlock::For(header) => match picked_items(alloc, &**header, &*runtime) {
+                Ok(items) => Ok(over_items(alloc, items)?),
+                Err(error) => Err(error),
+            },
+            StdBlock::Tablerow(header) => match table_over(alloc, &**header, &*runtime) {
+                Ok(table) => Ok(over_table(table)),
+                Err(error) => Err(error),
+            },
+            StdBlock::Capture(_) | StdBlock::Ifchanged => Ok(StdProgress::Capturing(None)),
+            StdBlock::Comment | StdBlock::Raw(_) => Ok(StdProgress::Once(0)),
+        }
+    }
+
+    fn turns(progress: &StdProgress) -> u64 {
+        progress.turns()
+    }
+
+    fn turn<R: Runtime<Register = V>>(
+        &self,
+        alloc: Global,
+        progress: &mut StdProgress,
+        runtime: &mut R,
+    ) -> Result<Turn, Error> {
+        match (self, progress) {
+            (StdBlock::Raw(text), _) => Ok(Turn::Text(text.clone()?)),
+            (StdBlock::Comment, _) => Ok(Turn::End),
+            (StdBlock::For(header), StdProgress::Rounds(rounds)) => {
+                loop_turn(alloc, &header.name, &mut **rounds, runtime)
+            }
+            (StdBlock::Tablerow(header), StdProgress::Table(table)) => {
+                table_turn(alloc, &header.name, &mut **table, runtime)
+            }
+            (StdBlock::Capture(name), StdProgress::Capturing(text)) => {
+                capture_turn(alloc, name, text, runtime)
+            }
+            (StdBlock::Ifchanged, StdProgress::Capturing(text)) => changed_turn(text, runtime),
+            (_, StdProgress::Once(part)) => Ok(Turn::Body(*part, Frame::None, None)),
+            (_, StdProgress::Rounds(_) | StdProgress::Table(_) | StdProgress::Capturing(_)) => {
+                Ok(Turn::End)
+            }
+        }
+    }
+
+    fn recycle(&self, progress: &mut StdProgress, names: Object) {
+        match progress {
+            StdProgress::Rounds(rounds) => rounds.recycle(names),
+            StdProgress::Once(_) | StdProgress::Table(_) | StdProgress::Capturing(_) => {}
+        }
+    }
+
+    fn caught(&self, progress: &mut StdProgress, text: String) {
+        match self {
+            StdBlock::Capture(_) | StdBlock::Ifchanged => {
+                *progress = StdProgress::Capturing(Some(text))
+            }
+            _ => drop(text),
+        }
+    }
+}
+
+impl<V: HoldsMarks> Discreet<V> for StdBlock {
+    ghost hides = { blocks_hide V.holds };
+}

@@ -1,0 +1,61 @@
+//! The block `capture`.
+ghost use Rattle.std.specs.Prelude.{◌≡◌, string_bytes};
+ghost use Rattle.liquid_error.specs.meaning.Told.{Gives};
+ghost use Rattle.liquid_parser.specs.meaning.Handed.{Tokens};
+ghost use Rattle.liquid_parser.specs.meaning.Plugins.{AreTokens};
+ghost use Rattle.liquid_runtime.specs.meaning.Written.{SameFrames};
+ghost use Rattle.liquid_plugins.specs.meaning.TurnOf.{turn_of, Leaves, LeavesProgress};
+ghost use Rattle.liquid_std.specs.meaning.BlockPlugins.{capture_given, plan_of};
+ghost use Rattle.liquid_std.specs.meaning.Captures.{captures, text_of};
+
+use crate::block_plugins::{StdPlan, planned};
+use crate::blocks::StdBlock;
+use liquid_error::Error;
+use liquid_parser::TagTokenIter;
+use liquid_plugins::Turn;
+use liquid_runtime::{Frame, Runtime};
+use liquid_tags::asked::{TOKEN_EXPECTED, alone};
+use liquid_value::Value;
+use std::alloc::Global;
+use std::mem;
+
+/// Returns what the start tag of a `capture` plans.
+pub(crate) fn begun_capture(alloc: Global, tokens: TagTokenIter<'_>) -> Result<StdPlan, Error>
+    ensures { (ts : Tokens) → AreTokens tokens.entry ts → Gives plan_of result (capture_given ts) }
+{
+    let mut tokens = tokens;
+    match tokens.next_identifier(alloc, TOKEN_EXPECTED) {
+        Ok(name) => {
+            let name = String::from_str(alloc, name)?;
+            alone(alloc, tokens, planned(StdBlock::Capture(name)))
+        }
+        Err(error) => Err(error),
+    }
+}
+
+/// Captures the part in the first turn, and assigns its text to the name in the second.
+#[inline(never)]
+pub(crate) fn capture_turn<R: Runtime>(
+    alloc: Global,
+    name: &String,
+    text: &mut Option<String>,
+    runtime: &mut R,
+) -> Result<Turn, Error>
+    ensures answer { Gives turn_of result (captures (string_bytes name.now) (text_of text.old) (R.view runtime.old)).answer }
+    ensures after { Leaves result (captures (string_bytes name.now) (text_of text.old) (R.view runtime.old)).written
+        (R.view runtime.old) (R.view runtime.new) }
+    ensures progress { LeavesProgress result (captures (string_bytes name.now) (text_of text.old) (R.view runtime.old)).progress
+        (text_of text.new) }
+    ensures frames { SameFrames (R.view runtime.old) (R.view runtime.new) }
+    ensures store { R.store runtime.new ≡ R.store runtime.old }
+    ensures owes { R.restores runtime.new ≡ R.restores runtime.old }
+    ensures borrows { R.lent runtime.new ≡ R.lent runtime.old }
+{
+    match mem::replace(text, None) {
+        Some(text) => match runtime.set_global(name.clone()?, Value::scalar(text)) {
+            Ok(_) => Ok(Turn::End),
+            Err(error) => Err(error),
+        },
+        None => Ok(Turn::Capture(0, Frame::None, None)),
+    }
+}

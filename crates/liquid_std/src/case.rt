@@ -1,0 +1,53 @@
+//! The block `case`, with its divider `when`.
+ghost use Rattle.liquid_error.specs.meaning.Told.{Gives};
+ghost use Rattle.liquid_parser.specs.meaning.Handed.{Tokens};
+ghost use Rattle.liquid_parser.specs.meaning.Plugins.{AreTokens};
+ghost use Rattle.std_conditions.specs.meaning.Branches.{case_of};
+ghost use Rattle.liquid_std.specs.meaning.BlockPlugins.{case_given, plan_of, with_alternatives};
+
+use crate::block_plugins::{StdPlan, planned};
+use crate::blocks::StdBlock;
+use liquid_error::Error;
+use liquid_parser::TagTokenIter;
+use liquid_tags::asked::{TOKEN_EXPECTED, alone};
+use std::alloc::Global;
+use std_conditions::Case;
+use std_conditions::read_values::read_values;
+
+/// What separates two values of a `when`.
+static WHEN_SEPARATORS: [&str; 2] = [",", "or"];
+
+/// Returns what the start tag of a `case` plans.
+pub(crate) fn begun_case(alloc: Global, tokens: TagTokenIter<'_>) -> Result<StdPlan, Error>
+    ensures { (ts : Tokens) → AreTokens tokens.entry ts → Gives plan_of result (case_given ts) }
+{
+    let mut tokens = tokens;
+    match tokens.next_value(alloc, TOKEN_EXPECTED) {
+        Ok(value) => {
+            let alternatives = Vec::new(alloc);
+            let case = Box::new(
+                alloc,
+                Case {
+                    value,
+                    alternatives,
+                },
+            )?;
+            alone(alloc, tokens, planned(StdBlock::Case(case)))
+        }
+        Err(error) => Err(error),
+    }
+}
+
+/// Appends the alternatives of a `when`.
+pub(crate) fn push_alternatives(
+    alloc: Global,
+    case: &mut Case,
+    tokens: TagTokenIter<'_>,
+) -> Result<(), Error>
+    ensures { (ts : Tokens) → AreTokens tokens.entry ts → Gives (λ _. case_of case.new) result (with_alternatives (case_of case.old) ts) }
+{
+    match read_values(alloc, tokens, &WHEN_SEPARATORS) {
+        Ok(values) => Ok(case.alternatives.push(values)?),
+        Err(error) => Err(error),
+    }
+}

@@ -1,0 +1,59 @@
+//! The blocks `if` and `unless`, with their divider `elsif`.
+ghost use Rattle.std.specs.Prelude.{map};
+ghost use Rattle.liquid_error.specs.meaning.Told.{Gives};
+ghost use Rattle.liquid_parser.specs.meaning.Handed.{Tokens};
+ghost use Rattle.liquid_parser.specs.meaning.Plugins.{AreTokens};
+ghost use Rattle.std_conditions.specs.meaning.Conditions.{condition_of};
+ghost use Rattle.liquid_std.specs.declared.blocks.StdBlockShape.TheVariants.{If, Unless};
+ghost use Rattle.liquid_std.specs.meaning.BlockPlugins.{condition_planned, plan_of, with_condition};
+
+use crate::block_plugins::{StdPlan, planned};
+use crate::blocks::StdBlock;
+use liquid_error::Error;
+use liquid_parser::TagTokenIter;
+use std::alloc::Global;
+use std_conditions::Condition;
+use std_conditions::read_condition::read_condition;
+
+/// Returns what the start tag of an `if` plans.
+pub(crate) fn begun_if(alloc: Global, tokens: TagTokenIter<'_>) -> Result<StdPlan, Error>
+    ensures { (ts : Tokens) → AreTokens tokens.entry ts → Gives plan_of result (condition_planned If ts) }
+{
+    match read_condition(alloc, tokens) {
+        Ok(first) => {
+            let mut conditions = Vec::new(alloc);
+            conditions.push(first)?;
+            Ok(planned(StdBlock::If(conditions)))
+        }
+        Err(error) => Err(error),
+    }
+}
+
+/// Returns what the start tag of an `unless` plans.
+pub(crate) fn begun_unless(alloc: Global, tokens: TagTokenIter<'_>) -> Result<StdPlan, Error>
+    ensures { (ts : Tokens) → AreTokens tokens.entry ts → Gives plan_of result (condition_planned Unless ts) }
+{
+    match read_condition(alloc, tokens) {
+        Ok(first) => {
+            let mut conditions = Vec::new(alloc);
+            conditions.push(first)?;
+            Ok(planned(StdBlock::Unless(conditions)))
+        }
+        Err(error) => Err(error),
+    }
+}
+
+/// Appends the condition of an `elsif`.
+pub(crate) fn push_condition(
+    alloc: Global,
+    conditions: &mut Vec<Condition>,
+    tokens: TagTokenIter<'_>,
+) -> Result<(), Error>
+    ensures { (ts : Tokens) → AreTokens tokens.entry ts
+        → Gives (λ _. map condition_of conditions.new.items) result (with_condition (map condition_of conditions.old.items) ts) }
+{
+    match read_condition(alloc, tokens) {
+        Ok(condition) => Ok(conditions.push(condition)?),
+        Err(error) => Err(error),
+    }
+}

@@ -1,0 +1,52 @@
+//! The tag `echo`.
+ghost use Rattle.liquid_error.specs.meaning.Told.{Gives};
+ghost use Rattle.liquid_parser.specs.meaning.Handed.{Tokens};
+ghost use Rattle.liquid_parser.specs.meaning.Plugins.{AreTokens, registry_of};
+ghost use Rattle.liquid_plugins.specs.meaning.Chain.{chain_value};
+ghost use Rattle.liquid_plugins.specs.meaning.ExpressionOf.{chain_of};
+ghost use Rattle.liquid_plugins.specs.meaning.TurnOf.{turn_of};
+ghost use Rattle.liquid_std.specs.meaning.TagPlugins.{echo_given};
+ghost use Rattle.liquid_std.specs.meaning.Tags.{echo_turn, tag_of};
+
+use crate::tags::StdTag;
+use liquid_error::Error;
+use liquid_parser::TagTokenIter;
+use liquid_plugins::{Filter, FilterChain, ParseFilter, PluginRegistry, Turn};
+use liquid_runtime::Runtime;
+use liquid_tags::asked::{TOKEN_EXPECTED, alone};
+use liquid_value::render::ValueRender;
+use std::alloc::Global;
+
+/// Returns the node of an `echo`.
+pub(crate) fn parse_echo<F: ParseFilter>(
+    alloc: Global,
+    tokens: TagTokenIter<'_>,
+    filters: &PluginRegistry<F>,
+) -> Result<StdTag<F::Filter>, Error>
+    ensures { (ts : Tokens) → AreTokens tokens.entry ts
+        → Gives (tag_of F.Filter.shape) result (echo_given (registry_of F.makes filters.now) ts) }
+{
+    let mut tokens = tokens;
+    match tokens.next_filter_chain(alloc, TOKEN_EXPECTED, filters) {
+        Ok(chain) => {
+            let chain = Box::new(alloc, chain)?;
+            alone(alloc, tokens, StdTag::Echo(chain))
+        }
+        Err(error) => Err(error),
+    }
+}
+
+/// Writes the value of a chain.
+#[inline(never)]
+pub(crate) fn echo<X: Filter, R: Runtime>(
+    alloc: Global,
+    chain: &FilterChain<X>,
+    runtime: &R,
+) -> Result<Turn, Error>
+    ensures { Gives turn_of result (echo_turn (chain_value X.means (chain_of X.shape chain.now) (R.view runtime.now))) }
+{
+    match chain.evaluate(alloc, runtime) {
+        Ok(value) => Ok(Turn::Text(ValueRender::new(value.as_view()).to_string(alloc)?)),
+        Err(error) => Err(error),
+    }
+}

@@ -1,0 +1,27 @@
+//! Partials in frames of their own.
+ghost use Rattle.std.specs.Prelude.{◌≡◌};
+ghost use Rattle.liquid_runtime.specs.meaning.Calls.{frame_of};
+ghost use Rattle.liquid_plugins.specs.meaning.TurnOf.{turn_of};
+ghost use Rattle.liquid_std.specs.meaning.Isolated.{isolated, isolated_from};
+
+use liquid_plugins::Turn;
+use liquid_runtime::Frame;
+
+/// Returns the turn, but that a partial in a sandboxed frame gets an isolated one.
+pub(crate) fn isolated(turn: Turn) -> Turn
+    ensures { turn_of result ≡ isolated (turn_of turn) }
+{
+    match turn {
+        Turn::Partial(name, frame, trace) => Turn::Partial(name, isolated_from(frame), trace),
+        other => other,
+    }
+}
+
+fn isolated_from(frame: Frame) -> Frame
+    ensures { frame_of result ≡ isolated_from (frame_of frame) }
+{
+    match frame {
+        Frame::Sandboxed(names, own) => Frame::Isolated(names, own),
+        other => other,
+    }
+}

@@ -1,0 +1,30 @@
+//! The tags and blocks of standard Liquid, over those of `liquid_tags`.
+#![tactic(auto)]
+
+pub mod block_plugins;
+pub mod blocks;
+mod capture;
+mod case;
+mod conditionals;
+mod cycle;
+mod decrement;
+#[cfg(test)]
+mod desk_tests;
+mod echo;
+mod isolated;
+mod languages;
+pub mod laws;
+mod loops;
+mod pages;
+pub mod tag_plugins;
+pub mod tags;
+#[cfg(test)]
+mod tests;
+
+pub use block_plugins::{StdBlocks, StdPlan};
+pub use blocks::{StdBlock, StdProgress};
+pub use languages::language;
+pub use laws::{outsides_agree_on_the_standard, standard_is_isolated};
+pub use pages::render_page;
+pub use tag_plugins::StdTags;
+pub use tags::StdTag;

@@ -1,0 +1,64 @@
+//! The blocks `for` and `tablerow`.
+ghost use Rattle.std.specs.Prelude.{◌≡◌, option_map, IfOk};
+ghost use Rattle.liquid_error.specs.meaning.Told.{Gives};
+ghost use Rattle.liquid_parser.specs.meaning.Handed.{Tokens};
+ghost use Rattle.liquid_parser.specs.meaning.Plugins.{AreTokens};
+ghost use Rattle.std_loops.specs.meaning.Picked.{picked_left};
+ghost use Rattle.std_loops.specs.meaning.Tables.{table_of};
+ghost use Rattle.liquid_std.specs.meaning.BlockPlugins.{for_given, plan_of, tablerow_given};
+ghost use Rattle.liquid_std.specs.meaning.Blocks.{over_items, over_table, progress_of};
+
+use crate::block_plugins::{StdPlan, planned};
+use crate::blocks::{StdBlock, StdProgress};
+use liquid_error::Error;
+use liquid_parser::TagTokenIter;
+use std::alloc::{AllocError, Global};
+use std_loops::read_loop::read_loop;
+use std_loops::{LoopBlock, Picked, Table, rounds_over};
+
+/// Returns what the start tag of a `for` plans.
+pub(crate) fn begun_for(alloc: Global, tokens: TagTokenIter<'_>) -> Result<StdPlan, Error>
+    ensures { (ts : Tokens) → AreTokens tokens.entry ts → Gives plan_of result (for_given ts) }
+{
+    match read_loop(alloc, LoopBlock::For, tokens) {
+        Ok(header) => {
+            let header = Box::new(alloc, header)?;
+            Ok(planned(StdBlock::For(header)))
+        }
+        Err(error) => Err(error),
+    }
+}
+
+/// Returns what the start tag of a `tablerow` plans.
+pub(crate) fn begun_tablerow(alloc: Global, tokens: TagTokenIter<'_>) -> Result<StdPlan, Error>
+    ensures { (ts : Tokens) → AreTokens tokens.entry ts → Gives plan_of result (tablerow_given ts) }
+{
+    match read_loop(alloc, LoopBlock::Tablerow, tokens) {
+        Ok(header) => {
+            let header = Box::new(alloc, header)?;
+            Ok(planned(StdBlock::Tablerow(header)))
+        }
+        Err(error) => Err(error),
+    }
+}
+
+/// Returns the progress of a loop over these items; without items the second part comes.
+#[inline(never)]
+pub(crate) fn over_items(alloc: Global, items: Picked) -> Result<StdProgress, AllocError>
+    ensures { IfOk result (λ p. progress_of p ≡ over_items (picked_left items)) }
+{
+    match rounds_over(alloc, items)? {
+        Some(rounds) => Ok(StdProgress::Rounds(rounds)),
+        None => Ok(StdProgress::Once(1)),
+    }
+}
+
+/// Returns the progress of a table; without one nothing is rendered.
+pub(crate) fn over_table(table: Option<Box<Table>>) -> StdProgress
+    ensures { progress_of result ≡ over_table (option_map (λ t. table_of t.value) table) }
+{
+    match table {
+        Some(table) => StdProgress::Table(table),
+        None => StdProgress::Once(1),
+    }
+}

@@ -1,0 +1,16 @@
+use Rattle.std.proofs.Common.{◌≡◌, Some, None, sym, ap, ◌∙◌}
+use Rattle.std_conditions.specs.meaning.ConditionsGiven.{operator_of}
+use Rattle.std_conditions.proofs.ReadLemmas.{no_operator, operator_taken}
+use Rattle.std_conditions.proofs.read_condition.next_operator.Goals as goal
+
+pub returns-in-Some-operator_of-clause-value : goal.returns-in-Some-operator_of-clause-value
+returns-in-Some-operator_of-clause-value c ts at =
+    let given = c.in-Some.ensures.value ts at in
+    let fits = ap operator_of (sym (c.as_str.ensures given.0.0 given.2.token_is)) ∙ sym c.in-Some-operator_of.ensures in
+    (given.0.1, operator_taken ts given.0 c.in-Some-operator_of.operator given.1 fits, given.2.left)
+
+pub returns-in-None-operator_of-clause-value : goal.returns-in-None-operator_of-clause-value
+returns-in-None-operator_of-clause-value c ts at =
+    let given = c.in-Some.ensures.value ts at in
+    let fails = ap operator_of (sym (c.as_str.ensures given.0.0 given.2.token_is)) ∙ sym c.in-None-operator_of.ensures in
+    (no_operator ts given.0 given.1 fails, at)

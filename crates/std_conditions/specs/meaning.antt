@@ -1,0 +1,5 @@
+pub mod Contained
+pub mod Conditions
+pub mod ConditionsGiven
+pub mod Values
+pub mod Branches

@@ -1,0 +1,119 @@
+//! Reading of conditions.
+ghost use Rattle.std.specs.Prelude.{◌≡◌, ◌<◌, ◌≤◌, IfOk};
+ghost use Rattle.liquid_error.specs.meaning.Told.{Gives};
+ghost use Rattle.liquid_parser.specs.meaning.Cursors.{IsToken, Takes, bytes_left};
+ghost use Rattle.liquid_parser.specs.meaning.Handed.{Token, Tokens, or_unexpected};
+ghost use Rattle.liquid_parser.specs.meaning.Plugins.{AreTokens};
+ghost use Rattle.std_conditions.specs.meaning.Conditions.{condition_of, test_of};
+ghost use Rattle.std_conditions.specs.meaning.ConditionsGiven.{after_test, condition_given, connective_of, operator_of};
+ghost use Rattle.std_conditions.specs.steps.Tests.{TakesIf, operator_in, test_given};
+
+use crate::condition::{Condition, Connective, Operator, Test};
+use liquid_error::Error;
+use liquid_parser::{TagToken, TagTokenIter};
+use liquid_tags::asked::TOKEN_EXPECTED;
+use liquid_tags::read_condition::comparison_of;
+use std::alloc::Global;
+use std::mem;
+
+/// Returns the condition that all tokens make.
+///
+/// A value that is missing is an `Err`, "Token expected", and a token of another kind or one too many is one too,
+/// "Unexpected token".
+pub fn read_condition(alloc: Global, tokens: TagTokenIter<'_>) -> Result<Condition, Error>
+    ensures { (ts : Tokens) → AreTokens tokens.entry ts → Gives condition_of result (condition_given ts) }
+{
+    let mut tokens = tokens;
+    match next_test(alloc, &mut tokens) {
+        Ok(first) => read_joined(alloc, first, tokens),
+        Err(error) => Err(error),
+    }
+}
+
+/// Returns the condition that begins with this test.
+fn read_joined(alloc: Global, first: Test, tokens: TagTokenIter<'_>) -> Result<Condition, Error>
+    ensures { (ts : Tokens) → AreTokens tokens.entry ts → Gives condition_of result (after_test (test_of first) ts.left) }
+{
+    let mut tokens = tokens;
+    let mut joined = Vec::new(alloc);
+    let mut last = first;
+    'tests: while let Some(token) = tokens.next() {
+        match read_connective(alloc, token) {
+            Ok(connective) => match next_test(alloc, &mut tokens) {
+                Ok(test) => joined.push((mem::replace(&mut last, test), connective))?,
+                Err(error) => return Err(error),
+            },
+            Err(error) => return Err(error),
+        }
+    }
+    Ok(Condition { joined, last })
+}
+
+/// Returns what the token joins tests by.
+fn read_connective(alloc: Global, token: TagToken<'_>) -> Result<Connective, Error>
+    ensures { (t : Token) → IsToken token.entry t → Gives (λ c. c) result (or_unexpected t (connective_of t.text)) }
+{
+    match connective_of(token.as_str()) {
+        Some(connective) => Ok(connective),
+        None => Err(token.raise_error(alloc)),
+    }
+}
+
+/// Returns the test that the next tokens make.
+fn next_test(alloc: Global, tokens: &mut TagTokenIter<'_>) -> Result<Test, Error>
+    ensures value { (ts : Tokens) → AreTokens tokens.old ts → Takes test_of result tokens.new (test_given ts) }
+    ensures shorter { IfOk result (λ test. bytes_left tokens.new < bytes_left tokens.old) }
+{
+    match tokens.next_value(alloc, TOKEN_EXPECTED) {
+        Ok(left) => match next_operator(tokens) {
+            Some(operator) => match tokens.next_value(alloc, TOKEN_EXPECTED) {
+                Ok(right) => Ok(Test::Passes(left, operator, right)),
+                Err(error) => Err(error),
+            },
+            None => Ok(Test::Holds(left)),
+        },
+        Err(error) => Err(error),
+    }
+}
+
+/// Returns the operator that the next token is. If it is none, the token is left.
+fn next_operator(tokens: &mut TagTokenIter<'_>) -> Option<Operator>
+    ensures value { (ts : Tokens) → AreTokens tokens.old ts → TakesIf result tokens.new ts (operator_in ts) }
+    ensures shorter { bytes_left tokens.new ≤ bytes_left tokens.old }
+{
+    let mut behind = *tokens;
+    match behind.next() {
+        Some(token) => match operator_of(token.as_str()) {
+            Some(operator) => {
+                *tokens = behind;
+                Some(operator)
+            }
+            None => None,
+        },
+        None => None,
+    }
+}
+
+fn operator_of(text: &str) -> Option<Operator>
+    ensures { result ≡ operator_of text.now }
+{
+    if text == "contains" {
+        return Some(Operator::Contains);
+    }
+    match comparison_of(text) {
+        Some(comparison) => Some(Operator::Compares(comparison)),
+        None => None,
+    }
+}
+
+fn connective_of(text: &str) -> Option<Connective>
+    ensures { result ≡ connective_of text.now }
+{
+    if text == "and" {
+        Some(Connective::And)
+    } else if text == "or" {
+        Some(Connective::Or)
+    } else {
+        None
+    }
+}

@@ -1,0 +1,33 @@
+use Rattle.std.proofs.Common.{ap, sym, ◌∙◌}
+use Rattle.liquid_error.specs.meaning.Told.{told}
+use Rattle.std_loops.specs.meaning.Options.{options_of}
+use Rattle.std_loops.specs.meaning.OptionsGiven.{option_named}
+use Rattle.std_loops.proofs.OptionLemmas.{all_read, name_refused, option_read, option_refused}
+use Rattle.std_loops.proofs.read_loop.read_options.Goals as goal
+
+pub options-preserved : goal.options-preserved
+options-preserved c ts at =
+    let so_far = c.options.invariant ts at in
+    let given = c.in-Some.ensures.value so_far.0 so_far.1 in
+    let fits = ap (option_named c.args.block (options_of c.options.options)) (sym (c.as_str.ensures given.0.0 given.2.token_is)) ∙ sym c.in-Some-option_named.ensures in
+    let taken = c.in-Ok.ensures.value given.0.1 given.2.left in
+    (taken.0, taken.2, option_read c.args.block (options_of c.options.options) _ so_far.0.left given.0 c.in-Some-option_named.option taken.0 _ so_far.2 given.1 fits taken.1)
+
+pub returns-in-Err : goal.returns-in-Err
+returns-in-Err c ts at =
+    let so_far = c.options.invariant ts at in
+    let given = c.in-Some.ensures.value so_far.0 so_far.1 in
+    let fits = ap (option_named c.args.block (options_of c.options.options)) (sym (c.as_str.ensures given.0.0 given.2.token_is)) ∙ sym c.in-Some-option_named.ensures in
+    option_refused c.args.block (options_of c.options.options) so_far.0.left given.0 c.in-Some-option_named.option (told c.in-Err.error) _ so_far.2 given.1 fits (c.in-Err.ensures.value given.0.1 given.2.left)
+
+pub returns-in-None : goal.returns-in-None
+returns-in-None c ts at =
+    let so_far = c.options.invariant ts at in
+    let given = c.in-Some.ensures.value so_far.0 so_far.1 in
+    let fails = ap (option_named c.args.block (options_of c.options.options)) (sym (c.as_str.ensures given.0.0 given.2.token_is)) ∙ sym c.in-None.ensures in
+    name_refused c.args.block (options_of c.options.options) so_far.0.left given.0 (told c.raise_error.result) _ so_far.2 given.1 fails (c.raise_error.ensures given.0.0 given.2.token_is)
+
+pub returns : goal.returns
+returns c ts at =
+    let so_far = c.options.invariant ts at in
+    all_read c.args.block (options_of c.options.options) so_far.0.left _ so_far.2 (c.in_default.ensures.value so_far.0 so_far.1).0

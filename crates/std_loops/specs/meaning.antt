@@ -1,0 +1,6 @@
+pub mod Picked
+pub mod Options
+pub mod OptionsGiven
+pub mod Loops
+pub mod Cells
+pub mod Tables

@@ -1,0 +1,86 @@
+//! The options of a loop: `offset` and `limit`, `reversed` of a `for`, and `cols` of a `tablerow`.
+ghost use Rattle.std.specs.Prelude.{◌≡◌, option_map, unwrap_or, pos};
+ghost use Rattle.liquid_error.specs.meaning.Told.{Gives};
+ghost use Rattle.liquid_value.specs.meaning.View.{view as tree_of};
+ghost use Rattle.liquid_plugins.specs.meaning.ExpressionOf.{expression_of};
+ghost use Rattle.std_loops.specs.meaning.Options.{number_given, option_number, options_of};
+
+use liquid_error::Error;
+use liquid_plugins::{Expression, ExpressionMark, Meant};
+use liquid_runtime::Runtime;
+use liquid_value::Value;
+use std::alloc::{AllocError, Global};
+use std_values::numbers::whole;
+
+/// A block that goes over items.
+#[derive(Debug, Clone, Copy, PartialEq, Eq, Drop)]
+pub enum LoopBlock {
+    For,
+    Tablerow,
+}
+
+/// An option of a loop.
+#[derive(Debug, Clone, Copy, PartialEq, Eq, Drop)]
+pub enum LoopOption {
+    /// From which place on, counted from 0.
+    Offset,
+    /// How many places at most.
+    Limit,
+    /// In reverse.
+    Reversed,
+    /// The number of columns.
+    Cols,
+}
+
+/// The options that a loop was given.
+#[derive(Drop)]
+pub struct Options {
+    pub offset: Option<Expression>,
+    pub limit: Option<Expression>,
+    pub is_reversed: bool,
+    pub cols: Option<Expression>,
+}
+
+/// Marks the shape of the options.
+pub struct OptionsShape {
+    pub offset: Option<ExpressionMark>,
+    pub limit: Option<ExpressionMark>,
+    pub is_reversed: bool,
+    pub cols: Option<ExpressionMark>,
+}
+
+impl Meant for Options {
+    type Shape = OptionsShape;
+
+    ghost shape = { options_of };
+}
+
+/// Returns the whole number of an option. An option that is not given, or is nil, has none. An
+/// `Err` is that of another value.
+pub fn option_number<R: Runtime>(
+    alloc: Global,
+    option: &Option<Expression>,
+    runtime: &R,
+) -> Result<Option<i64>, Error>
+    ensures { Gives (λ n. n) result (option_number (R.view runtime.now) (option_map expression_of option.now)) }
+{
+    match option {
+        Some(expression) => match expression.evaluate(alloc, runtime) {
+            Ok(value) => number_given(alloc, value.as_view()),
+            Err(error) => Err(error),
+        },
+        None => Ok(None),
+    }
+}
+
+fn number_given(alloc: Global, value: &Value) -> Result<Option<i64>, Error>
+    ensures { Gives (λ n. n) result (number_given (tree_of value.now)) }
+{
+    match value {
+        Value::Nil => Ok(None),
+        other => match whole(alloc, other) {
+            Ok(number) => Ok(Some(number)),
+            Err(error) => Err(error),
+        },
+    }
+}

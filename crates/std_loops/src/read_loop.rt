@@ -1,0 +1,202 @@
+//! Reading of loops.
+ghost use Rattle.std.specs.Prelude.{◌≡◌, ◌<◌, ◌≤◌, IfOk};
+ghost use Rattle.liquid_error.specs.meaning.Told.{Gives};
+ghost use Rattle.liquid_parser.specs.meaning.Cursors.{IsToken, Takes, Tries, bytes_left};
+ghost use Rattle.liquid_parser.specs.meaning.Handed.{Token, Tokens};
+ghost use Rattle.liquid_parser.specs.meaning.Plugins.{AreTokens};
+ghost use Rattle.liquid_plugins.specs.meaning.ExpressionOf.{expression_of};
+ghost use Rattle.liquid_tags.specs.meaning.Asked.{next_as};
+ghost use Rattle.std_loops.specs.meaning.Loops.{loop_of};
+ghost use Rattle.std_loops.specs.meaning.Options.{options_of};
+ghost use Rattle.std_loops.specs.meaning.OptionsGiven.{expect_argument, loop_given, no_options, option_named, options_from, range_named};
+ghost use Rattle.std_loops.specs.steps.Reading.{argument_given, option_given};
+
+use crate::loops::Loop;
+use crate::options::{LoopBlock, LoopOption, Options};
+use liquid_error::Error;
+use liquid_parser::{TagToken, TagTokenIter, TryMatchToken};
+use liquid_plugins::Expression;
+use liquid_tags::asked::TOKEN_EXPECTED;
+use liquid_tags::block_plugins::next_series;
+use std::alloc::{AllocError, Global};
+
+/// Returns the loop that all tokens make: a name, `in`, a range or a value, and the options that the block takes.
+///
+/// What is missing is an `Err`, "Token expected". A token of another kind and an option that was given before are one too,
+/// "Unexpected token".
+pub fn read_loop(alloc: Global, block: LoopBlock, tokens: TagTokenIter<'_>) -> Result<Loop, Error>
+    ensures { (ts : Tokens) → AreTokens tokens.entry ts → Gives loop_of result (loop_given block ts) }
+{
+    let mut tokens = tokens;
+    match tokens.next_identifier(alloc, TOKEN_EXPECTED) {
+        Ok(name) => match tokens.next_str(alloc, TOKEN_EXPECTED, "in") {
+            Ok(()) => match next_series(alloc, &mut tokens) {
+                Ok(series) => match read_options(alloc, block, tokens) {
+                    Ok(options) => {
+                        let name = String::from_str(alloc, name)?;
+                        Ok(Loop {
+                            name,
+                            series,
+                            options,
+                        })
+                    }
+                    Err(error) => Err(error),
+                },
+                Err(error) => Err(error),
+            },
+            Err(error) => Err(error),
+        },
+        Err(error) => Err(error),
+    }
+}
+
+/// Returns the options that all tokens make.
+fn read_options(alloc: Global, block: LoopBlock, tokens: TagTokenIter<'_>) -> Result<Options, Error>
+    ensures { (ts : Tokens) → AreTokens tokens.entry ts → Gives options_of result (options_from block no_options ts.left) }
+{
+    let mut tokens = tokens;
+    let mut options = no_options();
+    'options: while let Some(token) = tokens.next() {
+        match option_named(block, &options, token.as_str()) {
+            Some(option) => match take_option(alloc, option, &mut options, &mut tokens) {
+                Ok(()) => {}
+                Err(error) => return Err(error),
+            },
+            None => return Err(token.raise_error(alloc)),
+        }
+    }
+    Ok(options)
+}
+
+fn no_options() -> Options
+    ensures { options_of result ≡ no_options }
+{
+    Options {
+        offset: None,
+        limit: None,
+        is_reversed: false,
+        cols: None,
+    }
+}
+
+/// Returns the option that a text names, if the block takes it and it was not given yet.
+fn option_named(block: LoopBlock, given: &Options, text: &str) -> Option<LoopOption>
+    ensures { result ≡ option_named block (options_of given.now) text.now }
+{
+    match block {
+        LoopBlock::For => {
+            if text == "reversed" && !given.is_reversed {
+                return Some(LoopOption::Reversed);
+            }
+        }
+        LoopBlock::Tablerow => {
+            if text == "cols" && given.cols.is_none() {
+                return Some(LoopOption::Cols);
+            }
+        }
+    }
+    range_named(given, text)
+}
+
+/// Returns the option of either block that a text names, if it was not given yet.
+fn range_named(given: &Options, text: &str) -> Option<LoopOption>
+    ensures { result ≡ range_named (options_of given.now) text.now }
+{
+    if text == "limit" && given.limit.is_none() {
+        Some(LoopOption::Limit)
+    } else if text == "offset" && given.offset.is_none() {
+        Some(LoopOption::Offset)
+    } else {
+        None
+    }
+}
+
+/// Takes in an option, after the token that names it.
+fn take_option(
+    alloc: Global,
+    option: LoopOption,
+    options: &mut Options,
+    tokens: &mut TagTokenIter<'_>,
+) -> Result<(), Error>
+    ensures value { (ts : Tokens) → AreTokens tokens.old ts
+        → Takes (λ _. options_of options.new) result tokens.new (option_given option (options_of options.old) ts) }
+    ensures shorter { IfOk result (λ _. bytes_left tokens.new ≤ bytes_left tokens.old) }
+{
+    match option {
+        LoopOption::Reversed => {
+            options.is_reversed = true;
+            Ok(())
+        }
+        LoopOption::Offset => match next_argument(alloc, LoopOption::Offset, tokens) {
+            Ok(value) => {
+                options.offset = Some(value);
+                Ok(())
+            }
+            Err(error) => Err(error),
+        },
+        LoopOption::Limit => match next_argument(alloc, LoopOption::Limit, tokens) {
+            Ok(value) => {
+                options.limit = Some(value);
+                Ok(())
+            }
+            Err(error) => Err(error),
+        },
+        LoopOption::Cols => match next_argument(alloc, LoopOption::Cols, tokens) {
+            Ok(value) => {
+                options.cols = Some(value);
+                Ok(())
+            }
+            Err(error) => Err(error),
+        },
+    }
+}
+
+/// Returns the value of an option, after a colon.
+fn next_argument(
+    alloc: Global,
+    option: LoopOption,
+    tokens: &mut TagTokenIter<'_>,
+) -> Result<Expression, Error>
+    ensures value { (ts : Tokens) → AreTokens tokens.old ts → Takes expression_of result tokens.new (argument_given option ts) }
+    ensures shorter { IfOk result (λ value. bytes_left tokens.new < bytes_left tokens.old) }
+{
+    match tokens.next_str(alloc, TOKEN_EXPECTED, ":") {
+        Ok(()) => next_value_of(alloc, option, tokens),
+        Err(error) => Err(error),
+    }
+}
+
+/// Returns the value of an option.
+fn next_value_of(
+    alloc: Global,
+    option: LoopOption,
+    tokens: &mut TagTokenIter<'_>,
+) -> Result<Expression, Error>
+    ensures value { (ts : Tokens) → AreTokens tokens.old ts
+        → Takes expression_of result tokens.new (next_as (expect_argument option) ts) }
+    ensures shorter { IfOk result (λ value. bytes_left tokens.new < bytes_left tokens.old) }
+{
+    match tokens.expect_next(alloc, TOKEN_EXPECTED) {
+        Ok(token) => expect_argument(alloc, option, token)?.into_result(alloc),
+        Err(error) => Err(error),
+    }
+}
+
+/// Returns the value of an option; `continue` is none for `offset`.
+fn expect_argument<'a>(
+    alloc: Global,
+    option: LoopOption,
+    token: TagToken<'a>,
+) -> Result<TryMatchToken<'a, Expression>, AllocError>
+    ensures { (t : Token) → IsToken token.entry t → IfOk result (λ m. Tries expression_of token.entry m (expect_argument option t)) }
+{
+    match option {
+        LoopOption::Offset => {
+            if token.as_str() == "continue" {
+                return Ok(TryMatchToken::Fails(token));
+            }
+            token.expect_value(alloc)
+        }
+        LoopOption::Limit | LoopOption::Reversed | LoopOption::Cols => token.expect_value(alloc),
+    }
+}

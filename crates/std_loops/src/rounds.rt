@@ -1,0 +1,124 @@
+//! The turns of a loop.
+ghost use Rattle.std.specs.Prelude.{◌≡◌, option_map, slice_get, string_bytes, IfOk, OnOk};
+ghost use Rattle.liquid_error.specs.meaning.Told.{Gives};
+ghost use Rattle.liquid_value.specs.meaning.View.{view as tree_of};
+ghost use Rattle.liquid_runtime.specs.meaning.Written.{SameFrames};
+ghost use Rattle.liquid_plugins.specs.meaning.TurnOf.{turn_of, Leaves, LeavesProgress};
+ghost use Rattle.liquid_tags.specs.meaning.Loops.{behind, loop_takes};
+ghost use Rattle.std_loops.specs.meaning.Loops.{rounds_of, rounds_over};
+ghost use Rattle.std_loops.specs.meaning.Picked.{picked_left};
+
+use crate::picked::Picked;
+use liquid_error::Error;
+use liquid_plugins::{Meant, Turn};
+use liquid_runtime::{Interrupt, Runtime};
+use liquid_tags::kept::Kept;
+use liquid_tags::loops::item_turn;
+use liquid_tags::rounds::RoundsShape;
+use liquid_value::{Object, Value};
+use std::alloc::{AllocError, Global};
+use std::mem;
+
+/// The items that are left of a loop, the place of the first of them, how many items there were, and how many turns there
+/// are: one for each item, and one after the last. Besides, the object `forloop` and the names of the turn before, which the
+/// next turn writes over.
+#[derive(Drop)]
+pub struct Rounds {
+    left: Picked,
+    place: u64,
+    size: u64,
+    turns: u64,
+    kept: Option<Kept>,
+    names: Option<Object>,
+}
+
+impl Meant for Rounds {
+    type Shape = RoundsShape;
+
+    ghost shape = { rounds_of };
+}
+
+impl Rounds {
+    /// Returns how many turns there are at most.
+    pub fn turns(&self) -> u64
+        ensures { result ≡ (rounds_of self.now).turns }
+    {
+        self.turns
+    }
+
+    /// Keeps the names of a turn that has ended, for the next one to write over.
+    pub fn recycle(&mut self, names: Object)
+        ensures { rounds_of self.new ≡ rounds_of self.old }
+    {
+        self.names = Some(names);
+    }
+}
+
+/// Returns the rounds over these items, if there are any.
+#[inline(never)]
+pub fn rounds_over(alloc: Global, items: Picked) -> Result<Option<Box<Rounds>>, AllocError>
+    ensures { IfOk result (λ rounds. option_map (λ r. rounds_of r.value) rounds ≡ rounds_over (picked_left items)) }
+{
+    let size = items.len();
+    if size == 0 {
+        return Ok(None);
+    }
+    match size.checked_add(1) {
+        Some(turns) => {
+            let rounds = Rounds {
+                left: items,
+                place: 0,
+                size,
+                turns,
+                kept: None,
+                names: None,
+            };
+            Ok(Some(Box::new(alloc, rounds)?))
+        }
+        None => Err(AllocError),
+    }
+}
+
+/// Returns a turn of the loop over items of this name: the next item's part, or the end.
+#[inline(never)]
+pub fn loop_turn<R: Runtime>(
+    alloc: Global,
+    name: &String,
+    rounds: &mut Rounds,
+    runtime: &mut R,
+) -> Result<Turn, Error>
+    ensures answer { Gives turn_of result (loop_takes (string_bytes name.now) (rounds_of rounds.old) (R.view runtime.old)).answer }
+    ensures after { Leaves result (loop_takes (string_bytes name.now) (rounds_of rounds.old) (R.view runtime.old)).written
+        (R.view runtime.old) (R.view runtime.new) }
+    ensures progress { LeavesProgress result (loop_takes (string_bytes name.now) (rounds_of rounds.old) (R.view runtime.old)).progress
+        (rounds_of rounds.new) }
+    ensures frames { SameFrames (R.view runtime.old) (R.view runtime.new) }
+    ensures store { R.store runtime.new ≡ R.store runtime.old }
+    ensures owes { R.restores runtime.new ≡ R.restores runtime.old }
+    ensures borrows { R.lent runtime.new ≡ R.lent runtime.old }
+{
+    let (place, size) = (rounds.place, rounds.size);
+    let item = next_item(rounds)?;
+    if place > 0 {
+        if let Some(Interrupt::Break) = runtime.registers_mut().interrupt.reset() {
+            return Ok(Turn::End);
+        }
+    }
+    let used = mem::replace(&mut rounds.names, None);
+    Ok(item_turn(alloc, name, &mut rounds.kept, used, place, size, item)?)
+}
+
+/// Takes out the next item, if there is one.
+fn next_item(rounds: &mut Rounds) -> Result<Option<Value>, AllocError>
+    ensures item { IfOk result (λ item. option_map tree_of item ≡ slice_get (rounds_of rounds.old).left 0) }
+    ensures behind { OnOk result (rounds_of rounds.new ≡ behind (rounds_of rounds.old)) }
+{
+    match rounds.place.checked_add(1) {
+        Some(place) => {
+            let item = rounds.left.take_first()?;
+            rounds.place = place;
+            Ok(item)
+        }
+        None => Err(AllocError),
+    }
+}

@@ -1,0 +1,98 @@
+//! The tag `cycle`.
+ghost use Rattle.std.specs.Prelude.{◌≡◌, length, map};
+ghost use Rattle.liquid_error.specs.meaning.Told.{Gives};
+ghost use Rattle.liquid_runtime.specs.meaning.Written.{SameFrames};
+ghost use Rattle.liquid_plugins.specs.meaning.ExpressionOf.{expression_of};
+ghost use Rattle.liquid_plugins.specs.meaning.TurnOf.{turn_of, Leaves};
+ghost use Rattle.std.specs.Prelude.{string_bytes};
+ghost use Rattle.std_marks.specs.meaning.Cycles.{cycle_of, cycles, next_place, text_at};
+
+use crate::groups::{Group, GroupShape, key_in};
+use crate::holder::{HoldsMarks, move_group};
+use liquid_error::Error;
+use liquid_plugins::{Expression, ExpressionMark, ListOf, Meant, Turn};
+use liquid_runtime::Runtime;
+use liquid_value::render::ValueRender;
+use std::alloc::Global;
+
+/// What a `cycle` is made to: its group, and its values.
+#[derive(Drop)]
+pub struct Cycle {
+    pub group: Group,
+    pub values: Vec<Expression>,
+}
+
+/// Marks the shape of a `cycle`.
+pub struct CycleShape {
+    pub group: GroupShape,
+    pub values: ListOf<ExpressionMark>,
+}
+
+impl Meant for Cycle {
+    type Shape = CycleShape;
+
+    ghost shape = { cycle_of };
+}
+
+/// Writes the text of the value at the place of the group, and moves the group to its next place.
+///
+/// Only that value is evaluated. An error moves nothing.
+#[inline(never)]
+pub fn cycle_turn<V: HoldsMarks, R: Runtime<Register = V>>(
+    alloc: Global,
+    cycle: &Cycle,
+    runtime: &mut R,
+) -> Result<Turn, Error>
+    ensures answer { Gives turn_of result (cycles V.holds (cycle_of cycle.now) (tt {0}) (R.view runtime.old)).answer }
+    ensures after { Leaves result (cycles V.holds (cycle_of cycle.now) (tt {0}) (R.view runtime.old)).written
+        (R.view runtime.old) (R.view runtime.new) }
+    ensures frames { SameFrames (R.view runtime.old) (R.view runtime.new) }
+    ensures store { R.store runtime.new ≡ R.store runtime.old }
+    ensures owes { R.restores runtime.new ≡ R.restores runtime.old }
+    ensures borrows { R.lent runtime.new ≡ R.lent runtime.old }
+{
+    match key_in(alloc, &cycle.group, &*runtime) {
+        Ok(key) => {
+            let place = runtime.registers().value.marks().place(key.as_str());
+            match text_at(alloc, cycle.values.as_slice(), place, &*runtime) {
+                Ok(text) => {
+                    let next = next_place(place, cycle.values.len());
+                    move_group(alloc, &mut runtime.registers_mut().value, key, next)?;
+                    Ok(Turn::Text(text))
+                }
+                Err(error) => Err(error),
+            }
+        }
+        Err(error) => Err(error),
+    }
+}
+
+/// Returns the text of the value at a place, or an empty text if there is none.
+fn text_at<R: Runtime>(
+    alloc: Global,
+    values: &[Expression],
+    place: u64,
+    runtime: &R,
+) -> Result<String, Error>
+    ensures { Gives (λ s. string_bytes s) result (text_at (R.view runtime.now) (map expression_of values.now) place) }
+{
+    match values.get(place as usize) {
+        Some(value) => match value.evaluate(alloc, runtime) {
+            Ok(value) => Ok(ValueRender::new(value.as_view()).to_string(alloc)?),
+            Err(error) => Err(error),
+        },
+        None => Ok(String::new(alloc)),
+    }
+}
+
+/// Returns the place after a place, of this many.
+fn next_place(place: u64, count: usize) -> u64
+    ensures { result ≡ next_place place count }
+{
+    let count = count as u64;
+    if place < count && place + 1 < count {
+        place + 1
+    } else {
+        0
+    }
+}
