@@ -4,8 +4,9 @@ ghost use Rattle.liquid_c.specs.meaning.Outcomes.{LeavesOver};
 ghost use Rattle.liquid_c.specs.meaning.Turns.{AllTurns, one_if_whole};
 ghost use Rattle.liquid_c.specs.steps.Chosen.{IsChosen};
 
+use crate::languages::{Chosen, choose_language};
 use crate::page::{Outcome, Page};
-use crate::rendering::{Chosen, choose_language, render_over};
+use crate::rendering::render_over;
 use std::alloc::Global;
 
 /// Renders a page over each of these globals, as far as there are outcomes, each into the bytes of `out` that

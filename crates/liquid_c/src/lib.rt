@@ -10,6 +10,7 @@ ghost use Rattle.liquid_c.specs.meaning.Outcomes.{LeavesAsked, LeavesOver};
 ghost use Rattle.liquid_c.specs.meaning.Turns.{AllTurns};
 
 pub mod each;
+pub mod languages;
 pub mod page;
 pub mod rendering;
 #[cfg(test)]

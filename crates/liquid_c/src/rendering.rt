@@ -1,24 +1,21 @@
 //! Rendering pages into the caller's memory.
-ghost use Rattle.std.specs.Prelude.{◌≡◌, ◌≤◌, ◌++◌, if◌then◌else◌, length, min, nat_le, take, drop, IfOk, MatchOption, None};
+ghost use Rattle.std.specs.Prelude.{◌≡◌, ◌≤◌, ◌++◌, if◌then◌else◌, length, map, min, nat_le, take, drop, MatchOption, None};
 ghost use Rattle.liquid_error.specs.meaning.Told.{told};
-ghost use Rattle.liquid_tags.specs.meaning.Languages.{meaning_of};
+ghost use Rattle.liquid_parser.specs.meaning.Plugins.{language_of};
+ghost use Rattle.liquid_template.specs.meaning.Runs.{setting};
 ghost use Rattle.liquid_pages.specs.meaning.Faults.{fault_told};
-ghost use Rattle.liquid_pages.specs.meaning.Shown.{Page as Shown, Shows};
-ghost use Rattle.liquid_c.specs.meaning.Options.{filter_made, filters_chosen, has_bit, language_chosen, has_standard, page_options};
+ghost use Rattle.liquid_pages.specs.meaning.Shown.{Page as Shown, ComesTo, Shows, bytes_of_partial};
+ghost use Rattle.liquid_c.specs.meaning.Options.{page_options};
 ghost use Rattle.liquid_c.specs.meaning.Outcomes.{IsPlaced, IsWhere, IsWhich, Leaves, LeavesAsked, LeavesOver, kind_of};
 ghost use Rattle.liquid_c.specs.steps.Chosen.{IsChosen};
 
-use crate::page::{EMPTY, LENIENT, Outcome, Page, SANDBOXED, STANDARD};
-use liquid_core::parser::{Language, PluginRegistry};
+use crate::languages::{Chosen, choose_language, page_options};
+use crate::page::{EMPTY, Outcome, Page};
+use liquid_core::parser::{Discreet, Language, ParseBlock, ParseFilter, ParseTag};
 use liquid_core::{Error, Place, Sink, TextSink};
-use liquid_pages::{PageFault, PageOptions, PageText, Rendered, render_page};
-use liquid_tags::{Blocks, Tags, language};
-use std::alloc::{AllocError, Global};
+use liquid_pages::{PageFault, PageText, Rendered, render_page};
+use std::alloc::Global;
 use std::rc::Rc;
-use std_filters::{FilterPlugin, StdKind, filters};
-
-/// The language of the tag library with the standard filters, or with none.
-type StdLanguage = Language<FilterPlugin<StdKind>, Tags, Blocks>;
 
 /// The kinds of an outcome that no fault has.
 const NO_MEMORY: u32 = 6;
@@ -26,66 +23,6 @@ const NO_MEMORY: u32 = 6;
 const SHORT: u32 = 7;
 
 const NO_OPTIONS: u32 = 8;
-
-fn has_bit(options: u32, bit: u32) -> bool
-    ensures { result ≡ has_bit options bit }
-{
-    options & bit != 0
-}
-
-/// Returns how a page of these options is rendered.
-fn page_options(options: u32) -> PageOptions
-    ensures { result ≡ page_options options }
-{
-    PageOptions {
-        sandboxed: has_bit(options, SANDBOXED),
-        lenient: has_bit(options, LENIENT),
-    }
-}
-
-/// Returns the filters that these options choose.
-fn filters_chosen(
-    alloc: Global,
-    options: u32,
-) -> Result<PluginRegistry<FilterPlugin<StdKind>>, AllocError>
-    ensures { IfOk result (λ filters. filters ≡ filters_chosen (has_standard options)) }
-{
-    if has_bit(options, STANDARD) {
-        filters(alloc, None)
-    } else {
-        Ok(PluginRegistry::new(alloc))
-    }
-}
-
-/// Returns the language that these options choose.
-fn language_chosen(alloc: Global, options: u32) -> Result<Rc<StdLanguage>, AllocError>
-    ensures { IfOk result (λ language. meaning_of filter_made language.value ≡ language_chosen (has_standard options)) }
-{
-    Ok(Rc::new(alloc, language(alloc, filters_chosen(alloc, options)?)?)?)
-}
-
-/// The language that the options of a page choose.
-#[derive(Drop)]
-pub(crate) enum Chosen {
-    /// There are no such options.
-    NoOptions,
-    /// Memory ran out.
-    NoMemory,
-    Language(Rc<StdLanguage>),
-}
-
-/// Returns the language that these options choose, if there are such options.
-pub(crate) fn choose_language(alloc: Global, options: u32) -> Chosen
-    ensures { IsChosen options result }
-{
-    if STANDARD * 2 <= options {
-        return Chosen::NoOptions;
-    }
-    match language_chosen(alloc, options) {
-        Ok(language) => Chosen::Language(language),
-        Err(_) => Chosen::NoMemory,
-    }
-}
 
 /// Renders a page over these globals into `out`, in the language that its options choose, and writes the
 /// text of its error to `message`.
@@ -110,12 +47,37 @@ pub(crate) fn render_over(
             kind: NO_MEMORY,
             ..EMPTY
         },
-        Chosen::Language(language) => {
-            let options = page_options(page.options);
-            let rendered = render_page(alloc, language, options, page.text, globals, page.partials);
-            finish(alloc, &rendered, out, message)
-        }
+        Chosen::Plain(language) => render_in(alloc, language, page, globals, out, message),
+        Chosen::Standard(language) => render_in(alloc, language, page, globals, out, message),
     }
+}
+
+/// Renders a page over these globals in this language.
+fn render_in<F, T, B>(
+    alloc: Global,
+    language: &Rc<Language<F, T, B>>,
+    page: &Page<'_>,
+    globals: &[u8],
+    out: &mut [u8],
+    message: &mut [u8],
+) -> Outcome
+where
+    F: ParseFilter + Drop,
+    T: ParseTag<F> + Drop,
+    B: ParseBlock<F> + Drop,
+    T::Node: Discreet<()>,
+    B::Node: Discreet<()>,
+    ensures leaves { (shown : Shown) → ComesTo
+        (setting tt F.Filter.means T.Node.means B.Node.means)
+        (language_of F.makes T.gives B.block language.now.value) (page_options page.now) page.now.text.now globals.now
+        (map bytes_of_partial page.now.partials.now) shown
+        → Leaves shown out.old out.new result }
+    ensures room { result.written ≤ length out.old }
+    ensures size { length out.new ≡ length out.old }
+{
+    let options = page_options(page);
+    let rendered = render_page(alloc, language, options, page.text, globals, page.partials);
+    finish(alloc, &rendered, out, message)
 }
 
 /// Renders a page into `out`, and writes the text of its error to `message`.

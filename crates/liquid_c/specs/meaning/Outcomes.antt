@@ -1,14 +1,14 @@
 -- What a call leaves with its caller: bytes in the caller's memory, and a record that says how the page ended.
 use Rattle.std.specs.Prelude.{◌≡◌, ℕ, ◌<◌, ◌≤◌, min, ◌⊎◌, List, ◌++◌, length, take, drop, nat_le, Option, None, Some, map, if◌then◌else◌, ⊤}
 use Rattle.liquid_error.specs.declared.place.Place.{Place}
-use Rattle.liquid_tags.specs.meaning.Library.{library}
 use Rattle.liquid_pages.specs.declared.fault.PageText.{PageText}
 use Rattle.liquid_pages.specs.declared.fault.PageText.TheVariants.{Template, Globals, PartialName, PartialText}
 use Rattle.liquid_pages.specs.meaning.Faults.{Fault, no_text, bad_json, no_globals, unparsed, refused}
-use Rattle.liquid_pages.specs.meaning.Shown.{Page, Begins, ComesTo, bytes_of_partial}
+use Rattle.liquid_pages.specs.meaning.Shown.{Page, Begins, bytes_of_partial}
 use Rattle.liquid_c.specs.declared.page.Outcome.{Outcome}
 use Rattle.liquid_c.specs.declared.page.Page.{Page as Asked}
-use Rattle.liquid_c.specs.meaning.Options.{filter_calls, has_standard, language_chosen, page_options}
+use Rattle.liquid_c.specs.meaning.Languages.{ComesToIn}
+use Rattle.liquid_c.specs.meaning.Options.{has_standard, page_options}
 
 -- the kinds, by their numbers in the header
 abbrev pub kind_of : Fault → ℕ
@@ -60,8 +60,7 @@ Unasked old new o = (o.kind ≡ 8) × ((o.needed ≡ 0) × ((o.written ≡ 0) ×
 abbrev pub LeavesOver : Asked → List ℕ → List ℕ → List ℕ → Outcome → Type 0
 LeavesOver asked globals old new o =
     (asked.options < 8 → (page : Page)
-    → ComesTo (library tt filter_calls) (language_chosen (has_standard asked.options)) (page_options asked.options)
-    asked.text.now globals (map bytes_of_partial asked.partials.now) page
+    → ComesToIn (has_standard asked.options) (page_options asked) asked.text.now globals (map bytes_of_partial asked.partials.now) page
     → Leaves page old new o)
     × (8 ≤ asked.options → Unasked old new o)
 
