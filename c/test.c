@@ -2,11 +2,17 @@
  * It is linked with --wrap=malloc,--wrap=realloc,--wrap=free, so that blocks are counted and each growth
  * can be made to fail. */
 #include "liquid.h"
+#include <assert.h>
 #include <stdio.h>
 #include <stdlib.h>
 #include <string.h>
 
 #define ROOM 64
+
+/* crates/liquid_c/src/page.rt has the same sizes. */
+static_assert(sizeof(liquid_page) == 56, "liquid_page");
+static_assert(sizeof(liquid_partial) == 32, "liquid_partial");
+static_assert(sizeof(liquid_outcome) == 56, "liquid_outcome");
 
 #ifdef __cplusplus
 extern "C" {

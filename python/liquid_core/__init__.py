@@ -51,8 +51,8 @@ class Kind(enum.IntEnum):
 class LiquidError(Exception):
     """A page that was not rendered to its end.
 
-    ``message`` is the text of the error, line by line. ``line`` and ``column`` are from 1, and ``None`` if the
-    error has no place. ``rendered`` is what was rendered before it.
+    ``message`` is the text of the error, as the program prints it. ``line`` and ``column`` are from 1, and ``None``
+    if the error has no place. ``rendered`` is what was rendered before it.
     """
 
     def __init__(self, message: str, line: int | None, column: int | None, kind: Kind, rendered: str) -> None:
@@ -167,7 +167,7 @@ def render(
     if outcome.kind == _OK:
         return rendered
     raise LiquidError(
-        ctypes.string_at(message, outcome.message_len).decode("utf-8", "replace") or "liquid: out of memory\n",
+        ctypes.string_at(message, outcome.message_len).decode("utf-8", "replace").rstrip("\n") or "liquid: out of memory",
         outcome.line or None,
         outcome.column or None,
         Kind(outcome.kind),

@@ -55,7 +55,7 @@ class Errors(unittest.TestCase):
                 error = caught.exception
                 self.assertEqual([error.kind, error.line, error.column], wanted)
                 self.assertEqual(error.rendered, rendered)
-                self.assertTrue(error.message.startswith("liquid: ") and error.message.endswith("\n"))
+                self.assertTrue(error.message.startswith("liquid: ") and not error.message.endswith("\n"))
                 self.assertEqual(str(error), error.message)
 
     def test_what_is_no_json_raises_before_a_call(self):

@@ -2,6 +2,13 @@
 
 use liquid_pages::PartialBytes;
 
+// c/test.c has the same sizes of the header's structs.
+const _: () = prove!(size_of::<Page<'static>>() == 56);
+
+const _: () = prove!(size_of::<PartialBytes<'static>>() == 32);
+
+const _: () = prove!(size_of::<Outcome>() == 56);
+
 /// What is rendered, and how.
 #[repr(C)]
 #[derive(Clone, Copy)]
