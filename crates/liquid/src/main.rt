@@ -7,6 +7,7 @@ pub mod filters;
 pub mod folder;
 pub mod gather;
 pub mod in_memory;
+pub mod long_command;
 pub mod machine;
 pub mod rendering;
 pub mod run;

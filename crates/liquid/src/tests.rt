@@ -2,6 +2,8 @@
 mod commands;
 mod globals;
 mod lenient;
+mod limits;
+mod long_commands;
 mod partials;
 mod sandbox;
 mod standard;

@@ -1,5 +1,5 @@
 -- From what is written to a sink over memory to what a page shows.
-use Rattle.std.proofs.Common.{◌≡◌, ℕ, Bool, true, false, inl, inr, List, [], ◌++◌, Option, None, Some, Result, Ok, Err, ◌+◌, arith, refl, sym, ap, subst, ◌∙◌}
+use Rattle.std.proofs.Common.{◌≡◌, ℕ, Bool, true, false, inl, inr, List, [], ◌++◌, Option, None, Some, Result, Ok, Err, ◌+◌, arith, refl, sym, ap, subst, ◌∙◌, append_assoc}
 use Rattle.std.specs.Prelude.{IfSome, MatchOption, option_map, IsUtf8}
 use Rattle.std.specs.Str.{is_utf8}
 use Rattle.std.proofs.lemmas.Str.{IsUtf8-from_is_utf8, is_utf8-from_IsUtf8}
@@ -12,8 +12,9 @@ use Rattle.liquid_plugins.specs.meaning.Nodes.{NodeShape}
 use Rattle.liquid_parser.specs.meaning.Lang.{Lang}
 use Rattle.liquid_template.specs.meaning.Outcome.{BrokenOff, Cut, GateRefuses, Outcome, SinkFails, Stopped, Whole}
 use Rattle.liquid_template.specs.meaning.Output.{Output, ungated}
-use Rattle.liquid_template.specs.meaning.Run.{Run, Step, written}
+use Rattle.liquid_template.specs.meaning.Run.{Run, Step, pieces, written}
 use Rattle.liquid_template.specs.meaning.Sunk.{alone}
+use Rattle.liquid_template.proofs.Joins.{pieces-append}
 use Rattle.liquid_partials.specs.meaning.Sources.{Texts}
 use Rattle.liquid_pages.specs.declared.fault.PageFault.{PageFault}
 use Rattle.liquid_pages.specs.declared.fault.PageText.{PageText}
@@ -33,7 +34,7 @@ not_text bytes false is none = refl
 pub no_text_is : (which : PageText) (bytes : List ℕ) → ¬ (IsUtf8 bytes) → text_read which bytes ≡ Err (no_text which)
 no_text_is which bytes none = rw (not_text bytes (is_utf8 bytes) refl none) refl
 
-module _ (r : Run (Unit {0})) (first last : List ℕ) (left : View (Unit {0})) (nothing : first ≡ []) where
+module _ {Reg : Type 0} (r : Run Reg) (first last : List ℕ) (left : View Reg) (nothing : first ≡ []) where
   abbrev At : List ℕ → Output
   At taken = ungated (alone taken 0)
 
@@ -41,12 +42,16 @@ module _ (r : Run (Unit {0})) (first last : List ℕ) (left : View (Unit {0})) (
   all_written w = w.taken ∙ ap (λ t. t ++ written r) nothing
 
   begins : Cut r (At first) (At last) → Begins last (page_of_run r)
-  begins c = (c.rest, c.pieces_are ∙ ap (λ t. t ++ c.rest) (sym (c.taken ∙ ap (λ t. t ++ c.part) nothing)))
+  begins c = (
+    c.rest ++ pieces c.later,
+    ap pieces c.steps ∙ pieces-append c.front c.later ∙ ap (λ t. t ++ pieces c.later) c.pieces_are ∙ append_assoc c.part c.rest (pieces c.later)
+        ∙ ap (λ t. t ++ (c.rest ++ pieces c.later)) (sym (c.taken ∙ ap (λ t. t ++ c.part) nothing)),
+  )
 
-  never_fails : (step : Step (Unit {0})) (rest : List ℕ) (turns bytes : ℕ) (refusal : Refusal) → SinkFails step rest turns bytes (At first) (At last) refusal → ⊥
+  never_fails : (step : Step Reg) (rest : List ℕ) (turns bytes : ℕ) (refusal : Refusal) → SinkFails step rest turns bytes (At first) (At last) refusal → ⊥
   never_fails step rest turns bytes refusal f = let one : 0 ≡ 0 + 1 = f.failures in omega (arith, one)
 
-  never_refused : (step : Step (Unit {0})) (part : List ℕ) (turns bytes : ℕ) (refusal : Refusal) → GateRefuses step part turns bytes (At first) (At last) refusal → ⊥
+  never_refused : (step : Step Reg) (part : List ℕ) (turns bytes : ℕ) (refusal : Refusal) → GateRefuses step part turns bytes (At first) (At last) refusal → ⊥
   never_refused step part turns bytes refusal g = elim g.refused as (λ _. ⊥) [ inl t ↦ t.1 | inr b ↦ b.2 ]
 
   never_broken : (refusal : Refusal) → BrokenOff r (At first) (At last) left refusal → ⊥
@@ -63,7 +68,7 @@ module _ (r : Run (Unit {0})) (first last : List ℕ) (left : View (Unit {0})) (
   shown_outcome (Err error) o = stopped_shown (told error) o
 
 -- what was read was rendered to an empty sink
-pub nodes_shown : {F T P L B Q : Type 0} (s : Settings F T P B Q) (l : Lang F T L B) (options : PageOptions) (nodes : List (NodeShape F T B)) (names : Names) (texts : Texts) (first last : List ℕ) (result : Result (Unit {0}) Error) (end : Result (Unit {0}) PageFault)
+pub nodes_shown : {Reg F T P L B Q : Type 0} (s : Settings Reg F T P B Q) (l : Lang F T L B) (options : PageOptions) (nodes : List (NodeShape F T B)) (names : Names) (texts : Texts) (first last : List ℕ) (result : Result (Unit {0}) Error) (end : Result (Unit {0}) PageFault)
     → first ≡ [] → end ≡ ended result → RendersAnswer s l options (Ok nodes) names (Some texts) (alone first 0) (alone last 0) result
     → (p : Page) → NodesComeTo s l options nodes names texts p → Shows p last end
 nodes_shown s l options nodes names texts first last result end nothing is renders p comes =

@@ -21,7 +21,7 @@ nothing_shown p fault output end none is tells = subst (λ o. Shows p o end) (sy
 abbrev pub AllRead : Type 0
 AllRead = Result (List ℕ × (Names × Texts)) Fault
 
-module _ {F T P L B Q : Type 0} (s : Settings F T P B Q) (l : Lang F T L B) (options : PageOptions) (p : Page) where
+module _ {Reg F T P L B Q : Type 0} (s : Settings Reg F T P B Q) (l : Lang F T L B) (options : PageOptions) (p : Page) where
   -- a text that was read, and one that has a fault
   pub step_on : {A : Type 0} (given : Result A Fault) (x : A) (next : A → AllRead) → given ≡ Ok x → ReadComesTo s l options (and_then given next) p → ReadComesTo s l options (next x) p
   step_on given x next is comes = subst (λ g. ReadComesTo s l options (and_then g next) p) is comes

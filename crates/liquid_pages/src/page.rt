@@ -27,6 +27,7 @@ use liquid_error::Error;
 use liquid_parser::{Language, ParseBlock, ParseTag};
 use liquid_partials::InMemorySource;
 use liquid_plugins::{Discreet, ParseFilter};
+use liquid_runtime::Fresh;
 use liquid_template::{Sink, TextSink};
 use liquid_value::Object;
 use std::alloc::Global;
@@ -44,7 +45,7 @@ pub struct Rendered {
 /// The texts are read in this order, and the first fault is returned. The template, the globals, and each partial's
 /// name and text must be UTF-8, and the globals a JSON object of values. Then the template is parsed, and rendered.
 /// What was rendered before an error is in the output.
-pub fn render_page<F, T, B>(
+pub fn render_page<V, F, T, B>(
     alloc: Global,
     language: &Rc<Language<F, T, B>>,
     options: PageOptions,
@@ -53,25 +54,28 @@ pub fn render_page<F, T, B>(
     partials: &[PartialBytes<'_>],
 ) -> Rendered
 where
+    V: Fresh,
     F: ParseFilter + Drop,
     T: ParseTag<F> + Drop,
     B: ParseBlock<F> + Drop,
-    T::Node: Discreet<()>,
-    B::Node: Discreet<()>,
+    T::Node: Discreet<V>,
+    B::Node: Discreet<V>,
     ensures { (page : Page) → ComesTo
-        (setting tt F.Filter.means T.Node.means B.Node.means)
+        (setting V.fresh F.Filter.means T.Node.means B.Node.means)
         (language_of F.makes T.gives B.block language.now.value) options text.now globals.now
         (map bytes_of_partial partials.now) page
         → Shows page (⟦<TextSink as Sink>⟧.sunk result.output).taken result.end }
 {
     match text_of(text, PageText::Template) {
-        Ok(text) => render_over_json(alloc, language, options, text, globals, partials),
+        Ok(text) => render_over_json::<V, F, T, B>(
+            alloc, language, options, text, globals, partials,
+        ),
         Err(fault) => nothing(alloc, fault),
     }
 }
 
 /// Renders a template over globals that are not read yet.
-fn render_over_json<F, T, B>(
+fn render_over_json<V, F, T, B>(
     alloc: Global,
     language: &Rc<Language<F, T, B>>,
     options: PageOptions,
@@ -80,25 +84,28 @@ fn render_over_json<F, T, B>(
     partials: &[PartialBytes<'_>],
 ) -> Rendered
 where
+    V: Fresh,
     F: ParseFilter + Drop,
     T: ParseTag<F> + Drop,
     B: ParseBlock<F> + Drop,
-    T::Node: Discreet<()>,
-    B::Node: Discreet<()>,
+    T::Node: Discreet<V>,
+    B::Node: Discreet<V>,
     ensures { (page : Page) → ReadComesTo
-        (setting tt F.Filter.means T.Node.means B.Node.means)
+        (setting V.fresh F.Filter.means T.Node.means B.Node.means)
         (language_of F.makes T.gives B.block language.now.value) options
         (and_then (names_read globals.now) (λ names. partials_over text.now names (map bytes_of_partial partials.now))) page
         → Shows page (⟦<TextSink as Sink>⟧.sunk result.output).taken result.end }
 {
     match globals_in(alloc, globals) {
-        Ok(globals) => render_with_bytes(alloc, language, options, text, globals, partials),
+        Ok(globals) => render_with_bytes::<V, F, T, B>(
+            alloc, language, options, text, globals, partials,
+        ),
         Err(fault) => nothing(alloc, fault),
     }
 }
 
 /// Renders a template with partials that are not read yet.
-fn render_with_bytes<F, T, B>(
+fn render_with_bytes<V, F, T, B>(
     alloc: Global,
     language: &Rc<Language<F, T, B>>,
     options: PageOptions,
@@ -107,25 +114,26 @@ fn render_with_bytes<F, T, B>(
     partials: &[PartialBytes<'_>],
 ) -> Rendered
 where
+    V: Fresh,
     F: ParseFilter + Drop,
     T: ParseTag<F> + Drop,
     B: ParseBlock<F> + Drop,
-    T::Node: Discreet<()>,
-    B::Node: Discreet<()>,
+    T::Node: Discreet<V>,
+    B::Node: Discreet<V>,
     ensures { (page : Page) → ReadComesTo
-        (setting tt F.Filter.means T.Node.means B.Node.means)
+        (setting V.fresh F.Filter.means T.Node.means B.Node.means)
         (language_of F.makes T.gives B.block language.now.value) options
         (partials_over text.now (names_of globals) (map bytes_of_partial partials.now)) page
         → Shows page (⟦<TextSink as Sink>⟧.sunk result.output).taken result.end }
 {
     match partials_in(alloc, partials) {
-        Ok(source) => render_parts(alloc, language, options, text, globals, source),
+        Ok(source) => render_parts::<V, F, T, B>(alloc, language, options, text, globals, source),
         Err(fault) => nothing(alloc, fault),
     }
 }
 
 /// Parses a template and renders it.
-fn render_parts<F, T, B>(
+fn render_parts<V, F, T, B>(
     alloc: Global,
     language: &Rc<Language<F, T, B>>,
     options: PageOptions,
@@ -134,25 +142,28 @@ fn render_parts<F, T, B>(
     partials: InMemorySource,
 ) -> Rendered
 where
+    V: Fresh,
     F: ParseFilter + Drop,
     T: ParseTag<F> + Drop,
     B: ParseBlock<F> + Drop,
-    T::Node: Discreet<()>,
-    B::Node: Discreet<()>,
+    T::Node: Discreet<V>,
+    B::Node: Discreet<V>,
     ensures { (page : Page) → TextComesTo
-        (setting tt F.Filter.means T.Node.means B.Node.means)
+        (setting V.fresh F.Filter.means T.Node.means B.Node.means)
         (language_of F.makes T.gives B.block language.now.value) options
         text.now (names_of globals) partials page
         → Shows page (⟦<TextSink as Sink>⟧.sunk result.output).taken result.end }
 {
     match read_template(alloc, text, language) {
-        Ok(template) => render_read(alloc, language, options, &template, globals, partials),
+        Ok(template) => render_read::<V, F, T, B>(
+            alloc, language, options, &template, globals, partials,
+        ),
         Err(error) => nothing(alloc, PageFault::Unparsed(error)),
     }
 }
 
 /// Renders a parsed template.
-fn render_read<F, T, B>(
+fn render_read<V, F, T, B>(
     alloc: Global,
     language: &Rc<Language<F, T, B>>,
     options: PageOptions,
@@ -161,19 +172,20 @@ fn render_read<F, T, B>(
     partials: InMemorySource,
 ) -> Rendered
 where
+    V: Fresh,
     F: ParseFilter + Drop,
     T: ParseTag<F> + Drop,
     B: ParseBlock<F> + Drop,
-    T::Node: Discreet<()>,
-    B::Node: Discreet<()>,
+    T::Node: Discreet<V>,
+    B::Node: Discreet<V>,
     ensures { (page : Page) → NodesComeTo
-        (setting tt F.Filter.means T.Node.means B.Node.means)
+        (setting V.fresh F.Filter.means T.Node.means B.Node.means)
         (language_of F.makes T.gives B.block language.now.value) options
         (shapes_of F.Filter.shape T.Node.shape B.Node.shape (own_nodes template.now)) (names_of globals) partials page
         → Shows page (⟦<TextSink as Sink>⟧.sunk result.output).taken result.end }
 {
     let mut output = TextSink::new(alloc);
-    let answer = render_template(
+    let answer = render_template::<V, F, T, B, InMemorySource, TextSink>(
         alloc,
         options,
         template,

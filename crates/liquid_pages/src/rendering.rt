@@ -10,13 +10,14 @@ ghost use Rattle.liquid_template.specs.meaning.Runs.{setting};
 ghost use Rattle.liquid_template.specs.meaning.TemplateOf.{own_nodes};
 ghost use Rattle.liquid_pages.specs.meaning.Pages.{built_over, IsFoundIn, PageAnswer, Renders, RendersAnswer};
 
-use crate::options::PageOptions;
+use crate::options::{PageOptions, room_of};
+use crate::within::{render_in_room, render_sandboxed_in_room};
 use liquid_error::Error;
 use liquid_parser::{Language, ParseBlock, ParseTag, parse};
 use liquid_partials::{LazyCompiler, LazyStore, PartialCompiler, PartialSource};
 use liquid_plugins::{Discreet, ParseFilter};
 use liquid_runtime::names::no_names;
-use liquid_runtime::{BuiltRuntime, Runtime, RuntimeBuilder};
+use liquid_runtime::{BuiltRuntime, Fresh, Runtime, RuntimeBuilder};
 use liquid_template::{PartialStore, Sink, Template};
 use liquid_value::Object;
 use std::alloc::{AllocError, Global};
@@ -29,8 +30,8 @@ pub type PageTemplate<F, T, B> = Template<
     <B as ParseBlock<F>>::Node,
 >;
 
-/// A runtime over a store of partials.
-type PageRuntime<S, F, T, B> = BuiltRuntime<(), LazyStore<S, F, T, B>>;
+/// A runtime over a register and a store of partials.
+type PageRuntime<V, S, F, T, B> = BuiltRuntime<V, LazyStore<S, F, T, B>>;
 
 /// Returns the template of a text.
 pub fn read_template<F, T, B>(
@@ -57,7 +58,7 @@ where
 /// A text that can't be parsed is an error before anything is written. What was written before any other error stays
 /// written, and a failure of the sink is the error "Failed to render".
 #[tactic(auto, using(crate::proofs::UntouchedSinks::untouched))]
-pub fn render_text<F, T, B, S, K>(
+pub fn render_text<V, F, T, B, S, K>(
     alloc: Global,
     options: PageOptions,
     text: &str,
@@ -67,22 +68,23 @@ pub fn render_text<F, T, B, S, K>(
     sink: &mut K,
 ) -> Result<(), Error>
 where
+    V: Fresh,
     F: ParseFilter + Drop,
     T: ParseTag<F> + Drop,
     B: ParseBlock<F> + Drop,
-    T::Node: Discreet<()>,
-    B::Node: Discreet<()>,
+    T::Node: Discreet<V>,
+    B::Node: Discreet<V>,
     S: PartialSource + Drop,
     K: Sink,
     ensures renders { Renders
-        (setting tt F.Filter.means T.Node.means B.Node.means)
+        (setting V.fresh F.Filter.means T.Node.means B.Node.means)
         (language_of F.makes T.gives B.block language.now.value) options text.now (names_of globals)
         (option_map S.texts partials) (K.sunk sink.old) (K.sunk sink.new) result }
     ensures after { Grows (K.sunk sink.old) (K.sunk sink.new) }
     ensures borrows { (K.sunk sink.new).lent ≡ (K.sunk sink.old).lent }
 {
     match read_template(alloc, text, language) {
-        Ok(template) => render_template(
+        Ok(template) => render_template::<V, F, T, B, S, K>(
             alloc, options, &template, language, globals, partials, sink,
         ),
         Err(error) => Err(error),
@@ -91,7 +93,7 @@ where
 
 /// Renders a template of this language and writes the result, as `render_text` does for a text.
 #[tactic(auto, using(crate::proofs::UntouchedSinks::untouched))]
-pub fn render_template<F, T, B, S, K>(
+pub fn render_template<V, F, T, B, S, K>(
     alloc: Global,
     options: PageOptions,
     template: &PageTemplate<F, T, B>,
@@ -101,29 +103,40 @@ pub fn render_template<F, T, B, S, K>(
     sink: &mut K,
 ) -> Result<(), Error>
 where
+    V: Fresh,
     F: ParseFilter + Drop,
     T: ParseTag<F> + Drop,
     B: ParseBlock<F> + Drop,
-    T::Node: Discreet<()>,
-    B::Node: Discreet<()>,
+    T::Node: Discreet<V>,
+    B::Node: Discreet<V>,
     S: PartialSource + Drop,
     K: Sink,
     ensures renders { RendersAnswer
-        (setting tt F.Filter.means T.Node.means B.Node.means)
+        (setting V.fresh F.Filter.means T.Node.means B.Node.means)
         (language_of F.makes T.gives B.block language.now.value) options
         (Ok (shapes_of F.Filter.shape T.Node.shape B.Node.shape (own_nodes template.now))) (names_of globals)
         (option_map S.texts partials) (K.sunk sink.old) (K.sunk sink.new) result }
     ensures after { Grows (K.sunk sink.old) (K.sunk sink.new) }
     ensures borrows { (K.sunk sink.new).lent ≡ (K.sunk sink.old).lent }
 {
-    let PageOptions { sandboxed, lenient } = options;
+    let room = room_of(options);
     match store_of(alloc, language, partials) {
-        Ok(store) => if sandboxed {
-            let mut runtime = runtime_of(alloc, lenient, no_names(alloc), store);
-            template.render_sandboxed(alloc, sink, &mut runtime, globals, None)
+        Ok(store) => if options.sandboxed {
+            let mut runtime: PageRuntime<V, S, F, T, B> = runtime_of(
+                alloc,
+                options.lenient,
+                no_names(alloc),
+                store,
+            );
+            render_sandboxed_in_room(alloc, room, template, &mut runtime, globals, sink)
         } else {
-            let mut runtime = runtime_of(alloc, lenient, globals, store);
-            template.render_to(alloc, sink, &mut runtime)
+            let mut runtime: PageRuntime<V, S, F, T, B> = runtime_of(
+                alloc,
+                options.lenient,
+                globals,
+                store,
+            );
+            render_in_room(alloc, room, template, &mut runtime, sink)
         },
         Err(_) => Err(Error::Memory),
     }
@@ -150,19 +163,20 @@ where
 }
 
 /// Returns the runtime over these globals and this store, if there is one, lenient or not.
-fn runtime_of<F, T, B, S>(
+fn runtime_of<V, F, T, B, S>(
     alloc: Global,
     lenient: bool,
     globals: Object,
     store: Option<LazyStore<S, F, T, B>>,
-) -> PageRuntime<S, F, T, B>
+) -> PageRuntime<V, S, F, T, B>
 where
+    V: Fresh,
     F: ParseFilter + Drop,
     T: ParseTag<F> + Drop,
     B: ParseBlock<F> + Drop,
     S: PartialSource + Drop,
-    ensures view { ⟦<PageRuntime<S, F, T, B> as Runtime>⟧.view result ≡ built_over lenient (names_of globals) }
-    ensures store { ⟦<PageRuntime<S, F, T, B> as Runtime>⟧.store result ≡ store }
+    ensures view { ⟦<PageRuntime<V, S, F, T, B> as Runtime>⟧.view result ≡ built_over V.fresh lenient (names_of globals) }
+    ensures store { ⟦<PageRuntime<V, S, F, T, B> as Runtime>⟧.store result ≡ store }
 {
     let builder = RuntimeBuilder::new(alloc)
         .set_globals(globals)

@@ -136,6 +136,8 @@ fn is_shown(alloc: Global, language: &Rc<PlainLanguage>, row: &Row<'_>) -> bool 
     let options = PageOptions {
         sandboxed: lenient,
         lenient,
+        max_turns: None,
+        max_bytes: None,
     };
     let partials = [
         PartialBytes {
@@ -147,7 +149,7 @@ fn is_shown(alloc: Global, language: &Rc<PlainLanguage>, row: &Row<'_>) -> bool 
             text: b"",
         },
     ];
-    let page = render_page(alloc, language, options, text, globals, &partials);
+    let page = render_page::<(), _, _, _>(alloc, language, options, text, globals, &partials);
     end_of(&page) == end && page.output.as_bytes() == output
 }
 

@@ -18,10 +18,11 @@ use Rattle.liquid_partials.specs.meaning.Compiled.{Compiled}
 use Rattle.liquid_partials.specs.meaning.Rendered.{RenderedBy}
 use Rattle.liquid_partials.specs.meaning.Sources.{Texts}
 use Rattle.liquid_pages.specs.declared.options.PageOptions.{PageOptions}
+use Rattle.liquid_pages.specs.meaning.Limited.{limited, room_of}
 
--- the view of a built runtime with these globals, lenient or not, whose register is empty
-abbrev pub built_over : Bool → Names → View (Unit {0})
-built_over lenient globals = leniently lenient (built_view tt 32 globals)
+-- the view of a built runtime with these globals, lenient or not, whose register has its first value
+abbrev pub built_over : {Reg : Type 0} → Reg → Bool → Names → View Reg
+built_over fresh lenient globals = leniently lenient (built_view fresh 32 globals)
 
 -- the globals that the runtime has: in a sandbox it has none
 abbrev pub runtime_names : Bool → Names → Names
@@ -29,8 +30,8 @@ runtime_names false globals = globals
 runtime_names true globals = empty
 
 -- the view that rendering with these options begins with
-abbrev pub first_view : PageOptions → Names → View (Unit {0})
-first_view options globals = built_over options.lenient (runtime_names options.sandboxed globals)
+abbrev pub first_view : {Reg : Type 0} → Reg → PageOptions → Names → View Reg
+first_view fresh options globals = built_over fresh options.lenient (runtime_names options.sandboxed globals)
 
 -- what a text is read as
 abbrev pub PageAnswer : Type 0 → Type 0 → Type 0 → Type 0
@@ -43,21 +44,29 @@ IsFoundIn l (Some texts) None = ⊥
 IsFoundIn l (Some texts) (Some found) = Compiled l texts found
 
 -- what templates are rendered with, by what a store finds
-abbrev pub Settings : Type 0 → Type 0 → Type 0 → Type 0 → Type 0 → Type 0
-Settings F T P B Q = Option (Found F T B) → Setting (Unit {0}) F T P B Q
+abbrev pub Settings : Type 0 → Type 0 → Type 0 → Type 0 → Type 0 → Type 0 → Type 0
+Settings Reg F T P B Q = Option (Found F T B) → Setting Reg F T P B Q
+
+-- the first value of the register, whatever a store finds
+abbrev pub first_register : {Reg F T P B Q : Type 0} → Settings Reg F T P B Q → Reg
+first_register s = (s None).fresh
 
 -- the rendering of nodes: in a sandbox, under a frame without a name whose data are the globals
-abbrev pub page_action : {F T P B Q : Type 0} → Settings F T P B Q → Bool → Option (Found F T B) → Names → List (NodeShape F T B) → Action (Unit {0})
-page_action s false found globals nodes = template_run (s found) (nodes_from nodes)
-page_action s true found globals nodes = sandboxed_run (s found) globals None (nodes_from nodes)
+abbrev pub nodes_action : {Reg F T P B Q : Type 0} → Settings Reg F T P B Q → Bool → Option (Found F T B) → Names → List (NodeShape F T B) → Action Reg
+nodes_action s false found globals nodes = template_run (s found) (nodes_from nodes)
+nodes_action s true found globals nodes = sandboxed_run (s found) globals None (nodes_from nodes)
 
-module _ {F T P L B Q : Type 0} (s : Settings F T P B Q) (l : Lang F T L B) (options : PageOptions) where
+-- the same under the limits of the options
+abbrev pub page_action : {Reg F T P B Q : Type 0} → Settings Reg F T P B Q → PageOptions → Option (Found F T B) → Names → List (NodeShape F T B) → Action Reg
+page_action s options found globals nodes = limited (room_of options) (nodes_action s options.sandboxed found globals nodes)
+
+module _ {Reg F T P L B Q : Type 0} (s : Settings Reg F T P B Q) (l : Lang F T L B) (options : PageOptions) where
   -- the parsed text was rendered, with these options, over a built runtime with these globals and a store of these
   -- partials, which left a view
   pub record RendersAnswer (answer : PageAnswer F T B) (globals : Names) (partials : Option Texts) (before after : Sunk) (result : Result (Unit {0}) Error) : Type 0 where
-    pub left : View (Unit {0})
+    pub left : View Reg
     pub rendered : (found : Option (Found F T B)) → IsFoundIn l partials found
-        → RenderedBy (page_action s options.sandboxed found globals) answer (first_view options globals) before after left result
+        → RenderedBy (page_action s options found globals) answer (first_view (first_register s) options globals) before after left result
 
   -- the same for what a text is read as in the language
   abbrev pub Renders : List ℕ → Names → Option Texts → Sunk → Sunk → Result (Unit {0}) Error → Type 0

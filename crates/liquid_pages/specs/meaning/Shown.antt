@@ -19,7 +19,7 @@ use Rattle.liquid_pages.specs.declared.fault.PageText.TheVariants.{Template, Glo
 use Rattle.liquid_pages.specs.declared.options.PageOptions.{PageOptions}
 use Rattle.liquid_pages.specs.meaning.Faults.{Fault, unparsed, refused, fault_told, and_then, text_read}
 use Rattle.liquid_pages.specs.meaning.Globals.{globals_read}
-use Rattle.liquid_pages.specs.meaning.Pages.{PageAnswer, Settings, IsFoundIn, first_view, page_action}
+use Rattle.liquid_pages.specs.meaning.Pages.{PageAnswer, Settings, IsFoundIn, first_register, first_view, page_action}
 
 -- the bytes of a partial: its name and its text
 abbrev pub NameAndText : Type 0
@@ -54,18 +54,18 @@ pub record Page : Type 0 where
 abbrev pub stopped : Fault → Page
 stopped fault = record { output = []; fault = Some fault }
 
-abbrev pub page_of_run : Run (Unit {0}) → Page
+abbrev pub page_of_run : {Reg : Type 0} → Run Reg → Page
 page_of_run r = record { output = written r; fault = option_map refused r.refusal }
 
-abbrev pub page_of_answer : {F T B : Type 0} → (List (NodeShape F T B) → Run (Unit {0})) → PageAnswer F T B → Page
+abbrev pub page_of_answer : {Reg F T B : Type 0} → (List (NodeShape F T B) → Run Reg) → PageAnswer F T B → Page
 page_of_answer run_of (Ok nodes) = page_of_run (run_of nodes)
 page_of_answer run_of (Err refusal) = stopped (unparsed refusal)
 
 -- the run of nodes with these options over these names, where a store finds this
-abbrev pub page_run : {F T P B Q : Type 0} → Settings F T P B Q → PageOptions → Names → Option (Found F T B) → List (NodeShape F T B) → Run (Unit {0})
-page_run s options names found nodes = page_action s options.sandboxed found names nodes (first_view options names)
+abbrev pub page_run : {Reg F T P B Q : Type 0} → Settings Reg F T P B Q → PageOptions → Names → Option (Found F T B) → List (NodeShape F T B) → Run Reg
+page_run s options names found nodes = page_action s options found names nodes (first_view (first_register s) options names)
 
-module _ {F T P L B Q : Type 0} (s : Settings F T P B Q) (l : Lang F T L B) (options : PageOptions) where
+module _ {Reg F T P L B Q : Type 0} (s : Settings Reg F T P B Q) (l : Lang F T L B) (options : PageOptions) where
   -- a text over names, with these partials, is rendered as this page
   abbrev pub TextComesTo : List ℕ → Names → Texts → Page → Type 0
   TextComesTo text names texts page =
