@@ -4,7 +4,7 @@ ghost use Rattle.std.specs.FinMap.{empty};
 ghost use Rattle.liquid_tags.specs.meaning.Languages.{meaning_of};
 ghost use Rattle.std_filters.specs.meaning.Registered.{standard_filters};
 ghost use Rattle.liquid_c.specs.meaning.Languages.{filter_made, plain_language, standard_language};
-ghost use Rattle.liquid_c.specs.meaning.Options.{has_bit, page_options};
+ghost use Rattle.liquid_c.specs.meaning.Options.{has_bit, limit_of, page_options};
 ghost use Rattle.liquid_c.specs.steps.Chosen.{IsChosen};
 
 use crate::page::{LENIENT, Page, SANDBOXED, STANDARD};
@@ -38,6 +38,13 @@ fn has_bit(options: u32, bit: u32) -> bool
     options & bit != 0
 }
 
+/// Returns the limit of this number, if it is one.
+fn limit_of(number: u64) -> Option<u64>
+    ensures { result ≡ limit_of number }
+{
+    if number == 0 { None } else { Some(number) }
+}
+
 /// Returns how a page of these options is rendered.
 pub(crate) fn page_options(page: &Page<'_>) -> PageOptions
     ensures { result ≡ page_options page.now }
@@ -45,6 +52,8 @@ pub(crate) fn page_options(page: &Page<'_>) -> PageOptions
     PageOptions {
         sandboxed: has_bit(page.options, SANDBOXED),
         lenient: has_bit(page.options, LENIENT),
+        max_turns: limit_of(page.max_turns),
+        max_bytes: limit_of(page.max_bytes),
     }
 }
 

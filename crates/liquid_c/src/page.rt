@@ -3,7 +3,7 @@
 use liquid_pages::PartialBytes;
 
 // c/test.c has the same sizes of the header's structs.
-const _: () = prove!(size_of::<Page<'static>>() == 56);
+const _: () = prove!(size_of::<Page<'static>>() == 72);
 
 const _: () = prove!(size_of::<PartialBytes<'static>>() == 32);
 
@@ -20,6 +20,9 @@ pub struct Page<'a> {
     pub partials: &'a [PartialBytes<'a>],
     /// The sum of `SANDBOXED`, `LENIENT` and `STANDARD`, each at most once.
     pub options: u32,
+    /// How many turns of tags and blocks the page may take, and how many bytes it may write; 0 if that is not limited.
+    pub max_turns: u64,
+    pub max_bytes: u64,
 }
 
 /// The globals are the data of a sandbox, over a runtime without names.

@@ -12,7 +12,7 @@ ghost use Rattle.liquid_c.specs.steps.Chosen.{IsChosen};
 use crate::languages::{Chosen, choose_language, page_options};
 use crate::page::{EMPTY, Outcome, Page};
 use liquid_core::parser::{Discreet, Language, ParseBlock, ParseFilter, ParseTag};
-use liquid_core::{Error, Place, Sink, TextSink};
+use liquid_core::{Error, Fresh, Place, Sink, TextSink};
 use liquid_pages::{PageFault, PageText, Rendered, render_page};
 use std::alloc::Global;
 use std::rc::Rc;
@@ -47,13 +47,17 @@ pub(crate) fn render_over(
             kind: NO_MEMORY,
             ..EMPTY
         },
-        Chosen::Plain(language) => render_in(alloc, language, page, globals, out, message),
-        Chosen::Standard(language) => render_in(alloc, language, page, globals, out, message),
+        Chosen::Plain(language) => render_in::<(), _, _, _>(
+            alloc, language, page, globals, out, message,
+        ),
+        Chosen::Standard(language) => render_in::<(), _, _, _>(
+            alloc, language, page, globals, out, message,
+        ),
     }
 }
 
-/// Renders a page over these globals in this language.
-fn render_in<F, T, B>(
+/// Renders a page over these globals in this language, over a runtime with a register of type `V`.
+fn render_in<V, F, T, B>(
     alloc: Global,
     language: &Rc<Language<F, T, B>>,
     page: &Page<'_>,
@@ -62,13 +66,14 @@ fn render_in<F, T, B>(
     message: &mut [u8],
 ) -> Outcome
 where
+    V: Fresh,
     F: ParseFilter + Drop,
     T: ParseTag<F> + Drop,
     B: ParseBlock<F> + Drop,
-    T::Node: Discreet<()>,
-    B::Node: Discreet<()>,
+    T::Node: Discreet<V>,
+    B::Node: Discreet<V>,
     ensures leaves { (shown : Shown) → ComesTo
-        (setting tt F.Filter.means T.Node.means B.Node.means)
+        (setting V.fresh F.Filter.means T.Node.means B.Node.means)
         (language_of F.makes T.gives B.block language.now.value) (page_options page.now) page.now.text.now globals.now
         (map bytes_of_partial page.now.partials.now) shown
         → Leaves shown out.old out.new result }
@@ -76,7 +81,14 @@ where
     ensures size { length out.new ≡ length out.old }
 {
     let options = page_options(page);
-    let rendered = render_page(alloc, language, options, page.text, globals, page.partials);
+    let rendered = render_page::<V, F, T, B>(
+        alloc,
+        language,
+        options,
+        page.text,
+        globals,
+        page.partials,
+    );
     finish(alloc, &rendered, out, message)
 }
 

@@ -93,6 +93,8 @@ fn rows(rt: HostRuntime) {
             globals: *globals,
             partials: &PARTIALS[..*count],
             options: *options,
+            max_turns: 0,
+            max_bytes: 0,
         };
         let mut out = [35u8; 9];
         let mut message = [0u8; 128];
@@ -119,6 +121,8 @@ fn the_partial_that_is_no_text_is_named(rt: HostRuntime) {
         globals: b"{}",
         partials: &PARTIALS,
         options: 0,
+        max_turns: 0,
+        max_bytes: 0,
     };
     let outcome = render(rt.alloc(), &page, &mut [], &mut []);
     assert_eq!(rt; outcome.which, 3);
@@ -133,6 +137,8 @@ fn pages_are_rendered_in_turn(rt: HostRuntime) {
         globals: b"",
         partials: &[],
         options: 0,
+        max_turns: 0,
+        max_bytes: 0,
     };
     let globals: [&[u8]; 4] = [b"{\"x\": 1}", b"{}", b"{\"x\": \"seven\"}", b"{\"x\": 2}"];
     let mut out = [35u8; 9];
@@ -149,4 +155,32 @@ fn pages_are_rendered_in_turn(rt: HostRuntime) {
     assert!(rt; &out == b"1!seven!#");
     assert_eq!(rt; outcomes[1].kind, 2);
     assert_eq!(rt; outcomes[2].written, 6);
+}
+
+#[test]
+fn a_page_past_its_limits_is_stopped(rt: HostRuntime) {
+    // the limits of turns and of bytes, the kind, and what is written
+    let rows: [(u64, u64, u32, &[u8]); 7] = [
+        (0, 0, 0, b"1.2.3."),
+        (100, 6, 0, b"1.2.3."),
+        (100, 5, 2, b"1.2.3"),
+        (0, 2, 2, b"1."),
+        (1, 0, 2, b"1."),
+        (3, 0, 2, b"1.2.3."),
+        (4, 0, 0, b"1.2.3."),
+    ];
+    for (max_turns, max_bytes, kind, written) in &rows {
+        let page = Page {
+            text: b"{% for i in (1..3) %}{{ i }}.{% endfor %}",
+            globals: b"{}",
+            partials: &[],
+            options: 0,
+            max_turns: *max_turns,
+            max_bytes: *max_bytes,
+        };
+        let mut out = [35u8; 9];
+        let outcome = render(rt.alloc(), &page, &mut out, &mut []);
+        assert_eq!(rt; outcome.kind, *kind);
+        assert!(rt; &out[..outcome.written] == *written);
+    }
 }
