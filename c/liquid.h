@@ -55,6 +55,10 @@ typedef struct liquid_page {
     const liquid_partial *partials; /* never null */
     size_t partial_count;
     uint32_t options;
+    /* A page that takes more turns of tags and blocks, or writes more bytes, is stopped: it ends as LIQUID_REFUSED.
+     * 0 is no limit. */
+    uint64_t max_turns;
+    uint64_t max_bytes;
 } liquid_page;
 
 /* The kinds of an outcome. The texts are read in this order, and the first error ends it: the template,

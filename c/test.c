@@ -10,7 +10,7 @@
 #define ROOM 64
 
 /* crates/liquid_c/src/page.rt has the same sizes. */
-static_assert(sizeof(liquid_page) == 56, "liquid_page");
+static_assert(sizeof(liquid_page) == 72, "liquid_page");
 static_assert(sizeof(liquid_partial) == 32, "liquid_partial");
 static_assert(sizeof(liquid_outcome) == 56, "liquid_outcome");
 
@@ -63,6 +63,7 @@ typedef struct {
     const char *name, *text, *globals;
     size_t partials;
     uint32_t options;
+    uint64_t turns, bytes;
     size_t room;
     uint32_t kind, which;
     size_t partial, line, column, needed;
@@ -70,29 +71,33 @@ typedef struct {
 } row_type;
 
 static const row_type rows[] = {
-    {"empty", "", "{}", 0, 0, 0, LIQUID_OK, 0, 0, 0, 0, 0, "", ""},
-    {"a value", "a{{ x }}c", "{\"x\": 7}", 0, 0, ROOM, LIQUID_OK, 0, 0, 0, 0, 3, "a7c", ""},
-    {"no room", "a{{ x }}c", "{\"x\": 7}", 0, 0, 0, LIQUID_SHORT, 0, 0, 0, 0, 3, "", ""},
-    {"little room", "a{{ x }}c", "{\"x\": 7}", 0, 0, 2, LIQUID_SHORT, 0, 0, 0, 0, 3, "a7", ""},
-    {"just enough", "a{{ x }}c", "{\"x\": 7}", 0, 0, 3, LIQUID_OK, 0, 0, 0, 0, 3, "a7c", ""},
-    {"names twice", "{{ x }}", "{\"x\": 1, \"x\": 2}", 0, 0, ROOM, LIQUID_OK, 0, 0, 0, 0, 1, "2", ""},
-    {"unparsed", "a\n{% wrong %}", "{}", 0, 0, ROOM, LIQUID_UNPARSED, 0, 0, 2, 4, 0, "", NULL},
-    {"no such filter", "ab{{ x | append: 1 }}", "{}", 0, 0, ROOM, LIQUID_UNPARSED, 0, 0, 1, 10, 0, "", NULL},
-    {"unknown", "ab{{ x }}", "{}", 0, 0, ROOM, LIQUID_REFUSED, 0, 0, 0, 0, 2, "ab", NULL},
-    {"bad JSON", "{{", "{\"a\": }", 2, 0, ROOM, LIQUID_BAD_JSON, 0, 0, 1, 7, 0, "", NULL},
-    {"a list", "{{", "[1]", 2, 0, ROOM, LIQUID_NO_GLOBALS, 0, 0, 0, 0, 0, "", "liquid: Object cannot be an array.\n"},
-    {"no template", "\xff", "\xff", 2, 0, ROOM, LIQUID_NO_TEXT, LIQUID_TEMPLATE, 0, 0, 0, 0, "", "liquid: the template is not UTF-8\n"},
-    {"no text of JSON", "{{", "\"\xff\"", 2, 0, ROOM, LIQUID_NO_TEXT, LIQUID_GLOBALS, 0, 0, 0, 0, "", "liquid: the text of the globals is not UTF-8\n"},
-    {"no partial", "{{", "{}", 2, 0, ROOM, LIQUID_NO_TEXT, LIQUID_PARTIAL_TEXT, 1, 0, 0, 0, "", "liquid: the text of partial 1 is not UTF-8\n"},
-    {"a partial", "{% include 'a', y: x %}", "{\"x\": 1}", 1, 0, ROOM, LIQUID_OK, 0, 0, 0, 0, 3, "[1]", ""},
-    {"the first of two faults", "{% include 'a', y: 1 %}", "{}", 4, 0, ROOM, LIQUID_NO_TEXT, LIQUID_PARTIAL_TEXT, 1, 0, 0, 0, "", NULL},
-    {"sandboxed", "{% assign x = 2 %}{{ x }}", "{\"x\": 1}", 0, LIQUID_SANDBOXED, ROOM, LIQUID_OK, 0, 0, 0, 0, 1, "1", ""},
-    {"not sandboxed", "{% assign x = 2 %}{{ x }}", "{\"x\": 1}", 0, 0, ROOM, LIQUID_OK, 0, 0, 0, 0, 1, "2", ""},
-    {"lenient", "<{{ no.such.name }}>", "{}", 0, LIQUID_LENIENT, ROOM, LIQUID_OK, 0, 0, 0, 0, 2, "<>", ""},
-    {"standard", "{{ 'a' | upcase }}", "{}", 0, LIQUID_STANDARD, ROOM, LIQUID_OK, 0, 0, 0, 0, 1, "A", ""},
-    {"all options", "{{ a | upcase }}", "{}", 0, 7, ROOM, LIQUID_OK, 0, 0, 0, 0, 0, "", ""},
-    {"no option", "a", "{}", 0, 8, ROOM, LIQUID_NO_OPTIONS, 0, 0, 0, 0, 0, "", ""},
-    {"all bits", "a", "{}", 0, UINT32_MAX, ROOM, LIQUID_NO_OPTIONS, 0, 0, 0, 0, 0, "", ""},
+    {"empty", "", "{}", 0, 0, 0, 0, 0, LIQUID_OK, 0, 0, 0, 0, 0, "", ""},
+    {"a value", "a{{ x }}c", "{\"x\": 7}", 0, 0, 0, 0, ROOM, LIQUID_OK, 0, 0, 0, 0, 3, "a7c", ""},
+    {"no room", "a{{ x }}c", "{\"x\": 7}", 0, 0, 0, 0, 0, LIQUID_SHORT, 0, 0, 0, 0, 3, "", ""},
+    {"little room", "a{{ x }}c", "{\"x\": 7}", 0, 0, 0, 0, 2, LIQUID_SHORT, 0, 0, 0, 0, 3, "a7", ""},
+    {"just enough", "a{{ x }}c", "{\"x\": 7}", 0, 0, 0, 0, 3, LIQUID_OK, 0, 0, 0, 0, 3, "a7c", ""},
+    {"names twice", "{{ x }}", "{\"x\": 1, \"x\": 2}", 0, 0, 0, 0, ROOM, LIQUID_OK, 0, 0, 0, 0, 1, "2", ""},
+    {"unparsed", "a\n{% wrong %}", "{}", 0, 0, 0, 0, ROOM, LIQUID_UNPARSED, 0, 0, 2, 4, 0, "", NULL},
+    {"no such filter", "ab{{ x | append: 1 }}", "{}", 0, 0, 0, 0, ROOM, LIQUID_UNPARSED, 0, 0, 1, 10, 0, "", NULL},
+    {"unknown", "ab{{ x }}", "{}", 0, 0, 0, 0, ROOM, LIQUID_REFUSED, 0, 0, 0, 0, 2, "ab", NULL},
+    {"bad JSON", "{{", "{\"a\": }", 2, 0, 0, 0, ROOM, LIQUID_BAD_JSON, 0, 0, 1, 7, 0, "", NULL},
+    {"a list", "{{", "[1]", 2, 0, 0, 0, ROOM, LIQUID_NO_GLOBALS, 0, 0, 0, 0, 0, "", "liquid: Object cannot be an array.\n"},
+    {"no template", "\xff", "\xff", 2, 0, 0, 0, ROOM, LIQUID_NO_TEXT, LIQUID_TEMPLATE, 0, 0, 0, 0, "", "liquid: the template is not UTF-8\n"},
+    {"no text of JSON", "{{", "\"\xff\"", 2, 0, 0, 0, ROOM, LIQUID_NO_TEXT, LIQUID_GLOBALS, 0, 0, 0, 0, "", "liquid: the text of the globals is not UTF-8\n"},
+    {"no partial", "{{", "{}", 2, 0, 0, 0, ROOM, LIQUID_NO_TEXT, LIQUID_PARTIAL_TEXT, 1, 0, 0, 0, "", "liquid: the text of partial 1 is not UTF-8\n"},
+    {"a partial", "{% include 'a', y: x %}", "{\"x\": 1}", 1, 0, 0, 0, ROOM, LIQUID_OK, 0, 0, 0, 0, 3, "[1]", ""},
+    {"the first of two faults", "{% include 'a', y: 1 %}", "{}", 4, 0, 0, 0, ROOM, LIQUID_NO_TEXT, LIQUID_PARTIAL_TEXT, 1, 0, 0, 0, "", NULL},
+    {"sandboxed", "{% assign x = 2 %}{{ x }}", "{\"x\": 1}", 0, LIQUID_SANDBOXED, 0, 0, ROOM, LIQUID_OK, 0, 0, 0, 0, 1, "1", ""},
+    {"not sandboxed", "{% assign x = 2 %}{{ x }}", "{\"x\": 1}", 0, 0, 0, 0, ROOM, LIQUID_OK, 0, 0, 0, 0, 1, "2", ""},
+    {"lenient", "<{{ no.such.name }}>", "{}", 0, LIQUID_LENIENT, 0, 0, ROOM, LIQUID_OK, 0, 0, 0, 0, 2, "<>", ""},
+    {"standard", "{{ 'a' | upcase }}", "{}", 0, LIQUID_STANDARD, 0, 0, ROOM, LIQUID_OK, 0, 0, 0, 0, 1, "A", ""},
+    {"all options", "{{ a | upcase }}", "{}", 0, 7, 0, 0, ROOM, LIQUID_OK, 0, 0, 0, 0, 0, "", ""},
+    {"no option", "a", "{}", 0, 8, 0, 0, ROOM, LIQUID_NO_OPTIONS, 0, 0, 0, 0, 0, "", ""},
+    {"all bits", "a", "{}", 0, UINT32_MAX, 0, 0, ROOM, LIQUID_NO_OPTIONS, 0, 0, 0, 0, 0, "", ""},
+    {"turns", "{% for i in (1..3) %}{{ i }}{% endfor %}", "{}", 0, 0, 4, 0, ROOM, LIQUID_OK, 0, 0, 0, 0, 3, "123", ""},
+    {"too many turns", "{% for i in (1..3) %}{{ i }}{% endfor %}", "{}", 0, 0, 2, 0, ROOM, LIQUID_REFUSED, 0, 0, 0, 0, 2, "12", NULL},
+    {"bytes", "a{{ 7 }}bc", "{}", 0, 0, 0, 4, ROOM, LIQUID_OK, 0, 0, 0, 0, 4, "a7bc", ""},
+    {"too many bytes", "a{{ 7 }}bc", "{}", 0, LIQUID_SANDBOXED, 0, 3, ROOM, LIQUID_REFUSED, 0, 0, 0, 0, 2, "a7", NULL},
 };
 
 static liquid_bytes of(const char *text) { return liquid_bytes_of(text, strlen(text)); }
@@ -110,7 +115,7 @@ static void render(const row_type *row) {
     partials[3].name = of("a"), partials[3].text = of("");
     page.text = of(row->text), page.globals = of(row->globals);
     page.partials = partials, page.partial_count = row->partials;
-    page.options = row->options;
+    page.options = row->options, page.max_turns = row->turns, page.max_bytes = row->bytes;
     memset(out, '#', sizeof out);
     memset(&got, 0xff, sizeof got);
     blocks = 0;
@@ -141,7 +146,7 @@ static void try_row(const row_type *row) {
 /* Each growth fails in turn: the outcome is LIQUID_NO_MEMORY with a beginning of the page, or the page. */
 static void try_growths(void) {
     static const row_type row = {"growths", "{% for i in (1..3) %}{% include 'a', y: i %}{% endfor %}{{ x | upcase }}",
-                                 "{\"x\": [1, \"two\"]}", 1, LIQUID_STANDARD, ROOM, 0, 0, 0, 0, 0, 0, "", ""};
+                                 "{\"x\": [1, \"two\"]}", 1, LIQUID_STANDARD, 0, 0, ROOM, 0, 0, 0, 0, 0, 0, "", ""};
     static const char *whole = "[1][2][3]1TWO";
     long short_of_memory = 0;
     for (failing = 1;; failing++) {
@@ -170,6 +175,7 @@ static void try_each(void) {
     globals[0] = of("{\"x\": 1}"), globals[1] = of("{}"), globals[2] = of("{"), globals[3] = of("{\"x\": \"seven\"}");
     page.text = of("{% include 'a', y: x %}"), page.globals = of("\xff");
     page.partials = partials, page.partial_count = 1, page.options = 0;
+    page.max_turns = page.max_bytes = 0;
     memset(out, '#', sizeof out);
     memset(each, 0xff, sizeof each);
     blocks = 0;

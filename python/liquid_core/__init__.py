@@ -82,6 +82,8 @@ class _Page(ctypes.Structure):
         ("partials", ctypes.POINTER(_Partial)),
         ("partial_count", ctypes.c_size_t),
         ("options", ctypes.c_uint32),
+        ("max_turns", ctypes.c_uint64),
+        ("max_bytes", ctypes.c_uint64),
     ]
 
 
@@ -130,6 +132,12 @@ def _json(names: Globals) -> _Bytes:
     return _bytes(json.dumps(dict(names), ensure_ascii=False, allow_nan=False))
 
 
+def _limit(number: int) -> int:
+    if not 0 <= number < 1 << 64:
+        raise ValueError("a limit is a number from 0 to 2**64 - 1")
+    return number
+
+
 def render(
     template: Text,
     globals: Globals,
@@ -137,13 +145,16 @@ def render(
     sandboxed: bool = False,
     lenient: bool = False,
     standard: bool = False,
+    max_turns: int = 0,
+    max_bytes: int = 0,
 ) -> str:
     """Renders a template over globals, and returns the page.
 
     ``globals`` is a mapping, or the JSON of an object. Its values are what JSON has, but for numbers with a
     fraction. ``partials`` are texts by their names. In a sandbox (``sandboxed``) the template can't change the
     globals. With ``lenient`` a name without a value is nil instead of an error. With ``standard`` the template
-    has the standard filters.
+    has the standard filters. A page that takes more than ``max_turns`` turns of tags and blocks, or writes more
+    than ``max_bytes`` bytes of UTF-8, is stopped; 0 is no limit.
 
     Raises ``LiquidError`` if the page was not rendered to its end, and ``TypeError`` or ``ValueError`` for
     globals that are not JSON's.
@@ -151,7 +162,8 @@ def render(
     texts = [_Partial(_bytes(name), _bytes(text)) for name, text in partials.items()]
     array = (_Partial * max(len(texts), 1))(*texts)
     options = _SANDBOXED * bool(sandboxed) | _LENIENT * bool(lenient) | _STANDARD * bool(standard)
-    page = _Page(_bytes(template), _json(globals), array, len(texts), options)
+    limits = [_limit(it) for it in (max_turns, max_bytes)]
+    page = _Page(_bytes(template), _json(globals), array, len(texts), options, *limits)
     outcome = _Outcome()
     # A page that is longer is rendered again, with room for all of it.
     room, message_room = max(_LEAST_ROOM, 4 * (page.text.len + page.globals.len)), _MESSAGE_ROOM

@@ -22,6 +22,7 @@ class Pages(unittest.TestCase):
         ("{% assign x = 2 %}{{ x }}", {"x": 1}, {"sandboxed": True}, "1"),
         ("<{{ no.name }}>", {}, {"lenient": True}, "<>"),
         ("{{ 'rain' | upcase }}", {}, {"standard": True}, "RAIN"),
+        ("{{ 'rain' }}", {}, {"max_bytes": 4, "max_turns": 2**64 - 1}, "rain"),
         ("{% for i in (1..4000) %}{{ i }} {% endfor %}", {}, {}, "".join(f"{i} " for i in range(1, 4001))),
     ]
 
@@ -45,6 +46,8 @@ class Errors(unittest.TestCase):
         ("\ud800", {}, {}, Kind.NO_TEXT, None, None, ""),
         ("", b"\xff", {}, Kind.NO_TEXT, None, None, ""),
         ("", {}, {"partials": {"a": b"\x80"}}, Kind.NO_TEXT, None, None, ""),
+        ("{% for i in (1..3) %}{{ i }}{% endfor %}", {}, {"max_turns": 2}, Kind.REFUSED, None, None, "12"),
+        ("a{{ 'rain' }}", {}, {"max_bytes": 4, "sandboxed": True}, Kind.REFUSED, None, None, "a"),
     ]
 
     def test_rows(self):
@@ -64,6 +67,9 @@ class Errors(unittest.TestCase):
                 render("", names)
         with self.assertRaises(TypeError):
             render(1, {})
+        for limit in (-1, 2**64):
+            with self.assertRaises(ValueError):
+                render("", {}, max_bytes=limit)
 
     def test_an_error_can_be_pickled(self):
         with self.assertRaises(LiquidError) as caught:
