@@ -1,10 +1,12 @@
 //! Rendering templates in isolation.
 ghost use Rattle.std.specs.Prelude.{◌≡◌, option_map};
+ghost use Rattle.liquid_runtime.specs.meaning.Emptied.{emptied};
 ghost use Rattle.liquid_runtime.specs.meaning.Maps.{names_of};
+ghost use Rattle.liquid_template.specs.meaning.Outcome.{RendersWithin};
 ghost use Rattle.liquid_template.specs.meaning.Partials.{partials_of};
 ghost use Rattle.liquid_template.specs.meaning.Rendering.{isolated_run};
 ghost use Rattle.liquid_template.specs.meaning.Runs.{setting};
-ghost use Rattle.liquid_template.specs.meaning.Isolated.{RendersIsolated, RendersIsolatedWithin, OnlyIndexChanges};
+ghost use Rattle.liquid_template.specs.meaning.Isolated.{RendersIsolated, run_given_back, OnlyIndexChanges};
 ghost use Rattle.liquid_template.specs.meaning.TemplateOf.{template_nodes};
 ghost use Rattle.liquid_template.specs.steps.Place.{target, around};
 
@@ -74,10 +76,16 @@ impl<X: Filter, T, B> Template<X, T, B> {
         B: Renderable<S::Register>,
         S::Store: PartialStore<X, T, B>,
         O: Out,
-        ensures isolated { RendersIsolatedWithin S.Register.fresh
+        ensures renders { RendersWithin (isolated_run
+            (setting S.Register.fresh X.means T.means B.means (partials_of S.Store.finds (S.store scopes.old)))
+            (names_of «data») (option_map (λ r. r.now) name.entry) (template_nodes X.shape T.shape B.shape self.now)
+            (S.view scopes.old))
+            (S.view scopes.old) (target (O.place out.old)) (target (O.place out.new)) (S.view scopes.new) result }
+        ensures isolated { RendersWithin (run_given_back (S.view scopes.old)
             (isolated_run
             (setting S.Register.fresh X.means T.means B.means (partials_of S.Store.finds (S.store scopes.old)))
-            (names_of «data») (option_map (λ r. r.now) name.entry) (template_nodes X.shape T.shape B.shape self.now))
+            (names_of «data») (option_map (λ r. r.now) name.entry) (template_nodes X.shape T.shape B.shape self.now)
+            (emptied S.Register.fresh (S.view scopes.old))))
             (S.view scopes.old) (target (O.place out.old)) (target (O.place out.new)) (S.view scopes.new) result }
         ensures kept { OnlyIndexChanges (S.view scopes.old) (S.view scopes.new) }
         ensures owes { S.restores scopes.new ≡ S.restores scopes.old }

@@ -1,10 +1,12 @@
 //! Rendering templates in a sandbox.
 ghost use Rattle.std.specs.Prelude.{◌≡◌, IfOk, option_map, string_bytes};
+ghost use Rattle.liquid_runtime.specs.meaning.Emptied.{emptied};
 ghost use Rattle.liquid_runtime.specs.meaning.Maps.{names_of};
+ghost use Rattle.liquid_template.specs.meaning.Outcome.{RendersWithin};
 ghost use Rattle.liquid_template.specs.meaning.Partials.{partials_of};
 ghost use Rattle.liquid_template.specs.meaning.Rendering.{sandboxed_run};
 ghost use Rattle.liquid_template.specs.meaning.Runs.{setting};
-ghost use Rattle.liquid_template.specs.meaning.Sandboxed.{RendersSandboxed, RendersSandboxedWithin, Untouched};
+ghost use Rattle.liquid_template.specs.meaning.Sandboxed.{HasGlobals, RendersSandboxed, run_over_outside, Untouched};
 ghost use Rattle.liquid_template.specs.meaning.TemplateOf.{template_nodes};
 ghost use Rattle.liquid_template.specs.steps.Place.{target, around};
 
@@ -74,10 +76,16 @@ impl<X: Filter, T, B> Template<X, T, B> {
         B: Discreet<S::Register>,
         S::Store: PartialStore<X, T, B>,
         O: Out,
-        ensures sandboxed { RendersSandboxedWithin S.Register.fresh
+        ensures renders { RendersWithin (sandboxed_run
+            (setting S.Register.fresh X.means T.means B.means (partials_of S.Store.finds (S.store scopes.old)))
+            (names_of «data») (option_map (λ r. r.now) name.entry) (template_nodes X.shape T.shape B.shape self.now)
+            (S.view scopes.old))
+            (S.view scopes.old) (target (O.place out.old)) (target (O.place out.new)) (S.view scopes.new) result }
+        ensures isolated { HasGlobals (S.view scopes.old) → RendersWithin (run_over_outside (S.view scopes.old)
             (sandboxed_run
             (setting S.Register.fresh X.means T.means B.means (partials_of S.Store.finds (S.store scopes.old)))
-            (names_of «data») (option_map (λ r. r.now) name.entry) (template_nodes X.shape T.shape B.shape self.now))
+            (names_of «data») (option_map (λ r. r.now) name.entry) (template_nodes X.shape T.shape B.shape self.now)
+            (emptied S.Register.fresh (S.view scopes.old))))
             (S.view scopes.old) (target (O.place out.old)) (target (O.place out.new)) (S.view scopes.new) result }
         ensures untouched { Untouched (S.view scopes.old) (S.view scopes.new) }
         ensures owes { S.restores scopes.new ≡ S.restores scopes.old }

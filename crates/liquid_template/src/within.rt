@@ -1,13 +1,14 @@
 //! Rendering templates as long as a gate lets it continue.
 ghost use Rattle.std.specs.Prelude.{◌≡◌, option_map};
+ghost use Rattle.liquid_runtime.specs.meaning.Emptied.{emptied};
 ghost use Rattle.liquid_runtime.specs.meaning.Maps.{names_of};
-ghost use Rattle.liquid_template.specs.meaning.Isolated.{RendersIsolatedWithin, OnlyIndexChanges};
+ghost use Rattle.liquid_template.specs.meaning.Isolated.{run_given_back, OnlyIndexChanges};
 ghost use Rattle.liquid_template.specs.meaning.Outcome.{RendersWithin};
 ghost use Rattle.liquid_template.specs.meaning.Output.{gated};
 ghost use Rattle.liquid_template.specs.meaning.Partials.{partials_of};
 ghost use Rattle.liquid_template.specs.meaning.Rendering.{isolated_run, sandboxed_run, template_run};
 ghost use Rattle.liquid_template.specs.meaning.Runs.{setting};
-ghost use Rattle.liquid_template.specs.meaning.Sandboxed.{RendersSandboxedWithin, Untouched};
+ghost use Rattle.liquid_template.specs.meaning.Sandboxed.{HasGlobals, run_over_outside, Untouched};
 ghost use Rattle.liquid_template.specs.meaning.TemplateOf.{template_nodes};
 
 use crate::gate::{Gate, GatedSink};
@@ -101,10 +102,18 @@ impl<X: Filter, T, B> Template<X, T, B> {
         R::Store: PartialStore<X, T, B>,
         K: Sink,
         G: Gate,
-        ensures sandboxed { RendersSandboxedWithin R.Register.fresh
+        ensures renders { RendersWithin (sandboxed_run
+            (setting R.Register.fresh X.means T.means B.means (partials_of R.Store.finds (R.store parent.old)))
+            (names_of «data») (option_map (λ r. r.now) name.entry) (template_nodes X.shape T.shape B.shape self.now)
+            (R.view parent.old))
+            (R.view parent.old)
+            (gated (K.sunk page.old.sink) (G.gated page.old.gate)) (gated (K.sunk page.new.sink) (G.gated page.new.gate))
+            (R.view parent.new) result }
+        ensures isolated { HasGlobals (R.view parent.old) → RendersWithin (run_over_outside (R.view parent.old)
             (sandboxed_run
             (setting R.Register.fresh X.means T.means B.means (partials_of R.Store.finds (R.store parent.old)))
-            (names_of «data») (option_map (λ r. r.now) name.entry) (template_nodes X.shape T.shape B.shape self.now))
+            (names_of «data») (option_map (λ r. r.now) name.entry) (template_nodes X.shape T.shape B.shape self.now)
+            (emptied R.Register.fresh (R.view parent.old))))
             (R.view parent.old)
             (gated (K.sunk page.old.sink) (G.gated page.old.gate)) (gated (K.sunk page.new.sink) (G.gated page.new.gate))
             (R.view parent.new) result }
@@ -135,10 +144,18 @@ impl<X: Filter, T, B> Template<X, T, B> {
         S::Store: PartialStore<X, T, B>,
         K: Sink,
         G: Gate,
-        ensures sandboxed { RendersSandboxedWithin S.Register.fresh
+        ensures renders { RendersWithin (sandboxed_run
+            (setting S.Register.fresh X.means T.means B.means (partials_of S.Store.finds (S.store scopes.old)))
+            (names_of «data») (option_map (λ r. r.now) name.entry) (template_nodes X.shape T.shape B.shape self.now)
+            (S.view scopes.old))
+            (S.view scopes.old)
+            (gated (K.sunk page.old.sink) (G.gated page.old.gate)) (gated (K.sunk page.new.sink) (G.gated page.new.gate))
+            (S.view scopes.new) result }
+        ensures isolated { HasGlobals (S.view scopes.old) → RendersWithin (run_over_outside (S.view scopes.old)
             (sandboxed_run
             (setting S.Register.fresh X.means T.means B.means (partials_of S.Store.finds (S.store scopes.old)))
-            (names_of «data») (option_map (λ r. r.now) name.entry) (template_nodes X.shape T.shape B.shape self.now))
+            (names_of «data») (option_map (λ r. r.now) name.entry) (template_nodes X.shape T.shape B.shape self.now)
+            (emptied S.Register.fresh (S.view scopes.old))))
             (S.view scopes.old)
             (gated (K.sunk page.old.sink) (G.gated page.old.gate)) (gated (K.sunk page.new.sink) (G.gated page.new.gate))
             (S.view scopes.new) result }
@@ -170,10 +187,18 @@ impl<X: Filter, T, B> Template<X, T, B> {
         R::Store: PartialStore<X, T, B>,
         K: Sink,
         G: Gate,
-        ensures isolated { RendersIsolatedWithin R.Register.fresh
+        ensures renders { RendersWithin (isolated_run
+            (setting R.Register.fresh X.means T.means B.means (partials_of R.Store.finds (R.store parent.old)))
+            (names_of «data») (option_map (λ r. r.now) name.entry) (template_nodes X.shape T.shape B.shape self.now)
+            (R.view parent.old))
+            (R.view parent.old)
+            (gated (K.sunk page.old.sink) (G.gated page.old.gate)) (gated (K.sunk page.new.sink) (G.gated page.new.gate))
+            (R.view parent.new) result }
+        ensures isolated { RendersWithin (run_given_back (R.view parent.old)
             (isolated_run
             (setting R.Register.fresh X.means T.means B.means (partials_of R.Store.finds (R.store parent.old)))
-            (names_of «data») (option_map (λ r. r.now) name.entry) (template_nodes X.shape T.shape B.shape self.now))
+            (names_of «data») (option_map (λ r. r.now) name.entry) (template_nodes X.shape T.shape B.shape self.now)
+            (emptied R.Register.fresh (R.view parent.old))))
             (R.view parent.old)
             (gated (K.sunk page.old.sink) (G.gated page.old.gate)) (gated (K.sunk page.new.sink) (G.gated page.new.gate))
             (R.view parent.new) result }
@@ -204,10 +229,18 @@ impl<X: Filter, T, B> Template<X, T, B> {
         S::Store: PartialStore<X, T, B>,
         K: Sink,
         G: Gate,
-        ensures isolated { RendersIsolatedWithin S.Register.fresh
+        ensures renders { RendersWithin (isolated_run
+            (setting S.Register.fresh X.means T.means B.means (partials_of S.Store.finds (S.store scopes.old)))
+            (names_of «data») (option_map (λ r. r.now) name.entry) (template_nodes X.shape T.shape B.shape self.now)
+            (S.view scopes.old))
+            (S.view scopes.old)
+            (gated (K.sunk page.old.sink) (G.gated page.old.gate)) (gated (K.sunk page.new.sink) (G.gated page.new.gate))
+            (S.view scopes.new) result }
+        ensures isolated { RendersWithin (run_given_back (S.view scopes.old)
             (isolated_run
             (setting S.Register.fresh X.means T.means B.means (partials_of S.Store.finds (S.store scopes.old)))
-            (names_of «data») (option_map (λ r. r.now) name.entry) (template_nodes X.shape T.shape B.shape self.now))
+            (names_of «data») (option_map (λ r. r.now) name.entry) (template_nodes X.shape T.shape B.shape self.now)
+            (emptied S.Register.fresh (S.view scopes.old))))
             (S.view scopes.old)
             (gated (K.sunk page.old.sink) (G.gated page.old.gate)) (gated (K.sunk page.new.sink) (G.gated page.new.gate))
             (S.view scopes.new) result }
