@@ -8,6 +8,7 @@ ghost use Rattle.liquid.specs.meaning.Command.{
   whole_command,
   with_digit,
   with_limit,
+  with_long_option,
   with_path,
   with_paths,
 };
@@ -110,6 +111,20 @@ fn number(word: &str) -> Option<u64>
     }
 }
 
+/// Returns the options with the one that a word is, if it has no number and isn't set yet.
+fn with_long_option(word: &str, options: Options) -> Option<Options>
+    ensures { result ≡ with_long_option word.now options }
+{
+    if word == "--explain" && !options.explain {
+        Some(Options {
+            explain: true,
+            ..options
+        })
+    } else {
+        with_option(word, options)
+    }
+}
+
 /// Returns the limit whose number comes after the word, if it isn't set yet.
 fn limit_of(word: &str, options: Options) -> Option<Limit>
     ensures { result ≡ limit_of word.now options }
@@ -174,7 +189,7 @@ pub(crate) fn long_command<'w>(
             None => None,
         };
     }
-    match with_option(word, options) {
+    match with_long_option(word, options) {
         Some(options) => long_command(options, paths, None, rest),
         None => match limit_of(word, options) {
             Some(limit) => long_command(options, paths, Some(limit), rest),

@@ -2,6 +2,7 @@
 #![tactic(auto)]
 
 pub mod command;
+pub mod explain;
 pub mod fault;
 pub mod filters;
 pub mod folder;
