@@ -16,9 +16,12 @@ DIR            a folder: each file directly in it is a partial, under the file's
 --standard     the template has the standard filters of Liquid; without it, 'append' and 'fail'
 --turns N      the page may take N turns of tags and blocks
 --bytes N      the page may write N bytes
+--explain      an error says more: why a file can't be read, where a text is not JSON, which template it is
 
-The options come in any order, each at most once. They may also come after the paths, and after the word '--' all words
-are paths. But 'render' and two or three words that don't begin with an option are TEMPLATE, GLOBALS.json and DIR.
+The options come in any order, each at most once. They may also come after the paths and between them. After the word
+'--' all words are paths. The word '-' in the place of TEMPLATE or GLOBALS.json is standard input. But if 'render' and
+options of --sandboxed, --lenient and --standard are followed by just two or three words, and the first of them does not
+begin with '--', they are TEMPLATE, GLOBALS.json and DIR, whatever they look like.
 
 Status 0   the page is written
        1   the template or what it uses is an error, a limit is reached, the output can't be written, or memory ran out

@@ -5,6 +5,7 @@ ghost use Rattle.liquid.specs.meaning.Command.{
   long_command,
   number,
   number_after,
+  path_named,
   whole_command,
   with_digit,
   with_limit,
@@ -25,13 +26,30 @@ pub(crate) enum PathsRead<'w> {
     Three(&'w str, &'w str, &'w str),
 }
 
-/// Returns the paths with one more, and `None` if there are three.
+/// The path of standard input.
+const INPUT: &str = "/dev/stdin";
+
+/// Returns the path that a word names in the place of a template or of globals: `-` is standard input.
+fn path_named(word: &str) -> &str
+    ensures { result.now ≡ path_named word.now }
+{
+    if word == "-" { INPUT } else { word }
+}
+
+/// Returns the paths with one more, and `None` if there are three, or if two of them would be standard input.
 fn with_path<'w>(paths: PathsRead<'w>, path: &'w str) -> Option<PathsRead<'w>>
     ensures { option_map words_of result ≡ with_path (words_of paths.entry) path.now }
 {
     match paths {
-        PathsRead::None => Some(PathsRead::One(path)),
-        PathsRead::One(template) => Some(PathsRead::Two(template, path)),
+        PathsRead::None => Some(PathsRead::One(path_named(path))),
+        PathsRead::One(template) => {
+            let globals = path_named(path);
+            if template == INPUT && globals == INPUT {
+                None
+            } else {
+                Some(PathsRead::Two(template, globals))
+            }
+        }
         PathsRead::Two(template, globals) => Some(PathsRead::Three(template, globals, path)),
         PathsRead::Three(..) => None,
     }

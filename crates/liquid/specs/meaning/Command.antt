@@ -105,9 +105,20 @@ abbrev pub with_limit : Limit → ℕ → Options → Options
 with_limit Turns n o = record o { max_turns = Some n }
 with_limit Bytes n o = record o { max_bytes = Some n }
 
--- one more path; there are at most three
+-- in the place of a template or of globals `-` is standard input
+abbrev pub input_path : List ℕ
+input_path = codes "/dev/stdin"
+
+abbrev pub path_named : List ℕ → List ℕ
+path_named word = if bytes_eq word (codes "-") then input_path else word
+
+-- one more path. There are at most three, and standard input is only one of them
 abbrev pub with_path : List (List ℕ) → List ℕ → Option (List (List ℕ))
-with_path paths path = if nat_lt (length paths) 3 then Some (paths ++ path ∷ []) else None
+with_path [] word = Some (path_named word ∷ [])
+with_path (template ∷ []) word =
+    if bytes_eq template input_path && bytes_eq (path_named word) input_path then None else Some (template ∷ path_named word ∷ [])
+with_path (template ∷ globals ∷ []) word = Some (template ∷ globals ∷ word ∷ [])
+with_path more word = None
 
 abbrev pub with_paths : List (List ℕ) → List (List ℕ) → Option (List (List ℕ))
 with_paths paths [] = Some paths
