@@ -5,9 +5,11 @@ ghost use Rattle.liquid.specs.meaning.Command.{
   long_command,
   number,
   number_after,
+  path_named,
   whole_command,
   with_digit,
   with_limit,
+  with_long_option,
   with_path,
   with_paths,
 };
@@ -24,13 +26,30 @@ pub(crate) enum PathsRead<'w> {
     Three(&'w str, &'w str, &'w str),
 }
 
-/// Returns the paths with one more, and `None` if there are three.
+/// The path of standard input.
+const INPUT: &str = "/dev/stdin";
+
+/// Returns the path that a word names in the place of a template or of globals: `-` is standard input.
+fn path_named(word: &str) -> &str
+    ensures { result.now ≡ path_named word.now }
+{
+    if word == "-" { INPUT } else { word }
+}
+
+/// Returns the paths with one more, and `None` if there are three, or if two of them would be standard input.
 fn with_path<'w>(paths: PathsRead<'w>, path: &'w str) -> Option<PathsRead<'w>>
     ensures { option_map words_of result ≡ with_path (words_of paths.entry) path.now }
 {
     match paths {
-        PathsRead::None => Some(PathsRead::One(path)),
-        PathsRead::One(template) => Some(PathsRead::Two(template, path)),
+        PathsRead::None => Some(PathsRead::One(path_named(path))),
+        PathsRead::One(template) => {
+            let globals = path_named(path);
+            if template == INPUT && globals == INPUT {
+                None
+            } else {
+                Some(PathsRead::Two(template, globals))
+            }
+        }
         PathsRead::Two(template, globals) => Some(PathsRead::Three(template, globals, path)),
         PathsRead::Three(..) => None,
     }
@@ -110,6 +129,20 @@ fn number(word: &str) -> Option<u64>
     }
 }
 
+/// Returns the options with the one that a word is, if it has no number and isn't set yet.
+fn with_long_option(word: &str, options: Options) -> Option<Options>
+    ensures { result ≡ with_long_option word.now options }
+{
+    if word == "--explain" && !options.explain {
+        Some(Options {
+            explain: true,
+            ..options
+        })
+    } else {
+        with_option(word, options)
+    }
+}
+
 /// Returns the limit whose number comes after the word, if it isn't set yet.
 fn limit_of(word: &str, options: Options) -> Option<Limit>
     ensures { result ≡ limit_of word.now options }
@@ -174,7 +207,7 @@ pub(crate) fn long_command<'w>(
             None => None,
         };
     }
-    match with_option(word, options) {
+    match with_long_option(word, options) {
         Some(options) => long_command(options, paths, None, rest),
         None => match limit_of(word, options) {
             Some(limit) => long_command(options, paths, Some(limit), rest),

@@ -1,5 +1,6 @@
 //! The program over files and streams in memory.
 mod commands;
+mod explain;
 mod globals;
 mod lenient;
 mod limits;

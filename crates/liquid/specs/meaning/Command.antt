@@ -24,7 +24,7 @@ lenient_word = codes "--lenient"
 
 -- no option
 abbrev pub no_options : Options
-no_options = record { standard = false; sandboxed = false; lenient = false; max_turns = None; max_bytes = None }
+no_options = record { standard = false; sandboxed = false; lenient = false; explain = false; max_turns = None; max_bytes = None }
 
 -- the options with the one that a word is; none if it is not an option, or is one that is already set
 abbrev pub with_option : List ℕ → Options → Option Options
@@ -81,6 +81,12 @@ abbrev pub number : List ℕ → Option ℕ
 number [] = None
 number (digit ∷ digits) = number_after 0 (digit ∷ digits)
 
+-- the options of the long form that have no number: those of the short one and `--explain`
+abbrev pub with_long_option : List ℕ → Options → Option Options
+with_long_option word o =
+    if bytes_eq word (codes "--explain") && not o.explain then Some (record o { explain = true })
+    else with_option word o
+
 -- `--turns` and `--bytes`, before their numbers
 abbrev pub turns_word : List ℕ
 turns_word = codes "--turns"
@@ -99,9 +105,20 @@ abbrev pub with_limit : Limit → ℕ → Options → Options
 with_limit Turns n o = record o { max_turns = Some n }
 with_limit Bytes n o = record o { max_bytes = Some n }
 
--- one more path; there are at most three
+-- in the place of a template or of globals `-` is standard input
+abbrev pub input_path : List ℕ
+input_path = codes "/dev/stdin"
+
+abbrev pub path_named : List ℕ → List ℕ
+path_named word = if bytes_eq word (codes "-") then input_path else word
+
+-- one more path. There are at most three, and standard input is only one of them
 abbrev pub with_path : List (List ℕ) → List ℕ → Option (List (List ℕ))
-with_path paths path = if nat_lt (length paths) 3 then Some (paths ++ path ∷ []) else None
+with_path [] word = Some (path_named word ∷ [])
+with_path (template ∷ []) word =
+    if bytes_eq template input_path && bytes_eq (path_named word) input_path then None else Some (template ∷ path_named word ∷ [])
+with_path (template ∷ globals ∷ []) word = Some (template ∷ globals ∷ word ∷ [])
+with_path more word = None
 
 abbrev pub with_paths : List (List ℕ) → List (List ℕ) → Option (List (List ℕ))
 with_paths paths [] = Some paths
@@ -119,7 +136,7 @@ long_command o paths (Some limit) (word ∷ words) = option_map_or (λ n. long_c
 long_command o paths None (word ∷ words) =
     if bytes_eq word (codes "--") then option_map_or (whole_command o) (with_paths paths words) None
     else if is_path word then option_map_or (λ more. long_command o more None words) (with_path paths word) None
-    else option_map_or (λ more. long_command more paths None words) (with_option word o)
+    else option_map_or (λ more. long_command more paths None words) (with_long_option word o)
     (option_map_or (λ limit. long_command o paths (Some limit) words) (limit_of word o) None)
 
 -- the command that the words after `render` are

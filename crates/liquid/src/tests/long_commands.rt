@@ -6,7 +6,25 @@ use std::test::Fail;
 type Command = (&'static [&'static str], u8, &'static str, &'static str);
 
 /// Words that are a command in the long form alone.
-const LONG: [Command; 18] = [
+const LONG: [Command; 21] = [
+    (
+        &["render", "--", "-", "g.json"],
+        3,
+        "",
+        "liquid: cannot read /dev/stdin\n",
+    ),
+    (
+        &["render", "t", "-", "--lenient", "--sandboxed"],
+        3,
+        "",
+        "liquid: cannot read /dev/stdin\n",
+    ),
+    (
+        &["render", "--", "t", "g.json", "-"],
+        3,
+        "",
+        "liquid: cannot read -\n",
+    ),
     (
         &["render", "t", "g.json", "--lenient", "--sandboxed"],
         0,
@@ -104,7 +122,9 @@ const LONG: [Command; 18] = [
 ];
 
 /// Words that are no command in either form.
-const NONE: [&[&str]; 24] = [
+const NONE: [&[&str]; 26] = [
+    &["render", "--", "-", "-"],
+    &["render", "-", "-", "--lenient", "--sandboxed"],
     &["render", "--turns", "t", "g.json"],
     &["render", "--turns", "", "t", "g.json"],
     &["render", "--turns", "-1", "t", "g.json"],
@@ -132,7 +152,8 @@ const NONE: [&[&str]; 24] = [
 ];
 
 /// Words of the short form: in the third place of a path, an option is the folder.
-const SHORT: [Command; 6] = [
+const SHORT: [Command; 7] = [
+    (&["render", "-", "g.json"], 3, "", "liquid: cannot read -\n"),
     (
         &["render", "t", "g.json", "--lenient"],
         3,
