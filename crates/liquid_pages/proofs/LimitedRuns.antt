@@ -1,6 +1,7 @@
 -- A rendering that asks limits is that of the run under limits.
 use Rattle.std.proofs.Common.{◌≡◌, ℕ, ◌+◌, ◌-◌, ◌≤◌, ◌<◌, Bool, true, false, ◌&&◌, ◌⊎◌, inl, inr, List, [], ◌∷◌, ◌++◌, length, Option, None, Some, Result, Ok, Err, arith, refl, sym, ap, subst, ◌∙◌, append_assoc, min, option_map}
 use Rattle.std.specs.Prelude.{MatchOption, nat_le, if◌then◌else◌, IfSome}
+use Rattle.std.proofs.Math.Nat.{min-le_right}
 use Rattle.std.proofs.lemmas.List.{append-nil, length-append}
 use Rattle.liquid_error.specs.declared.error.Error.{Error}
 use Rattle.liquid_error.specs.meaning.Refusal.{Refusal}
@@ -11,10 +12,11 @@ use Rattle.liquid_template.specs.meaning.Output.{Gated, IsPast, Output, Passed, 
 use Rattle.liquid_template.specs.meaning.Run.{Run, Step, checkpoints, one_if, pieces, written}
 use Rattle.liquid_template.specs.meaning.Pours.{Pours}
 use Rattle.liquid_template.specs.meaning.Sunk.{Sunk, borrowed}
-use Rattle.liquid_template.proofs.Framing.{later_are}
+use Rattle.liquid_template.specs.declared.gate.Limits.{Limits}
+use Rattle.liquid_template.proofs.Framing.{first_is, later_are}
 use Rattle.liquid_template.proofs.Joins.{checkpoints-append, pieces-append}
 use Rattle.liquid_pages.specs.declared.options.Room.{Room}
-use Rattle.liquid_pages.specs.meaning.Limited.{has_room, room_after, run_within, steps_within, stopped_at, with_step}
+use Rattle.liquid_pages.specs.meaning.Limited.{fresh_gate, has_room, room_after, run_within, steps_within, stopped_at, with_step}
 
 le_true : (m n : ℕ) → m ≤ n → nat_le m n ≡ true
 le_true m n h = omega (arith, h)
@@ -111,10 +113,14 @@ no_turn_left limit n h i = omega (arith, h, i)
 no_bytes_left : (limit n more : ℕ) → n ≤ limit → limit < n + more → limit - n < more
 no_bytes_left limit n more h i = omega (arith, h, i)
 
+-- what such limits passed and refused
+abbrev pub gated_of : Limits → Gated
+gated_of l = gated_by (passed (min l.turns l.max_turns) l.turns_refused.failures (Some l.max_turns)) (passed (min l.bytes l.max_bytes) l.bytes_refused.failures (Some l.max_bytes))
+
 -- the sink is lent to the gate: it is borrowed under one name before, and under another one after
 module _ {Reg : Type 0} (room : Room) (r : Run Reg) (entry left : View Reg) (before after : Sunk) (name later_name : ℕ) (gate : Gated) (turns_held : IsHeld (Some gate.turns)) (bytes_held : IsHeld (Some gate.bytes)) where
   abbrev At : Output
-  At = gated (borrowed name before) (gated_by (passed 0 0 (Some room.turns)) (passed 0 0 (Some room.bytes)))
+  At = gated (borrowed name before) (fresh_gate room)
 
   abbrev Then : Output
   Then = gated (borrowed later_name after) gate
@@ -234,3 +240,16 @@ module _ {Reg : Type 0} (room : Room) (r : Run Reg) (entry left : View Reg) (bef
 
   pub renders_limited : (answer : Result (Unit {0}) Error) → RendersWithin r entry At Then left answer → Renders (run_within room r) entry before after left answer
   renders_limited answer h = record { outcome = outcome_limited answer h.outcome; frames = h.frames; pours = pours_limited answer h.pours }
+
+-- the limits that a gate leaves behind hold, whatever it was asked
+pub limits_render : {Reg : Type 0} (room : Room) (r : Run Reg) (entry left : View Reg) (before after : Sunk) (name later_name : ℕ) (first : Gated) (limits : Limits) (answer : Result (Unit {0}) Error)
+    → first ≡ fresh_gate room → RendersWithin r entry (gated (borrowed name before) first) (gated (borrowed later_name after) (gated_of limits)) left answer
+    → Renders (run_within room r) entry before after left answer
+limits_render room r entry left before after name later_name first limits answer is h =
+    renders_limited room r entry left before after name later_name (gated_of limits) (min-le_right limits.turns limits.max_turns) (min-le_right limits.bytes limits.max_bytes) answer
+    (subst (λ f. RendersWithin r entry (gated (borrowed name before) f) (gated (borrowed later_name after) (gated_of limits)) left answer) is h)
+
+-- the sink that was lent is the same one
+pub same_name : {Reg : Type 0} (r : Run Reg) (entry left : View Reg) (before after : Sunk) (name later_name : ℕ) (first later : Gated) (answer : Result (Unit {0}) Error)
+    → RendersWithin r entry (gated (borrowed name before) first) (gated (borrowed later_name after) later) left answer → later_name ≡ name
+same_name r entry left before after name later_name first later answer h = first_is later_name name after.lent before.lent h.pours.lent
