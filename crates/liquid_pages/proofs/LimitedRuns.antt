@@ -2,6 +2,7 @@
 use Rattle.std.proofs.Common.{◌≡◌, ℕ, ◌+◌, ◌-◌, ◌≤◌, ◌<◌, Bool, true, false, ◌&&◌, ◌⊎◌, inl, inr, List, [], ◌∷◌, ◌++◌, length, Option, None, Some, Result, Ok, Err, arith, refl, sym, ap, subst, ◌∙◌, append_assoc, min, option_map}
 use Rattle.std.specs.Prelude.{MatchOption, nat_le, if◌then◌else◌, IfSome}
 use Rattle.std.proofs.Math.Nat.{min-le_right}
+use Rattle.std.proofs.lemmas.Bool.{le-leb, lt-leb}
 use Rattle.std.proofs.lemmas.List.{append-nil, length-append}
 use Rattle.liquid_error.specs.declared.error.Error.{Error}
 use Rattle.liquid_error.specs.meaning.Refusal.{Refusal}
@@ -19,10 +20,10 @@ use Rattle.liquid_pages.specs.declared.options.Room.{Room}
 use Rattle.liquid_pages.specs.meaning.Limited.{fresh_gate, has_room, room_after, run_within, steps_within, stopped_at, with_step}
 
 le_true : (m n : ℕ) → m ≤ n → nat_le m n ≡ true
-le_true m n h = omega (arith, h)
+le_true m n h = le-leb m n h
 
 le_false : (m n : ℕ) → n < m → nat_le m n ≡ false
-le_false m n h = omega (arith, h)
+le_false m n h = lt-leb m n h
 
 both : (a b : Bool) → a ≡ true → b ≡ true → (a && b) ≡ true
 both a b h i = rw h (rw i refl)
@@ -34,6 +35,12 @@ not_second : (a b : Bool) → b ≡ false → (a && b) ≡ false
 not_second true b h = h
 not_second false b h = refl
 
+left_over : (a b c : ℕ) → a - b - c ≡ a - (b + c)
+left_over a b c = omega arith
+
+none_less : (n : ℕ) → n ≡ n - 0
+none_less n = omega arith
+
 module _ {Reg : Type 0} where
   abbrev with_front : List (Step Reg) → Run Reg → Run Reg
   with_front front r = record r { steps = front ++ r.steps }
@@ -43,9 +50,6 @@ module _ {Reg : Type 0} where
 
   fits : (room : Room) (step : Step Reg) → one_if step.checkpoint ≤ room.turns → length step.piece ≤ room.bytes → has_room room step ≡ true
   fits room step h i = both (nat_le (one_if step.checkpoint) room.turns) (nat_le (length step.piece) room.bytes) (le_true (one_if step.checkpoint) room.turns h) (le_true (length step.piece) room.bytes i)
-
-  left_over : (a b c : ℕ) → a - b - c ≡ a - (b + c)
-  left_over a b c = omega arith
 
   pieces_first : (step : Step Reg) (front : List (Step Reg)) → length (pieces (step ∷ front)) ≡ length step.piece + length (pieces front)
   pieces_first step front = length-append step.piece (pieces front)
@@ -59,7 +63,9 @@ module _ {Reg : Type 0} where
   -- steps for which there is room stay
   front_stays : (room : Room) (front more : List (Step Reg)) (refusal : Option Refusal) (v : View Reg) → checkpoints front ≤ room.turns → length (pieces front) ≤ room.bytes
       → steps_within room (front ++ more) refusal v ≡ with_front front (steps_within (room_past room front) more refusal v)
-  front_stays room [] more refusal v h i = refl
+  front_stays room [] more refusal v h i =
+      ap (λ n. with_front [] (steps_within (record room { turns = n }) more refusal v)) (none_less room.turns)
+      ∙ ap (λ n. with_front [] (steps_within (record { turns = room.turns - 0; bytes = n }) more refusal v)) (none_less room.bytes)
   front_stays room (step ∷ front) more refusal v h i =
       let turns : one_if step.checkpoint + checkpoints front ≤ room.turns = h in
       let bytes : length step.piece + length (pieces front) ≤ room.bytes = subst (λ n. n ≤ room.bytes) (pieces_first step front) i in
@@ -98,10 +104,10 @@ abbrev fresh_count : ℕ → Option Passed
 fresh_count limit = Some (passed 0 0 (Some limit))
 
 passes_held : (limit n : ℕ) (after : Option Passed) → IsHeld after → Passes (fresh_count limit) n after → n ≤ limit
-passes_held limit n after held is = subst IsHeld is held
+passes_held limit n after held is = let most : 0 + n ≤ limit = subst IsHeld is held in omega (arith, most)
 
 refuses_held : (limit n more : ℕ) (after : Option Passed) → IsHeld after → Refuses (fresh_count limit) n more after → n ≤ limit
-refuses_held limit n more after held is = subst IsHeld is.0 held
+refuses_held limit n more after held is = let most : 0 + n ≤ limit = subst IsHeld is.0 held in omega (arith, most)
 
 up_to_held : (limit n : ℕ) (after : Option Passed) → IsHeld after → PassesUpTo (fresh_count limit) n after → n ≤ limit
 up_to_held limit n after held (inl is) = passes_held limit n after held is

@@ -71,7 +71,7 @@ const ROWS: [Row; 11] = [
         EXPLAINED,
         3,
         "",
-        "liquid: Object expected\n  in g.json\n",
+        "liquid: Object cannot be an array.\n  in g.json\n",
     ),
     (
         b"a{{ x }}",
