@@ -64,7 +64,7 @@ fn plain_language(alloc: Global) -> Result<Rc<PlainLanguage>, AllocError>
     ensures { IfOk result (λ language. meaning_of filter_made language.value ≡ plain_language) }
 {
     let language = liquid_tags::language(alloc, PluginRegistry::new(alloc))?;
-    Rc::new(alloc, language)
+    Ok(Rc::new(alloc, language)?)
 }
 
 /// Returns the standard language.
@@ -72,7 +72,7 @@ fn standard_language(alloc: Global) -> Result<Rc<StandardLanguage>, AllocError>
     ensures { IfOk result (λ language. standard_meaning filter_made language.value ≡ standard_language) }
 {
     let language = liquid_std::language(alloc, filters(alloc, None)?)?;
-    Rc::new(alloc, language)
+    Ok(Rc::new(alloc, language)?)
 }
 
 /// Returns the language that these options choose, if there are such options.
