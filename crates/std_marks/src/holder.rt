@@ -14,6 +14,8 @@ use std::alloc::{AllocError, Global};
 /// `Marks` is one. A caller that keeps more in its register puts the marks into a field of it, and lends that field
 /// by these two calls.
 pub trait HoldsMarks: Fresh {
+    ghost use Rattle.std_marks.specs.declared.marks.Marks.{Marks};
+
     // the marks in what contracts see of the register, and the same with other marks
     ghost holds: { MarksIn Self.Shape };
 
