@@ -1,11 +1,11 @@
 -- Each group of `cycle` has a key of its own.
-use Rattle.std.proofs.Common.{◌≡◌, ℕ, ◌+◌, ◌<◌, ◌≤◌, ◌/◌, ◌%◌, ◌^◌, List, [], ◌∷◌, ◌++◌, length, refl, sym, ap, ◌∙◌, arith, append_assoc}
+use Rattle.std.proofs.Common.{◌≡◌, ℕ, ◌+◌, ◌<◌, ◌%◌, ◌^◌, List, [], ◌∷◌, ◌++◌, length, refl, sym, ap, ◌∙◌, arith, append_assoc}
 use Rattle.std.specs.Prelude.{⊤}
 use Rattle.std.specs.Fmt.{decimal}
 use Rattle.std.proofs.Math.Nat.{mod-lt}
 use Rattle.std.proofs.lemmas.Fmt.{decimal_by_steps, decimal_injective}
-use Rattle.std_marks.specs.laws.Keys.{AreTexts, HasTexts, KeysDiffer}
-use Rattle.std_marks.specs.meaning.Groups.{Sharing, group_key, named, unnamed, with_length, with_lengths}
+use Rattle.std_marks.specs.laws.Keys.{AreTexts, KeysDiffer}
+use Rattle.std_marks.specs.meaning.Groups.{named, unnamed, with_length, with_lengths}
 
 abbrev first : List ℕ → ℕ
 first [] = 0

@@ -1,5 +1,5 @@
 -- The tag `cycle`: the values of a group, one after the other.
-use Rattle.std.specs.Prelude.{ℕ, ◌+◌, List, [], Bool, cond, length, map, nat_lt, Option, None, Some, Result, Ok, Err, slice_get}
+use Rattle.std.specs.Prelude.{ℕ, ◌+◌, List, [], cond, length, map, nat_lt, Option, None, Some, Result, Ok, Err, slice_get}
 use Rattle.liquid_error.specs.meaning.Refusal.{Refusal, ok_then}
 use Rattle.liquid_value.specs.meaning.Render.{render}
 use Rattle.liquid_runtime.specs.meaning.View.{View}
