@@ -11,7 +11,7 @@ use Rattle.liquid_partials.specs.meaning.Sources.{Texts}
 use Rattle.liquid.specs.meaning.Files.{Reads}
 use Rattle.liquid.specs.meaning.Gathered.{WithText, WithGlobals, WithNames, WithFiles, WithFolder, WithPartials, Gathers, in_order, path_in}
 use Rattle.liquid_json.specs.meaning.Given.{object_read}
-use Rattle.liquid.specs.meaning.Globals.{global_names}
+use Rattle.liquid_pages.specs.meaning.Globals.{global_names}
 
 abbrev pub Files : Type 0
 Files = List ℕ → Option (Option (List ℕ))

@@ -14,9 +14,10 @@ use Rattle.liquid_template.specs.meaning.Outcome.{BrokenOff, Cut, Stopped, Outco
 use Rattle.liquid_template.proofs.Joins.{pieces-append}
 use Rattle.liquid_partials.specs.meaning.Rendered.{RenderedBy}
 use Rattle.liquid_partials.specs.meaning.Sources.{Texts}
-use Rattle.liquid.specs.meaning.ProgramLanguage.{ProgramAnswer, ProgramFound}
-use Rattle.liquid.specs.meaning.Program.{first_view, program_action, status_of, Fails, Finishes, Executes, Prints}
-use Rattle.liquid.specs.meaning.Command.{options_of, paths_of}
+use Rattle.liquid.specs.meaning.ProgramLanguage.{ProgramAnswer, ProgramFound, setting_over}
+use Rattle.liquid_pages.specs.meaning.Pages.{first_view, page_action}
+use Rattle.liquid.specs.meaning.Program.{page_options, status_of, Fails, Finishes, Executes, Prints}
+use Rattle.liquid.specs.meaning.Command.{Asked, command_of}
 use Rattle.liquid.specs.meaning.Status.{settled}
 use Rattle.liquid.specs.meaning.InMemory.{IsBeginning, IsWhole, program_run, ShowsAnswer, ShowsNothing, ShowsText, ShowsCommand, Shows}
 use Rattle.liquid.specs.declared.command.Options.{Options}
@@ -60,7 +61,11 @@ module _ (behind behind_after : Option (List ℕ)) (lent : List ℕ) where
 
   stopped_begins : (r : EndedRun) (output : List ℕ) (failures : ℕ) (left : View (Unit {0})) (t : Option Refusal)
       → MatchOption t (Cut r (ungated fresh) (ungated (filled output failures))) (Stopped r (ungated fresh) (ungated (filled output failures)) left) → IsBeginning r output
-  stopped_begins r output failures left None c = (c.rest, c.pieces_are ∙ ap (λ front. front ++ c.rest) (sym c.taken))
+  stopped_begins r output failures left None c = (
+    c.rest ++ pieces c.later,
+    ap pieces c.steps ∙ pieces-append c.front c.later ∙ ap (λ t. t ++ pieces c.later) c.pieces_are ∙ append_assoc c.part c.rest (pieces c.later)
+        ∙ ap (λ front. front ++ (c.rest ++ pieces c.later)) (sym c.taken),
+  )
   stopped_begins r output failures left (Some refusal) (inl s) = whole_begins r output s.0.taken
   stopped_begins r output failures left (Some refusal) (inr s) = broken_begins r output failures left refusal s
 
@@ -72,7 +77,7 @@ module _ (behind behind_after : Option (List ℕ)) (lent : List ℕ) where
   shown_outcome r output failures flushed left (Err error) o = inr (refused_status flushed, stopped_begins r output failures left (told error) o)
 
   shown_answer : (options : Options) (globals : Names) (found : Option ProgramFound) (answer : ProgramAnswer) (output : List ℕ) (failures : ℕ) (flushed : Bool) (left : View (Unit {0})) (result : Result (Unit {0}) Error)
-      → RenderedBy (program_action options.sandboxed found globals) answer (first_view options globals) fresh (filled output failures) left result
+      → RenderedBy (page_action setting_over (page_options options) found globals) answer (first_view tt (page_options options) globals) fresh (filled output failures) left result
       → ShowsAnswer (program_run options globals found) answer output (settled (status_of result) flushed)
   shown_answer options globals found (Ok nodes) output failures flushed left result o = shown_outcome (program_run options globals found nodes) output failures flushed left result o.outcome
   shown_answer options globals found (Err refusal) output failures flushed left (Ok u) o = absurd o.1.1
@@ -86,7 +91,7 @@ module _ (behind behind_after : Option (List ℕ)) (lent : List ℕ) where
       → Finishes options text globals partials fresh (filled output failures) answered → ShowsText options text globals partials output (settled answered flushed)
   shown_text options text globals partials output failures answered flushed finishes = λ answer reads found is_found.
       subst (λ s. ShowsAnswer (program_run options globals found) answer output (settled s flushed)) (sym finishes.status_is)
-      (shown_answer options globals found answer output failures flushed finishes.renders.left finishes.result (finishes.renders.rendered answer reads found is_found))
+      (shown_answer options globals found answer output failures flushed (finishes.renders answer reads).left finishes.result ((finishes.renders answer reads).rendered found is_found))
 
   shown_command : (options : Options) (paths : List (List ℕ)) (files : List ℕ → Option (List ℕ)) (folders : List ℕ → Option (List (List ℕ))) (output : List ℕ) (failures answered : ℕ) (flushed : Bool)
       → Executes options paths (λ path. Some (files path)) (λ path. Some (folders path)) fresh (filled output failures) answered → ShowsCommand options paths files folders output (settled answered flushed)
@@ -99,7 +104,11 @@ pub Shows-printed : (words : List (List ℕ)) (files : List ℕ → Option (List
     → Prints words (λ path. Some (files path)) (λ path. Some (folders path)) (Some []) (Some output) status → Shows words files folders output status
 Shows-printed words files folders output status p =
     let same : p.taken ≡ output = sym p.appended in
-    subst (λ s. Shows words files folders output s) (sym p.status_is) (subst (λ o. Shows words files folders o (settled p.answered p.flushed)) same (
-      λ command. shown_command (Some []) p.behind p.lent (options_of words) (paths_of words) files folders p.taken p.failures p.answered p.flushed (p.runs.0 command),
-      λ none. (ap (λ s. s.taken) (p.runs.1 none).0, rw (p.runs.1 none).1 (usage_status p.flushed)),
-    ))
+    subst (λ s. Shows words files folders output s) (sym p.status_is) (subst (λ o. Shows words files folders o (settled p.answered p.flushed)) same (shown (command_of words) p.runs))
+  where
+    shown : (command : Option Asked)
+        → MatchOption command ((sunk p.taken p.failures p.behind p.lent ≡ sunk [] 0 (Some []) p.lent) × (p.answered ≡ 2))
+        (λ asked. Executes asked.options asked.paths (λ path. Some (files path)) (λ path. Some (folders path)) (sunk [] 0 (Some []) p.lent) (sunk p.taken p.failures p.behind p.lent) p.answered)
+        → MatchOption command ((p.taken ≡ []) × (settled p.answered p.flushed ≡ 2)) (λ asked. ShowsCommand asked.options asked.paths files folders p.taken (settled p.answered p.flushed))
+    shown None none = (ap (λ s. s.taken) none.0, rw none.1 (usage_status p.flushed))
+    shown (Some asked) runs = shown_command (Some []) p.behind p.lent asked.options asked.paths files folders p.taken p.failures p.answered p.flushed runs

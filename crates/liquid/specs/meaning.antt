@@ -1,6 +1,5 @@
 pub mod Command
 pub mod Files
-pub mod Globals
 pub mod Gathered
 pub mod InMemory
 pub mod Program

@@ -2,32 +2,49 @@
 ghost use Rattle.std.specs.Prelude.{◌≡◌, ◌∷◌, IfSome, is_some, map, option_map, string_bytes};
 ghost use Rattle.liquid.specs.meaning.Command.{
   are_paths,
+  command_in,
+  command_of,
   first_word,
-  is_command,
   is_path,
   is_verb,
   options_before,
-  options_of,
   path_words,
-  paths_of,
+  short_command,
   with_option,
 };
+ghost use Rattle.liquid.specs.steps.Words.{asked_of};
 
-/// `render [--standard] [--sandboxed] [--lenient] TEMPLATE GLOBALS.json [DIR]`: its options, and the
-/// paths of a template, of its globals and of the folder of its partials, if there is one.
+use crate::long_command::{PathsRead, long_command};
+
+/// A command: its options, and the paths of a template, of its globals and of the folder of its partials, if there is
+/// one.
+///
+/// The short form is `render [--standard] [--sandboxed] [--lenient] TEMPLATE GLOBALS.json [DIR]`. Words that are not of
+/// this form may be of the long one: `render`, and then options and paths in any order. It has the options
+/// `--explain`, `--turns N` and `--bytes N` too. After the word `--` all words are paths. Each option is given at most once.
 #[derive(Clone, Copy)]
 pub struct Command<'w> {
     pub options: Options,
     pub paths: Paths<'w>,
 }
 
-/// Whether to render with the standard filters, whether to render in a sandbox, and whether a name
-/// without a value is nil instead of an error.
+/// Whether to render with the standard filters, whether to render in a sandbox, whether a name without a value is nil
+/// instead of an error, whether errors are explained, and how many turns and bytes the page may take, if that is limited.
 #[derive(Clone, Copy)]
 pub struct Options {
     pub standard: bool,
     pub sandboxed: bool,
     pub lenient: bool,
+    pub explain: bool,
+    pub max_turns: Option<u64>,
+    pub max_bytes: Option<u64>,
+}
+
+/// An option that has a number.
+#[derive(Clone, Copy)]
+pub(crate) enum Limit {
+    Turns,
+    Bytes,
 }
 
 /// The paths that a command names.
@@ -42,6 +59,9 @@ const NO_OPTIONS: Options = Options {
     standard: false,
     sandboxed: false,
     lenient: false,
+    explain: false,
+    max_turns: None,
+    max_bytes: None,
 };
 
 fn is_verb(word: &str) -> bool
@@ -50,7 +70,7 @@ fn is_verb(word: &str) -> bool
     word == "render"
 }
 
-fn is_path(word: &str) -> bool
+pub(crate) fn is_path(word: &str) -> bool
     ensures { result ≡ is_path word.now }
 {
     !word.starts_with("--")
@@ -94,7 +114,7 @@ impl<'w> Paths<'w> {
 
 /// Returns the options with the one that a word is. Returns `None` if the word is not an option, or is one that is
 /// already set.
-fn with_option(word: &str, options: Options) -> Option<Options>
+pub(crate) fn with_option(word: &str, options: Options) -> Option<Options>
     ensures { result ≡ with_option word.now options }
 {
     if word == "--standard" && !options.standard {
@@ -131,20 +151,35 @@ fn split_options(options: Options, words: &[String]) -> (Options, &[String])
     }
 }
 
+/// Returns the command that the words after the verb are in the short form.
+fn short_command(words: &[String]) -> Option<Command<'_>>
+    ensures { option_map asked_of result ≡ short_command (map string_bytes words.now) }
+{
+    let (options, rest) = split_options(NO_OPTIONS, words);
+    let paths = Paths::from_words(rest)?;
+    Some(Command { options, paths })
+}
+
 impl<'w> Command<'w> {
-    /// Returns the command that the words after the program's name give, and `None` if they are not a command.
+    /// Returns the command that the words after the program's name are, and `None` if they are not a command.
     pub fn from_words(words: &'w [String]) -> Option<Command<'w>>
-        ensures test { is_some result ≡ is_command (map string_bytes words.now) }
-        ensures options { IfSome result (λ c. c.options ≡ options_of (map string_bytes words.now)) }
-        ensures paths { IfSome result (λ c. paths_of (map string_bytes words.now)
-            ≡ path_words c.paths.template.now c.paths.globals.now (option_map (λ f. f.now) c.paths.folder)) }
+        ensures { option_map asked_of result ≡ command_of (map string_bytes words.now) }
     {
         let (verb, rest) = words.split_first()?;
-        if !is_verb(verb.as_str()) {
-            return None;
+        if is_verb(verb.as_str()) {
+            command_in(rest)
+        } else {
+            None
         }
-        let (options, rest) = split_options(NO_OPTIONS, rest);
-        let paths = Paths::from_words(rest)?;
-        Some(Command { options, paths })
+    }
+}
+
+/// Returns the command that the words after the verb are, in the short form or in the long one.
+fn command_in(words: &[String]) -> Option<Command<'_>>
+    ensures { option_map asked_of result ≡ command_in (map string_bytes words.now) }
+{
+    match short_command(words) {
+        Some(command) => Some(command),
+        None => long_command(NO_OPTIONS, PathsRead::None, None, words),
     }
 }

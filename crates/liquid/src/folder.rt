@@ -11,6 +11,17 @@ pub enum Unread {
     Memory,
 }
 
+/// Why a file or a folder is not read, as far as that is known.
+#[derive(Clone, Copy, Debug, PartialEq, Eq)]
+pub enum Why {
+    NotThere,
+    Folder,
+    NoFolder,
+    Forbidden,
+    NoText,
+    Unknown,
+}
+
 /// Files by their paths.
 pub trait Folder {
     /// What is known of the file at a path: nothing, its bytes, or that it can't be read.
@@ -38,4 +49,7 @@ pub trait Folder {
         ensures lists { Reads (λ names. map string_bytes names.items) (listed self.old path.now) result }
         ensures same { known self.new ≡ known self.old }
         ensures listed { listed self.new ≡ listed self.old };
+
+    /// Returns why the file at `path` can't be read as text, or if it should be listed, why the folder can't be.
+    fn why(&mut self, path: &str, is_listed: bool) -> Why;
 }

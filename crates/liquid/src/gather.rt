@@ -20,10 +20,9 @@ ghost use Rattle.liquid.specs.steps.Steps.{Brings, BringsText, Stops, StopsUnrea
 
 use crate::fault::Fault;
 use crate::folder::{Folder, Unread};
-use liquid_core::model::object_from_str;
 use liquid_core::partials::InMemorySource;
 use liquid_core::{Error, Object};
-use serde_json::Category;
+use liquid_pages::PageFault;
 use std::alloc::{AllocError, Global};
 use std::collections::BTreeMap;
 
@@ -172,16 +171,14 @@ pub(crate) fn globals_of<'w>(alloc: Global, text: &str, path: &'w str) -> Result
     ensures globals { WithGlobals (object_read text.now) (Stops result) (λ names. Brings names_of names result) }
     ensures command { IfErr result (λ fault. fault_status fault ≢ 2) }
 {
-    match object_from_str(alloc, text) {
-        Ok(Ok(object)) => Ok(object),
-        Ok(Err(error)) => if error.is_memory() {
+    match liquid_pages::globals_of(alloc, text) {
+        Ok(object) => Ok(object),
+        Err(PageFault::BadJson(_)) => Err(Fault::BadJson(path)),
+        Err(PageFault::NoGlobals(error)) => if error.is_memory() {
             Err(Fault::Refused(error))
         } else {
             Err(Fault::NoGlobals(error))
         },
-        Err(error) => match error.classify() {
-            Category::Memory => Err(Fault::Refused(Error::Memory)),
-            _ => Err(Fault::BadJson(path)),
-        },
+        Err(_) => Err(Fault::Refused(Error::Memory)),
     }
 }

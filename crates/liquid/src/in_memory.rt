@@ -4,7 +4,7 @@ ghost use Rattle.std.specs.Str.{bytes_eq};
 ghost use Rattle.liquid.specs.meaning.Command.{is_command};
 ghost use Rattle.liquid.specs.meaning.InMemory.{bytes_at, names_at, Shows};
 
-use crate::folder::{Folder, Unread};
+use crate::folder::{Folder, Unread, Why};
 use crate::run::run;
 use std::alloc::{AllocError, Global};
 use std::collections::BTreeMap;
@@ -75,6 +75,21 @@ impl Folder for InMemoryFolder {
         match self.folders.get(path) {
             Some(names) => copied(alloc, names).map_err(|_| Unread::Memory),
             None => Err(Unread::Fault),
+        }
+    }
+
+    fn why(&mut self, path: &str, is_listed: bool) -> Why {
+        match (
+            self.files.contains_key(path),
+            self.folders.contains_key(path),
+        ) {
+            (true, _) => if is_listed {
+                Why::NoFolder
+            } else {
+                Why::NoText
+            },
+            (false, true) => Why::Folder,
+            (false, false) => Why::NotThere,
         }
     }
 }

@@ -2,7 +2,7 @@
 ghost use Rattle.std.specs.Prelude.{◌≡◌, ◌↔◌, []};
 ghost use Rattle.std.specs.IoError.{error_kind};
 
-use crate::folder::{Folder, Unread};
+use crate::folder::{Folder, Unread, Why};
 use std::alloc::Global;
 use std::fs::{self, DirEntry, File, OpenFile};
 use std::io::{self, ErrorKind, Read};
@@ -21,6 +21,15 @@ fn unread(error: io::Error) -> Unread
     match error.kind() {
         ErrorKind::OutOfMemory => Unread::Memory,
         _ => Unread::Fault,
+    }
+}
+
+// Why a file that was not opened can't be.
+fn why_not(kind: ErrorKind) -> Why {
+    match kind {
+        ErrorKind::NotFound => Why::NotThere,
+        ErrorKind::PermissionDenied => Why::Forbidden,
+        _ => Why::Unknown,
     }
 }
 
@@ -67,5 +76,23 @@ impl<R: Files + AllocGlobal + Clone + Drop> Folder for Machine<'_, R> {
             }
         }
         Ok(names)
+    }
+
+    fn why(&mut self, path: &str, is_listed: bool) -> Why {
+        match fs::metadata(self.rt, path) {
+            Ok(metadata) => match (metadata.is_dir(), is_listed) {
+                (true, false) => Why::Folder,
+                (false, true) => Why::NoFolder,
+                (true, true) => match fs::read_dir(self.rt, path) {
+                    Ok(_) => Why::NoText,
+                    Err(error) => why_not(error.kind()),
+                },
+                (false, false) => match File::open(self.rt, path) {
+                    Ok(_) => Why::NoText,
+                    Err(error) => why_not(error.kind()),
+                },
+            },
+            Err(error) => why_not(error.kind()),
+        }
     }
 }

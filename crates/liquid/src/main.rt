@@ -2,11 +2,14 @@
 #![tactic(auto)]
 
 pub mod command;
+pub mod explain;
 pub mod fault;
 pub mod filters;
 pub mod folder;
 pub mod gather;
+pub mod help;
 pub mod in_memory;
+pub mod long_command;
 pub mod machine;
 pub mod rendering;
 pub mod run;
@@ -35,9 +38,20 @@ fn words(rt: &HostRuntime) -> Result<Vec<String>, Fault<'static>> {
     }
 }
 
+/// Prints a text about the program.
+fn say(rt: &HostRuntime, text: &str) -> Result<u8, Fault<'static>> {
+    match rt.print(format_args!("{text}")) {
+        Ok(()) => Ok(0),
+        Err(_) => Err(Fault::Refused(Error::with_msg(rt.alloc(), "Failed to render"))),
+    }
+}
+
 /// Runs the words over the machine's files and streams, with the output collected in a buffer.
 fn serve(rt: &HostRuntime) -> Result<u8, Fault<'static>> {
     let words = words(rt)?;
+    if let Some(text) = help::told(words.as_slice()) {
+        return say(rt, text);
+    }
     let output = rt.stdout();
     let Ok(mut out) = BufWriter::new(rt.alloc(), io::writer(&output)) else {
         return Err(Fault::Refused(Error::Memory));

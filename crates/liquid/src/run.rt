@@ -6,6 +6,7 @@ ghost use Rattle.liquid.specs.meaning.Program.{Prints, Executes, Runs};
 ghost use Rattle.liquid.specs.meaning.Status.{exit_status, settled};
 
 use crate::command::Command;
+use crate::explain::explain;
 use crate::fault::Fault;
 use crate::folder::Folder;
 use crate::gather::{globals_of, partials_of, text_of};
@@ -49,7 +50,7 @@ pub fn run<F: Folder, W: Write, E: Write>(
     let mut sink = WriterSink::new(out);
     let answer = attempt(alloc, words, files, &mut sink);
     let flushed = sink.into_inner().flush();
-    tell(settle(alloc, answer, flushed), err)
+    tell(alloc, words, files, settle(alloc, answer, flushed), err)
 }
 
 /// Does what `run` does, to a sink.
@@ -67,18 +68,32 @@ pub fn run_to<F: Folder, K: Sink, E: Write>(
     ensures behind { Grows (K.sunk sink.old) (K.sunk sink.new) }
     ensures borrows { (K.sunk sink.new).lent ≡ (K.sunk sink.old).lent }
 {
-    tell(attempt(alloc, words, files, sink), err)
+    let answer = attempt(alloc, words, files, sink);
+    tell(alloc, words, files, answer, err)
 }
 
-/// Returns the status of an answer, and writes its fault to `err`.
-fn tell<E: Write>(answer: Result<(), Fault<'_>>, err: &mut E) -> u8
+/// Returns the status of an answer, and writes its fault to `err`, explained if the words ask for that.
+fn tell<F: Folder, E: Write>(
+    alloc: Global,
+    words: &[String],
+    files: &mut F,
+    answer: Result<(), Fault<'_>>,
+    err: &mut E,
+) -> u8
     ensures status { result ≡ exit_status answer.entry }
     ensures quiet { result ≡ 0 → err.new ≡ err.old }
 {
     match answer {
         Ok(()) => 0,
         Err(fault) => {
-            let _ = write!(err, "{fault}");
+            match Command::from_words(words) {
+                Some(command) if command.options.explain => {
+                    explain(alloc, &command, &fault, files, err);
+                }
+                _ => {
+                    let _ = write!(err, "{fault}");
+                }
+            }
             fault.status()
         }
     }

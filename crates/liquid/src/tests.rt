@@ -1,7 +1,10 @@
 //! The program over files and streams in memory.
 mod commands;
+mod explain;
 mod globals;
 mod lenient;
+mod limits;
+mod long_commands;
 mod partials;
 mod sandbox;
 mod standard;

@@ -1,4 +1,5 @@
 pub mod GlobalLemmas
+pub mod LimitedRuns
 pub mod PageLemmas
 pub mod ShownLemmas
 pub mod ShownSteps

@@ -1,5 +1,5 @@
 -- From what is written to a sink over memory to what a page shows.
-use Rattle.std.proofs.Common.{◌≡◌, ℕ, Bool, true, false, inl, inr, List, [], ◌++◌, Option, None, Some, Result, Ok, Err, ◌+◌, arith, refl, sym, ap, subst, ◌∙◌}
+use Rattle.std.proofs.Common.{◌≡◌, ℕ, Bool, true, false, inl, inr, List, [], ◌++◌, Option, None, Some, Result, Ok, Err, ◌+◌, arith, refl, sym, ap, subst, ◌∙◌, append_assoc}
 use Rattle.std.specs.Prelude.{IfSome, MatchOption, option_map, IsUtf8}
 use Rattle.std.specs.Str.{is_utf8}
 use Rattle.std.proofs.lemmas.Str.{IsUtf8-from_is_utf8, is_utf8-from_IsUtf8}
@@ -12,8 +12,9 @@ use Rattle.liquid_plugins.specs.meaning.Nodes.{NodeShape}
 use Rattle.liquid_parser.specs.meaning.Lang.{Lang}
 use Rattle.liquid_template.specs.meaning.Outcome.{BrokenOff, Cut, GateRefuses, Outcome, SinkFails, Stopped, Whole}
 use Rattle.liquid_template.specs.meaning.Output.{Output, ungated}
-use Rattle.liquid_template.specs.meaning.Run.{Run, Step, written}
+use Rattle.liquid_template.specs.meaning.Run.{Run, Step, pieces, written}
 use Rattle.liquid_template.specs.meaning.Sunk.{alone}
+use Rattle.liquid_template.proofs.Joins.{pieces-append}
 use Rattle.liquid_partials.specs.meaning.Sources.{Texts}
 use Rattle.liquid_pages.specs.declared.fault.PageFault.{PageFault}
 use Rattle.liquid_pages.specs.declared.fault.PageText.{PageText}
@@ -41,7 +42,11 @@ module _ {Reg : Type 0} (r : Run Reg) (first last : List ℕ) (left : View Reg) 
   all_written w = w.taken ∙ ap (λ t. t ++ written r) nothing
 
   begins : Cut r (At first) (At last) → Begins last (page_of_run r)
-  begins c = (c.rest, c.pieces_are ∙ ap (λ t. t ++ c.rest) (sym (c.taken ∙ ap (λ t. t ++ c.part) nothing)))
+  begins c = (
+    c.rest ++ pieces c.later,
+    ap pieces c.steps ∙ pieces-append c.front c.later ∙ ap (λ t. t ++ pieces c.later) c.pieces_are ∙ append_assoc c.part c.rest (pieces c.later)
+        ∙ ap (λ t. t ++ (c.rest ++ pieces c.later)) (sym (c.taken ∙ ap (λ t. t ++ c.part) nothing)),
+  )
 
   never_fails : (step : Step Reg) (rest : List ℕ) (turns bytes : ℕ) (refusal : Refusal) → SinkFails step rest turns bytes (At first) (At last) refusal → ⊥
   never_fails step rest turns bytes refusal f = let one : 0 ≡ 0 + 1 = f.failures in omega (arith, one)

@@ -1,4 +1,5 @@
 pub mod Faults
 pub mod Globals
+pub mod Limited
 pub mod Pages
 pub mod Shown

@@ -10,6 +10,7 @@ pub mod page;
 pub mod rendering;
 #[cfg(test)]
 mod tests;
+mod within;
 
 pub use fault::{PageFault, PageText};
 pub use gather::PartialBytes;

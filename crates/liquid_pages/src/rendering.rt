@@ -10,7 +10,8 @@ ghost use Rattle.liquid_template.specs.meaning.Runs.{setting};
 ghost use Rattle.liquid_template.specs.meaning.TemplateOf.{own_nodes};
 ghost use Rattle.liquid_pages.specs.meaning.Pages.{built_over, IsFoundIn, PageAnswer, Renders, RendersAnswer};
 
-use crate::options::PageOptions;
+use crate::options::{PageOptions, room_of};
+use crate::within::{render_in_room, render_sandboxed_in_room};
 use liquid_error::Error;
 use liquid_parser::{Language, ParseBlock, ParseTag, parse};
 use liquid_partials::{LazyCompiler, LazyStore, PartialCompiler, PartialSource};
@@ -118,21 +119,24 @@ where
     ensures after { Grows (K.sunk sink.old) (K.sunk sink.new) }
     ensures borrows { (K.sunk sink.new).lent ≡ (K.sunk sink.old).lent }
 {
-    let PageOptions { sandboxed, lenient } = options;
+    let room = room_of(options);
     match store_of(alloc, language, partials) {
-        Ok(store) => if sandboxed {
+        Ok(store) => if options.sandboxed {
             let mut runtime: PageRuntime<V, S, F, T, B> = runtime_of(
                 alloc,
-                lenient,
+                options.lenient,
                 no_names(alloc),
                 store,
             );
-            template.render_sandboxed(alloc, sink, &mut runtime, globals, None)
+            render_sandboxed_in_room(alloc, room, template, &mut runtime, globals, sink)
         } else {
             let mut runtime: PageRuntime<V, S, F, T, B> = runtime_of(
-                alloc, lenient, globals, store,
+                alloc,
+                options.lenient,
+                globals,
+                store,
             );
-            template.render_to(alloc, sink, &mut runtime)
+            render_in_room(alloc, room, template, &mut runtime, sink)
         },
         Err(_) => Err(Error::Memory),
     }

@@ -136,6 +136,8 @@ fn is_shown(alloc: Global, language: &Rc<PlainLanguage>, row: &Row<'_>) -> bool 
     let options = PageOptions {
         sandboxed: lenient,
         lenient,
+        max_turns: None,
+        max_bytes: None,
     };
     let partials = [
         PartialBytes {

@@ -1,5 +1,5 @@
 //! Rendering a text in one call.
-ghost use Rattle.std.specs.Prelude.{◌≡◌, List, Result};
+ghost use Rattle.std.specs.Prelude.{◌≡◌, Err, List, Result};
 ghost use Rattle.liquid_error.specs.meaning.Refusal.{Refusal};
 ghost use Rattle.liquid_parser.specs.meaning.Plugins.{language_of};
 ghost use Rattle.liquid_parser.specs.meaning.Reading.{Reads};
@@ -18,8 +18,8 @@ use std::alloc::Global;
 
 /// Parses a text, renders it in the runtime's view and writes the result.
 ///
-/// A text that is not a template is an error before anything is written or changed. What was written before any other
-/// error stays written. If the sink fails, the error is "Failed to render".
+/// A text that is not a template is an error before anything is written or changed, and before the store of partials is
+/// asked. What was written before any other error stays written. If the sink fails, the error is "Failed to render".
 pub fn render_source<F, T, B, R, K>(
     alloc: Global,
     text: &str,
@@ -41,6 +41,8 @@ where
         → Rendered (setting R.Register.fresh F.Filter.means T.Node.means B.Node.means (partials_of R.Store.finds (R.store runtime.old)))
         answer (R.view runtime.old)
         (K.sunk sink.old) (K.sunk sink.new) (R.view runtime.new) result }
+    ensures untouched { (refusal : Refusal) → Reads (language_of F.makes T.gives B.block language.now) text.now (Err refusal)
+        → runtime.new ≡ runtime.old }
     ensures pours { Pours (K.sunk sink.old) (K.sunk sink.new) result }
     ensures owes { R.restores runtime.new ≡ R.restores runtime.old }
     ensures store { partials_of R.Store.finds (R.store runtime.new) ≡ partials_of R.Store.finds (R.store runtime.old) }

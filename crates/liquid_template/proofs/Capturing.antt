@@ -1,14 +1,14 @@
 -- What is rendered to a text of its own, as the sink sees it, and how the text is opened and closed.
 use Rattle.std.proofs.Common.{◌≡◌, ℕ, ◌+◌, ◌<◌, true, List, [], ◌∷◌, ◌++◌, length, map, Option, Some, None, Result, Ok, Err, ◌⊎◌, inl, inr, refl, sym, ap, subst, ◌∙◌, arith, append_assoc, IsSome}
 use Rattle.std.specs.Prelude.{MatchOption}
-use Rattle.std.proofs.lemmas.List.{append-nil}
+use Rattle.std.proofs.lemmas.List.{append-nil, map-append}
 use Rattle.std.proofs.lemmas.Option.{same_Some}
 use Rattle.liquid_error.specs.declared.error.Error.{Error}
 use Rattle.liquid_error.specs.meaning.Refusal.{Refusal}
 use Rattle.liquid_error.specs.meaning.Told.{told}
 use Rattle.liquid_runtime.specs.meaning.View.{View}
 use Rattle.liquid_template.specs.meaning.Sunk.{Sunk}
-use Rattle.liquid_template.specs.meaning.Output.{Output, Passed, Passes, Refuses, PassesSome}
+use Rattle.liquid_template.specs.meaning.Output.{Output, Passed, Passes, Refuses, PassesUpTo}
 use Rattle.liquid_template.specs.meaning.Run.{Step, Run, pieces, written, one_if, checkpoints}
 use Rattle.liquid_template.specs.meaning.Actions.{silent_step, silent}
 use Rattle.liquid_template.specs.meaning.Pours.{Pours}
@@ -16,7 +16,7 @@ use Rattle.liquid_template.specs.meaning.Outcome.{Whole, SinkFails, GateRefuses,
 use Rattle.liquid_template.specs.steps.Going.{Aside}
 use Rattle.liquid_template.specs.steps.Place.{Place, Around, place, target, target_of, around, around_of, Swapped}
 use Rattle.liquid_template.proofs.Joins.{map-middle}
-use Rattle.liquid_template.proofs.Passing.{passes_none, passes_at, some_at, refuses_at, none_pass}
+use Rattle.liquid_template.proofs.Passing.{passes_none, passes_at, up_to_at, refuses_at}
 use Rattle.liquid_template.proofs.Pouring.{pours_nothing, pours_refused}
 
 abbrev Answer : Type 0
@@ -41,8 +41,8 @@ module _ (b o d : Output) (empty : o.sunk.taken ≡ []) (no_bytes : o.bytes ≡ 
   turns_passed : (n : ℕ) → Passes o.turns n d.turns → Passes b.turns n d.turns
   turns_passed n h = subst (λ t. Passes t n d.turns) turns h
 
-  never_bytes : (n : ℕ) → Refuses o.bytes n d.bytes → ⊥
-  never_bytes n h = subst (λ x. Refuses x n d.bytes) no_bytes h
+  never_bytes : (n more : ℕ) → Refuses o.bytes n more d.bytes → ⊥
+  never_bytes n more h = subst (λ x. Refuses x n more d.bytes) no_bytes h
 
   pours_silent : (answer : Answer) → Pours b.sunk b.sunk answer
   pours_silent (Ok u) = pours_nothing b.sunk u
@@ -70,14 +70,14 @@ module _ (b o d : Output) (empty : o.sunk.taken ≡ []) (no_bytes : o.bytes ≡ 
     cause_silent front step part rest refusal (inl h) = absurd (no_more d.sunk.failures o.sunk.failures failures h.failures)
     cause_silent front step part rest refusal (inr h) = inr (record { nothing = refl; failures = refl; refused = refused_silent h.refused; reason = h.reason })
       where
-        refused_silent : ((step.checkpoint ≡ true) × Refuses o.turns (checkpoints front) d.turns × Passes o.bytes (length (pieces front)) d.bytes) ⊎ ((0 < length step.piece) × Passes o.turns (checkpoints front) d.turns × Refuses o.bytes (length (pieces front)) d.bytes)
-            → ((step.checkpoint ≡ true) × Refuses b.turns (checkpoints (map silent_step front)) d.turns × Passes b.bytes (length (pieces (map silent_step front))) b.bytes) ⊎ ((0 < 0) × Passes b.turns (checkpoints (map silent_step front)) d.turns × Refuses b.bytes (length (pieces (map silent_step front))) b.bytes)
+        refused_silent : ((step.checkpoint ≡ true) × Refuses o.turns (checkpoints front) 1 d.turns × Passes o.bytes (length (pieces front)) d.bytes) ⊎ ((0 < length step.piece) × Passes o.turns (checkpoints front) d.turns × Refuses o.bytes (length (pieces front)) (length step.piece) d.bytes)
+            → ((step.checkpoint ≡ true) × Refuses b.turns (checkpoints (map silent_step front)) 1 d.turns × Passes b.bytes (length (pieces (map silent_step front))) b.bytes) ⊎ ((0 < 0) × Passes b.turns (checkpoints (map silent_step front)) d.turns × Refuses b.bytes (length (pieces (map silent_step front))) 0 b.bytes)
         refused_silent (inl x) = inl (
           x.0,
-          refuses_at b.turns d.turns (checkpoints front) (checkpoints (map silent_step front)) (sym (checkpoints-silent front)) (subst (λ t. Refuses t (checkpoints front) d.turns) turns x.1),
+          refuses_at b.turns d.turns (checkpoints front) (checkpoints (map silent_step front)) 1 (sym (checkpoints-silent front)) (subst (λ t. Refuses t (checkpoints front) 1 d.turns) turns x.1),
           bytes_none front,
         )
-        refused_silent (inr x) = absurd (never_bytes (length (pieces front)) x.2)
+        refused_silent (inr x) = absurd (never_bytes (length (pieces front)) (length step.piece) x.2)
 
     broken_silent : (r : Run Reg) (x : View Reg) (refusal : Refusal) → BrokenOff r o d x refusal → BrokenOff (silent r) b after x refusal
     broken_silent r x refusal h = record {
@@ -95,13 +95,16 @@ module _ (b o d : Output) (empty : o.sunk.taken ≡ []) (no_bytes : o.bytes ≡ 
 
     cut_silent : (r : Run Reg) → Cut r o d → Cut (silent r) b after
     cut_silent r h = record {
+      front = map silent_step h.front;
+      later = map silent_step h.later;
       part = [];
       rest = [];
-      pieces_are = pieces-silent r.steps;
+      steps = ap (map silent_step) h.steps ∙ map-append silent_step h.front h.later;
+      pieces_are = pieces-silent h.front;
       taken = sym (append-nil b.sunk.taken);
       failures = inl refl;
-      turns = some_at b.turns d.turns (checkpoints r.steps) (checkpoints (map silent_step r.steps)) (sym (checkpoints-silent r.steps)) (subst (λ t. PassesSome t (checkpoints r.steps) d.turns) turns h.turns);
-      bytes = none_pass b.bytes (length (pieces (map silent_step r.steps)));
+      turns = up_to_at b.turns d.turns (checkpoints h.front) (checkpoints (map silent_step h.front)) (sym (checkpoints-silent h.front)) (subst (λ t. PassesUpTo t (checkpoints h.front) d.turns) turns h.turns);
+      bytes = inl (bytes_none h.front);
     }
 
     stopped_silent : (r : Run Reg) (x : View Reg) (refusal : Refusal) → Stopped r o d x refusal → Stopped (silent r) b after x refusal

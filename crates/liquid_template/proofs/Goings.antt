@@ -28,7 +28,7 @@ use Rattle.liquid_template.proofs.Framing.{renders_framed, framed_kept, renders_
 use Rattle.liquid_template.proofs.Joins.{renders_done, renders_refused}
 use Rattle.liquid_template.proofs.Steps.{start_refused, taken, asked_first, asked_refused, turn_refused, turn_ends, turn_more, turn_fails, capture_more, capture_fails}
 use Rattle.liquid_template.proofs.Capturing.{renders_silent, text_silent}
-use Rattle.liquid_template.proofs.Passing.{passes_none, all_pass, one_refused}
+use Rattle.liquid_template.proofs.Passing.{passes_none}
 use Rattle.liquid_template.proofs.Pouring.{pours_nothing, pours_refused}
 use Rattle.liquid_template.proofs.Renderings.{turns_done_at, list_fails_at, list_stops_at, list_goes_at, list_done_at, turn_puts, turn_bodies, turn_captures, turn_includes, if_then, deep_is, more_is}
 
@@ -84,15 +84,18 @@ module _ {Reg : Type 0} where
     pours = pours_nothing b.sunk u;
   })
 
-  refused_turn : (t : Option Refusal) (v : View Reg) (b c : Output) → Refuses b.turns 0 c.turns → IfSome t (λ r. r ≡ was_stopped []) → MatchOption t (Cut (asks v) b (record b { turns = c.turns })) (Stopped (asks v) b (record b { turns = c.turns }) v)
+  refused_turn : (t : Option Refusal) (v : View Reg) (b c : Output) → Refuses b.turns 0 1 c.turns → IfSome t (λ r. r ≡ was_stopped []) → MatchOption t (Cut (asks v) b (record b { turns = c.turns })) (Stopped (asks v) b (record b { turns = c.turns }) v)
   refused_turn None v b c q h = record {
+    front = [];
+    later = record { piece = []; checkpoint = true; traces = []; at = v } ∷ [];
     part = [];
     rest = [];
+    steps = refl;
     pieces_are = refl;
     taken = sym (append-nil b.sunk.taken);
     failures = inl refl;
-    turns = one_refused b.turns c.turns 0 1 q;
-    bytes = all_pass b.bytes b.bytes 0 0 (passes_none b.bytes);
+    turns = inr (1, q);
+    bytes = inl (passes_none b.bytes);
   }
   refused_turn (Some r) v b c q h = inr (record {
     front = [];

@@ -9,16 +9,15 @@ use Rattle.liquid_runtime.specs.meaning.Written.{written_of, with_written, SameF
 use Rattle.liquid_runtime.specs.meaning.Frames.{isolated_frame, Restore, restore_isolated, begin_isolated, beginning, restored_by, ending}
 use Rattle.liquid_runtime.specs.meaning.OpenFrames.{EndsFirst}
 use Rattle.liquid_plugins.specs.meaning.Nodes.{Nodes}
-use Rattle.liquid_template.specs.meaning.Run.{Step, Run}
+use Rattle.liquid_template.specs.meaning.Run.{Step, Run, Action}
 use Rattle.liquid_template.specs.meaning.Actions.{refused_through, step_outside, outside, under}
 use Rattle.liquid_template.specs.meaning.Nodes.{Setting}
 use Rattle.liquid_template.specs.meaning.Rendering.{nodes_run, template_run, isolated_run}
-use Rattle.liquid_template.specs.meaning.Isolated.{given_back, step_given_back, run_given_back, RendersIsolated, OnlyIndexChanges}
-use Rattle.liquid_template.specs.meaning.Output.{ungated}
-use Rattle.liquid_template.specs.meaning.Sunk.{Sunk}
-use Rattle.liquid_template.specs.meaning.Outcome.{Renders}
+use Rattle.liquid_template.specs.meaning.Isolated.{given_back, step_given_back, run_given_back, OnlyIndexChanges}
+use Rattle.liquid_template.specs.meaning.Output.{Output}
+use Rattle.liquid_template.specs.meaning.Outcome.{RendersWithin}
 use Rattle.liquid_template.specs.laws.IsolatedFrames.{SameIsolatedRun, IsolatedFromOutside, IsolatedOutsidesAgree}
-use Rattle.liquid_template.proofs.Framing.{renders_framed, renders_memory, becomes_itself, first_is, without_gate, within_no_gate}
+use Rattle.liquid_template.proofs.Framing.{renders_framed, renders_memory, becomes_itself, first_is}
 
 module _ {Reg : Type 0} (fresh : Reg) (names : Names) (name : Option (List ℕ)) (o p : View Reg) (e : o.name ≡ p.name) where
   -- what is left when the frame ends over the outside p, and over the emptied outside o
@@ -43,6 +42,11 @@ begun_same fresh names name o p d l i n =
     ∙ ap (λ x. begin_isolated fresh names name (record o { depth = p.depth; lenient = p.lenient; index = x })) i
     ∙ ap (λ x. begin_isolated fresh names name (record o { depth = p.depth; lenient = p.lenient; index = p.index; name = x })) n
 
+-- the outcome is that of a run over the outside, and also that of its run over the emptied outside, given back
+pub record IsolatedWithin {Reg : Type 0} (fresh : Reg) (action : Action Reg) (outside : View Reg) (before after : Output) (left : View Reg) (answer : Result (Unit {0}) Error) : Type 0 where
+  pub renders : RendersWithin (action outside) outside before after left answer
+  pub isolated : RendersWithin (run_given_back outside (action (emptied fresh outside))) outside before after left answer
+
 module _ {Reg F T P B Q : Type 0} (s : Setting Reg F T P B Q) where
   same_run : (names : Names) (name : Option (List ℕ)) (ns : Nodes F T B) (o p : View Reg) → o.depth ≡ p.depth → o.lenient ≡ p.lenient → o.index ≡ p.index → o.name ≡ p.name
       → isolated_run s names name ns p ≡ run_given_back p (isolated_run s names name ns (emptied s.fresh o))
@@ -63,19 +67,19 @@ module _ {Reg F T P B Q : Type 0} (s : Setting Reg F T P B Q) where
 
   module _ (names : Names) (name : Option (List ℕ)) (ns : Nodes F T B) where
     -- what renders the run over the outside renders that over the emptied outside
-    renders_isolated : (v x : View Reg) (b a : Sunk) (answer : Result (Unit {0}) Error) → Renders (isolated_run s names name ns v) v b a x answer → RendersIsolated s.fresh (isolated_run s names name ns) v b a x answer
-    renders_isolated v x b a answer r = record { renders = r; isolated = subst (λ q. Renders q v b a x answer) (from_outside names name ns v) r }
+    renders_isolated : (v x : View Reg) (b a : Output) (answer : Result (Unit {0}) Error) → RendersWithin (isolated_run s names name ns v) v b a x answer → IsolatedWithin s.fresh (isolated_run s names name ns) v b a x answer
+    renders_isolated v x b a answer r = record { renders = r; isolated = subst (λ q. RendersWithin q v b a x answer) (from_outside names name ns v) r }
 
-    pub isolated_memory : (v : View Reg) (b : Sunk) (e : Error) → told e ≡ None → RendersIsolated s.fresh (isolated_run s names name ns) v b b v (Err e)
-    isolated_memory v b e h = renders_isolated v v b b (Err e) (without_gate (isolated_run s names name ns v) v v b b (Err e) (renders_memory (isolated_run s names name ns v) v (ungated b) e h))
+    pub isolated_memory : (v : View Reg) (b : Output) (e : Error) → told e ≡ None → IsolatedWithin s.fresh (isolated_run s names name ns) v b b v (Err e)
+    isolated_memory v b e h = renders_isolated v v b b (Err e) (renders_memory (isolated_run s names name ns v) v b e h)
 
     -- the name may be given as an owned text
-    pub isolated_renders : (own : Option (List ℕ)) (v v1 w x : View Reg) (rs rs1 rs2 rs3 : List (Restore Reg)) (b a : Sunk) (answer : Result (Unit {0}) Error)
-        → own ≡ name → v1 ≡ beginning s.fresh (isolated_frame names own) v → rs1 ≡ restored_by (isolated_frame names own) v ∷ rs → rs2 ≡ rs1 → EndsFirst rs2 w rs3 x → Renders (template_run s ns v1) v1 b a w answer
-        → RendersIsolated s.fresh (isolated_run s names name ns) v b a x answer
+    pub isolated_renders : (own : Option (List ℕ)) (v v1 w x : View Reg) (rs rs1 rs2 rs3 : List (Restore Reg)) (b a : Output) (answer : Result (Unit {0}) Error)
+        → own ≡ name → v1 ≡ beginning s.fresh (isolated_frame names own) v → rs1 ≡ restored_by (isolated_frame names own) v ∷ rs → rs2 ≡ rs1 → EndsFirst rs2 w rs3 x → RendersWithin (template_run s ns v1) v1 b a w answer
+        → IsolatedWithin s.fresh (isolated_run s names name ns) v b a x answer
     isolated_renders own v v1 w x rs rs1 rs2 rs3 b a answer e h i j k r =
-        renders_isolated v x b a answer (subst (λ n. Renders (isolated_run s names n ns v) v b a x answer) e
-        (without_gate (isolated_run s names own ns v) v x b a answer (renders_framed s.fresh (isolated_frame names own) None (template_run s ns) v v1 w x rs rs1 rs2 rs3 (ungated b) (ungated a) answer answer h i j k (becomes_itself answer) (within_no_gate (template_run s ns v1) v1 w b a answer r))))
+        renders_isolated v x b a answer (subst (λ n. RendersWithin (isolated_run s names n ns v) v b a x answer) e
+        (renders_framed s.fresh (isolated_frame names own) None (template_run s ns) v v1 w x rs rs1 rs2 rs3 b a answer answer h i j k (becomes_itself answer) r))
 
 -- an isolated frame gives all but index variables back when it ends
 module _ {Reg : Type 0} where

@@ -1,7 +1,7 @@
 -- How outcomes over a sink join: one action after another, and a frame with a trace.
 use Rattle.std.proofs.Common.{◌≡◌, ℕ, ◌+◌, ◌<◌, true, false, List, [], ◌∷◌, ◌++◌, length, map, Option, Some, None, Result, Ok, Err, ◌⊎◌, inl, inr, refl, sym, ap, subst, ◌∙◌, append_assoc, arith, option_map}
 use Rattle.std.specs.Prelude.{MatchOption, IfSome, unwrap_or}
-use Rattle.std.proofs.lemmas.List.{append-nil, length-append}
+use Rattle.std.proofs.lemmas.List.{append-nil, length-append, map-append}
 use Rattle.liquid_error.specs.declared.error.Error.{Error}
 use Rattle.liquid_error.specs.meaning.Refusal.{Refusal}
 use Rattle.liquid_error.specs.meaning.Told.{told}
@@ -12,9 +12,9 @@ use Rattle.liquid_runtime.specs.meaning.Frames.{FrameShape, no_frame, stack_fram
 use Rattle.liquid_template.specs.meaning.Run.{Step, Run, Action, pieces, written, one_if, checkpoints}
 use Rattle.liquid_template.specs.meaning.Actions.{refused_through, done, refuses, goes_on, and_then, step_outside, outside, under}
 use Rattle.liquid_template.proofs.Pouring.{pours_nothing, pours_refused, pours_then, pours_through}
-use Rattle.liquid_template.specs.meaning.Output.{Output, Passes, Refuses, PassesSome}
+use Rattle.liquid_template.specs.meaning.Output.{Output, Passes, Refuses, PassesUpTo}
 use Rattle.liquid_template.specs.meaning.Outcome.{Whole, SinkFails, GateRefuses, BrokenOff, Cut, Stopped, Outcome, RendersWithin}
-use Rattle.liquid_template.proofs.Passing.{passes_none, passes_then, refuses_then, some_then, some_more, all_pass, none_pass, one_refused, passes_at, some_at, refuses_at}
+use Rattle.liquid_template.proofs.Passing.{passes_none, passes_then, refuses_then, up_to_then, passes_at, up_to_at, refuses_at}
 
 pub some_is : {A : Type 0} (x y : A) → Some x ≡ Some y → x ≡ y
 some_is x y e = ap (λ o. unwrap_or o x) e
@@ -84,6 +84,7 @@ module _ {Reg : Type 0} where
       → SinkFails step rest (checkpoints front) (length (pieces front)) m a refusal ⊎ GateRefuses step part (checkpoints front) (length (pieces front)) m a refusal
       → SinkFails step rest (checkpoints (rs ++ front)) (length (pieces (rs ++ front))) b a refusal ⊎ GateRefuses step part (checkpoints (rs ++ front)) (length (pieces (rs ++ front))) b a refusal
   cause_then rs front step part rest b m a refusal e t u (inl h) = inl (record {
+    no_checkpoint = h.no_checkpoint;
     some_left = h.some_left;
     failures = h.failures ∙ ap (λ n. n + 1) e;
     turns = passes_at b.turns a.turns (checkpoints rs + checkpoints front) (checkpoints (rs ++ front)) (sym (checkpoints-append rs front)) (passes_then b.turns m.turns a.turns (checkpoints rs) (checkpoints front) t h.turns);
@@ -98,17 +99,17 @@ module _ {Reg : Type 0} where
     reason = h.reason;
   })
     where
-      refused_then : ((step.checkpoint ≡ true) × Refuses m.turns (checkpoints front) a.turns × Passes m.bytes (length (pieces front)) a.bytes) ⊎ ((0 < length step.piece) × Passes m.turns (checkpoints front) a.turns × Refuses m.bytes (length (pieces front)) a.bytes)
-          → ((step.checkpoint ≡ true) × Refuses b.turns (checkpoints (rs ++ front)) a.turns × Passes b.bytes (length (pieces (rs ++ front))) a.bytes) ⊎ ((0 < length step.piece) × Passes b.turns (checkpoints (rs ++ front)) a.turns × Refuses b.bytes (length (pieces (rs ++ front))) a.bytes)
+      refused_then : ((step.checkpoint ≡ true) × Refuses m.turns (checkpoints front) 1 a.turns × Passes m.bytes (length (pieces front)) a.bytes) ⊎ ((0 < length step.piece) × Passes m.turns (checkpoints front) a.turns × Refuses m.bytes (length (pieces front)) (length step.piece) a.bytes)
+          → ((step.checkpoint ≡ true) × Refuses b.turns (checkpoints (rs ++ front)) 1 a.turns × Passes b.bytes (length (pieces (rs ++ front))) a.bytes) ⊎ ((0 < length step.piece) × Passes b.turns (checkpoints (rs ++ front)) a.turns × Refuses b.bytes (length (pieces (rs ++ front))) (length step.piece) a.bytes)
       refused_then (inl x) = inl (
         x.0,
-        refuses_at b.turns a.turns (checkpoints rs + checkpoints front) (checkpoints (rs ++ front)) (sym (checkpoints-append rs front)) (refuses_then b.turns m.turns a.turns (checkpoints rs) (checkpoints front) t x.1),
+        refuses_at b.turns a.turns (checkpoints rs + checkpoints front) (checkpoints (rs ++ front)) 1 (sym (checkpoints-append rs front)) (refuses_then b.turns m.turns a.turns (checkpoints rs) (checkpoints front) 1 t x.1),
         passes_at b.bytes a.bytes (length (pieces rs) + length (pieces front)) (length (pieces (rs ++ front))) (sym (bytes-append rs front)) (passes_then b.bytes m.bytes a.bytes (length (pieces rs)) (length (pieces front)) u x.2),
       )
       refused_then (inr x) = inr (
         x.0,
         passes_at b.turns a.turns (checkpoints rs + checkpoints front) (checkpoints (rs ++ front)) (sym (checkpoints-append rs front)) (passes_then b.turns m.turns a.turns (checkpoints rs) (checkpoints front) t x.1),
-        refuses_at b.bytes a.bytes (length (pieces rs) + length (pieces front)) (length (pieces (rs ++ front))) (sym (bytes-append rs front)) (refuses_then b.bytes m.bytes a.bytes (length (pieces rs)) (length (pieces front)) u x.2),
+        refuses_at b.bytes a.bytes (length (pieces rs) + length (pieces front)) (length (pieces (rs ++ front))) (length step.piece) (sym (bytes-append rs front)) (refuses_then b.bytes m.bytes a.bytes (length (pieces rs)) (length (pieces front)) (length step.piece) u x.2),
       )
 
   broken_then : (r : Run Reg) (next : Action Reg) (b m a : Output) (w x : View Reg) (refusal : Refusal) → r.refusal ≡ None → Whole r b m w → BrokenOff (next w) m a x refusal → BrokenOff (and_then r next) b a x refusal
@@ -132,15 +133,18 @@ module _ {Reg : Type 0} where
   cut_then r next b m a w d h i =
       let i' = subst (λ u. Cut (next u) m a) h.view i in
       subst (λ p. Cut p b a) (sym (joined r next d)) (record {
+        front = r.steps ++ i'.front;
+        later = i'.later;
         part = written r ++ i'.part;
         rest = i'.rest;
-        pieces_are = pieces-append r.steps (next r.view).steps ∙ ap (λ t. written r ++ t) i'.pieces_are ∙ sym (append_assoc (written r) i'.part i'.rest);
+        steps = ap (λ t. r.steps ++ t) i'.steps ∙ sym (append_assoc r.steps i'.front i'.later);
+        pieces_are = pieces-append r.steps i'.front ∙ ap (λ t. written r ++ t) i'.pieces_are ∙ sym (append_assoc (written r) i'.part i'.rest);
         taken = i'.taken ∙ ap (λ t. t ++ i'.part) h.taken ∙ append_assoc b.sunk.taken (written r) i'.part;
         failures = at_most_once a.sunk.failures m.sunk.failures b.sunk.failures h.failures i'.failures;
-        turns = some_at b.turns a.turns (checkpoints r.steps + checkpoints (next r.view).steps) (checkpoints (r.steps ++ (next r.view).steps)) (sym (checkpoints-append r.steps (next r.view).steps))
-            (some_then b.turns m.turns a.turns (checkpoints r.steps) (checkpoints (next r.view).steps) h.turns i'.turns);
-        bytes = some_at b.bytes a.bytes (length (written r) + length (written (next r.view))) (length (pieces (r.steps ++ (next r.view).steps))) (sym (bytes-append r.steps (next r.view).steps))
-            (some_then b.bytes m.bytes a.bytes (length (written r)) (length (written (next r.view))) h.bytes i'.bytes);
+        turns = up_to_at b.turns a.turns (checkpoints r.steps + checkpoints i'.front) (checkpoints (r.steps ++ i'.front)) (sym (checkpoints-append r.steps i'.front))
+            (up_to_then b.turns m.turns a.turns (checkpoints r.steps) (checkpoints i'.front) h.turns i'.turns);
+        bytes = up_to_at b.bytes a.bytes (length (written r) + length (pieces i'.front)) (length (pieces (r.steps ++ i'.front))) (sym (bytes-append r.steps i'.front))
+            (up_to_then b.bytes m.bytes a.bytes (length (written r)) (length (pieces i'.front)) h.bytes i'.bytes);
       })
 
   stopped_then : (r : Run Reg) (next : Action Reg) (b m a : Output) (w x : View Reg) (refusal : Refusal) → r.refusal ≡ None → Whole r b m w → Stopped (next w) m a x refusal → Stopped (and_then r next) b a x refusal
@@ -168,13 +172,16 @@ module _ {Reg : Type 0} where
   cut_first : (f : Option Refusal) (r : Run Reg) (next : Action Reg) (b a : Output) → Cut r b a → Cut (goes_on f r next) b a
   cut_first (Some refusal) r next b a h = h
   cut_first None r next b a h = record {
+    front = h.front;
+    later = h.later ++ (next r.view).steps;
     part = h.part;
-    rest = h.rest ++ written (next r.view);
-    pieces_are = pieces-append r.steps (next r.view).steps ∙ ap (λ t. t ++ written (next r.view)) h.pieces_are ∙ append_assoc h.part h.rest (written (next r.view));
+    rest = h.rest;
+    steps = ap (λ t. t ++ (next r.view).steps) h.steps ∙ append_assoc h.front h.later (next r.view).steps;
+    pieces_are = h.pieces_are;
     taken = h.taken;
     failures = h.failures;
-    turns = some_at b.turns a.turns (checkpoints r.steps + checkpoints (next r.view).steps) (checkpoints (r.steps ++ (next r.view).steps)) (sym (checkpoints-append r.steps (next r.view).steps)) (some_more b.turns a.turns (checkpoints r.steps) (checkpoints (next r.view).steps) h.turns);
-    bytes = some_at b.bytes a.bytes (length (written r) + length (written (next r.view))) (length (pieces (r.steps ++ (next r.view).steps))) (sym (bytes-append r.steps (next r.view).steps)) (some_more b.bytes a.bytes (length (written r)) (length (written (next r.view))) h.bytes);
+    turns = h.turns;
+    bytes = h.bytes;
   }
 
   broken_first : (f : Option Refusal) (r : Run Reg) (next : Action Reg) (b a : Output) (x : View Reg) (refusal : Refusal) → BrokenOff r b a x refusal → BrokenOff (goes_on f r next) b a x refusal
@@ -213,13 +220,16 @@ module _ {Reg : Type 0} where
 
   told_refused : (t : Option Refusal) (r : Run Reg) (x : View Reg) (b : Output) → IfSome t (λ refusal. r ≡ refuses refusal x) → MatchOption t (Cut r b b) (Stopped r b b x)
   told_refused None r x b h = record {
+    front = [];
+    later = r.steps;
     part = [];
-    rest = written r;
+    rest = [];
+    steps = refl;
     pieces_are = refl;
     taken = sym (append-nil b.sunk.taken);
     failures = inl refl;
-    turns = none_pass b.turns (checkpoints r.steps);
-    bytes = none_pass b.bytes (length (written r));
+    turns = inl (passes_none b.turns);
+    bytes = inl (passes_none b.bytes);
   }
   told_refused (Some refusal) r x b h = inl (subst (λ p. Whole p b b x × (p.refusal ≡ Some refusal)) (sym h) (record { taken = sym (append-nil b.sunk.taken); failures = refl; turns = passes_none b.turns; bytes = passes_none b.bytes; view = refl }, refl))
 
@@ -253,6 +263,7 @@ module _ {Reg : Type 0} where
     cause_outside : (step : Step Reg) (part rest : List ℕ) (t t' n n' : ℕ) (b a : Output) (refusal : Refusal) → t ≡ t' → n ≡ n' → SinkFails step rest t n b a refusal ⊎ GateRefuses step part t n b a refusal
         → SinkFails (step_outside restores trace step) rest t' n' b a (refused_through trace refusal) ⊎ GateRefuses (step_outside restores trace step) part t' n' b a (refused_through trace refusal)
     cause_outside step part rest t t' n n' b a refusal i j (inl h) = inl (record {
+      no_checkpoint = h.no_checkpoint;
       some_left = h.some_left;
       failures = h.failures;
       turns = passes_at b.turns a.turns t t' i h.turns;
@@ -262,8 +273,8 @@ module _ {Reg : Type 0} where
     cause_outside step part rest t t' n n' b a refusal i j (inr h) = inr (record {
       nothing = h.nothing;
       failures = h.failures;
-      refused = subst (λ k. ((step.checkpoint ≡ true) × Refuses b.turns k a.turns × Passes b.bytes n' a.bytes) ⊎ ((0 < length step.piece) × Passes b.turns k a.turns × Refuses b.bytes n' a.bytes)) i
-          (subst (λ k. ((step.checkpoint ≡ true) × Refuses b.turns t a.turns × Passes b.bytes k a.bytes) ⊎ ((0 < length step.piece) × Passes b.turns t a.turns × Refuses b.bytes k a.bytes)) j h.refused);
+      refused = subst (λ k. ((step.checkpoint ≡ true) × Refuses b.turns k 1 a.turns × Passes b.bytes n' a.bytes) ⊎ ((0 < length step.piece) × Passes b.turns k a.turns × Refuses b.bytes n' (length step.piece) a.bytes)) i
+          (subst (λ k. ((step.checkpoint ≡ true) × Refuses b.turns t 1 a.turns × Passes b.bytes k a.bytes) ⊎ ((0 < length step.piece) × Passes b.turns t a.turns × Refuses b.bytes k (length step.piece) a.bytes)) j h.refused);
       reason = ap (refused_through trace) h.reason;
     })
 
@@ -284,71 +295,76 @@ module _ {Reg : Type 0} where
 
     cut_outside : (r : Run Reg) (b a : Output) → Cut r b a → Cut (outside restores trace r) b a
     cut_outside r b a h = record {
+      front = map (step_outside restores trace) h.front;
+      later = map (step_outside restores trace) h.later;
       part = h.part;
       rest = h.rest;
-      pieces_are = pieces-outside restores trace r.steps ∙ h.pieces_are;
+      steps = ap (map (step_outside restores trace)) h.steps ∙ map-append (step_outside restores trace) h.front h.later;
+      pieces_are = pieces-outside restores trace h.front ∙ h.pieces_are;
       taken = h.taken;
       failures = h.failures;
-      turns = some_at b.turns a.turns (checkpoints r.steps) (checkpoints (map (step_outside restores trace) r.steps)) (sym (checkpoints-outside restores trace r.steps)) h.turns;
-      bytes = some_at b.bytes a.bytes (length (written r)) (length (pieces (map (step_outside restores trace) r.steps))) (sym (ap length (pieces-outside restores trace r.steps))) h.bytes;
+      turns = up_to_at b.turns a.turns (checkpoints h.front) (checkpoints (map (step_outside restores trace) h.front)) (sym (checkpoints-outside restores trace h.front)) h.turns;
+      bytes = up_to_at b.bytes a.bytes (length (pieces h.front)) (length (pieces (map (step_outside restores trace) h.front))) (sym (ap length (pieces-outside restores trace h.front))) h.bytes;
     }
 
     stopped_outside : (r : Run Reg) (b a : Output) (x : View Reg) (refusal : Refusal) → Stopped r b a x refusal → Stopped (outside restores trace r) b a (ending restores x) (refused_through trace refusal)
     stopped_outside r b a x refusal (inl h) = inl (whole_outside r b a x h.0, ap (option_map (refused_through trace)) h.1)
     stopped_outside r b a x refusal (inr h) = inr (broken_outside r b a x refusal h)
 
-    -- what passed up to a step, of all that the run requests
-    turns_in : (front later : List (Step Reg)) (step : Step Reg) → checkpoints (front ++ step ∷ later) ≡ checkpoints front + (one_if step.checkpoint + checkpoints later)
-    turns_in front later step = checkpoints-append front (step ∷ later)
-
-    bytes_in : (front later : List (Step Reg)) (step : Step Reg) → length (pieces (front ++ step ∷ later)) ≡ length (pieces front) + (length step.piece + length (pieces later))
-    bytes_in front later step = bytes-append front (step ∷ later) ∙ ap (λ n. length (pieces front) + n) (length-append step.piece (pieces later))
-
-    cause_failures : (step : Step Reg) (part rest : List ℕ) (t n : ℕ) (b a : Output) (refusal : Refusal) → SinkFails step rest t n b a refusal ⊎ GateRefuses step part t n b a refusal
-        → (a.sunk.failures ≡ b.sunk.failures) ⊎ (a.sunk.failures ≡ b.sunk.failures + 1)
-    cause_failures step part rest t n b a refusal (inl h) = inr h.failures
-    cause_failures step part rest t n b a refusal (inr h) = inl h.failures
-
-    cause_turns : (step : Step Reg) (part rest : List ℕ) (t n k : ℕ) (b a : Output) (refusal : Refusal) → SinkFails step rest t n b a refusal ⊎ GateRefuses step part t n b a refusal → PassesSome b.turns (t + k) a.turns
-    cause_turns step part rest t n k b a refusal (inl h) = all_pass b.turns a.turns t k h.turns
-    cause_turns step part rest t n k b a refusal (inr h) = turns_of h.refused
-      where
-        turns_of : ((step.checkpoint ≡ true) × Refuses b.turns t a.turns × Passes b.bytes n a.bytes) ⊎ ((0 < length step.piece) × Passes b.turns t a.turns × Refuses b.bytes n a.bytes) → PassesSome b.turns (t + k) a.turns
-        turns_of (inl x) = one_refused b.turns a.turns t k x.1
-        turns_of (inr x) = all_pass b.turns a.turns t k x.1
-
-    cause_bytes : (step : Step Reg) (part rest : List ℕ) (t n k : ℕ) (b a : Output) (refusal : Refusal) → SinkFails step rest t n b a refusal ⊎ GateRefuses step part t n b a refusal → PassesSome b.bytes (n + (length step.piece + k)) a.bytes
-    cause_bytes step part rest t n k b a refusal (inl h) = some_at b.bytes a.bytes (n + length step.piece + k) (n + (length step.piece + k)) (sym (sum_of n (length step.piece) k)) (all_pass b.bytes a.bytes (n + length step.piece) k h.bytes)
-    cause_bytes step part rest t n k b a refusal (inr h) = bytes_of h.refused
-      where
-        bytes_of : ((step.checkpoint ≡ true) × Refuses b.turns t a.turns × Passes b.bytes n a.bytes) ⊎ ((0 < length step.piece) × Passes b.turns t a.turns × Refuses b.bytes n a.bytes) → PassesSome b.bytes (n + (length step.piece + k)) a.bytes
-        bytes_of (inl x) = all_pass b.bytes a.bytes n (length step.piece + k) x.2
-        bytes_of (inr x) = one_refused b.bytes a.bytes n (length step.piece + k) x.2
-
     -- a refusal whose trace found no memory is cut
+    gate_turns : (step : Step Reg) (part : List ℕ) (t n : ℕ) (b a : Output) (refusal : Refusal) → GateRefuses step part t n b a refusal → PassesUpTo b.turns t a.turns
+    gate_turns step part t n b a refusal g = elim g.refused as (λ _. PassesUpTo b.turns t a.turns) [ inl x ↦ inr (1, x.1) | inr x ↦ inl x.1 ]
+
+    gate_bytes : (step : Step Reg) (part : List ℕ) (t n : ℕ) (b a : Output) (refusal : Refusal) → GateRefuses step part t n b a refusal → PassesUpTo b.bytes n a.bytes
+    gate_bytes step part t n b a refusal g = elim g.refused as (λ _. PassesUpTo b.bytes n a.bytes) [ inl x ↦ inl x.2 | inr x ↦ inr (length step.piece, x.2) ]
+
+    no_turn : (front : List (Step Reg)) (step : Step Reg) → step.checkpoint ≡ false → checkpoints front ≡ checkpoints (front ++ step ∷ [])
+    no_turn front step e = sym (checkpoints-append front (step ∷ []) ∙ ap (λ c. checkpoints front + (one_if c + 0)) e ∙ and_none (checkpoints front))
+
+    with_piece : (front : List (Step Reg)) (step : Step Reg) → length (pieces front) + length step.piece ≡ length (pieces (front ++ step ∷ []))
+    with_piece front step = sym (bytes-append front (step ∷ []) ∙ ap (λ t. length (pieces front) + length t) (append-nil step.piece))
+
     broken_cut : (r : Run Reg) (b a : Output) (x : View Reg) (refusal : Refusal) → BrokenOff r b a x refusal → Cut r b a
-    broken_cut r b a x refusal h = record {
-      part = pieces h.front ++ h.part;
-      rest = h.rest ++ pieces h.later;
-      pieces_are = ap pieces h.steps ∙ pieces-append h.front (h.step ∷ h.later) ∙ ap (λ t. pieces h.front ++ (t ++ pieces h.later)) h.piece
-          ∙ ap (λ t. pieces h.front ++ t) (append_assoc h.part h.rest (pieces h.later)) ∙ sym (append_assoc (pieces h.front) h.part (h.rest ++ pieces h.later));
-      taken = h.taken;
-      failures = cause_failures h.step h.part h.rest (checkpoints h.front) (length (pieces h.front)) b a refusal h.cause;
-      turns = some_at b.turns a.turns (checkpoints h.front + (one_if h.step.checkpoint + checkpoints h.later)) (checkpoints r.steps) (sym (ap checkpoints h.steps ∙ turns_in h.front h.later h.step))
-          (cause_turns h.step h.part h.rest (checkpoints h.front) (length (pieces h.front)) (one_if h.step.checkpoint + checkpoints h.later) b a refusal h.cause);
-      bytes = some_at b.bytes a.bytes (length (pieces h.front) + (length h.step.piece + length (pieces h.later))) (length (written r)) (sym (ap (λ ss. length (pieces ss)) h.steps ∙ bytes_in h.front h.later h.step))
-          (cause_bytes h.step h.part h.rest (checkpoints h.front) (length (pieces h.front)) (length (pieces h.later)) b a refusal h.cause);
-    }
+    broken_cut r b a x refusal h = of_cause h.cause
+      where
+        of_cause : SinkFails h.step h.rest (checkpoints h.front) (length (pieces h.front)) b a refusal ⊎ GateRefuses h.step h.part (checkpoints h.front) (length (pieces h.front)) b a refusal → Cut r b a
+        of_cause (inl f) = record {
+          front = h.front ++ h.step ∷ [];
+          later = h.later;
+          part = pieces h.front ++ h.part;
+          rest = h.rest;
+          steps = h.steps ∙ sym (append_assoc h.front (h.step ∷ []) h.later);
+          pieces_are = pieces-append h.front (h.step ∷ []) ∙ ap (λ t. pieces h.front ++ t) (append-nil h.step.piece ∙ h.piece) ∙ sym (append_assoc (pieces h.front) h.part h.rest);
+          taken = h.taken;
+          failures = inr f.failures;
+          turns = inl (passes_at b.turns a.turns (checkpoints h.front) (checkpoints (h.front ++ h.step ∷ [])) (no_turn h.front h.step f.no_checkpoint) f.turns);
+          bytes = inl (passes_at b.bytes a.bytes (length (pieces h.front) + length h.step.piece) (length (pieces (h.front ++ h.step ∷ []))) (with_piece h.front h.step) f.bytes);
+        }
+        of_cause (inr g) = record {
+          front = h.front;
+          later = h.step ∷ h.later;
+          part = pieces h.front ++ h.part;
+          rest = [];
+          steps = h.steps;
+          pieces_are = sym (append-nil (pieces h.front ++ h.part) ∙ ap (λ t. pieces h.front ++ t) g.nothing ∙ append-nil (pieces h.front));
+          taken = h.taken;
+          failures = inl g.failures;
+          turns = gate_turns h.step h.part (checkpoints h.front) (length (pieces h.front)) b a refusal g;
+          bytes = gate_bytes h.step h.part (checkpoints h.front) (length (pieces h.front)) b a refusal g;
+        }
 
     stopped_cut : (r : Run Reg) (b a : Output) (x : View Reg) (refusal : Refusal) → Stopped r b a x refusal → Cut r b a
     stopped_cut r b a x refusal (inl h) = record {
+      front = r.steps;
+      later = [];
       part = written r;
       rest = [];
+      steps = sym (append-nil r.steps);
       pieces_are = sym (append-nil (written r));
       taken = h.0.taken;
       failures = inl h.0.failures;
-      turns = some_at b.turns a.turns (checkpoints r.steps + 0) (checkpoints r.steps) (and_none (checkpoints r.steps)) (all_pass b.turns a.turns (checkpoints r.steps) 0 h.0.turns);
-      bytes = some_at b.bytes a.bytes (length (written r) + 0) (length (written r)) (and_none (length (written r))) (all_pass b.bytes a.bytes (length (written r)) 0 h.0.bytes);
+      turns = inl h.0.turns;
+      bytes = inl h.0.bytes;
     }
     stopped_cut r b a x refusal (inr h) = broken_cut r b a x refusal h
 

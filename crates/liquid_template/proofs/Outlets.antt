@@ -6,13 +6,13 @@ use Rattle.liquid_error.specs.declared.error.Error.{Error}
 use Rattle.liquid_error.specs.meaning.Refusal.{Refusal}
 use Rattle.liquid_error.specs.meaning.Told.{told}
 use Rattle.liquid_template.specs.meaning.Sunk.{Sunk}
-use Rattle.liquid_template.specs.meaning.Output.{Output, Passed, Gated, asked, Passes, Refuses, PassesSome, gated, ungated}
+use Rattle.liquid_template.specs.meaning.Output.{Output, Passed, Gated, IsPast, asked, Passes, Refuses, gated, ungated}
 use Rattle.liquid_template.specs.meaning.Pours.{Pours}
 use Rattle.liquid_template.specs.meaning.Outcome.{failed_to_render, was_stopped}
 use Rattle.liquid_template.specs.steps.PieceOut.{PieceLost, PieceFails, PieceRefused, Partial, PieceTaken, PieceOut}
 use Rattle.liquid_template.specs.steps.PiecePut.{Partly, PiecePutTaken, PiecePut}
 use Rattle.liquid_template.specs.steps.Place.{target_of}
-use Rattle.liquid_template.proofs.Passing.{all_pass, none_pass, passes_none, some_at}
+use Rattle.liquid_template.proofs.Passing.{passes_none}
 use Rattle.liquid_template.proofs.Pouring.{pours_nothing, pours_refused}
 
 abbrev Answer : Type 0
@@ -32,7 +32,7 @@ text_taken o text piece new u t e = record {
 pub text_put : (o : Output) (open_text : Option (List ℕ)) (text piece new : List ℕ) (u : Unit {0}) → IsUtf8 piece → open_text ≡ Some text → new ≡ text ++ piece → PieceOut piece (target_of o open_text) (target_of o (Some new)) (Ok u)
 text_put o open_text text piece new u t i e = subst (λ x. PieceOut piece (target_of o x) (target_of o (Some new)) (Ok u)) (sym i) (text_taken o text piece new u t e)
 
-lost_cause : (piece : List ℕ) (b a : Output) (t : Option Refusal) → t ≡ None → PieceLost piece b a → MatchOption t (PieceLost piece b a) (λ refusal. PieceFails piece piece b a refusal ⊎ PieceRefused piece [] b a refusal)
+lost_cause : (piece : List ℕ) (b a : Output) (t : Option Refusal) → t ≡ None → PieceLost piece [] b a → MatchOption t (PieceLost piece [] b a) (λ refusal. PieceFails piece piece b a refusal ⊎ PieceRefused piece [] b a refusal)
 lost_cause piece b a None e h = h
 lost_cause piece b a (Some r) e h = cc
 
@@ -43,7 +43,7 @@ text_left o text piece new e t i = record {
     rest = piece;
     is = refl;
     taken = i ∙ sym (append-nil text);
-    cause = lost_cause piece (target_of o (Some text)) (target_of o (Some new)) (told e) t (record { failures = inl refl; bytes = none_pass None (length piece) });
+    cause = lost_cause piece (target_of o (Some text)) (target_of o (Some new)) (told e) t (record { failures = inl refl; bytes = inl refl });
   };
   turns = refl;
   pours = record { grows = record { more = []; taken_is = i ∙ sym (append-nil text); behind_is = tt }; lent = refl; text = tt };
@@ -55,10 +55,10 @@ text_lost o open_text text piece new e t i h = subst (λ x. PieceOut piece (targ
 -- a piece that the gate let pass, put to the sink
 put_cause : (piece : List ℕ) (b : Sunk) (a : Sunk) (p : Partly piece b a) (x y : Output) (t : Option Refusal) → x.sunk ≡ b → y.sunk ≡ a → Passes x.bytes (length piece) y.bytes
     → MatchOption t ((a.failures ≡ b.failures) ⊎ (a.failures ≡ b.failures + 1)) (λ refusal. (a.failures ≡ b.failures + 1) × (refusal ≡ failed_to_render []))
-    → MatchOption t (PieceLost piece x y) (λ refusal. PieceFails piece p.rest x y refusal ⊎ PieceRefused piece p.part x y refusal)
+    → MatchOption t (PieceLost piece p.part x y) (λ refusal. PieceFails piece p.rest x y refusal ⊎ PieceRefused piece p.part x y refusal)
 put_cause piece b a p x y None i j q h = record {
   failures = failures_of h;
-  bytes = some_at x.bytes y.bytes (length piece + 0) (length piece) (and_none (length piece)) (all_pass x.bytes y.bytes (length piece) 0 q);
+  bytes = inl q;
 }
   where
     failures_of : (a.failures ≡ b.failures) ⊎ (a.failures ≡ b.failures + 1) → (y.sunk.failures ≡ x.sunk.failures) ⊎ (y.sunk.failures ≡ x.sunk.failures + 1)
@@ -79,12 +79,12 @@ sink_put piece s r answer h = through piece (ungated s) (ungated r) answer refl 
 pub gated_put : (piece : List ℕ) (s r : Sunk) (g h : Gated) (answer : Answer) (passed : Bool) → passed ≡ true → h.bytes ≡ asked passed (length piece) g.bytes → h.turns ≡ g.turns → PiecePut piece s r answer → PieceOut piece (gated s g) (gated r h) answer
 gated_put piece s r g h answer passed p e t put = through piece (gated s g) (gated r h) answer (ap Some (e ∙ ap (λ x. asked x (length piece) g.bytes) p)) (ap Some t) put
 
-refused_cause : (piece : List ℕ) (x y : Output) (t : Option Refusal) → 0 < length piece → y.sunk ≡ x.sunk → Refuses x.bytes 0 y.bytes → IfSome t (λ r. r ≡ was_stopped [])
-    → MatchOption t (PieceLost piece x y) (λ refusal. PieceFails piece piece x y refusal ⊎ PieceRefused piece [] x y refusal)
-refused_cause piece x y None l i q h = record { failures = inl (ap (λ z. z.failures) i); bytes = record { some = 0; others = length piece; all = omega arith; passes = inr q } }
+refused_cause : (piece : List ℕ) (x y : Output) (t : Option Refusal) → 0 < length piece → y.sunk ≡ x.sunk → Refuses x.bytes 0 (length piece) y.bytes → IfSome t (λ r. r ≡ was_stopped [])
+    → MatchOption t (PieceLost piece [] x y) (λ refusal. PieceFails piece piece x y refusal ⊎ PieceRefused piece [] x y refusal)
+refused_cause piece x y None l i q h = record { failures = inl (ap (λ z. z.failures) i); bytes = inr (refl, q) }
 refused_cause piece x y (Some r) l i q h = inr (record { nothing = refl; some_asked = l; failures = ap (λ z. z.failures) i; bytes = q; reason = h })
 
-refused_at : (piece : List ℕ) (x y : Output) (e : Error) → 0 < length piece → y.sunk ≡ x.sunk → y.turns ≡ x.turns → Refuses x.bytes 0 y.bytes → IfSome (told e) (λ r. r ≡ was_stopped []) → PieceOut piece x y (Err e)
+refused_at : (piece : List ℕ) (x y : Output) (e : Error) → 0 < length piece → y.sunk ≡ x.sunk → y.turns ≡ x.turns → Refuses x.bytes 0 (length piece) y.bytes → IfSome (told e) (λ r. r ≡ was_stopped []) → PieceOut piece x y (Err e)
 refused_at piece x y e l i t q h = record {
   taken = record {
     part = [];
@@ -98,15 +98,18 @@ refused_at piece x y e l i t q h = record {
 }
 
 none_first : (p : Passed) → asked false 0 p ≡ asked false 0 (asked true 0 p)
-none_first p = ap (λ n. record { count = n; refusals = p.refusals + 1 }) (sym (and_none p.count))
+none_first p = ap (λ n. record p { count = n; refusals = p.refusals + 1 }) (sym (and_none p.count))
+
+past_first : (p : Passed) (n : ℕ) → IsPast p n → IsPast (asked true 0 p) n
+past_first p n h = subst (λ c. IsPast (record p { count = c }) n) (sym (and_none p.count)) h
 
 refused_any : (n : ℕ) (p : Passed) → asked false n p ≡ asked false 0 p
 refused_any n p = refl
 
-pub gated_refused : (piece : List ℕ) (s : Sunk) (g h : Gated) (e : Error) (passed : Bool) → passed ≡ false → 0 < length piece → h.bytes ≡ asked passed (length piece) g.bytes → h.turns ≡ g.turns → IfSome (told e) (λ r. r ≡ was_stopped [])
+pub gated_refused : (piece : List ℕ) (s : Sunk) (g h : Gated) (e : Error) (passed : Bool) → passed ≡ false → 0 < length piece → h.bytes ≡ asked passed (length piece) g.bytes → (passed ≡ false → IsPast g.bytes (length piece)) → h.turns ≡ g.turns → IfSome (told e) (λ r. r ≡ was_stopped [])
     → PieceOut piece (gated s g) (gated s h) (Err e)
-gated_refused piece s g h e passed p l b t i = refused_at piece (gated s g) (gated s h) e l refl (ap Some t)
-    (ap Some (b ∙ ap (λ x. asked x (length piece) g.bytes) p ∙ refused_any (length piece) g.bytes ∙ none_first g.bytes)) i
+gated_refused piece s g h e passed p l b past t i = refused_at piece (gated s g) (gated s h) e l refl (ap Some t)
+    (ap Some (b ∙ ap (λ x. asked x (length piece) g.bytes) p ∙ refused_any (length piece) g.bytes ∙ none_first g.bytes), past_first g.bytes (length piece) (past p)) i
 
 -- nothing is put if the piece is empty
 pub nothing_put : (piece : List ℕ) (o : Output) (u : Unit {0}) → piece ≡ [] → PieceOut piece o o (Ok u)

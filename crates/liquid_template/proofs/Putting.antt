@@ -1,5 +1,5 @@
 -- The outcome of one piece that is put out.
-use Rattle.std.proofs.Common.{◌≡◌, ℕ, ◌+◌, false, List, [], ◌++◌, length, Option, Some, None, Result, Ok, Err, ◌⊎◌, inl, inr, refl, sym, ap, ◌∙◌}
+use Rattle.std.proofs.Common.{◌≡◌, ℕ, ◌+◌, false, List, [], ◌∷◌, ◌++◌, length, Option, Some, None, Result, Ok, Err, ◌⊎◌, inl, inr, refl, sym, ap, ◌∙◌}
 use Rattle.std.specs.Prelude.{MatchOption}
 use Rattle.std.proofs.lemmas.List.{append-nil}
 use Rattle.liquid_error.specs.declared.error.Error.{Error}
@@ -8,11 +8,11 @@ use Rattle.liquid_error.specs.meaning.Told.{told}
 use Rattle.liquid_runtime.specs.meaning.View.{View}
 use Rattle.liquid_template.specs.meaning.Run.{Step}
 use Rattle.liquid_template.specs.meaning.Actions.{writes}
-use Rattle.liquid_template.specs.meaning.Output.{Output, Passes}
+use Rattle.liquid_template.specs.meaning.Output.{Output, Passes, Refuses}
 use Rattle.liquid_template.specs.meaning.Outcome.{SinkFails, GateRefuses, Cut, Stopped, Outcome, RendersWithin}
 use Rattle.liquid_template.specs.steps.PieceOut.{PieceFails, PieceRefused, Partial, PieceTaken, PieceOut}
 use Rattle.liquid_template.proofs.Joins.{none_and}
-use Rattle.liquid_template.proofs.Passing.{passes_none, all_pass, passes_at, some_at}
+use Rattle.liquid_template.proofs.Passing.{passes_none, passes_at}
 
 turns_same : (b a : Output) → a.turns ≡ b.turns → Passes b.turns 0 a.turns
 turns_same b a e = e ∙ passes_none b.turns
@@ -24,6 +24,7 @@ module _ {Reg : Type 0} where
   put_cause : (piece part rest : List ℕ) (v : View Reg) (b a : Output) (refusal : Refusal) → a.turns ≡ b.turns → PieceFails piece rest b a refusal ⊎ PieceRefused piece part b a refusal
       → SinkFails (put_step piece v) rest 0 0 b a refusal ⊎ GateRefuses (put_step piece v) part 0 0 b a refusal
   put_cause piece part rest v b a refusal e (inl h) = inl (record {
+    no_checkpoint = refl;
     some_left = h.some_left;
     failures = h.failures;
     turns = turns_same b a e;
@@ -37,17 +38,36 @@ module _ {Reg : Type 0} where
     reason = h.reason;
   })
 
+  lost_cut : (piece : List ℕ) (v : View Reg) (b a : Output) (part rest : List ℕ) → a.turns ≡ b.turns → piece ≡ part ++ rest → a.sunk.taken ≡ b.sunk.taken ++ part
+      → (a.sunk.failures ≡ b.sunk.failures) ⊎ (a.sunk.failures ≡ b.sunk.failures + 1) → Passes b.bytes (length piece) a.bytes ⊎ ((part ≡ []) × Refuses b.bytes 0 (length piece) a.bytes) → Cut (writes piece v) b a
+  lost_cut piece v b a part rest e is taken failures (inl q) = record {
+    front = put_step piece v ∷ [];
+    later = [];
+    part = part;
+    rest = rest;
+    steps = refl;
+    pieces_are = append-nil piece ∙ is;
+    taken = taken;
+    failures = failures;
+    turns = inl (turns_same b a e);
+    bytes = inl (passes_at b.bytes a.bytes (length piece) (length (piece ++ [])) (sym (ap length (append-nil piece))) q);
+  }
+  lost_cut piece v b a part rest e is taken failures (inr q) = record {
+    front = [];
+    later = put_step piece v ∷ [];
+    part = part;
+    rest = [];
+    steps = refl;
+    pieces_are = sym (ap (λ t. t ++ []) q.0);
+    taken = taken;
+    failures = failures;
+    turns = inl (turns_same b a e);
+    bytes = inr (length piece, q.1);
+  }
+
   told_put : (t : Option Refusal) (piece : List ℕ) (v : View Reg) (b a : Output) → a.turns ≡ b.turns → Partial piece b a t
       → MatchOption t (Cut (writes piece v) b a) (Stopped (writes piece v) b a v)
-  told_put None piece v b a e p = record {
-    part = p.part;
-    rest = p.rest;
-    pieces_are = append-nil piece ∙ p.is;
-    taken = p.taken;
-    failures = p.cause.failures;
-    turns = all_pass b.turns a.turns 0 0 (turns_same b a e);
-    bytes = some_at b.bytes a.bytes (length piece) (length (piece ++ [])) (sym (ap length (append-nil piece))) p.cause.bytes;
-  }
+  told_put None piece v b a e p = lost_cut piece v b a p.part p.rest e p.is p.taken p.cause.failures p.cause.bytes
   told_put (Some refusal) piece v b a e p = inr (record {
     front = [];
     step = put_step piece v;

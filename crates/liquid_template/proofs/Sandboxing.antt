@@ -4,37 +4,44 @@ use Rattle.liquid_error.specs.declared.error.Error.{Error}
 use Rattle.liquid_error.specs.meaning.Told.{told}
 use Rattle.liquid_runtime.specs.meaning.Maps.{Names}
 use Rattle.liquid_runtime.specs.meaning.View.{View}
+use Rattle.liquid_runtime.specs.meaning.Emptied.{emptied}
 use Rattle.liquid_runtime.specs.meaning.Frames.{sandboxed_frame, Restore, beginning, restored_by, restore_sandboxed, ending}
 use Rattle.liquid_runtime.specs.meaning.OpenFrames.{EndsFirst}
 use Rattle.liquid_plugins.specs.meaning.Discreet.{Discreet}
 use Rattle.liquid_plugins.specs.meaning.Nodes.{Nodes}
 use Rattle.liquid_template.specs.meaning.Nodes.{Setting}
 use Rattle.liquid_template.specs.meaning.Rendering.{template_run, sandboxed_run}
-use Rattle.liquid_template.specs.meaning.Sandboxed.{RendersSandboxed, Untouched}
-use Rattle.liquid_template.specs.meaning.Output.{ungated}
-use Rattle.liquid_template.specs.meaning.Sunk.{Sunk}
-use Rattle.liquid_template.specs.meaning.Outcome.{Renders}
-use Rattle.liquid_template.proofs.Framing.{renders_framed, renders_memory, becomes_itself, without_gate, within_no_gate}
+use Rattle.liquid_template.specs.meaning.Run.{Action}
+use Rattle.liquid_template.specs.meaning.Sandboxed.{HasGlobals, Untouched, run_over_outside}
+use Rattle.liquid_template.specs.meaning.Output.{Output}
+use Rattle.liquid_template.specs.meaning.Outcome.{RendersWithin}
+use Rattle.liquid_template.proofs.Framing.{renders_framed, renders_memory, becomes_itself}
 use Rattle.liquid_template.proofs.Isolation.{isolated}
+
+-- the outcome is that of a run over the outside, and if the outside has globals, also that of its run over the emptied
+-- outside
+pub record SandboxedWithin {Reg : Type 0} (fresh : Reg) (action : Action Reg) (outside : View Reg) (before after : Output) (left : View Reg) (answer : Result (Unit {0}) Error) : Type 0 where
+  pub renders : RendersWithin (action outside) outside before after left answer
+  pub isolated : HasGlobals outside → RendersWithin (run_over_outside outside (action (emptied fresh outside))) outside before after left answer
 
 module _ {Reg F T P B Q : Type 0} (s : Setting Reg F T P B Q) (tl : Discreet s.tags) (bl : Discreet s.blocks) (names : Names) (name : Option (List ℕ)) (ns : Nodes F T B) where
   -- what renders the run over the outside renders that over the emptied outside
-  sandboxed : (v x : View Reg) (b a : Sunk) (answer : Result (Unit {0}) Error) → Renders (sandboxed_run s names name ns v) v b a x answer → RendersSandboxed s.fresh (sandboxed_run s names name ns) v b a x answer
+  sandboxed : (v x : View Reg) (b a : Output) (answer : Result (Unit {0}) Error) → RendersWithin (sandboxed_run s names name ns v) v b a x answer → SandboxedWithin s.fresh (sandboxed_run s names name ns) v b a x answer
   sandboxed v x b a answer r = record {
     renders = r;
-    isolated = λ there. subst (λ q. Renders q v b a x answer) (isolated s tl bl names name ns v there) r;
+    isolated = λ there. subst (λ q. RendersWithin q v b a x answer) (isolated s tl bl names name ns v there) r;
   }
 
-  pub sandboxed_memory : (v : View Reg) (b : Sunk) (e : Error) → told e ≡ None → RendersSandboxed s.fresh (sandboxed_run s names name ns) v b b v (Err e)
-  sandboxed_memory v b e h = sandboxed v v b b (Err e) (without_gate (sandboxed_run s names name ns v) v v b b (Err e) (renders_memory (sandboxed_run s names name ns v) v (ungated b) e h))
+  pub sandboxed_memory : (v : View Reg) (b : Output) (e : Error) → told e ≡ None → SandboxedWithin s.fresh (sandboxed_run s names name ns) v b b v (Err e)
+  sandboxed_memory v b e h = sandboxed v v b b (Err e) (renders_memory (sandboxed_run s names name ns v) v b e h)
 
   -- the name may be given as an owned text
-  pub sandboxed_renders : (own : Option (List ℕ)) (v v1 w x : View Reg) (rs rs1 rs2 rs3 : List (Restore Reg)) (b a : Sunk) (answer : Result (Unit {0}) Error)
-      → own ≡ name → v1 ≡ beginning s.fresh (sandboxed_frame names own) v → rs1 ≡ restored_by (sandboxed_frame names own) v ∷ rs → rs2 ≡ rs1 → EndsFirst rs2 w rs3 x → Renders (template_run s ns v1) v1 b a w answer
-      → RendersSandboxed s.fresh (sandboxed_run s names name ns) v b a x answer
+  pub sandboxed_renders : (own : Option (List ℕ)) (v v1 w x : View Reg) (rs rs1 rs2 rs3 : List (Restore Reg)) (b a : Output) (answer : Result (Unit {0}) Error)
+      → own ≡ name → v1 ≡ beginning s.fresh (sandboxed_frame names own) v → rs1 ≡ restored_by (sandboxed_frame names own) v ∷ rs → rs2 ≡ rs1 → EndsFirst rs2 w rs3 x → RendersWithin (template_run s ns v1) v1 b a w answer
+      → SandboxedWithin s.fresh (sandboxed_run s names name ns) v b a x answer
   sandboxed_renders own v v1 w x rs rs1 rs2 rs3 b a answer e h i j k r =
-      sandboxed v x b a answer (subst (λ n. Renders (sandboxed_run s names n ns v) v b a x answer) e
-      (without_gate (sandboxed_run s names own ns v) v x b a answer (renders_framed s.fresh (sandboxed_frame names own) None (template_run s ns) v v1 w x rs rs1 rs2 rs3 (ungated b) (ungated a) answer answer h i j k (becomes_itself answer) (within_no_gate (template_run s ns v1) v1 w b a answer r))))
+      sandboxed v x b a answer (subst (λ n. RendersWithin (sandboxed_run s names n ns v) v b a x answer) e
+      (renders_framed s.fresh (sandboxed_frame names own) None (template_run s ns) v v1 w x rs rs1 rs2 rs3 b a answer answer h i j k (becomes_itself answer) r))
 
 -- a sandboxed frame gives interrupt and register back when it ends
 module _ {Reg : Type 0} where

@@ -1,6 +1,6 @@
 //! A host's limit on work.
-ghost use Rattle.std.specs.Prelude.{◌≡◌, ◌↔◌, true, ◌+◌, ◌<◌, ◌≤◌};
-ghost use Rattle.liquid_template.specs.meaning.Output.{Gated, gated_by, passed, asked};
+ghost use Rattle.std.specs.Prelude.{◌≡◌, ◌↔◌, true, false, ◌+◌, ◌<◌, ◌≤◌, min, Some};
+ghost use Rattle.liquid_template.specs.meaning.Output.{Gated, IsPast, gated_by, passed, asked};
 
 use crate::history::History;
 use crate::sink::Sink;
@@ -10,18 +10,21 @@ use crate::sink::Sink;
 ///
 /// A host with a clock, or with a flag that a user sets, writes its own gate. `Limits` counts turns and bytes.
 pub trait Gate {
-    // how many turns and bytes it has let pass, and how often it refused
+    // how many turns and bytes it has let pass, how often it refused, and how many it lets pass in all, if that is known
     ghost gated: { Self → Gated };
 
-    /// Called before each turn of a tag or a block. Returns whether the turn may be taken.
+    /// Called before each turn of a tag or a block. Returns whether the turn may be taken. A limit that is known is the
+    /// only reason to refuse.
     fn turn(&mut self) -> bool
         ensures turns { (gated self.new).turns ≡ asked result 1 (gated self.old).turns }
+        ensures past { result ≡ false → IsPast (gated self.old).turns 1 }
         ensures bytes { (gated self.new).bytes ≡ (gated self.old).bytes };
 
     /// Called before a piece of that many bytes, at least one, is put to the sink. Returns whether it may be put. It is
     /// put whole or not at all.
     fn bytes(&mut self, count: u64) -> bool
         ensures bytes { (gated self.new).bytes ≡ asked result count (gated self.old).bytes }
+        ensures past { result ≡ false → IsPast (gated self.old).bytes count }
         ensures turns { (gated self.new).turns ≡ (gated self.old).turns };
 }
 
@@ -80,9 +83,7 @@ pub struct Limits {
 impl Limits {
     /// Lets at most that many turns and bytes pass from now on.
     pub fn new(max_turns: u64, max_bytes: u64) -> Limits
-        ensures none { (⟦<Limits as Gate>⟧.gated result) ≡ gated_by (passed 0 0) (passed 0 0) }
-        ensures turns { result.max_turns ≡ max_turns }
-        ensures bytes { result.max_bytes ≡ max_bytes }
+        ensures none { (⟦<Limits as Gate>⟧.gated result) ≡ gated_by (passed 0 0 (Some max_turns)) (passed 0 0 (Some max_bytes)) }
     {
         Limits {
             max_turns,
@@ -98,30 +99,29 @@ impl Limits {
     pub fn turns_passed(&self) -> u64
         ensures { result ≡ (⟦<Limits as Gate>⟧.gated self.now).turns.count }
     {
-        self.turns
+        self.turns.min(self.max_turns)
     }
 
     /// Returns the number of bytes that have passed.
     pub fn bytes_passed(&self) -> u64
         ensures { result ≡ (⟦<Limits as Gate>⟧.gated self.now).bytes.count }
     {
-        self.bytes
+        self.bytes.min(self.max_bytes)
     }
 }
 
 impl Gate for Limits {
     ghost gated = { λ limits. record {
-      turns = record { count = limits.turns; refusals = limits.turns_refused.failures };
-      bytes = record { count = limits.bytes; refusals = limits.bytes_refused.failures };
+      turns = passed (min limits.turns limits.max_turns) limits.turns_refused.failures (Some limits.max_turns);
+      bytes = passed (min limits.bytes limits.max_bytes) limits.bytes_refused.failures (Some limits.max_bytes);
     } };
 
     /// Lets a turn pass if fewer than the limit have passed.
     fn turn(&mut self) -> bool
-        ensures turns { passed self.new.turns self.new.turns_refused.failures
-            ≡ asked result 1 (passed self.old.turns self.old.turns_refused.failures) }
-        ensures bytes { passed self.new.bytes self.new.bytes_refused.failures ≡ passed self.old.bytes self.old.bytes_refused.failures }
-        ensures passes { (result ≡ true) ↔ (self.old.turns < self.old.max_turns) }
-        ensures limits { (self.new.max_turns ≡ self.old.max_turns) × (self.new.max_bytes ≡ self.old.max_bytes) }
+        ensures turns { (⟦<Limits as Gate>⟧.gated self.new).turns ≡ asked result 1 (⟦<Limits as Gate>⟧.gated self.old).turns }
+        ensures past { result ≡ false → IsPast (⟦<Limits as Gate>⟧.gated self.old).turns 1 }
+        ensures bytes { (⟦<Limits as Gate>⟧.gated self.new).bytes ≡ (⟦<Limits as Gate>⟧.gated self.old).bytes }
+        ensures passes { (result ≡ true) ↔ ((⟦<Limits as Gate>⟧.gated self.old).turns.count < self.old.max_turns) }
     {
         if self.turns < self.max_turns {
             self.turns += 1;
@@ -134,13 +134,13 @@ impl Gate for Limits {
 
     /// Lets bytes pass if no more than the limit have passed with them.
     fn bytes(&mut self, count: u64) -> bool
-        ensures bytes { passed self.new.bytes self.new.bytes_refused.failures
-            ≡ asked result count (passed self.old.bytes self.old.bytes_refused.failures) }
-        ensures turns { passed self.new.turns self.new.turns_refused.failures ≡ passed self.old.turns self.old.turns_refused.failures }
-        ensures passes { (result ≡ true) ↔ (self.old.bytes + count ≤ self.old.max_bytes) }
-        ensures limits { (self.new.max_turns ≡ self.old.max_turns) × (self.new.max_bytes ≡ self.old.max_bytes) }
+        ensures bytes { (⟦<Limits as Gate>⟧.gated self.new).bytes ≡ asked result count (⟦<Limits as Gate>⟧.gated self.old).bytes }
+        ensures past { result ≡ false → IsPast (⟦<Limits as Gate>⟧.gated self.old).bytes count }
+        ensures turns { (⟦<Limits as Gate>⟧.gated self.new).turns ≡ (⟦<Limits as Gate>⟧.gated self.old).turns }
+        ensures passes { (result ≡ true) ↔ ((⟦<Limits as Gate>⟧.gated self.old).bytes.count + count ≤ self.old.max_bytes) }
     {
-        if let Some(left) = self.max_bytes.checked_sub(self.bytes) {
+        let passed = self.bytes_passed();
+        if let Some(left) = self.max_bytes.checked_sub(passed) {
             if count <= left {
                 self.bytes = self.max_bytes - (left - count);
                 return true;

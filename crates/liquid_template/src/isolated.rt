@@ -1,12 +1,16 @@
 //! Rendering templates in isolation.
 ghost use Rattle.std.specs.Prelude.{◌≡◌, option_map};
+ghost use Rattle.liquid_runtime.specs.meaning.Emptied.{emptied};
 ghost use Rattle.liquid_runtime.specs.meaning.Maps.{names_of};
+ghost use Rattle.liquid_template.specs.meaning.Outcome.{RendersWithin};
 ghost use Rattle.liquid_template.specs.meaning.Partials.{partials_of};
 ghost use Rattle.liquid_template.specs.meaning.Rendering.{isolated_run};
 ghost use Rattle.liquid_template.specs.meaning.Runs.{setting};
-ghost use Rattle.liquid_template.specs.meaning.Isolated.{RendersIsolated, OnlyIndexChanges};
+ghost use Rattle.liquid_template.specs.meaning.Isolated.{RendersIsolated, run_given_back, OnlyIndexChanges};
 ghost use Rattle.liquid_template.specs.meaning.TemplateOf.{template_nodes};
+ghost use Rattle.liquid_template.specs.steps.Place.{target, around};
 
+use crate::outlet::{NoGate, Out, Outlet};
 use crate::sandbox::name_text;
 use crate::sink::Sink;
 use crate::store::PartialStore;
@@ -51,6 +55,44 @@ impl<X: Filter, T, B> Template<X, T, B> {
         ensures store { partials_of S.Store.finds (S.store scopes.new) ≡ partials_of S.Store.finds (S.store scopes.old) }
         ensures borrows { S.lent scopes.new ≡ S.lent scopes.old }
     {
+        let mut out: Outlet<K, NoGate> = Outlet::new(sink);
+        let answer = self.render_isolated_out(alloc, &mut out, scopes, data, name);
+        let _sink = out.into_sink();
+        answer
+    }
+
+    /// Renders the template in isolation over these scopes and writes the result, wherever pieces go.
+    pub(crate) fn render_isolated_out<S, O>(
+        &self,
+        alloc: Global,
+        out: &mut O,
+        scopes: &mut S,
+        data: Object,
+        name: Option<&str>,
+    ) -> Result<(), Error>
+    where
+        S: Scopes,
+        T: Renderable<S::Register>,
+        B: Renderable<S::Register>,
+        S::Store: PartialStore<X, T, B>,
+        O: Out,
+        ensures renders { RendersWithin (isolated_run
+            (setting S.Register.fresh X.means T.means B.means (partials_of S.Store.finds (S.store scopes.old)))
+            (names_of «data») (option_map (λ r. r.now) name.entry) (template_nodes X.shape T.shape B.shape self.now)
+            (S.view scopes.old))
+            (S.view scopes.old) (target (O.place out.old)) (target (O.place out.new)) (S.view scopes.new) result }
+        ensures isolated { RendersWithin (run_given_back (S.view scopes.old)
+            (isolated_run
+            (setting S.Register.fresh X.means T.means B.means (partials_of S.Store.finds (S.store scopes.old)))
+            (names_of «data») (option_map (λ r. r.now) name.entry) (template_nodes X.shape T.shape B.shape self.now)
+            (emptied S.Register.fresh (S.view scopes.old))))
+            (S.view scopes.old) (target (O.place out.old)) (target (O.place out.new)) (S.view scopes.new) result }
+        ensures kept { OnlyIndexChanges (S.view scopes.old) (S.view scopes.new) }
+        ensures owes { S.restores scopes.new ≡ S.restores scopes.old }
+        ensures store { partials_of S.Store.finds (S.store scopes.new) ≡ partials_of S.Store.finds (S.store scopes.old) }
+        ensures borrows { S.lent scopes.new ≡ S.lent scopes.old }
+        ensures around { around (O.place out.new) ≡ around (O.place out.old) }
+    {
         let name = match name_text(alloc, name) {
             Ok(name) => name,
             Err(_) => return Err(Error::Memory),
@@ -59,7 +101,7 @@ impl<X: Filter, T, B> Template<X, T, B> {
             Ok(()) => {}
             Err(error) => return Err(error),
         }
-        let answer = self.render_in(alloc, sink, scopes);
+        let answer = self.render_out(alloc, out, scopes);
         scopes.pop();
         answer
     }

@@ -22,6 +22,7 @@ mod text_sink;
 mod trace;
 mod turn;
 mod watched;
+mod within;
 mod writer_sink;
 
 pub use crate::gate::{Gate, GatedSink, Limits};

@@ -3,7 +3,6 @@ ghost use Rattle.std.specs.Prelude.{◌≡◌, string_bytes};
 ghost use Rattle.liquid_error.specs.meaning.Told.{Gives};
 ghost use Rattle.liquid_runtime.specs.meaning.Written.{SameFrames};
 ghost use Rattle.liquid_template.specs.meaning.Outcome.{Left, Renders, RendersWithin};
-ghost use Rattle.liquid_template.specs.meaning.Output.{gated};
 ghost use Rattle.liquid_template.specs.meaning.Partials.{partials_of};
 ghost use Rattle.liquid_template.specs.meaning.Rendering.{template_run};
 ghost use Rattle.liquid_template.specs.meaning.Run.{whole_text};
@@ -12,8 +11,7 @@ ghost use Rattle.liquid_template.specs.meaning.TemplateOf.{template_nodes};
 ghost use Rattle.liquid_template.specs.steps.Place.{target, around};
 
 use crate::cycle::render_list;
-use crate::gate::{Gate, GatedSink};
-use crate::outlet::{NoGate, Out, Outlet, WithGate};
+use crate::outlet::{NoGate, Out, Outlet};
 use crate::sink::Sink;
 use crate::store::PartialStore;
 use crate::template::Template;
@@ -53,7 +51,12 @@ impl<X: Filter, T, B> Template<X, T, B> {
     }
 
     /// Renders the template and writes the result, wherever pieces go.
-    fn render_out<S, O>(&self, alloc: Global, out: &mut O, scopes: &mut S) -> Result<(), Error>
+    pub(crate) fn render_out<S, O>(
+        &self,
+        alloc: Global,
+        out: &mut O,
+        scopes: &mut S,
+    ) -> Result<(), Error>
     where
         S: Scopes,
         T: Renderable<S::Register>,
@@ -96,67 +99,6 @@ impl<X: Filter, T, B> Template<X, T, B> {
         let mut scopes: FlatScopes<&mut R> = FlatScopes::new(alloc, runtime);
         let answer = self.render_in(alloc, sink, &mut scopes);
         let _base = scopes.into_base();
-        answer
-    }
-
-    /// Renders the template in the runtime's view and writes the result, as `render_to` does, as long as the gate lets
-    /// it continue. If the gate does not, the error is "Rendering was stopped".
-    pub fn render_within<R, K, G>(
-        &self,
-        alloc: Global,
-        page: &mut GatedSink<K, G>,
-        runtime: &mut R,
-    ) -> Result<(), Error>
-    where
-        R: Runtime,
-        T: Renderable<R::Register>,
-        B: Renderable<R::Register>,
-        R::Store: PartialStore<X, T, B>,
-        K: Sink,
-        G: Gate,
-        ensures renders { RendersWithin (template_run
-            (setting R.Register.fresh X.means T.means B.means (partials_of R.Store.finds (R.store runtime.old)))
-            (template_nodes X.shape T.shape B.shape self.now) (R.view runtime.old))
-            (R.view runtime.old)
-            (gated (K.sunk page.old.sink) (G.gated page.old.gate)) (gated (K.sunk page.new.sink) (G.gated page.new.gate))
-            (R.view runtime.new) result }
-        ensures owes { R.restores runtime.new ≡ R.restores runtime.old }
-        ensures store { partials_of R.Store.finds (R.store runtime.new) ≡ partials_of R.Store.finds (R.store runtime.old) }
-        ensures borrows { R.lent runtime.new ≡ R.lent runtime.old }
-    {
-        let mut scopes: FlatScopes<&mut R> = FlatScopes::new(alloc, runtime);
-        let answer = self.render_gated(alloc, page, &mut scopes);
-        let _base = scopes.into_base();
-        answer
-    }
-
-    /// Renders the template over these scopes and writes the result, as long as the gate lets it continue.
-    fn render_gated<S, K, G>(
-        &self,
-        alloc: Global,
-        page: &mut GatedSink<K, G>,
-        scopes: &mut S,
-    ) -> Result<(), Error>
-    where
-        S: Scopes,
-        T: Renderable<S::Register>,
-        B: Renderable<S::Register>,
-        S::Store: PartialStore<X, T, B>,
-        K: Sink,
-        G: Gate,
-        ensures renders { RendersWithin (template_run
-            (setting S.Register.fresh X.means T.means B.means (partials_of S.Store.finds (S.store scopes.old)))
-            (template_nodes X.shape T.shape B.shape self.now) (S.view scopes.old))
-            (S.view scopes.old)
-            (gated (K.sunk page.old.sink) (G.gated page.old.gate)) (gated (K.sunk page.new.sink) (G.gated page.new.gate))
-            (S.view scopes.new) result }
-        ensures owes { S.restores scopes.new ≡ S.restores scopes.old }
-        ensures store { partials_of S.Store.finds (S.store scopes.new) ≡ partials_of S.Store.finds (S.store scopes.old) }
-        ensures borrows { S.lent scopes.new ≡ S.lent scopes.old }
-    {
-        let mut out: Outlet<GatedSink<K, G>, WithGate> = Outlet::new(page);
-        let answer = self.render_out(alloc, &mut out, scopes);
-        let _page = out.into_sink();
         answer
     }
 

@@ -1,5 +1,5 @@
 //! Gates that are open as long as a host says so: until a deadline, or until someone cancels.
-ghost use Rattle.std.specs.Prelude.{◌≡◌, ◌+◌};
+ghost use Rattle.std.specs.Prelude.{◌≡◌, ◌+◌, None};
 ghost use Rattle.liquid_template.specs.meaning.Output.{asked, gated_by, passed};
 
 use crate::gate::Gate;
@@ -25,7 +25,7 @@ pub struct Watched<W: Watch> {
 impl<W: Watch> Watched<W> {
     /// Returns a gate with this watch, through which nothing has passed.
     pub fn new(watch: W) -> Watched<W>
-        ensures none { (⟦<Watched<W> as Gate>⟧.gated result) ≡ gated_by (passed 0 0) (passed 0 0) }
+        ensures none { (⟦<Watched<W> as Gate>⟧.gated result) ≡ gated_by (passed 0 0 None) (passed 0 0 None) }
     {
         Watched {
             watch,
@@ -53,8 +53,8 @@ impl<W: Watch> Watched<W> {
 
 impl<W: Watch> Gate for Watched<W> {
     ghost gated = { λ w. record {
-      turns = record { count = w.turns; refusals = w.turns_refused.failures };
-      bytes = record { count = w.bytes; refusals = w.bytes_refused.failures };
+      turns = passed w.turns w.turns_refused.failures None;
+      bytes = passed w.bytes w.bytes_refused.failures None;
     } };
 
     /// Lets a turn pass if the watch is open. A gate also refuses what its counts have no room for.

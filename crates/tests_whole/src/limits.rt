@@ -1,7 +1,8 @@
-//! Limits on turns and on bytes: what is written with each number of either, from none to all that the page takes.
+//! Limits on turns and on bytes: what is written with each number of either, from none to all that the page takes, over
+//! a runtime, in a sandbox and in isolation.
 use crate::pages::error_text;
-use crate::sink_given::{Around, page, runtime};
-use liquid_core::{GatedSink, Limits, TextSink};
+use crate::sink_given::{Around, Page, names, page, runtime};
+use liquid_core::{Error, GatedSink, Limits, TextSink};
 use std::alloc::Global;
 use std::test::Fail;
 use tests_lines::{Line, rows_hold, same};
@@ -20,44 +21,90 @@ const ROWS: &str = r#"["Hello", ["Hello"], ["", "", "", "", "", "Hello"]]
 ["{% swap %}ab{% mid %}{{ 45 }}{% endswap %}", ["", "45", "45ab", "45ab"], ["", "", "45", "45", "45ab"]]
 ["{% inc p %}{{ x }}b", ["", "p7", "p7b"], ["", "p", "p7", "p7b"]]"#;
 
+/// What a page is rendered in.
+#[derive(Clone, Copy)]
+enum Surroundings {
+    Runtime,
+    Sandbox,
+    Isolation,
+}
+
+const ALL: [Surroundings; 3] = [
+    Surroundings::Runtime,
+    Surroundings::Sandbox,
+    Surroundings::Isolation,
+];
+
+/// A number of turns and of bytes.
+#[derive(Clone, Copy)]
+struct Allowed {
+    turns: u64,
+    bytes: u64,
+}
+
+/// Renders a page over the names of the rows.
+fn render(
+    alloc: Global,
+    surroundings: Surroundings,
+    template: &Page,
+    sink: &mut GatedSink<TextSink, Limits>,
+) -> Result<Result<(), Error>, Fail> {
+    let mut around: Around = runtime(alloc)?;
+    Ok(match surroundings {
+        Surroundings::Runtime => template.render_within(alloc, sink, &mut around),
+        Surroundings::Sandbox => {
+            template.render_sandboxed_within(alloc, sink, &mut around, names(alloc)?, None)
+        }
+        Surroundings::Isolation => {
+            template.render_isolated_within(alloc, sink, &mut around, names(alloc)?, None)
+        }
+    })
+}
+
 /// Returns `true` if a page with that many turns and bytes writes this, and is stopped if more would follow.
 fn writes(
     alloc: Global,
+    surroundings: Surroundings,
     template: &str,
-    turns: u64,
-    bytes: u64,
+    allowed: Allowed,
     text: &str,
     whole: bool,
 ) -> Result<bool, Fail> {
     let template = page(alloc, template)?;
-    let mut around: Around = runtime(alloc)?;
-    let mut sink = GatedSink::new(TextSink::new(alloc), Limits::new(turns, bytes));
-    let answer = template.render_within(alloc, &mut sink, &mut around);
+    let gate = Limits::new(allowed.turns, allowed.bytes);
+    let mut sink = GatedSink::new(TextSink::new(alloc), gate);
+    let answer = render(alloc, surroundings, &template, &mut sink)?;
     let told = error_text(alloc, &answer)?;
-    let passed = sink.gate().turns_passed() <= turns && sink.gate().bytes_passed() <= bytes;
+    let passed = sink.gate().turns_passed() <= allowed.turns
+        && sink.gate().bytes_passed() <= allowed.bytes;
     let taken = sink.sink().as_bytes() == text.as_bytes();
     Ok(passed && taken && (told.as_str() == if whole { "" } else { STOPPED }))
 }
 
 /// Returns `true` if the row's texts are written with none, one and so on, of turns or of bytes.
-fn each_is_written(alloc: Global, row: &Line, of_turns: bool) -> Result<bool, Fail> {
+fn each_is_written(
+    alloc: Global,
+    surroundings: Surroundings,
+    row: &Line,
+    of_turns: bool,
+) -> Result<bool, Fail> {
     let texts = row.list(if of_turns { 1 } else { 2 })?;
     for (number, text) in texts.iter().enumerate() {
         let count = u64::try_from(number)?;
-        let (turns, bytes) = if of_turns {
-            (count, MANY)
+        let allowed = if of_turns {
+            Allowed {
+                turns: count,
+                bytes: MANY,
+            }
         } else {
-            (MANY, count)
+            Allowed {
+                turns: MANY,
+                bytes: count,
+            }
         };
         let whole = number.saturating_add(1) == texts.len();
-        if !writes(
-            alloc,
-            row.text(0)?,
-            turns,
-            bytes,
-            text.as_str().unwrap_or(""),
-            whole,
-        )? {
+        let text = text.as_str().unwrap_or("");
+        if !writes(alloc, surroundings, row.text(0)?, allowed, text, whole)? {
             return Ok(false);
         }
     }
@@ -65,7 +112,14 @@ fn each_is_written(alloc: Global, row: &Line, of_turns: bool) -> Result<bool, Fa
 }
 
 fn row_holds(alloc: Global, row: &Line) -> Result<bool, Fail> {
-    Ok(each_is_written(alloc, row, true)? && each_is_written(alloc, row, false)?)
+    for surroundings in &ALL {
+        if !(each_is_written(alloc, *surroundings, row, true)?
+            && each_is_written(alloc, *surroundings, row, false)?)
+        {
+            return Ok(false);
+        }
+    }
+    Ok(true)
 }
 
 #[test]

@@ -8,7 +8,7 @@ use Rattle.liquid_value.specs.meaning.Tree.{Members}
 use Rattle.liquid_runtime.specs.meaning.Maps.{NameMap, Names}
 use Rattle.liquid_partials.specs.meaning.Sources.{Texts}
 use Rattle.liquid_json.specs.meaning.Given.{object_read}
-use Rattle.liquid.specs.meaning.Globals.{global_names}
+use Rattle.liquid_pages.specs.meaning.Globals.{global_names}
 
 -- a file that exists and is UTF-8 is its text
 abbrev pub WithText : Option (Option (List ℕ)) → Type 0 → (List ℕ → Type 0) → Type 0

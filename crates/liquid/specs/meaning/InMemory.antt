@@ -1,16 +1,18 @@
 -- What a run of the program over files in memory shows on its output.
-use Rattle.std.specs.Prelude.{◌≡◌, ℕ, Bool, true, false, ◌⊎◌, List, [], ◌++◌, Option, None, Some, Ok, Err, map, string_bytes, option_map}
+use Rattle.std.specs.Prelude.{◌≡◌, ℕ, ◌⊎◌, List, [], ◌++◌, Option, None, Some, MatchOption, Ok, Err, map, string_bytes, option_map}
 use Rattle.std.specs.BTreeMap.{get_by_text}
 use Rattle.liquid_runtime.specs.meaning.Maps.{Names}
 use Rattle.liquid_parser.specs.meaning.Reading.{Reads}
 use Rattle.liquid_template.specs.meaning.Run.{Run, written}
 use Rattle.liquid_partials.specs.meaning.Sources.{Texts}
 use Rattle.liquid.specs.declared.in_memory.InMemoryFolder.{InMemoryFolder}
-use Rattle.liquid.specs.meaning.Command.{is_command, options_of, paths_of}
+use Rattle.liquid.specs.meaning.Command.{command_of}
 use Rattle.liquid.specs.declared.command.Options.{Options}
 use Rattle.liquid.specs.meaning.Gathered.{Gathers}
-use Rattle.liquid.specs.meaning.Program.{IsFoundIn, first_view, program_action}
-use Rattle.liquid.specs.meaning.ProgramLanguage.{ProgramAnswer, ProgramFound, ProgramNode, program_language}
+use Rattle.liquid_pages.specs.meaning.Pages.{IsFoundIn}
+use Rattle.liquid_pages.specs.meaning.Shown.{page_run}
+use Rattle.liquid.specs.meaning.Program.{page_options}
+use Rattle.liquid.specs.meaning.ProgramLanguage.{ProgramAnswer, ProgramFound, ProgramNode, program_language, setting_over}
 
 -- the bytes of the file at a path
 abbrev pub bytes_at : InMemoryFolder → List ℕ → Option (List ℕ)
@@ -30,7 +32,7 @@ IsBeginning r output = (left : List ℕ) × (written r ≡ output ++ left)
 
 -- the run of the program's templates of these nodes, with these options, over these globals, where a store finds this
 abbrev pub program_run : Options → Names → Option ProgramFound → List ProgramNode → Run (Unit {0})
-program_run options globals found nodes = program_action options.sandboxed found globals nodes (first_view options globals)
+program_run options globals found nodes = page_run setting_over (page_options options) globals found nodes
 
 -- status 0 shows the whole run of the parsed text, status 1 a beginning of it; a text that is refused shows nothing
 abbrev pub ShowsAnswer : (List ProgramNode → Run (Unit {0})) → ProgramAnswer → List ℕ → ℕ → Type 0
@@ -44,7 +46,7 @@ ShowsNothing output status = (output ≡ []) × ((status ≡ 3) ⊎ (status ≡ 
 -- the template's text over the globals, with a store of the partials
 abbrev pub ShowsText : Options → List ℕ → Names → Option Texts → List ℕ → ℕ → Type 0
 ShowsText options text globals partials output status =
-    (answer : ProgramAnswer) → Reads (program_language options.standard) text answer → (found : Option ProgramFound) → IsFoundIn options.standard partials found → ShowsAnswer (program_run options globals found) answer output status
+    (answer : ProgramAnswer) → Reads (program_language options.standard) text answer → (found : Option ProgramFound) → IsFoundIn (program_language options.standard) partials found → ShowsAnswer (program_run options globals found) answer output status
 
 -- what a command shows, by the files at its paths
 abbrev pub ShowsCommand : Options → List (List ℕ) → (List ℕ → Option (List ℕ)) → (List ℕ → Option (List (List ℕ))) → List ℕ → ℕ → Type 0
@@ -54,4 +56,4 @@ ShowsCommand options paths files folders output status =
 -- what the words show, by the files; words that are not a command show nothing
 abbrev pub Shows : List (List ℕ) → (List ℕ → Option (List ℕ)) → (List ℕ → Option (List (List ℕ))) → List ℕ → ℕ → Type 0
 Shows words files folders output status =
-    (is_command words ≡ true → ShowsCommand (options_of words) (paths_of words) files folders output status) × (is_command words ≡ false → (output ≡ []) × (status ≡ 2))
+    MatchOption (command_of words) ((output ≡ []) × (status ≡ 2)) (λ asked. ShowsCommand asked.options asked.paths files folders output status)

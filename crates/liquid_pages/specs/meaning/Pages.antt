@@ -18,6 +18,7 @@ use Rattle.liquid_partials.specs.meaning.Compiled.{Compiled}
 use Rattle.liquid_partials.specs.meaning.Rendered.{RenderedBy}
 use Rattle.liquid_partials.specs.meaning.Sources.{Texts}
 use Rattle.liquid_pages.specs.declared.options.PageOptions.{PageOptions}
+use Rattle.liquid_pages.specs.meaning.Limited.{limited, room_of}
 
 -- the view of a built runtime with these globals, lenient or not, whose register has its first value
 abbrev pub built_over : {Reg : Type 0} → Reg → Bool → Names → View Reg
@@ -51,9 +52,13 @@ abbrev pub first_register : {Reg F T P B Q : Type 0} → Settings Reg F T P B Q 
 first_register s = (s None).fresh
 
 -- the rendering of nodes: in a sandbox, under a frame without a name whose data are the globals
-abbrev pub page_action : {Reg F T P B Q : Type 0} → Settings Reg F T P B Q → Bool → Option (Found F T B) → Names → List (NodeShape F T B) → Action Reg
-page_action s false found globals nodes = template_run (s found) (nodes_from nodes)
-page_action s true found globals nodes = sandboxed_run (s found) globals None (nodes_from nodes)
+abbrev pub nodes_action : {Reg F T P B Q : Type 0} → Settings Reg F T P B Q → Bool → Option (Found F T B) → Names → List (NodeShape F T B) → Action Reg
+nodes_action s false found globals nodes = template_run (s found) (nodes_from nodes)
+nodes_action s true found globals nodes = sandboxed_run (s found) globals None (nodes_from nodes)
+
+-- the same under the limits of the options
+abbrev pub page_action : {Reg F T P B Q : Type 0} → Settings Reg F T P B Q → PageOptions → Option (Found F T B) → Names → List (NodeShape F T B) → Action Reg
+page_action s options found globals nodes = limited (room_of options) (nodes_action s options.sandboxed found globals nodes)
 
 module _ {Reg F T P L B Q : Type 0} (s : Settings Reg F T P B Q) (l : Lang F T L B) (options : PageOptions) where
   -- the parsed text was rendered, with these options, over a built runtime with these globals and a store of these
@@ -61,7 +66,7 @@ module _ {Reg F T P L B Q : Type 0} (s : Settings Reg F T P B Q) (l : Lang F T L
   pub record RendersAnswer (answer : PageAnswer F T B) (globals : Names) (partials : Option Texts) (before after : Sunk) (result : Result (Unit {0}) Error) : Type 0 where
     pub left : View Reg
     pub rendered : (found : Option (Found F T B)) → IsFoundIn l partials found
-        → RenderedBy (page_action s options.sandboxed found globals) answer (first_view (first_register s) options globals) before after left result
+        → RenderedBy (page_action s options found globals) answer (first_view (first_register s) options globals) before after left result
 
   -- the same for what a text is read as in the language
   abbrev pub Renders : List ℕ → Names → Option Texts → Sunk → Sunk → Result (Unit {0}) Error → Type 0

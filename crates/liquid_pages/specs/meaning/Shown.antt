@@ -63,7 +63,7 @@ page_of_answer run_of (Err refusal) = stopped (unparsed refusal)
 
 -- the run of nodes with these options over these names, where a store finds this
 abbrev pub page_run : {Reg F T P B Q : Type 0} → Settings Reg F T P B Q → PageOptions → Names → Option (Found F T B) → List (NodeShape F T B) → Run Reg
-page_run s options names found nodes = page_action s options.sandboxed found names nodes (first_view (first_register s) options names)
+page_run s options names found nodes = page_action s options found names nodes (first_view (first_register s) options names)
 
 module _ {Reg F T P L B Q : Type 0} (s : Settings Reg F T P B Q) (l : Lang F T L B) (options : PageOptions) where
   -- a text over names, with these partials, is rendered as this page

@@ -3,7 +3,7 @@ use Rattle.std.specs.Prelude.{◌≡◌, ℕ, ◌+◌, ◌<◌, ◌⊎◌, List,
 use Rattle.liquid_error.specs.declared.error.Error.{Error}
 use Rattle.liquid_error.specs.meaning.Refusal.{Refusal}
 use Rattle.liquid_error.specs.meaning.Told.{told}
-use Rattle.liquid_template.specs.meaning.Output.{Output, Passes, Refuses, PassesSome}
+use Rattle.liquid_template.specs.meaning.Output.{Output, Passes, Refuses}
 use Rattle.liquid_template.specs.meaning.Pours.{Pours}
 use Rattle.liquid_template.specs.meaning.Outcome.{failed_to_render, was_stopped}
 
@@ -19,13 +19,13 @@ pub record PieceRefused (piece part : List ℕ) (before after : Output) (refusal
   pub nothing : part ≡ []
   pub some_asked : 0 < length piece
   pub failures : after.sunk.failures ≡ before.sunk.failures
-  pub bytes : Refuses before.bytes 0 after.bytes
+  pub bytes : Refuses before.bytes 0 (length piece) after.bytes
   pub reason : refusal ≡ was_stopped []
 
--- there was no memory
-pub record PieceLost (piece : List ℕ) (before after : Output) : Type 0 where
+-- there was no memory: after the piece had passed, or for the error of a piece that the gate refused
+pub record PieceLost (piece part : List ℕ) (before after : Output) : Type 0 where
   pub failures : (after.sunk.failures ≡ before.sunk.failures) ⊎ (after.sunk.failures ≡ before.sunk.failures + 1)
-  pub bytes : PassesSome before.bytes (length piece) after.bytes
+  pub bytes : Passes before.bytes (length piece) after.bytes ⊎ ((part ≡ []) × Refuses before.bytes 0 (length piece) after.bytes)
 
 -- a part was taken, and no more
 pub record Partial (piece : List ℕ) (before after : Output) (told : Option Refusal) : Type 0 where
@@ -33,7 +33,7 @@ pub record Partial (piece : List ℕ) (before after : Output) (told : Option Ref
   pub rest : List ℕ
   pub is : piece ≡ part ++ rest
   pub taken : after.sunk.taken ≡ before.sunk.taken ++ part
-  pub cause : MatchOption told (PieceLost piece before after)
+  pub cause : MatchOption told (PieceLost piece part before after)
       (λ refusal. PieceFails piece rest before after refusal ⊎ PieceRefused piece part before after refusal)
 
 -- all of it was taken

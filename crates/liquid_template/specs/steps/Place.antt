@@ -20,7 +20,7 @@ text_of text = option_map (λ s. string_bytes s) text
 -- a request for n passed, or was refused
 abbrev pub Answers : Option Passed → ℕ → Option Passed → Bool → Type 0
 Answers before n after true = Passes before n after
-Answers before n after false = Refuses before 0 after
+Answers before n after false = Refuses before 0 n after
 
 -- a gate was asked for a turn
 pub record TurnAsked (before after : Output) (answer : Bool) : Type 0 where

@@ -1,3 +1,4 @@
+use Rattle.std.proofs.Common.{refl, Err}
 use Rattle.liquid_template.proofs.Pouring.{pours_refused}
 use Rattle.liquid_partials.proofs.RenderedLemmas.{RenderedBy-read, RenderedBy-refused}
 use Rattle.liquid_partials.proofs.rendering.render_source.Goals as goal
@@ -13,3 +14,9 @@ returns-in-Ok-clause-pours g c = c.render_to.ensures.renders.pours
 
 pub returns-in-Err-clause-pours : goal.returns-in-Err-clause-pours
 returns-in-Err-clause-pours g c = pours_refused _ c.in-Err.error
+
+pub returns-in-Err-clause-untouched : goal.returns-in-Err-clause-untouched
+returns-in-Err-clause-untouched g c = λ refusal reads. refl
+
+pub returns-in-Ok-clause-untouched : goal.returns-in-Ok-clause-untouched
+returns-in-Ok-clause-untouched g c = λ refusal reads. cc (c.in-Ok.ensures.only (Err refusal) reads)

@@ -1,0 +1,125 @@
+/* liquid.h: Liquid templates, rendered by liquid_core.
+ *
+ * A call is a function of its arguments. It keeps nothing between calls, opens no file, prints nothing,
+ * starts no thread and never ends the process. What it allocates, by malloc, realloc and free, is freed
+ * before it returns. It keeps no pointer.
+ *
+ * What the caller owes, since nothing checks it here:
+ *  1. Each pointer is aligned for its type and points to as many items as its count says, which are at most
+ *     PTRDIFF_MAX bytes and stay as they are during the call. With a count of 0 it may be any aligned pointer
+ *     but null; liquid_bytes_of gives one.
+ *  2. out, message and outcome (outcomes) overlap neither one another nor the other arguments, and nobody else
+ *     reads or writes them during the call.
+ *  3. malloc, realloc and free are of one allocator, and align as C asks.
+ *  4. No call is made from a signal handler, nor in the child of a fork of a process with threads.
+ *  5. 1 MB of stack is free, for templates as deep as the limits allow.
+ *  6. The processor has the instructions of x86-64-v2.
+ * What the bytes are is not the caller's to check: any bytes and any options have an outcome.
+ *
+ * Calls may run in several threads at once, each with an out, a message and an outcome of its own.
+ */
+#ifndef LIQUID_H
+#define LIQUID_H
+
+#include <stddef.h>
+#include <stdint.h>
+
+#ifdef __cplusplus
+extern "C" {
+#endif
+
+#define LIQUID_VERSION 1
+
+/* Bytes of the caller's. No zero byte ends them. */
+typedef struct liquid_bytes {
+    const uint8_t *at; /* never null */
+    size_t len;
+} liquid_bytes;
+
+/* A partial, for {% include %} and {% render %}. Of two of one name the later stays. */
+typedef struct liquid_partial {
+    liquid_bytes name;
+    liquid_bytes text;
+} liquid_partial;
+
+/* The options of a page: a sum of these. */
+enum {
+    LIQUID_SANDBOXED = 1, /* the template can't change the globals, which are the data of a sandbox */
+    LIQUID_LENIENT = 2,   /* a name or an index without a value is nil instead of an error */
+    LIQUID_STANDARD = 4   /* the template has the standard filters; else it has none */
+};
+
+typedef struct liquid_page {
+    liquid_bytes text;              /* the template */
+    liquid_bytes globals;           /* a JSON object: its members are the names that the template sees */
+    const liquid_partial *partials; /* never null */
+    size_t partial_count;
+    uint32_t options;
+    /* A page that takes more turns of tags and blocks, or writes more bytes, is stopped: it ends as LIQUID_REFUSED.
+     * 0 is no limit. */
+    uint64_t max_turns;
+    uint64_t max_bytes;
+} liquid_page;
+
+/* The kinds of an outcome. The texts are read in this order, and the first error ends it: the template,
+ * the globals, and the name and the text of each partial; then the template is read, and rendered. */
+enum {
+    LIQUID_OK = 0,         /* the whole page was rendered, and is in out */
+    LIQUID_UNPARSED = 1,   /* the template can't be read: nothing was rendered */
+    LIQUID_REFUSED = 2,    /* rendering ended early: what was rendered before is in out */
+    LIQUID_BAD_JSON = 3,   /* the globals are not JSON */
+    LIQUID_NO_GLOBALS = 4, /* the JSON is not an object of values, as a list, or a number with a fraction */
+    LIQUID_NO_TEXT = 5,    /* a text is not UTF-8: outcome.which says which */
+    LIQUID_NO_MEMORY = 6,  /* malloc or realloc failed */
+    LIQUID_SHORT = 7,      /* the whole page was rendered, but out has room for fewer than needed bytes */
+    LIQUID_NO_OPTIONS = 8  /* the options are no sum of those above: nothing was read */
+};
+
+/* outcome.which, if the kind is LIQUID_NO_TEXT. */
+enum { LIQUID_TEMPLATE = 0, LIQUID_GLOBALS = 1, LIQUID_PARTIAL_NAME = 2, LIQUID_PARTIAL_TEXT = 3 };
+
+typedef struct liquid_outcome {
+    uint32_t kind;
+    uint32_t which;
+    size_t partial;     /* LIQUID_PARTIAL_NAME and LIQUID_PARTIAL_TEXT: the number of the partial, from 0 */
+    size_t line;        /* where the error is, in the text of the template, of a partial or of the JSON, from 1; */
+    size_t column;      /* 0 if it has no place. Columns count characters, and bytes in JSON */
+    size_t needed;      /* how many bytes were rendered */
+    size_t written;     /* how many of them are in out: the smaller of needed and out_len */
+    size_t message_len; /* how many bytes the text of the error has; message has the first of them */
+} liquid_outcome;
+
+/* Renders a page into out, and writes all of *outcome. out[written] and what comes after it stay as they
+ * were. The text of an error has lines, each with a line feed at its end. A call with the same page has the
+ * same outcome, unless memory runs out: after LIQUID_SHORT, needed bytes of room are enough. */
+void liquid_render(const liquid_page *page,
+                   uint8_t *out, size_t out_len,
+                   uint8_t *message, size_t message_len,
+                   liquid_outcome *outcome);
+
+/* Renders the page over each text of globals in turn, as far as there are outcomes; page->globals is passed
+ * over. Each page is rendered into the bytes of out that those before it left, so its bytes begin where the
+ * written bytes of the outcomes before it end. outcomes[i] is that of globals[i], and the outcomes that are
+ * left over stay as they were. message has the text of the last error.
+ * Returns how many pages are whole, and in out. */
+size_t liquid_render_each(const liquid_page *page,
+                          const liquid_bytes *globals, size_t globals_count,
+                          uint8_t *out, size_t out_len,
+                          uint8_t *message, size_t message_len,
+                          liquid_outcome *outcomes, size_t outcome_count);
+
+/* Returns the LIQUID_VERSION that the library was built for. */
+uint32_t liquid_version(void);
+
+/* Returns the bytes at a pointer; none for a null pointer. */
+static inline liquid_bytes liquid_bytes_of(const void *at, size_t len) {
+    liquid_bytes bytes;
+    bytes.at = at ? (const uint8_t *)at : (const uint8_t *)"";
+    bytes.len = at ? len : 0;
+    return bytes;
+}
+
+#ifdef __cplusplus
+}
+#endif
+#endif

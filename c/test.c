@@ -1,0 +1,206 @@
+/* Each promise of liquid.h that a caller can see, as rows. Exits with 0 if all hold.
+ * It is linked with --wrap=malloc,--wrap=realloc,--wrap=free, so that blocks are counted and each growth
+ * can be made to fail. */
+#include "liquid.h"
+#include <assert.h>
+#include <stdio.h>
+#include <stdlib.h>
+#include <string.h>
+
+#define ROOM 64
+
+/* crates/liquid_c/src/page.rt has the same sizes. */
+static_assert(sizeof(liquid_page) == 72, "liquid_page");
+static_assert(sizeof(liquid_partial) == 32, "liquid_partial");
+static_assert(sizeof(liquid_outcome) == 56, "liquid_outcome");
+
+#ifdef __cplusplus
+extern "C" {
+#endif
+void *__real_malloc(size_t size);
+void *__real_realloc(void *block, size_t size);
+void __real_free(void *block);
+void *__wrap_malloc(size_t size);
+void *__wrap_realloc(void *block, size_t size);
+void __wrap_free(void *block);
+#ifdef __cplusplus
+}
+#endif
+
+static long growths, blocks, failing;
+
+void *__wrap_malloc(size_t size) {
+    void *block;
+    if (++growths == failing) return NULL;
+    block = __real_malloc(size);
+    if (block) blocks++;
+    return block;
+}
+
+void *__wrap_realloc(void *block, size_t size) {
+    void *grown;
+    if (++growths == failing) return NULL;
+    grown = __real_realloc(block, size);
+    if (grown && !block) blocks++;
+    return grown;
+}
+
+void __wrap_free(void *block) {
+    if (block) blocks--;
+    __real_free(block);
+}
+
+static int failed;
+
+static void check(int holds, const char *row, const char *what) {
+    if (!holds) {
+        failed++;
+        printf("%s: %s\n", row, what);
+    }
+}
+
+typedef struct {
+    const char *name, *text, *globals;
+    size_t partials;
+    uint32_t options;
+    uint64_t turns, bytes;
+    size_t room;
+    uint32_t kind, which;
+    size_t partial, line, column, needed;
+    const char *written, *message;
+} row_type;
+
+static const row_type rows[] = {
+    {"empty", "", "{}", 0, 0, 0, 0, 0, LIQUID_OK, 0, 0, 0, 0, 0, "", ""},
+    {"a value", "a{{ x }}c", "{\"x\": 7}", 0, 0, 0, 0, ROOM, LIQUID_OK, 0, 0, 0, 0, 3, "a7c", ""},
+    {"no room", "a{{ x }}c", "{\"x\": 7}", 0, 0, 0, 0, 0, LIQUID_SHORT, 0, 0, 0, 0, 3, "", ""},
+    {"little room", "a{{ x }}c", "{\"x\": 7}", 0, 0, 0, 0, 2, LIQUID_SHORT, 0, 0, 0, 0, 3, "a7", ""},
+    {"just enough", "a{{ x }}c", "{\"x\": 7}", 0, 0, 0, 0, 3, LIQUID_OK, 0, 0, 0, 0, 3, "a7c", ""},
+    {"names twice", "{{ x }}", "{\"x\": 1, \"x\": 2}", 0, 0, 0, 0, ROOM, LIQUID_OK, 0, 0, 0, 0, 1, "2", ""},
+    {"unparsed", "a\n{% wrong %}", "{}", 0, 0, 0, 0, ROOM, LIQUID_UNPARSED, 0, 0, 2, 4, 0, "", NULL},
+    {"no such filter", "ab{{ x | append: 1 }}", "{}", 0, 0, 0, 0, ROOM, LIQUID_UNPARSED, 0, 0, 1, 10, 0, "", NULL},
+    {"unknown", "ab{{ x }}", "{}", 0, 0, 0, 0, ROOM, LIQUID_REFUSED, 0, 0, 0, 0, 2, "ab", NULL},
+    {"bad JSON", "{{", "{\"a\": }", 2, 0, 0, 0, ROOM, LIQUID_BAD_JSON, 0, 0, 1, 7, 0, "", NULL},
+    {"a list", "{{", "[1]", 2, 0, 0, 0, ROOM, LIQUID_NO_GLOBALS, 0, 0, 0, 0, 0, "", "liquid: Object cannot be an array.\n"},
+    {"no template", "\xff", "\xff", 2, 0, 0, 0, ROOM, LIQUID_NO_TEXT, LIQUID_TEMPLATE, 0, 0, 0, 0, "", "liquid: the template is not UTF-8\n"},
+    {"no text of JSON", "{{", "\"\xff\"", 2, 0, 0, 0, ROOM, LIQUID_NO_TEXT, LIQUID_GLOBALS, 0, 0, 0, 0, "", "liquid: the text of the globals is not UTF-8\n"},
+    {"no partial", "{{", "{}", 2, 0, 0, 0, ROOM, LIQUID_NO_TEXT, LIQUID_PARTIAL_TEXT, 1, 0, 0, 0, "", "liquid: the text of partial 1 is not UTF-8\n"},
+    {"a partial", "{% include 'a', y: x %}", "{\"x\": 1}", 1, 0, 0, 0, ROOM, LIQUID_OK, 0, 0, 0, 0, 3, "[1]", ""},
+    {"the first of two faults", "{% include 'a', y: 1 %}", "{}", 4, 0, 0, 0, ROOM, LIQUID_NO_TEXT, LIQUID_PARTIAL_TEXT, 1, 0, 0, 0, "", NULL},
+    {"sandboxed", "{% assign x = 2 %}{{ x }}", "{\"x\": 1}", 0, LIQUID_SANDBOXED, 0, 0, ROOM, LIQUID_OK, 0, 0, 0, 0, 1, "1", ""},
+    {"not sandboxed", "{% assign x = 2 %}{{ x }}", "{\"x\": 1}", 0, 0, 0, 0, ROOM, LIQUID_OK, 0, 0, 0, 0, 1, "2", ""},
+    {"lenient", "<{{ no.such.name }}>", "{}", 0, LIQUID_LENIENT, 0, 0, ROOM, LIQUID_OK, 0, 0, 0, 0, 2, "<>", ""},
+    {"standard", "{{ 'a' | upcase }}", "{}", 0, LIQUID_STANDARD, 0, 0, ROOM, LIQUID_OK, 0, 0, 0, 0, 1, "A", ""},
+    {"all options", "{{ a | upcase }}", "{}", 0, 7, 0, 0, ROOM, LIQUID_OK, 0, 0, 0, 0, 0, "", ""},
+    {"no option", "a", "{}", 0, 8, 0, 0, ROOM, LIQUID_NO_OPTIONS, 0, 0, 0, 0, 0, "", ""},
+    {"all bits", "a", "{}", 0, UINT32_MAX, 0, 0, ROOM, LIQUID_NO_OPTIONS, 0, 0, 0, 0, 0, "", ""},
+    {"turns", "{% for i in (1..3) %}{{ i }}{% endfor %}", "{}", 0, 0, 4, 0, ROOM, LIQUID_OK, 0, 0, 0, 0, 3, "123", ""},
+    {"too many turns", "{% for i in (1..3) %}{{ i }}{% endfor %}", "{}", 0, 0, 2, 0, ROOM, LIQUID_REFUSED, 0, 0, 0, 0, 2, "12", NULL},
+    {"bytes", "a{{ 7 }}bc", "{}", 0, 0, 0, 4, ROOM, LIQUID_OK, 0, 0, 0, 0, 4, "a7bc", ""},
+    {"too many bytes", "a{{ 7 }}bc", "{}", 0, LIQUID_SANDBOXED, 0, 3, ROOM, LIQUID_REFUSED, 0, 0, 0, 0, 2, "a7", NULL},
+};
+
+static liquid_bytes of(const char *text) { return liquid_bytes_of(text, strlen(text)); }
+
+static uint8_t out[ROOM], message[256];
+static liquid_outcome got;
+
+static void render(const row_type *row) {
+    liquid_partial partials[4];
+    liquid_page page;
+    size_t i;
+    partials[0].name = of("a"), partials[0].text = of("[{{ y }}]");
+    partials[1].name = of("b"), partials[1].text = of("\x80");
+    partials[2].name = of("a"), partials[2].text = of("({{ y }})");
+    partials[3].name = of("a"), partials[3].text = of("");
+    page.text = of(row->text), page.globals = of(row->globals);
+    page.partials = partials, page.partial_count = row->partials;
+    page.options = row->options, page.max_turns = row->turns, page.max_bytes = row->bytes;
+    memset(out, '#', sizeof out);
+    memset(&got, 0xff, sizeof got);
+    blocks = 0;
+    liquid_render(&page, out, row->room, message, sizeof message, &got);
+    check(blocks == 0, row->name, "a block is left");
+    check(got.written == (got.needed < row->room ? got.needed : row->room), row->name, "written");
+    for (i = got.written; i < sizeof out; i++) check(out[i] == '#', row->name, "a byte after what was written");
+}
+
+static void try_row(const row_type *row) {
+    size_t len = strlen(row->written);
+    render(row);
+    check(got.kind == row->kind, row->name, "kind");
+    check(got.which == row->which, row->name, "which");
+    check(got.partial == row->partial, row->name, "partial");
+    check(got.line == row->line, row->name, "line");
+    check(got.column == row->column, row->name, "column");
+    check(got.needed == row->needed, row->name, "needed");
+    check(got.written == len && !memcmp(out, row->written, len), row->name, "what was written");
+    if (row->message) {
+        len = strlen(row->message);
+        check(got.message_len == len && !memcmp(message, row->message, len), row->name, "message");
+    } else {
+        check(got.message_len > 0 && message[got.message_len - 1] == '\n', row->name, "no message");
+    }
+}
+
+/* Each growth fails in turn: the outcome is LIQUID_NO_MEMORY with a beginning of the page, or the page. */
+static void try_growths(void) {
+    static const row_type row = {"growths", "{% for i in (1..3) %}{% include 'a', y: i %}{% endfor %}{{ x | upcase }}",
+                                 "{\"x\": [1, \"two\"]}", 1, LIQUID_STANDARD, 0, 0, ROOM, 0, 0, 0, 0, 0, 0, "", ""};
+    static const char *whole = "[1][2][3]1TWO";
+    long short_of_memory = 0;
+    for (failing = 1;; failing++) {
+        growths = 0;
+        render(&row);
+        if (growths < failing) break;
+        check(got.kind == LIQUID_NO_MEMORY || got.kind == LIQUID_OK, row.name, "kind");
+        check(got.kind == LIQUID_NO_MEMORY || got.written == strlen(whole), row.name, "the whole page");
+        check(!memcmp(out, whole, got.written), row.name, "a beginning of the page");
+        short_of_memory += got.kind == LIQUID_NO_MEMORY;
+    }
+    check(short_of_memory > 20, row.name, "too few");
+    printf("growths that were made to fail: %ld, pages out of memory: %ld\n", failing - 1, short_of_memory);
+    failing = 0;
+}
+
+/* One template over many globals, with as many outcomes and less room than they want. */
+static void try_each(void) {
+    static const char *name = "each";
+    liquid_partial partials[1];
+    liquid_bytes globals[4];
+    liquid_outcome each[4];
+    liquid_page page;
+    size_t whole;
+    partials[0].name = of("a"), partials[0].text = of("[{{ y }}]");
+    globals[0] = of("{\"x\": 1}"), globals[1] = of("{}"), globals[2] = of("{"), globals[3] = of("{\"x\": \"seven\"}");
+    page.text = of("{% include 'a', y: x %}"), page.globals = of("\xff");
+    page.partials = partials, page.partial_count = 1, page.options = 0;
+    page.max_turns = page.max_bytes = 0;
+    memset(out, '#', sizeof out);
+    memset(each, 0xff, sizeof each);
+    blocks = 0;
+    whole = liquid_render_each(&page, globals, 4, out, 9, message, sizeof message, each, 4);
+    check(blocks == 0, name, "a block is left");
+    check(whole == 1, name, "how many are whole");
+    check(each[0].kind == LIQUID_OK && each[1].kind == LIQUID_REFUSED && each[2].kind == LIQUID_BAD_JSON, name, "kinds");
+    check(each[3].kind == LIQUID_SHORT && each[3].needed == 7 && each[3].written == 6 - each[1].written, name, "short");
+    check(!memcmp(out, "[1]", 3) && out[9] == '#', name, "out");
+    memset(each, 0xff, sizeof each);
+    whole = liquid_render_each(&page, globals, 4, out, sizeof out, message, sizeof message, each, 1);
+    check(whole == 1 && each[0].kind == LIQUID_OK && each[1].kind == UINT32_MAX, name, "fewer outcomes");
+    whole = liquid_render_each(&page, globals, 0, out, sizeof out, message, 0, each, 0);
+    check(whole == 0, name, "no globals");
+    page.options = 8;
+    whole = liquid_render_each(&page, globals, 2, out, sizeof out, message, sizeof message, each, 4);
+    check(whole == 0 && each[0].kind == LIQUID_NO_OPTIONS && each[1].kind == LIQUID_NO_OPTIONS, name, "no options");
+}
+
+int main(void) {
+    size_t i;
+    check(liquid_version() == LIQUID_VERSION, "version", "another");
+    for (i = 0; i < sizeof rows / sizeof rows[0]; i++) try_row(&rows[i]);
+    try_each();
+    try_growths();
+    printf("c: %zu rows, %d failed\n", sizeof rows / sizeof rows[0], failed);
+    return failed != 0;
+}

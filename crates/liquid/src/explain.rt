@@ -1,0 +1,85 @@
+//! What `--explain` adds to a fault.
+
+use crate::command::Command;
+use crate::fault::Fault;
+use crate::folder::{Folder, Why};
+use liquid_pages::{PageFault, globals_of};
+use std::alloc::Global;
+use std::io::Write;
+
+/// How many characters of a line are written.
+const WIDTH: usize = 300;
+
+/// Writes a fault, with long lines cut, and what is known of its cause.
+pub fn explain<F: Folder, E: Write>(
+    alloc: Global,
+    command: &Command<'_>,
+    fault: &Fault<'_>,
+    files: &mut F,
+    err: &mut E,
+) {
+    match format!(in alloc; "{fault}") {
+        Ok(text) => {
+            for line in text.as_str().lines() {
+                write_cut(line, err);
+            }
+        }
+        Err(_) => {
+            let _ = write!(err, "{fault}");
+        }
+    }
+    match fault {
+        Fault::Unreadable(path) => explain_unread(
+            path,
+            command.paths.folder == Some(*path),
+            files,
+            err,
+        ),
+        Fault::UnreadableInFolder(path) => explain_unread(path.as_str(), false, files, err),
+        Fault::BadJson(path) => explain_json(alloc, path, files, err),
+        Fault::NoGlobals(_) => {
+            let _ = writeln!(err, "  in {}", command.paths.globals);
+        }
+        Fault::Refused(error) => if !error.is_memory() {
+            let _ = writeln!(err, "  rendering {}", command.paths.template);
+        },
+        Fault::Usage => {}
+    }
+}
+
+/// Writes a line. Of a long one it writes the first characters, and how many there are more.
+fn write_cut<E: Write>(line: &str, err: &mut E) {
+    let Some((at, _)) = line.char_indices().nth(WIDTH) else {
+        let _ = writeln!(err, "{line}");
+        return;
+    };
+    if let Some((front, rest)) = line.split_at_checked(at) {
+        let _ = writeln!(err, "{front} .. ({} more characters)", rest.chars().count());
+    }
+}
+
+/// Writes why a file or a folder can't be read.
+fn explain_unread<F: Folder, E: Write>(path: &str, is_listed: bool, files: &mut F, err: &mut E) {
+    let why = match files.why(path, is_listed) {
+        Why::NotThere => "there is no such file",
+        Why::Folder => "it is a folder",
+        Why::NoFolder => "it is not a folder",
+        Why::Forbidden => "permission denied",
+        Why::NoText => "it is not UTF-8",
+        Why::Unknown => return,
+    };
+    let _ = writeln!(err, "  {why}");
+}
+
+/// Writes where the text of a file is not JSON.
+fn explain_json<F: Folder, E: Write>(alloc: Global, path: &str, files: &mut F, err: &mut E) {
+    let Ok(bytes) = files.read(alloc, path) else {
+        return;
+    };
+    let Ok(text) = String::from_utf8(bytes) else {
+        return;
+    };
+    if let Err(PageFault::BadJson(error)) = globals_of(alloc, text.as_str()) {
+        let _ = writeln!(err, "  {error}");
+    }
+}

@@ -1,0 +1,112 @@
+-- From how a page ended to what a call leaves with its caller.
+use Rattle.std.proofs.Common.{◌≡◌, ℕ, ◌⊎◌, inl, inr, List, [], ◌++◌, length, min, take, drop, nat_le, Option, None, Some, Result, Ok, Err, if◌then◌else◌, true≢false, refl, sym, subst, ◌∙◌, arith}
+use Rattle.std.specs.Prelude.{MatchOption, IsNone, option_and_then, option_map}
+use Rattle.liquid_error.specs.declared.place.Place.{Place}
+use Rattle.liquid_error.specs.declared.error.Error.{Error}
+use Rattle.liquid_error.specs.meaning.Refusal.{Refusal}
+use Rattle.liquid_error.specs.meaning.Told.{told}
+use Rattle.liquid_pages.specs.declared.fault.PageFault.{PageFault}
+use Rattle.liquid_pages.specs.declared.fault.PageFault.TheVariants as page
+use Rattle.liquid_pages.specs.meaning.Faults.{Fault, no_text, bad_json, no_globals, unparsed, refused, fault_told}
+use Rattle.liquid_pages.specs.meaning.Shown.{Page, Begins, Shows}
+use Rattle.liquid_pages.specs.declared.fault.PageText.{PageText}
+use Rattle.liquid_pages.specs.declared.fault.PageText.TheVariants.{Template, Globals, PartialName, PartialText}
+use Rattle.liquid_c.specs.declared.page.Outcome.{Outcome}
+use Rattle.liquid_c.specs.meaning.Outcomes.{IsPlaced, IsWhere, IsWhich, Leaves, Tells, kind_of}
+
+-- the outcome of a fault, or of memory that ran out
+abbrev pub Ends : Option Fault → Outcome → Type 0
+Ends t o = MatchOption t (o.kind ≡ 6) (λ f. (o.kind ≡ kind_of f) × IsWhere f o)
+
+-- the outcome of a refusal of this kind, or of memory that ran out
+abbrev pub Refuses : ℕ → Option Refusal → Outcome → Type 0
+Refuses k t o = MatchOption t (o.kind ≡ 6) (λ r. (o.kind ≡ k) × IsPlaced r.place o)
+
+pub memory_refuses : (k : ℕ) (t : Option Refusal) (o : Outcome) → IsNone t → o.kind ≡ 6 → Refuses k t o
+memory_refuses k None o none kind = kind
+memory_refuses k (Some r) o none kind = absurd (true≢false none)
+
+pub placed_refuses : (k : ℕ) (t : Option Refusal) (o : Outcome) (place : Option Place) → ¬ (IsNone t) → place ≡ option_and_then (λ r. r.place) t → o.kind ≡ k → IsPlaced place o → Refuses k t o
+placed_refuses k None o place some is kind placed = absurd (some refl)
+placed_refuses k (Some r) o place some is kind placed = (kind, subst (λ p. IsPlaced p o) is placed)
+
+unparsed_told : (t : Option Refusal) (o : Outcome) → Refuses 1 t o → Ends (option_map unparsed t) o
+unparsed_told None o refuses = refuses
+unparsed_told (Some r) o refuses = refuses
+
+refused_told : (t : Option Refusal) (o : Outcome) → Refuses 2 t o → Ends (option_map refused t) o
+refused_told None o refuses = refuses
+refused_told (Some r) o refuses = refuses
+
+no_globals_told : (t : Option Refusal) (o : Outcome) → Refuses 4 t o → Ends (option_map no_globals t) o
+no_globals_told None o refuses = refuses
+no_globals_told (Some r) o refuses = refuses
+
+module _ (fault : PageFault) (error : Error) (o : Outcome) where
+  pub unparsed_ends : fault ≡ page.Unparsed error → Refuses 1 (told error) o → Ends (fault_told fault) o
+  unparsed_ends is refuses = subst (λ f. Ends (fault_told f) o) (sym is) (unparsed_told (told error) o refuses)
+
+  pub refused_ends : fault ≡ page.Refused error → Refuses 2 (told error) o → Ends (fault_told fault) o
+  refused_ends is refuses = subst (λ f. Ends (fault_told f) o) (sym is) (refused_told (told error) o refuses)
+
+  pub no_globals_ends : fault ≡ page.NoGlobals error → Refuses 4 (told error) o → Ends (fault_told fault) o
+  no_globals_ends is refuses = subst (λ f. Ends (fault_told f) o) (sym is) (no_globals_told (told error) o refuses)
+
+-- the same outcome with lengths
+abbrev counted : Outcome → ℕ → ℕ → ℕ → Outcome
+counted o needed written message_len = record o { needed = needed; written = written; message_len = message_len }
+
+placed_counted : (place : Option Place) (o : Outcome) (n w m : ℕ) → IsPlaced place o → IsPlaced place (counted o n w m)
+placed_counted None o n w m is = is
+placed_counted (Some place) o n w m is = is
+
+which_counted : (which : PageText) (o : Outcome) (n w m : ℕ) → IsWhich which o → IsWhich which (counted o n w m)
+which_counted Template o n w m is = is
+which_counted Globals o n w m is = is
+which_counted (PartialName k) o n w m is = is
+which_counted (PartialText k) o n w m is = is
+
+where_counted : (f : Fault) (o : Outcome) (n w m : ℕ) → IsWhere f o → IsWhere f (counted o n w m)
+where_counted (unparsed r) o n w m is = placed_counted r.place o n w m is
+where_counted (refused r) o n w m is = placed_counted r.place o n w m is
+where_counted bad_json o n w m is = is
+where_counted (no_globals r) o n w m is = placed_counted r.place o n w m is
+where_counted (no_text which) o n w m is = (placed_counted None o n w m is.0, which_counted which o n w m is.1)
+
+ends_counted : (t : Option Fault) (o : Outcome) (n w m : ℕ) → Ends t o → Ends t (counted o n w m)
+ends_counted None o n w m is = is
+ends_counted (Some f) o n w m is = (is.0, where_counted f o n w m is.1)
+
+-- memory ran out before anything was rendered
+pub nothing_left : (page : Page) (old new : List ℕ) (o : Outcome) → o.kind ≡ 6 → o.needed ≡ 0 → o.written ≡ 0 → new ≡ old → Leaves page old new o
+nothing_left page old new o kind needed written same =
+    let none : 0 ≡ min 0 (length old) = omega arith in
+    let bytes : new ≡ take 0 [] ++ drop 0 old = same in
+    record { rendered = []; needed = needed; written = written ∙ none; bytes = subst (λ k. new ≡ take k [] ++ drop k old) (sym written) bytes; ends = inl (kind, (page.output, refl)) }
+
+module _ (page : Page) (bytes old new : List ℕ) (o : Outcome) where
+  fault_ends : (t : Option Fault) → MatchOption t (Begins bytes page) (λ f. (bytes ≡ page.output) × (page.fault ≡ Some f)) → Ends t o
+      → ((o.kind ≡ 6) × Begins bytes page) ⊎ ((bytes ≡ page.output) × Tells page.fault (length old) o)
+  fault_ends None begins ends = inl (ends, begins)
+  fault_ends (Some f) shows ends = inr (shows.0, subst (λ t. Tells t (length old) o) (sym shows.1) ends)
+
+-- the bytes that were rendered of a page
+module _ (page : Page) (bytes taken old new : List ℕ) (end : Result (Unit {0}) PageFault) (same : bytes ≡ taken) (shows : Shows page taken end) where
+  all_shown : (done : Unit {0}) → end ≡ Ok done → (bytes ≡ page.output) × (page.fault ≡ None)
+  all_shown done is = subst (λ b. Shows page b (Ok done)) (sym same) (subst (Shows page taken) is shows)
+
+  fault_shown : (fault : PageFault) → end ≡ Err fault → Shows page bytes (Err fault)
+  fault_shown fault is = subst (λ b. Shows page b (Err fault)) (sym same) (subst (Shows page taken) is shows)
+
+  -- all of them
+  pub whole_left : (o : Outcome) (done : Unit {0}) → end ≡ Ok done → o.needed ≡ length bytes → o.written ≡ min (length bytes) (length old) → new ≡ take o.written bytes ++ drop o.written old
+      → o.kind ≡ (if nat_le o.needed (length old) then 0 else 7) → IsPlaced None o → Leaves page old new o
+  whole_left o done is needed written copied kind place =
+      let shown = all_shown done is in
+      record { rendered = bytes; needed = needed; written = written; bytes = copied; ends = inr (shown.0, subst (λ t. Tells t (length old) o) (sym shown.1) (kind, place)) }
+
+  -- those before a fault
+  pub fault_left : (o : Outcome) (n w m : ℕ) (fault : PageFault) → end ≡ Err fault → Ends (fault_told fault) o
+      → n ≡ length bytes → w ≡ min (length bytes) (length old) → new ≡ take w bytes ++ drop w old → Leaves page old new (counted o n w m)
+  fault_left o n w m fault is ends needed written copied =
+      record { rendered = bytes; needed = needed; written = written; bytes = copied; ends = fault_ends page bytes old new (counted o n w m) (fault_told fault) (fault_shown fault is) (ends_counted (fault_told fault) o n w m ends) }

@@ -1,0 +1,3 @@
+pub mod AskedLemmas
+pub mod LeavesLemmas
+pub mod TurnLemmas

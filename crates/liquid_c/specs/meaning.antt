@@ -1,0 +1,4 @@
+pub mod Languages
+pub mod Options
+pub mod Outcomes
+pub mod Turns

@@ -1,0 +1,40 @@
+-- The languages that the options of a page choose from.
+use Rattle.std.specs.Prelude.{ℕ, Bool, true, false, List, None, Result}
+use Rattle.std.specs.FinMap.{empty}
+use Rattle.liquid_error.specs.meaning.Refusal.{Refusal}
+use Rattle.liquid_plugins.specs.meaning.ArgumentsOf.{Arguments}
+use Rattle.liquid_plugins.specs.meaning.Chain.{FilterMeaning}
+use Rattle.liquid_parser.specs.meaning.Lang.{Lang}
+use Rattle.liquid_parser.specs.meaning.Plugins.{registry_of}
+use Rattle.liquid_tags.specs.declared.tags.TagShape.{TagShape}
+use Rattle.liquid_tags.specs.declared.blocks.BlockShape.{BlockShape}
+use Rattle.liquid_tags.specs.declared.block_plugins.PlanShape.{PlanShape}
+use Rattle.liquid_tags.specs.meaning.Languages.{tags_and_blocks}
+use Rattle.liquid_tags.specs.meaning.Library.{library}
+use Rattle.std_filters.specs.declared.call.CallShape.{CallShape}
+use Rattle.std_filters.specs.declared.kinds.StdKind.{StdKind}
+use Rattle.std_filters.specs.declared.plugin.FilterPlugin.{FilterPlugin}
+use Rattle.std_filters.specs.meaning.Calls.{call_made, calls}
+use Rattle.std_filters.specs.meaning.Registered.{standard_filters}
+use Rattle.std_filters.specs.meaning.Standard.{std_sense}
+use Rattle.liquid_pages.specs.declared.options.PageOptions.{PageOptions}
+use Rattle.liquid_pages.specs.meaning.Shown.{ComesTo, NameAndText, Page}
+
+-- what arguments make of a filter, and what a filter does
+abbrev pub filter_made : FilterPlugin StdKind → Arguments → Result (CallShape StdKind) Refusal
+filter_made plugin arguments = call_made std_sense plugin.kind arguments
+
+abbrev pub filter_calls : FilterMeaning (CallShape StdKind)
+filter_calls = calls std_sense
+
+-- the tags and blocks of the library without filters, and with the standard ones
+abbrev pub plain_language : Lang (CallShape StdKind) (TagShape (CallShape StdKind)) PlanShape BlockShape
+plain_language = tags_and_blocks (registry_of filter_made empty)
+
+abbrev pub standard_language : Lang (CallShape StdKind) (TagShape (CallShape StdKind)) PlanShape BlockShape
+standard_language = tags_and_blocks (registry_of filter_made (standard_filters None))
+
+-- the page of these bytes in one of the two languages
+abbrev pub ComesToIn : Bool → PageOptions → List ℕ → List ℕ → List NameAndText → Page → Type 0
+ComesToIn false = ComesTo (library tt filter_calls) plain_language
+ComesToIn true = ComesTo (library tt filter_calls) standard_language

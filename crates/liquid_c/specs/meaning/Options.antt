@@ -1,0 +1,25 @@
+-- The options of a page as C gives them: a number of three bits, and two limits.
+use Rattle.std.specs.Prelude.{ℕ, Bool, Option, None, Some, not, nat_eq, bit_and, if◌then◌else◌}
+use Rattle.liquid_pages.specs.declared.options.PageOptions.{PageOptions}
+use Rattle.liquid_c.specs.declared.page.Page.{Page}
+
+abbrev pub has_bit : ℕ → ℕ → Bool
+has_bit options bit = not (nat_eq (bit_and options bit) 0)
+
+-- 0 is no limit
+abbrev pub limit_of : ℕ → Option ℕ
+limit_of number = if nat_eq number 0 then None else Some number
+
+-- bit 0: sandboxed; bit 1: lenient
+abbrev pub page_options : Page → PageOptions
+page_options asked =
+    record {
+      sandboxed = has_bit asked.options 1;
+      lenient = has_bit asked.options 2;
+      max_turns = limit_of asked.max_turns;
+      max_bytes = limit_of asked.max_bytes;
+    }
+
+-- bit 2: the standard language
+abbrev pub has_standard : ℕ → Bool
+has_standard options = has_bit options 4

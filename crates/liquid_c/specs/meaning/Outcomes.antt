@@ -1,0 +1,69 @@
+-- What a call leaves with its caller: bytes in the caller's memory, and a record that says how the page ended.
+use Rattle.std.specs.Prelude.{◌≡◌, ℕ, ◌<◌, ◌≤◌, min, ◌⊎◌, List, ◌++◌, length, take, drop, nat_le, Option, None, Some, map, if◌then◌else◌, ⊤}
+use Rattle.liquid_error.specs.declared.place.Place.{Place}
+use Rattle.liquid_pages.specs.declared.fault.PageText.{PageText}
+use Rattle.liquid_pages.specs.declared.fault.PageText.TheVariants.{Template, Globals, PartialName, PartialText}
+use Rattle.liquid_pages.specs.meaning.Faults.{Fault, no_text, bad_json, no_globals, unparsed, refused}
+use Rattle.liquid_pages.specs.meaning.Shown.{Page, Begins, bytes_of_partial}
+use Rattle.liquid_c.specs.declared.page.Outcome.{Outcome}
+use Rattle.liquid_c.specs.declared.page.Page.{Page as Asked}
+use Rattle.liquid_c.specs.meaning.Languages.{ComesToIn}
+use Rattle.liquid_c.specs.meaning.Options.{has_standard, page_options}
+
+-- the kinds, by their numbers in the header
+abbrev pub kind_of : Fault → ℕ
+kind_of (unparsed refusal) = 1
+kind_of (refused refusal) = 2
+kind_of bad_json = 3
+kind_of (no_globals refusal) = 4
+kind_of (no_text which) = 5
+
+-- the line and the column of a place, and zeros where there is none
+abbrev pub IsPlaced : Option Place → Outcome → Type 0
+IsPlaced None o = (o.line ≡ 0) × (o.column ≡ 0)
+IsPlaced (Some place) o = (o.line ≡ place.line) × (o.column ≡ place.column)
+
+-- which text of the page: the template, the globals, or the name or the text of the partial of this number
+abbrev pub IsWhich : PageText → Outcome → Type 0
+IsWhich Template o = (o.which ≡ 0) × (o.partial ≡ 0)
+IsWhich Globals o = (o.which ≡ 1) × (o.partial ≡ 0)
+IsWhich (PartialName n) o = (o.which ≡ 2) × (o.partial ≡ n)
+IsWhich (PartialText n) o = (o.which ≡ 3) × (o.partial ≡ n)
+
+-- where a fault is; the place of bad JSON is left open
+abbrev pub IsWhere : Fault → Outcome → Type 0
+IsWhere (unparsed refusal) o = IsPlaced refusal.place o
+IsWhere (refused refusal) o = IsPlaced refusal.place o
+IsWhere bad_json o = ⊤
+IsWhere (no_globals refusal) o = IsPlaced refusal.place o
+IsWhere (no_text which) o = IsPlaced None o × IsWhich which o
+
+-- how a page ended that was rendered into so much room: whole, or too long for it (7); or its fault
+abbrev pub Tells : Option Fault → ℕ → Outcome → Type 0
+Tells None room o = (o.kind ≡ (if nat_le o.needed room then 0 else 7)) × IsPlaced None o
+Tells (Some fault) room o = (o.kind ≡ kind_of fault) × IsWhere fault o
+
+-- memory that held these bytes has the first of what was rendered, as many as it has room for, and then what it held
+pub record Leaves (page : Page) (old new : List ℕ) (o : Outcome) : Type 0 where
+  pub rendered : List ℕ
+  pub needed : o.needed ≡ length rendered
+  pub written : o.written ≡ min (length rendered) (length old)
+  pub bytes : new ≡ take o.written rendered ++ drop o.written old
+  -- what was rendered is the page's output, and the outcome says how it ended; out of memory (6) it is a beginning of it
+  pub ends : ((o.kind ≡ 6) × Begins rendered page) ⊎ ((rendered ≡ page.output) × Tells page.fault (length old) o)
+
+-- options that there are none of are refused (8), and nothing is written
+abbrev pub Unasked : List ℕ → List ℕ → Outcome → Type 0
+Unasked old new o = (o.kind ≡ 8) × ((o.needed ≡ 0) × ((o.written ≡ 0) × (new ≡ old)))
+
+-- what a call leaves of the page that it was asked for, over these globals
+abbrev pub LeavesOver : Asked → List ℕ → List ℕ → List ℕ → Outcome → Type 0
+LeavesOver asked globals old new o =
+    (asked.options < 8 → (page : Page)
+    → ComesToIn (has_standard asked.options) (page_options asked) asked.text.now globals (map bytes_of_partial asked.partials.now) page
+    → Leaves page old new o)
+    × (8 ≤ asked.options → Unasked old new o)
+
+-- the same over the page's own globals
+abbrev pub LeavesAsked : Asked → List ℕ → List ℕ → Outcome → Type 0
+LeavesAsked asked old new o = LeavesOver asked asked.globals.now old new o

@@ -1,0 +1,26 @@
+-- The language that is chosen before a page is rendered, for proofs alone.
+use Rattle.std.specs.Prelude.{◌≡◌, ◌<◌, ◌≤◌, ℕ, true, false}
+use Rattle.std.specs.declared.alloc.Global.{Global}
+use Rattle.std.specs.declared.rc.Rc.{Rc}
+use Rattle.liquid_parser.specs.declared.plugin.language.Language.{Language}
+use Rattle.liquid_tags.specs.declared.block_plugins.Blocks.{Blocks}
+use Rattle.liquid_tags.specs.declared.tag_plugins.Tags.{Tags}
+use Rattle.liquid_tags.specs.meaning.Languages.{meaning_of}
+use Rattle.std_filters.specs.declared.kinds.StdKind.{StdKind}
+use Rattle.std_filters.specs.declared.plugin.FilterPlugin.{FilterPlugin}
+use Rattle.liquid_c.specs.declared.languages.Chosen.{Chosen}
+use Rattle.liquid_c.specs.declared.languages.Chosen.TheVariants as chosen
+use Rattle.liquid_c.specs.meaning.Languages.{filter_made, plain_language, standard_language}
+use Rattle.liquid_c.specs.meaning.Options.{has_standard}
+
+abbrev pub PlainLanguage : Type 0
+PlainLanguage = Rc (Language (FilterPlugin StdKind) Tags Blocks) Global
+
+abbrev pub StandardLanguage : Type 0
+StandardLanguage = Rc (Language (FilterPlugin StdKind) Tags Blocks) Global
+
+abbrev pub IsChosen : ℕ → Chosen → Type 0
+IsChosen options chosen.NoOptions = 8 ≤ options
+IsChosen options chosen.NoMemory = options < 8
+IsChosen options (chosen.Plain l) = (options < 8) × ((has_standard options ≡ false) × (meaning_of filter_made l.value ≡ plain_language))
+IsChosen options (chosen.Standard l) = (options < 8) × ((has_standard options ≡ true) × (meaning_of filter_made l.value ≡ standard_language))

@@ -1,0 +1,92 @@
+//! The language of a page, and how it is rendered, by its options.
+ghost use Rattle.std.specs.Prelude.{◌≡◌, if◌then◌else◌, IfOk, None};
+ghost use Rattle.std.specs.FinMap.{empty};
+ghost use Rattle.liquid_tags.specs.meaning.Languages.{meaning_of};
+ghost use Rattle.std_filters.specs.meaning.Registered.{standard_filters};
+ghost use Rattle.liquid_c.specs.meaning.Languages.{filter_made, plain_language, standard_language};
+ghost use Rattle.liquid_c.specs.meaning.Options.{has_bit, limit_of, page_options};
+ghost use Rattle.liquid_c.specs.steps.Chosen.{IsChosen};
+
+use crate::page::{LENIENT, Page, SANDBOXED, STANDARD};
+use liquid_core::parser::{Language, PluginRegistry};
+use liquid_pages::PageOptions;
+use liquid_tags::{Blocks, Tags, language};
+use std::alloc::{AllocError, Global};
+use std::rc::Rc;
+use std_filters::{FilterPlugin, StdKind, filters};
+
+/// The tags and blocks of `liquid_tags`, without filters.
+pub(crate) type PlainLanguage = Language<FilterPlugin<StdKind>, Tags, Blocks>;
+
+/// The same tags and blocks with the standard filters.
+pub(crate) type StandardLanguage = Language<FilterPlugin<StdKind>, Tags, Blocks>;
+
+/// The language that the options of a page choose.
+#[derive(Drop)]
+pub(crate) enum Chosen {
+    /// There are no such options.
+    NoOptions,
+    /// Memory ran out.
+    NoMemory,
+    Plain(Rc<PlainLanguage>),
+    Standard(Rc<StandardLanguage>),
+}
+
+fn has_bit(options: u32, bit: u32) -> bool
+    ensures { result ≡ has_bit options bit }
+{
+    options & bit != 0
+}
+
+/// Returns the limit of this number, if it is one.
+fn limit_of(number: u64) -> Option<u64>
+    ensures { result ≡ limit_of number }
+{
+    if number == 0 { None } else { Some(number) }
+}
+
+/// Returns how a page of these options is rendered.
+pub(crate) fn page_options(page: &Page<'_>) -> PageOptions
+    ensures { result ≡ page_options page.now }
+{
+    PageOptions {
+        sandboxed: has_bit(page.options, SANDBOXED),
+        lenient: has_bit(page.options, LENIENT),
+        max_turns: limit_of(page.max_turns),
+        max_bytes: limit_of(page.max_bytes),
+    }
+}
+
+/// Returns the language without filters.
+fn plain_language(alloc: Global) -> Result<Rc<PlainLanguage>, AllocError>
+    ensures { IfOk result (λ language. meaning_of filter_made language.value ≡ plain_language) }
+{
+    Ok(Rc::new(alloc, language(alloc, PluginRegistry::new(alloc))?)?)
+}
+
+/// Returns the language with the standard filters.
+fn standard_language(alloc: Global) -> Result<Rc<StandardLanguage>, AllocError>
+    ensures { IfOk result (λ language. meaning_of filter_made language.value ≡ standard_language) }
+{
+    Ok(Rc::new(alloc, language(alloc, filters(alloc, None)?)?)?)
+}
+
+/// Returns the language that these options choose, if there are such options.
+pub(crate) fn choose_language(alloc: Global, options: u32) -> Chosen
+    ensures { IsChosen options result }
+{
+    if STANDARD * 2 <= options {
+        return Chosen::NoOptions;
+    }
+    if has_bit(options, STANDARD) {
+        match standard_language(alloc) {
+            Ok(language) => Chosen::Standard(language),
+            Err(_) => Chosen::NoMemory,
+        }
+    } else {
+        match plain_language(alloc) {
+            Ok(language) => Chosen::Plain(language),
+            Err(_) => Chosen::NoMemory,
+        }
+    }
+}

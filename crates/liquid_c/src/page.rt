@@ -1,0 +1,66 @@
+//! What crosses the border to C.
+
+use liquid_pages::PartialBytes;
+
+// c/test.c has the same sizes of the header's structs.
+const _: () = prove!(size_of::<Page<'static>>() == 72);
+
+const _: () = prove!(size_of::<PartialBytes<'static>>() == 32);
+
+const _: () = prove!(size_of::<Outcome>() == 56);
+
+/// What is rendered, and how.
+#[repr(C)]
+#[derive(Clone, Copy)]
+pub struct Page<'a> {
+    /// The template.
+    pub text: &'a [u8],
+    /// A text of JSON, which is an object.
+    pub globals: &'a [u8],
+    pub partials: &'a [PartialBytes<'a>],
+    /// The sum of `SANDBOXED`, `LENIENT` and `STANDARD`, each at most once.
+    pub options: u32,
+    /// How many turns of tags and blocks the page may take, and how many bytes it may write; 0 if that is not limited.
+    pub max_turns: u64,
+    pub max_bytes: u64,
+}
+
+/// The globals are the data of a sandbox, over a runtime without names.
+pub const SANDBOXED: u32 = 1;
+/// A name or an index without a value is nil instead of an error.
+pub const LENIENT: u32 = 2;
+/// The template has the standard filters, where it has none else.
+pub const STANDARD: u32 = 4;
+
+/// How a page ended.
+#[repr(C)]
+#[derive(Clone, Copy, Debug, PartialEq, Eq)]
+pub struct Outcome {
+    /// The kind, as the header numbers them; 0 if the whole page was rendered and is in `out`.
+    pub kind: u32,
+    /// Which text is not UTF-8: 0 the template, 1 the globals, 2 a partial's name, 3 a partial's text.
+    pub which: u32,
+    /// The number of that partial, from 0.
+    pub partial: usize,
+    /// The line and the column of an error, from 1; 0 if it has no place.
+    pub line: usize,
+    pub column: usize,
+    /// How many bytes were rendered.
+    pub needed: usize,
+    /// How many of them are in `out`.
+    pub written: usize,
+    /// How many bytes the text of the error has. `message` has the first of them.
+    pub message_len: usize,
+}
+
+/// A whole page without a byte.
+pub const EMPTY: Outcome = Outcome {
+    kind: 0,
+    which: 0,
+    partial: 0,
+    line: 0,
+    column: 0,
+    needed: 0,
+    written: 0,
+    message_len: 0,
+};

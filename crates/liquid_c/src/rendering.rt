@@ -1,0 +1,223 @@
+//! Rendering pages into the caller's memory.
+ghost use Rattle.std.specs.Prelude.{◌≡◌, ◌≤◌, ◌++◌, if◌then◌else◌, length, map, min, nat_le, take, drop, MatchOption, None};
+ghost use Rattle.liquid_error.specs.meaning.Told.{told};
+ghost use Rattle.liquid_parser.specs.meaning.Plugins.{language_of};
+ghost use Rattle.liquid_template.specs.meaning.Runs.{setting};
+ghost use Rattle.liquid_pages.specs.meaning.Faults.{fault_told};
+ghost use Rattle.liquid_pages.specs.meaning.Shown.{Page as Shown, ComesTo, Shows, bytes_of_partial};
+ghost use Rattle.liquid_c.specs.meaning.Options.{page_options};
+ghost use Rattle.liquid_c.specs.meaning.Outcomes.{IsPlaced, IsWhere, IsWhich, Leaves, LeavesAsked, LeavesOver, kind_of};
+ghost use Rattle.liquid_c.specs.steps.Chosen.{IsChosen};
+
+use crate::languages::{Chosen, choose_language, page_options};
+use crate::page::{EMPTY, Outcome, Page};
+use liquid_core::parser::{Discreet, Language, ParseBlock, ParseFilter, ParseTag};
+use liquid_core::{Error, Fresh, Place, Sink, TextSink};
+use liquid_pages::{PageFault, PageText, Rendered, render_page};
+use std::alloc::Global;
+use std::rc::Rc;
+
+/// The kinds of an outcome that no fault has.
+const NO_MEMORY: u32 = 6;
+
+const SHORT: u32 = 7;
+
+const NO_OPTIONS: u32 = 8;
+
+/// Renders a page over these globals into `out`, in the language that its options choose, and writes the
+/// text of its error to `message`.
+pub(crate) fn render_over(
+    alloc: Global,
+    chosen: &Chosen,
+    page: &Page<'_>,
+    globals: &[u8],
+    out: &mut [u8],
+    message: &mut [u8],
+) -> Outcome
+    ensures leaves { IsChosen page.now.options chosen.now → LeavesOver page.now globals.now out.old out.new result }
+    ensures room { result.written ≤ length out.old }
+    ensures size { length out.new ≡ length out.old }
+{
+    match chosen {
+        Chosen::NoOptions => Outcome {
+            kind: NO_OPTIONS,
+            ..EMPTY
+        },
+        Chosen::NoMemory => Outcome {
+            kind: NO_MEMORY,
+            ..EMPTY
+        },
+        Chosen::Plain(language) => render_in::<(), _, _, _>(
+            alloc, language, page, globals, out, message,
+        ),
+        Chosen::Standard(language) => render_in::<(), _, _, _>(
+            alloc, language, page, globals, out, message,
+        ),
+    }
+}
+
+/// Renders a page over these globals in this language, over a runtime with a register of type `V`.
+fn render_in<V, F, T, B>(
+    alloc: Global,
+    language: &Rc<Language<F, T, B>>,
+    page: &Page<'_>,
+    globals: &[u8],
+    out: &mut [u8],
+    message: &mut [u8],
+) -> Outcome
+where
+    V: Fresh,
+    F: ParseFilter + Drop,
+    T: ParseTag<F> + Drop,
+    B: ParseBlock<F> + Drop,
+    T::Node: Discreet<V>,
+    B::Node: Discreet<V>,
+    ensures leaves { (shown : Shown) → ComesTo
+        (setting V.fresh F.Filter.means T.Node.means B.Node.means)
+        (language_of F.makes T.gives B.block language.now.value) (page_options page.now) page.now.text.now globals.now
+        (map bytes_of_partial page.now.partials.now) shown
+        → Leaves shown out.old out.new result }
+    ensures room { result.written ≤ length out.old }
+    ensures size { length out.new ≡ length out.old }
+{
+    let options = page_options(page);
+    let rendered = render_page::<V, F, T, B>(
+        alloc,
+        language,
+        options,
+        page.text,
+        globals,
+        page.partials,
+    );
+    finish(alloc, &rendered, out, message)
+}
+
+/// Renders a page into `out`, and writes the text of its error to `message`.
+pub fn render(alloc: Global, page: &Page<'_>, out: &mut [u8], message: &mut [u8]) -> Outcome
+    ensures { LeavesAsked page.now out.old out.new result }
+{
+    let chosen = choose_language(alloc, page.options);
+    render_over(alloc, &chosen, page, page.globals, out, message)
+}
+
+/// Hands out what was rendered, and returns how the page ended.
+fn finish(alloc: Global, rendered: &Rendered, out: &mut [u8], message: &mut [u8]) -> Outcome
+    ensures leaves { (page : Shown) → Shows page (⟦<TextSink as Sink>⟧.sunk rendered.now.output).taken rendered.now.end
+        → Leaves page out.old out.new result }
+    ensures room { result.written ≤ length out.old }
+    ensures size { length out.new ≡ length out.old }
+{
+    let bytes = rendered.output.as_bytes();
+    let needed = bytes.len();
+    let room = out.len();
+    let written = copy_front(bytes, out);
+    match &rendered.end {
+        Ok(()) => Outcome {
+            kind: whole_kind(needed, room),
+            needed,
+            written,
+            ..EMPTY
+        },
+        Err(fault) => {
+            let message_len = write_message(alloc, fault, message);
+            Outcome {
+                needed,
+                written,
+                message_len,
+                ..outcome_of(fault)
+            }
+        }
+    }
+}
+
+/// Returns the kind of a page that was rendered to its end: whether it fits into so much room.
+fn whole_kind(needed: usize, room: usize) -> u32
+    ensures { result ≡ (if nat_le needed room then 0 else 7) }
+{
+    if needed <= room { 0 } else { SHORT }
+}
+
+/// Returns the outcome of a fault: its kind and where it is.
+fn outcome_of(fault: &PageFault) -> Outcome
+    ensures { MatchOption (fault_told fault.now) (result.kind ≡ 6) (λ f. (result.kind ≡ kind_of f) × IsWhere f result) }
+{
+    match fault {
+        PageFault::Unparsed(error) => outcome_of_error(error, 1),
+        PageFault::Refused(error) => outcome_of_error(error, 2),
+        PageFault::BadJson(error) => Outcome {
+            kind: 3,
+            line: error.line(),
+            column: error.column(),
+            ..EMPTY
+        },
+        PageFault::NoGlobals(error) => outcome_of_error(error, 4),
+        PageFault::NoText(text) => outcome_of_text(*text),
+    }
+}
+
+/// Returns the outcome of an error of this kind. Out of memory is a kind of its own.
+fn outcome_of_error(error: &Error, kind: u32) -> Outcome
+    ensures { MatchOption (told error.now) (result.kind ≡ 6) (λ r. (result.kind ≡ kind) × IsPlaced r.place result) }
+{
+    if error.is_memory() {
+        return Outcome {
+            kind: NO_MEMORY,
+            ..EMPTY
+        };
+    }
+    match error.place() {
+        Some(Place { line, column }) => Outcome {
+            kind,
+            line,
+            column,
+            ..EMPTY
+        },
+        None => Outcome { kind, ..EMPTY },
+    }
+}
+
+/// Returns the outcome of a text that is not UTF-8.
+fn outcome_of_text(text: PageText) -> Outcome
+    ensures kind { result.kind ≡ 5 }
+    ensures which { IsWhich text result }
+    ensures place { IsPlaced None result }
+{
+    let (which, partial) = match text {
+        PageText::Template => (0, 0),
+        PageText::Globals => (1, 0),
+        PageText::PartialName(place) => (2, place),
+        PageText::PartialText(place) => (3, place),
+    };
+    Outcome {
+        kind: 5,
+        which,
+        partial,
+        ..EMPTY
+    }
+}
+
+/// Writes the text of a fault, and returns how many bytes it has; 0 if there is no memory for it.
+fn write_message(alloc: Global, fault: &PageFault, message: &mut [u8]) -> usize {
+    match format!(in alloc; "{fault}") {
+        Ok(text) => {
+            copy_front(text.as_bytes(), message);
+            text.len()
+        }
+        Err(_) => 0,
+    }
+}
+
+/// Copies the first bytes of `from`, as many as `to` has room for, and returns how many.
+fn copy_front(from: &[u8], to: &mut [u8]) -> usize
+    ensures count { result ≡ min (length from.now) (length to.old) }
+    ensures copied { to.new ≡ take result from.now ++ drop result to.old }
+{
+    let count = if from.len() < to.len() {
+        from.len()
+    } else {
+        to.len()
+    };
+    let (front, _) = to.split_at_mut(count);
+    front.copy_from_slice(&from[..count]);
+    count
+}

@@ -1,0 +1,82 @@
+//! Rendering as far as limits leave room.
+ghost use Rattle.std.specs.Prelude.{◌≡◌, None};
+ghost use Rattle.liquid_runtime.specs.meaning.Maps.{names_of};
+ghost use Rattle.liquid_template.specs.meaning.Outcome.{Renders};
+ghost use Rattle.liquid_template.specs.meaning.Partials.{partials_of};
+ghost use Rattle.liquid_template.specs.meaning.Rendering.{sandboxed_run, template_run};
+ghost use Rattle.liquid_template.specs.meaning.Runs.{setting};
+ghost use Rattle.liquid_template.specs.meaning.TemplateOf.{template_nodes};
+ghost use Rattle.liquid_pages.specs.meaning.Limited.{limited};
+
+use crate::options::Room;
+use liquid_error::Error;
+use liquid_plugins::{Discreet, Filter, Renderable};
+use liquid_runtime::Runtime;
+use liquid_template::{GatedSink, Limits, PartialStore, Sink, Template};
+use liquid_value::Object;
+use std::alloc::Global;
+
+/// Renders a template in the runtime's view and writes the result, as far as there is room.
+pub(crate) fn render_in_room<X, T, B, R, K>(
+    alloc: Global,
+    room: Option<Room>,
+    template: &Template<X, T, B>,
+    runtime: &mut R,
+    sink: &mut K,
+) -> Result<(), Error>
+where
+    X: Filter,
+    T: Renderable<R::Register>,
+    B: Renderable<R::Register>,
+    R: Runtime,
+    R::Store: PartialStore<X, T, B>,
+    K: Sink,
+    ensures { Renders (limited room (template_run
+        (setting R.Register.fresh X.means T.means B.means (partials_of R.Store.finds (R.store runtime.old)))
+        (template_nodes X.shape T.shape B.shape template.now)) (R.view runtime.old))
+        (R.view runtime.old)
+        (K.sunk sink.old) (K.sunk sink.new) (R.view runtime.new) result }
+{
+    match room {
+        None => template.render_to(alloc, sink, runtime),
+        Some(room) => {
+            let mut page = GatedSink::new(sink, Limits::new(room.turns, room.bytes));
+            let answer = template.render_within(alloc, &mut page, runtime);
+            let _sink = page.into_sink();
+            answer
+        }
+    }
+}
+
+/// Renders a template in a sandbox of these names over the runtime and writes the result, as far as there is room.
+pub(crate) fn render_sandboxed_in_room<X, T, B, R, K>(
+    alloc: Global,
+    room: Option<Room>,
+    template: &Template<X, T, B>,
+    runtime: &mut R,
+    data: Object,
+    sink: &mut K,
+) -> Result<(), Error>
+where
+    X: Filter,
+    T: Discreet<R::Register>,
+    B: Discreet<R::Register>,
+    R: Runtime,
+    R::Store: PartialStore<X, T, B>,
+    K: Sink,
+    ensures { Renders (limited room (sandboxed_run
+        (setting R.Register.fresh X.means T.means B.means (partials_of R.Store.finds (R.store runtime.old)))
+        (names_of «data») None (template_nodes X.shape T.shape B.shape template.now)) (R.view runtime.old))
+        (R.view runtime.old)
+        (K.sunk sink.old) (K.sunk sink.new) (R.view runtime.new) result }
+{
+    match room {
+        None => template.render_sandboxed(alloc, sink, runtime, data, None),
+        Some(room) => {
+            let mut page = GatedSink::new(sink, Limits::new(room.turns, room.bytes));
+            let answer = template.render_sandboxed_within(alloc, &mut page, runtime, data, None);
+            let _sink = page.into_sink();
+            answer
+        }
+    }
+}

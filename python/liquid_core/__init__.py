@@ -1,0 +1,187 @@
+"""Liquid templates.
+
+    >>> import liquid_core
+    >>> liquid_core.render("Hello {{ name }}!", {"name": "rain"})
+    'Hello rain!'
+
+The library of liquid_core is called by ctypes. A call keeps nothing, and calls may run in several threads at
+once: Python's lock is free while a page is rendered.
+"""
+from __future__ import annotations
+
+import ctypes
+import enum
+import json
+import os
+from collections.abc import Mapping
+from pathlib import Path
+from typing import Any, Union
+
+__all__ = ["Kind", "LiquidError", "render"]
+
+_VERSION = 1
+_SANDBOXED, _LENIENT, _STANDARD = 1, 2, 4
+_OK, _SHORT = 0, 7
+_LEAST_ROOM = 1 << 16
+_MESSAGE_ROOM = 1 << 12
+
+Globals = Union[Mapping[str, Any], str, bytes]
+Text = Union[str, bytes]
+
+
+class Kind(enum.IntEnum):
+    """Why a page was not rendered to its end."""
+
+    UNPARSED = 1
+    """The template can't be read."""
+    REFUSED = 2
+    """Rendering ended early."""
+    BAD_JSON = 3
+    """The globals are not JSON."""
+    NO_GLOBALS = 4
+    """The JSON is not an object of values: a list, or a number with a fraction."""
+    NO_TEXT = 5
+    """A text is not UTF-8."""
+    NO_MEMORY = 6
+    """Memory ran out."""
+    NO_OPTIONS = 8
+    """The library doesn't have these options."""
+
+
+class LiquidError(Exception):
+    """A page that was not rendered to its end.
+
+    ``message`` is the text of the error, as the program prints it. ``line`` and ``column`` are from 1, and ``None``
+    if the error has no place. ``rendered`` is what was rendered before it.
+    """
+
+    def __init__(self, message: str, line: int | None, column: int | None, kind: Kind, rendered: str) -> None:
+        super().__init__(message)
+        self.message = message
+        self.line = line
+        self.column = column
+        self.kind = kind
+        self.rendered = rendered
+
+    def __reduce__(self) -> tuple[Any, ...]:
+        return LiquidError, (self.message, self.line, self.column, self.kind, self.rendered)
+
+
+class _Bytes(ctypes.Structure):
+    _fields_ = [("at", ctypes.c_char_p), ("len", ctypes.c_size_t)]
+
+
+class _Partial(ctypes.Structure):
+    _fields_ = [("name", _Bytes), ("text", _Bytes)]
+
+
+class _Page(ctypes.Structure):
+    _fields_ = [
+        ("text", _Bytes),
+        ("globals", _Bytes),
+        ("partials", ctypes.POINTER(_Partial)),
+        ("partial_count", ctypes.c_size_t),
+        ("options", ctypes.c_uint32),
+        ("max_turns", ctypes.c_uint64),
+        ("max_bytes", ctypes.c_uint64),
+    ]
+
+
+class _Outcome(ctypes.Structure):
+    _fields_ = [("kind", ctypes.c_uint32), ("which", ctypes.c_uint32)] + [
+        (name, ctypes.c_size_t) for name in ("partial", "line", "column", "needed", "written", "message_len")
+    ]
+
+
+def _load() -> ctypes.CDLL:
+    path = os.environ.get("LIQUID_CORE_LIBRARY") or Path(__file__).with_name("libliquid.so")
+    library = ctypes.CDLL(os.fspath(path))
+    library.liquid_render.restype = None
+    library.liquid_render.argtypes = [
+        ctypes.POINTER(_Page),
+        ctypes.c_char_p,
+        ctypes.c_size_t,
+        ctypes.c_char_p,
+        ctypes.c_size_t,
+        ctypes.POINTER(_Outcome),
+    ]
+    library.liquid_version.restype = ctypes.c_uint32
+    library.liquid_version.argtypes = []
+    if library.liquid_version() != _VERSION:
+        raise ImportError(f"{path} is of another version than this package")
+    return library
+
+
+_library = _load()
+
+
+def _bytes(text: Text) -> _Bytes:
+    if isinstance(text, str):
+        # a lone surrogate becomes bytes that are not UTF-8, which the library refuses as a text
+        text = text.encode("utf-8", "surrogatepass")
+    elif not isinstance(text, bytes):
+        raise TypeError(f"a text is str or bytes, not {type(text).__name__}")
+    return _Bytes(text, len(text))
+
+
+def _json(names: Globals) -> _Bytes:
+    if isinstance(names, (str, bytes)):
+        return _bytes(names)
+    if not isinstance(names, Mapping):
+        raise TypeError(f"globals are a mapping, or JSON as str or bytes, not {type(names).__name__}")
+    return _bytes(json.dumps(dict(names), ensure_ascii=False, allow_nan=False))
+
+
+def _limit(number: int) -> int:
+    if not 0 <= number < 1 << 64:
+        raise ValueError("a limit is a number from 0 to 2**64 - 1")
+    return number
+
+
+def render(
+    template: Text,
+    globals: Globals,
+    partials: Mapping[str, Text] = {},
+    sandboxed: bool = False,
+    lenient: bool = False,
+    standard: bool = False,
+    max_turns: int = 0,
+    max_bytes: int = 0,
+) -> str:
+    """Renders a template over globals, and returns the page.
+
+    ``globals`` is a mapping, or the JSON of an object. Its values are what JSON has, but for numbers with a
+    fraction. ``partials`` are texts by their names. In a sandbox (``sandboxed``) the template can't change the
+    globals. With ``lenient`` a name without a value is nil instead of an error. With ``standard`` the template
+    has the standard filters. A page that takes more than ``max_turns`` turns of tags and blocks, or writes more
+    than ``max_bytes`` bytes of UTF-8, is stopped; 0 is no limit.
+
+    Raises ``LiquidError`` if the page was not rendered to its end, and ``TypeError`` or ``ValueError`` for
+    globals that are not JSON's.
+    """
+    texts = [_Partial(_bytes(name), _bytes(text)) for name, text in partials.items()]
+    array = (_Partial * max(len(texts), 1))(*texts)
+    options = _SANDBOXED * bool(sandboxed) | _LENIENT * bool(lenient) | _STANDARD * bool(standard)
+    limits = [_limit(it) for it in (max_turns, max_bytes)]
+    page = _Page(_bytes(template), _json(globals), array, len(texts), options, *limits)
+    outcome = _Outcome()
+    # A page that is longer is rendered again, with room for all of it.
+    room, message_room = max(_LEAST_ROOM, 4 * (page.text.len + page.globals.len)), _MESSAGE_ROOM
+    while True:
+        out = ctypes.create_string_buffer(room)
+        message = ctypes.create_string_buffer(message_room)
+        _library.liquid_render(page, out, room, message, message_room, outcome)
+        if outcome.needed <= room and outcome.message_len <= message_room:
+            break
+        room, message_room = max(room, outcome.needed), max(message_room, outcome.message_len)
+    # A page that ended early may end inside a character.
+    rendered = ctypes.string_at(out, outcome.written).decode("utf-8", "strict" if outcome.kind == _OK else "ignore")
+    if outcome.kind == _OK:
+        return rendered
+    raise LiquidError(
+        ctypes.string_at(message, outcome.message_len).decode("utf-8", "replace").rstrip("\n") or "liquid: out of memory",
+        outcome.line or None,
+        outcome.column or None,
+        Kind(outcome.kind),
+        rendered,
+    )
