@@ -2,6 +2,7 @@ pub mod Captures
 pub mod Decrement
 pub mod Isolated
 pub mod Tags
+pub mod CyclesGiven
 pub mod TagPlugins
 pub mod Blocks
 pub mod BlockPlugins

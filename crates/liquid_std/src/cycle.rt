@@ -1,16 +1,24 @@
 //! The tag `cycle`.
 ghost use Rattle.liquid_error.specs.meaning.Told.{Gives};
-ghost use Rattle.liquid_parser.specs.meaning.Handed.{Tokens};
+ghost use Rattle.liquid_parser.specs.meaning.Cursors.{HandsOut, IsToken};
+ghost use Rattle.liquid_parser.specs.meaning.Handed.{Token, Tokens};
 ghost use Rattle.liquid_parser.specs.meaning.Plugins.{AreTokens};
+ghost use Rattle.std_marks.specs.meaning.Cycles.{cycle_of};
+ghost use Rattle.liquid_std.specs.meaning.CyclesGiven.{cycle_given, name_in, named_given, unnamed_given};
 ghost use Rattle.liquid_std.specs.meaning.TagPlugins.{cycle_node_given};
 ghost use Rattle.liquid_std.specs.meaning.Tags.{tag_of};
 
 use crate::tags::StdTag;
 use liquid_error::Error;
-use liquid_parser::TagTokenIter;
+use liquid_parser::{TagToken, TagTokenIter};
 use liquid_plugins::Filter;
 use std::alloc::Global;
-use std_marks::read_cycle::read_cycle;
+use std_conditions::read_values::read_values;
+use std_marks::groups::values_key;
+use std_marks::{Cycle, Group};
+
+/// What separates two values.
+static SEPARATORS: [&str; 1] = [","];
 
 /// Returns the node of a `cycle`.
 pub(crate) fn parse_cycle<X: Filter>(
@@ -21,6 +29,73 @@ pub(crate) fn parse_cycle<X: Filter>(
 {
     match read_cycle(alloc, tokens) {
         Ok(cycle) => Ok(StdTag::Cycle(Box::new(alloc, cycle)?)),
+        Err(error) => Err(error),
+    }
+}
+
+/// Returns the `cycle` that all tokens make: values with commas between them, and before them perhaps a name and a colon.
+///
+/// A value that is missing is an `Err`, "Token expected". So is a token of another kind, "Unexpected token".
+fn read_cycle(alloc: Global, tokens: TagTokenIter<'_>) -> Result<Cycle, Error>
+    ensures { (ts : Tokens) → AreTokens tokens.entry ts → Gives cycle_of result (cycle_given ts) }
+{
+    let mut tokens = tokens;
+    match take_name(&mut tokens) {
+        Some(name) => read_named(alloc, name, tokens),
+        None => read_unnamed(alloc, tokens),
+    }
+}
+
+/// Takes out the first token and the colon after it, and returns that token. Takes out nothing if the second token is
+/// not a colon.
+fn take_name<'a>(tokens: &mut TagTokenIter<'a>) -> Option<TagToken<'a>>
+    ensures { (ts : Tokens) → AreTokens tokens.old ts → HandsOut result tokens.new ts (name_in ts) }
+{
+    let mut behind = *tokens;
+    match behind.next() {
+        Some(name) => match behind.next() {
+            Some(colon) => {
+                if colon.as_str() == ":" {
+                    *tokens = behind;
+                    Some(name)
+                } else {
+                    None
+                }
+            }
+            None => None,
+        },
+        None => None,
+    }
+}
+
+/// Returns the `cycle` of this name, and of the values that all tokens make.
+fn read_named(alloc: Global, name: TagToken<'_>, tokens: TagTokenIter<'_>) -> Result<Cycle, Error>
+    ensures { (t : Token) → IsToken name.entry t → (ts : Tokens) → AreTokens tokens.entry ts → Gives cycle_of result (named_given t ts) }
+{
+    match name.expect_value(alloc)?.into_result(alloc) {
+        Ok(name) => match read_values(alloc, tokens, &SEPARATORS) {
+            Ok(values) => Ok(Cycle {
+                group: Group::Named(name),
+                values,
+            }),
+            Err(error) => Err(error),
+        },
+        Err(error) => Err(error),
+    }
+}
+
+/// Returns the `cycle` of the values that all tokens make.
+fn read_unnamed(alloc: Global, tokens: TagTokenIter<'_>) -> Result<Cycle, Error>
+    ensures { (ts : Tokens) → AreTokens tokens.entry ts → Gives cycle_of result (unnamed_given ts) }
+{
+    match read_values(alloc, tokens, &SEPARATORS) {
+        Ok(values) => {
+            let key = values_key(alloc, values.as_slice())?;
+            Ok(Cycle {
+                group: Group::Unnamed(key),
+                values,
+            })
+        }
         Err(error) => Err(error),
     }
 }

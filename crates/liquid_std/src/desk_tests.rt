@@ -9,7 +9,7 @@ use liquid_partials::render_source;
 use liquid_plugins::PluginRegistry;
 use liquid_runtime::{BuiltRuntime, Fresh, Runtime, RuntimeBuilder};
 use liquid_template::TextSink;
-use std::alloc::Global;
+use std::alloc::{AllocError, Global};
 use std::test::Fail;
 use std_marks::marks::MarksShape;
 use std_marks::{HoldsMarks, Marks};
@@ -47,14 +47,16 @@ impl HoldsMarks for Desk {
 
     ghost keeps = { λ m d. refl };
 
-    ghost remarked = { λ old m. record old { marks = m } };
-
     fn marks(&self) -> &Marks {
         &self.marks
     }
 
-    fn marks_mut(&mut self) -> &mut Marks {
-        &mut self.marks
+    fn move_group(&mut self, alloc: Global, key: String, place: u64) -> Result<(), AllocError> {
+        self.marks.set_place(alloc, key, place)
+    }
+
+    fn keep_last(&mut self, text: String) {
+        self.marks.set_last(text)
     }
 }
 

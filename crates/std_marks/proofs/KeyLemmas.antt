@@ -1,22 +1,22 @@
 -- Each group of `cycle` has a key of its own.
-use Rattle.std.proofs.Common.{◌≡◌, ℕ, ◌+◌, ◌<◌, ◌≤◌, ◌/◌, ◌%◌, ◌^◌, List, [], ◌∷◌, ◌++◌, length, refl, sym, ap, ◌∙◌, arith, append_assoc}
-use Rattle.std.specs.Prelude.{⊤, ⊥}
+use Rattle.std.proofs.Common.{◌≡◌, ℕ, ◌+◌, ◌<◌, ◌%◌, ◌^◌, List, [], ◌∷◌, ◌++◌, length, refl, sym, ap, ◌∙◌, arith, append_assoc}
+use Rattle.std.specs.Prelude.{⊤}
 use Rattle.std.specs.Fmt.{decimal}
 use Rattle.std.proofs.Math.Nat.{mod-lt}
 use Rattle.std.proofs.lemmas.Fmt.{decimal_by_steps, decimal_injective}
-use Rattle.std_marks.specs.laws.Keys.{AreTexts, HasTexts, KeysDiffer}
-use Rattle.std_marks.specs.meaning.Groups.{Sharing, group_key, named, unnamed, with_length, with_lengths}
+use Rattle.std_marks.specs.laws.Keys.{AreTexts, KeysDiffer}
+use Rattle.std_marks.specs.meaning.Groups.{named, unnamed, with_length, with_lengths}
 
-first : List ℕ → ℕ
+abbrev first : List ℕ → ℕ
 first [] = 0
 first (b ∷ bs) = b
 
-rest : List ℕ → List ℕ
+abbrev rest : List ℕ → List ℕ
 rest [] = []
 rest (b ∷ bs) = bs
 
 -- bytes before the colon
-Digits : List ℕ → Type 0
+abbrev Digits : List ℕ → Type 0
 Digits [] = ⊤
 Digits (b ∷ bs) = (b < 58) × Digits bs
 
@@ -63,8 +63,8 @@ not_empty [] xs e = cc
 not_empty (b ∷ ds) xs e = cc
 
 not_named : (ds xs name : List ℕ) → Digits ds → 61 ∷ name ≡ ds ++ 58 ∷ xs → ⊥
-not_named [] xs name is e = let same : 61 ≡ 58 = ap first e in omega (arith, same)
-not_named (b ∷ ds) xs name is e = let same : 61 ≡ b = ap first e in omega (arith, same, is.0)
+not_named [] xs name is e = let same : ◌≡◌ {A = ℕ} 61 58 = ap first e in omega (arith, same)
+not_named (b ∷ ds) xs name is e = let same : ◌≡◌ {A = ℕ} 61 b = ap first e in omega (arith, same, is.0)
 
 same_texts : (ss ts : List (List ℕ)) → AreTexts ss → AreTexts ts → with_lengths ss ≡ with_lengths ts → ss ≡ ts
 same_texts [] [] p q e = refl

@@ -2,5 +2,4 @@ pub mod Marks
 pub mod Held
 pub mod Groups
 pub mod Cycles
-pub mod CyclesGiven
 pub mod Changes

@@ -5,7 +5,7 @@ ghost use Rattle.liquid_runtime.specs.meaning.Written.{SameFrames};
 ghost use Rattle.liquid_plugins.specs.meaning.TurnOf.{turn_of, Leaves, LeavesProgress};
 ghost use Rattle.std_marks.specs.meaning.Changes.{changes};
 
-use crate::holder::{HoldsMarks, keep_last};
+use crate::holder::HoldsMarks;
 use liquid_error::Error;
 use liquid_plugins::Turn;
 use liquid_runtime::{Frame, Runtime};
@@ -35,7 +35,7 @@ pub fn changed_turn<V: HoldsMarks, R: Runtime<Register = V>>(
                 Ok(Turn::End)
             } else {
                 let last = text.clone()?;
-                keep_last(&mut runtime.registers_mut().value, last);
+                runtime.registers_mut().value.keep_last(last);
                 Ok(Turn::Text(text))
             }
         }

@@ -8,7 +8,7 @@ ghost use Rattle.std.specs.Prelude.{string_bytes};
 ghost use Rattle.std_marks.specs.meaning.Cycles.{cycle_of, cycles, next_place, text_at};
 
 use crate::groups::{Group, GroupShape, key_in};
-use crate::holder::{HoldsMarks, move_group};
+use crate::holder::HoldsMarks;
 use liquid_error::Error;
 use liquid_plugins::{Expression, ExpressionMark, ListOf, Meant, Turn};
 use liquid_runtime::Runtime;
@@ -57,7 +57,7 @@ pub fn cycle_turn<V: HoldsMarks, R: Runtime<Register = V>>(
             match text_at(alloc, cycle.values.as_slice(), place, &*runtime) {
                 Ok(text) => {
                     let next = next_place(place, cycle.values.len());
-                    move_group(alloc, &mut runtime.registers_mut().value, key, next)?;
+                    runtime.registers_mut().value.move_group(alloc, key, next)?;
                     Ok(Turn::Text(text))
                 }
                 Err(error) => Err(error),

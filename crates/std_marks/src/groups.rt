@@ -3,7 +3,7 @@ ghost use Rattle.std.specs.Prelude.{◌≡◌, ◌++◌, map, string_bytes, IfOk
 ghost use Rattle.liquid_error.specs.meaning.Told.{told, Gives};
 ghost use Rattle.liquid_value.specs.meaning.View.{view as tree_of};
 ghost use Rattle.liquid_plugins.specs.meaning.ExpressionOf.{expression_of};
-ghost use Rattle.liquid_tags.specs.meaning.Series.{expected};
+ghost use Rattle.std_values.specs.meaning.Errors.{found_error};
 ghost use Rattle.std_marks.specs.meaning.Groups.{displayed, group_key, group_of, key_in, named, named_key, unnamed, with_length};
 
 use liquid_error::Error;
@@ -66,7 +66,7 @@ fn named_key(alloc: Global, value: &Value) -> Result<String, Error>
 
 /// Returns the error for a value that names no group.
 fn name_expected(alloc: Global, value: &Value) -> Error
-    ensures { IfSome (told result) (λ r. r ≡ expected (codes "Group name expected") (tree_of value.now)) }
+    ensures { IfSome (told result) (λ r. r ≡ found_error (codes "Group name expected") (tree_of value.now)) }
 {
     match ValueSource::new(value).to_string(alloc) {
         Ok(source) => Error::with_msg(alloc, "Group name expected").context(

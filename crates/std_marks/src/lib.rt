@@ -8,7 +8,6 @@ pub mod holder;
 pub mod laws;
 pub mod marks;
 pub mod places;
-pub mod read_cycle;
 
 pub use changed::changed_turn;
 pub use cycle::{Cycle, cycle_turn};

@@ -6,7 +6,7 @@ use Rattle.liquid_parser.specs.meaning.Handed.{Tokens, expect_identifier}
 use Rattle.liquid_parser.specs.meaning.Lang.{Filters}
 use Rattle.liquid_tags.specs.meaning.Asked.{alone, next_as}
 use Rattle.liquid_tags.specs.meaning.TagPlugins as library
-use Rattle.std_marks.specs.meaning.CyclesGiven.{cycle_given}
+use Rattle.liquid_std.specs.meaning.CyclesGiven.{cycle_given}
 use Rattle.liquid_std.specs.declared.tags.StdTagShape.{StdTagShape}
 use Rattle.liquid_std.specs.declared.tags.StdTagShape.TheVariants.{Library, Decrement, Echo, Cycle}
 use Rattle.liquid_std.specs.declared.tag_plugins.StdTags.{StdTags}

@@ -1,6 +1,5 @@
 -- The tag `cycle`: the values of a group, one after the other.
-use Rattle.std.specs.Prelude.{ℕ, ◌+◌, List, [], Bool, cond, length, map, Option, None, Some, Result, Ok, Err, slice_get}
-use Rattle.std.specs.Ordering.{lt}
+use Rattle.std.specs.Prelude.{ℕ, ◌+◌, List, [], cond, length, map, nat_lt, Option, None, Some, Result, Ok, Err, slice_get}
 use Rattle.liquid_error.specs.meaning.Refusal.{Refusal, ok_then}
 use Rattle.liquid_value.specs.meaning.Render.{render}
 use Rattle.liquid_runtime.specs.meaning.View.{View}
@@ -31,7 +30,7 @@ text_at v es place = text_of v (slice_get es place)
 
 -- the place after a place, of this many; after the last comes the first
 abbrev pub next_place : ℕ → ℕ → ℕ
-next_place place count = cond (lt (place + 1) count) (place + 1) 0
+next_place place count = cond (nat_lt (place + 1) count) (place + 1) 0
 
 -- the text that comes next in a group, and the marks after it
 abbrev pub next_of : {Reg : Type 0} → View Reg → CycleShape → MarksShape → Result (List ℕ × MarksShape) Refusal

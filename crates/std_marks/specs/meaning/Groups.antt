@@ -9,7 +9,7 @@ use Rattle.liquid_runtime.specs.meaning.View.{View}
 use Rattle.liquid_plugins.specs.meaning.Evaluation.{evaluate}
 use Rattle.liquid_plugins.specs.meaning.Expression.{ExpressionShape, expression_text}
 use Rattle.liquid_plugins.specs.meaning.ExpressionOf.{expression_of}
-use Rattle.liquid_tags.specs.meaning.Series.{expected}
+use Rattle.std_values.specs.meaning.Errors.{found_error}
 use Rattle.std_marks.specs.declared.groups.Group.{Group}
 use Rattle.std_marks.specs.declared.groups.Group.TheVariants as group
 use Rattle.std_marks.specs.declared.groups.GroupShape.{GroupShape}
@@ -44,7 +44,7 @@ group_of (group.Unnamed key) = Unnamed (string_bytes key)
 
 -- the text of a scalar names a group
 abbrev pub group_name : Tree → Result (List ℕ) Refusal
-group_name t = ok_then (ok_or (as_scalar t) (expected (codes "Group name expected") t)) (λ x. Ok (render_scalar x))
+group_name t = ok_then (ok_or (as_scalar t) (found_error (codes "Group name expected") t)) (λ x. Ok (render_scalar x))
 
 abbrev pub named_key : Tree → Result (List ℕ) Refusal
 named_key t = ok_then (group_name t) (λ name. Ok (group_key (named name)))
