@@ -18,6 +18,7 @@ use Rattle.liquid_partials.specs.meaning.Rendered.{RenderedBy}
 use Rattle.liquid_partials.specs.meaning.Sources.{Texts}
 use Rattle.liquid_partials.proofs.RenderedLemmas.{RenderedBy-refused}
 use Rattle.liquid_partials.proofs.StoreLemmas.{one_store}
+use Rattle.liquid_pages.specs.declared.options.PageFrame.{PageFrame}
 use Rattle.liquid_pages.specs.declared.options.PageOptions.{PageOptions}
 use Rattle.liquid_pages.specs.declared.options.Room.{Room}
 use Rattle.liquid_pages.specs.meaning.Limited.{limited, room_of}
@@ -32,19 +33,19 @@ module _ {Reg F T P L B Q : Type 0} (s : Settings Reg F T P B Q) (l : Lang F T L
   one_found (Some texts) (Some found) (Some other) is also = ap Some (sym (one_store l texts found other is also))
 
   -- what the runtime's store finds, and the view of a built runtime
-  pub answer_over : (options : PageOptions) (sandboxed : Bool) (room : Option Room) (nodes : List (NodeShape F T B)) (stored found : Option (Found F T B)) (v left : View Reg) (names : Names) (partials : Option Texts) (before after : Sunk) (result : Result (Unit {0}) Error)
-      → options.sandboxed ≡ sandboxed → room ≡ room_of options
-      → RendersRun (limited room (nodes_action s sandboxed stored names nodes) v) v before after left result
-      → stored ≡ found → v ≡ built_over (first_register s) options.lenient (runtime_names sandboxed names) → IsFoundIn l partials found
+  pub answer_over : (options : PageOptions) (frame : PageFrame) (room : Option Room) (nodes : List (NodeShape F T B)) (stored found : Option (Found F T B)) (v left : View Reg) (names : Names) (partials : Option Texts) (before after : Sunk) (result : Result (Unit {0}) Error)
+      → options.frame ≡ frame → room ≡ room_of options
+      → RendersRun (limited room (nodes_action s frame stored names nodes) v) v before after left result
+      → stored ≡ found → v ≡ built_over (first_register s) options.lenient (runtime_names frame names) → IsFoundIn l partials found
       → RendersAnswer s l options (Ok nodes) names partials before after result
-  answer_over options sandboxed room nodes stored found v left names partials before after result is same_room given same_stored same_v is_found =
+  answer_over options frame room nodes stored found v left names partials before after result is same_room given same_stored same_v is_found =
       record {
         left = left;
         rendered = λ other is_other.
             subst (λ w. RendersRun (page_action s options other names nodes w) w before after left result) (same_v ∙ ap (λ b. built_over (first_register s) options.lenient (runtime_names b names)) (sym is))
             (subst (λ b. RendersRun (limited (room_of options) (nodes_action s b other names nodes) v) v before after left result) (sym is)
-            (subst (λ t. RendersRun (limited (room_of options) (nodes_action s sandboxed t names nodes) v) v before after left result) (same_stored ∙ one_found partials found other is_found is_other)
-            (subst (λ m. RendersRun (limited m (nodes_action s sandboxed stored names nodes) v) v before after left result) same_room given)));
+            (subst (λ t. RendersRun (limited (room_of options) (nodes_action s frame t names nodes) v) v before after left result) (same_stored ∙ one_found partials found other is_found is_other)
+            (subst (λ m. RendersRun (limited m (nodes_action s frame stored names nodes) v) v before after left result) same_room given)));
       }
 
   -- a result that is these nodes

@@ -15,6 +15,6 @@ mod within;
 pub use fault::{PageFault, PageText};
 pub use gather::PartialBytes;
 pub use globals::globals_of;
-pub use options::PageOptions;
+pub use options::{PageFrame, PageOptions};
 pub use page::{Rendered, render_page};
 pub use rendering::{PageTemplate, read_template, render_template, render_text};

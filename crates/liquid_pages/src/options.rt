@@ -2,15 +2,26 @@
 ghost use Rattle.std.specs.Prelude.{◌≡◌};
 ghost use Rattle.liquid_pages.specs.meaning.Limited.{room_of};
 
-/// Whether the globals are the data of a sandbox, over a runtime without names; whether a name or an index without a
-/// value is nil instead of an error; and how many turns of tags and blocks the page may take and how many bytes it may
-/// write, if that is limited.
+/// Where the globals of a page are, and where what its template assigns goes.
+#[derive(Clone, Copy, Debug, PartialEq, Eq)]
+pub enum PageFrame {
+    /// The runtime has the globals. What the template assigns is over them.
+    Open,
+    /// The globals are the data of a sandbox over a runtime without names. The template doesn't see what it assigns.
+    Sandboxed,
+    /// The globals are the data of an isolated frame over a runtime without names. What the template assigns is seen by
+    /// it, and ends with the page.
+    Isolated,
+}
+
+/// Where the globals are; whether a name or an index without a value is nil instead of an error; and how many turns of
+/// tags and blocks the page may take and how many bytes it may write, if that is limited.
 ///
 /// At the first turn past its limit, or the first piece of text that is not whole within its limit, rendering ends with
 /// the error "Rendering was stopped". If only one of the two is limited, the limit of the other is `u64::MAX`.
 #[derive(Clone, Copy, Debug, PartialEq, Eq)]
 pub struct PageOptions {
-    pub sandboxed: bool,
+    pub frame: PageFrame,
     pub lenient: bool,
     pub max_turns: Option<u64>,
     pub max_bytes: Option<u64>,

@@ -10,8 +10,8 @@ ghost use Rattle.liquid_template.specs.meaning.Runs.{setting};
 ghost use Rattle.liquid_template.specs.meaning.TemplateOf.{own_nodes};
 ghost use Rattle.liquid_pages.specs.meaning.Pages.{built_over, IsFoundIn, PageAnswer, Renders, RendersAnswer};
 
-use crate::options::{PageOptions, room_of};
-use crate::within::{render_in_room, render_sandboxed_in_room};
+use crate::options::{PageFrame, PageOptions, room_of};
+use crate::within::{render_in_room, render_isolated_in_room, render_sandboxed_in_room};
 use liquid_error::Error;
 use liquid_parser::{Language, ParseBlock, ParseTag, parse};
 use liquid_partials::{LazyCompiler, LazyStore, PartialCompiler, PartialSource};
@@ -121,22 +121,34 @@ where
 {
     let room = room_of(options);
     match store_of(alloc, language, partials) {
-        Ok(store) => if options.sandboxed {
-            let mut runtime: PageRuntime<V, S, F, T, B> = runtime_of(
-                alloc,
-                options.lenient,
-                no_names(alloc),
-                store,
-            );
-            render_sandboxed_in_room(alloc, room, template, &mut runtime, globals, sink)
-        } else {
-            let mut runtime: PageRuntime<V, S, F, T, B> = runtime_of(
-                alloc,
-                options.lenient,
-                globals,
-                store,
-            );
-            render_in_room(alloc, room, template, &mut runtime, sink)
+        Ok(store) => match options.frame {
+            PageFrame::Open => {
+                let mut runtime: PageRuntime<V, S, F, T, B> = runtime_of(
+                    alloc,
+                    options.lenient,
+                    globals,
+                    store,
+                );
+                render_in_room(alloc, room, template, &mut runtime, sink)
+            }
+            PageFrame::Sandboxed => {
+                let mut runtime: PageRuntime<V, S, F, T, B> = runtime_of(
+                    alloc,
+                    options.lenient,
+                    no_names(alloc),
+                    store,
+                );
+                render_sandboxed_in_room(alloc, room, template, &mut runtime, globals, sink)
+            }
+            PageFrame::Isolated => {
+                let mut runtime: PageRuntime<V, S, F, T, B> = runtime_of(
+                    alloc,
+                    options.lenient,
+                    no_names(alloc),
+                    store,
+                );
+                render_isolated_in_room(alloc, room, template, &mut runtime, globals, sink)
+            }
         },
         Err(_) => Err(Error::Memory),
     }

@@ -1,7 +1,7 @@
 //! Pages from bytes: their results, and which fault comes first.
 use crate::fault::{PageFault, PageText};
 use crate::gather::PartialBytes;
-use crate::options::PageOptions;
+use crate::options::{PageFrame, PageOptions};
 use crate::page::{Rendered, render_page};
 use liquid_parser::{Language, NoPlugin};
 use liquid_plugins::PluginRegistry;
@@ -134,7 +134,11 @@ static ROWS: [Row<'static>; 13] = [
 fn is_shown(alloc: Global, language: &Rc<PlainLanguage>, row: &Row<'_>) -> bool {
     let (text, globals, first_text, second_name, lenient, end, output) = *row;
     let options = PageOptions {
-        sandboxed: lenient,
+        frame: if lenient {
+            PageFrame::Sandboxed
+        } else {
+            PageFrame::Open
+        },
         lenient,
         max_turns: None,
         max_bytes: None,

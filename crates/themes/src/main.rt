@@ -7,7 +7,7 @@ mod theme;
 
 use fault::Fault;
 use liquid_core::parser::Language;
-use liquid_pages::{PageOptions, Rendered, render_page};
+use liquid_pages::{PageFrame, PageOptions, Rendered, render_page};
 use liquid_std::{StdBlocks, StdTags, language};
 use std::alloc::Global;
 use std::env;
@@ -31,8 +31,10 @@ fn standard(alloc: Global) -> Result<Rc<StdLanguage>, Fault> {
 fn render(alloc: Global, language: &Rc<StdLanguage>, theme: &Theme) -> Result<Rendered, Fault> {
     let partials = partials_of(alloc, theme)?;
     let options = PageOptions {
-        sandboxed: false,
+        frame: PageFrame::Open,
         lenient: true,
+        max_turns: None,
+        max_bytes: None,
     };
     let (page, data) = (theme.page.as_slice(), theme.data.as_slice());
     Ok(render_page::<Marks, _, _, _>(alloc, language, options, page, data, partials.as_slice()))

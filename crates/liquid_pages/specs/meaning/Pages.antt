@@ -1,5 +1,5 @@
 -- The result of rendering a page: a text in a language, over globals, with or without partials.
-use Rattle.std.specs.Prelude.{◌≡◌, ℕ, Bool, true, false, List, Option, None, Some, Result, Ok, Err}
+use Rattle.std.specs.Prelude.{◌≡◌, ℕ, Bool, List, Option, None, Some, Result, Ok, Err}
 use Rattle.std.specs.FinMap.{empty}
 use Rattle.liquid_error.specs.declared.error.Error.{Error}
 use Rattle.liquid_error.specs.meaning.Refusal.{Refusal}
@@ -12,11 +12,13 @@ use Rattle.liquid_parser.specs.meaning.Reading.{Reads}
 use Rattle.liquid_template.specs.meaning.Nodes.{Setting}
 use Rattle.liquid_template.specs.meaning.Partials.{Found}
 use Rattle.liquid_template.specs.meaning.Sunk.{Sunk}
-use Rattle.liquid_template.specs.meaning.Rendering.{template_run, sandboxed_run}
+use Rattle.liquid_template.specs.meaning.Rendering.{isolated_run, sandboxed_run, template_run}
 use Rattle.liquid_template.specs.meaning.Run.{Action}
 use Rattle.liquid_partials.specs.meaning.Compiled.{Compiled}
 use Rattle.liquid_partials.specs.meaning.Rendered.{RenderedBy}
 use Rattle.liquid_partials.specs.meaning.Sources.{Texts}
+use Rattle.liquid_pages.specs.declared.options.PageFrame.{PageFrame}
+use Rattle.liquid_pages.specs.declared.options.PageFrame.TheVariants.{Open, Sandboxed, Isolated}
 use Rattle.liquid_pages.specs.declared.options.PageOptions.{PageOptions}
 use Rattle.liquid_pages.specs.meaning.Limited.{limited, room_of}
 
@@ -24,14 +26,15 @@ use Rattle.liquid_pages.specs.meaning.Limited.{limited, room_of}
 abbrev pub built_over : {Reg : Type 0} → Reg → Bool → Names → View Reg
 built_over fresh lenient globals = leniently lenient (built_view fresh 32 globals)
 
--- the globals that the runtime has: in a sandbox it has none
-abbrev pub runtime_names : Bool → Names → Names
-runtime_names false globals = globals
-runtime_names true globals = empty
+-- the globals that the runtime has: in a sandbox, and in isolation, it has none
+abbrev pub runtime_names : PageFrame → Names → Names
+runtime_names Open globals = globals
+runtime_names Sandboxed globals = empty
+runtime_names Isolated globals = empty
 
 -- the view that rendering with these options begins with
 abbrev pub first_view : {Reg : Type 0} → Reg → PageOptions → Names → View Reg
-first_view fresh options globals = built_over fresh options.lenient (runtime_names options.sandboxed globals)
+first_view fresh options globals = built_over fresh options.lenient (runtime_names options.frame globals)
 
 -- what a text is read as
 abbrev pub PageAnswer : Type 0 → Type 0 → Type 0 → Type 0
@@ -51,14 +54,15 @@ Settings Reg F T P B Q = Option (Found F T B) → Setting Reg F T P B Q
 abbrev pub first_register : {Reg F T P B Q : Type 0} → Settings Reg F T P B Q → Reg
 first_register s = (s None).fresh
 
--- the rendering of nodes: in a sandbox, under a frame without a name whose data are the globals
-abbrev pub nodes_action : {Reg F T P B Q : Type 0} → Settings Reg F T P B Q → Bool → Option (Found F T B) → Names → List (NodeShape F T B) → Action Reg
-nodes_action s false found globals nodes = template_run (s found) (nodes_from nodes)
-nodes_action s true found globals nodes = sandboxed_run (s found) globals None (nodes_from nodes)
+-- the rendering of nodes: in a sandbox and in isolation, under a frame without a name whose data are the globals
+abbrev pub nodes_action : {Reg F T P B Q : Type 0} → Settings Reg F T P B Q → PageFrame → Option (Found F T B) → Names → List (NodeShape F T B) → Action Reg
+nodes_action s Open found globals nodes = template_run (s found) (nodes_from nodes)
+nodes_action s Sandboxed found globals nodes = sandboxed_run (s found) globals None (nodes_from nodes)
+nodes_action s Isolated found globals nodes = isolated_run (s found) globals None (nodes_from nodes)
 
 -- the same under the limits of the options
 abbrev pub page_action : {Reg F T P B Q : Type 0} → Settings Reg F T P B Q → PageOptions → Option (Found F T B) → Names → List (NodeShape F T B) → Action Reg
-page_action s options found globals nodes = limited (room_of options) (nodes_action s options.sandboxed found globals nodes)
+page_action s options found globals nodes = limited (room_of options) (nodes_action s options.frame found globals nodes)
 
 module _ {Reg F T P L B Q : Type 0} (s : Settings Reg F T P B Q) (l : Lang F T L B) (options : PageOptions) where
   -- the parsed text was rendered, with these options, over a built runtime with these globals and a store of these
