@@ -1,5 +1,5 @@
 -- From the contracts of the calls below to what the program says about a rendering and its output.
-use Rattle.std.proofs.Common.{◌≡◌, ℕ, Bool, List, [], ◌++◌, Option, None, Some, Result, sym, ap, subst, ◌∙◌}
+use Rattle.std.proofs.Common.{◌≡◌, ℕ, Bool, true, false, List, [], ◌++◌, Option, None, Some, Result, sym, ap, subst, ◌∙◌}
 use Rattle.std.specs.Io.KnownBytes.{Appends, Keeps}
 use Rattle.liquid_template.specs.meaning.Grows.{Grows}
 use Rattle.liquid_template.specs.meaning.Sunk.{Sunk, sunk}
@@ -9,17 +9,27 @@ use Rattle.liquid_partials.specs.meaning.Sources.{Texts}
 use Rattle.liquid_pages.specs.declared.options.PageOptions.{PageOptions}
 use Rattle.liquid_pages.specs.meaning.Pages.{Renders as RendersPage}
 use Rattle.liquid.specs.declared.command.Options.{Options}
-use Rattle.liquid.specs.meaning.Program.{Prints, Renders, Runs, page_options}
-use Rattle.liquid.specs.meaning.ProgramLanguage.{ProgramLang, program_language, setting_over}
+use Rattle.liquid.specs.meaning.Program.{Prints, Renders, RendersIn, Runs, page_options}
+use Rattle.liquid.specs.meaning.ProgramLanguage.{PlainLang, StandardLang, plain_language, plain_setting, standard_language, standard_setting}
 use Rattle.liquid.specs.meaning.Status.{settled}
 
--- a page of the program's language, rendered by its options
-pub page_rendered : (options : Options) (chosen : PageOptions) (l : ProgramLang) (text : List ℕ) (globals : Names) (partials : Option Texts) (before after : Sunk) (result : Result (Unit {0}) Error)
-    → chosen ≡ page_options options → l ≡ program_language options.standard → RendersPage setting_over l chosen text globals partials before after result
-    → Renders options text globals partials before after result
-page_rendered options chosen l text globals partials before after result is same renders =
-    subst (λ o. RendersPage setting_over (program_language options.standard) o text globals partials before after result) is
-    (subst (λ m. RendersPage setting_over m chosen text globals partials before after result) same renders)
+-- a page in the one language, and in the other one
+pub plain_rendered : (page : PageOptions) (l : PlainLang) (text : List ℕ) (globals : Names) (partials : Option Texts) (before after : Sunk) (result : Result (Unit {0}) Error)
+    → l ≡ plain_language → RendersPage plain_setting l page text globals partials before after result → RendersIn false page text globals partials before after result
+plain_rendered page l text globals partials before after result same renders =
+    subst (λ m. RendersPage plain_setting m page text globals partials before after result) same renders
+
+pub standard_rendered : (page : PageOptions) (l : StandardLang) (text : List ℕ) (globals : Names) (partials : Option Texts) (before after : Sunk) (result : Result (Unit {0}) Error)
+    → l ≡ standard_language → RendersPage standard_setting l page text globals partials before after result → RendersIn true page text globals partials before after result
+standard_rendered page l text globals partials before after result same renders =
+    subst (λ m. RendersPage standard_setting m page text globals partials before after result) same renders
+
+-- the language that the options choose
+pub chosen_rendered : (options : Options) (standard : Bool) (page : PageOptions) (text : List ℕ) (globals : Names) (partials : Option Texts) (before after : Sunk) (result : Result (Unit {0}) Error)
+    → options.standard ≡ standard → page ≡ page_options options → RendersIn standard page text globals partials before after result → Renders options text globals partials before after result
+chosen_rendered options standard page text globals partials before after result is same renders =
+    subst (λ o. RendersIn options.standard o text globals partials before after result) same
+    (subst (λ b. RendersIn b page text globals partials before after result) (sym is) renders)
 
 appends_kept : (before between after : Option (List ℕ)) (more : List ℕ) → Appends before between more → Keeps between after → Appends before after more
 appends_kept None between after more appended kept = tt

@@ -14,12 +14,16 @@ use Rattle.liquid_template.specs.meaning.Outcome.{BrokenOff, Cut, Stopped, Outco
 use Rattle.liquid_template.proofs.Joins.{pieces-append}
 use Rattle.liquid_partials.specs.meaning.Rendered.{RenderedBy}
 use Rattle.liquid_partials.specs.meaning.Sources.{Texts}
-use Rattle.liquid.specs.meaning.ProgramLanguage.{ProgramAnswer, ProgramFound, setting_over}
-use Rattle.liquid_pages.specs.meaning.Pages.{first_view, page_action}
-use Rattle.liquid.specs.meaning.Program.{page_options, status_of, Fails, Finishes, Executes, Prints}
+use Rattle.liquid_plugins.specs.meaning.Nodes.{NodeShape}
+use Rattle.liquid_parser.specs.meaning.Lang.{Lang}
+use Rattle.liquid_template.specs.meaning.Run.{Action}
+use Rattle.liquid_pages.specs.declared.options.PageOptions.{PageOptions}
+use Rattle.liquid_pages.specs.meaning.Pages.{PageAnswer, Renders as RendersPage, Settings, first_register, first_view, page_action}
+use Rattle.liquid.specs.meaning.ProgramLanguage.{plain_language, plain_setting, standard_language, standard_setting}
+use Rattle.liquid.specs.meaning.Program.{page_options, status_of, Fails, Finishes, Executes, Prints, RendersIn}
 use Rattle.liquid.specs.meaning.Command.{Asked, command_of}
 use Rattle.liquid.specs.meaning.Status.{settled}
-use Rattle.liquid.specs.meaning.InMemory.{IsBeginning, IsWhole, program_run, ShowsAnswer, ShowsNothing, ShowsText, ShowsCommand, Shows}
+use Rattle.liquid.specs.meaning.InMemory.{IsBeginning, IsWhole, ShowsAnswer, ShowsNothing, ShowsPage, ShowsIn, ShowsText, ShowsCommand, Shows}
 use Rattle.liquid.specs.declared.command.Options.{Options}
 use Rattle.liquid.proofs.GatheredLemmas.{gathers_follow}
 
@@ -35,13 +39,10 @@ usage_status : (flushed : Bool) → settled 2 flushed ≡ 2
 usage_status true = refl
 usage_status false = refl
 
-abbrev EndedRun : Type 0
-EndedRun = Run (Unit {0})
-
-whole_begins : (r : EndedRun) (output : List ℕ) → output ≡ written r → IsBeginning r output
+whole_begins : {Reg : Type 0} (r : Run Reg) (output : List ℕ) → output ≡ written r → IsBeginning r output
 whole_begins r output is = ([], sym is ∙ sym (append-nil output))
 
-shown_whole : (r : EndedRun) (output : List ℕ) (flushed : Bool) → output ≡ written r → r.refusal ≡ None
+shown_whole : {Reg : Type 0} (r : Run Reg) (output : List ℕ) (flushed : Bool) → output ≡ written r → r.refusal ≡ None
     → ((settled 0 flushed ≡ 0) × IsWhole r output) ⊎ ((settled 0 flushed ≡ 1) × IsBeginning r output)
 shown_whole r output true is done = inl (refl, (is, done))
 shown_whole r output false is done = inr (refl, whole_begins r output is)
@@ -55,11 +56,11 @@ module _ (behind behind_after : Option (List ℕ)) (lent : List ℕ) where
   abbrev filled : List ℕ → ℕ → Sunk
   filled output failures = sunk output failures behind_after lent
 
-  broken_begins : (r : EndedRun) (output : List ℕ) (failures : ℕ) (left : View (Unit {0})) (refusal : Refusal) → BrokenOff r (ungated fresh) (ungated (filled output failures)) left refusal → IsBeginning r output
+  broken_begins : {Reg : Type 0} (r : Run Reg) (output : List ℕ) (failures : ℕ) (left : View Reg) (refusal : Refusal) → BrokenOff r (ungated fresh) (ungated (filled output failures)) left refusal → IsBeginning r output
   broken_begins r output failures left refusal b =
       (b.rest ++ pieces b.later, ap pieces b.steps ∙ pieces-append b.front (b.step ∷ b.later) ∙ rw b.taken (rw b.piece (simp append_assoc)))
 
-  stopped_begins : (r : EndedRun) (output : List ℕ) (failures : ℕ) (left : View (Unit {0})) (t : Option Refusal)
+  stopped_begins : {Reg : Type 0} (r : Run Reg) (output : List ℕ) (failures : ℕ) (left : View Reg) (t : Option Refusal)
       → MatchOption t (Cut r (ungated fresh) (ungated (filled output failures))) (Stopped r (ungated fresh) (ungated (filled output failures)) left) → IsBeginning r output
   stopped_begins r output failures left None c = (
     c.rest ++ pieces c.later,
@@ -70,18 +71,28 @@ module _ (behind behind_after : Option (List ℕ)) (lent : List ℕ) where
   stopped_begins r output failures left (Some refusal) (inr s) = broken_begins r output failures left refusal s
 
   -- an outcome shows the run
-  shown_outcome : (r : EndedRun) (output : List ℕ) (failures : ℕ) (flushed : Bool) (left : View (Unit {0})) (result : Result (Unit {0}) Error)
+  shown_outcome : {Reg : Type 0} (r : Run Reg) (output : List ℕ) (failures : ℕ) (flushed : Bool) (left : View Reg) (result : Result (Unit {0}) Error)
       → Outcome r (ungated fresh) (ungated (filled output failures)) left result
       → ((settled (status_of result) flushed ≡ 0) × IsWhole r output) ⊎ ((settled (status_of result) flushed ≡ 1) × IsBeginning r output)
   shown_outcome r output failures flushed left (Ok u) o = shown_whole r output flushed o.0.taken o.1
   shown_outcome r output failures flushed left (Err error) o = inr (refused_status flushed, stopped_begins r output failures left (told error) o)
 
-  shown_answer : (options : Options) (globals : Names) (found : Option ProgramFound) (answer : ProgramAnswer) (output : List ℕ) (failures : ℕ) (flushed : Bool) (left : View (Unit {0})) (result : Result (Unit {0}) Error)
-      → RenderedBy (page_action setting_over (page_options options) found globals) answer (first_view tt (page_options options) globals) fresh (filled output failures) left result
-      → ShowsAnswer (program_run options globals found) answer output (settled (status_of result) flushed)
-  shown_answer options globals found (Ok nodes) output failures flushed left result o = shown_outcome (program_run options globals found nodes) output failures flushed left result o.outcome
-  shown_answer options globals found (Err refusal) output failures flushed left (Ok u) o = absurd o.1.1
-  shown_answer options globals found (Err refusal) output failures flushed left (Err error) o = (ap (λ s. s.taken) o.0, refused_status flushed)
+  shown_answer : {Reg F T B : Type 0} (action : List (NodeShape F T B) → Action Reg) (v left : View Reg) (answer : PageAnswer F T B) (output : List ℕ) (failures : ℕ) (flushed : Bool) (result : Result (Unit {0}) Error)
+      → RenderedBy action answer v fresh (filled output failures) left result
+      → ShowsAnswer (λ nodes. action nodes v) answer output (settled (status_of result) flushed)
+  shown_answer action v left (Ok nodes) output failures flushed result o = shown_outcome (action nodes v) output failures flushed left result o.outcome
+  shown_answer action v left (Err refusal) output failures flushed (Ok u) o = absurd o.1.1
+  shown_answer action v left (Err refusal) output failures flushed (Err error) o = (ap (λ s. s.taken) o.0, refused_status flushed)
+
+  shown_page : {Reg F T P L B Q : Type 0} (s : Settings Reg F T P B Q) (l : Lang F T L B) (options : PageOptions) (text : List ℕ) (globals : Names) (partials : Option Texts) (output : List ℕ) (failures : ℕ) (flushed : Bool) (result : Result (Unit {0}) Error)
+      → RendersPage s l options text globals partials fresh (filled output failures) result → ShowsPage s l options text globals partials output (settled (status_of result) flushed)
+  shown_page s l options text globals partials output failures flushed result renders = λ answer reads found is_found.
+      shown_answer (page_action s options found globals) (first_view (first_register s) options globals) (renders answer reads).left answer output failures flushed result ((renders answer reads).rendered found is_found)
+
+  shown_in : (standard : Bool) (options : PageOptions) (text : List ℕ) (globals : Names) (partials : Option Texts) (output : List ℕ) (failures : ℕ) (flushed : Bool) (result : Result (Unit {0}) Error)
+      → RendersIn standard options text globals partials fresh (filled output failures) result → ShowsIn standard options text globals partials output (settled (status_of result) flushed)
+  shown_in false options text globals partials output failures flushed result renders = shown_page plain_setting plain_language options text globals partials output failures flushed result renders
+  shown_in true options text globals partials output failures flushed result renders = shown_page standard_setting standard_language options text globals partials output failures flushed result renders
 
   shown_nothing : (output : List ℕ) (failures answered : ℕ) (flushed : Bool) → Fails fresh (filled output failures) answered → ShowsNothing output (settled answered flushed)
   shown_nothing output failures answered flushed (same, inl is) = (ap (λ s. s.taken) same, inl (rw is (unread_status flushed)))
@@ -89,9 +100,9 @@ module _ (behind behind_after : Option (List ℕ)) (lent : List ℕ) where
 
   shown_text : (options : Options) (text : List ℕ) (globals : Names) (partials : Option Texts) (output : List ℕ) (failures answered : ℕ) (flushed : Bool)
       → Finishes options text globals partials fresh (filled output failures) answered → ShowsText options text globals partials output (settled answered flushed)
-  shown_text options text globals partials output failures answered flushed finishes = λ answer reads found is_found.
-      subst (λ s. ShowsAnswer (program_run options globals found) answer output (settled s flushed)) (sym finishes.status_is)
-      (shown_answer options globals found answer output failures flushed (finishes.renders answer reads).left finishes.result ((finishes.renders answer reads).rendered found is_found))
+  shown_text options text globals partials output failures answered flushed finishes =
+      subst (λ s. ShowsText options text globals partials output (settled s flushed)) (sym finishes.status_is)
+      (shown_in options.standard (page_options options) text globals partials output failures flushed finishes.result finishes.renders)
 
   shown_command : (options : Options) (paths : List (List ℕ)) (files : List ℕ → Option (List ℕ)) (folders : List ℕ → Option (List (List ℕ))) (output : List ℕ) (failures answered : ℕ) (flushed : Bool)
       → Executes options paths (λ path. Some (files path)) (λ path. Some (folders path)) fresh (filled output failures) answered → ShowsCommand options paths files folders output (settled answered flushed)

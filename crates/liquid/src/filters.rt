@@ -1,15 +1,12 @@
-//! The filters of the program: `append` and `fail`, or with `--standard` the standard filters.
+//! The filters of the program without `--standard`: `append` and `fail`.
 ghost use Rattle.std.specs.Prelude.{◌≡◌, IfOk};
-ghost use Rattle.liquid.specs.meaning.ProgramLanguage.{plain_sense, program_filters};
+ghost use Rattle.liquid.specs.meaning.ProgramLanguage.{plain_filters, plain_sense};
 
 use liquid_core::Error;
 use liquid_core::model::Value;
 use liquid_core::parser::{ParameterReflection, PluginRegistry};
 use std::alloc::{AllocError, Global};
-use std_filters::{
-    Beside, CallArguments, FilterCall, FilterKind, FilterPlugin, FilterRow, StdKind,
-    filters_beside, register_all,
-};
+use std_filters::{CallArguments, FilterKind, FilterPlugin, FilterRow, register_all};
 use std_texts::append;
 
 static TEXT: [ParameterReflection; 1] = [ParameterReflection {
@@ -20,21 +17,15 @@ static TEXT: [ParameterReflection; 1] = [ParameterReflection {
 
 static NONE: [ParameterReflection; 0] = [];
 
-/// The filters of the program without `--standard`.
+/// A filter of the program.
 #[derive(Debug, Clone, Copy, PartialEq, Eq, Drop)]
 pub enum PlainKind {
     Append,
     Fail,
 }
 
-/// A filter of the program.
-pub type ProgramKind = Beside<StdKind, PlainKind>;
-
 /// A filter as a plug-in.
-pub type ProgramFilters = FilterPlugin<ProgramKind>;
-
-/// A filter in a template.
-pub type ProgramFilter = FilterCall<ProgramKind>;
+pub type PlainFilters = FilterPlugin<PlainKind>;
 
 impl FilterKind for PlainKind {
     ghost sense = { plain_sense };
@@ -69,20 +60,11 @@ impl FilterKind for PlainKind {
     }
 }
 
-/// Returns the standard filters, or `append` and `fail`, each under its name.
-pub fn program_filters(
-    alloc: Global,
-    standard: bool,
-) -> Result<PluginRegistry<ProgramFilters>, AllocError>
-    ensures { IfOk result (λ r. r ≡ program_filters standard) }
+/// Returns `append` and `fail`, each under its name.
+pub fn plain_filters(alloc: Global) -> Result<PluginRegistry<PlainFilters>, AllocError>
+    ensures { IfOk result (λ r. r ≡ plain_filters) }
 {
-    if standard {
-        return filters_beside(alloc, None, &[]);
-    }
     let mut filters = PluginRegistry::new(alloc);
-    register_all(
-        &mut filters,
-        &[Beside::Own(PlainKind::Append), Beside::Own(PlainKind::Fail)],
-    )?;
+    register_all(&mut filters, &[PlainKind::Append, PlainKind::Fail])?;
     Ok(filters)
 }

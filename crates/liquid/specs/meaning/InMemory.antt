@@ -1,5 +1,5 @@
 -- What a run of the program over files in memory shows on its output.
-use Rattle.std.specs.Prelude.{◌≡◌, ℕ, ◌⊎◌, List, [], ◌++◌, Option, None, Some, MatchOption, Ok, Err, map, string_bytes, option_map}
+use Rattle.std.specs.Prelude.{◌≡◌, ℕ, Bool, true, false, ◌⊎◌, List, [], ◌++◌, Option, None, Some, MatchOption, Ok, Err, map, string_bytes, option_map}
 use Rattle.std.specs.BTreeMap.{get_by_text}
 use Rattle.liquid_runtime.specs.meaning.Maps.{Names}
 use Rattle.liquid_parser.specs.meaning.Reading.{Reads}
@@ -9,10 +9,14 @@ use Rattle.liquid.specs.declared.in_memory.InMemoryFolder.{InMemoryFolder}
 use Rattle.liquid.specs.meaning.Command.{command_of}
 use Rattle.liquid.specs.declared.command.Options.{Options}
 use Rattle.liquid.specs.meaning.Gathered.{Gathers}
-use Rattle.liquid_pages.specs.meaning.Pages.{IsFoundIn}
+use Rattle.liquid_plugins.specs.meaning.Nodes.{NodeShape}
+use Rattle.liquid_parser.specs.meaning.Lang.{Lang}
+use Rattle.liquid_template.specs.meaning.Partials.{Found}
+use Rattle.liquid_pages.specs.declared.options.PageOptions.{PageOptions}
+use Rattle.liquid_pages.specs.meaning.Pages.{IsFoundIn, PageAnswer, Settings}
 use Rattle.liquid_pages.specs.meaning.Shown.{page_run}
 use Rattle.liquid.specs.meaning.Program.{page_options}
-use Rattle.liquid.specs.meaning.ProgramLanguage.{ProgramAnswer, ProgramFound, ProgramNode, program_language, setting_over}
+use Rattle.liquid.specs.meaning.ProgramLanguage.{plain_language, plain_setting, standard_language, standard_setting}
 
 -- the bytes of the file at a path
 abbrev pub bytes_at : InMemoryFolder → List ℕ → Option (List ℕ)
@@ -23,19 +27,15 @@ abbrev pub names_at : InMemoryFolder → List ℕ → Option (List (List ℕ))
 names_at folder path = option_map (λ v. map string_bytes v.items) (get_by_text folder.folders path)
 
 -- the output is all pieces of the run, which has no refusal
-abbrev pub IsWhole : Run (Unit {0}) → List ℕ → Type 0
+abbrev pub IsWhole : {Reg : Type 0} → Run Reg → List ℕ → Type 0
 IsWhole r output = (output ≡ written r) × (r.refusal ≡ None)
 
 -- the output is a beginning of all joined pieces
-abbrev pub IsBeginning : Run (Unit {0}) → List ℕ → Type 0
+abbrev pub IsBeginning : {Reg : Type 0} → Run Reg → List ℕ → Type 0
 IsBeginning r output = (left : List ℕ) × (written r ≡ output ++ left)
 
--- the run of the program's templates of these nodes, with these options, over these globals, where a store finds this
-abbrev pub program_run : Options → Names → Option ProgramFound → List ProgramNode → Run (Unit {0})
-program_run options globals found nodes = page_run setting_over (page_options options) globals found nodes
-
 -- status 0 shows the whole run of the parsed text, status 1 a beginning of it; a text that is refused shows nothing
-abbrev pub ShowsAnswer : (List ProgramNode → Run (Unit {0})) → ProgramAnswer → List ℕ → ℕ → Type 0
+abbrev pub ShowsAnswer : {Reg F T B : Type 0} → (List (NodeShape F T B) → Run Reg) → PageAnswer F T B → List ℕ → ℕ → Type 0
 ShowsAnswer run_of (Ok nodes) output status = ((status ≡ 0) × IsWhole (run_of nodes) output) ⊎ ((status ≡ 1) × IsBeginning (run_of nodes) output)
 ShowsAnswer run_of (Err refusal) output status = (output ≡ []) × (status ≡ 1)
 
@@ -43,10 +43,18 @@ ShowsAnswer run_of (Err refusal) output status = (output ≡ []) × (status ≡ 
 abbrev pub ShowsNothing : List ℕ → ℕ → Type 0
 ShowsNothing output status = (output ≡ []) × ((status ≡ 3) ⊎ (status ≡ 1))
 
--- the template's text over the globals, with a store of the partials
+-- a text in a language over the globals, with a store of the partials
+abbrev pub ShowsPage : {Reg F T P L B Q : Type 0} → Settings Reg F T P B Q → Lang F T L B → PageOptions → List ℕ → Names → Option Texts → List ℕ → ℕ → Type 0
+ShowsPage {F = F} {T = T} {B = B} s l options text globals partials output status =
+    (answer : PageAnswer F T B) → Reads l text answer → (found : Option (Found F T B)) → IsFoundIn l partials found → ShowsAnswer (page_run s options globals found) answer output status
+
+-- the template's text, in the standard language or in the other one
+abbrev pub ShowsIn : Bool → PageOptions → List ℕ → Names → Option Texts → List ℕ → ℕ → Type 0
+ShowsIn false options text globals partials output status = ShowsPage plain_setting plain_language options text globals partials output status
+ShowsIn true options text globals partials output status = ShowsPage standard_setting standard_language options text globals partials output status
+
 abbrev pub ShowsText : Options → List ℕ → Names → Option Texts → List ℕ → ℕ → Type 0
-ShowsText options text globals partials output status =
-    (answer : ProgramAnswer) → Reads (program_language options.standard) text answer → (found : Option ProgramFound) → IsFoundIn (program_language options.standard) partials found → ShowsAnswer (program_run options globals found) answer output status
+ShowsText options text globals partials output status = ShowsIn options.standard (page_options options) text globals partials output status
 
 -- what a command shows, by the files at its paths
 abbrev pub ShowsCommand : Options → List (List ℕ) → (List ℕ → Option (List ℕ)) → (List ℕ → Option (List (List ℕ))) → List ℕ → ℕ → Type 0

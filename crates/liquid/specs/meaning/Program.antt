@@ -1,27 +1,44 @@
 -- What the program does, by its words, the files that they name and the sink that it writes to.
-use Rattle.std.specs.Prelude.{◌≡◌, ℕ, Bool, ◌⊎◌, List, [], Option, MatchOption, Result, Ok, Err}
+use Rattle.std.specs.Prelude.{◌≡◌, ℕ, Bool, true, false, ◌⊎◌, List, [], Option, MatchOption, Result, Ok, Err}
 use Rattle.std.specs.Io.KnownBytes.{Appends}
 use Rattle.liquid_error.specs.declared.error.Error.{Error}
 use Rattle.liquid_runtime.specs.meaning.Maps.{Names}
 use Rattle.liquid_template.specs.meaning.Sunk.{Sunk, sunk}
 use Rattle.liquid_partials.specs.meaning.Sources.{Texts}
+use Rattle.liquid_pages.specs.declared.options.PageFrame.{PageFrame}
+use Rattle.liquid_pages.specs.declared.options.PageFrame.TheVariants.{Open, Sandboxed, Isolated}
 use Rattle.liquid_pages.specs.declared.options.PageOptions.{PageOptions}
 use Rattle.liquid_pages.specs.meaning.Pages.{Renders as RendersPage}
-use Rattle.liquid.specs.meaning.ProgramLanguage.{program_language, setting_over}
+use Rattle.liquid.specs.meaning.ProgramLanguage.{plain_language, plain_setting, standard_language, standard_setting}
 use Rattle.liquid.specs.meaning.Command.{command_of}
 use Rattle.liquid.specs.declared.command.Options.{Options}
 use Rattle.liquid.specs.meaning.Gathered.{Gathers}
 use Rattle.liquid.specs.meaning.Status.{settled}
 
+-- where the globals of a page are. With the standard tags a template sees what it assigns, also where it may not change
+-- its globals
+abbrev pub page_frame : Bool → Bool → PageFrame
+page_frame standard false = Open
+page_frame false true = Sandboxed
+page_frame true true = Isolated
+
 -- the options of the page
 abbrev pub page_options : Options → PageOptions
-page_options options = record { sandboxed = options.sandboxed; lenient = options.lenient; max_turns = options.max_turns; max_bytes = options.max_bytes }
+page_options options = record {
+  frame = page_frame options.standard options.sandboxed;
+  lenient = options.lenient;
+  max_turns = options.max_turns;
+  max_bytes = options.max_bytes;
+}
 
--- the text, parsed in the program's language, was rendered as a page, with these options, over these globals and these
--- partials
+-- the text, parsed in the standard language or in the other one, was rendered as a page, with these options, over these
+-- globals and these partials
+abbrev pub RendersIn : Bool → PageOptions → List ℕ → Names → Option Texts → Sunk → Sunk → Result (Unit {0}) Error → Type 0
+RendersIn false options text globals partials before after result = RendersPage plain_setting plain_language options text globals partials before after result
+RendersIn true options text globals partials before after result = RendersPage standard_setting standard_language options text globals partials before after result
+
 abbrev pub Renders : Options → List ℕ → Names → Option Texts → Sunk → Sunk → Result (Unit {0}) Error → Type 0
-Renders options text globals partials before after result =
-    RendersPage setting_over (program_language options.standard) (page_options options) text globals partials before after result
+Renders options text globals partials before after result = RendersIn options.standard (page_options options) text globals partials before after result
 
 -- 0 if the template was rendered, 1 if it was refused
 abbrev pub status_of : Result (Unit {0}) Error → ℕ

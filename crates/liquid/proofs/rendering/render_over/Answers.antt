@@ -1,11 +1,9 @@
-use Rattle.std.proofs.Common.{rules}
-use Rattle.liquid_error.specs.declared.error.Error.{the_lemmas}
-use Rattle.liquid.proofs.MemoryLemmas.{nothing_rendered}
-use Rattle.liquid.proofs.RunLemmas.{page_rendered}
+use Rattle.std.proofs.Common.{true, false}
+use Rattle.liquid.proofs.RunLemmas.{chosen_rendered}
 use Rattle.liquid.proofs.rendering.render_over.Goals as goal
 
-pub returns-in-Ok-clause-renders : goal.returns-in-Ok-clause-renders
-returns-in-Ok-clause-renders g c = page_rendered c.args.options _ _ c.args.text.now _ _ _ _ _ c.page_options.ensures c.in-Ok.ensures c.render_text.ensures.renders
+pub returns-then-options-clause-renders : goal.returns-then-options-clause-renders
+returns-then-options-clause-renders g c = chosen_rendered c.args.options true _ c.args.text.now _ _ _ _ _ c.if-options.true c.page_options-page.ensures c.render_standard.ensures.renders
 
-pub returns-in-Err-clause-renders : goal.returns-in-Err-clause-renders
-returns-in-Err-clause-renders g c = nothing_rendered c.args.options c.args.text.now _ _ _ _ (search (rules, the_lemmas))
+pub returns-else-options-clause-renders : goal.returns-else-options-clause-renders
+returns-else-options-clause-renders g c = chosen_rendered c.args.options false _ c.args.text.now _ _ _ _ _ c.if-options.false c.page_options-page.ensures c.render_plain.ensures.renders
