@@ -38,7 +38,7 @@ const TAGS: [Row; 6] = [
         "",
     ),
     (
-        b"{% for x in l limit: 2 reversed %}{{ x }}{% endfor %}",
+        b"{% for x in l reversed limit: 2 %}{{ x }}{% endfor %}",
         b"{\"l\": [1, 2, 3]}",
         0,
         "21",
