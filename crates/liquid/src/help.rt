@@ -13,7 +13,7 @@ GLOBALS.json   a file with one JSON object: its members are the names that the t
 DIR            a folder: each file directly in it is a partial, under the file's name
 --sandboxed    the template can't change its names
 --lenient      a missing name or index is nil instead of an error
---standard     the template has the standard filters of Liquid; without it, 'append' and 'fail'
+--standard     the template has the tags, blocks and filters of standard Liquid
 --turns N      the page may take N turns of tags and blocks
 --bytes N      the page may write N bytes
 --explain      an error says more: why a file can't be read, where a text is not JSON, which template it is
