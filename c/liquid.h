@@ -46,7 +46,8 @@ typedef struct liquid_partial {
 enum {
     LIQUID_SANDBOXED = 1, /* the template can't change the globals, which are the data of a sandbox */
     LIQUID_LENIENT = 2,   /* a name or an index without a value is nil instead of an error */
-    LIQUID_STANDARD = 4   /* the template has the standard filters; else it has none */
+    LIQUID_STANDARD = 4   /* the template has the tags, blocks and filters of standard Liquid; else the few tags and
+                             blocks of liquid_tags, and no filters */
 };
 
 typedef struct liquid_page {

@@ -91,6 +91,8 @@ static const row_type rows[] = {
     {"not sandboxed", "{% assign x = 2 %}{{ x }}", "{\"x\": 1}", 0, 0, 0, 0, ROOM, LIQUID_OK, 0, 0, 0, 0, 1, "2", ""},
     {"lenient", "<{{ no.such.name }}>", "{}", 0, LIQUID_LENIENT, 0, 0, ROOM, LIQUID_OK, 0, 0, 0, 0, 2, "<>", ""},
     {"standard", "{{ 'a' | upcase }}", "{}", 0, LIQUID_STANDARD, 0, 0, ROOM, LIQUID_OK, 0, 0, 0, 0, 1, "A", ""},
+    {"standard tags", "{% for i in (1..3) reversed %}{% cycle 'a', 'b' %}{{ i }}{% endfor %}", "{}", 0, LIQUID_STANDARD, 0, 0, ROOM, LIQUID_OK, 0, 0, 0, 0, 6, "a3b2a1", ""},
+    {"no standard tags", "{% capture x %}{% endcapture %}", "{}", 0, 0, 0, 0, ROOM, LIQUID_UNPARSED, 0, 0, 1, 4, 0, "", NULL},
     {"all options", "{{ a | upcase }}", "{}", 0, 7, 0, 0, ROOM, LIQUID_OK, 0, 0, 0, 0, 0, "", ""},
     {"no option", "a", "{}", 0, 8, 0, 0, ROOM, LIQUID_NO_OPTIONS, 0, 0, 0, 0, 0, "", ""},
     {"all bits", "a", "{}", 0, UINT32_MAX, 0, 0, ROOM, LIQUID_NO_OPTIONS, 0, 0, 0, 0, 0, "", ""},

@@ -153,8 +153,9 @@ def render(
     ``globals`` is a mapping, or the JSON of an object. Its values are what JSON has, but for numbers with a
     fraction. ``partials`` are texts by their names. In a sandbox (``sandboxed``) the template can't change the
     globals. With ``lenient`` a name without a value is nil instead of an error. With ``standard`` the template
-    has the standard filters. A page that takes more than ``max_turns`` turns of tags and blocks, or writes more
-    than ``max_bytes`` bytes of UTF-8, is stopped; 0 is no limit.
+    has the tags, blocks and filters of standard Liquid; without it, the few tags and blocks of ``liquid_tags``,
+    and no filters. A page that takes more than ``max_turns`` turns of tags and blocks, or writes more than
+    ``max_bytes`` bytes of UTF-8, is stopped; 0 is no limit.
 
     Raises ``LiquidError`` if the page was not rendered to its end, and ``TypeError`` or ``ValueError`` for
     globals that are not JSON's.

@@ -22,6 +22,7 @@ class Pages(unittest.TestCase):
         ("{% assign x = 2 %}{{ x }}", {"x": 1}, {"sandboxed": True}, "1"),
         ("<{{ no.name }}>", {}, {"lenient": True}, "<>"),
         ("{{ 'rain' | upcase }}", {}, {"standard": True}, "RAIN"),
+        ("{% case x %}{% when 1 or 2 %}few{% else %}many{% endcase %}", {"x": 2}, {"standard": True}, "few"),
         ("{{ 'rain' }}", {}, {"max_bytes": 4, "max_turns": 2**64 - 1}, "rain"),
         ("{% for i in (1..4000) %}{{ i }} {% endfor %}", {}, {}, "".join(f"{i} " for i in range(1, 4001))),
     ]

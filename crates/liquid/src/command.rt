@@ -2,6 +2,7 @@
 ghost use Rattle.std.specs.Prelude.{◌≡◌, ◌∷◌, IfSome, is_some, map, option_map, string_bytes};
 ghost use Rattle.liquid.specs.meaning.Command.{
   are_paths,
+  asked_of,
   command_in,
   command_of,
   first_word,
@@ -12,7 +13,6 @@ ghost use Rattle.liquid.specs.meaning.Command.{
   short_command,
   with_option,
 };
-ghost use Rattle.liquid.specs.steps.Words.{asked_of};
 
 use crate::long_command::{PathsRead, long_command};
 

@@ -1,6 +1,7 @@
 //! The long form of the command line.
 ghost use Rattle.std.specs.Prelude.{◌≡◌, map, option_map, string_bytes};
 ghost use Rattle.liquid.specs.meaning.Command.{
+  asked_of,
   limit_of,
   long_command,
   number,
@@ -13,7 +14,7 @@ ghost use Rattle.liquid.specs.meaning.Command.{
   with_path,
   with_paths,
 };
-ghost use Rattle.liquid.specs.steps.Words.{asked_of, words_of};
+ghost use Rattle.liquid.specs.steps.Words.{words_of};
 
 use crate::command::{Command, Limit, Options, Paths, is_path, with_option};
 

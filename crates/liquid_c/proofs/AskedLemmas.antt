@@ -2,6 +2,10 @@
 use Rattle.std.proofs.Common.{◌≡◌, ℕ, ◌≤◌, ◌<◌, Bool, true, false, List, map, sym, subst, arith}
 use Rattle.liquid_tags.specs.meaning.Languages.{meaning_of}
 use Rattle.liquid_tags.specs.meaning.Library.{library}
+use Rattle.std_marks.specs.meaning.Held.{marks_alone}
+use Rattle.std_marks.specs.meaning.Marks.{no_marks}
+use Rattle.liquid_std.specs.meaning.Languages.{meaning_of as standard_meaning}
+use Rattle.liquid_std.specs.meaning.Standard.{standard}
 use Rattle.liquid_pages.specs.meaning.Shown.{ComesTo, Page, bytes_of_partial}
 use Rattle.liquid_c.specs.declared.page.Outcome.{Outcome}
 use Rattle.liquid_c.specs.declared.page.Page.{Page as Asked}
@@ -44,10 +48,10 @@ module _ (asked : Asked) (globals old new : List ℕ) (o : Outcome) where
         let all : IsChosen asked.options (chosen.Plain l) = subst (IsChosen asked.options) same is in
         left_in false all.0 all.1.0 (subst (λ k. (page : Page) → ComesTo (library tt filter_calls) k (page_options asked) asked.text.now globals (map bytes_of_partial asked.partials.now) page → Leaves page old new o) all.1.1 leaves)
 
-    -- a page in the language with the standard filters
+    -- a page in the standard language
     pub standard_asked : (l : StandardLanguage) → it ≡ chosen.Standard l
-        → ((page : Page) → ComesTo (library tt filter_calls) (meaning_of filter_made l.value) (page_options asked) asked.text.now globals (map bytes_of_partial asked.partials.now) page → Leaves page old new o)
+        → ((page : Page) → ComesTo (standard marks_alone no_marks filter_calls) (standard_meaning filter_made l.value) (page_options asked) asked.text.now globals (map bytes_of_partial asked.partials.now) page → Leaves page old new o)
         → LeavesOver asked globals old new o
     standard_asked l same leaves =
         let all : IsChosen asked.options (chosen.Standard l) = subst (IsChosen asked.options) same is in
-        left_in true all.0 all.1.0 (subst (λ k. (page : Page) → ComesTo (library tt filter_calls) k (page_options asked) asked.text.now globals (map bytes_of_partial asked.partials.now) page → Leaves page old new o) all.1.1 leaves)
+        left_in true all.0 all.1.0 (subst (λ k. (page : Page) → ComesTo (standard marks_alone no_marks filter_calls) k (page_options asked) asked.text.now globals (map bytes_of_partial asked.partials.now) page → Leaves page old new o) all.1.1 leaves)

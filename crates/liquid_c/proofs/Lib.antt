@@ -1,3 +1,4 @@
 pub mod AskedLemmas
+pub mod ChosenLemmas
 pub mod LeavesLemmas
 pub mod TurnLemmas

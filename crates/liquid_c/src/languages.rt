@@ -2,6 +2,7 @@
 ghost use Rattle.std.specs.Prelude.{◌≡◌, if◌then◌else◌, IfOk, None};
 ghost use Rattle.std.specs.FinMap.{empty};
 ghost use Rattle.liquid_tags.specs.meaning.Languages.{meaning_of};
+ghost use Rattle.liquid_std.specs.meaning.Languages.{meaning_of as standard_meaning};
 ghost use Rattle.std_filters.specs.meaning.Registered.{standard_filters};
 ghost use Rattle.liquid_c.specs.meaning.Languages.{filter_made, plain_language, standard_language};
 ghost use Rattle.liquid_c.specs.meaning.Options.{has_bit, limit_of, page_options};
@@ -10,7 +11,8 @@ ghost use Rattle.liquid_c.specs.steps.Chosen.{IsChosen};
 use crate::page::{LENIENT, Page, SANDBOXED, STANDARD};
 use liquid_core::parser::{Language, PluginRegistry};
 use liquid_pages::PageOptions;
-use liquid_tags::{Blocks, Tags, language};
+use liquid_std::{StdBlocks, StdTags};
+use liquid_tags::{Blocks, Tags};
 use std::alloc::{AllocError, Global};
 use std::rc::Rc;
 use std_filters::{FilterPlugin, StdKind, filters};
@@ -18,8 +20,8 @@ use std_filters::{FilterPlugin, StdKind, filters};
 /// The tags and blocks of `liquid_tags`, without filters.
 pub(crate) type PlainLanguage = Language<FilterPlugin<StdKind>, Tags, Blocks>;
 
-/// The same tags and blocks with the standard filters.
-pub(crate) type StandardLanguage = Language<FilterPlugin<StdKind>, Tags, Blocks>;
+/// The standard tags, blocks and filters.
+pub(crate) type StandardLanguage = Language<FilterPlugin<StdKind>, StdTags, StdBlocks>;
 
 /// The language that the options of a page choose.
 #[derive(Drop)]
@@ -57,18 +59,20 @@ pub(crate) fn page_options(page: &Page<'_>) -> PageOptions
     }
 }
 
-/// Returns the language without filters.
+/// Returns the language of `liquid_tags`, without filters.
 fn plain_language(alloc: Global) -> Result<Rc<PlainLanguage>, AllocError>
     ensures { IfOk result (λ language. meaning_of filter_made language.value ≡ plain_language) }
 {
-    Ok(Rc::new(alloc, language(alloc, PluginRegistry::new(alloc))?)?)
+    let language = liquid_tags::language(alloc, PluginRegistry::new(alloc))?;
+    Ok(Rc::new(alloc, language)?)
 }
 
-/// Returns the language with the standard filters.
+/// Returns the standard language.
 fn standard_language(alloc: Global) -> Result<Rc<StandardLanguage>, AllocError>
-    ensures { IfOk result (λ language. meaning_of filter_made language.value ≡ standard_language) }
+    ensures { IfOk result (λ language. standard_meaning filter_made language.value ≡ standard_language) }
 {
-    Ok(Rc::new(alloc, language(alloc, filters(alloc, None)?)?)?)
+    let language = liquid_std::language(alloc, filters(alloc, None)?)?;
+    Ok(Rc::new(alloc, language)?)
 }
 
 /// Returns the language that these options choose, if there are such options.

@@ -29,7 +29,7 @@ pub struct Page<'a> {
 pub const SANDBOXED: u32 = 1;
 /// A name or an index without a value is nil instead of an error.
 pub const LENIENT: u32 = 2;
-/// The template has the standard filters, where it has none else.
+/// The template is in the standard language instead of that of `liquid_tags` without filters.
 pub const STANDARD: u32 = 4;
 
 /// How a page ended.

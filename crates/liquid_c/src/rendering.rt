@@ -16,6 +16,7 @@ use liquid_core::{Error, Fresh, Place, Sink, TextSink};
 use liquid_pages::{PageFault, PageText, Rendered, render_page};
 use std::alloc::Global;
 use std::rc::Rc;
+use std_marks::Marks;
 
 /// The kinds of an outcome that no fault has.
 const NO_MEMORY: u32 = 6;
@@ -50,7 +51,7 @@ pub(crate) fn render_over(
         Chosen::Plain(language) => render_in::<(), _, _, _>(
             alloc, language, page, globals, out, message,
         ),
-        Chosen::Standard(language) => render_in::<(), _, _, _>(
+        Chosen::Standard(language) => render_in::<Marks, _, _, _>(
             alloc, language, page, globals, out, message,
         ),
     }

@@ -30,7 +30,7 @@ type Row<'a> = (
 
 #[test]
 fn rows(rt: HostRuntime) {
-    let rows: [Row<'_>; 15] = [
+    let rows: [Row<'_>; 16] = [
         (b"", b"{}", 0, 0, 0, 0, 0, 0, b""),
         (b"a{{ x }}c", b"{\"x\": 7}", 0, 0, 9, 0, 0, 3, b"a7c"),
         (b"a{{ x }}c", b"{\"x\": 7}", 0, 0, 2, 7, 0, 3, b"a7"),
@@ -85,6 +85,17 @@ fn rows(rt: HostRuntime) {
             b"<>",
         ),
         (b"{{ 'a' | upcase }}", b"{}", 0, STANDARD, 9, 0, 0, 1, b"A"),
+        (
+            b"{% for i in (1..2) reversed %}{% cycle 'a', 'b' %}{{ i }}{% endfor %}",
+            b"{}",
+            0,
+            STANDARD,
+            9,
+            0,
+            0,
+            4,
+            b"a2b1",
+        ),
         (b"a", b"{}", 0, 8, 9, 8, 0, 0, b""),
     ];
     for (text, globals, count, options, room, kind, line, needed, written) in &rows {

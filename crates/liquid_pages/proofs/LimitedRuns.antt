@@ -1,6 +1,8 @@
 -- A rendering that asks limits is that of the run under limits.
 use Rattle.std.proofs.Common.{◌≡◌, ℕ, ◌+◌, ◌-◌, ◌≤◌, ◌<◌, Bool, true, false, ◌&&◌, ◌⊎◌, inl, inr, List, [], ◌∷◌, ◌++◌, length, Option, None, Some, Result, Ok, Err, arith, refl, sym, ap, subst, ◌∙◌, append_assoc, min, option_map}
 use Rattle.std.specs.Prelude.{MatchOption, nat_le, if◌then◌else◌, IfSome}
+use Rattle.std.proofs.Math.Nat.{min-le_right}
+use Rattle.std.proofs.lemmas.Bool.{le-leb, lt-leb}
 use Rattle.std.proofs.lemmas.List.{append-nil, length-append}
 use Rattle.liquid_error.specs.declared.error.Error.{Error}
 use Rattle.liquid_error.specs.meaning.Refusal.{Refusal}
@@ -11,16 +13,17 @@ use Rattle.liquid_template.specs.meaning.Output.{Gated, IsPast, Output, Passed, 
 use Rattle.liquid_template.specs.meaning.Run.{Run, Step, checkpoints, one_if, pieces, written}
 use Rattle.liquid_template.specs.meaning.Pours.{Pours}
 use Rattle.liquid_template.specs.meaning.Sunk.{Sunk, borrowed}
-use Rattle.liquid_template.proofs.Framing.{later_are}
+use Rattle.liquid_template.specs.declared.gate.Limits.{Limits}
+use Rattle.liquid_template.proofs.Framing.{first_is, later_are}
 use Rattle.liquid_template.proofs.Joins.{checkpoints-append, pieces-append}
 use Rattle.liquid_pages.specs.declared.options.Room.{Room}
-use Rattle.liquid_pages.specs.meaning.Limited.{has_room, room_after, run_within, steps_within, stopped_at, with_step}
+use Rattle.liquid_pages.specs.meaning.Limited.{fresh_gate, has_room, room_after, run_within, steps_within, stopped_at, with_step}
 
 le_true : (m n : ℕ) → m ≤ n → nat_le m n ≡ true
-le_true m n h = omega (arith, h)
+le_true m n h = le-leb m n h
 
 le_false : (m n : ℕ) → n < m → nat_le m n ≡ false
-le_false m n h = omega (arith, h)
+le_false m n h = lt-leb m n h
 
 both : (a b : Bool) → a ≡ true → b ≡ true → (a && b) ≡ true
 both a b h i = rw h (rw i refl)
@@ -32,6 +35,12 @@ not_second : (a b : Bool) → b ≡ false → (a && b) ≡ false
 not_second true b h = h
 not_second false b h = refl
 
+left_over : (a b c : ℕ) → a - b - c ≡ a - (b + c)
+left_over a b c = omega arith
+
+none_less : (n : ℕ) → n ≡ n - 0
+none_less n = omega arith
+
 module _ {Reg : Type 0} where
   abbrev with_front : List (Step Reg) → Run Reg → Run Reg
   with_front front r = record r { steps = front ++ r.steps }
@@ -41,9 +50,6 @@ module _ {Reg : Type 0} where
 
   fits : (room : Room) (step : Step Reg) → one_if step.checkpoint ≤ room.turns → length step.piece ≤ room.bytes → has_room room step ≡ true
   fits room step h i = both (nat_le (one_if step.checkpoint) room.turns) (nat_le (length step.piece) room.bytes) (le_true (one_if step.checkpoint) room.turns h) (le_true (length step.piece) room.bytes i)
-
-  left_over : (a b c : ℕ) → a - b - c ≡ a - (b + c)
-  left_over a b c = omega arith
 
   pieces_first : (step : Step Reg) (front : List (Step Reg)) → length (pieces (step ∷ front)) ≡ length step.piece + length (pieces front)
   pieces_first step front = length-append step.piece (pieces front)
@@ -57,7 +63,9 @@ module _ {Reg : Type 0} where
   -- steps for which there is room stay
   front_stays : (room : Room) (front more : List (Step Reg)) (refusal : Option Refusal) (v : View Reg) → checkpoints front ≤ room.turns → length (pieces front) ≤ room.bytes
       → steps_within room (front ++ more) refusal v ≡ with_front front (steps_within (room_past room front) more refusal v)
-  front_stays room [] more refusal v h i = refl
+  front_stays room [] more refusal v h i =
+      ap (λ n. with_front [] (steps_within (record room { turns = n }) more refusal v)) (none_less room.turns)
+      ∙ ap (λ n. with_front [] (steps_within (record { turns = room.turns - 0; bytes = n }) more refusal v)) (none_less room.bytes)
   front_stays room (step ∷ front) more refusal v h i =
       let turns : one_if step.checkpoint + checkpoints front ≤ room.turns = h in
       let bytes : length step.piece + length (pieces front) ≤ room.bytes = subst (λ n. n ≤ room.bytes) (pieces_first step front) i in
@@ -96,10 +104,10 @@ abbrev fresh_count : ℕ → Option Passed
 fresh_count limit = Some (passed 0 0 (Some limit))
 
 passes_held : (limit n : ℕ) (after : Option Passed) → IsHeld after → Passes (fresh_count limit) n after → n ≤ limit
-passes_held limit n after held is = subst IsHeld is held
+passes_held limit n after held is = let most : 0 + n ≤ limit = subst IsHeld is held in omega (arith, most)
 
 refuses_held : (limit n more : ℕ) (after : Option Passed) → IsHeld after → Refuses (fresh_count limit) n more after → n ≤ limit
-refuses_held limit n more after held is = subst IsHeld is.0 held
+refuses_held limit n more after held is = let most : 0 + n ≤ limit = subst IsHeld is.0 held in omega (arith, most)
 
 up_to_held : (limit n : ℕ) (after : Option Passed) → IsHeld after → PassesUpTo (fresh_count limit) n after → n ≤ limit
 up_to_held limit n after held (inl is) = passes_held limit n after held is
@@ -111,10 +119,14 @@ no_turn_left limit n h i = omega (arith, h, i)
 no_bytes_left : (limit n more : ℕ) → n ≤ limit → limit < n + more → limit - n < more
 no_bytes_left limit n more h i = omega (arith, h, i)
 
+-- what such limits passed and refused
+abbrev pub gated_of : Limits → Gated
+gated_of l = gated_by (passed (min l.turns l.max_turns) l.turns_refused.failures (Some l.max_turns)) (passed (min l.bytes l.max_bytes) l.bytes_refused.failures (Some l.max_bytes))
+
 -- the sink is lent to the gate: it is borrowed under one name before, and under another one after
 module _ {Reg : Type 0} (room : Room) (r : Run Reg) (entry left : View Reg) (before after : Sunk) (name later_name : ℕ) (gate : Gated) (turns_held : IsHeld (Some gate.turns)) (bytes_held : IsHeld (Some gate.bytes)) where
   abbrev At : Output
-  At = gated (borrowed name before) (gated_by (passed 0 0 (Some room.turns)) (passed 0 0 (Some room.bytes)))
+  At = gated (borrowed name before) (fresh_gate room)
 
   abbrev Then : Output
   Then = gated (borrowed later_name after) gate
@@ -234,3 +246,16 @@ module _ {Reg : Type 0} (room : Room) (r : Run Reg) (entry left : View Reg) (bef
 
   pub renders_limited : (answer : Result (Unit {0}) Error) → RendersWithin r entry At Then left answer → Renders (run_within room r) entry before after left answer
   renders_limited answer h = record { outcome = outcome_limited answer h.outcome; frames = h.frames; pours = pours_limited answer h.pours }
+
+-- the limits that a gate leaves behind hold, whatever it was asked
+pub limits_render : {Reg : Type 0} (room : Room) (r : Run Reg) (entry left : View Reg) (before after : Sunk) (name later_name : ℕ) (first : Gated) (limits : Limits) (answer : Result (Unit {0}) Error)
+    → first ≡ fresh_gate room → RendersWithin r entry (gated (borrowed name before) first) (gated (borrowed later_name after) (gated_of limits)) left answer
+    → Renders (run_within room r) entry before after left answer
+limits_render room r entry left before after name later_name first limits answer is h =
+    renders_limited room r entry left before after name later_name (gated_of limits) (min-le_right limits.turns limits.max_turns) (min-le_right limits.bytes limits.max_bytes) answer
+    (subst (λ f. RendersWithin r entry (gated (borrowed name before) f) (gated (borrowed later_name after) (gated_of limits)) left answer) is h)
+
+-- the sink that was lent is the same one
+pub same_name : {Reg : Type 0} (r : Run Reg) (entry left : View Reg) (before after : Sunk) (name later_name : ℕ) (first later : Gated) (answer : Result (Unit {0}) Error)
+    → RendersWithin r entry (gated (borrowed name before) first) (gated (borrowed later_name after) later) left answer → later_name ≡ name
+same_name r entry left before after name later_name first later answer h = first_is later_name name after.lent before.lent h.pours.lent

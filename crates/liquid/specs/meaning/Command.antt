@@ -1,10 +1,11 @@
 -- The command line. In its short form it is `render [--standard] [--sandboxed] [--lenient] TEMPLATE GLOBALS.json [DIR]`,
 -- with the options in any order. Words that are not of this form may be of the long one, `render` and then options and
 -- paths in any order.
-use Rattle.std.specs.Prelude.{◌&&◌, ℕ, ◌+◌, ◌*◌, ◌-◌, List, [], ◌∷◌, ◌++◌, length, Bool, true, false, not, is_some, Option, None, Some, codes, nat_eq, nat_le, nat_lt, if◌then◌else◌}
+use Rattle.std.specs.Prelude.{◌&&◌, ℕ, ◌+◌, ◌*◌, ◌-◌, List, [], ◌∷◌, ◌++◌, length, Bool, true, false, not, is_some, Option, None, Some, option_map, codes, nat_eq, nat_le, nat_lt, if◌then◌else◌}
 use Rattle.std.specs.Option.{option_map_or}
 use Rattle.std.specs.Str.{bytes_eq}
 use Rattle.std.specs.List.{starts_with}
+use Rattle.liquid.specs.declared.command.Command.{Command}
 use Rattle.liquid.specs.declared.command.Options.{Options}
 use Rattle.liquid.specs.declared.command.Limit.{Limit}
 use Rattle.liquid.specs.declared.command.Limit.TheVariants.{Turns, Bytes}
@@ -163,3 +164,7 @@ first_word (word ∷ words) = Some word
 -- the paths of a template, of its globals and of a folder
 abbrev pub path_words : List ℕ → List ℕ → Option (List ℕ) → List (List ℕ)
 path_words template globals folder = template ∷ globals ∷ option_words folder
+
+-- what a command that was read asks for
+abbrev pub asked_of : Command → Asked
+asked_of c = asked c.options (path_words c.paths.template.now c.paths.globals.now (option_map (λ f. f.now) c.paths.folder))

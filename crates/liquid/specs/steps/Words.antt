@@ -1,13 +1,7 @@
--- The words of a command that has been read.
-use Rattle.std.specs.Prelude.{ℕ, List, [], ◌∷◌, option_map}
-use Rattle.liquid.specs.declared.command.Command.{Command}
+-- The paths of the long form, as they are read.
+use Rattle.std.specs.Prelude.{ℕ, List, [], ◌∷◌}
 use Rattle.liquid.specs.declared.long_command.PathsRead.{PathsRead}
 use Rattle.liquid.specs.declared.long_command.PathsRead.TheVariants as read
-use Rattle.liquid.specs.meaning.Command.{Asked, asked, path_words}
-
--- what a command asks for
-abbrev pub asked_of : Command → Asked
-asked_of c = asked c.options (path_words c.paths.template.now c.paths.globals.now (option_map (λ f. f.now) c.paths.folder))
 
 -- the paths that have been read
 abbrev pub words_of : PathsRead → List (List ℕ)

@@ -63,7 +63,7 @@ const ROWS: [Row; 11] = [
         EXPLAINED,
         3,
         "",
-        "liquid: bad JSON in g.json\n  expected value at line 2 column 8\n",
+        "liquid: bad JSON in g.json\n  invalid JSON at line 2 column 8\n",
     ),
     (
         b"x{{ y | }}",
@@ -71,7 +71,7 @@ const ROWS: [Row; 11] = [
         EXPLAINED,
         3,
         "",
-        "liquid: Object expected\n  in g.json\n",
+        "liquid: Object cannot be an array.\n  in g.json\n",
     ),
     (
         b"a{{ x }}",

@@ -11,6 +11,13 @@ use Rattle.liquid_tags.specs.declared.blocks.BlockShape.{BlockShape}
 use Rattle.liquid_tags.specs.declared.block_plugins.PlanShape.{PlanShape}
 use Rattle.liquid_tags.specs.meaning.Languages.{tags_and_blocks}
 use Rattle.liquid_tags.specs.meaning.Library.{library}
+use Rattle.std_marks.specs.meaning.Held.{marks_alone}
+use Rattle.std_marks.specs.meaning.Marks.{no_marks}
+use Rattle.liquid_std.specs.declared.tags.StdTagShape.{StdTagShape}
+use Rattle.liquid_std.specs.declared.blocks.StdBlockShape.{StdBlockShape}
+use Rattle.liquid_std.specs.declared.block_plugins.StdPlanShape.{StdPlanShape}
+use Rattle.liquid_std.specs.meaning.Languages.{tags_and_blocks as standard_tags_and_blocks}
+use Rattle.liquid_std.specs.meaning.Standard.{standard}
 use Rattle.std_filters.specs.declared.call.CallShape.{CallShape}
 use Rattle.std_filters.specs.declared.kinds.StdKind.{StdKind}
 use Rattle.std_filters.specs.declared.plugin.FilterPlugin.{FilterPlugin}
@@ -27,14 +34,15 @@ filter_made plugin arguments = call_made std_sense plugin.kind arguments
 abbrev pub filter_calls : FilterMeaning (CallShape StdKind)
 filter_calls = calls std_sense
 
--- the tags and blocks of the library without filters, and with the standard ones
+-- the tags and blocks of the library without filters
 abbrev pub plain_language : Lang (CallShape StdKind) (TagShape (CallShape StdKind)) PlanShape BlockShape
 plain_language = tags_and_blocks (registry_of filter_made empty)
 
-abbrev pub standard_language : Lang (CallShape StdKind) (TagShape (CallShape StdKind)) PlanShape BlockShape
-standard_language = tags_and_blocks (registry_of filter_made (standard_filters None))
+-- the standard tags, blocks and filters
+abbrev pub standard_language : Lang (CallShape StdKind) (StdTagShape (CallShape StdKind)) StdPlanShape StdBlockShape
+standard_language = standard_tags_and_blocks (registry_of filter_made (standard_filters None))
 
--- the page of these bytes in one of the two languages
+-- the page of these bytes in one of the two languages; the standard one keeps marks, of which there are none at first
 abbrev pub ComesToIn : Bool → PageOptions → List ℕ → List ℕ → List NameAndText → Page → Type 0
 ComesToIn false = ComesTo (library tt filter_calls) plain_language
-ComesToIn true = ComesTo (library tt filter_calls) standard_language
+ComesToIn true = ComesTo (standard marks_alone no_marks filter_calls) standard_language

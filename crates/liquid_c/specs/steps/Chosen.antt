@@ -6,6 +6,9 @@ use Rattle.liquid_parser.specs.declared.plugin.language.Language.{Language}
 use Rattle.liquid_tags.specs.declared.block_plugins.Blocks.{Blocks}
 use Rattle.liquid_tags.specs.declared.tag_plugins.Tags.{Tags}
 use Rattle.liquid_tags.specs.meaning.Languages.{meaning_of}
+use Rattle.liquid_std.specs.declared.block_plugins.StdBlocks.{StdBlocks}
+use Rattle.liquid_std.specs.declared.tag_plugins.StdTags.{StdTags}
+use Rattle.liquid_std.specs.meaning.Languages.{meaning_of as standard_meaning}
 use Rattle.std_filters.specs.declared.kinds.StdKind.{StdKind}
 use Rattle.std_filters.specs.declared.plugin.FilterPlugin.{FilterPlugin}
 use Rattle.liquid_c.specs.declared.languages.Chosen.{Chosen}
@@ -17,10 +20,10 @@ abbrev pub PlainLanguage : Type 0
 PlainLanguage = Rc (Language (FilterPlugin StdKind) Tags Blocks) Global
 
 abbrev pub StandardLanguage : Type 0
-StandardLanguage = Rc (Language (FilterPlugin StdKind) Tags Blocks) Global
+StandardLanguage = Rc (Language (FilterPlugin StdKind) StdTags StdBlocks) Global
 
 abbrev pub IsChosen : ℕ → Chosen → Type 0
 IsChosen options chosen.NoOptions = 8 ≤ options
 IsChosen options chosen.NoMemory = options < 8
 IsChosen options (chosen.Plain l) = (options < 8) × ((has_standard options ≡ false) × (meaning_of filter_made l.value ≡ plain_language))
-IsChosen options (chosen.Standard l) = (options < 8) × ((has_standard options ≡ true) × (meaning_of filter_made l.value ≡ standard_language))
+IsChosen options (chosen.Standard l) = (options < 8) × ((has_standard options ≡ true) × (standard_meaning filter_made l.value ≡ standard_language))

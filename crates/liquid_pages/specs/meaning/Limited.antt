@@ -3,6 +3,7 @@ use Rattle.std.specs.Prelude.{ℕ, ◌-◌, List, [], ◌∷◌, length, Bool, �
 use Rattle.liquid_error.specs.meaning.Refusal.{Refusal}
 use Rattle.liquid_runtime.specs.meaning.View.{View}
 use Rattle.liquid_template.specs.meaning.Outcome.{was_stopped}
+use Rattle.liquid_template.specs.meaning.Output.{Gated, gated_by, passed}
 use Rattle.liquid_template.specs.meaning.Run.{Action, Run, Step, one_if}
 use Rattle.liquid_pages.specs.declared.options.PageOptions.{PageOptions}
 use Rattle.liquid_pages.specs.declared.options.Room.{Room}
@@ -23,6 +24,10 @@ room_given (Some turns) (Some bytes) = Some (room turns bytes)
 
 abbrev pub room_of : PageOptions → Option Room
 room_of options = room_given options.max_turns options.max_bytes
+
+-- what a gate that leaves this room was asked at first
+abbrev pub fresh_gate : Room → Gated
+fresh_gate left = gated_by (passed 0 0 (Some left.turns)) (passed 0 0 (Some left.bytes))
 
 module _ {Reg : Type 0} where
   -- a turn, or a whole piece, passes if there is room for it

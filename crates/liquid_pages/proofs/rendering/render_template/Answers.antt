@@ -4,13 +4,13 @@ use Rattle.liquid_pages.specs.meaning.Pages.{built_over}
 use Rattle.liquid_pages.proofs.PageLemmas.{answer_over, nothing_rendered}
 use Rattle.liquid_pages.proofs.rendering.render_template.Goals as goal
 
-pub returns-else-sandboxed-clause-renders : goal.returns-else-sandboxed-clause-renders
-returns-else-sandboxed-clause-renders g c =
-    answer_over _ _ c.args.options false _ _ _ _ _ _ _ _ _ _ _ c.if-sandboxed.false c.room_of-room.ensures c.render_in_room.ensures (ap (option_map _) c.runtime_of-runtime-else-sandboxed.ensures.store) c.runtime_of-runtime-else-sandboxed.ensures.view c.in-Ok.ensures
+pub returns-else-options-clause-renders : goal.returns-else-options-clause-renders
+returns-else-options-clause-renders g c =
+    answer_over _ _ c.args.options false _ _ _ _ _ _ _ _ _ _ _ c.if-options.false c.room_of-room.ensures c.render_in_room.ensures (ap (option_map _) c.runtime_of-runtime-else-options.ensures.store) c.runtime_of-runtime-else-options.ensures.view c.in-Ok.ensures
 
-pub returns-then-sandboxed-clause-renders : goal.returns-then-sandboxed-clause-renders
-returns-then-sandboxed-clause-renders g c =
-    answer_over _ _ c.args.options true _ _ _ _ _ _ _ _ _ _ _ c.if-sandboxed.true c.room_of-room.ensures c.render_sandboxed_in_room.ensures (ap (option_map _) c.runtime_of-runtime.ensures.store)
+pub returns-then-options-clause-renders : goal.returns-then-options-clause-renders
+returns-then-options-clause-renders g c =
+    answer_over _ _ c.args.options true _ _ _ _ _ _ _ _ _ _ _ c.if-options.true c.room_of-room.ensures c.render_sandboxed_in_room.ensures (ap (option_map _) c.runtime_of-runtime.ensures.store)
     (c.runtime_of-runtime.ensures.view ∙ ap (built_over _ c.args.options.lenient) c.no_names.ensures) c.in-Ok.ensures
 
 pub returns-in-Err-clause-renders : goal.returns-in-Err-clause-renders
