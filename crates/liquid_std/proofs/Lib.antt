@@ -1,3 +1,4 @@
 pub mod PageLemmas
 pub mod SandboxLemmas
 pub mod DivideLemmas
+pub mod CycleLemmas
