@@ -44,7 +44,8 @@ typedef struct liquid_partial {
 
 /* The options of a page: a sum of these. */
 enum {
-    LIQUID_SANDBOXED = 1, /* the template can't change the globals, which are the data of a sandbox */
+    LIQUID_SANDBOXED = 1, /* the globals are the data of a sandbox: what the template assigns goes nowhere, and in
+                             standard Liquid is seen until the page ends */
     LIQUID_LENIENT = 2,   /* a name or an index without a value is nil instead of an error */
     LIQUID_STANDARD = 4   /* the template has the tags, blocks and filters of standard Liquid; else the few tags and
                              blocks of liquid_tags, and no filters */

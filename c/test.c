@@ -88,6 +88,7 @@ static const row_type rows[] = {
     {"a partial", "{% include 'a', y: x %}", "{\"x\": 1}", 1, 0, 0, 0, ROOM, LIQUID_OK, 0, 0, 0, 0, 3, "[1]", ""},
     {"the first of two faults", "{% include 'a', y: 1 %}", "{}", 4, 0, 0, 0, ROOM, LIQUID_NO_TEXT, LIQUID_PARTIAL_TEXT, 1, 0, 0, 0, "", NULL},
     {"sandboxed", "{% assign x = 2 %}{{ x }}", "{\"x\": 1}", 0, LIQUID_SANDBOXED, 0, 0, ROOM, LIQUID_OK, 0, 0, 0, 0, 1, "1", ""},
+    {"a sandbox of the standard language", "{% assign x = 2 %}{{ x }}", "{\"x\": 1}", 0, LIQUID_SANDBOXED | LIQUID_STANDARD, 0, 0, ROOM, LIQUID_OK, 0, 0, 0, 0, 1, "2", ""},
     {"not sandboxed", "{% assign x = 2 %}{{ x }}", "{\"x\": 1}", 0, 0, 0, 0, ROOM, LIQUID_OK, 0, 0, 0, 0, 1, "2", ""},
     {"lenient", "<{{ no.such.name }}>", "{}", 0, LIQUID_LENIENT, 0, 0, ROOM, LIQUID_OK, 0, 0, 0, 0, 2, "<>", ""},
     {"standard", "{{ 'a' | upcase }}", "{}", 0, LIQUID_STANDARD, 0, 0, ROOM, LIQUID_OK, 0, 0, 0, 0, 1, "A", ""},

@@ -151,8 +151,8 @@ def render(
     """Renders a template over globals, and returns the page.
 
     ``globals`` is a mapping, or the JSON of an object. Its values are what JSON has, but for numbers with a
-    fraction. ``partials`` are texts by their names. In a sandbox (``sandboxed``) the template can't change the
-    globals. With ``lenient`` a name without a value is nil instead of an error. With ``standard`` the template
+    fraction. ``partials`` are texts by their names. In a sandbox (``sandboxed``) what the template assigns goes
+    nowhere; a template of standard Liquid sees it until the page ends. With ``lenient`` a name without a value is nil instead of an error. With ``standard`` the template
     has the tags, blocks and filters of standard Liquid; without it, the few tags and blocks of ``liquid_tags``,
     and no filters. A page that takes more than ``max_turns`` turns of tags and blocks, or writes more than
     ``max_bytes`` bytes of UTF-8, is stopped; 0 is no limit.

@@ -20,6 +20,7 @@ class Pages(unittest.TestCase):
         ("{% include 'a', y: 1 %}", {}, {"partials": {"a": "[{{ y }}]", "b": ""}}, "[1]"),
         ("{% assign x = 2 %}{{ x }}", {"x": 1}, {}, "2"),
         ("{% assign x = 2 %}{{ x }}", {"x": 1}, {"sandboxed": True}, "1"),
+        ("{% assign x = 2 %}{{ x }}", {"x": 1}, {"sandboxed": True, "standard": True}, "2"),
         ("<{{ no.name }}>", {}, {"lenient": True}, "<>"),
         ("{{ 'rain' | upcase }}", {}, {"standard": True}, "RAIN"),
         ("{% case x %}{% when 1 or 2 %}few{% else %}many{% endcase %}", {"x": 2}, {"standard": True}, "few"),

@@ -5,12 +5,12 @@ ghost use Rattle.liquid_tags.specs.meaning.Languages.{meaning_of};
 ghost use Rattle.liquid_std.specs.meaning.Languages.{meaning_of as standard_meaning};
 ghost use Rattle.std_filters.specs.meaning.Registered.{standard_filters};
 ghost use Rattle.liquid_c.specs.meaning.Languages.{filter_made, plain_language, standard_language};
-ghost use Rattle.liquid_c.specs.meaning.Options.{has_bit, limit_of, page_options};
+ghost use Rattle.liquid_c.specs.meaning.Options.{has_bit, has_standard, limit_of, page_frame, page_options};
 ghost use Rattle.liquid_c.specs.steps.Chosen.{IsChosen};
 
 use crate::page::{LENIENT, Page, SANDBOXED, STANDARD};
 use liquid_core::parser::{Language, PluginRegistry};
-use liquid_pages::PageOptions;
+use liquid_pages::{PageFrame, PageOptions};
 use liquid_std::{StdBlocks, StdTags};
 use liquid_tags::{Blocks, Tags};
 use std::alloc::{AllocError, Global};
@@ -40,6 +40,18 @@ fn has_bit(options: u32, bit: u32) -> bool
     options & bit != 0
 }
 
+/// Returns where the globals of a page of these options are. In a sandbox, a template of the standard language sees what
+/// it assigns, until the page ends.
+fn page_frame(options: u32) -> PageFrame
+    ensures { result ≡ page_frame (has_bit options 1) (has_standard options) }
+{
+    match (has_bit(options, SANDBOXED), has_bit(options, STANDARD)) {
+        (false, _) => PageFrame::Open,
+        (true, false) => PageFrame::Sandboxed,
+        (true, true) => PageFrame::Isolated,
+    }
+}
+
 /// Returns the limit of this number, if it is one.
 fn limit_of(number: u64) -> Option<u64>
     ensures { result ≡ limit_of number }
@@ -52,7 +64,7 @@ pub(crate) fn page_options(page: &Page<'_>) -> PageOptions
     ensures { result ≡ page_options page.now }
 {
     PageOptions {
-        sandboxed: has_bit(page.options, SANDBOXED),
+        frame: page_frame(page.options),
         lenient: has_bit(page.options, LENIENT),
         max_turns: limit_of(page.max_turns),
         max_bytes: limit_of(page.max_bytes),

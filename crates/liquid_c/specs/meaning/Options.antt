@@ -1,5 +1,7 @@
 -- The options of a page as C gives them: a number of three bits, and two limits.
-use Rattle.std.specs.Prelude.{ℕ, Bool, Option, None, Some, not, nat_eq, bit_and, if◌then◌else◌}
+use Rattle.std.specs.Prelude.{ℕ, Bool, true, false, Option, None, Some, not, nat_eq, bit_and, if◌then◌else◌}
+use Rattle.liquid_pages.specs.declared.options.PageFrame.{PageFrame}
+use Rattle.liquid_pages.specs.declared.options.PageFrame.TheVariants.{Open, Sandboxed, Isolated}
 use Rattle.liquid_pages.specs.declared.options.PageOptions.{PageOptions}
 use Rattle.liquid_c.specs.declared.page.Page.{Page}
 
@@ -10,16 +12,22 @@ has_bit options bit = not (nat_eq (bit_and options bit) 0)
 abbrev pub limit_of : ℕ → Option ℕ
 limit_of number = if nat_eq number 0 then None else Some number
 
--- bit 0: sandboxed; bit 1: lenient
-abbrev pub page_options : Page → PageOptions
-page_options asked =
-    record {
-      sandboxed = has_bit asked.options 1;
-      lenient = has_bit asked.options 2;
-      max_turns = limit_of asked.max_turns;
-      max_bytes = limit_of asked.max_bytes;
-    }
+-- in a sandbox or not, and in the standard language or not
+abbrev pub page_frame : Bool → Bool → PageFrame
+page_frame false standard = Open
+page_frame true false = Sandboxed
+page_frame true true = Isolated
 
 -- bit 2: the standard language
 abbrev pub has_standard : ℕ → Bool
 has_standard options = has_bit options 4
+
+-- bit 0: sandboxed; bit 1: lenient
+abbrev pub page_options : Page → PageOptions
+page_options asked =
+    record {
+      frame = page_frame (has_bit asked.options 1) (has_standard asked.options);
+      lenient = has_bit asked.options 2;
+      max_turns = limit_of asked.max_turns;
+      max_bytes = limit_of asked.max_bytes;
+    }
