@@ -2,7 +2,6 @@ pub mod CommandWords
 pub mod MemoryLemmas
 pub mod GatheredLemmas
 pub mod FolderLemmas
-pub mod GlobalLemmas
 pub mod ExecutedLemmas
 pub mod UntouchedSinks
 pub mod FilesInMemory

@@ -1,5 +1,5 @@
 -- From the contracts of the calls below to what the program says about a rendering and its output.
-use Rattle.std.proofs.Common.{◌≡◌, ℕ, Bool, true, false, List, [], ◌++◌, Option, None, Some, Result, sym, ap, subst, ◌∙◌}
+use Rattle.std.proofs.Common.{◌≡◌, ℕ, Bool, true, false, List, [], ◌++◌, Option, None, Some, option_map, Result, refl, sym, ap, subst, ◌∙◌}
 use Rattle.std.specs.Io.KnownBytes.{Appends, Keeps}
 use Rattle.liquid_template.specs.meaning.Grows.{Grows}
 use Rattle.liquid_template.specs.meaning.Sunk.{Sunk, sunk}
@@ -13,16 +13,23 @@ use Rattle.liquid.specs.meaning.Program.{Prints, Renders, RendersIn, Runs, page_
 use Rattle.liquid.specs.meaning.ProgramLanguage.{PlainLang, StandardLang, plain_language, plain_setting, standard_language, standard_setting}
 use Rattle.liquid.specs.meaning.Status.{settled}
 
+-- texts in memory are their own texts
+texts_are : (partials : Option Texts) → option_map (λ (texts : Texts). texts) partials ≡ partials
+texts_are None = refl
+texts_are (Some texts) = refl
+
 -- a page in the one language, and in the other one
 pub plain_rendered : (page : PageOptions) (l : PlainLang) (text : List ℕ) (globals : Names) (partials : Option Texts) (before after : Sunk) (result : Result (Unit {0}) Error)
-    → l ≡ plain_language → RendersPage plain_setting l page text globals partials before after result → RendersIn false page text globals partials before after result
+    → l ≡ plain_language → RendersPage plain_setting l page text globals (option_map (λ (texts : Texts). texts) partials) before after result → RendersIn false page text globals partials before after result
 plain_rendered page l text globals partials before after result same renders =
-    subst (λ m. RendersPage plain_setting m page text globals partials before after result) same renders
+    subst (λ p. RendersPage plain_setting plain_language page text globals p before after result) (texts_are partials)
+    (subst (λ m. RendersPage plain_setting m page text globals (option_map (λ (texts : Texts). texts) partials) before after result) same renders)
 
 pub standard_rendered : (page : PageOptions) (l : StandardLang) (text : List ℕ) (globals : Names) (partials : Option Texts) (before after : Sunk) (result : Result (Unit {0}) Error)
-    → l ≡ standard_language → RendersPage standard_setting l page text globals partials before after result → RendersIn true page text globals partials before after result
+    → l ≡ standard_language → RendersPage standard_setting l page text globals (option_map (λ (texts : Texts). texts) partials) before after result → RendersIn true page text globals partials before after result
 standard_rendered page l text globals partials before after result same renders =
-    subst (λ m. RendersPage standard_setting m page text globals partials before after result) same renders
+    subst (λ p. RendersPage standard_setting standard_language page text globals p before after result) (texts_are partials)
+    (subst (λ m. RendersPage standard_setting m page text globals (option_map (λ (texts : Texts). texts) partials) before after result) same renders)
 
 -- the language that the options choose
 pub chosen_rendered : (options : Options) (standard : Bool) (page : PageOptions) (text : List ℕ) (globals : Names) (partials : Option Texts) (before after : Sunk) (result : Result (Unit {0}) Error)
