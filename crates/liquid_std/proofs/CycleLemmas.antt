@@ -1,8 +1,20 @@
--- The name in the tokens of a `cycle`.
-use Rattle.std.proofs.Common.{◌≡◌, List, ℕ, codes, Bool, true, false, cond, Option, None, Some, sym, ap, ◌∙◌}
-use Rattle.std.specs.Prelude.{bytes_eq, option_and_then}
-use Rattle.liquid_parser.specs.meaning.Handed.{Token, Tokens, next}
-use Rattle.liquid_std.specs.meaning.CyclesGiven.{if_colon, name_in}
+-- The name in the tokens of a `cycle`, and the values after it.
+use Rattle.std.proofs.Common.{◌≡◌, List, ℕ, codes, Bool, true, false, cond, Option, None, Some, Result, Ok, Err, sym, ap, subst, ◌∙◌}
+use Rattle.std.specs.Prelude.{bytes_eq, option_and_then, IfSome}
+use Rattle.liquid_error.specs.declared.error.Error.{Error}
+use Rattle.liquid_error.specs.meaning.Refusal.{Refusal, ok_then}
+use Rattle.liquid_error.specs.meaning.Told.{Gives, told}
+use Rattle.liquid_plugins.specs.declared.expression.Expression.{Expression}
+use Rattle.liquid_plugins.specs.meaning.Expression.{ExpressionShape}
+use Rattle.liquid_plugins.specs.meaning.ExpressionOf.{expression_of}
+use Rattle.liquid_parser.specs.declared.cursor.token.TagToken.{TagToken}
+use Rattle.liquid_parser.specs.declared.cursor.token.TryMatchToken.{TryMatchToken}
+use Rattle.liquid_parser.specs.declared.cursor.token.TryMatchToken.TheVariants.{Matches, Fails}
+use Rattle.liquid_parser.specs.meaning.Cursors.{IsToken, Tries, FailedToken, matched_of}
+use Rattle.liquid_parser.specs.meaning.Handed.{Token, Tokens, expect_value, next, or_unexpected, unexpected}
+use Rattle.std_marks.specs.declared.groups.GroupShape.TheVariants.{Named}
+use Rattle.std_marks.specs.declared.cycle.CycleShape.{CycleShape}
+use Rattle.liquid_std.specs.meaning.CyclesGiven.{cycled, if_colon, name_in, named_given}
 
 -- what comes of the next token
 abbrev after_name : Token × Tokens → Option (Token × Tokens)
@@ -32,3 +44,42 @@ one_token ts name one none = ap (option_and_then after_name) one ∙ ap (option_
 
 pub no_token : (ts : Tokens) → next ts ≡ None → name_in ts ≡ None
 no_token ts none = ap (option_and_then after_name) none
+
+-- what a token is read as
+module _ (t : Token) where
+  not_refused : (x : Expression) (q : Option ExpressionShape) (o : Option Refusal) → IfSome o (λ r. let read : Result Expression Refusal = Ok x in read ≡ Err r) → IfSome o (λ r. or_unexpected t q ≡ Err r)
+  not_refused x q None h = h
+  not_refused x q (Some r) h = cc h
+
+  refused_alike : (o : Option Refusal) → IfSome o (λ r. let read : Result Expression Refusal = Err (unexpected t) in read ≡ Err r) → IfSome o (λ r. let read : Result ExpressionShape Refusal = Err (unexpected t) in read ≡ Err r)
+  refused_alike None h = h
+  refused_alike (Some r) h = ap (λ q. ok_then q (λ a. Ok (expression_of a))) h
+
+  pub value_read : (token : TagToken) (attempt : TryMatchToken Expression) (result : Result Expression Error) → IsToken token t → Tries expression_of token attempt (expect_value t)
+      → ((u : Token) → FailedToken attempt u → Gives (λ x. x) result (or_unexpected u (matched_of attempt))) → Gives expression_of result (or_unexpected t (expect_value t))
+  value_read token (Matches x) (Ok y) is tries gives = ap (or_unexpected t) tries ∙ ap (λ q. ok_then q (λ a. Ok (expression_of a))) (gives t tt)
+  value_read token (Matches x) (Err e) is tries gives = not_refused x (expect_value t) (told e) (gives t tt)
+  value_read token (Fails u) (Ok y) is tries gives =
+      ap (or_unexpected t) tries.0 ∙ ap (λ q. ok_then q (λ a. Ok (expression_of a))) (gives t (subst (λ k. IsToken k t) (sym tries.1) is))
+  value_read token (Fails u) (Err e) is tries gives =
+      subst (λ o. IfSome (told e) (λ r. or_unexpected t o ≡ Err r)) (sym tries.0) (refused_alike (told e) (gives t (subst (λ k. IsToken k t) (sym tries.1) is)))
+
+  module _ (ts : Tokens) where
+    -- the name, and the values after it
+    abbrev by_values : ExpressionShape → Result (List ExpressionShape) Refusal → Result CycleShape Refusal
+    by_values name values = ok_then values (λ es. Ok (record { group = Named name; values = es }))
+
+    abbrev by_name : Result ExpressionShape Refusal → Result CycleShape Refusal
+    by_name name = ok_then name (λ e. by_values e (cycled ts))
+
+    pub named_read : (name : ExpressionShape) (values : List ExpressionShape) → or_unexpected t (expect_value t) ≡ Ok name → cycled ts ≡ Ok values
+        → named_given t ts ≡ Ok (record { group = Named name; values = values })
+    named_read name values one two = ap by_name one ∙ ap (by_values name) two
+
+    pub values_refused : (name : ExpressionShape) (o : Option Refusal) → or_unexpected t (expect_value t) ≡ Ok name → IfSome o (λ r. cycled ts ≡ Err r) → IfSome o (λ r. named_given t ts ≡ Err r)
+    values_refused name None one h = h
+    values_refused name (Some r) one h = ap by_name one ∙ ap (by_values name) h
+
+    pub name_refused : (o : Option Refusal) → IfSome o (λ r. or_unexpected t (expect_value t) ≡ Err r) → IfSome o (λ r. named_given t ts ≡ Err r)
+    name_refused None h = h
+    name_refused (Some r) h = ap by_name h

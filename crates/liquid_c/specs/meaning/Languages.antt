@@ -44,5 +44,5 @@ standard_language = standard_tags_and_blocks (registry_of filter_made (standard_
 
 -- the page of these bytes in one of the two languages; the standard one keeps marks, of which there are none at first
 abbrev pub ComesToIn : Bool → PageOptions → List ℕ → List ℕ → List NameAndText → Page → Type 0
-ComesToIn false = ComesTo (library tt filter_calls) plain_language
+ComesToIn false = ComesTo (library (tt {0}) filter_calls) plain_language
 ComesToIn true = ComesTo (standard marks_alone no_marks filter_calls) standard_language
