@@ -58,7 +58,7 @@ typedef struct liquid_page {
     size_t partial_count;
     uint32_t options;
     /* A page that takes more turns of tags and blocks, or writes more bytes, is stopped: it ends as LIQUID_REFUSED.
-     * 0 is no limit. */
+     * 0 means no limit. */
     uint64_t max_turns;
     uint64_t max_bytes;
 } liquid_page;

@@ -155,7 +155,7 @@ def render(
     nowhere; a template of standard Liquid sees it until the page ends. With ``lenient`` a name without a value is nil instead of an error. With ``standard`` the template
     has the tags, blocks and filters of standard Liquid; without it, the few tags and blocks of ``liquid_tags``,
     and no filters. A page that takes more than ``max_turns`` turns of tags and blocks, or writes more than
-    ``max_bytes`` bytes of UTF-8, is stopped; 0 is no limit.
+    ``max_bytes`` bytes of UTF-8, is stopped; 0 means no limit.
 
     Raises ``LiquidError`` if the page was not rendered to its end, and ``TypeError`` or ``ValueError`` for
     globals that are not JSON's.
