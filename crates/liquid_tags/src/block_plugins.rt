@@ -13,9 +13,9 @@ ghost use Rattle.liquid_tags.specs.meaning.BlockPlugins.{begun, expect_series, n
 
 use crate::asked::{TOKEN_EXPECTED, alone};
 use crate::blocks::{BlockNode, BlockShape};
-use crate::condition::Condition;
-use crate::read_condition::read_condition;
-use crate::series::Series;
+use crate::for_block::series::Series;
+use crate::if_block::condition::Condition;
+use crate::if_block::read_condition::read_condition;
 use liquid_error::Error;
 use liquid_parser::{
     BlockBody, BlockReflection, ParseBlock, TagToken, TagTokenIter, TryMatchToken,

@@ -6,8 +6,8 @@ ghost use Rattle.liquid_tags.specs.meaning.Tags.{tag_of};
 ghost use Rattle.liquid_tags.specs.meaning.TagPlugins.{assign_given, inclusion_given, increment_given, tag_given};
 
 use crate::asked::{TOKEN_EXPECTED, alone};
-use crate::partials::Inclusion;
-use crate::read_call::read_call;
+use crate::partial_call::call::Inclusion;
+use crate::partial_call::read_call::read_call;
 use crate::tags::TagNode;
 use liquid_error::Error;
 use liquid_parser::{ParseTag, TagReflection, TagTokenIter};

@@ -7,8 +7,8 @@ use Rattle.liquid_parser.specs.meaning.Handed.{Tokens, expect_identifier}
 use Rattle.liquid_parser.specs.meaning.Lang.{Filters}
 use Rattle.liquid_tags.specs.meaning.Asked.{alone, next_as}
 use Rattle.liquid_tags.specs.meaning.CallsGiven.{call_given}
-use Rattle.liquid_tags.specs.declared.partials.Inclusion.{Inclusion}
-use Rattle.liquid_tags.specs.declared.partials.Inclusion.TheVariants as inclusion
+use Rattle.liquid_tags.specs.declared.partial_call.call.Inclusion.{Inclusion}
+use Rattle.liquid_tags.specs.declared.partial_call.call.Inclusion.TheVariants as inclusion
 use Rattle.liquid_tags.specs.declared.tags.TagShape.{TagShape}
 use Rattle.liquid_tags.specs.declared.tags.TagShape.TheVariants.{Assign, Increment, Interrupts, Includes}
 use Rattle.liquid_tags.specs.declared.tag_plugins.Tags.{Tags}
