@@ -1,13 +1,23 @@
 -- The members of an object `forloop`, and what is written over them for the next item.
-use Rattle.std.specs.Prelude.{◌≡◌, ℕ, ℤ, ◌+◌, ◌-◌, ◌==◌, List, [], ◌∷◌, Bool, get_or, pos, cond, nat_lt}
+use Rattle.std.specs.Prelude.{◌≡◌, ℕ, ℤ, ◌+◌, ◌-◌, ◌==◌, List, [], ◌∷◌, Bool, codes, get_or, pos, cond, nat_lt}
 use Rattle.liquid_scalar.specs.meaning.Scalar.{integer, boolean, text, date, date_time}
 use Rattle.liquid_value.specs.meaning.Tree.{Tree, nil, state, scalar, array, object, Members, no_members, member}
 use Rattle.liquid_tags.specs.declared.for_block.kept.Numbers.{Numbers}
-use Rattle.liquid_tags.specs.meaning.Loops.{forloop_members}
 
--- the members are those of a `forloop`, of whatever item
+-- seven members with these truth values and numbers
+abbrev pub seven : Bool → ℤ → ℤ → Bool → ℤ → ℤ → ℤ → Members
+seven a b c d e f g =
+    member (codes "first") (scalar (boolean a)) (
+    member (codes "index") (scalar (integer b)) (
+    member (codes "index0") (scalar (integer c)) (
+    member (codes "last") (scalar (boolean d)) (
+    member (codes "length") (scalar (integer e)) (
+    member (codes "rindex") (scalar (integer f)) (
+    member (codes "rindex0") (scalar (integer g)) no_members))))))
+
+-- the members have the names of a `forloop`, and values of their kinds
 abbrev pub IsForloop : Members → Type 0
-IsForloop ms = (place : ℕ) × (size : ℕ) × (ms ≡ forloop_members place size)
+IsForloop ms = (a : Bool) × (b : ℤ) × (c : ℤ) × (d : Bool) × (e : ℤ) × (f : ℤ) × (g : ℤ) × (ms ≡ seven a b c d e f g)
 
 -- what `forloop` says about the item at a place, for this number of items
 abbrev pub AreNumbers : Numbers → ℕ → ℕ → Type 0
