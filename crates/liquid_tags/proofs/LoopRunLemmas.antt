@@ -1,5 +1,5 @@
 -- The turns of a loop are the bodies of its items.
-use Rattle.std.proofs.Common.{◌≡◌, ℕ, zero, suc, ◌+◌, List, [], ◌∷◌, length, Bool, true, false, cond, Option, None, Some, Ok, refl, ap, ◌∙◌, add-one, arith}
+use Rattle.std.proofs.Common.{◌≡◌, ℕ, suc, ◌+◌, List, [], ◌∷◌, length, Bool, true, false, cond, Option, None, Some, Ok, refl, ap, ◌∙◌, add-one}
 use Rattle.liquid_error.specs.meaning.Refusal.{Refusal, ok_then}
 use Rattle.liquid_value.specs.meaning.Tree.{Tree}
 use Rattle.liquid_runtime.specs.declared.registers.Interrupt.{Interrupt}
@@ -12,11 +12,9 @@ use Rattle.liquid_template.specs.meaning.Actions.{and_then, asks, done, goes_on,
 use Rattle.liquid_template.specs.meaning.Nodes.{Setting, answered, performed, played, started, turns, run_parts}
 use Rattle.liquid_template.specs.meaning.Partials.{partials_at}
 use Rattle.liquid_template.specs.meaning.Run.{Action, Run}
-use Rattle.liquid_tags.specs.declared.blocks.BlockShape.{BlockShape}
 use Rattle.liquid_tags.specs.declared.blocks.BlockShape.TheVariants.{For}
 use Rattle.liquid_tags.specs.declared.blocks.ProgressShape.{ProgressShape}
 use Rattle.liquid_tags.specs.declared.blocks.ProgressShape.TheVariants.{Loop}
-use Rattle.liquid_tags.specs.declared.for_block.rounds.RoundsShape.{RoundsShape}
 use Rattle.liquid_tags.specs.declared.for_block.series.SeriesShape.{SeriesShape}
 use Rattle.liquid_tags.specs.laws.LoopRuns.{LoopRuns, after_body, cleared, item_run, leaves, loop_run}
 use Rattle.liquid_tags.specs.meaning.Blocks.{block_nodes, over_items}
@@ -35,8 +33,9 @@ module _ {Reg : Type 0} where
   goes_on_same None r f g e = ap (λ (q : Run Reg). goes_on None r (λ w. q)) (e r.view)
   goes_on_same (Some refusal) r f g e = refl
 
-  asked_same : (v : View Reg) (f g : Action Reg) → f v ≡ g v → and_then (asks v) f ≡ and_then (asks v) g
-  asked_same v f g e = ap (λ (q : Run Reg). and_then (asks v) (λ w. q)) e
+  -- what follows a checkpoint
+  asked : (v : View Reg) {r q : Run Reg} → r ≡ q → and_then (asks v) (λ w. r) ≡ and_then (asks v) (λ w. q)
+  asked v e = ap (λ (r : Run Reg). and_then (asks v) (λ w. r)) e
 
 module _ {Reg F T P B Q : Type 0} (s : Setting Reg F T P B Q) (partials : List ℕ → Action Reg) (name : List ℕ) (series : SeriesShape) (parts : List (Action Reg)) where
   abbrev loop_at : List Tree → ℕ → ℕ → ℕ → ProgressShape
@@ -72,35 +71,37 @@ module _ {Reg F T P B Q : Type 0} (s : Setting Reg F T P B Q) (partials : List �
   left_clear : (place k : ℕ) (v : View Reg) → place ≡ suc k → left_by place v ≡ cleared v
   left_clear place k v e = ap (λ q. left_by q v) e
 
+  -- a turn after a body
+  after_turn : (place k : ℕ) (turn : TurnShape) (p : ProgressShape) (rest : ProgressShape → Action Reg) (v : View Reg) → place ≡ suc k
+      → follows (cond (is_left place v.interrupt) end_turn turn) p rest (left_by place v) ≡ cond (leaves v.interrupt) (done (cleared v)) (follows turn p rest (cleared v))
+  after_turn place k turn p rest v is_later =
+      followed (is_left place v.interrupt) turn p rest (left_by place v)
+      ∙ ap (λ (b : Bool). cond b (done (left_by place v)) (follows turn p rest (left_by place v))) (is_left_by place k v.interrupt is_later)
+      ∙ ap (λ (w : View Reg). cond (leaves v.interrupt) (done w) (follows turn p rest w)) (left_clear place k v is_later)
+
   -- the turns after a body
   turns_after : (ts : List Tree) (place k size n count : ℕ) (v : View Reg) → place ≡ suc k → count ≡ suc (length ts)
       → takes_turns count (loop_at ts place size n) v ≡ after_body s.fresh name size (part_at parts 0) place ts v
   unfolding turns
   turns_after [] place k size n count v is_later counted =
       ap (λ c. takes_turns c (loop_at [] place size n) v) counted
-      ∙ asked_same v _ _ (
-      followed (is_left place v.interrupt) end_turn (loop_at [] (place + 1) size n) (takes_turns 0) (left_by place v)
-      ∙ either_done (is_left place v.interrupt) (left_by place v)
-      ∙ ap done (left_clear place k v is_later))
+      ∙ asked v (after_turn place k end_turn (loop_at [] (place + 1) size n) (takes_turns 0) v is_later ∙ either_done (leaves v.interrupt) (cleared v))
   turns_after (t ∷ ts) place k size n count v is_later counted =
-      let next = after_body s.fresh name size (part_at parts 0) (place + 1) ts in
-      let item = item_run s.fresh name size (part_at parts 0) place t in
       ap (λ c. takes_turns c (loop_at (t ∷ ts) place size n) v) counted
-      ∙ asked_same v _ _ (
-      followed (is_left place v.interrupt) (item_turn name place size (Some t)) (loop_at ts (place + 1) size n) (takes_turns (length (t ∷ ts))) (left_by place v)
-      ∙ ap (cond (is_left place v.interrupt) (done (left_by place v)))
-      (item_follows place size (length (t ∷ ts)) n t ts (left_by place v)
-      ∙ goes_on_same (item (left_by place v)).refusal (item (left_by place v)) (takes_turns (length (t ∷ ts)) (loop_at ts (place + 1) size n)) next
-      (λ w. turns_after ts (place + 1) place size n (length (t ∷ ts)) w (add-one place) refl))
-      ∙ ap (λ (b : Bool). cond b (done (left_by place v)) (and_then (item (left_by place v)) next)) (is_left_by place k v.interrupt is_later)
-      ∙ ap (λ (w : View Reg). cond (leaves v.interrupt) (done w) (and_then (item w) next)) (left_clear place k v is_later))
+      ∙ asked v (
+      after_turn place k (item_turn name place size (Some t)) (loop_at ts (place + 1) size n) (takes_turns (length (t ∷ ts))) v is_later
+      ∙ ap (λ (r : Run Reg). cond (leaves v.interrupt) (done (cleared v)) r)
+      (item_follows place size (length (t ∷ ts)) n t ts (cleared v)
+      ∙ goes_on_same (item_run s.fresh name size (part_at parts 0) place t (cleared v)).refusal (item_run s.fresh name size (part_at parts 0) place t (cleared v))
+      (takes_turns (length (t ∷ ts)) (loop_at ts (place + 1) size n)) (after_body s.fresh name size (part_at parts 0) (place + 1) ts)
+      (λ w. turns_after ts (place + 1) place size n (length (t ∷ ts)) w (add-one place) refl)))
 
   -- the first turn, and those after it
   first_turn : (size n : ℕ) (t : Tree) (ts : List Tree) (v : View Reg)
       → takes_turns (suc (length (t ∷ ts))) (loop_at (t ∷ ts) 0 size n) v ≡ loop_run s.fresh name size (part_at parts 0) t ts v
   unfolding turns
   first_turn size n t ts v =
-      asked_same v _ _ (
+      asked v (
       item_follows 0 size (length (t ∷ ts)) n t ts v
       ∙ goes_on_same (item_run s.fresh name size (part_at parts 0) 0 t v).refusal (item_run s.fresh name size (part_at parts 0) 0 t v)
       (takes_turns (length (t ∷ ts)) (loop_at ts 1 size n)) (after_body s.fresh name size (part_at parts 0) 1 ts)

@@ -4,7 +4,7 @@ use Rattle.std.specs.BTreeMap.{insert_entry}
 use Rattle.std.specs.Map.Calls.{RetainsPairs}
 use Rattle.liquid_value.proofs.Entries.{Entry, members_view-insert_entry}
 use Rattle.liquid_value.specs.meaning.Members.{put_member}
-use Rattle.liquid_value.specs.meaning.Tree.{Tree, member}
+use Rattle.liquid_value.specs.meaning.Tree.{member}
 use Rattle.liquid_value.specs.meaning.View.{view, members_view}
 use Rattle.liquid_value.specs.declared.value.Value.{Value}
 use Rattle.liquid_tags.specs.declared.for_block.kept.Numbers.{Numbers}

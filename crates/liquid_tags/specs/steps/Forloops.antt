@@ -1,7 +1,7 @@
 -- The members of an object `forloop`, and what is written over them for the next item.
-use Rattle.std.specs.Prelude.{◌≡◌, ℕ, ℤ, ◌+◌, ◌-◌, ◌==◌, List, [], ◌∷◌, Bool, codes, get_or, pos, cond, nat_lt}
-use Rattle.liquid_scalar.specs.meaning.Scalar.{integer, boolean, text, date, date_time}
-use Rattle.liquid_value.specs.meaning.Tree.{Tree, nil, state, scalar, array, object, Members, no_members, member}
+use Rattle.std.specs.Prelude.{◌≡◌, ℕ, ℤ, ◌+◌, ◌-◌, ◌==◌, [], ◌∷◌, Bool, codes, get_or, pos, cond, nat_lt}
+use Rattle.liquid_scalar.specs.meaning.Scalar.{integer, boolean}
+use Rattle.liquid_value.specs.meaning.Tree.{Tree, scalar, Members, no_members, member}
 use Rattle.liquid_tags.specs.declared.for_block.kept.Numbers.{Numbers}
 
 -- seven members with these truth values and numbers
