@@ -48,10 +48,10 @@ pub(crate) fn capture_turn<R: Runtime>(
     ensures borrows { R.lent runtime.new ≡ R.lent runtime.old }
 {
     match mem::replace(text, None) {
-        Some(text) => {
-            runtime.set_global(name.clone()?, Value::scalar(text))?;
-            Ok(Turn::End)
-        }
+        Some(text) => match runtime.set_global(name.clone()?, Value::scalar(text)) {
+            Ok(_) => Ok(Turn::End),
+            Err(error) => Err(error),
+        },
         None => Ok(Turn::Capture(0, Frame::None, None)),
     }
 }
