@@ -24,9 +24,13 @@ pub(crate) fn begun_capture(alloc: Global, tokens: TagTokenIter<'_>) -> Result<S
     ensures { (ts : Tokens) → AreTokens tokens.entry ts → Gives plan_of result (capture_given ts) }
 {
     let mut tokens = tokens;
-    let name = tokens.next_identifier(alloc, TOKEN_EXPECTED)?;
-    let name = String::from_str(alloc, name)?;
-    alone(alloc, tokens, planned(StdBlock::Capture(name)))
+    match tokens.next_identifier(alloc, TOKEN_EXPECTED) {
+        Ok(name) => {
+            let name = String::from_str(alloc, name)?;
+            alone(alloc, tokens, planned(StdBlock::Capture(name)))
+        }
+        Err(error) => Err(error),
+    }
 }
 
 /// Captures the part in the first turn, and assigns its text to the name in the second.

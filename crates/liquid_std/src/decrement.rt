@@ -28,9 +28,13 @@ pub(crate) fn parse_decrement<X: Filter>(
     ensures { (ts : Tokens) → AreTokens tokens.entry ts → Gives (tag_of X.shape) result (decrement_given ts) }
 {
     let mut tokens = tokens;
-    let name = tokens.next_identifier(alloc, TOKEN_EXPECTED)?;
-    let name = String::from_str(alloc, name)?;
-    alone(alloc, tokens, StdTag::Decrement(name))
+    match tokens.next_identifier(alloc, TOKEN_EXPECTED) {
+        Ok(name) => {
+            let name = String::from_str(alloc, name)?;
+            alone(alloc, tokens, StdTag::Decrement(name))
+        }
+        Err(error) => Err(error),
+    }
 }
 
 /// Sets an index variable one lower, and writes the lower number.
@@ -52,8 +56,10 @@ pub(crate) fn decrement<R: Runtime>(
     match one_lower(number) {
         Some(lower) => {
             let text = lower.to_string(alloc)?;
-            runtime.set_index(name.clone()?, Value::scalar(lower))?;
-            Ok(Turn::Text(text))
+            match runtime.set_index(name.clone()?, Value::scalar(lower)) {
+                Ok(_) => Ok(Turn::Text(text)),
+                Err(error) => Err(error),
+            }
         }
         None => Err(past_limit(alloc, name.as_str())),
     }
