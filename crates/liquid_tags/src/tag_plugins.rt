@@ -82,12 +82,23 @@ fn parse_assign<F: ParseFilter>(
         → Gives (tag_of F.Filter.shape) result (assign_given (registry_of F.makes filters.now) ts) }
 {
     let mut tokens = tokens;
-    let name = tokens.next_identifier(alloc, TOKEN_EXPECTED)?;
-    tokens.next_str(alloc, TOKEN_EXPECTED, "=")?;
-    let chain = tokens.next_filter_chain(alloc, TOKEN_EXPECTED, filters)?;
-    let name = String::from_str(alloc, name)?;
-    let chain = Box::new(alloc, chain)?;
-    alone(alloc, tokens, TagNode::Assign(name, chain))
+    match tokens.next_identifier(alloc, TOKEN_EXPECTED) {
+        Ok(name) => match tokens.next_str(alloc, TOKEN_EXPECTED, "=") {
+            Ok(()) => match tokens.next_filter_chain(alloc, TOKEN_EXPECTED, filters) {
+                Ok(chain) => {
+                    let name = String::from_str(alloc, name)?;
+                    alone(
+                        alloc,
+                        tokens,
+                        TagNode::Assign(name, Box::new(alloc, chain)?),
+                    )
+                }
+                Err(error) => Err(error),
+            },
+            Err(error) => Err(error),
+        },
+        Err(error) => Err(error),
+    }
 }
 
 /// Returns the node of an `increment`.
@@ -95,9 +106,13 @@ fn parse_increment<X: Filter>(alloc: Global, tokens: TagTokenIter<'_>) -> Result
     ensures { (ts : Tokens) → AreTokens tokens.entry ts → Gives (tag_of X.shape) result (increment_given ts) }
 {
     let mut tokens = tokens;
-    let name = tokens.next_identifier(alloc, TOKEN_EXPECTED)?;
-    let name = String::from_str(alloc, name)?;
-    alone(alloc, tokens, TagNode::Increment(name))
+    match tokens.next_identifier(alloc, TOKEN_EXPECTED) {
+        Ok(name) => {
+            let name = String::from_str(alloc, name)?;
+            alone(alloc, tokens, TagNode::Increment(name))
+        }
+        Err(error) => Err(error),
+    }
 }
 
 /// Returns the node of an `include` or a `render`.
@@ -108,6 +123,8 @@ fn parse_inclusion<X: Filter>(
 ) -> Result<TagNode<X>, Error>
     ensures { (ts : Tokens) → AreTokens tokens.entry ts → Gives (tag_of X.shape) result (inclusion_given inclusion ts) }
 {
-    let call = read_call(alloc, tokens)?;
-    Ok(TagNode::Includes(inclusion, Box::new(alloc, call)?))
+    match read_call(alloc, tokens) {
+        Ok(call) => Ok(TagNode::Includes(inclusion, Box::new(alloc, call)?)),
+        Err(error) => Err(error),
+    }
 }
