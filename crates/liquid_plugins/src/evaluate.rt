@@ -12,7 +12,7 @@ ghost use Rattle.liquid_plugins.specs.meaning.Evaluation.{Finds, evaluate, expec
 ghost use Rattle.liquid_plugins.specs.meaning.ExpressionOf.{expression_of, expressions_of, name_of, own_indexes_of};
 
 use crate::expression::{Expression, Variable, VariableOf};
-use crate::standing::standing;
+use crate::borrowed::borrow_value;
 use liquid_error::Error;
 use liquid_paths::Path;
 use liquid_runtime::Runtime;
@@ -25,7 +25,7 @@ use std::borrow::CowStr;
 impl Expression {
     /// Returns the value of the expression, or the first error from the left: a literal's value, or what the runtime
     /// has at a variable's path, by `get`. A value that exists in either is borrowed.
-    #[tactic(auto, using(crate::proofs::StandingValues::stands))]
+    #[tactic(auto, using(crate::proofs::BorrowedValues::borrowed_value))]
     pub fn evaluate<'c, R: Runtime>(
         &'c self,
         alloc: Global,
@@ -34,7 +34,7 @@ impl Expression {
         ensures gives { Gives cow_view result (evaluate (R.view runtime.now) (expression_of self.now)) }
         ensures in_place { IfOk result InPlaceOrNil }
     {
-        match standing(alloc, self, runtime) {
+        match borrow_value(alloc, self, runtime) {
             Some(value) => Ok(value),
             None => evaluate(alloc, self, runtime),
         }
@@ -49,7 +49,7 @@ impl Expression {
         ensures gives { Finds cow_view result (try_evaluate (R.view runtime.now) (expression_of self.now)) }
         ensures in_place { IfOk result (λ value. IfSome value InPlace) }
     {
-        match standing(alloc, self, runtime) {
+        match borrow_value(alloc, self, runtime) {
             Some(value) => Ok(Some(value)),
             None => try_evaluate(alloc, self, runtime),
         }

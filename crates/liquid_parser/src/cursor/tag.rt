@@ -17,8 +17,8 @@ use crate::cursor::tokens::TagTokenIter;
 use crate::plugin::block::ParseBlock;
 use crate::plugin::language::Language;
 use crate::plugin::tag::ParseTag;
-use crate::reading::asked::tag_read;
-use crate::reading::closing::{AROUND, behind_tag};
+use crate::reading::dispatch::dispatch;
+use crate::reading::closing::{AROUND, read_after_tag};
 use crate::reading::place::{check, refused_at};
 use crate::reading::stack::ParserState;
 use liquid_error::Error;
@@ -112,11 +112,11 @@ impl<'a> Tag<'a> {
             open: Vec::new(alloc),
             nodes: Vec::new(alloc),
         };
-        let next = match tag_read(alloc, AROUND, &mut state, self, language) {
+        let next = match dispatch(alloc, AROUND, &mut state, self, language) {
             Ok(next) => next,
             Err(error) => return Err(error),
         };
-        match behind_tag(alloc, block.source, block.rest, state, next, language) {
+        match read_after_tag(alloc, block.source, block.rest, state, next, language) {
             Ok((mut nodes, rest)) => {
                 block.rest = rest;
                 match nodes.pop() {
