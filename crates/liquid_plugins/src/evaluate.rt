@@ -92,15 +92,10 @@ fn evaluate<'c, R: Runtime>(
 {
     match expression {
         Expression::Literal(value) => Ok(ValueCow::Borrowed(value)),
-        Expression::Variable(variable) => match named_path(
-            alloc,
-            &variable.variable,
-            &variable.indexes,
-            runtime,
-        ) {
-            Ok(path) => runtime.get(alloc, path.as_slice()),
-            Err(error) => Err(error),
-        },
+        Expression::Variable(variable) => {
+            let path = named_path(alloc, &variable.variable, &variable.indexes, runtime)?;
+            runtime.get(alloc, path.as_slice())
+        }
     }
 }
 
@@ -116,13 +111,8 @@ fn named_path<'c, R: Runtime>(
 {
     let mut path = Path::with_index(alloc, name.as_ref())?;
     for index in indexes {
-        match evaluate(alloc, index, runtime) {
-            Ok(value) => match index_of(alloc, value) {
-                Ok(scalar) => path.push(scalar)?,
-                Err(error) => return Err(error),
-            },
-            Err(error) => return Err(error),
-        }
+        let value = evaluate(alloc, index, runtime)?;
+        path.push(index_of(alloc, value)?)?;
     }
     Ok(path)
 }
