@@ -172,7 +172,7 @@ fn texts_are_objects(rt: HostRuntime) -> std::result::Result<(), Fail> {
 const NO_JSON: &str = r#"["ends too soon", 1, 0, ""]
 ["ends too soon", 1, 1, "{"]
 ["ends too soon", 2, 6, "{\n\"a\": 1"]
-["ends too soon", 1, 7, "{\"a\": "]
+["ends too soon", 1, 6, "{\"a\": "]
 ["is wrong", 1, 7, "{\"a\": }"]
 ["is wrong", 1, 9, "{\"a\": 1,}"]
 ["is wrong", 1, 6, "{\"a\" 1}"]
