@@ -11,8 +11,8 @@ ghost use Rattle.liquid_runtime.specs.meaning.InPlaceOrNil.{InPlaceOrNil};
 ghost use Rattle.liquid_plugins.specs.meaning.Evaluation.{Finds, evaluate, expected_scalar, try_evaluate, named_path, try_named_path};
 ghost use Rattle.liquid_plugins.specs.meaning.ExpressionOf.{expression_of, expressions_of, name_of, own_indexes_of};
 
-use crate::expression::{Expression, Variable, VariableOf};
 use crate::borrowed::borrow_value;
+use crate::expression::{Expression, Variable, VariableOf};
 use liquid_error::Error;
 use liquid_paths::Path;
 use liquid_runtime::Runtime;

@@ -203,10 +203,8 @@ fn is_end(
     match element {
         BlockElement::Tag(tag) => {
             if tag.name == end_name {
-                match tag.tokens.expect_nothing(alloc) {
-                    Ok(()) => Ok(true),
-                    Err(error) => Err(error),
-                }
+                tag.tokens.expect_nothing(alloc)?;
+                Ok(true)
             } else {
                 Ok(false)
             }

@@ -13,8 +13,8 @@ ghost use Rattle.liquid_parser.specs.meaning.WholeTag.{Refuses};
 ghost use Rattle.liquid_parser.specs.meaning.BlockReading.{Parsed, Passes};
 ghost use Rattle.liquid_grammar.specs.meaning.Cover as cover;
 
-use crate::chain::filters::parse_chain;
 use crate::chain::fast_path::{name_node, no_expression};
+use crate::chain::filters::parse_chain;
 use crate::cursor::block::TagBlock;
 use crate::cursor::tag::Tag;
 use crate::cursor::tokens::TagTokenIter;

@@ -35,9 +35,11 @@ impl<F: Drop, T: Drop, B: Drop> Language<F, T, B> {
 /// another one of that name, which is dropped.
 ///
 /// If memory runs out, the language is left as it was, and the plug-in is dropped.
-impl<F: FilterReflection + Drop, T: TagReflection + Drop, B: BlockReflection + Drop>
-    Language<F, T, B>
-{
+impl<F: FilterReflection + Drop, T: TagReflection + Drop, B: BlockReflection + Drop> Language<
+    F,
+    T,
+    B,
+> {
     /// Adds a filter.
     pub fn add_filter(&mut self, alloc: Global, filter: F) -> Result<bool, AllocError>
         ensures replaced { IfOk result (λ replaced. replaced ≡ is_some (get self.old.filters (F.filter_name filter))) }

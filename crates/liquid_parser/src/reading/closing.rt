@@ -57,7 +57,13 @@ pub(crate) fn read_after_tag<
 }
 
 /// Reads the text until no block is open. Returns the nodes then, and what follows.
-fn read_until_closed<'a, 't: 'a, F: ParseFilter + Drop, T: ParseTag<F> + Drop, B: ParseBlock<F> + Drop>(
+fn read_until_closed<
+    'a,
+    't: 'a,
+    F: ParseFilter + Drop,
+    T: ParseTag<F> + Drop,
+    B: ParseBlock<F> + Drop,
+>(
     alloc: Global,
     source: &'t str,
     text: &'t str,

@@ -16,7 +16,7 @@ use crate::plugin::language::Language;
 use crate::plugin::tag::ParseTag;
 use crate::reading::place::refused_at;
 use crate::reading::stack::{Next, ParserState};
-use crate::reading::steps::{close_block, divide_block, begin_block, tag_node};
+use crate::reading::steps::{begin_block, close_block, divide_block, tag_node};
 use liquid_error::Error;
 use liquid_plugins::{Node, ParseFilter};
 use std::alloc::Global;

@@ -86,7 +86,12 @@ fn read_nodes<'a, F: ParseFilter + Drop, T: ParseTag<F> + Drop, B: ParseBlock<F>
 }
 
 /// Returns the nodes of a text that is read to its end.
-pub(crate) fn end_reading<'a, F: ParseFilter + Drop, T: ParseTag<F> + Drop, B: ParseBlock<F> + Drop>(
+pub(crate) fn end_reading<
+    'a,
+    F: ParseFilter + Drop,
+    T: ParseTag<F> + Drop,
+    B: ParseBlock<F> + Drop,
+>(
     alloc: Global,
     source: &str,
     state: ParserState<'a, B, B::Plan, Node<F::Filter, T::Node, B::Node>>,
