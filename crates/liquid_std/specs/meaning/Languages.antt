@@ -1,5 +1,6 @@
 -- The tags and blocks by their names, and what a language of them means.
 use Rattle.std.specs.Prelude.{[], ◌∷◌, Result}
+use Rattle.std.specs.FinMap.{empty}
 use Rattle.liquid_error.specs.meaning.Refusal.{Refusal}
 use Rattle.liquid_runtime.specs.meaning.Maps.{NameMap}
 use Rattle.liquid_plugins.specs.meaning.ArgumentsOf.{Arguments}
@@ -20,12 +21,12 @@ use Rattle.liquid_std.specs.meaning.BlockPlugins.{start_of, whole_block}
 
 abbrev pub the_tags : NameMap StdTags
 the_tags =
-    under_names tag_name
+    under_names tag_name empty
     (Library library.Assign ∷ Library library.Increment ∷ Library library.Break ∷ Library library.Continue ∷ Library library.Include
     ∷ Library library.Render ∷ Decrement ∷ Echo ∷ Cycle ∷ [])
 
 abbrev pub the_blocks : NameMap StdBlocks
-the_blocks = under_names start_of (If ∷ Unless ∷ Case ∷ For ∷ Tablerow ∷ Capture ∷ Ifchanged ∷ Comment ∷ Raw ∷ [])
+the_blocks = under_names start_of empty (If ∷ Unless ∷ Case ∷ For ∷ Tablerow ∷ Capture ∷ Ifchanged ∷ Comment ∷ Raw ∷ [])
 
 -- what a language of such tags and blocks means, by what its filters make of their arguments
 abbrev pub meaning_of : {U F : Type 0} → (U → Arguments → Result F Refusal) → Language U StdTags StdBlocks → Lang F (StdTagShape F) StdPlanShape StdBlockShape

@@ -1,5 +1,5 @@
 -- The tags and blocks by their names, and what a language of them means.
-use Rattle.std.specs.Prelude.{ℕ, List, [], ◌∷◌, map, Result}
+use Rattle.std.specs.Prelude.{ℕ, List, [], ◌∷◌, Result}
 use Rattle.std.specs.FinMap.{empty, insert}
 use Rattle.liquid_error.specs.meaning.Refusal.{Refusal}
 use Rattle.liquid_runtime.specs.meaning.Maps.{NameMap}
@@ -22,15 +22,16 @@ abbrev pub registered : {P : Type 0} → NameMap P → List (List ℕ × P) → 
 registered before [] = before
 registered before (p ∷ ps) = registered (insert before p.0 p.1) ps
 
--- plug-ins under the names that they return
-abbrev pub under_names : {P : Type 0} → (P → List ℕ) → List P → NameMap P
-under_names name plugins = registered empty (map (λ plugin. (name plugin, plugin)) plugins)
+-- the same, each under the name that it returns
+abbrev pub under_names : {P : Type 0} → (P → List ℕ) → NameMap P → List P → NameMap P
+under_names name before [] = before
+under_names name before (p ∷ ps) = under_names name (insert before (name p) p) ps
 
 abbrev pub the_tags : NameMap Tags
-the_tags = under_names tag_name (tags.Assign ∷ tags.Increment ∷ tags.Break ∷ tags.Continue ∷ tags.Include ∷ tags.Render ∷ [])
+the_tags = under_names tag_name empty (tags.Assign ∷ tags.Increment ∷ tags.Break ∷ tags.Continue ∷ tags.Include ∷ tags.Render ∷ [])
 
 abbrev pub the_blocks : NameMap Blocks
-the_blocks = under_names start_of (If ∷ For ∷ Raw ∷ [])
+the_blocks = under_names start_of empty (If ∷ For ∷ Raw ∷ [])
 
 -- what a language of such tags and blocks means, by what its filters make from their arguments
 abbrev pub meaning_of : {U F : Type 0} → (U → Arguments → Result F Refusal) → Language U Tags Blocks → Lang F (TagShape F) PlanShape BlockShape
