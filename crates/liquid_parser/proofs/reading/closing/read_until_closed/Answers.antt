@@ -38,12 +38,12 @@ returns-in-Err-advance-clause-value g c =
     let over = c.in-Ok.ensures c.in-Some.behind.now found.0 found.1 found.2 in
     Closing-refused (language_of g.F.ParseFilter.makes g.T.ParseTag.gives g.B.ParseBlock.block c.args.language.now) c.args.source.now 1 c.args.text.now c.elements.rest.now c.in-Some.behind.now (state_view g.F.Filter.Meant.shape g.T.Node.Meant.shape g.B.Node.Meant.shape g.B.Plan.Meant.shape g.B.ParseBlock.block c.args.state) found.0 (blocks_view g.F.Filter.Meant.shape g.T.Node.Meant.shape g.B.Node.Meant.shape g.B.Plan.Meant.shape g.B.ParseBlock.block c.elements.state.open.items) (shapes_of g.F.Filter.Meant.shape g.T.Node.Meant.shape g.B.Node.Meant.shape c.elements.state.nodes.items) _ c.elements.invariant.2 some found.1 (λ es cover. c.in-Err-advance.ensures.value c.args.source.now c.in-Some.behind.now found.0 es over.1 cover)
 
-pub returns-in-Ok-ended-clause-value : goal.returns-in-Ok-ended-clause-value
-returns-in-Ok-ended-clause-value g c =
+pub returns-in-Ok-end_reading-clause-value : goal.returns-in-Ok-end_reading-clause-value
+returns-in-Ok-end_reading-clause-value g c =
     Closing-end (language_of g.F.ParseFilter.makes g.T.ParseTag.gives g.B.ParseBlock.block c.args.language.now) c.args.source.now 1 (λ v. shapes_of g.F.Filter.Meant.shape g.T.Node.Meant.shape g.B.Node.Meant.shape v.items) c.args.text.now c.elements.rest.now (state_view g.F.Filter.Meant.shape g.T.Node.Meant.shape g.B.Node.Meant.shape g.B.Plan.Meant.shape g.B.ParseBlock.block c.args.state) (blocks_view g.F.Filter.Meant.shape g.T.Node.Meant.shape g.B.Node.Meant.shape g.B.Plan.Meant.shape g.B.ParseBlock.block c.elements.state.open.items) (shapes_of g.F.Filter.Meant.shape g.T.Node.Meant.shape g.B.Node.Meant.shape c.elements.state.nodes.items) c.in-Ok-end_reading.nodes c.elements.rest c.elements.invariant.2 c.in-None.ensures.found refl c.in-Ok-end_reading.ensures
 
-pub returns-in-Err-ended-clause-value : goal.returns-in-Err-ended-clause-value
-returns-in-Err-ended-clause-value g c =
+pub returns-in-Err-end_reading-clause-value : goal.returns-in-Err-end_reading-clause-value
+returns-in-Err-end_reading-clause-value g c =
     Closing-unclosed (language_of g.F.ParseFilter.makes g.T.ParseTag.gives g.B.ParseBlock.block c.args.language.now) c.args.source.now 1 c.args.text.now c.elements.rest.now (state_view g.F.Filter.Meant.shape g.T.Node.Meant.shape g.B.Node.Meant.shape g.B.Plan.Meant.shape g.B.ParseBlock.block c.args.state) (blocks_view g.F.Filter.Meant.shape g.T.Node.Meant.shape g.B.Node.Meant.shape g.B.Plan.Meant.shape g.B.ParseBlock.block c.elements.state.open.items) (shapes_of g.F.Filter.Meant.shape g.T.Node.Meant.shape g.B.Node.Meant.shape c.elements.state.nodes.items) _ c.elements.invariant.2 c.in-None.ensures.found c.in-Err-end_reading.ensures
 
 pub returns-clause-value : goal.returns-clause-value

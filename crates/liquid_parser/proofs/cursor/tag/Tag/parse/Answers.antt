@@ -22,8 +22,8 @@ returns-in-Some-clause-value g c own t es is cover =
     let popped = one_popped _ _ _ (last_node (node_of g.F.Filter.Meant.shape g.T.Node.Meant.shape g.B.Node.Meant.shape) c.pop.new.self.items c.in-Some.node _ c.in-Some.ensures.items refl) one in
     (e.0, e.1, whole ∙ ap (λ ns. Ok (ns, e.0)) popped)
 
-pub returns-in-Ok-behind_tag-clause-value : goal.returns-in-Ok-behind_tag-clause-value
-returns-in-Ok-behind_tag-clause-value g c own t es is cover =
+pub returns-in-Ok-read_after_tag-clause-value : goal.returns-in-Ok-read_after_tag-clause-value
+returns-in-Ok-read_after_tag-clause-value g c own t es is cover =
     let first : tag_read (language_of g.F.ParseFilter.makes g.T.ParseTag.gives g.B.ParseBlock.block c.args.language.now) own 1 [] [] t ≡ Ok (next_view g.F.Filter.Meant.shape g.T.Node.Meant.shape g.B.Node.Meant.shape g.B.Plan.Meant.shape g.B.ParseBlock.block c.in-Ok.next c.dispatch.new.state) =
     sym (ap (λ os. tag_read (language_of g.F.ParseFilter.makes g.T.ParseTag.gives g.B.ParseBlock.block c.args.language.now) own 1 (blocks_view g.F.Filter.Meant.shape g.T.Node.Meant.shape g.B.Node.Meant.shape g.B.Plan.Meant.shape g.B.ParseBlock.block os) (shapes_of g.F.Filter.Meant.shape g.T.Node.Meant.shape g.B.Node.Meant.shape c.new-2.result.items) t) c.new.ensures.items ∙ ap (λ ns. tag_read (language_of g.F.ParseFilter.makes g.T.ParseTag.gives g.B.ParseBlock.block c.args.language.now) own 1 [] (shapes_of g.F.Filter.Meant.shape g.T.Node.Meant.shape g.B.Node.Meant.shape ns) t) c.new-2.ensures.items) ∙ c.in-Ok.ensures own t is in
     let e = c.in-Ok-read_after_tag.ensures.value es cover in
