@@ -27,8 +27,8 @@ pub(crate) fn open_text<P, O: Out>(alloc: Global, going: &mut Going<P>, out: &mu
     going.outer = out.open(alloc);
 }
 
-/// Ends the frame of a turn and gives the node its object back, puts the turn's trace on an error, and returns whether
-/// there is none.
+/// Ends the last frame, if one is open, and gives the node its object back, puts the turn's trace on an error, and
+/// returns whether there is none.
 #[inline(never)]
 pub(crate) fn end_turn<N, S>(
     alloc: Global,
@@ -40,16 +40,18 @@ pub(crate) fn end_turn<N, S>(
 where
     S: Scopes,
     N: Renderable<S::Register>,
-    requires { 0 < length (opened (S.restores scopes.old)) }
-    ensures ends { EndsFirst (S.restores scopes.old) (S.view scopes.old) (S.restores scopes.new) (S.view scopes.new) }
+    ensures ends { 0 < length (opened (S.restores scopes.old))
+        → EndsFirst (S.restores scopes.old) (S.view scopes.old) (S.restores scopes.new) (S.view scopes.new) }
     ensures traced { ErrBecomes (refused_through (option_map (λ s. string_bytes s) going.old.trace)) answer.old answer.new }
     ensures goes_on { result ≡ is_ok answer.new }
     ensures progress { N.Progress.shape going.new.progress ≡ N.Progress.shape going.old.progress }
     ensures store { S.store scopes.new ≡ S.store scopes.old }
     ensures borrows { S.lent scopes.new ≡ S.lent scopes.old }
 {
-    if let Some(names) = scopes.pop_names() {
-        node.recycle(&mut going.progress, names);
+    if scopes.frames() > 0 {
+        if let Some(names) = scopes.pop_names() {
+            node.recycle(&mut going.progress, names);
+        }
     }
     match answer {
         Ok(()) => true,

@@ -6,7 +6,7 @@ use Rattle.liquid_template.specs.steps.Bound.{partials_size}
 use Rattle.liquid_template.proofs.Shapes.{nodes_drop, nodes_end, size_member, size_part, node_text, node_brief, node_name, node_chain, node_tag, node_block}
 use Rattle.liquid_template.proofs.Renderings.{stands, stands_not, left_more, left_none, none_yet, start_goes_at, node_puts, node_chains, node_tags, node_blocks, part_renders, no_part_renders}
 use Rattle.liquid_template.proofs.Framing.{owed_open, framed_kept}
-use Rattle.liquid_template.proofs.Goings.{renders_ok, done_ok, start_none, takes_more, takes_ok, takes_last, turns_over, node_fails, node_stops, node_goes, nodes_over, opens_kept, opens_taken, captured_taken}
+use Rattle.liquid_template.proofs.Goings.{renders_ok, done_ok, start_none, takes_more, takes_ok, takes_last, turns_over, node_fails, node_stops, node_goes, nodes_over, opens_kept, opens_taken, captured_taken, true_not_false}
 use Rattle.liquid_template.proofs.Capturing.{text_stays, closed_aside, closed_around, text_caught, nothing_open, nothing_aside}
 use Rattle.liquid_template.proofs.Keeping.{keeps_all, keeps_store, keeps_both, keeps_ended, keeps_asked}
 use Rattle.liquid_template.specs.steps.Place.{target}
@@ -107,20 +107,31 @@ pub take_tag-returns-in-Next : goal.take_tag-returns-in-Next
 take_tag-returns-in-Next g t c =
     record { takes = (c.in-Next.ensures.turned.1, λ k a x later rest. c.in-Next.ensures.turned.0 [] k a x later rest); owes = c.in-Next.ensures.turned.2; keeps = c.in-Next.ensures.keeps; around = c.in-Next.ensures.around }
 
-pub take_tag-end_turn-requires : goal.take_tag-end_turn-requires
-take_tag-end_turn-requires g t c =
-    owed_open _ _ _ _ _ c.in-Part.ensures.turned.0.owes refl
-
 pub take_tag-returns-in-Part : goal.take_tag-returns-in-Part
 take_tag-returns-in-Part g t c =
-    record { takes = rw c.end_turn.ensures.progress (opens_taken _ _ _ _ _ _ _ _ _ _ _ _ _ _ _ _ _ _ _ _ c.in-Part.ensures.turned.0 refl c.end_turn.ensures.ends _ _ _ c.end_turn.ensures.goes_on c.end_turn.ensures.traced (done_ok _ _ _ c.in-Part.ensures.turned.1)); owes = opens_kept _ _ _ _ _ _ _ _ _ _ _ _ _ _ _ _ _ _ c.in-Part.ensures.turned.0 refl c.end_turn.ensures.ends; keeps = keeps_ended _ _ _ _ _ _ _ c.in-Part.ensures.keeps c.end_turn.ensures.store c.end_turn.ensures.borrows; around = c.in-Part.ensures.around }
+    let ends = c.end_turn.ensures.ends (owed_open _ _ _ _ _ c.in-Part.ensures.turned.0.owes refl) in
+    record { takes = rw c.end_turn.ensures.progress (opens_taken _ _ _ _ _ _ _ _ _ _ _ _ _ _ _ _ _ _ _ _ c.in-Part.ensures.turned.0 refl ends _ _ _ c.end_turn.ensures.goes_on c.end_turn.ensures.traced (done_ok _ _ _ c.in-Part.ensures.turned.1)); owes = opens_kept _ _ _ _ _ _ _ _ _ _ _ _ _ _ _ _ _ _ c.in-Part.ensures.turned.0 refl ends; keeps = keeps_ended _ _ _ _ _ _ _ c.in-Part.ensures.keeps c.end_turn.ensures.store c.end_turn.ensures.borrows; around = c.in-Part.ensures.around }
 
 pub take_tag-returns-then-goes_on-clause-takes : goal.take_tag-returns-then-goes_on-clause-takes
 take_tag-returns-then-goes_on-clause-takes g t c =
     let b = target (g.O.Out.place c.take_turn.new.out) in
     let e = c.caught.ensures ∙ ap (λ x. g.T.Renderable.means.catches (g.T.Meant.shape c.args.tag.now) x (string_bytes c.new.result)) c.end_turn-goes_on.ensures.progress ∙ ap (λ x. g.T.Renderable.means.catches (g.T.Meant.shape c.args.tag.now) (g.T.Progress.Meant.shape c.take_turn.new.going.progress) x) c.new.ensures.bytes in
     captured_taken _ _ _ _ _ _ _ _ _ _ _ _ _ _ _ _ _ _ _ _ _ c.in-Captured.ensures.turned.0
-    (record { start = nothing_open b; last = nothing_open b; left = g.S.Runtime.view c.take_turn.new.scopes; own = c.take_turn.new.answer; rendered = done_ok _ _ _ c.in-Captured.ensures.turned.1; aside = nothing_aside b; ends = c.end_turn-goes_on.ensures.ends; traced = c.end_turn-goes_on.ensures.traced; goes_on = c.end_turn-goes_on.ensures.goes_on; progress = λ _. e })
+    (record { start = nothing_open b; last = nothing_open b; left = g.S.Runtime.view c.take_turn.new.scopes; own = c.take_turn.new.answer; rendered = done_ok _ _ _ c.in-Captured.ensures.turned.1; aside = nothing_aside b; ends = c.end_turn-goes_on.ensures.ends (owed_open _ _ _ _ _ c.in-Captured.ensures.turned.0.owes refl); traced = c.end_turn-goes_on.ensures.traced; goes_on = c.end_turn-goes_on.ensures.goes_on; progress = λ _. e })
+
+pub take_tag-returns-else-goes_on-clause-takes : goal.take_tag-returns-else-goes_on-clause-takes
+take_tag-returns-else-goes_on-clause-takes g t c =
+    let b = target (g.O.Out.place c.take_turn.new.out) in
+    captured_taken _ _ _ _ _ _ _ _ _ _ _ _ _ _ _ _ _ _ _ _ _ c.in-Captured.ensures.turned.0
+    (record { start = nothing_open b; last = nothing_open b; left = g.S.Runtime.view c.take_turn.new.scopes; own = c.take_turn.new.answer; rendered = done_ok _ _ _ c.in-Captured.ensures.turned.1; aside = nothing_aside b; ends = c.end_turn-goes_on.ensures.ends (owed_open _ _ _ _ _ c.in-Captured.ensures.turned.0.owes refl); traced = c.end_turn-goes_on.ensures.traced; goes_on = c.end_turn-goes_on.ensures.goes_on; progress = λ i. absurd (true_not_false _ i c.if-goes_on.false) })
+
+pub take_tag-returns-then-goes_on-clause-owes : goal.take_tag-returns-then-goes_on-clause-owes
+take_tag-returns-then-goes_on-clause-owes g t c =
+    framed_kept _ _ _ _ _ _ _ _ c.in-Captured.ensures.turned.0.owes refl (c.end_turn-goes_on.ensures.ends (owed_open _ _ _ _ _ c.in-Captured.ensures.turned.0.owes refl))
+
+pub take_tag-returns-else-goes_on-clause-owes : goal.take_tag-returns-else-goes_on-clause-owes
+take_tag-returns-else-goes_on-clause-owes g t c =
+    framed_kept _ _ _ _ _ _ _ _ c.in-Captured.ensures.turned.0.owes refl (c.end_turn-goes_on.ensures.ends (owed_open _ _ _ _ _ c.in-Captured.ensures.turned.0.owes refl))
 
 pub take_tag-returns-then-goes_on-clause-keeps : goal.take_tag-returns-then-goes_on-clause-keeps
 take_tag-returns-then-goes_on-clause-keeps g t c =
@@ -130,13 +141,10 @@ pub take_tag-returns-else-goes_on-clause-keeps : goal.take_tag-returns-else-goes
 take_tag-returns-else-goes_on-clause-keeps g t c =
     keeps_ended _ _ _ _ _ _ _ c.in-Captured.ensures.keeps c.end_turn-goes_on.ensures.store c.end_turn-goes_on.ensures.borrows
 
-pub take_tag-end_turn-requires-in-Partial : goal.take_tag-end_turn-requires-in-Partial
-take_tag-end_turn-requires-in-Partial g t c =
-    owed_open _ _ _ _ _ c.in-Partial.ensures.turned.0.owes c.render_partial.ensures.owes
-
 pub take_tag-returns-in-Partial : goal.take_tag-returns-in-Partial
 take_tag-returns-in-Partial g t c =
-    record { takes = rw c.end_turn-in-Partial.ensures.progress (opens_taken _ _ _ _ _ _ _ _ _ _ _ _ _ _ _ _ _ _ _ _ c.in-Partial.ensures.turned.0 c.render_partial.ensures.owes c.end_turn-in-Partial.ensures.ends _ _ _ c.end_turn-in-Partial.ensures.goes_on c.end_turn-in-Partial.ensures.traced (rw c.in-Partial.ensures.keeps.store_finds at c.render_partial.ensures.renders)); owes = opens_kept _ _ _ _ _ _ _ _ _ _ _ _ _ _ _ _ _ _ c.in-Partial.ensures.turned.0 c.render_partial.ensures.owes c.end_turn-in-Partial.ensures.ends; keeps = keeps_ended _ _ _ _ _ _ _ (keeps_both _ _ _ _ _ _ _ c.in-Partial.ensures.keeps c.render_partial.ensures.keeps) c.end_turn-in-Partial.ensures.store c.end_turn-in-Partial.ensures.borrows; around = c.render_partial.ensures.around ∙ c.in-Partial.ensures.around }
+    let ends = c.end_turn-in-Partial.ensures.ends (owed_open _ _ _ _ _ c.in-Partial.ensures.turned.0.owes c.render_partial.ensures.owes) in
+    record { takes = rw c.end_turn-in-Partial.ensures.progress (opens_taken _ _ _ _ _ _ _ _ _ _ _ _ _ _ _ _ _ _ _ _ c.in-Partial.ensures.turned.0 c.render_partial.ensures.owes ends _ _ _ c.end_turn-in-Partial.ensures.goes_on c.end_turn-in-Partial.ensures.traced (rw c.in-Partial.ensures.keeps.store_finds at c.render_partial.ensures.renders)); owes = opens_kept _ _ _ _ _ _ _ _ _ _ _ _ _ _ _ _ _ _ c.in-Partial.ensures.turned.0 c.render_partial.ensures.owes ends; keeps = keeps_ended _ _ _ _ _ _ _ (keeps_both _ _ _ _ _ _ _ c.in-Partial.ensures.keeps c.render_partial.ensures.keeps) c.end_turn-in-Partial.ensures.store c.end_turn-in-Partial.ensures.borrows; around = c.render_partial.ensures.around ∙ c.in-Partial.ensures.around }
 
 pub render_block-returns-in-None-clause-renders : goal.render_block-returns-in-None-clause-renders
 render_block-returns-in-None-clause-renders g t c =
@@ -168,13 +176,10 @@ pub take_block-returns-in-Next : goal.take_block-returns-in-Next
 take_block-returns-in-Next g t c =
     record { takes = (c.in-Next.ensures.turned.1, λ k a x later rest. c.in-Next.ensures.turned.0 _ k a x later rest); owes = c.in-Next.ensures.turned.2; keeps = c.in-Next.ensures.keeps; around = c.in-Next.ensures.around }
 
-pub take_block-end_turn-requires : goal.take_block-end_turn-requires
-take_block-end_turn-requires g t c =
-    owed_open _ _ _ _ _ c.in-Part.ensures.turned.0.owes c.render_part.ensures.owes
-
 pub take_block-returns-in-Part : goal.take_block-returns-in-Part
 take_block-returns-in-Part g t c =
-    record { takes = rw c.end_turn.ensures.progress (opens_taken _ _ _ _ _ _ _ _ _ _ _ _ _ _ _ _ _ _ _ _ c.in-Part.ensures.turned.0 c.render_part.ensures.owes c.end_turn.ensures.ends _ _ _ c.end_turn.ensures.goes_on c.end_turn.ensures.traced (rw c.in-Part.ensures.keeps.store_finds at c.render_part.ensures.renders)); owes = opens_kept _ _ _ _ _ _ _ _ _ _ _ _ _ _ _ _ _ _ c.in-Part.ensures.turned.0 c.render_part.ensures.owes c.end_turn.ensures.ends; keeps = keeps_ended _ _ _ _ _ _ _ (keeps_both _ _ _ _ _ _ _ c.in-Part.ensures.keeps c.render_part.ensures.keeps) c.end_turn.ensures.store c.end_turn.ensures.borrows; around = c.render_part.ensures.around ∙ c.in-Part.ensures.around }
+    let ends = c.end_turn.ensures.ends (owed_open _ _ _ _ _ c.in-Part.ensures.turned.0.owes c.render_part.ensures.owes) in
+    record { takes = rw c.end_turn.ensures.progress (opens_taken _ _ _ _ _ _ _ _ _ _ _ _ _ _ _ _ _ _ _ _ c.in-Part.ensures.turned.0 c.render_part.ensures.owes ends _ _ _ c.end_turn.ensures.goes_on c.end_turn.ensures.traced (rw c.in-Part.ensures.keeps.store_finds at c.render_part.ensures.renders)); owes = opens_kept _ _ _ _ _ _ _ _ _ _ _ _ _ _ _ _ _ _ c.in-Part.ensures.turned.0 c.render_part.ensures.owes ends; keeps = keeps_ended _ _ _ _ _ _ _ (keeps_both _ _ _ _ _ _ _ c.in-Part.ensures.keeps c.render_part.ensures.keeps) c.end_turn.ensures.store c.end_turn.ensures.borrows; around = c.render_part.ensures.around ∙ c.in-Part.ensures.around }
 
 pub take_block-end_captured-requires-clause-frame : goal.take_block-end_captured-requires-clause-frame
 take_block-end_captured-requires-clause-frame g t c =
@@ -182,7 +187,7 @@ take_block-end_captured-requires-clause-frame g t c =
 
 pub take_block-end_captured-requires-clause-text : goal.take_block-end_captured-requires-clause-text
 take_block-end_captured-requires-clause-text g t c =
-    text_stays _ _ _ c.open_text.ensures.opened c.render_part-in-Captured.ensures.around
+    text_stays (g.O.Out.place c.take_turn.new.out) (g.O.Out.place c.open_text.new.out) (g.O.Out.place c.render_part-in-Captured.new.out) c.open_text.ensures.opened c.render_part-in-Captured.ensures.around
 
 pub take_block-returns-in-Captured-clause-takes : goal.take_block-returns-in-Captured-clause-takes
 take_block-returns-in-Captured-clause-takes g t c =
@@ -214,13 +219,10 @@ pub take_block-returns-in-Captured-clause-around : goal.take_block-returns-in-Ca
 take_block-returns-in-Captured-clause-around g t c =
     closed_around _ _ _ _ _ c.open_text.ensures.opened c.render_part-in-Captured.ensures.around c.open_text.ensures.outer c.end_captured.ensures.closed ∙ c.in-Captured.ensures.around
 
-pub take_block-end_turn-requires-in-Partial : goal.take_block-end_turn-requires-in-Partial
-take_block-end_turn-requires-in-Partial g t c =
-    owed_open _ _ _ _ _ c.in-Partial.ensures.turned.0.owes c.render_partial.ensures.owes
-
 pub take_block-returns-in-Partial : goal.take_block-returns-in-Partial
 take_block-returns-in-Partial g t c =
-    record { takes = rw c.end_turn-in-Partial.ensures.progress (opens_taken _ _ _ _ _ _ _ _ _ _ _ _ _ _ _ _ _ _ _ _ c.in-Partial.ensures.turned.0 c.render_partial.ensures.owes c.end_turn-in-Partial.ensures.ends _ _ _ c.end_turn-in-Partial.ensures.goes_on c.end_turn-in-Partial.ensures.traced (rw c.in-Partial.ensures.keeps.store_finds at c.render_partial.ensures.renders)); owes = opens_kept _ _ _ _ _ _ _ _ _ _ _ _ _ _ _ _ _ _ c.in-Partial.ensures.turned.0 c.render_partial.ensures.owes c.end_turn-in-Partial.ensures.ends; keeps = keeps_ended _ _ _ _ _ _ _ (keeps_both _ _ _ _ _ _ _ c.in-Partial.ensures.keeps c.render_partial.ensures.keeps) c.end_turn-in-Partial.ensures.store c.end_turn-in-Partial.ensures.borrows; around = c.render_partial.ensures.around ∙ c.in-Partial.ensures.around }
+    let ends = c.end_turn-in-Partial.ensures.ends (owed_open _ _ _ _ _ c.in-Partial.ensures.turned.0.owes c.render_partial.ensures.owes) in
+    record { takes = rw c.end_turn-in-Partial.ensures.progress (opens_taken _ _ _ _ _ _ _ _ _ _ _ _ _ _ _ _ _ _ _ _ c.in-Partial.ensures.turned.0 c.render_partial.ensures.owes ends _ _ _ c.end_turn-in-Partial.ensures.goes_on c.end_turn-in-Partial.ensures.traced (rw c.in-Partial.ensures.keeps.store_finds at c.render_partial.ensures.renders)); owes = opens_kept _ _ _ _ _ _ _ _ _ _ _ _ _ _ _ _ _ _ c.in-Partial.ensures.turned.0 c.render_partial.ensures.owes ends; keeps = keeps_ended _ _ _ _ _ _ _ (keeps_both _ _ _ _ _ _ _ c.in-Partial.ensures.keeps c.render_partial.ensures.keeps) c.end_turn-in-Partial.ensures.store c.end_turn-in-Partial.ensures.borrows; around = c.render_partial.ensures.around ∙ c.in-Partial.ensures.around }
 
 pub render_part-render_list-requires : goal.render_part-render_list-requires
 render_part-render_list-requires g t c =
