@@ -12,7 +12,7 @@ ghost use Rattle.liquid_template.specs.meaning.Partials.{partial_in, read_tree, 
 
 use crate::compiler::PartialCompiler;
 use crate::source::PartialSource;
-use crate::texts::{Texts, unknown_name};
+use crate::texts::Texts;
 use liquid_error::Error;
 use liquid_parser::{Language, ParseBlock, ParseTag};
 use liquid_plugins::{Filter, Meant, ParseFilter};
@@ -276,7 +276,7 @@ where
             Some(answer) => kept_answer(answer),
             None => match self.read(alloc, name) {
                 Ok(Some(answer)) => answer,
-                Ok(None) => Err(unknown_name(alloc, name, self.texts.names(alloc))),
+                Ok(None) => Err(self.texts.unknown(alloc, name)),
                 Err(_) => Err(Error::Memory),
             },
         }
@@ -303,7 +303,7 @@ where
     ensures count { texts.new.readings.count ≡ texts.old.readings.count + once (contains_key (S.texts texts.old.source) name.now) }
 {
     match texts.read(alloc, name) {
-        Ok(Some(template)) => Ok(Some(Ok(template))),
+        Ok(Some(template)) => Ok(Some(Ok(Rc::new(alloc, template)?))),
         Ok(None) => Ok(None),
         Err(error) => {
             if error.is_memory() {

@@ -8,7 +8,6 @@ mod in_memory;
 mod laws;
 mod lazy;
 mod on_demand;
-mod parsing;
 mod readings;
 mod rendering;
 mod source;

@@ -1,5 +1,5 @@
 //! Partials that are parsed at each request.
-ghost use Rattle.std.specs.Prelude.{◌≡◌, ◌+◌, is_ok, not, option_map, IfOk};
+ghost use Rattle.std.specs.Prelude.{◌≡◌, ◌+◌, option_map, IfOk};
 ghost use Rattle.std.specs.Borrow.{sem, Lends};
 ghost use Rattle.std.specs.FinMap.{contains_key};
 ghost use Rattle.liquid_error.specs.meaning.Told.{Gives};
@@ -11,7 +11,7 @@ ghost use Rattle.liquid_template.specs.meaning.Partials.{partial_in, tree_in};
 
 use crate::compiler::PartialCompiler;
 use crate::source::PartialSource;
-use crate::texts::{Texts, unknown_name};
+use crate::texts::Texts;
 use liquid_error::Error;
 use liquid_parser::{Language, ParseBlock, ParseTag};
 use liquid_plugins::ParseFilter;
@@ -111,7 +111,6 @@ where
         self.texts.names(alloc)
     }
 
-    /// Parses the text of the name. It returns `Err` exactly if reading the text ran out of memory.
     fn try_get(
         &mut self,
         alloc: Global,
@@ -126,10 +125,10 @@ where
             (language_of F.makes T.gives B.block self.old.texts.language.value) (S.texts self.old.texts.source) }
         ensures count { self.new.texts.readings.count ≡ self.old.texts.readings.count
             + once (contains_key (S.texts self.old.texts.source) name.now) }
-        ensures lost { self.new.texts.readings.lost ≡ self.old.texts.readings.lost + once (not (is_ok result)) }
     {
         match self.texts.read(alloc, name) {
-            Ok(found) => Ok(found),
+            Ok(Some(template)) => Ok(Some(Rc::new(alloc, template)?)),
+            Ok(None) => Ok(None),
             Err(error) => {
                 if error.is_memory() {
                     Err(AllocError)
@@ -155,8 +154,8 @@ where
             + once (contains_key (S.texts self.old.texts.source) name.now) }
     {
         match self.texts.read(alloc, name) {
-            Ok(Some(template)) => Ok(template),
-            Ok(None) => Err(unknown_name(alloc, name, self.texts.names(alloc))),
+            Ok(Some(template)) => Ok(Rc::new(alloc, template)?),
+            Ok(None) => Err(self.texts.unknown(alloc, name)),
             Err(error) => Err(error),
         }
     }

@@ -1,18 +1,17 @@
 //! The texts of a source, parsed in a language.
-ghost use Rattle.std.specs.Prelude.{◌≡◌, ◌+◌, ℕ, List, is_some, map, not, option_map, IfOk, IfSome};
+ghost use Rattle.std.specs.Prelude.{◌≡◌, ◌+◌, is_some, map, option_map, Ok, IfOk, IfSome};
 ghost use Rattle.std.specs.FinMap.{contains_key, get, keys};
 ghost use Rattle.liquid_error.specs.meaning.Told.{told, Gives};
 ghost use Rattle.liquid_parser.specs.meaning.Plugins.{language_of};
-ghost use Rattle.liquid_partials.specs.meaning.Compiled.{once};
-ghost use Rattle.liquid_partials.specs.meaning.Keeping.{is_answer};
-ghost use Rattle.liquid_partials.specs.meaning.Kept.{readings, shared_nodes, tried};
+ghost use Rattle.liquid_partials.specs.meaning.Compiled.{as_tree, once};
+ghost use Rattle.liquid_partials.specs.meaning.Kept.{reading, readings, tried};
 ghost use Rattle.liquid_template.specs.meaning.Partials.{unknown_partial};
+ghost use Rattle.liquid_template.specs.meaning.TemplateOf.{template_nodes};
 
-use crate::parsing::read_text;
 use crate::readings::Readings;
 use crate::source::PartialSource;
 use liquid_error::Error;
-use liquid_parser::{Language, ParseBlock, ParseTag};
+use liquid_parser::{Language, ParseBlock, ParseTag, parse};
 use liquid_plugins::ParseFilter;
 use liquid_template::{Template, unknown_partial};
 use std::alloc::{AllocError, Global};
@@ -20,8 +19,8 @@ use std::rc::Rc;
 
 /// A source and the language that its texts are parsed in.
 ///
-/// Both are private to it. Only `read` asks the source for a text, and `read_text`, which parses it, counts that. The
-/// other calls return names, or whether the source has a name.
+/// Both are private to it. Only `read` parses a text: it runs the parser and counts that. The other calls return names,
+/// or whether the source has a name.
 #[derive(Drop)]
 pub struct Texts<S, F, T, B> {
     source: S,
@@ -63,35 +62,39 @@ where
         self.source.names(alloc)
     }
 
+    /// Returns the error for a name that the source doesn't have.
+    pub fn unknown(&self, alloc: Global, name: &str) -> Error
+        ensures { IfSome (told result) (λ refusal. refusal ≡ unknown_partial name.now (keys (S.texts self.now.source))) }
+    {
+        match self.names(alloc) {
+            Ok(names) => unknown_partial(alloc, name, names.as_slice()),
+            Err(_) => Error::Memory,
+        }
+    }
+
     /// Returns the template of a name's text, or its fault, and `None` if the source doesn't have the name.
     pub fn read(
         &mut self,
         alloc: Global,
         name: &str,
-    ) -> Result<Option<Rc<Template<F::Filter, T::Node, B::Node>>>, Error>
-        ensures gives { Gives (option_map (shared_nodes F.Filter.shape T.Node.shape B.Node.shape)) result
+    ) -> Result<Option<Template<F::Filter, T::Node, B::Node>>, Error>
+        ensures gives { Gives (option_map (λ template. template_nodes F.Filter.shape T.Node.shape B.Node.shape template)) result
             (tried (readings (language_of F.makes T.gives B.block self.old.language.value) (S.texts self.old.source)) name.now) }
         ensures source { self.new.source ≡ self.old.source }
         ensures language { self.new.language ≡ self.old.language }
         ensures count { self.new.readings.count ≡ self.old.readings.count + once (contains_key (S.texts self.old.source) name.now) }
-        ensures lost { self.new.readings.lost ≡ self.old.readings.lost + once (not (is_answer result)) }
     {
         if !self.source.contains(name) {
             return Ok(None);
         }
+        self.readings.one_more();
         match self.source.try_get(alloc, name) {
-            Ok(Some(text)) => {
-                match read_text(alloc, text.as_str(), &self.language, &mut self.readings) {
-                    Ok(template) => Ok(Some(template)),
-                    Err(error) => Err(error),
-                }
-            }
+            Ok(Some(text)) => match parsed(alloc, text.as_str(), &self.language) {
+                Ok(template) => Ok(Some(template)),
+                Err(error) => Err(error),
+            },
             Ok(None) => Ok(None),
-            Err(_) => {
-                self.readings.one_more();
-                self.readings.ran_out();
-                Err(Error::Memory)
-            }
+            Err(_) => Err(Error::Memory),
         }
     }
 
@@ -103,13 +106,17 @@ where
     }
 }
 
-/// Returns the error for a name that is not among these, which the source has. It can't read a text.
-pub(crate) fn unknown_name(alloc: Global, name: &str, names: Result<Vec<&str>, AllocError>) -> Error
-    ensures { (listed : List (List ℕ)) → IfOk names (λ names. map (λ name. name.now) names.items ≡ listed)
-        → IfSome (told result) (λ refusal. refusal ≡ unknown_partial name.now listed) }
+/// Returns the template of a text, or the text's fault.
+fn parsed<F: ParseFilter + Drop, T: ParseTag<F> + Drop, B: ParseBlock<F> + Drop>(
+    alloc: Global,
+    text: &str,
+    language: &Language<F, T, B>,
+) -> Result<Template<F::Filter, T::Node, B::Node>, Error>
+    ensures { Gives (template_nodes F.Filter.shape T.Node.shape B.Node.shape) result
+        (as_tree (reading (language_of F.makes T.gives B.block language.now) text.now)) }
 {
-    match names {
-        Ok(names) => unknown_partial(alloc, name, names.as_slice()),
-        Err(_) => Error::Memory,
+    match parse(alloc, text, language) {
+        Ok(nodes) => Ok(Template::new(nodes)),
+        Err(error) => Err(error),
     }
 }

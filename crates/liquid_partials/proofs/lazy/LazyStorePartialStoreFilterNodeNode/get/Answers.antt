@@ -20,7 +20,7 @@ returns-in-Some-clause-keeps g c = kept_stays (is_answer c.kept_answer.result) (
 
 pub returns-in-Ok-None-clause-gives : goal.returns-in-Ok-None-clause-gives
 returns-in-Ok-None-clause-gives g c =
-    if_some (told c.unknown_name.result)
+    if_some (told c.unknown.result)
     (λ r e. partial_found (kept_or_read (λ template. template_nodes g.F.Filter.Meant.shape g.T.Node.Meant.shape g.B.Node.Meant.shape template.value) (language_of g.F.ParseFilter.makes g.T.ParseTag.gives g.B.ParseBlock.block c.args.self.now.texts.language.value) c.args.self.now.kept (g.S.PartialSource.texts c.args.self.now.texts.source)) c.args.name.now None (sym (rw c.in-Ok-None.field-0-is at c.in-Ok-None.ensures.gives))
     ∙ ap (λ names. Err (unknown_partial c.args.name.now names)) (keys-known (λ template. template_nodes g.F.Filter.Meant.shape g.T.Node.Meant.shape g.B.Node.Meant.shape template.value) (language_of g.F.ParseFilter.makes g.T.ParseTag.gives g.B.ParseBlock.block c.args.self.now.texts.language.value) (g.S.PartialSource.texts c.args.self.now.texts.source) c.args.self.now.kept c.args.self.now.known) ∙ ap (λ x. Err x) (sym e))
-    (c.unknown_name.ensures _ (rw c.in-Ok-None.ensures.source at c.names.ensures))
+    (rw c.in-Ok-None.ensures.source at c.unknown.ensures)

@@ -11,7 +11,7 @@ returns-in-Ok-None-clause-gives g c =
     let l = (language_of g.F.ParseFilter.makes g.T.ParseTag.gives g.B.ParseBlock.block c.args.self.now.texts.language.value) in
     let texts = g.S.PartialSource.texts c.args.self.now.texts.source in
     let none = found_none (readings l texts) c.args.name.now (rw c.in-Ok-None.field-0-is at c.in-Ok-None.ensures.gives) in
-    let unknown = c.unknown_name.ensures _ (rw c.in-Ok-None.ensures.source at c.names.ensures) in
-    if_some (told c.unknown_name.result)
+    let unknown = rw c.in-Ok-None.ensures.source at c.unknown.ensures in
+    if_some (told c.unknown.result)
     (λ r e. partial_found (readings l texts) c.args.name.now None none ∙ ap (λ names. Err (unknown_partial c.args.name.now names)) (keys-readings l texts) ∙ ap (λ x. Err x) (sym e))
     unknown

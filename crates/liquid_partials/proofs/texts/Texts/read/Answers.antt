@@ -14,10 +14,10 @@ pub returns-in-Ok-clause-gives : goal.returns-in-Ok-clause-gives
 returns-in-Ok-clause-gives g c =
     let texts = g.S.PartialSource.texts c.args.self.now.source in
     let there : get texts c.args.name.now ≡ Some c.as_str.result.now = sym (rw c.in-Ok-Some.field-0-is at c.in-Ok-Some.ensures) ∙ ap (λ text. Some text) (sym c.as_str.ensures.value) in
-    present (language_of g.F.ParseFilter.makes g.T.ParseTag.gives g.B.ParseBlock.block c.args.self.now.language.value) texts c.args.name.now c.as_str.result.now (Ok (template_nodes g.F.Filter.Meant.shape g.T.Node.Meant.shape g.B.Node.Meant.shape c.in-Ok.template.value)) there (rw c.deref.ensures at c.in-Ok.ensures.gives)
+    present (language_of g.F.ParseFilter.makes g.T.ParseTag.gives g.B.ParseBlock.block c.args.self.now.language.value) texts c.args.name.now c.as_str.result.now (Ok (template_nodes g.F.Filter.Meant.shape g.T.Node.Meant.shape g.B.Node.Meant.shape c.in-Ok.template)) there (rw c.deref.ensures at c.in-Ok.ensures)
 
 pub returns-in-Ok-Some-clause-gives : goal.returns-in-Ok-Some-clause-gives
 returns-in-Ok-Some-clause-gives g c =
     let texts = g.S.PartialSource.texts c.args.self.now.source in
     let there : get texts c.args.name.now ≡ Some c.as_str.result.now = sym (rw c.in-Ok-Some.field-0-is at c.in-Ok-Some.ensures) ∙ ap (λ text. Some text) (sym c.as_str.ensures.value) in
-    if_some (told c.in-Err-read_text.error) (λ r e. present (language_of g.F.ParseFilter.makes g.T.ParseTag.gives g.B.ParseBlock.block c.args.self.now.language.value) texts c.args.name.now c.as_str.result.now (Err r) there e) (rw c.deref.ensures at c.in-Err-read_text.ensures.gives)
+    if_some (told c.in-Err-parsed.error) (λ r e. present (language_of g.F.ParseFilter.makes g.T.ParseTag.gives g.B.ParseBlock.block c.args.self.now.language.value) texts c.args.name.now c.as_str.result.now (Err r) there e) (rw c.deref.ensures at c.in-Err-parsed.ensures)
