@@ -8,16 +8,18 @@ use liquid_plugins::Renderable;
 use liquid_runtime::Scopes;
 use std::alloc::Global;
 
-/// What is kept of a node between its turns: its progress, and the trace of the turn that is being rendered.
+/// What is kept of a node between its turns: its progress, the trace of the turn that is being rendered, and, while a
+/// part is captured, the text that was open before.
 #[derive(Drop)]
 pub(crate) struct Going<P> {
     pub(crate) progress: P,
     pub(crate) trace: Option<String>,
+    pub(crate) outer: Option<String>,
 }
 
 /// Starts a node. On an error, `answer` is that error and nothing is kept.
 #[inline(never)]
-pub(crate) fn begun<N, S>(
+pub(crate) fn start_node<N, S>(
     alloc: Global,
     node: &N,
     scopes: &mut S,
@@ -38,6 +40,7 @@ where
         Ok(progress) => Some(Going {
             progress,
             trace: None,
+            outer: None,
         }),
         Err(error) => {
             *answer = Err(error);
@@ -48,7 +51,7 @@ where
 
 /// Starts a node, and keeps its state in a box, so that the caller's stack holds no more than a pointer.
 #[inline(never)]
-pub(crate) fn begun_apart<N, S>(
+pub(crate) fn start_boxed<N, S>(
     alloc: Global,
     node: &N,
     scopes: &mut S,
@@ -65,7 +68,7 @@ where
     ensures store { S.store scopes.new ≡ S.store scopes.old }
     ensures borrows { S.lent scopes.new ≡ S.lent scopes.old }
 {
-    let going = begun(alloc, node, scopes, answer)?;
+    let going = start_node(alloc, node, scopes, answer)?;
     match Box::new(alloc, going) {
         Ok(going) => Some(going),
         Err(_) => {
@@ -77,6 +80,6 @@ where
 
 /// Drops what was kept of a node.
 #[inline(never)]
-pub(crate) fn let_go<P: Drop>(going: Box<Going<P>>) {
+pub(crate) fn drop_going<P: Drop>(going: Box<Going<P>>) {
     drop(going);
 }

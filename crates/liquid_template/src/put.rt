@@ -1,5 +1,5 @@
-//! Writing the value of a chain.
-ghost use Rattle.std.specs.Prelude.{◌≡◌, Ok};
+//! Putting out what a node without turns renders as.
+ghost use Rattle.std.specs.Prelude.{◌≡◌, IsOk, Ok};
 ghost use Rattle.std.specs.Cow.{cow_str_bytes};
 ghost use Rattle.liquid_error.specs.meaning.Told.{Gives};
 ghost use Rattle.liquid_value.specs.meaning.View.{view as tree_of};
@@ -9,7 +9,7 @@ ghost use Rattle.liquid_plugins.specs.meaning.ExpressionOf.{chain_of};
 ghost use Rattle.liquid_plugins.specs.meaning.NodesOf.{name_chain};
 ghost use Rattle.liquid_template.specs.meaning.Actions.{writes_value};
 ghost use Rattle.liquid_template.specs.meaning.Outcome.{RendersWithin};
-ghost use Rattle.liquid_template.specs.steps.PieceOut.{ValueOut};
+ghost use Rattle.liquid_template.specs.steps.PieceOut.{PieceOut, ValueOut};
 ghost use Rattle.liquid_template.specs.steps.Place.{target, around};
 
 use crate::outlet::Out;
@@ -21,6 +21,24 @@ use liquid_value::Value;
 use liquid_value::render::ValueRender;
 use std::alloc::{AllocError, Global};
 use std::borrow::CowStr;
+
+/// Puts a text out, as one piece.
+#[inline(never)]
+pub(crate) fn put_text<O: Out>(
+    alloc: Global,
+    text: &str,
+    out: &mut O,
+    answer: &mut Result<(), Error>,
+)
+    requires { IsOk answer.old }
+    ensures out { PieceOut text.now (target (O.place out.old)) (target (O.place out.new)) answer.new }
+    ensures around { around (O.place out.new) ≡ around (O.place out.old) }
+{
+    match out.put(alloc, text) {
+        Ok(()) => {}
+        Err(error) => *answer = Err(error),
+    }
+}
 
 /// Returns the text that a value renders as. A text is borrowed in place.
 fn rendered_text(alloc: Global, value: &Value) -> Result<CowStr<'_>, Error>
@@ -38,70 +56,76 @@ fn rendered_text(alloc: Global, value: &Value) -> Result<CowStr<'_>, Error>
     }
 }
 
-/// Writes the text that a value renders as, as one piece. A text is written without a copy, and a number takes no
-/// memory. If there is no memory for the text, nothing is written.
-fn write_value<O: Out>(alloc: Global, out: &mut O, value: &Value) -> Result<(), Error>
-    ensures out { ValueOut (render (tree_of value.now)) (target (O.place out.old)) (target (O.place out.new)) result }
+/// Puts out the text that a value renders as, as one piece. A text is put without a copy, and a number takes no memory.
+/// If there is no memory for the text, nothing is put.
+fn put_value<O: Out>(alloc: Global, value: &Value, out: &mut O, answer: &mut Result<(), Error>)
+    requires { IsOk answer.old }
+    ensures out { ValueOut (render (tree_of value.now)) (target (O.place out.old)) (target (O.place out.new)) answer.new }
     ensures around { around (O.place out.new) ≡ around (O.place out.old) }
 {
     match value {
         Value::Scalar(ScalarOf::Integer(number)) => {
             let mut digits = itoa::Buffer::new();
-            out.put(alloc, digits.format(*number))
+            put_text(alloc, digits.format(*number), out, answer)
         }
-        Value::Scalar(ScalarOf::Str(text)) => out.put(alloc, text.as_str()),
+        Value::Scalar(ScalarOf::Str(text)) => put_text(alloc, text.as_str(), out, answer),
         other => match rendered_text(alloc, other) {
-            Ok(text) => out.put(alloc, text.as_str()),
-            Err(error) => Err(error),
+            Ok(text) => put_text(alloc, text.as_str(), out, answer),
+            Err(error) => *answer = Err(error),
         },
     }
 }
 
-/// Renders a chain: its value's text, as one piece.
+/// Puts out the value of a chain.
 #[inline(never)]
-pub(crate) fn render_chain<X, R, O>(
+pub(crate) fn put_chain<X, R, O>(
     alloc: Global,
     chain: &FilterChain<X>,
     out: &mut O,
     runtime: &R,
-) -> Result<(), Error>
+    answer: &mut Result<(), Error>,
+)
 where
     X: Filter,
     R: Runtime,
     O: Out,
+    requires { IsOk answer.old }
     ensures renders { RendersWithin (writes_value (chain_value X.means (chain_of X.shape chain.now) (R.view runtime.now)) (R.view runtime.now))
-        (R.view runtime.now) (target (O.place out.old)) (target (O.place out.new)) (R.view runtime.now) result }
+        (R.view runtime.now) (target (O.place out.old)) (target (O.place out.new)) (R.view runtime.now) answer.new }
     ensures around { around (O.place out.new) ≡ around (O.place out.old) }
 {
     match chain.evaluate(alloc, runtime) {
-        Ok(value) => write_value(alloc, out, value.as_view()),
-        Err(error) => Err(error),
+        Ok(value) => put_value(alloc, value.as_view(), out, answer),
+        Err(error) => *answer = Err(error),
     }
 }
 
-/// Renders a name alone, as its chain is rendered. If the name has no value, the chain is built to make the error.
+/// Puts out the value of a name alone, as that of its chain. If the name has no value, the chain is built to make the
+/// error.
 #[inline(never)]
-pub(crate) fn render_name<X, R, O>(
+pub(crate) fn put_name<X, R, O>(
     alloc: Global,
     name: &str,
     out: &mut O,
     runtime: &R,
-) -> Result<(), Error>
+    answer: &mut Result<(), Error>,
+)
 where
     X: Filter,
     R: Runtime,
     O: Out,
+    requires { IsOk answer.old }
     ensures renders { RendersWithin (writes_value (chain_value X.means (name_chain name.now) (R.view runtime.now)) (R.view runtime.now))
-        (R.view runtime.now) (target (O.place out.old)) (target (O.place out.new)) (R.view runtime.now) result }
+        (R.view runtime.now) (target (O.place out.old)) (target (O.place out.new)) (R.view runtime.now) answer.new }
     ensures around { around (O.place out.new) ≡ around (O.place out.old) }
 {
     match named_value(name, runtime) {
-        Some(value) => write_value(alloc, out, value),
+        Some(value) => put_value(alloc, value, out, answer),
         None => {
             let made: Result<FilterChain<X>, AllocError> = FilterChain::of_name(alloc, name);
             match made {
-                Ok(chain) => render_chain(alloc, &chain, out, runtime),
-                Err(_) => Err(Error::Memory),
+                Ok(chain) => put_chain(alloc, &chain, out, runtime, answer),
+                Err(_) => *answer = Err(Error::Memory),
             }
         }
     }
