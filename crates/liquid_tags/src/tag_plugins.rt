@@ -3,7 +3,7 @@ ghost use Rattle.liquid_error.specs.meaning.Told.{Gives};
 ghost use Rattle.liquid_parser.specs.meaning.Handed.{Tokens};
 ghost use Rattle.liquid_parser.specs.meaning.Plugins.{AreTokens, registry_of};
 ghost use Rattle.liquid_tags.specs.meaning.Tags.{tag_of};
-ghost use Rattle.liquid_tags.specs.meaning.TagPlugins.{assign_given, inclusion_given, increment_given, tag_given};
+ghost use Rattle.liquid_tags.specs.meaning.TagPlugins.{assign_given, inclusion_given, increment_given, tag_given, tag_name};
 
 use crate::asked::{TOKEN_EXPECTED, alone};
 use crate::partial_call::call::Inclusion;
@@ -27,6 +27,8 @@ pub enum Tags {
 }
 
 impl TagReflection for Tags {
+    ghost tag_name = { tag_name };
+
     fn tag(&self) -> &str {
         match self {
             Tags::Assign => "assign",
