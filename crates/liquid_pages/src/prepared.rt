@@ -89,7 +89,7 @@ where
         Ok(text) => Prepared {
             texts: Some(read_partials(alloc, language, text, partials)),
         },
-        Err(_) => Prepared { texts: None },
+        Err(_fault) => Prepared { texts: None },
     }
 }
 
