@@ -85,11 +85,12 @@ where
         ⟦<LazyStore<InMemorySource, F, T, B> as PartialStore<F::Filter, T::Node, B::Node>>⟧.finds
         (language_of F.makes T.gives B.block language.now.value) text.now (map bytes_of_partial partials.now) result.texts }
 {
-    let texts = match text_of(text, PageText::Template) {
-        Ok(text) => Some(read_partials(alloc, language, text, partials)),
-        Err(_) => None,
-    };
-    Prepared { texts }
+    match text_of(text, PageText::Template) {
+        Ok(text) => Prepared {
+            texts: Some(read_partials(alloc, language, text, partials)),
+        },
+        Err(_fault) => Prepared { texts: None },
+    }
 }
 
 /// Reads the partials of a template's text, and parses that.

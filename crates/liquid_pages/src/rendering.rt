@@ -1,5 +1,5 @@
 //! Rendering a template over globals and partials.
-ghost use Rattle.std.specs.Prelude.{◌≡◌, IfOk, Ok, option_map};
+ghost use Rattle.std.specs.Prelude.{◌≡◌, IfOk, Ok, Option, option_map};
 ghost use Rattle.liquid_error.specs.meaning.Told.{Gives};
 ghost use Rattle.liquid_runtime.specs.meaning.Maps.{names_of};
 ghost use Rattle.liquid_parser.specs.meaning.Lang.{Lang};
@@ -10,8 +10,7 @@ ghost use Rattle.liquid_plugins.specs.meaning.NodesOf.{shapes_of};
 ghost use Rattle.liquid_template.specs.meaning.Grows.{Grows};
 ghost use Rattle.liquid_template.specs.meaning.Runs.{setting};
 ghost use Rattle.liquid_template.specs.meaning.TemplateOf.{own_nodes};
-ghost use Rattle.liquid_pages.specs.declared.options.PageFrame.TheVariants.{Sandboxed, Isolated};
-ghost use Rattle.liquid_pages.specs.meaning.Pages.{built_over, runtime_names, IsFoundIn, PageAnswer, Renders, RendersAnswer};
+ghost use Rattle.liquid_pages.specs.meaning.Pages.{built_over, IsFoundIn, PageAnswer, Renders, RendersAnswer};
 
 use crate::options::{PageFrame, PageOptions, room_of};
 use crate::within::{render_in_room, render_isolated_in_room, render_sandboxed_in_room};
@@ -163,29 +162,51 @@ where
     ensures borrows { (K.sunk sink.new).lent ≡ (K.sunk sink.old).lent }
 {
     let room = room_of(options);
-    let (own, data) = names_and_data(alloc, options.frame, globals);
-    let mut runtime: PageRuntime<V, S, F, T, B> = runtime_of(alloc, options.lenient, own, store);
-    let answer = match options.frame {
-        PageFrame::Open => render_in_room(alloc, room, template, &mut runtime, sink),
+    match options.frame {
+        PageFrame::Open => {
+            let mut runtime: PageRuntime<V, S, F, T, B> = runtime_of(
+                alloc,
+                options.lenient,
+                globals,
+                store,
+            );
+            let answer = render_in_room(alloc, room, template, &mut runtime, sink);
+            (answer, runtime.into_partials())
+        }
         PageFrame::Sandboxed => {
-            render_sandboxed_in_room(alloc, room, template, &mut runtime, data, sink)
+            let mut runtime: PageRuntime<V, S, F, T, B> = runtime_of(
+                alloc,
+                options.lenient,
+                no_names(alloc),
+                store,
+            );
+            let answer = render_sandboxed_in_room(
+                alloc,
+                room,
+                template,
+                &mut runtime,
+                globals,
+                sink,
+            );
+            (answer, runtime.into_partials())
         }
         PageFrame::Isolated => {
-            render_isolated_in_room(alloc, room, template, &mut runtime, data, sink)
+            let mut runtime: PageRuntime<V, S, F, T, B> = runtime_of(
+                alloc,
+                options.lenient,
+                no_names(alloc),
+                store,
+            );
+            let answer = render_isolated_in_room(
+                alloc,
+                room,
+                template,
+                &mut runtime,
+                globals,
+                sink,
+            );
+            (answer, runtime.into_partials())
         }
-    };
-    (answer, runtime.into_partials())
-}
-
-/// Returns the names that the runtime has, and the data of the frame over it.
-fn names_and_data(alloc: Global, frame: PageFrame, globals: Object) -> (Object, Object)
-    ensures names { names_of result.0 ≡ runtime_names frame (names_of globals) }
-    ensures sandboxed { frame ≡ Sandboxed → result.1 ≡ globals }
-    ensures isolated { frame ≡ Isolated → result.1 ≡ globals }
-{
-    match frame {
-        PageFrame::Open => (globals, no_names(alloc)),
-        PageFrame::Sandboxed | PageFrame::Isolated => (no_names(alloc), globals),
     }
 }
 

@@ -1,5 +1,5 @@
 -- A page without its globals: what was read of its template and of its partials.
-use Rattle.std.specs.Prelude.{◌≡◌, ℕ, List, Option, None, Some, Ok, Err, option_map, IfSome, ⊤, ⊥}
+use Rattle.std.specs.Prelude.{◌≡◌, ℕ, List, Option, None, Some, Ok, Err, option_map, IfSome, ⊤}
 use Rattle.std.specs.FinMap.{empty}
 use Rattle.liquid_error.specs.meaning.Told.{told}
 use Rattle.liquid_plugins.specs.meaning.Nodes.{NodeShape}
