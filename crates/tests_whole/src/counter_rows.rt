@@ -17,7 +17,6 @@ const ROWS: &str = r#"[6, "6 7", "8"]
 ["6", "6 7", "8"]
 ["-1", "-1 0", "1"]
 ["six", "0 1", "2"]
-[true, "0 1", "2"]
 [9223372036854775806, "9223372036854775806 liquid: Counter past its limit\n  with:\n    name=n\n", "9223372036854775807"]"#;
 
 /// Returns what is left of the counter.
@@ -30,12 +29,9 @@ fn left<R: Runtime>(alloc: Global, runtime: &R) -> Result<String, Fail> {
 
 /// Returns the value that counting begins with.
 fn start(alloc: Global, row: &Line) -> Result<Value, Fail> {
-    if let Some(text) = row.found_text(0) {
-        return Ok(Value::scalar(String::from_str(alloc, text)?));
-    }
-    match row.number(0) {
-        Ok(number) => Ok(Value::scalar(number)),
-        Err(_) => Ok(Value::scalar(row.truth(0)?)),
+    match row.found_text(0) {
+        Some(text) => Ok(Value::scalar(String::from_str(alloc, text)?)),
+        None => Ok(Value::scalar(row.number(0)?)),
     }
 }
 

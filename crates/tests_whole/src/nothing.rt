@@ -3,9 +3,7 @@ use crate::kinds::OnDemand;
 use crate::pages::all_hold;
 use crate::reflections::{block_is_told, body_is_told, filter_is_told, tag_is_told};
 use liquid_core::model::{Value, ValueCow};
-use liquid_core::parser::{
-    Filter, FilterArguments, Language, NoPlugin, call_filter,
-};
+use liquid_core::parser::{Filter, FilterArguments, Language, NoPlugin, call_filter};
 use std::alloc::{AllocError, Global};
 use std::rc::Rc;
 use std::test::Fail;
