@@ -3,7 +3,7 @@ use crate::fault::{PageFault, PageText};
 use crate::gather::PartialBytes;
 use crate::options::{PageFrame, PageOptions};
 use crate::page::render_page;
-use crate::prepared::{prepare_page, render_prepared};
+use crate::prepared::{PreparedPage, prepare_page, render_prepared};
 use crate::rendered::Rendered;
 use liquid_parser::{Language, NoPlugin};
 use liquid_plugins::PluginRegistry;
@@ -155,11 +155,26 @@ fn is_shown(alloc: Global, language: &Rc<PlainLanguage>, row: &Row<'_>) -> bool 
             text: b"",
         },
     ];
-    let page = render_page::<(), _, _, _>(alloc, language, options, text, globals, &partials);
-    let mut prepared = prepare_page(alloc, language, text, &partials);
-    let first = render_prepared::<(), _, _, _>(alloc, &mut prepared, options, globals);
-    let second = render_prepared::<(), _, _, _>(alloc, &mut prepared, options, globals);
-    ends_as(&page, end, output) && ends_as(&first, end, output) && ends_as(&second, end, output)
+    let mut page = prepare_page(alloc, language, text, &partials);
+    ends_as(
+        &render_page::<(), _, _, _>(alloc, language, options, text, globals, &partials),
+        end,
+        output,
+    ) && is_shown_next(alloc, &mut page, options, globals, end, output)
+        && is_shown_next(alloc, &mut page, options, globals, end, output)
+}
+
+/// Returns `true` if the next rendering of a page ends so, with this output.
+fn is_shown_next(
+    alloc: Global,
+    page: &mut PreparedPage<NoPlugin, NoPlugin, NoPlugin>,
+    options: PageOptions,
+    globals: &[u8],
+    end: &str,
+    output: &[u8],
+) -> bool {
+    let rendered = render_prepared::<(), _, _, _>(alloc, page, options, globals);
+    ends_as(&rendered, end, output)
 }
 
 /// Returns `true` if a page ends so, with this output.
