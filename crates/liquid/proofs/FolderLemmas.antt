@@ -71,7 +71,7 @@ read_memory known folder ending names rest source fault so_far memory =
 pub read_all : (known : Files) (folder ending : List ℕ) (names rest : List (List ℕ)) (source : Texts) → ReadSoFar known folder ending names rest source → rest ≡ []
     → WithFiles known folder ending names empty (Stops (Ok source)) (λ texts. Brings (λ (s : Texts). s) texts (Ok source))
 read_all known folder ending names rest source so_far none =
-    subst (λ ns. Read known folder ns empty source) (sym (so_far.1 ∙ ap (λ ns. so_far.0 ++ ns) none ∙ append-nil so_far.0)) so_far.2
+    subst (λ ns. Read known folder ending ns empty source) (sym (so_far.1 ∙ ap (λ ns. so_far.0 ++ ns) none ∙ append-nil so_far.0)) so_far.2
 
 -- the names in order, then the files under them
 pub folder_read : (known : Files) (folder : List ℕ) (ending : Option (List ℕ)) (listed : Option (Option (List (List ℕ)))) (names : BTreeMap (String Global) (Unit {0})) (stop : Type 0) (next : Texts → Type 0)

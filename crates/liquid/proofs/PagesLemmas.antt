@@ -19,7 +19,7 @@ use Rattle.liquid.specs.meaning.PagesCommand.{AskedPages}
 use Rattle.liquid.specs.meaning.Program.{ExecutesOne, Fails, Finishes, Printed, Renders, status_of}
 use Rattle.liquid.specs.meaning.Status.{exit_status, fault_status}
 use Rattle.liquid.specs.meaning.Written.{Lands, WritesEach, WritesFile, WritesNothing, WritesPages, file_in, first_fault, pages_folder}
-use Rattle.liquid.specs.steps.Steps.{Stops, Brings}
+use Rattle.liquid.specs.steps.Steps.{Stops, Brings, all_status}
 use Rattle.liquid.proofs.GatheredLemmas.{Files, Folders, text_follows, globals_follow, partials_follow, text_anyhow, globals_anyhow, partials_anyhow}
 use Rattle.liquid.proofs.ExecutedLemmas.{finishes_memory, stopped}
 
@@ -77,6 +77,33 @@ pub maybe_globals : (given : Option (Result Members Refusal)) (stop : Type 0) (f
 maybe_globals None stop first goes with a = tt
 maybe_globals (Some (Err refusal)) stop first goes with a = tt
 maybe_globals (Some (Ok members)) stop first goes with a = with (global_names members) a
+
+-- two statements about the same globals, neither of which says that they are there
+pub both_given : (given : Option (Result Members Refusal)) (first other goes : Names → Type 0) → ((names : Names) → first names → other names → goes names)
+    → WithGlobals given ⊤ first → WithGlobals given ⊤ other → WithGlobals given ⊤ goes
+both_given None first other goes with a b = tt
+both_given (Some (Err refusal)) first other goes with a b = tt
+both_given (Some (Ok members)) first other goes with a b = with (global_names members) a b
+
+-- the status of pages that were not begun
+pub failed_all : (result : Result ℕ Fault) (fault : Fault) → result ≡ Err fault → all_status result ≡ fault_status fault
+failed_all result fault is = ap all_status is
+
+-- one more page
+pub each_more : (json : List ℕ) (pages : AskedPages) (partials : Option Texts) (templates rest : List (List ℕ)) (template : List ℕ) (known before between at left : Files) (status one next result : ℕ)
+    → templates ≡ template ∷ rest → before ≡ known → at ≡ between → next ≡ first_fault status one
+    → WithGlobals (object_read json) ⊤ (λ globals. WritesFile (ExecutesOne pages.options template globals partials before) (file_in (pages_folder pages.output) template) before between one)
+    → WithGlobals (object_read json) ⊤ (λ globals. WritesEach pages globals partials rest at left next result)
+    → WithGlobals (object_read json) ⊤ (λ globals. WritesEach pages globals partials templates known left status result)
+each_more json pages partials templates rest template known before between at left status one next result split same_before same_at same_next wrote others =
+    subst (λ ts. WithGlobals (object_read json) ⊤ (λ globals. WritesEach pages globals partials ts known left status result)) (sym split)
+    (both_given (object_read json) _ _ (λ globals. WritesEach pages globals partials (template ∷ rest) known left status result)
+    (λ globals w o. (
+      between,
+      one,
+      subst (λ (k : Files). WritesFile (ExecutesOne pages.options template globals partials k) (file_in (pages_folder pages.output) template) k between one) same_before w,
+      subst (λ (k : Files). WritesEach pages globals partials rest k left (first_fault status one) result) same_at (subst (λ n. WritesEach pages globals partials rest at left n result) same_next o),
+    )) wrote others)
 
 -- one template over globals and partials that were read before
 module _ (options : Options) (template : List ℕ) (globals : Names) (partials : Option Texts) (known : Files) (at : Sunk) (status : ℕ) where

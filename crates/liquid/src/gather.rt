@@ -94,19 +94,29 @@ fn names_in<'w, F: Folder>(
     ending: Option<&str>,
     folder: &'w str,
 ) -> Result<BTreeMap<String, ()>, Fault<'w>>
-    ensures names { WithNames (F.listed files.old (is_some ending.entry) folder.now) (Stops result)
+    ensures names { WithNames (F.listed files.old (is_some (option_map (λ e. e.now) ending.entry)) folder.now) (Stops result)
         (λ names. Brings by_name (names_into (option_map (λ e. e.now) ending.entry) empty names) result) }
     ensures command { IfErr result (λ fault. fault_status fault ≢ 2) }
     ensures same { F.known files.new ≡ F.known files.old }
     ensures listed { F.listed files.new ≡ F.listed files.old }
 {
-    match files.list(alloc, folder, ending.is_some()) {
+    match files.list(alloc, folder, is_deep(ending)) {
         Ok(names) => match in_order(alloc, ending, names) {
             Ok(names) => Ok(names),
             Err(_) => Err(Fault::Refused(Error::Memory)),
         },
         Err(Unread::Fault) => Err(Fault::Unreadable(folder)),
         Err(Unread::Memory) => Err(Fault::Refused(Error::Memory)),
+    }
+}
+
+/// Returns `true` if partials have an ending. Then those in subfolders are among them.
+fn is_deep(ending: Option<&str>) -> bool
+    ensures { result ≡ is_some (option_map (λ e. e.now) ending.entry) }
+{
+    match ending {
+        Some(_) => true,
+        None => false,
     }
 }
 
@@ -165,7 +175,7 @@ fn partials_in<'w, F: Folder>(
     folder: &'w str,
 ) -> Result<InMemorySource, Fault<'w>>
     ensures partials { WithFolder (F.known files.old) folder.now (option_map (λ e. e.now) ending.entry)
-        (F.listed files.old (is_some ending.entry) folder.now)
+        (F.listed files.old (is_some (option_map (λ e. e.now) ending.entry)) folder.now)
         (Stops result) (λ texts. Brings (λ source. source) texts result) }
     ensures command { IfErr result (λ fault. fault_status fault ≢ 2) }
     ensures same { F.known files.new ≡ F.known files.old }

@@ -1,5 +1,5 @@
 //! Writing several pages over the same globals and partials.
-ghost use Rattle.std.specs.Prelude.{◌≡◌, ◌≢◌, IfErr, map, string_bytes, ⊤};
+ghost use Rattle.std.specs.Prelude.{◌≡◌, ◌≢◌, IfOk, map, string_bytes, ⊤};
 ghost use Rattle.liquid_template.specs.meaning.Grows.{Grows};
 ghost use Rattle.liquid_json.specs.meaning.Given.{object_read};
 ghost use Rattle.liquid.specs.meaning.Gathered.{WithGlobals};
@@ -25,7 +25,7 @@ use crate::run::{settle, tell};
 use crate::write::{file_of_pages, land};
 use liquid_core::partials::InMemorySource;
 use liquid_core::{Error, Sink, WriterSink};
-use std::alloc::Global;
+use std::alloc::{AllocError, Global};
 use std::io::Write;
 
 /// Reads the globals and the partials, and writes the page of each template to its file. Returns the first status that
@@ -55,7 +55,12 @@ fn write_all<'w, F: Folder, E: Write>(
     pages: Pages<'w>,
     files: &mut F,
     err: &mut E,
-) -> Result<u8, Fault<'w>> {
+) -> Result<u8, Fault<'w>>
+    ensures command { all_status result ≢ 2 }
+    ensures writes { WritesPages (asked_pages pages.entry) (F.known files.old) (F.listed files.old) (F.known files.new)
+        (all_status result) }
+    ensures quiet { all_status result ≡ 0 → err.new ≡ err.old }
+{
     let json = text_of(alloc, files, pages.globals)?;
     drop(globals_of(alloc, json.as_str(), pages.globals)?);
     let partials = partials_of(alloc, files, pages.ending, pages.partials)?;
@@ -81,10 +86,16 @@ fn write_each<'w, F: Folder, E: Write>(
     status: u8,
     files: &mut F,
     err: &mut E,
-) -> u8 {
-    match templates {
-        [] => status,
-        [template, rest @ ..] => {
+) -> u8
+    ensures command { status ≢ 2 → result ≢ 2 }
+    ensures writes { WithGlobals (object_read json.now) ⊤ (λ globals. WritesEach (asked_pages pages.entry) globals partials.now
+        (map string_bytes templates.now) (F.known files.old) (F.known files.new) status result) }
+    ensures first { status ≢ 0 → result ≡ status }
+    ensures quiet { result ≡ 0 → err.new ≡ err.old }
+{
+    match templates.split_first() {
+        None => status,
+        Some((template, rest)) => {
             let template = template.as_str();
             let all = pages.templates.len();
             files.announce(all.saturating_sub(rest.len()), all, template);
@@ -104,7 +115,12 @@ fn write_one<'w, F: Folder>(
     partials: &Option<InMemorySource>,
     template: &'w str,
     files: &mut F,
-) -> Result<(), Fault<'w>> {
+) -> Result<(), Fault<'w>>
+    ensures command { exit_status result ≢ 2 }
+    ensures writes { WithGlobals (object_read json.now) ⊤ (λ globals. WritesFile
+        (ExecutesOne pages.entry.options template.now globals partials.now (F.known files.old))
+        (file_in (pages_folder pages.entry.output.now) template.now) (F.known files.old) (F.known files.new) (exit_status result)) }
+{
     let mut page = Vec::new(alloc);
     let answer = print_one(alloc, pages, json, partials, template, files, &mut page);
     match file_of_pages(alloc, pages.output, template) {
@@ -125,7 +141,13 @@ fn print_one<'w, F: Folder, W: Write>(
     template: &'w str,
     files: &mut F,
     out: &mut W,
-) -> Result<(), Fault<'w>> {
+) -> Result<(), Fault<'w>>
+    ensures command { exit_status result ≢ 2 }
+    ensures prints { WithGlobals (object_read json.now) ⊤ (λ globals. Printed
+        (ExecutesOne pages.entry.options template.now globals partials.now (F.known files.old))
+        (W.contents out.old) (W.contents out.new) (exit_status result)) }
+    ensures same { F.known files.new ≡ F.known files.old }
+{
     let mut sink = WriterSink::new(out);
     let answer = execute_one(alloc, pages, json, partials, template, files, &mut sink);
     let flushed = sink.into_inner().flush();
@@ -142,15 +164,32 @@ fn execute_one<'w, F: Folder, K: Sink>(
     template: &'w str,
     files: &mut F,
     sink: &mut K,
-) -> Result<(), Fault<'w>> {
+) -> Result<(), Fault<'w>>
+    ensures command { exit_status result ≢ 2 }
+    ensures executes { WithGlobals (object_read json.now) ⊤ (λ globals.
+        ExecutesOne pages.entry.options template.now globals partials.now (F.known files.old)
+        (K.sunk sink.old) (K.sunk sink.new) (exit_status result)) }
+    ensures same { F.known files.new ≡ F.known files.old }
+    ensures behind { Grows (K.sunk sink.old) (K.sunk sink.new) }
+    ensures borrows { (K.sunk sink.new).lent ≡ (K.sunk sink.old).lent }
+{
     let text = text_of(alloc, files, template)?;
     let globals = globals_of(alloc, json, pages.globals)?;
-    let Ok(partials) = partials.clone() else {
+    let Ok(partials) = copied(partials) else {
         return Err(Fault::Refused(Error::Memory));
     };
     match render_over(alloc, pages.options, text.as_str(), globals, partials, sink) {
         Ok(()) => Ok(()),
         Err(error) => Err(Fault::Refused(error)),
+    }
+}
+
+fn copied(partials: &Option<InMemorySource>) -> Result<Option<InMemorySource>, AllocError>
+    ensures { IfOk result (λ copy. copy ≡ partials.now) }
+{
+    match partials {
+        Some(source) => Ok(Some(source.clone()?)),
+        None => Ok(None),
     }
 }
 

@@ -5,7 +5,7 @@ ghost use Rattle.liquid.specs.meaning.Command.{asked_of};
 ghost use Rattle.liquid.specs.meaning.PagesCommand.{is_asked, pages_of};
 ghost use Rattle.liquid.specs.meaning.Program.{Executes, Printed};
 ghost use Rattle.liquid.specs.meaning.Status.{exit_status, settled};
-ghost use Rattle.liquid.specs.meaning.Written.{Prints, Runs, WritesOthers};
+ghost use Rattle.liquid.specs.meaning.Written.{Placed, Prints, Runs, WritesOthers};
 
 use crate::command::{Choices, Command, Paths};
 use crate::explain::explain;
@@ -59,10 +59,7 @@ pub fn run<F: Folder, W: Write, E: Write>(
 {
     match Command::from_words(words) {
         Some(command) => {
-            let answer = match command.choices.output {
-                None => print(alloc, command, files, out),
-                Some(place) => write_page(alloc, command, place, files),
-            };
+            let answer = print_or_write(alloc, command, files, out);
             tell(
                 alloc,
                 command.choices.options.explain,
@@ -77,6 +74,7 @@ pub fn run<F: Folder, W: Write, E: Write>(
 }
 
 /// Does what `run` does, to a sink.
+#[tactic(auto, using(crate::proofs::UntouchedSinks::untouched))]
 pub fn run_to<F: Folder, K: Sink, E: Write>(
     alloc: Global,
     words: &[String],
@@ -93,10 +91,7 @@ pub fn run_to<F: Folder, K: Sink, E: Write>(
 {
     match Command::from_words(words) {
         Some(command) => {
-            let answer = match command.choices.output {
-                None => execute(alloc, command, files, sink),
-                Some(file) => write_page(alloc, command, file, files),
-            };
+            let answer = execute_or_write(alloc, command, files, sink);
             tell(
                 alloc,
                 command.choices.options.explain,
@@ -111,6 +106,7 @@ pub fn run_to<F: Folder, K: Sink, E: Write>(
 }
 
 /// Runs words that are not a command for one page.
+#[tactic(auto, using(crate::proofs::PagesLemmas::landing))]
 fn run_others<F: Folder, E: Write>(
     alloc: Global,
     words: &[String],
@@ -160,6 +156,44 @@ pub(crate) fn tell<F: Folder, E: Write>(
             }
             fault.status()
         }
+    }
+}
+
+/// Executes a command and writes the result to an output, or to the file that the command names.
+#[tactic(auto, using(crate::proofs::PagesLemmas::landing))]
+fn print_or_write<'w, F: Folder, W: Write>(
+    alloc: Global,
+    command: Command<'w>,
+    files: &mut F,
+    out: &mut W,
+) -> Result<(), Fault<'w>>
+    ensures command { exit_status result ≢ 2 }
+    ensures placed { Placed Printed (asked_of command.entry) (asked_of command.entry).choices.output (F.known files.old)
+        (F.listed files.old) (F.known files.new) (W.contents out.old) (W.contents out.new) (exit_status result) }
+{
+    match command.choices.output {
+        None => print(alloc, command, files, out),
+        Some(place) => write_page(alloc, command, place, files),
+    }
+}
+
+/// Executes a command and writes the result to a sink, or to the file that the command names.
+#[tactic(auto, using(crate::proofs::PagesLemmas::landing, crate::proofs::UntouchedSinks::untouched))]
+fn execute_or_write<'w, F: Folder, K: Sink>(
+    alloc: Global,
+    command: Command<'w>,
+    files: &mut F,
+    sink: &mut K,
+) -> Result<(), Fault<'w>>
+    ensures command { exit_status result ≢ 2 }
+    ensures placed { Placed (λ done. done) (asked_of command.entry) (asked_of command.entry).choices.output (F.known files.old)
+        (F.listed files.old) (F.known files.new) (K.sunk sink.old) (K.sunk sink.new) (exit_status result) }
+    ensures behind { Grows (K.sunk sink.old) (K.sunk sink.new) }
+    ensures borrows { (K.sunk sink.new).lent ≡ (K.sunk sink.old).lent }
+{
+    match command.choices.output {
+        None => execute(alloc, command, files, sink),
+        Some(file) => write_page(alloc, command, file, files),
     }
 }
 

@@ -22,7 +22,7 @@ type Row = (
 );
 
 const UNKNOWN_PARTIAL: &str =
-    "liquid: Unknown partial-template\n  with:\n    requested partial=nav.liquid\n    available partials=nav, nav/item\n";
+    "liquid: Unknown partial-template\n  with:\n    requested partial=nav.liquid\n    available partials=nav, nav/item\nfrom: include nav.liquid\n";
 
 const ROWS: [Row; 6] = [
     (
