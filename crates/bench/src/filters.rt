@@ -12,6 +12,7 @@ ghost use Rattle.bench.specs.meaning.Filters.{
   any_made,
   any_shape,
   append_filters,
+  filter_name,
   one_argument,
   unexpected_arguments,
 };
@@ -206,6 +207,8 @@ pub enum Filters {
 }
 
 impl FilterReflection for Filters {
+    ghost filter_name = { filter_name };
+
     fn name(&self) -> &str {
         match self {
             Filters::Append => "append",

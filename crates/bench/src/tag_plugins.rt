@@ -2,7 +2,7 @@
 ghost use Rattle.liquid_error.specs.meaning.Told.{Gives};
 ghost use Rattle.liquid_parser.specs.meaning.Handed.{Tokens};
 ghost use Rattle.liquid_parser.specs.meaning.Plugins.{AreTokens};
-ghost use Rattle.bench.specs.meaning.TagPlugins.{hostile_given, leaky_given, tag_given};
+ghost use Rattle.bench.specs.meaning.TagPlugins.{hostile_given, hostile_name, leaky_given, leaky_name, tag_given, tag_name};
 ghost use Rattle.bench.specs.meaning.Tags.{tag_of};
 
 use crate::asked::{alone, name_alone, name_and_value};
@@ -37,6 +37,8 @@ pub enum HostileTags {
 }
 
 impl TagReflection for Tags {
+    ghost tag_name = { tag_name };
+
     fn tag(&self) -> &str {
         match self {
             Tags::Set => "set",
@@ -87,6 +89,8 @@ fn plain_tag(alloc: Global, tag: Tags, tokens: TagTokenIter<'_>) -> Result<TagNo
 }
 
 impl TagReflection for LeakyTags {
+    ghost tag_name = { leaky_name };
+
     fn tag(&self) -> &str {
         match self {
             LeakyTags::Plain(tag) => tag.tag(),
@@ -127,6 +131,8 @@ impl<F: ParseFilter> ParseTag<F> for LeakyTags {
 }
 
 impl TagReflection for HostileTags {
+    ghost tag_name = { hostile_name };
+
     fn tag(&self) -> &str {
         match self {
             HostileTags::Plain(tag) => tag.tag(),

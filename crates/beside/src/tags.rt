@@ -2,7 +2,7 @@
 ghost use Rattle.liquid_error.specs.meaning.Told.{Gives};
 ghost use Rattle.liquid_parser.specs.meaning.Handed.{Tokens};
 ghost use Rattle.liquid_parser.specs.meaning.Plugins.{AreTokens};
-ghost use Rattle.beside.specs.meaning.Plugins.{tag_beside};
+ghost use Rattle.beside.specs.meaning.Plugins.{name_beside, tag_beside};
 
 use crate::one_of::Beside;
 use liquid_error::Error;
@@ -11,6 +11,8 @@ use liquid_plugins::{ParseFilter, PluginRegistry};
 use std::alloc::Global;
 
 impl<L: TagReflection, O: TagReflection> TagReflection for Beside<L, O> {
+    ghost tag_name = { name_beside L.tag_name O.tag_name };
+
     fn tag(&self) -> &str {
         match self {
             Beside::Library(tag) => tag.tag(),

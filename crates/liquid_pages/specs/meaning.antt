@@ -2,4 +2,5 @@ pub mod Faults
 pub mod Globals
 pub mod Limited
 pub mod Pages
+pub mod Prepared
 pub mod Shown

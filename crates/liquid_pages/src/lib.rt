@@ -7,6 +7,8 @@ pub mod gather;
 pub mod globals;
 pub mod options;
 pub mod page;
+pub mod prepared;
+pub mod rendered;
 pub mod rendering;
 #[cfg(test)]
 mod tests;
@@ -16,5 +18,7 @@ pub use fault::{PageFault, PageText};
 pub use gather::PartialBytes;
 pub use globals::globals_of;
 pub use options::{PageFrame, PageOptions};
-pub use page::{Rendered, render_page};
-pub use rendering::{PageTemplate, read_template, render_template, render_text};
+pub use page::render_page;
+pub use prepared::{PreparedPage, prepare_page, render_prepared};
+pub use rendered::Rendered;
+pub use rendering::{PageTemplate, read_template, render_over_store, render_template, render_text};

@@ -1,8 +1,10 @@
 //! Rendering a template over globals and partials.
-ghost use Rattle.std.specs.Prelude.{◌≡◌, IfOk, Ok, option_map};
+ghost use Rattle.std.specs.Prelude.{◌≡◌, IfOk, Ok, Option, option_map};
 ghost use Rattle.liquid_error.specs.meaning.Told.{Gives};
 ghost use Rattle.liquid_runtime.specs.meaning.Maps.{names_of};
+ghost use Rattle.liquid_parser.specs.meaning.Lang.{Lang};
 ghost use Rattle.liquid_parser.specs.meaning.Plugins.{language_of};
+ghost use Rattle.liquid_partials.specs.meaning.Sources.{Texts};
 ghost use Rattle.liquid_parser.specs.meaning.Reading.{Reads};
 ghost use Rattle.liquid_plugins.specs.meaning.NodesOf.{shapes_of};
 ghost use Rattle.liquid_template.specs.meaning.Grows.{Grows};
@@ -119,43 +121,97 @@ where
     ensures after { Grows (K.sunk sink.old) (K.sunk sink.new) }
     ensures borrows { (K.sunk sink.new).lent ≡ (K.sunk sink.old).lent }
 {
-    let room = room_of(options);
     match store_of(alloc, language, partials) {
-        Ok(store) => match options.frame {
-            PageFrame::Open => {
-                let mut runtime: PageRuntime<V, S, F, T, B> = runtime_of(
-                    alloc,
-                    options.lenient,
-                    globals,
-                    store,
-                );
-                render_in_room(alloc, room, template, &mut runtime, sink)
-            }
-            PageFrame::Sandboxed => {
-                let mut runtime: PageRuntime<V, S, F, T, B> = runtime_of(
-                    alloc,
-                    options.lenient,
-                    no_names(alloc),
-                    store,
-                );
-                render_sandboxed_in_room(alloc, room, template, &mut runtime, globals, sink)
-            }
-            PageFrame::Isolated => {
-                let mut runtime: PageRuntime<V, S, F, T, B> = runtime_of(
-                    alloc,
-                    options.lenient,
-                    no_names(alloc),
-                    store,
-                );
-                render_isolated_in_room(alloc, room, template, &mut runtime, globals, sink)
-            }
-        },
+        Ok(store) => {
+            let (answer, _store) = render_over_store::<V, F, T, B, S, K>(
+                alloc, options, template, globals, store, sink,
+            );
+            answer
+        }
         Err(_) => Err(Error::Memory),
     }
 }
 
+/// Renders a template over these globals and this store of partials, if there is one, and writes the result, as
+/// `render_template` does. Returns the store too, for another rendering.
+pub fn render_over_store<V, F, T, B, S, K>(
+    alloc: Global,
+    options: PageOptions,
+    template: &PageTemplate<F, T, B>,
+    globals: Object,
+    store: Option<LazyStore<S, F, T, B>>,
+    sink: &mut K,
+) -> (Result<(), Error>, Option<LazyStore<S, F, T, B>>)
+where
+    V: Fresh,
+    F: ParseFilter + Drop,
+    T: ParseTag<F> + Drop,
+    B: ParseBlock<F> + Drop,
+    T::Node: Discreet<V>,
+    B::Node: Discreet<V>,
+    S: PartialSource + Drop,
+    K: Sink,
+    ensures renders { (l : Lang F.Filter.Shape T.Node.Shape B.Plan.Shape B.Node.Shape) (partials : Option Texts)
+        → IsFoundIn l partials (option_map ⟦<LazyStore<S, F, T, B> as PartialStore<F::Filter, T::Node, B::Node>>⟧.finds store)
+        → RendersAnswer (setting V.fresh F.Filter.means T.Node.means B.Node.means) l options
+        (Ok (shapes_of F.Filter.shape T.Node.shape B.Node.shape (own_nodes template.now))) (names_of globals)
+        partials (K.sunk sink.old) (K.sunk sink.new) result.0 }
+    ensures store { option_map ⟦<LazyStore<S, F, T, B> as PartialStore<F::Filter, T::Node, B::Node>>⟧.finds result.1
+        ≡ option_map ⟦<LazyStore<S, F, T, B> as PartialStore<F::Filter, T::Node, B::Node>>⟧.finds store }
+    ensures after { Grows (K.sunk sink.old) (K.sunk sink.new) }
+    ensures borrows { (K.sunk sink.new).lent ≡ (K.sunk sink.old).lent }
+{
+    let room = room_of(options);
+    match options.frame {
+        PageFrame::Open => {
+            let mut runtime: PageRuntime<V, S, F, T, B> = runtime_of(
+                alloc,
+                options.lenient,
+                globals,
+                store,
+            );
+            let answer = render_in_room(alloc, room, template, &mut runtime, sink);
+            (answer, runtime.into_partials())
+        }
+        PageFrame::Sandboxed => {
+            let mut runtime: PageRuntime<V, S, F, T, B> = runtime_of(
+                alloc,
+                options.lenient,
+                no_names(alloc),
+                store,
+            );
+            let answer = render_sandboxed_in_room(
+                alloc,
+                room,
+                template,
+                &mut runtime,
+                globals,
+                sink,
+            );
+            (answer, runtime.into_partials())
+        }
+        PageFrame::Isolated => {
+            let mut runtime: PageRuntime<V, S, F, T, B> = runtime_of(
+                alloc,
+                options.lenient,
+                no_names(alloc),
+                store,
+            );
+            let answer = render_isolated_in_room(
+                alloc,
+                room,
+                template,
+                &mut runtime,
+                globals,
+                sink,
+            );
+            (answer, runtime.into_partials())
+        }
+    }
+}
+
 /// Returns a store of the partials, if there are any, in this language.
-fn store_of<F, T, B, S>(
+pub(crate) fn store_of<F, T, B, S>(
     alloc: Global,
     language: &Rc<Language<F, T, B>>,
     partials: Option<S>,

@@ -2,7 +2,9 @@
 use crate::fault::{PageFault, PageText};
 use crate::gather::PartialBytes;
 use crate::options::{PageFrame, PageOptions};
-use crate::page::{Rendered, render_page};
+use crate::page::render_page;
+use crate::prepared::{prepare_page, render_prepared};
+use crate::rendered::Rendered;
 use liquid_parser::{Language, NoPlugin};
 use liquid_plugins::PluginRegistry;
 use std::alloc::{AllocError, Global};
@@ -154,7 +156,15 @@ fn is_shown(alloc: Global, language: &Rc<PlainLanguage>, row: &Row<'_>) -> bool 
         },
     ];
     let page = render_page::<(), _, _, _>(alloc, language, options, text, globals, &partials);
-    end_of(&page) == end && page.output.as_bytes() == output
+    let mut prepared = prepare_page(alloc, language, text, &partials);
+    let first = render_prepared::<(), _, _, _>(alloc, &mut prepared, options, globals);
+    let second = render_prepared::<(), _, _, _>(alloc, &mut prepared, options, globals);
+    ends_as(&page, end, output) && ends_as(&first, end, output) && ends_as(&second, end, output)
+}
+
+/// Returns `true` if a page ends so, with this output.
+fn ends_as(page: &Rendered, end: &str, output: &[u8]) -> bool {
+    end_of(page) == end && page.output.as_bytes() == output
 }
 
 #[test]

@@ -31,11 +31,12 @@ where
     R: Runtime,
     R::Store: PartialStore<X, T, B>,
     K: Sink,
-    ensures { Renders (limited room (template_run
+    ensures renders { Renders (limited room (template_run
         (setting R.Register.fresh X.means T.means B.means (partials_of R.Store.finds (R.store runtime.old)))
         (template_nodes X.shape T.shape B.shape template.now)) (R.view runtime.old))
         (R.view runtime.old)
         (K.sunk sink.old) (K.sunk sink.new) (R.view runtime.new) result }
+    ensures store { partials_of R.Store.finds (R.store runtime.new) ≡ partials_of R.Store.finds (R.store runtime.old) }
 {
     match room {
         None => template.render_to(alloc, sink, runtime),
@@ -69,6 +70,7 @@ where
         (template_nodes X.shape T.shape B.shape template.now) (R.view runtime.old)))
         (R.view runtime.old)
         (K.sunk page.old.sink.now) (K.sunk page.new.sink.now) (R.view runtime.new) result }
+    ensures store { partials_of R.Store.finds (R.store runtime.new) ≡ partials_of R.Store.finds (R.store runtime.old) }
     ensures same { page.new.sink.ghost_name ≡ page.old.sink.ghost_name }
 {
     template.render_within(alloc, page, runtime)
@@ -90,11 +92,12 @@ where
     R: Runtime,
     R::Store: PartialStore<X, T, B>,
     K: Sink,
-    ensures { Renders (limited room (sandboxed_run
+    ensures renders { Renders (limited room (sandboxed_run
         (setting R.Register.fresh X.means T.means B.means (partials_of R.Store.finds (R.store runtime.old)))
         (names_of «data») None (template_nodes X.shape T.shape B.shape template.now)) (R.view runtime.old))
         (R.view runtime.old)
         (K.sunk sink.old) (K.sunk sink.new) (R.view runtime.new) result }
+    ensures store { partials_of R.Store.finds (R.store runtime.new) ≡ partials_of R.Store.finds (R.store runtime.old) }
 {
     match room {
         None => template.render_sandboxed(alloc, sink, runtime, data, None),
@@ -129,6 +132,7 @@ where
         (names_of «data») None (template_nodes X.shape T.shape B.shape template.now) (R.view runtime.old)))
         (R.view runtime.old)
         (K.sunk page.old.sink.now) (K.sunk page.new.sink.now) (R.view runtime.new) result }
+    ensures store { partials_of R.Store.finds (R.store runtime.new) ≡ partials_of R.Store.finds (R.store runtime.old) }
     ensures same { page.new.sink.ghost_name ≡ page.old.sink.ghost_name }
 {
     template.render_sandboxed_within(alloc, page, runtime, data, None)
@@ -150,11 +154,12 @@ where
     R: Runtime,
     R::Store: PartialStore<X, T, B>,
     K: Sink,
-    ensures { Renders (limited room (isolated_run
+    ensures renders { Renders (limited room (isolated_run
         (setting R.Register.fresh X.means T.means B.means (partials_of R.Store.finds (R.store runtime.old)))
         (names_of «data») None (template_nodes X.shape T.shape B.shape template.now)) (R.view runtime.old))
         (R.view runtime.old)
         (K.sunk sink.old) (K.sunk sink.new) (R.view runtime.new) result }
+    ensures store { partials_of R.Store.finds (R.store runtime.new) ≡ partials_of R.Store.finds (R.store runtime.old) }
 {
     match room {
         None => template.render_isolated(alloc, sink, runtime, data, None),
@@ -189,6 +194,7 @@ where
         (names_of «data») None (template_nodes X.shape T.shape B.shape template.now) (R.view runtime.old)))
         (R.view runtime.old)
         (K.sunk page.old.sink.now) (K.sunk page.new.sink.now) (R.view runtime.new) result }
+    ensures store { partials_of R.Store.finds (R.store runtime.new) ≡ partials_of R.Store.finds (R.store runtime.old) }
     ensures same { page.new.sink.ghost_name ≡ page.old.sink.ghost_name }
 {
     template.render_isolated_within(alloc, page, runtime, data, None)

@@ -8,7 +8,7 @@ use Rattle.liquid_error.specs.meaning.Refusal.{Refusal, ok_then}
 use Rattle.liquid_grammar.specs.meaning.Tokens as token
 use Rattle.liquid_plugins.specs.meaning.Nodes.{NodeShape}
 use Rattle.liquid_parser.specs.meaning.Reading.{Open, State, among, closed, parted}
-use Rattle.liquid_parser.proofs.AskedLemmas.{push_block, then_err}
+use Rattle.liquid_parser.proofs.DispatchLemmas.{push_block, then_err}
 
 -- a list that means this innermost item inside others: its last item means the one, and the items before it the others
 pub record Innermost {A C : Type 0} (f : A → C) (xs : List A) (y : C) (ys : List C) : Type 0 where

@@ -1,6 +1,6 @@
 pub mod TokenLemmas
 pub mod StepLemmas
-pub mod AskedLemmas
+pub mod DispatchLemmas
 pub mod InnermostLemmas
 pub mod Shapes
 pub mod Indexes
@@ -23,4 +23,4 @@ pub mod AllLemmas
 pub mod ParsedLemmas
 pub mod NameLemmas
 pub mod LiteralLemmas
-pub mod FineLemmas
+pub mod FastPathLemmas

@@ -2,7 +2,7 @@
 
 pub(crate) mod arguments;
 pub(crate) mod build;
+pub(crate) mod fast_path;
 pub(crate) mod filters;
-pub(crate) mod fine;
 pub(crate) mod names;
 pub(crate) mod variable;

@@ -17,5 +17,5 @@ pub use plugin::block::{BlockBody, BlockReflection, ParseBlock};
 pub use plugin::language::Language;
 pub use plugin::none::NoPlugin;
 pub use plugin::tag::{ParseTag, TagReflection};
-pub use reading::asked::BLOCK_LIMIT;
+pub use reading::dispatch::BLOCK_LIMIT;
 pub use reading::parse::{one_reading, parse};

@@ -1,8 +1,8 @@
 //! The parsing of a text, from element to node.
 
 pub(crate) mod advance;
-pub(crate) mod asked;
 pub(crate) mod closing;
+pub(crate) mod dispatch;
 pub(crate) mod escape;
 pub(crate) mod parse;
 pub(crate) mod place;

@@ -3,5 +3,5 @@ pub mod ErasedLemmas
 pub mod Hiding
 pub mod PathSteps
 pub mod Registries
-pub mod StandingValues
+pub mod BorrowedValues
 pub mod Uneven

@@ -47,10 +47,8 @@ impl<X: Filter> FilterChain<X> {
     ) -> Result<ValueCow<'s>, Error>
         ensures { Gives cow_view result (chain_value X.means (chain_of X.shape self.now) (R.view runtime.now)) }
     {
-        match self.entry.evaluate(alloc, runtime) {
-            Ok(value) => apply(alloc, value, self.filters.as_slice(), runtime),
-            Err(error) => Err(error),
-        }
+        let value = self.entry.evaluate(alloc, runtime)?;
+        apply(alloc, value, self.filters.as_slice(), runtime)
     }
 }
 

@@ -11,8 +11,8 @@ ghost use Rattle.liquid_runtime.specs.meaning.InPlaceOrNil.{InPlaceOrNil};
 ghost use Rattle.liquid_plugins.specs.meaning.Evaluation.{Finds, evaluate, expected_scalar, try_evaluate, named_path, try_named_path};
 ghost use Rattle.liquid_plugins.specs.meaning.ExpressionOf.{expression_of, expressions_of, name_of, own_indexes_of};
 
+use crate::borrowed::borrow_value;
 use crate::expression::{Expression, Variable, VariableOf};
-use crate::standing::standing;
 use liquid_error::Error;
 use liquid_paths::Path;
 use liquid_runtime::Runtime;
@@ -25,7 +25,7 @@ use std::borrow::CowStr;
 impl Expression {
     /// Returns the value of the expression, or the first error from the left: a literal's value, or what the runtime
     /// has at a variable's path, by `get`. A value that exists in either is borrowed.
-    #[tactic(auto, using(crate::proofs::StandingValues::stands))]
+    #[tactic(auto, using(crate::proofs::BorrowedValues::borrowed_value))]
     pub fn evaluate<'c, R: Runtime>(
         &'c self,
         alloc: Global,
@@ -34,7 +34,7 @@ impl Expression {
         ensures gives { Gives cow_view result (evaluate (R.view runtime.now) (expression_of self.now)) }
         ensures in_place { IfOk result InPlaceOrNil }
     {
-        match standing(alloc, self, runtime) {
+        match borrow_value(alloc, self, runtime) {
             Some(value) => Ok(value),
             None => evaluate(alloc, self, runtime),
         }
@@ -49,7 +49,7 @@ impl Expression {
         ensures gives { Finds cow_view result (try_evaluate (R.view runtime.now) (expression_of self.now)) }
         ensures in_place { IfOk result (λ value. IfSome value InPlace) }
     {
-        match standing(alloc, self, runtime) {
+        match borrow_value(alloc, self, runtime) {
             Some(value) => Ok(Some(value)),
             None => try_evaluate(alloc, self, runtime),
         }
@@ -92,15 +92,10 @@ fn evaluate<'c, R: Runtime>(
 {
     match expression {
         Expression::Literal(value) => Ok(ValueCow::Borrowed(value)),
-        Expression::Variable(variable) => match named_path(
-            alloc,
-            &variable.variable,
-            &variable.indexes,
-            runtime,
-        ) {
-            Ok(path) => runtime.get(alloc, path.as_slice()),
-            Err(error) => Err(error),
-        },
+        Expression::Variable(variable) => {
+            let path = named_path(alloc, &variable.variable, &variable.indexes, runtime)?;
+            runtime.get(alloc, path.as_slice())
+        }
     }
 }
 
@@ -116,13 +111,8 @@ fn named_path<'c, R: Runtime>(
 {
     let mut path = Path::with_index(alloc, name.as_ref())?;
     for index in indexes {
-        match evaluate(alloc, index, runtime) {
-            Ok(value) => match index_of(alloc, value) {
-                Ok(scalar) => path.push(scalar)?,
-                Err(error) => return Err(error),
-            },
-            Err(error) => return Err(error),
-        }
+        let value = evaluate(alloc, index, runtime)?;
+        path.push(index_of(alloc, value)?)?;
     }
     Ok(path)
 }

@@ -61,8 +61,6 @@ pub fn call_filter<P: ParseFilter>(
     ensures { Gives tree_of result (called P.Filter.means (P.makes filter.now (arguments_of arguments.entry)) (cow_view input.now)) }
 {
     let runtime: BuiltRuntime<(), ()> = RuntimeBuilder::new(alloc).build();
-    match filter.parse(alloc, arguments) {
-        Ok(filter) => filter.evaluate(alloc, input, &runtime),
-        Err(error) => Err(error),
-    }
+    let filter = filter.parse(alloc, arguments)?;
+    filter.evaluate(alloc, input, &runtime)
 }

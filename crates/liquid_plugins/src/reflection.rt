@@ -1,4 +1,5 @@
-//! What filters say about themselves, for documentation.
+//! What filters say about themselves: their names, and what documentation shows.
+ghost use Rattle.std.specs.Prelude.{◌≡◌, ℕ, List};
 
 /// A parameter of a filter.
 #[derive(Debug, Clone, Copy, PartialEq, Eq)]
@@ -19,8 +20,14 @@ pub trait FilterParametersReflection {
 
 /// A filter's name, description and parameters.
 pub trait FilterReflection {
-    fn name(&self) -> &str;
+    // its name
+    ghost filter_name: { Self → List ℕ };
 
+    /// Returns the name that the filter is known by.
+    fn name(&self) -> &str
+        ensures { result.now ≡ filter_name self.now };
+
+    /// Returns a description of what the filter makes of its input.
     fn description(&self) -> &str;
 
     /// Returns the positional parameters, in order.

@@ -18,6 +18,15 @@ use std::marker::PhantomData;
 /// over an index frame over a core.
 pub type BuiltRuntime<V, S> = GlobalFrame<StackFrame<IndexFrame<V, S>>>;
 
+impl<V: Fresh, S: Drop> GlobalFrame<StackFrame<IndexFrame<V, S>>> {
+    /// Ends the runtime and returns its store of partial templates, if it has one, for another runtime.
+    pub fn into_partials(self) -> Option<S>
+        ensures { result ≡ ⟦<BuiltRuntime<V, S> as Runtime>⟧.store self }
+    {
+        self.into_parent().into_parent().into_parent().into_store()
+    }
+}
+
 /// Collects what a runtime begins with. `V` is the register of what it builds, and `S` the type of its store of partial
 /// templates.
 #[derive(Drop)]

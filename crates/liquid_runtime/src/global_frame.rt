@@ -33,6 +33,15 @@ impl<P: Runtime> GlobalFrame<P> {
             assigned: Object::new(alloc),
         }
     }
+
+    /// Ends the frame and returns the runtime below it.
+    pub(crate) fn into_parent(self) -> P
+        ensures { result ≡ self.parent }
+    {
+        let GlobalFrame { parent, assigned } = self;
+        drop(assigned);
+        parent
+    }
 }
 
 impl<P: Runtime> Runtime for GlobalFrame<P> {

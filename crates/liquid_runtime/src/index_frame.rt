@@ -33,6 +33,15 @@ impl<V: Fresh, S: Drop> IndexFrame<V, S> {
             variables: Object::new(alloc),
         }
     }
+
+    /// Ends the frame and returns the core below it.
+    pub(crate) fn into_parent(self) -> RuntimeCore<V, S>
+        ensures { result ≡ self.parent }
+    {
+        let IndexFrame { parent, variables } = self;
+        drop(variables);
+        parent
+    }
 }
 
 impl<V: Fresh, S: Drop> Runtime for IndexFrame<V, S> {

@@ -44,6 +44,20 @@ impl<V: Fresh, S: Drop> RuntimeCore<V, S> {
             lenient,
         }
     }
+
+    /// Returns the store.
+    pub(crate) fn into_store(self) -> Option<S>
+        ensures { result ≡ self.store }
+    {
+        let RuntimeCore {
+            registers,
+            store,
+            depth: _,
+            lenient: _,
+        } = self;
+        drop(registers);
+        store
+    }
 }
 
 /// Returns a core as `new` makes it.

@@ -46,6 +46,20 @@ impl<P: Runtime> StackFrame<P> {
         self.name = Some(name);
         self
     }
+
+    /// Ends the frame and returns the runtime below it.
+    pub(crate) fn into_parent(self) -> P
+        ensures { result ≡ self.parent }
+    {
+        let StackFrame {
+            parent,
+            names,
+            name,
+        } = self;
+        drop(names);
+        drop(name);
+        parent
+    }
 }
 
 impl<P: Runtime> Runtime for StackFrame<P> {

@@ -8,7 +8,7 @@ use crate::loops::{over_items, over_table};
 use liquid_error::Error;
 use liquid_plugins::{Bytes, Discreet, ListOf, Meant, Renderable, Turn};
 use liquid_runtime::{Frame, Runtime};
-use liquid_tags::rounds::RoundsShape;
+use liquid_tags::for_block::rounds::RoundsShape;
 use liquid_value::Object;
 use std::alloc::Global;
 use std_conditions::branches::CaseShape;
@@ -28,7 +28,7 @@ pub enum StdBlock {
     Unless(Vec<Condition>),
     /// The part of the first `when` with an equal value, and the part after them all if there is none.
     Case(Box<Case>),
-    /// The first part for each item; the second if there is no item.
+    /// The first part for each item, or the second part if there are no items.
     For(Box<Loop>),
     /// A table with its part in a cell for each item.
     Tablerow(Box<Loop>),

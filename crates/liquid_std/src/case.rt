@@ -44,7 +44,8 @@ pub(crate) fn push_alternatives(
     case: &mut Case,
     tokens: TagTokenIter<'_>,
 ) -> Result<(), Error>
-    ensures { (ts : Tokens) → AreTokens tokens.entry ts → Gives (λ _. case_of case.new) result (with_alternatives (case_of case.old) ts) }
+    ensures { (ts : Tokens) → AreTokens tokens.entry ts
+        → Gives (λ _. case_of case.new) result (with_alternatives (case_of case.old) ts) }
 {
     match read_values(alloc, tokens, &WHEN_SEPARATORS) {
         Ok(values) => Ok(case.alternatives.push(values)?),

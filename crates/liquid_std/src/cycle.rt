@@ -70,7 +70,8 @@ fn take_name<'a>(tokens: &mut TagTokenIter<'a>) -> Option<TagToken<'a>>
 
 /// Returns the `cycle` of this name, and of the values that all tokens make.
 fn read_named(alloc: Global, name: TagToken<'_>, tokens: TagTokenIter<'_>) -> Result<Cycle, Error>
-    ensures { (t : Token) → IsToken name.entry t → (ts : Tokens) → AreTokens tokens.entry ts → Gives cycle_of result (named_given t ts) }
+    ensures { (t : Token) → IsToken name.entry t → (ts : Tokens) → AreTokens tokens.entry ts
+        → Gives cycle_of result (named_given t ts) }
 {
     match name.expect_value(alloc)?.into_result(alloc) {
         Ok(name) => match read_values(alloc, tokens, &SEPARATORS) {

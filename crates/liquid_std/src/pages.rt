@@ -30,9 +30,8 @@ type PageRuntime<S, F> = BuiltRuntime<Marks, LazyStore<S, F, StdTags, StdBlocks>
 /// Renders a page and writes the result: this text in the standard language with these filters, over these
 /// globals, with the partials of this source.
 ///
-/// A text that is not a template of the language is an error before anything is written. What was
-/// written before any other error stays written. If the sink fails, the error is "Failed
-/// to render".
+/// A text that is not a template of the language is an error before anything is written. What was written before any
+/// other error stays written. If the sink fails, the error is "Failed to render".
 pub fn render_page<F, S, K>(
     alloc: Global,
     text: &str,
@@ -69,7 +68,7 @@ fn shared_language<F: ParseFilter>(
     Ok(Rc::new(alloc, language(alloc, filters)?)?)
 }
 
-/// A store of the partials in this language.
+/// Returns a store of the partials in this language.
 fn store_of<F: ParseFilter, S: PartialSource + Drop>(
     alloc: Global,
     language: &Rc<Language<F, StdTags, StdBlocks>>,
@@ -81,7 +80,7 @@ fn store_of<F: ParseFilter, S: PartialSource + Drop>(
     Ok(LazyCompiler::new(partials).compile(alloc, language.clone()?)?)
 }
 
-/// The runtime over these globals and this store.
+/// Returns the runtime over these globals and this store.
 fn runtime_of<F: ParseFilter, S: PartialSource + Drop>(
     alloc: Global,
     globals: Object,

@@ -1,5 +1,5 @@
 //! The tags, as plug-ins.
-ghost use Rattle.liquid_std.specs.meaning.TagPlugins.{tag_given};
+ghost use Rattle.liquid_std.specs.meaning.TagPlugins.{tag_given, tag_name};
 
 use crate::cycle::parse_cycle;
 use crate::decrement::parse_decrement;
@@ -22,6 +22,8 @@ pub enum StdTags {
 }
 
 impl TagReflection for StdTags {
+    ghost tag_name = { tag_name };
+
     fn tag(&self) -> &str {
         match self {
             StdTags::Library(tag) => tag.tag(),

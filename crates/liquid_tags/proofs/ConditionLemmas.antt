@@ -6,9 +6,9 @@ use Rattle.liquid_plugins.specs.meaning.Expression.{ExpressionShape}
 use Rattle.liquid_parser.specs.meaning.Handed.{Token, Tokens, first_of, expect_value, or_unexpected, unexpected}
 use Rattle.liquid_tags.specs.meaning.Asked.{alone, next_as}
 use Rattle.liquid_tags.specs.meaning.ConditionsGiven.{behind_value, comparison_of}
-use Rattle.liquid_tags.specs.declared.condition.Comparison.{Comparison}
-use Rattle.liquid_tags.specs.declared.condition.ConditionShape.{ConditionShape}
-use Rattle.liquid_tags.specs.declared.condition.ConditionShape.TheVariants.{Holds, Compares}
+use Rattle.liquid_tags.specs.declared.if_block.condition.Comparison.{Comparison}
+use Rattle.liquid_tags.specs.declared.if_block.condition.ConditionShape.{ConditionShape}
+use Rattle.liquid_tags.specs.declared.if_block.condition.ConditionShape.TheVariants.{Holds, Compares}
 
 pub nothing_behind : (e : ExpressionShape) (ts : List Token) → first_of ts ≡ None → behind_value e ts ≡ Ok (Holds e)
 nothing_behind e [] none = refl

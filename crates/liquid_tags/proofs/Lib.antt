@@ -8,3 +8,4 @@ pub mod SandboxLemmas
 pub mod PageLemmas
 pub mod Writes
 pub mod ReuseLemmas
+pub mod LoopRunLemmas

@@ -1,3 +1,4 @@
 pub mod TagLaws
 pub mod BlockLaws
 pub mod Sandboxes
+pub mod LoopRuns

@@ -16,8 +16,6 @@ pub const TOKEN_EXPECTED: &str = "Token expected";
 pub fn alone<N: Meant + Drop>(alloc: Global, tokens: TagTokenIter<'_>, node: N) -> Result<N, Error>
     ensures { (ts : Tokens) → AreTokens tokens.entry ts → Gives N.shape result (alone (N.shape node) ts) }
 {
-    match tokens.expect_nothing(alloc) {
-        Ok(()) => Ok(node),
-        Err(error) => Err(error),
-    }
+    tokens.expect_nothing(alloc)?;
+    Ok(node)
 }

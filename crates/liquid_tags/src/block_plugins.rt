@@ -13,9 +13,9 @@ ghost use Rattle.liquid_tags.specs.meaning.BlockPlugins.{begun, expect_series, n
 
 use crate::asked::{TOKEN_EXPECTED, alone};
 use crate::blocks::{BlockNode, BlockShape};
-use crate::condition::Condition;
-use crate::read_condition::read_condition;
-use crate::series::Series;
+use crate::for_block::series::Series;
+use crate::if_block::condition::Condition;
+use crate::if_block::read_condition::read_condition;
 use liquid_error::Error;
 use liquid_parser::{
     BlockBody, BlockReflection, ParseBlock, TagToken, TagTokenIter, TryMatchToken,
@@ -197,34 +197,22 @@ fn planned(node: BlockNode) -> BlockPlan
 fn begun_if(alloc: Global, tokens: TagTokenIter<'_>) -> Result<BlockPlan, Error>
     ensures { (ts : Tokens) → AreTokens tokens.entry ts → Gives plan_of result (begun If ts) }
 {
-    match read_condition(alloc, tokens) {
-        Ok(first) => {
-            let mut conditions = Vec::new(alloc);
-            conditions.push(first)?;
-            Ok(planned(BlockNode::If(conditions)))
-        }
-        Err(error) => Err(error),
-    }
+    let first = read_condition(alloc, tokens)?;
+    let mut conditions = Vec::new(alloc);
+    conditions.push(first)?;
+    Ok(planned(BlockNode::If(conditions)))
 }
 
 fn begun_for(alloc: Global, tokens: TagTokenIter<'_>) -> Result<BlockPlan, Error>
     ensures { (ts : Tokens) → AreTokens tokens.entry ts → Gives plan_of result (begun For ts) }
 {
     let mut tokens = tokens;
-    match tokens.next_identifier(alloc, TOKEN_EXPECTED) {
-        Ok(name) => match tokens.next_str(alloc, TOKEN_EXPECTED, "in") {
-            Ok(()) => match next_series(alloc, &mut tokens) {
-                Ok(series) => {
-                    let name = String::from_str(alloc, name)?;
-                    let series = Box::new(alloc, series)?;
-                    alone(alloc, tokens, planned(BlockNode::For(name, series)))
-                }
-                Err(error) => Err(error),
-            },
-            Err(error) => Err(error),
-        },
-        Err(error) => Err(error),
-    }
+    let name = tokens.next_identifier(alloc, TOKEN_EXPECTED)?;
+    tokens.next_str(alloc, TOKEN_EXPECTED, "in")?;
+    let series = next_series(alloc, &mut tokens)?;
+    let name = String::from_str(alloc, name)?;
+    let series = Box::new(alloc, series)?;
+    alone(alloc, tokens, planned(BlockNode::For(name, series)))
 }
 
 /// Returns the range or the value that the next token is.

@@ -4,11 +4,11 @@ ghost use Rattle.liquid_tags.specs.laws.BlockLaws.{blocks_hide};
 ghost use Rattle.liquid_tags.specs.meaning.Items.{items_left};
 ghost use Rattle.liquid_tags.specs.meaning.Blocks.{block_count, block_nodes, block_of, over_items, progress_of};
 
-use crate::condition::{Condition, ConditionShape, chosen};
-use crate::items::Items;
-use crate::loops::loop_turn;
-use crate::rounds::{Rounds, RoundsShape};
-use crate::series::{Series, SeriesShape, items_of};
+use crate::for_block::items::Items;
+use crate::for_block::rounds::{Rounds, RoundsShape};
+use crate::for_block::series::{Series, SeriesShape, items_of};
+use crate::for_block::turns::loop_turn;
+use crate::if_block::condition::{Condition, ConditionShape, chosen};
 use liquid_error::Error;
 use liquid_plugins::{Bytes, Discreet, ListOf, Meant, Renderable, Turn};
 use liquid_runtime::{Frame, Fresh, Runtime};
@@ -20,7 +20,7 @@ use std::alloc::{AllocError, Global};
 pub enum BlockNode {
     /// The part after the first condition that holds, or the part after them all if none does.
     If(Vec<Condition>),
-    /// The first part for each item, under a name, or the second part if there is no item.
+    /// The first part for each item, under a name, or the second part if there are no items.
     For(String, Box<Series>),
     /// A text that is written unchanged.
     Raw(String),
@@ -83,14 +83,14 @@ impl<V: Fresh> Renderable<V> for BlockNode {
         runtime: &mut R,
     ) -> Result<BlockProgress, Error> {
         match self {
-            BlockNode::If(conditions) => match chosen(alloc, conditions.as_slice(), &*runtime) {
-                Ok(part) => Ok(BlockProgress::Once(part)),
-                Err(error) => Err(error),
-            },
-            BlockNode::For(_, series) => match items_of(alloc, &**series, &*runtime) {
-                Ok(items) => Ok(over_items(alloc, items)?),
-                Err(error) => Err(error),
-            },
+            BlockNode::If(conditions) => {
+                let part = chosen(alloc, conditions.as_slice(), &*runtime)?;
+                Ok(BlockProgress::Once(part))
+            }
+            BlockNode::For(_, series) => {
+                let items = items_of(alloc, &**series, &*runtime)?;
+                Ok(over_items(alloc, items)?)
+            }
             BlockNode::Raw(_) => Ok(BlockProgress::Once(0)),
         }
     }

@@ -1,6 +1,7 @@
-//! Laws of the library in a sandbox, each as the contract of a function. `V` is the type of the register, `F` the shape
-//! of the filters. Nothing is required of the filters, tags and blocks.
+//! Laws of the library, each as the contract of a function. `V` is the type of the register, `F` the shape of the
+//! filters. Nothing is required of the filters, tags and blocks.
 ghost use Rattle.liquid_plugins.specs.meaning.Chain.{FilterMeaning};
+ghost use Rattle.liquid_tags.specs.laws.LoopRuns.{LoopRuns};
 ghost use Rattle.liquid_tags.specs.laws.Sandboxes.{LibraryAgrees, LibraryIsolated};
 
 use liquid_runtime::Fresh;
@@ -16,4 +17,11 @@ pub fn library_is_isolated<V: Fresh, F>()
 /// error and the same writes.
 pub fn outsides_agree_on_the_library<V: Fresh, F>()
     ensures { (fresh : V.Shape) (m : FilterMeaning F) → LibraryAgrees fresh m }
+{}
+
+/// A loop over at least one item renders its first part for each item, in order, under the frame of the item. No
+/// interrupt is looked at before the first item. The interrupt that a part has set is cleared after it: `break` ends the
+/// loop, and after anything else the next item follows.
+pub fn loop_renders_each_item<V: Fresh, F>()
+    ensures { (fresh : V.Shape) (m : FilterMeaning F) → LoopRuns fresh m }
 {}

@@ -3,11 +3,11 @@ ghost use Rattle.liquid_error.specs.meaning.Told.{Gives};
 ghost use Rattle.liquid_parser.specs.meaning.Handed.{Tokens};
 ghost use Rattle.liquid_parser.specs.meaning.Plugins.{AreTokens, registry_of};
 ghost use Rattle.liquid_tags.specs.meaning.Tags.{tag_of};
-ghost use Rattle.liquid_tags.specs.meaning.TagPlugins.{assign_given, inclusion_given, increment_given, tag_given};
+ghost use Rattle.liquid_tags.specs.meaning.TagPlugins.{assign_given, inclusion_given, increment_given, tag_given, tag_name};
 
 use crate::asked::{TOKEN_EXPECTED, alone};
-use crate::partials::Inclusion;
-use crate::read_call::read_call;
+use crate::partial_call::call::Inclusion;
+use crate::partial_call::read_call::read_call;
 use crate::tags::TagNode;
 use liquid_error::Error;
 use liquid_parser::{ParseTag, TagReflection, TagTokenIter};
@@ -27,6 +27,8 @@ pub enum Tags {
 }
 
 impl TagReflection for Tags {
+    ghost tag_name = { tag_name };
+
     fn tag(&self) -> &str {
         match self {
             Tags::Assign => "assign",
@@ -82,23 +84,12 @@ fn parse_assign<F: ParseFilter>(
         → Gives (tag_of F.Filter.shape) result (assign_given (registry_of F.makes filters.now) ts) }
 {
     let mut tokens = tokens;
-    match tokens.next_identifier(alloc, TOKEN_EXPECTED) {
-        Ok(name) => match tokens.next_str(alloc, TOKEN_EXPECTED, "=") {
-            Ok(()) => match tokens.next_filter_chain(alloc, TOKEN_EXPECTED, filters) {
-                Ok(chain) => {
-                    let name = String::from_str(alloc, name)?;
-                    alone(
-                        alloc,
-                        tokens,
-                        TagNode::Assign(name, Box::new(alloc, chain)?),
-                    )
-                }
-                Err(error) => Err(error),
-            },
-            Err(error) => Err(error),
-        },
-        Err(error) => Err(error),
-    }
+    let name = tokens.next_identifier(alloc, TOKEN_EXPECTED)?;
+    tokens.next_str(alloc, TOKEN_EXPECTED, "=")?;
+    let chain = tokens.next_filter_chain(alloc, TOKEN_EXPECTED, filters)?;
+    let name = String::from_str(alloc, name)?;
+    let chain = Box::new(alloc, chain)?;
+    alone(alloc, tokens, TagNode::Assign(name, chain))
 }
 
 /// Returns the node of an `increment`.
@@ -106,13 +97,9 @@ fn parse_increment<X: Filter>(alloc: Global, tokens: TagTokenIter<'_>) -> Result
     ensures { (ts : Tokens) → AreTokens tokens.entry ts → Gives (tag_of X.shape) result (increment_given ts) }
 {
     let mut tokens = tokens;
-    match tokens.next_identifier(alloc, TOKEN_EXPECTED) {
-        Ok(name) => {
-            let name = String::from_str(alloc, name)?;
-            alone(alloc, tokens, TagNode::Increment(name))
-        }
-        Err(error) => Err(error),
-    }
+    let name = tokens.next_identifier(alloc, TOKEN_EXPECTED)?;
+    let name = String::from_str(alloc, name)?;
+    alone(alloc, tokens, TagNode::Increment(name))
 }
 
 /// Returns the node of an `include` or a `render`.
@@ -123,8 +110,6 @@ fn parse_inclusion<X: Filter>(
 ) -> Result<TagNode<X>, Error>
     ensures { (ts : Tokens) → AreTokens tokens.entry ts → Gives (tag_of X.shape) result (inclusion_given inclusion ts) }
 {
-    match read_call(alloc, tokens) {
-        Ok(call) => Ok(TagNode::Includes(inclusion, Box::new(alloc, call)?)),
-        Err(error) => Err(error),
-    }
+    let call = read_call(alloc, tokens)?;
+    Ok(TagNode::Includes(inclusion, Box::new(alloc, call)?))
 }

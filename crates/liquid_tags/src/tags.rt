@@ -4,7 +4,7 @@ ghost use Rattle.liquid_tags.specs.laws.TagLaws.{tags_hide};
 
 use crate::assign::assign;
 use crate::increment::increment;
-use crate::partials::{Call, Inclusion, included};
+use crate::partial_call::call::{Call, Inclusion, included};
 use liquid_error::Error;
 use liquid_plugins::{
     Bytes, ChainMark, Discreet, ExpressionMark, Filter, FilterChain, ListOf, Meant, Renderable,

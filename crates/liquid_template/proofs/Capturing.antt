@@ -1,6 +1,6 @@
 -- What is rendered to a text of its own, as the sink sees it, and how the text is opened and closed.
 use Rattle.std.proofs.Common.{◌≡◌, ℕ, ◌+◌, ◌<◌, true, List, [], ◌∷◌, ◌++◌, length, map, Option, Some, None, Result, Ok, Err, ◌⊎◌, inl, inr, refl, sym, ap, subst, ◌∙◌, arith, append_assoc, IsSome}
-use Rattle.std.specs.Prelude.{MatchOption}
+use Rattle.std.specs.Prelude.{MatchOption, IfSome}
 use Rattle.std.proofs.lemmas.List.{append-nil, map-append}
 use Rattle.std.proofs.lemmas.Option.{same_Some}
 use Rattle.liquid_error.specs.declared.error.Error.{Error}
@@ -183,9 +183,9 @@ closed_aside p b a q outer e h o i = record {
   back = ap target (closed_is p b a q outer e h o i) ∙ target_turns p.output a.output.turns p.text ∙ ap (λ t. record (target p) { turns = t }) (sym (opened_turns a.output a.text));
 }
 
--- the text that was closed is the one that was rendered to
-pub closed_text : (p b a : Place) (text : List ℕ) → Swapped p (Some []) b → around a ≡ around b → Some text ≡ a.text → text ≡ (target a).sunk.taken
-closed_text p b a text e h t = same_Some text (target a).sunk.taken (t ∙ ap (λ x. x.text) (stood p b a e h))
+-- what holds of the open text holds of what was rendered to it
+pub text_caught : (P : List ℕ → Type 0) (p b a : Place) → Swapped p (Some []) b → around a ≡ around b → IfSome a.text P → P (target a).sunk.taken
+text_caught P p b a e h i = subst (λ t. IfSome t P) (ap (λ x. x.text) (stood p b a e h)) i
 
 -- a tag has no part, so its text is empty
 abbrev pub nothing_open : Output → Output

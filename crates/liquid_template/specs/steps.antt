@@ -1,5 +1,6 @@
 pub mod Bound
 pub mod Going
+pub mod Keeps
 pub mod NodeTurns
 pub mod PartsOf
 pub mod PieceOut

@@ -2,9 +2,8 @@
 //!
 //! It keeps no more across a call than the next turn needs. A value of a turn, an error or a frame is made, used and
 //! dropped in functions that return before the cycle continues, so that a level of nesting takes little native stack.
-ghost use Rattle.std.specs.Prelude.{◌≡◌, ◌-◌, ◌<◌, [], IsOk, length, option_map, string_bytes};
+ghost use Rattle.std.specs.Prelude.{◌≡◌, ◌-◌, ◌<◌, [], IsOk};
 ghost use Rattle.liquid_plugins.specs.meaning.NodesOf.{node_of, nodes_of};
-ghost use Rattle.liquid_runtime.specs.meaning.OpenFrames.{opened};
 ghost use Rattle.liquid_template.specs.meaning.Nodes.{run_parts};
 ghost use Rattle.liquid_template.specs.meaning.Partials.{partials_at, partials_of};
 ghost use Rattle.liquid_template.specs.meaning.Rendering.{nodes_run};
@@ -12,16 +11,17 @@ ghost use Rattle.liquid_template.specs.meaning.Outcome.{RendersWithin};
 ghost use Rattle.liquid_template.specs.meaning.Runs.{setting, node_run, tag_run, block_run, part_run};
 ghost use Rattle.liquid_template.specs.meaning.TemplateOf.{template_nodes};
 ghost use Rattle.liquid_template.specs.steps.PartsOf.{parts_of};
-ghost use Rattle.liquid_template.specs.steps.Going.{Takes, Captured};
+ghost use Rattle.liquid_template.specs.steps.Going.{Takes};
+ghost use Rattle.liquid_template.specs.steps.Keeps.{Keeps};
 ghost use Rattle.liquid_template.specs.steps.Place.{target, around};
 
-use crate::begun::{Going, begun, begun_apart, let_go};
-use crate::leaf::{put_chain, put_name, put_text};
-use crate::opened::{closed, let_partial_go};
+use crate::end::{drop_partial, end_captured, end_turn, open_text};
 use crate::outlet::Out;
+use crate::put::{put_chain, put_name, put_text};
+use crate::start::{Going, drop_going, start_boxed, start_node};
 use crate::store::PartialStore;
 use crate::template::Template;
-use crate::turn::{Step, turned};
+use crate::turn::{Step, take_turn};
 use liquid_error::Error;
 use liquid_plugins::{Filter, Node, Renderable};
 use liquid_runtime::Scopes;
@@ -52,8 +52,7 @@ where
         (S.view scopes.old))
         (S.view scopes.old) (target (O.place out.old)) (target (O.place out.new)) (S.view scopes.new) answer.new }
     ensures owes { S.restores scopes.new ≡ S.restores scopes.old }
-    ensures store { partials_of S.Store.finds (S.store scopes.new) ≡ partials_of S.Store.finds (S.store scopes.old) }
-    ensures borrows { S.lent scopes.new ≡ S.lent scopes.old }
+    ensures keeps { Keeps S.store S.lent S.Store.finds depth scopes.old scopes.new }
     ensures around { around (O.place out.new) ≡ around (O.place out.old) }
 {
     for node in nodes {
@@ -92,8 +91,7 @@ where
         (S.view scopes.old))
         (S.view scopes.old) (target (O.place out.old)) (target (O.place out.new)) (S.view scopes.new) answer.new }
     ensures owes { S.restores scopes.new ≡ S.restores scopes.old }
-    ensures store { partials_of S.Store.finds (S.store scopes.new) ≡ partials_of S.Store.finds (S.store scopes.old) }
-    ensures borrows { S.lent scopes.new ≡ S.lent scopes.old }
+    ensures keeps { Keeps S.store S.lent S.Store.finds depth scopes.old scopes.new }
     ensures around { around (O.place out.new) ≡ around (O.place out.old) }
 {
     match node {
@@ -131,11 +129,10 @@ where
         (S.view scopes.old))
         (S.view scopes.old) (target (O.place out.old)) (target (O.place out.new)) (S.view scopes.new) answer.new }
     ensures owes { S.restores scopes.new ≡ S.restores scopes.old }
-    ensures store { partials_of S.Store.finds (S.store scopes.new) ≡ partials_of S.Store.finds (S.store scopes.old) }
-    ensures borrows { S.lent scopes.new ≡ S.lent scopes.old }
+    ensures keeps { Keeps S.store S.lent S.Store.finds depth scopes.old scopes.new }
     ensures around { around (O.place out.new) ≡ around (O.place out.old) }
 {
-    let mut going = match begun(alloc, tag, scopes, answer) {
+    let mut going = match start_node(alloc, tag, scopes, answer) {
         Some(going) => going,
         None => return,
     };
@@ -170,16 +167,15 @@ where
         (T.Progress.shape going.old.progress) (T.Progress.shape going.new.progress)
         (S.view scopes.old) (S.view scopes.new) (target (O.place out.old)) (target (O.place out.new)) answer.new result }
     ensures owes { S.restores scopes.new ≡ S.restores scopes.old }
-    ensures store { partials_of S.Store.finds (S.store scopes.new) ≡ partials_of S.Store.finds (S.store scopes.old) }
-    ensures borrows { S.lent scopes.new ≡ S.lent scopes.old }
+    ensures keeps { Keeps S.store S.lent S.Store.finds depth scopes.old scopes.new }
     ensures around { around (O.place out.new) ≡ around (O.place out.old) }
 {
-    match turned(alloc, tag, going, depth, out, scopes, answer) {
+    match take_turn(alloc, tag, going, depth, out, scopes, answer) {
         Step::Stop => false,
         Step::Next => true,
-        Step::Part(_) => closed::<T, S::Register>(alloc, tag, going, scopes.pop_names(), answer),
+        Step::Part(_) => end_turn(alloc, tag, going, scopes, answer),
         Step::Captured(_) => {
-            let goes_on = closed::<T, S::Register>(alloc, tag, going, scopes.pop_names(), answer);
+            let goes_on = end_turn(alloc, tag, going, scopes, answer);
             if goes_on {
                 tag.caught(&mut going.progress, String::new(alloc));
             }
@@ -187,7 +183,7 @@ where
         }
         Step::Partial(template) => {
             render_partial(alloc, template, depth, out, scopes, answer);
-            closed::<T, S::Register>(alloc, tag, going, scopes.pop_names(), answer)
+            end_turn(alloc, tag, going, scopes, answer)
         }
     }
 }
@@ -217,21 +213,20 @@ where
         (S.view scopes.old))
         (S.view scopes.old) (target (O.place out.old)) (target (O.place out.new)) (S.view scopes.new) answer.new }
     ensures owes { S.restores scopes.new ≡ S.restores scopes.old }
-    ensures store { partials_of S.Store.finds (S.store scopes.new) ≡ partials_of S.Store.finds (S.store scopes.old) }
-    ensures borrows { S.lent scopes.new ≡ S.lent scopes.old }
+    ensures keeps { Keeps S.store S.lent S.Store.finds depth scopes.old scopes.new }
     ensures around { around (O.place out.new) ≡ around (O.place out.old) }
 {
-    let mut going = match begun_apart(alloc, block, scopes, answer) {
+    let mut going = match start_boxed(alloc, block, scopes, answer) {
         Some(going) => going,
         None => return,
     };
     for _ in 0..B::turns(&going.progress) {
         if !take_block(alloc, block, parts, &mut going, depth, out, scopes, answer) {
-            let_go(going);
+            drop_going(going);
             return;
         }
     }
-    let_go(going);
+    drop_going(going);
 }
 
 /// Takes a block's turn, and returns whether the others follow.
@@ -254,80 +249,31 @@ where
     S::Store: PartialStore<X, T, B>,
     O: Out,
     requires { IsOk answer.old }
-    ensures takes { Takes (setting S.Register.fresh X.means T.means B.means (partials_of S.Store.finds (S.store scopes.old)))
-        depth B.means (B.shape block.now) (run_parts
-        (setting S.Register.fresh X.means T.means B.means (partials_of S.Store.finds (S.store scopes.old)))
-        (partials_at (setting S.Register.fresh X.means T.means B.means (partials_of S.Store.finds (S.store scopes.old))) depth)
-        (parts_of X.shape T.shape B.shape parts.now))
+    ensures takes { let s = setting S.Register.fresh X.means T.means B.means (partials_of S.Store.finds (S.store scopes.old)) in
+        Takes s depth B.means (B.shape block.now) (run_parts s (partials_at s depth) (parts_of X.shape T.shape B.shape parts.now))
         (B.Progress.shape going.old.progress) (B.Progress.shape going.new.progress)
         (S.view scopes.old) (S.view scopes.new) (target (O.place out.old)) (target (O.place out.new)) answer.new result }
     ensures owes { S.restores scopes.new ≡ S.restores scopes.old }
-    ensures store { partials_of S.Store.finds (S.store scopes.new) ≡ partials_of S.Store.finds (S.store scopes.old) }
-    ensures borrows { S.lent scopes.new ≡ S.lent scopes.old }
+    ensures keeps { Keeps S.store S.lent S.Store.finds depth scopes.old scopes.new }
     ensures around { around (O.place out.new) ≡ around (O.place out.old) }
 {
-    match turned(alloc, block, going, depth, out, scopes, answer) {
+    match take_turn(alloc, block, going, depth, out, scopes, answer) {
         Step::Stop => false,
         Step::Next => true,
         Step::Part(place) => {
             render_part(alloc, parts, place, depth, out, scopes, answer);
-            closed::<B, S::Register>(alloc, block, going, scopes.pop_names(), answer)
+            end_turn(alloc, block, going, scopes, answer)
         }
         Step::Captured(place) => {
-            take_captured(
-                alloc, block, parts, place, going, depth, out, scopes, answer,
-            )
+            open_text(alloc, going, out);
+            render_part(alloc, parts, place, depth, out, scopes, answer);
+            end_captured(alloc, block, going, out, scopes, answer)
         }
         Step::Partial(template) => {
             render_partial(alloc, template, depth, out, scopes, answer);
-            closed::<B, S::Register>(alloc, block, going, scopes.pop_names(), answer)
+            end_turn(alloc, block, going, scopes, answer)
         }
     }
-}
-
-/// Renders a part into a text of its own, ends its frame, and gives the text to the block, if the part had no error.
-/// Returns whether the other turns follow.
-#[cycle(render)]
-#[inline(never)]
-fn take_captured<X, T, B, S, O>(
-    alloc: Global,
-    block: &B,
-    parts: &[Vec<Node<X, T, B>>],
-    place: u64,
-    going: &mut Going<B::Progress>,
-    depth: u32,
-    out: &mut O,
-    scopes: &mut S,
-    answer: &mut Result<(), Error>,
-) -> bool
-where
-    X: Filter,
-    S: Scopes,
-    T: Renderable<S::Register>,
-    B: Renderable<S::Register>,
-    S::Store: PartialStore<X, T, B>,
-    O: Out,
-    requires no_error { IsOk answer.old }
-    requires open { 0 < length (opened (S.restores scopes.old)) }
-    ensures captures { Captured B.means (B.shape block.now) (part_run
-        (setting S.Register.fresh X.means T.means B.means (partials_of S.Store.finds (S.store scopes.old)))
-        depth (parts_of X.shape T.shape B.shape parts.now) place)
-        (option_map (λ s. string_bytes s) going.old.trace)
-        (B.Progress.shape going.old.progress) (B.Progress.shape going.new.progress)
-        (S.view scopes.old) (S.view scopes.new) (S.restores scopes.old) (S.restores scopes.new)
-        (target (O.place out.old)) (target (O.place out.new)) answer.new result }
-    ensures store { partials_of S.Store.finds (S.store scopes.new) ≡ partials_of S.Store.finds (S.store scopes.old) }
-    ensures borrows { S.lent scopes.new ≡ S.lent scopes.old }
-    ensures around { around (O.place out.new) ≡ around (O.place out.old) }
-{
-    let outer = out.open(alloc);
-    render_part(alloc, parts, place, depth, out, scopes, answer);
-    let text = out.close(outer);
-    let goes_on = closed::<B, S::Register>(alloc, block, going, scopes.pop_names(), answer);
-    if goes_on {
-        block.caught(&mut going.progress, text);
-    }
-    goes_on
 }
 
 /// Renders a part, if there is one with that number.
@@ -355,8 +301,7 @@ where
         (S.view scopes.old))
         (S.view scopes.old) (target (O.place out.old)) (target (O.place out.new)) (S.view scopes.new) answer.new }
     ensures owes { S.restores scopes.new ≡ S.restores scopes.old }
-    ensures store { partials_of S.Store.finds (S.store scopes.new) ≡ partials_of S.Store.finds (S.store scopes.old) }
-    ensures borrows { S.lent scopes.new ≡ S.lent scopes.old }
+    ensures keeps { Keeps S.store S.lent S.Store.finds depth scopes.old scopes.new }
     ensures around { around (O.place out.new) ≡ around (O.place out.old) }
 {
     match parts.get(place as usize) {
@@ -390,10 +335,9 @@ where
         (S.view scopes.old))
         (S.view scopes.old) (target (O.place out.old)) (target (O.place out.new)) (S.view scopes.new) answer.new }
     ensures owes { S.restores scopes.new ≡ S.restores scopes.old }
-    ensures store { partials_of S.Store.finds (S.store scopes.new) ≡ partials_of S.Store.finds (S.store scopes.old) }
-    ensures borrows { S.lent scopes.new ≡ S.lent scopes.old }
+    ensures keeps { Keeps S.store S.lent S.Store.finds depth scopes.old scopes.new }
     ensures around { around (O.place out.new) ≡ around (O.place out.old) }
 {
     render_list(alloc, template.nodes(), depth - 1, out, scopes, answer);
-    let_partial_go(template);
+    drop_partial(template);
 }

@@ -1,21 +1,20 @@
 //! Sinks, and the rendering of parsed templates.
 #![tactic(auto)]
 
-mod begun;
-mod chain;
 mod cycle;
+mod end;
 mod gate;
 mod history;
 mod isolated;
 mod laws;
-mod leaf;
-mod opened;
 mod outlet;
 mod partial;
 mod piece;
+mod put;
 mod render;
 mod sandbox;
 mod sink;
+mod start;
 mod store;
 mod template;
 mod text_sink;

@@ -50,8 +50,6 @@ where
     ensures view { S.view scopes.new ≡ S.view scopes.old }
     ensures owes { S.restores scopes.new ≡ S.restores scopes.old }
     ensures store { partials_of S.Store.finds (S.store scopes.new) ≡ partials_of S.Store.finds (S.store scopes.old) }
-    ensures bound { partials_size (partials_of S.Store.finds (S.store scopes.new))
-        ≡ partials_size (partials_of S.Store.finds (S.store scopes.old)) }
     ensures borrows { S.lent scopes.new ≡ S.lent scopes.old }
 {
     match scopes.partials() {

@@ -42,6 +42,7 @@ impl<X: Filter, T, B> Template<X, T, B> {
             (K.sunk sink.old) (K.sunk sink.new) (S.view scopes.new) result }
         ensures owes { S.restores scopes.new ≡ S.restores scopes.old }
         ensures store { partials_of S.Store.finds (S.store scopes.new) ≡ partials_of S.Store.finds (S.store scopes.old) }
+        ensures unasked { (S.view scopes.old).depth ≡ 0 → S.store scopes.new ≡ S.store scopes.old }
         ensures borrows { S.lent scopes.new ≡ S.lent scopes.old }
     {
         let mut out: Outlet<K, NoGate> = Outlet::new(sink);
@@ -69,6 +70,7 @@ impl<X: Filter, T, B> Template<X, T, B> {
             (S.view scopes.old) (target (O.place out.old)) (target (O.place out.new)) (S.view scopes.new) result }
         ensures owes { S.restores scopes.new ≡ S.restores scopes.old }
         ensures store { partials_of S.Store.finds (S.store scopes.new) ≡ partials_of S.Store.finds (S.store scopes.old) }
+        ensures unasked { (S.view scopes.old).depth ≡ 0 → S.store scopes.new ≡ S.store scopes.old }
         ensures borrows { S.lent scopes.new ≡ S.lent scopes.old }
         ensures around { around (O.place out.new) ≡ around (O.place out.old) }
     {
@@ -94,6 +96,7 @@ impl<X: Filter, T, B> Template<X, T, B> {
             (K.sunk sink.old) (K.sunk sink.new) (R.view runtime.new) result }
         ensures owes { R.restores runtime.new ≡ R.restores runtime.old }
         ensures store { partials_of R.Store.finds (R.store runtime.new) ≡ partials_of R.Store.finds (R.store runtime.old) }
+        ensures unasked { (R.view runtime.old).depth ≡ 0 → R.store runtime.new ≡ R.store runtime.old }
         ensures borrows { R.lent runtime.new ≡ R.lent runtime.old }
     {
         let mut scopes: FlatScopes<&mut R> = FlatScopes::new(alloc, runtime);
@@ -119,6 +122,7 @@ impl<X: Filter, T, B> Template<X, T, B> {
         ensures frames { SameFrames (R.view runtime.old) (R.view runtime.new) }
         ensures owes { R.restores runtime.new ≡ R.restores runtime.old }
         ensures store { partials_of R.Store.finds (R.store runtime.new) ≡ partials_of R.Store.finds (R.store runtime.old) }
+        ensures unasked { (R.view runtime.old).depth ≡ 0 → R.store runtime.new ≡ R.store runtime.old }
         ensures borrows { R.lent runtime.new ≡ R.lent runtime.old }
     {
         let mut sink = TextSink::new(alloc);

@@ -53,6 +53,7 @@ impl<X: Filter, T, B> Template<X, T, B> {
         ensures untouched { Untouched (S.view scopes.old) (S.view scopes.new) }
         ensures owes { S.restores scopes.new ≡ S.restores scopes.old }
         ensures store { partials_of S.Store.finds (S.store scopes.new) ≡ partials_of S.Store.finds (S.store scopes.old) }
+        ensures unasked { (S.view scopes.old).depth ≡ 0 → S.store scopes.new ≡ S.store scopes.old }
         ensures borrows { S.lent scopes.new ≡ S.lent scopes.old }
     {
         let mut out: Outlet<K, NoGate> = Outlet::new(sink);
@@ -90,6 +91,7 @@ impl<X: Filter, T, B> Template<X, T, B> {
         ensures untouched { Untouched (S.view scopes.old) (S.view scopes.new) }
         ensures owes { S.restores scopes.new ≡ S.restores scopes.old }
         ensures store { partials_of S.Store.finds (S.store scopes.new) ≡ partials_of S.Store.finds (S.store scopes.old) }
+        ensures unasked { (S.view scopes.old).depth ≡ 0 → S.store scopes.new ≡ S.store scopes.old }
         ensures borrows { S.lent scopes.new ≡ S.lent scopes.old }
         ensures around { around (O.place out.new) ≡ around (O.place out.old) }
     {
@@ -131,6 +133,7 @@ impl<X: Filter, T, B> Template<X, T, B> {
         ensures untouched { Untouched (R.view parent.old) (R.view parent.new) }
         ensures owes { R.restores parent.new ≡ R.restores parent.old }
         ensures store { partials_of R.Store.finds (R.store parent.new) ≡ partials_of R.Store.finds (R.store parent.old) }
+        ensures unasked { (R.view parent.old).depth ≡ 0 → R.store parent.new ≡ R.store parent.old }
         ensures borrows { R.lent parent.new ≡ R.lent parent.old }
     {
         let mut scopes: FlatScopes<&mut R> = FlatScopes::new(alloc, parent);

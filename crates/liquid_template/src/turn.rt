@@ -1,4 +1,4 @@
-//! Making a turn, and opening what it renders.
+//! Taking a turn, and opening what it renders.
 ghost use Rattle.std.specs.Prelude.{◌≡◌, ◌<◌, ◌≤◌, IsOk, IfOk, IfSome, option_map, string_bytes};
 ghost use Rattle.liquid_runtime.specs.meaning.Calls.{frame_of};
 ghost use Rattle.liquid_plugins.specs.meaning.Size.{size_nodes};
@@ -7,11 +7,12 @@ ghost use Rattle.liquid_template.specs.meaning.Runs.{setting};
 ghost use Rattle.liquid_template.specs.meaning.TemplateOf.{template_nodes};
 ghost use Rattle.liquid_template.specs.steps.Bound.{partials_size};
 ghost use Rattle.liquid_template.specs.steps.Going.{Turned, Small, Finds, PartialOpens};
+ghost use Rattle.liquid_template.specs.steps.Keeps.{Keeps};
 ghost use Rattle.liquid_template.specs.steps.Place.{target, around};
 
-use crate::begun::Going;
 use crate::outlet::{Out, stopped_error};
 use crate::partial::{find, too_deep_error};
+use crate::start::Going;
 use crate::store::PartialStore;
 use crate::template::Template;
 use crate::trace::{keep_trace, refuse, with_own_trace};
@@ -35,9 +36,9 @@ pub(crate) enum Step<X, T, B> {
     Partial(Rc<Template<X, T, B>>),
 }
 
-/// Makes a turn, if the gate lets it pass: writes its text, or pushes its frame and keeps its trace.
+/// Takes a turn, if the gate lets it pass: writes its text, or pushes its frame and keeps its trace.
 #[inline(never)]
-pub(crate) fn turned<X, T, B, N, S, O>(
+pub(crate) fn take_turn<X, T, B, N, S, O>(
     alloc: Global,
     node: &N,
     going: &mut Going<N::Progress>,
@@ -61,10 +62,7 @@ where
         (option_map (λ s. string_bytes s) going.new.trace) (S.restores scopes.old) (S.restores scopes.new) answer.new result }
     ensures around { around (O.place out.new) ≡ around (O.place out.old) }
     ensures small { Small X.shape T.shape B.shape depth (partials_size (partials_of S.Store.finds (S.store scopes.old))) result }
-    ensures store { partials_of S.Store.finds (S.store scopes.new) ≡ partials_of S.Store.finds (S.store scopes.old) }
-    ensures bound { partials_size (partials_of S.Store.finds (S.store scopes.new))
-        ≡ partials_size (partials_of S.Store.finds (S.store scopes.old)) }
-    ensures borrows { S.lent scopes.new ≡ S.lent scopes.old }
+    ensures keeps { Keeps S.store S.lent S.Store.finds depth scopes.old scopes.new }
 {
     if !out.pass_turn() {
         refuse(answer, stopped_error(alloc));
@@ -141,10 +139,7 @@ where
         answer.new (option_map (λ s. string_bytes s) kept.new) result }
     ensures small { IfSome result (λ template. (0 < depth) × (size_nodes (template_nodes X.shape T.shape B.shape template.value)
         ≤ partials_size (partials_of S.Store.finds (S.store scopes.old)))) }
-    ensures store { partials_of S.Store.finds (S.store scopes.new) ≡ partials_of S.Store.finds (S.store scopes.old) }
-    ensures bound { partials_size (partials_of S.Store.finds (S.store scopes.new))
-        ≡ partials_size (partials_of S.Store.finds (S.store scopes.old)) }
-    ensures borrows { S.lent scopes.new ≡ S.lent scopes.old }
+    ensures keeps { Keeps S.store S.lent S.Store.finds depth scopes.old scopes.new }
 {
     match scopes.push(frame) {
         Ok(()) => {}
@@ -185,10 +180,7 @@ where
         ≤ partials_size (partials_of S.Store.finds (S.store scopes.old))) }
     ensures view { S.view scopes.new ≡ S.view scopes.old }
     ensures owes { S.restores scopes.new ≡ S.restores scopes.old }
-    ensures store { partials_of S.Store.finds (S.store scopes.new) ≡ partials_of S.Store.finds (S.store scopes.old) }
-    ensures bound { partials_size (partials_of S.Store.finds (S.store scopes.new))
-        ≡ partials_size (partials_of S.Store.finds (S.store scopes.old)) }
-    ensures borrows { S.lent scopes.new ≡ S.lent scopes.old }
+    ensures keeps { Keeps S.store S.lent S.Store.finds depth scopes.old scopes.new }
 {
     if depth == 0 {
         return Err(too_deep_error(alloc));

@@ -47,6 +47,7 @@ impl<X: Filter, T, B> Template<X, T, B> {
             (R.view runtime.new) result }
         ensures owes { R.restores runtime.new ≡ R.restores runtime.old }
         ensures store { partials_of R.Store.finds (R.store runtime.new) ≡ partials_of R.Store.finds (R.store runtime.old) }
+        ensures unasked { (R.view runtime.old).depth ≡ 0 → R.store runtime.new ≡ R.store runtime.old }
         ensures borrows { R.lent runtime.new ≡ R.lent runtime.old }
     {
         let mut scopes: FlatScopes<&mut R> = FlatScopes::new(alloc, runtime);
@@ -77,6 +78,7 @@ impl<X: Filter, T, B> Template<X, T, B> {
             (S.view scopes.new) result }
         ensures owes { S.restores scopes.new ≡ S.restores scopes.old }
         ensures store { partials_of S.Store.finds (S.store scopes.new) ≡ partials_of S.Store.finds (S.store scopes.old) }
+        ensures unasked { (S.view scopes.old).depth ≡ 0 → S.store scopes.new ≡ S.store scopes.old }
         ensures borrows { S.lent scopes.new ≡ S.lent scopes.old }
     {
         let mut out: Outlet<GatedSink<K, G>, WithGate> = Outlet::new(page);
@@ -120,6 +122,7 @@ impl<X: Filter, T, B> Template<X, T, B> {
         ensures untouched { Untouched (R.view parent.old) (R.view parent.new) }
         ensures owes { R.restores parent.new ≡ R.restores parent.old }
         ensures store { partials_of R.Store.finds (R.store parent.new) ≡ partials_of R.Store.finds (R.store parent.old) }
+        ensures unasked { (R.view parent.old).depth ≡ 0 → R.store parent.new ≡ R.store parent.old }
         ensures borrows { R.lent parent.new ≡ R.lent parent.old }
     {
         let mut scopes: FlatScopes<&mut R> = FlatScopes::new(alloc, parent);
@@ -162,6 +165,7 @@ impl<X: Filter, T, B> Template<X, T, B> {
         ensures untouched { Untouched (S.view scopes.old) (S.view scopes.new) }
         ensures owes { S.restores scopes.new ≡ S.restores scopes.old }
         ensures store { partials_of S.Store.finds (S.store scopes.new) ≡ partials_of S.Store.finds (S.store scopes.old) }
+        ensures unasked { (S.view scopes.old).depth ≡ 0 → S.store scopes.new ≡ S.store scopes.old }
         ensures borrows { S.lent scopes.new ≡ S.lent scopes.old }
     {
         let mut out: Outlet<GatedSink<K, G>, WithGate> = Outlet::new(page);
@@ -205,6 +209,7 @@ impl<X: Filter, T, B> Template<X, T, B> {
         ensures kept { OnlyIndexChanges (R.view parent.old) (R.view parent.new) }
         ensures owes { R.restores parent.new ≡ R.restores parent.old }
         ensures store { partials_of R.Store.finds (R.store parent.new) ≡ partials_of R.Store.finds (R.store parent.old) }
+        ensures unasked { (R.view parent.old).depth ≡ 0 → R.store parent.new ≡ R.store parent.old }
         ensures borrows { R.lent parent.new ≡ R.lent parent.old }
     {
         let mut scopes: FlatScopes<&mut R> = FlatScopes::new(alloc, parent);
@@ -247,6 +252,7 @@ impl<X: Filter, T, B> Template<X, T, B> {
         ensures kept { OnlyIndexChanges (S.view scopes.old) (S.view scopes.new) }
         ensures owes { S.restores scopes.new ≡ S.restores scopes.old }
         ensures store { partials_of S.Store.finds (S.store scopes.new) ≡ partials_of S.Store.finds (S.store scopes.old) }
+        ensures unasked { (S.view scopes.old).depth ≡ 0 → S.store scopes.new ≡ S.store scopes.old }
         ensures borrows { S.lent scopes.new ≡ S.lent scopes.old }
     {
         let mut out: Outlet<GatedSink<K, G>, WithGate> = Outlet::new(page);

@@ -1,5 +1,5 @@
 //! The tag `badge`, which writes a value in brackets.
-ghost use Rattle.std.specs.Prelude.{◌≡◌, IfOk, string_bytes};
+ghost use Rattle.std.specs.Prelude.{◌≡◌, IfOk, codes, string_bytes};
 ghost use Rattle.liquid_error.specs.meaning.Told.{Gives};
 ghost use Rattle.liquid_value.specs.meaning.View.{view as tree_of};
 ghost use Rattle.liquid_plugins.specs.meaning.Evaluation.{evaluate};
@@ -21,6 +21,8 @@ use std::alloc::{AllocError, Global};
 pub struct Badge;
 
 impl TagReflection for Badge {
+    ghost tag_name = { λ _. codes "badge" };
+
     fn tag(&self) -> &str {
         "badge"
     }

@@ -9,7 +9,7 @@ use liquid_error::Error;
 use liquid_plugins::{Expression, ExpressionMark, ListOf, Meant};
 use liquid_runtime::Runtime;
 use liquid_tags::Comparison;
-use liquid_tags::condition::{compares, is_truthy};
+use liquid_tags::if_block::condition::{compares, is_truthy};
 use liquid_value::Value;
 use std::alloc::{AllocError, Global};
 

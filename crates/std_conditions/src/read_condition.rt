@@ -12,7 +12,7 @@ use crate::condition::{Condition, Connective, Operator, Test};
 use liquid_error::Error;
 use liquid_parser::{TagToken, TagTokenIter};
 use liquid_tags::asked::TOKEN_EXPECTED;
-use liquid_tags::read_condition::comparison_of;
+use liquid_tags::if_block::read_condition::comparison_of;
 use std::alloc::Global;
 use std::mem;
 

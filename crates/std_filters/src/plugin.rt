@@ -20,9 +20,9 @@ pub struct FilterPlugin<K> {
 }
 
 impl<K: FilterKind> FilterReflection for FilterPlugin<K> {
-    fn name(&self) -> &str
-        ensures { result.now ≡ (K.sense self.now.kind).name }
-    {
+    ghost filter_name = { λ plugin. (K.sense plugin.kind).name };
+
+    fn name(&self) -> &str {
         self.kind.row().name
     }
 

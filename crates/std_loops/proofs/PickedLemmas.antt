@@ -119,3 +119,6 @@ backward_behind from to end last false xs is ends below before = cc
 backward_behind from to end last true xs is ends below before =
     let found = within xs last (omega arith) in
     sym (ap (drop 1) (reversed_first xs from to last found.0 (omega arith) (omega arith) found.1))
+
+-- the first item, and those after it
+pub ruleset taken = (none_first, none_behind, forward_first, forward_behind, backward_first, backward_behind)

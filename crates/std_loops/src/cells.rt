@@ -103,7 +103,8 @@ fn put_number(alloc: Global, members: &mut Object, name: &str, count: u64) -> Re
 
 #[tactic(auto, using(liquid_tags::proofs::Writes::inserted))]
 fn put(alloc: Global, members: &mut Object, name: &str, value: Value) -> Result<(), AllocError>
-    ensures { IfOk result (λ _. members_view members.new.entries ≡ put_member name.now (tree_of value) (members_view members.old.entries)) }
+    ensures { IfOk result (λ _. members_view members.new.entries
+        ≡ put_member name.now (tree_of value) (members_view members.old.entries)) }
 {
     drop(members.insert(String::from_str(alloc, name)?, value)?);
     Ok(())

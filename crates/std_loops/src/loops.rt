@@ -10,7 +10,7 @@ use liquid_error::Error;
 use liquid_plugins::{Bytes, Meant};
 use liquid_runtime::Runtime;
 use liquid_tags::Series;
-use liquid_tags::series::{SeriesShape, items_of};
+use liquid_tags::for_block::series::{SeriesShape, items_of};
 use std::alloc::Global;
 
 /// The name of a loop's items, what it goes over, and its options.

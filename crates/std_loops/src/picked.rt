@@ -53,7 +53,7 @@ impl Picked {
     }
 
     /// Takes out the first item, if there is one.
-    #[tactic(auto, using(crate::proofs::PickedLemmas::none_first, crate::proofs::PickedLemmas::none_behind, crate::proofs::PickedLemmas::forward_first, crate::proofs::PickedLemmas::forward_behind, crate::proofs::PickedLemmas::backward_first, crate::proofs::PickedLemmas::backward_behind))]
+    #[tactic(auto, using(crate::proofs::PickedLemmas::taken))]
     pub fn take_first(&mut self) -> Result<Option<Value>, AllocError>
         ensures first { IfOk result (λ item. option_map tree_of item ≡ slice_get (picked_left self.old) 0) }
         ensures behind { OnOk result (picked_left self.new ≡ drop 1 (picked_left self.old)) }

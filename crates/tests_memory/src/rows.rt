@@ -1,6 +1,7 @@
 //! Templates that are parsed and rendered, and partials that are requested from stores.
 mod capturing;
 mod compiling;
+mod leaking;
 mod parsing;
 mod rendering;
 mod requests;
@@ -21,6 +22,7 @@ fn call(alloc: Global, row: &Row, word: &str, boxes: usize) -> Result<Seen, Prob
         "render_isolated" => rendering::in_isolation(alloc, row, boxes),
         "render_in_chained" => rendering::over_chained(alloc, row, boxes),
         "render_in_flat" => rendering::over_flat(alloc, row, boxes),
+        "render_leaky" => leaking::leaked(alloc, row, boxes),
         "render_captured" => capturing::captured(alloc, row, boxes),
         "compile_eager" => compiling::eagerly(alloc, row, boxes),
         "compile_lazy" => compiling::lazily(alloc, row, boxes),

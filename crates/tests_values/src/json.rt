@@ -167,6 +167,43 @@ fn texts_are_objects(rt: HostRuntime) -> std::result::Result<(), Fail> {
     )
 }
 
+// A text that is not JSON: what its error is called, the line and the column of it, and the text. Lines are counted
+// from 1, and columns are bytes of the line up to what is wrong.
+const NO_JSON: &str = r#"["ends too soon", 1, 0, ""]
+["ends too soon", 1, 1, "{"]
+["ends too soon", 2, 6, "{\n\"a\": 1"]
+["ends too soon", 1, 6, "{\"a\": "]
+["is wrong", 1, 7, "{\"a\": }"]
+["is wrong", 1, 9, "{\"a\": 1,}"]
+["is wrong", 1, 6, "{\"a\" 1}"]
+["is wrong", 1, 10, "{\"a\": 1} {}"]
+["is wrong", 1, 2, "{a: 1}"]
+["is wrong", 2, 8, "{\n  \"a\": x}"]
+["is wrong", 3, 1, "[1.5,\n2\n}"]"#;
+
+/// Returns `true` if reading the text fails with the error of the row.
+fn is_no_json(alloc: Global, row: &Line) -> std::result::Result<bool, Fail> {
+    match object_from_str(alloc, row.text(3)?) {
+        Ok(_) => Ok(false),
+        Err(error) => {
+            let told = if error.is_eof() {
+                "ends too soon"
+            } else {
+                "is wrong"
+            };
+            Ok(told == row.text(0)?
+                && error.line() as i64 == row.number(1)?
+                && error.column() as i64 == row.number(2)?)
+        }
+    }
+}
+
+// The error is that of reading this text: its kind and its place.
+#[test]
+fn errors_have_the_place_in_the_text(rt: HostRuntime) -> std::result::Result<(), Fail> {
+    rows_hold(rt.alloc(), NO_JSON, is_no_json)
+}
+
 // A text as a value, and the JSON that it is shown as.
 const TEXTS: &str = r#"["42", "42"]
 ["+7", "7"]

@@ -11,9 +11,12 @@ use tests_lines::{Line, rows_hold};
 /// Two counts.
 const COUNTS: &str = "{% increment n %} {% increment n %}";
 
-/// The number that counting begins with, what two counts write, with the error's text after it, and the number that is
+/// The value that counting begins with, what two counts write, with the error's text after it, and the number that is
 /// left: a count past the limit leaves it as it was.
 const ROWS: &str = r#"[6, "6 7", "8"]
+["6", "6 7", "8"]
+["-1", "-1 0", "1"]
+["six", "0 1", "2"]
 [9223372036854775806, "9223372036854775806 liquid: Counter past its limit\n  with:\n    name=n\n", "9223372036854775807"]"#;
 
 /// Returns what is left of the counter.
@@ -24,11 +27,19 @@ fn left<R: Runtime>(alloc: Global, runtime: &R) -> Result<String, Fail> {
     }
 }
 
+/// Returns the value that counting begins with.
+fn start(alloc: Global, row: &Line) -> Result<Value, Fail> {
+    match row.found_text(0) {
+        Some(text) => Ok(Value::scalar(String::from_str(alloc, text)?)),
+        None => Ok(Value::scalar(row.number(0)?)),
+    }
+}
+
 /// Returns `true` if a row is true for two counts.
 fn is_counted(alloc: Global, row: &Line) -> Result<bool, Fail> {
     let page = Template::new(parse(alloc, COUNTS, &*library_language(alloc)?)?);
     let mut runtime: BuiltRuntime<(), ()> = RuntimeBuilder::new(alloc).build();
-    runtime.set_index(String::from_str(alloc, "n")?, Value::scalar(row.number(0)?))?;
+    runtime.set_index(String::from_str(alloc, "n")?, start(alloc, row)?)?;
     let mut sink = TextSink::new(alloc);
     let answer = page.render_to(alloc, &mut sink, &mut runtime);
     let mut all = sink.into_string()?;

@@ -2,8 +2,8 @@
 use crate::given::runtime_of;
 use liquid_core::model::ValueRender;
 use liquid_core::runtime::Expression;
-use liquid_tags::items::Items;
-use liquid_tags::series::{Series, items_of};
+use liquid_tags::for_block::items::Items;
+use liquid_tags::for_block::series::{Series, items_of};
 use std::alloc::Global;
 use std::test::Fail;
 use tests_lines::{holds, same};

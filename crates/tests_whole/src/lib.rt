@@ -3,6 +3,8 @@
 #![tactic(auto)]
 
 #[cfg(test)]
+mod counted_filter;
+#[cfg(test)]
 mod counter_rows;
 #[cfg(test)]
 mod counting_source;

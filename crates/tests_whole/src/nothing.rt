@@ -3,9 +3,7 @@ use crate::kinds::OnDemand;
 use crate::pages::all_hold;
 use crate::reflections::{block_is_told, body_is_told, filter_is_told, tag_is_told};
 use liquid_core::model::{Value, ValueCow};
-use liquid_core::parser::{
-    Filter, FilterArguments, Language, NoPlugin, PluginRegistry, call_filter,
-};
+use liquid_core::parser::{Filter, FilterArguments, Language, NoPlugin, call_filter};
 use std::alloc::{AllocError, Global};
 use std::rc::Rc;
 use std::test::Fail;
@@ -45,13 +43,9 @@ fn gives_nil(alloc: Global) -> Result<bool, Fail> {
 
 /// Returns a language in which `nothing` is a filter and a tag, and `none` a block.
 fn nothings(alloc: Global) -> Result<Language<NoPlugin, NoPlugin, NoPlugin>, AllocError> {
-    let mut language = Language {
-        filters: PluginRegistry::new(alloc),
-        tags: PluginRegistry::new(alloc),
-        blocks: PluginRegistry::new(alloc),
-    };
-    language.filters.register("nothing", NoPlugin)?;
-    language.tags.register("nothing", NoPlugin)?;
+    let mut language = Language::empty(alloc);
+    language.add_filter(alloc, NoPlugin)?;
+    language.add_tag(alloc, NoPlugin)?;
     language.blocks.register("none", NoPlugin)?;
     Ok(language)
 }
@@ -85,4 +79,18 @@ fn nothing_makes_nothing(rt: HostRuntime) -> Result<(), Fail> {
     )?;
     all_hold::<_, _, _, OnDemand>(alloc, ROWS, &language, 4)?;
     holds(gives_nil(alloc)?, "the filter gives nil")
+}
+
+/// A text over a language with the block `nothing` alone.
+const NAMED: &str = r#"{"template": "a{% nothing %}b{% endnothing %}c", "written": "ac"}"#;
+
+// Plug-ins are found under the names that they return, and a second one replaces the first.
+#[test]
+fn plugins_are_added_under_their_own_names(rt: HostRuntime) -> Result<(), Fail> {
+    let alloc = rt.alloc();
+    let mut language: Language<NoPlugin, NoPlugin, NoPlugin> = Language::empty(alloc);
+    holds(!language.add_block(alloc, NoPlugin)?, "the block is new")?;
+    holds(language.add_block(alloc, NoPlugin)?, "the block was there")?;
+    let language = Rc::new(alloc, language)?;
+    all_hold::<_, _, _, OnDemand>(alloc, NAMED, &language, 1)
 }

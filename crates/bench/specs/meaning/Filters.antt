@@ -65,3 +65,8 @@ any_filters = record { answers = any_answers; label = any_label }
 abbrev pub any_made : Filters → Arguments → Result AnyShape Refusal
 any_made filters.Append arguments = ok_then (one_argument arguments.positional arguments.keyword) (λ e. Ok (shape.Append e))
 any_made filters.Fail arguments = without_arguments shape.Fail arguments.positional arguments.keyword
+
+-- the names of the filters
+abbrev pub filter_name : Filters → List ℕ
+filter_name filters.Append = codes "append"
+filter_name filters.Fail = codes "fail"

@@ -1,5 +1,5 @@
 -- What the test tags make from their tokens.
-use Rattle.std.specs.Prelude.{Result, Ok}
+use Rattle.std.specs.Prelude.{ℕ, List, codes, Result, Ok}
 use Rattle.liquid_error.specs.meaning.Refusal.{Refusal, ok_then}
 use Rattle.liquid_parser.specs.meaning.Handed.{Tokens}
 use Rattle.bench.specs.meaning.Asked.{name_alone, name_and_value, nothing_for}
@@ -32,3 +32,18 @@ abbrev pub hostile_given : HostileTags → Tokens → Result HostileTagShape Ref
 hostile_given (hostile.Plain t) ts = ok_then (tag_given t ts) (λ n. Ok (hostile_shape.Plain n))
 hostile_given hostile.Spin ts = nothing_for hostile_shape.Spin ts
 hostile_given hostile.Mute ts = nothing_for hostile_shape.Mute ts
+
+-- the names of the tags
+abbrev pub tag_name : Tags → List ℕ
+tag_name tags.Set = codes "set"
+tag_name tags.Inc = codes "inc"
+tag_name tags.Brk = codes "brk"
+
+abbrev pub leaky_name : LeakyTags → List ℕ
+leaky_name (leaky.Plain t) = tag_name t
+leaky_name leaky.Leak = codes "leak"
+
+abbrev pub hostile_name : HostileTags → List ℕ
+hostile_name (hostile.Plain t) = tag_name t
+hostile_name hostile.Spin = codes "spin"
+hostile_name hostile.Mute = codes "mute"

@@ -16,6 +16,11 @@ abbrev pub tag_beside : {L O F S T : Type 0} → (L → Filters F → Tokens →
 tag_beside library own (Library tag) filters ts = ok_then (library tag filters ts) (λ node. Ok (Library node))
 tag_beside library own (Own tag) filters ts = ok_then (own tag filters ts) (λ node. Ok (Own node))
 
+-- a tag or a block has its own name
+abbrev pub name_beside : {L O : Type 0} → (L → List ℕ) → (O → List ℕ) → Beside L O → List ℕ
+name_beside library own (Library tag) = library tag
+name_beside library own (Own tag) = own tag
+
 abbrev pub names_beside : {L O : Type 0} → (L → BlockNames) → (O → BlockNames) → Beside L O → BlockNames
 names_beside library own (Library block) = library block
 names_beside library own (Own block) = own block

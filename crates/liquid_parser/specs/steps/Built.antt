@@ -11,8 +11,8 @@ use Rattle.liquid_grammar.specs.meaning.Parts.{ClosesExpression}
 use Rattle.liquid_grammar.specs.meaning.Rules.{Begins, ◌▷◌}
 use Rattle.liquid_grammar.specs.meaning.Tokens.{Chain}
 use Rattle.liquid_plugins.specs.meaning.Nodes.{NodeShape}
-use Rattle.liquid_parser.specs.declared.chain.fine.Walked.{Walked}
-use Rattle.liquid_parser.specs.declared.chain.fine.Walked.TheVariants.{Whole, NoExpression, Undecided}
+use Rattle.liquid_parser.specs.declared.chain.fast_path.Walked.{Walked}
+use Rattle.liquid_parser.specs.declared.chain.fast_path.Walked.TheVariants.{Whole, NoExpression, Undecided}
 use Rattle.liquid_parser.specs.meaning.Lang.{Filters}
 use Rattle.liquid_parser.specs.meaning.Reading.{expression_read}
 

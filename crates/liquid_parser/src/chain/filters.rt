@@ -35,10 +35,10 @@ pub(crate) fn parse_chain<F: ParseFilter + Drop>(
         → Gives (chain_of F.Filter.shape) result (chain_read (registry_of F.makes registry.now) source.now c) }
 {
     match build_value(alloc, s, 0)? {
-        Some((entry, rest)) => match parse_filters(alloc, source, rest, registry) {
-            Ok(filters) => Ok(FilterChain { entry, filters }),
-            Err(error) => Err(error),
-        },
+        Some((entry, rest)) => {
+            let filters = parse_filters(alloc, source, rest, registry)?;
+            Ok(FilterChain { entry, filters })
+        }
         None => Err(refused_at(alloc, source, "Invalid liquid", s)),
     }
 }
@@ -56,13 +56,9 @@ fn parse_filters<F: ParseFilter + Drop>(
     let mut filters = Vec::new(alloc);
     let mut rest = s;
     'filters: while let Some(start) = next_filter(rest) {
-        match parse_filter(alloc, source, start, registry) {
-            Ok((filter, behind)) => {
-                filters.push(filter)?;
-                rest = behind;
-            }
-            Err(error) => return Err(error),
-        }
+        let (filter, behind) = parse_filter(alloc, source, start, registry)?;
+        filters.push(filter)?;
+        rest = behind;
     }
     Ok(filters)
 }

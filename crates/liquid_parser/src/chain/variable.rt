@@ -46,10 +46,7 @@ fn whole_variable(
         → Gives variable_of result (variable_read text.now v) }
 {
     one_match();
-    match check(alloc, text, fault) {
-        Ok(()) => {}
-        Err(error) => return Err(error),
-    }
+    check(alloc, text, fault)?;
     match match_identifier(text) {
         Some((name, rest)) => match build_variable(alloc, name, rest, 0)? {
             Some((expression, _)) => match expression.into_variable() {

@@ -12,7 +12,7 @@ ghost use Rattle.liquid_parser.specs.meaning.Plugins.{language_of};
 ghost use Rattle.liquid_grammar.specs.meaning.Cover as cover;
 ghost use Rattle.liquid_parser.specs.meaning.Reading as spec;
 
-use crate::cursor::element::{BlockElement, handed_over};
+use crate::cursor::element::{BlockElement, hand_over};
 use crate::cursor::tag::Tag;
 use crate::plugin::block::ParseBlock;
 use crate::plugin::language::Language;
@@ -74,7 +74,7 @@ impl<'a, 'n> TagBlock<'a, 'n> {
         match next_element(place) {
             Some((found, behind)) => {
                 self.rest = behind;
-                match handed_over(alloc, self.source, place, found) {
+                match hand_over(alloc, self.source, place, found) {
                     Ok(element) => match is_end(alloc, element, self.end_name) {
                         Ok(is_end) => {
                             self.is_closed = is_end;
@@ -203,10 +203,8 @@ fn is_end(
     match element {
         BlockElement::Tag(tag) => {
             if tag.name == end_name {
-                match tag.tokens.expect_nothing(alloc) {
-                    Ok(()) => Ok(true),
-                    Err(error) => Err(error),
-                }
+                tag.tokens.expect_nothing(alloc)?;
+                Ok(true)
             } else {
                 Ok(false)
             }

@@ -13,8 +13,8 @@ ghost use Rattle.liquid_parser.specs.meaning.WholeTag.{Refuses};
 ghost use Rattle.liquid_parser.specs.meaning.BlockReading.{Parsed, Passes};
 ghost use Rattle.liquid_grammar.specs.meaning.Cover as cover;
 
+use crate::chain::fast_path::{name_node, no_expression};
 use crate::chain::filters::parse_chain;
-use crate::chain::fine::{name_node, no_expression};
 use crate::cursor::block::TagBlock;
 use crate::cursor::tag::Tag;
 use crate::cursor::tokens::TagTokenIter;
@@ -189,7 +189,7 @@ impl<'a> BlockElement<'a> {
 
 /// Returns an element of the source, after checking its literals and brackets.
 #[inline(always)]
-pub(crate) fn handed_over<'a>(
+pub(crate) fn hand_over<'a>(
     alloc: Global,
     source: &'a str,
     place: &'a str,

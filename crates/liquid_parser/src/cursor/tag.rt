@@ -17,8 +17,8 @@ use crate::cursor::tokens::TagTokenIter;
 use crate::plugin::block::ParseBlock;
 use crate::plugin::language::Language;
 use crate::plugin::tag::ParseTag;
-use crate::reading::asked::tag_read;
-use crate::reading::closing::{AROUND, behind_tag};
+use crate::reading::closing::{AROUND, read_after_tag};
+use crate::reading::dispatch::dispatch;
 use crate::reading::place::{check, refused_at};
 use crate::reading::stack::ParserState;
 use liquid_error::Error;
@@ -47,8 +47,9 @@ impl<'a> Tag<'a> {
         ensures none { ¬ (WholeTag text.now) → Refuses result (refused_at text.now (codes "Invalid liquid") text.now) }
     {
         match whole_tag(text) {
-            Some(tag) => match check(alloc, text, tag.fault) {
-                Ok(()) => Ok(Tag {
+            Some(tag) => {
+                check(alloc, text, tag.fault)?;
+                Ok(Tag {
                     name: tag.name,
                     from: tag.place,
                     text: tag.text,
@@ -56,9 +57,8 @@ impl<'a> Tag<'a> {
                         source: text,
                         rest: tag.tokens,
                     },
-                }),
-                Err(error) => Err(error),
-            },
+                })
+            }
             None => Err(refused_at(alloc, text, "Invalid liquid", text)),
         }
     }
@@ -112,11 +112,11 @@ impl<'a> Tag<'a> {
             open: Vec::new(alloc),
             nodes: Vec::new(alloc),
         };
-        let next = match tag_read(alloc, AROUND, &mut state, self, language) {
+        let next = match dispatch(alloc, AROUND, &mut state, self, language) {
             Ok(next) => next,
             Err(error) => return Err(error),
         };
-        match behind_tag(alloc, block.source, block.rest, state, next, language) {
+        match read_after_tag(alloc, block.source, block.rest, state, next, language) {
             Ok((mut nodes, rest)) => {
                 block.rest = rest;
                 match nodes.pop() {

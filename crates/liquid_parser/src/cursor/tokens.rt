@@ -95,16 +95,10 @@ impl<'a> TagTokenIter<'a> {
         ensures stays { IfErr result (λ e. self.new ≡ self.old) }
     {
         let mut behind = *self;
-        match behind.expect_next(alloc, message) {
-            Ok(token) => match token.expect_identifier().into_result(alloc) {
-                Ok(name) => {
-                    *self = behind;
-                    Ok(name)
-                }
-                Err(error) => Err(error),
-            },
-            Err(error) => Err(error),
-        }
+        let token = behind.expect_next(alloc, message)?;
+        let name = token.expect_identifier().into_result(alloc)?;
+        *self = behind;
+        Ok(name)
     }
 
     /// Reads this text, whatever it is.
@@ -120,16 +114,10 @@ impl<'a> TagTokenIter<'a> {
         ensures stays { IfErr result (λ e. self.new ≡ self.old) }
     {
         let mut behind = *self;
-        match behind.expect_next(alloc, message) {
-            Ok(token) => match token.expect_str(expected).into_result(alloc) {
-                Ok(()) => {
-                    *self = behind;
-                    Ok(())
-                }
-                Err(error) => Err(error),
-            },
-            Err(error) => Err(error),
-        }
+        let token = behind.expect_next(alloc, message)?;
+        token.expect_str(expected).into_result(alloc)?;
+        *self = behind;
+        Ok(())
     }
 
     /// Reads a variable or a literal without filters.
@@ -144,16 +132,10 @@ impl<'a> TagTokenIter<'a> {
         ensures stays { IfErr result (λ e. self.new ≡ self.old) }
     {
         let mut behind = *self;
-        match behind.expect_next(alloc, message) {
-            Ok(token) => match token.expect_value(alloc)?.into_result(alloc) {
-                Ok(value) => {
-                    *self = behind;
-                    Ok(value)
-                }
-                Err(error) => Err(error),
-            },
-            Err(error) => Err(error),
-        }
+        let token = behind.expect_next(alloc, message)?;
+        let value = token.expect_value(alloc)?.into_result(alloc)?;
+        *self = behind;
+        Ok(value)
     }
 
     /// Reads a chain. Its filters are made from left to right.
@@ -172,18 +154,11 @@ impl<'a> TagTokenIter<'a> {
         ensures stays { IfErr result (λ e. self.new ≡ self.old) }
     {
         let mut behind = *self;
-        match behind.expect_next(alloc, message) {
-            Ok(token) => match token
-                .expect_filter_chain(alloc, filters)?
-                .into_result(alloc)
-            {
-                Ok(chain) => {
-                    *self = behind;
-                    Ok(chain)
-                }
-                Err(error) => Err(error),
-            },
-            Err(error) => Err(error),
-        }
+        let token = behind.expect_next(alloc, message)?;
+        let chain = token
+            .expect_filter_chain(alloc, filters)?
+            .into_result(alloc)?;
+        *self = behind;
+        Ok(chain)
     }
 }

@@ -23,6 +23,7 @@ pub trait BlockReflection {
     fn end_tag(&self) -> &str
         ensures { result.now ≡ (block_names self.now).end_name };
 
+    /// Returns a description of what the block does.
     fn description(&self) -> &str;
 
     /// Returns an example of its use, if one is given.

@@ -32,6 +32,8 @@ impl Meant for NoPlugin {
 }
 
 impl FilterReflection for NoPlugin {
+    ghost filter_name = { λ _. codes "nothing" };
+
     fn name(&self) -> &str {
         "nothing"
     }
@@ -77,6 +79,8 @@ impl Filter for NoPlugin {
 }
 
 impl TagReflection for NoPlugin {
+    ghost tag_name = { λ _. codes "nothing" };
+
     fn tag(&self) -> &str {
         "nothing"
     }

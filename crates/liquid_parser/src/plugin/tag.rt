@@ -1,5 +1,5 @@
 //! Tag plug-ins.
-ghost use Rattle.std.specs.Prelude.{Result};
+ghost use Rattle.std.specs.Prelude.{◌≡◌, ℕ, List, Result};
 ghost use Rattle.liquid_error.specs.meaning.Refusal.{Refusal};
 ghost use Rattle.liquid_error.specs.meaning.Told.{Gives};
 ghost use Rattle.liquid_parser.specs.meaning.Handed.{Tokens};
@@ -13,9 +13,14 @@ use std::alloc::Global;
 
 /// What a tag says about itself.
 pub trait TagReflection {
-    /// Returns the name that the tag is known by.
-    fn tag(&self) -> &str;
+    // its name
+    ghost tag_name: { Self → List ℕ };
 
+    /// Returns the name that the tag is known by.
+    fn tag(&self) -> &str
+        ensures { result.now ≡ tag_name self.now };
+
+    /// Returns a description of what the tag does.
     fn description(&self) -> &str;
 
     /// Returns an example of its use, if one is given.

@@ -14,8 +14,8 @@ use crate::cursor::element::{BlockElement, Exp};
 use crate::plugin::block::ParseBlock;
 use crate::plugin::language::Language;
 use crate::plugin::tag::ParseTag;
-use crate::reading::asked::tag_read;
-use crate::reading::escape::escaped_read;
+use crate::reading::dispatch::dispatch;
+use crate::reading::escape::read_escaped;
 use crate::reading::stack::{Next, ParserState};
 use liquid_error::Error;
 use liquid_plugins::{Node, ParseFilter};
@@ -48,10 +48,10 @@ pub(crate) fn advance<
         (state_view F.Filter.shape T.Node.shape B.Node.shape B.Plan.shape B.block state.old) own after e es) }
     ensures within { IfOk result (λ rest. (front : List ℕ) × (behind.now ≡ front ++ rest.now)) }
 {
-    match element_read(alloc, outside, state, element, language) {
+    match read_element(alloc, outside, state, element, language) {
         Ok(step) => match step {
             Next::Among => Ok(behind),
-            Next::Escaped(block) => escaped_read::<F, T, B>(alloc, source, behind, block, state),
+            Next::Escaped(block) => read_escaped::<F, T, B>(alloc, source, behind, block, state),
         },
         Err(error) => Err(error),
     }
@@ -59,7 +59,7 @@ pub(crate) fn advance<
 
 /// Reads an element.
 #[inline(always)]
-fn element_read<'a, F: ParseFilter + Drop, T: ParseTag<F> + Drop, B: ParseBlock<F> + Drop>(
+fn read_element<'a, F: ParseFilter + Drop, T: ParseTag<F> + Drop, B: ParseBlock<F> + Drop>(
     alloc: Global,
     outside: usize,
     state: &mut ParserState<'a, B, B::Plan, Node<F::Filter, T::Node, B::Node>>,
@@ -76,15 +76,15 @@ fn element_read<'a, F: ParseFilter + Drop, T: ParseTag<F> + Drop, B: ParseBlock<
             state.nodes.push(raw.into_renderable(alloc)?)?;
             Ok(Next::Among)
         }
-        BlockElement::Expression(exp) => expression_read(alloc, state, exp, language),
-        BlockElement::Tag(tag) => tag_read(alloc, outside, state, tag, language),
+        BlockElement::Expression(exp) => read_expression(alloc, state, exp, language),
+        BlockElement::Tag(tag) => dispatch(alloc, outside, state, tag, language),
         BlockElement::Invalid(token) => Err(token.refusal(alloc)),
     }
 }
 
 /// Reads an expression.
 #[inline(always)]
-fn expression_read<'a, F: ParseFilter + Drop, T: ParseTag<F> + Drop, B: ParseBlock<F> + Drop>(
+fn read_expression<'a, F: ParseFilter + Drop, T: ParseTag<F> + Drop, B: ParseBlock<F> + Drop>(
     alloc: Global,
     state: &mut ParserState<'a, B, B::Plan, Node<F::Filter, T::Node, B::Node>>,
     exp: Exp<'_>,

@@ -7,13 +7,13 @@ ghost use Rattle.liquid_parser.specs.meaning.Plugins.{language_of};
 ghost use Rattle.liquid_parser.specs.steps.Views.{state_view, next_view, LeadsTo};
 ghost use Rattle.liquid_grammar.specs.meaning.Cover as cover;
 
-use crate::cursor::element::handed_over;
+use crate::cursor::element::hand_over;
 use crate::plugin::block::ParseBlock;
 use crate::plugin::language::Language;
 use crate::plugin::tag::ParseTag;
 use crate::reading::advance::advance;
-use crate::reading::escape::escaped_read;
-use crate::reading::parse::ended;
+use crate::reading::escape::read_escaped;
+use crate::reading::parse::end_reading;
 use crate::reading::stack::{Next, ParserState};
 use liquid_error::Error;
 use liquid_grammar::next_element;
@@ -24,7 +24,7 @@ use std::alloc::Global;
 pub(crate) const AROUND: usize = 1;
 
 /// Reads what follows a tag, until no block is open.
-pub(crate) fn behind_tag<
+pub(crate) fn read_after_tag<
     'a,
     't: 'a,
     F: ParseFilter + Drop,
@@ -45,11 +45,11 @@ pub(crate) fn behind_tag<
     ensures within { IfOk result (λ p. (front : List ℕ) × (text.now ≡ front ++ p.1.now)) }
 {
     match next {
-        Next::Among => closed(alloc, source, text, state, language),
+        Next::Among => read_until_closed(alloc, source, text, state, language),
         Next::Escaped(block) => {
             let mut state = state;
-            match escaped_read::<F, T, B>(alloc, source, text, block, &mut state) {
-                Ok(after) => closed(alloc, source, after, state, language),
+            match read_escaped::<F, T, B>(alloc, source, text, block, &mut state) {
+                Ok(after) => read_until_closed(alloc, source, after, state, language),
                 Err(error) => Err(error),
             }
         }
@@ -57,7 +57,13 @@ pub(crate) fn behind_tag<
 }
 
 /// Reads the text until no block is open. Returns the nodes then, and what follows.
-fn closed<'a, 't: 'a, F: ParseFilter + Drop, T: ParseTag<F> + Drop, B: ParseBlock<F> + Drop>(
+fn read_until_closed<
+    'a,
+    't: 'a,
+    F: ParseFilter + Drop,
+    T: ParseTag<F> + Drop,
+    B: ParseBlock<F> + Drop,
+>(
     alloc: Global,
     source: &'t str,
     text: &'t str,
@@ -75,7 +81,7 @@ fn closed<'a, 't: 'a, F: ParseFilter + Drop, T: ParseTag<F> + Drop, B: ParseBloc
     'elements: while !state.open.is_empty() {
         match next_element(rest) {
             Some((found, behind)) => {
-                let element = match handed_over(alloc, source, rest, found) {
+                let element = match hand_over(alloc, source, rest, found) {
                     Ok(element) => element,
                     Err(error) => return Err(error),
                 };
@@ -85,7 +91,7 @@ fn closed<'a, 't: 'a, F: ParseFilter + Drop, T: ParseTag<F> + Drop, B: ParseBloc
                 }
             }
             None => {
-                return match ended::<F, T, B>(alloc, source, state) {
+                return match end_reading::<F, T, B>(alloc, source, state) {
                     Ok(nodes) => Ok((nodes, rest)),
                     Err(error) => Err(error),
                 };

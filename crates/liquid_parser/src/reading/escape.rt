@@ -13,7 +13,7 @@ use crate::plugin::block::ParseBlock;
 use crate::plugin::tag::ParseTag;
 use crate::reading::place::refused_at;
 use crate::reading::stack::{OpenBlock, ParserState};
-use crate::reading::steps::sliced;
+use crate::reading::steps::close_escaped;
 use liquid_error::Error;
 use liquid_grammar::{Element, next_element, next_token, parts_are_matches};
 use liquid_plugins::{Node, ParseFilter};
@@ -21,7 +21,7 @@ use std::alloc::{AllocError, Global};
 
 /// Reads the escaped body of a block that has just begun to its end, and returns what follows. The blocks around it are
 /// the state's, and its node is the last of the list that it is in.
-pub(crate) fn escaped_read<'a, 't, F: ParseFilter, T: ParseTag<F>, B: ParseBlock<F>>(
+pub(crate) fn read_escaped<'a, 't, F: ParseFilter, T: ParseTag<F>, B: ParseBlock<F>>(
     alloc: Global,
     source: &str,
     body: &'t str,
@@ -36,7 +36,7 @@ pub(crate) fn escaped_read<'a, 't, F: ParseFilter, T: ParseTag<F>, B: ParseBlock
 {
     let kind = block.kind;
     match escape(body, kind.end_tag(), kind.start_tag(), kind.nests()) {
-        Some((text, after)) => match sliced::<F, T, B>(alloc, block, text) {
+        Some((text, after)) => match close_escaped::<F, T, B>(alloc, block, text) {
             Ok(nodes) => {
                 state.nodes = nodes;
                 Ok(after)

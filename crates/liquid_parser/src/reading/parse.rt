@@ -9,8 +9,8 @@ ghost use Rattle.liquid_parser.specs.meaning.Reading.{Answers, Reads, OneReading
 ghost use Rattle.liquid_parser.specs.steps.Views.{state_view};
 ghost use Rattle.liquid_parser.specs.meaning.Reading as spec;
 
-use crate::chain::fine::{Walked, fine_expression, no_expression};
-use crate::cursor::element::handed_over;
+use crate::chain::fast_path::{Walked, fast_expression, no_expression};
+use crate::cursor::element::hand_over;
 use crate::plugin::block::ParseBlock;
 use crate::plugin::language::Language;
 use crate::plugin::tag::ParseTag;
@@ -38,7 +38,7 @@ pub fn parse<F: ParseFilter + Drop, T: ParseTag<F> + Drop, B: ParseBlock<F> + Dr
         → Reads (language_of F.makes T.gives B.block language.now) text.now a
         → Gives (λ v. shapes_of F.Filter.shape T.Node.shape B.Node.shape v.items) result a }
 {
-    nodes_of(alloc, text, language)
+    read_nodes(alloc, text, language)
 }
 
 /// Each text is parsed with exactly one result.
@@ -48,7 +48,7 @@ pub fn one_reading<F: ParseFilter + Drop, T: ParseTag<F> + Drop, B: ParseBlock<F
     ensures { OneReading (language_of F.makes T.gives B.block language.now) }
 {}
 
-fn nodes_of<'a, F: ParseFilter + Drop, T: ParseTag<F> + Drop, B: ParseBlock<F> + Drop>(
+fn read_nodes<'a, F: ParseFilter + Drop, T: ParseTag<F> + Drop, B: ParseBlock<F> + Drop>(
     alloc: Global,
     text: &'a str,
     language: &'a Language<F, T, B>,
@@ -62,7 +62,7 @@ fn nodes_of<'a, F: ParseFilter + Drop, T: ParseTag<F> + Drop, B: ParseBlock<F> +
     };
     let mut rest = text;
     'elements: loop {
-        match fine_expression(alloc, rest, language)? {
+        match fast_expression(alloc, rest, language)? {
             Walked::Whole((node, behind)) => {
                 state.nodes.push(node)?;
                 rest = behind;
@@ -70,7 +70,7 @@ fn nodes_of<'a, F: ParseFilter + Drop, T: ParseTag<F> + Drop, B: ParseBlock<F> +
             Walked::NoExpression => return Err(no_expression(alloc, text, match_white(rest).1)),
             Walked::Undecided => match next_element(rest) {
                 Some((found, behind)) => {
-                    let element = match handed_over(alloc, text, rest, found) {
+                    let element = match hand_over(alloc, text, rest, found) {
                         Ok(element) => element,
                         Err(error) => return Err(error),
                     };
@@ -79,14 +79,19 @@ fn nodes_of<'a, F: ParseFilter + Drop, T: ParseTag<F> + Drop, B: ParseBlock<F> +
                         Err(error) => return Err(error),
                     }
                 }
-                None => return ended::<F, T, B>(alloc, text, state),
+                None => return end_reading::<F, T, B>(alloc, text, state),
             },
         }
     }
 }
 
 /// Returns the nodes of a text that is read to its end.
-pub(crate) fn ended<'a, F: ParseFilter + Drop, T: ParseTag<F> + Drop, B: ParseBlock<F> + Drop>(
+pub(crate) fn end_reading<
+    'a,
+    F: ParseFilter + Drop,
+    T: ParseTag<F> + Drop,
+    B: ParseBlock<F> + Drop,
+>(
     alloc: Global,
     source: &str,
     state: ParserState<'a, B, B::Plan, Node<F::Filter, T::Node, B::Node>>,

@@ -36,7 +36,7 @@ pub(crate) fn tag_node<F: ParseFilter, T: ParseTag<F>, B: ParseBlock<F>>(
 }
 
 /// Begins a block after these nodes.
-pub(crate) fn opened<'a, F: ParseFilter, T: ParseTag<F>, B: ParseBlock<F>>(
+pub(crate) fn begin_block<'a, F: ParseFilter, T: ParseTag<F>, B: ParseBlock<F>>(
     alloc: Global,
     kind: &'a B,
     nodes: Vec<Node<F::Filter, T::Node, B::Node>>,
@@ -62,7 +62,7 @@ pub(crate) fn opened<'a, F: ParseFilter, T: ParseTag<F>, B: ParseBlock<F>>(
 }
 
 /// Ends a part of a block at a divider.
-pub(crate) fn divided<'a, F: ParseFilter, T: ParseTag<F>, B: ParseBlock<F>>(
+pub(crate) fn divide_block<'a, F: ParseFilter, T: ParseTag<F>, B: ParseBlock<F>>(
     alloc: Global,
     block: &mut OpenBlock<'a, B, B::Plan, Node<F::Filter, T::Node, B::Node>>,
     nodes: Vec<Node<F::Filter, T::Node, B::Node>>,
@@ -86,7 +86,7 @@ pub(crate) fn divided<'a, F: ParseFilter, T: ParseTag<F>, B: ParseBlock<F>>(
 }
 
 /// Ends a block. Returns the nodes of the list that it is in, with its own as the last.
-pub(crate) fn closed<'a, F: ParseFilter, T: ParseTag<F>, B: ParseBlock<F>>(
+pub(crate) fn close_block<'a, F: ParseFilter, T: ParseTag<F>, B: ParseBlock<F>>(
     alloc: Global,
     block: OpenBlock<'a, B, B::Plan, Node<F::Filter, T::Node, B::Node>>,
     nodes: Vec<Node<F::Filter, T::Node, B::Node>>,
@@ -121,7 +121,7 @@ pub(crate) fn closed<'a, F: ParseFilter, T: ParseTag<F>, B: ParseBlock<F>>(
 
 /// Ends a block with an escaped body of this text. Returns the nodes of the list that it is in, with its own as the
 /// last.
-pub(crate) fn sliced<'a, F: ParseFilter, T: ParseTag<F>, B: ParseBlock<F>>(
+pub(crate) fn close_escaped<'a, F: ParseFilter, T: ParseTag<F>, B: ParseBlock<F>>(
     alloc: Global,
     block: OpenBlock<'a, B, B::Plan, Node<F::Filter, T::Node, B::Node>>,
     text: &str,

@@ -6,7 +6,7 @@ use Rattle.liquid_runtime.specs.meaning.View.{View}
 use Rattle.liquid_runtime.specs.meaning.Frames.{no_frame}
 use Rattle.liquid_plugins.specs.meaning.Turning.{answers}
 use Rattle.liquid_plugins.specs.meaning.Turns.{TurnShape, text_turn, body_turn, end_turn, Answered, NodeMeaning}
-use Rattle.liquid_tags.specs.declared.rounds.RoundsShape.{RoundsShape}
+use Rattle.liquid_tags.specs.declared.for_block.rounds.RoundsShape.{RoundsShape}
 use Rattle.liquid_tags.specs.meaning.Loops.{loop_takes}
 use Rattle.std_conditions.specs.meaning.Branches.{case_of, part_case, part_if, part_unless}
 use Rattle.std_conditions.specs.meaning.Conditions.{condition_of}

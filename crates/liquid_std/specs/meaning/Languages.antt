@@ -1,5 +1,5 @@
 -- The tags and blocks by their names, and what a language of them means.
-use Rattle.std.specs.Prelude.{ℕ, List, [], ◌∷◌, codes, Result}
+use Rattle.std.specs.Prelude.{[], ◌∷◌, Result}
 use Rattle.std.specs.FinMap.{empty}
 use Rattle.liquid_error.specs.meaning.Refusal.{Refusal}
 use Rattle.liquid_runtime.specs.meaning.Maps.{NameMap}
@@ -8,7 +8,7 @@ use Rattle.liquid_parser.specs.declared.plugin.language.Language.{Language}
 use Rattle.liquid_parser.specs.meaning.Lang.{Filters, Lang}
 use Rattle.liquid_parser.specs.meaning.Plugins.{language_of, registry_of}
 use Rattle.liquid_tags.specs.declared.tag_plugins.Tags.TheVariants as library
-use Rattle.liquid_tags.specs.meaning.Languages.{registered}
+use Rattle.liquid_tags.specs.meaning.Languages.{under_names}
 use Rattle.liquid_std.specs.declared.tags.StdTagShape.{StdTagShape}
 use Rattle.liquid_std.specs.declared.blocks.StdBlockShape.{StdBlockShape}
 use Rattle.liquid_std.specs.declared.block_plugins.StdPlanShape.{StdPlanShape}
@@ -16,21 +16,17 @@ use Rattle.liquid_std.specs.declared.tag_plugins.StdTags.{StdTags}
 use Rattle.liquid_std.specs.declared.tag_plugins.StdTags.TheVariants.{Library, Decrement, Echo, Cycle}
 use Rattle.liquid_std.specs.declared.block_plugins.StdBlocks.{StdBlocks}
 use Rattle.liquid_std.specs.declared.block_plugins.StdBlocks.TheVariants.{If, Unless, Case, For, Tablerow, Capture, Ifchanged, Comment, Raw}
-use Rattle.liquid_std.specs.meaning.TagPlugins.{tag_given}
-use Rattle.liquid_std.specs.meaning.BlockPlugins.{whole_block}
+use Rattle.liquid_std.specs.meaning.TagPlugins.{tag_given, tag_name}
+use Rattle.liquid_std.specs.meaning.BlockPlugins.{start_of, whole_block}
 
 abbrev pub the_tags : NameMap StdTags
 the_tags =
-    registered empty
-    ((codes "assign", Library library.Assign) ∷ (codes "increment", Library library.Increment) ∷ (codes "break", Library library.Break)
-    ∷ (codes "continue", Library library.Continue) ∷ (codes "include", Library library.Include) ∷ (codes "render", Library library.Render)
-    ∷ (codes "decrement", Decrement) ∷ (codes "echo", Echo) ∷ (codes "cycle", Cycle) ∷ [])
+    under_names tag_name empty
+    (Library library.Assign ∷ Library library.Increment ∷ Library library.Break ∷ Library library.Continue ∷ Library library.Include
+    ∷ Library library.Render ∷ Decrement ∷ Echo ∷ Cycle ∷ [])
 
 abbrev pub the_blocks : NameMap StdBlocks
-the_blocks =
-    registered empty
-    ((codes "if", If) ∷ (codes "unless", Unless) ∷ (codes "case", Case) ∷ (codes "for", For) ∷ (codes "tablerow", Tablerow)
-    ∷ (codes "capture", Capture) ∷ (codes "ifchanged", Ifchanged) ∷ (codes "comment", Comment) ∷ (codes "raw", Raw) ∷ [])
+the_blocks = under_names start_of empty (If ∷ Unless ∷ Case ∷ For ∷ Tablerow ∷ Capture ∷ Ifchanged ∷ Comment ∷ Raw ∷ [])
 
 -- what a language of such tags and blocks means, by what its filters make of their arguments
 abbrev pub meaning_of : {U F : Type 0} → (U → Arguments → Result F Refusal) → Language U StdTags StdBlocks → Lang F (StdTagShape F) StdPlanShape StdBlockShape

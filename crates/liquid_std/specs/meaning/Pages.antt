@@ -22,7 +22,7 @@ use Rattle.liquid_std.specs.declared.blocks.StdBlockShape.{StdBlockShape}
 use Rattle.liquid_std.specs.meaning.Languages.{tags_and_blocks}
 use Rattle.liquid_std.specs.meaning.Standard.{standard}
 
--- how deep partials may be open inside one another
+-- the number of partials that may be nested
 abbrev pub page_depth : ℕ
 page_depth = 32
 
@@ -31,8 +31,9 @@ abbrev pub PageAnswer : Type 0 → Type 0
 PageAnswer F = Result (List (NodeShape F (StdTagShape F) StdBlockShape)) Refusal
 
 module _ {F : Type 0} where
-  -- a text that the standard language with these filters refuses is refused alike, with nothing written; else the outcome is
-  -- that of the run of what it is read as, in a view of the globals alone, where each partial is what its text is read as
+  -- a text that the standard language with these filters refuses has the same refusal, with nothing written; otherwise
+  -- the outcome is that of the run of its nodes, in a view of the globals alone, where each partial is the result of
+  -- parsing its text
   pub record RendersPage (m : FilterMeaning F) (filters : Filters F) (text : List ℕ) (globals : Names) (partials : Texts) (before after : Sunk) (result : Result (Unit {0}) Error) : Type 0 where
     pub left : View MarksShape
     pub rendered : (answer : PageAnswer F) → Reads (tags_and_blocks filters) text answer

@@ -1,5 +1,5 @@
 -- What the tags make of their tokens.
-use Rattle.std.specs.Prelude.{Result, Ok}
+use Rattle.std.specs.Prelude.{ℕ, List, codes, Result, Ok}
 use Rattle.liquid_error.specs.meaning.Refusal.{Refusal, ok_then}
 use Rattle.liquid_parser.specs.meaning.Cursors.{expect_filter_chain}
 use Rattle.liquid_parser.specs.meaning.Handed.{Tokens, expect_identifier}
@@ -30,3 +30,10 @@ tag_given (tags.Library t) filters ts = ok_then (library.tag_given t filters ts)
 tag_given tags.Decrement filters ts = decrement_given ts
 tag_given tags.Echo filters ts = echo_given filters ts
 tag_given tags.Cycle filters ts = cycle_node_given ts
+
+-- the names of the tags
+abbrev pub tag_name : StdTags → List ℕ
+tag_name (tags.Library t) = library.tag_name t
+tag_name tags.Decrement = codes "decrement"
+tag_name tags.Echo = codes "echo"
+tag_name tags.Cycle = codes "cycle"

@@ -8,11 +8,11 @@ use Rattle.liquid_runtime.specs.meaning.Frames.{no_frame}
 use Rattle.liquid_plugins.specs.meaning.Evaluation.{evaluate}
 use Rattle.liquid_plugins.specs.meaning.Turns.{text_turn, body_turn, end_turn}
 use Rattle.liquid_plugins.specs.meaning.Discreet.{Discreet, hiding, overlaid, HidesGlobals}
-use Rattle.liquid_tags.specs.declared.condition.ConditionShape.{ConditionShape}
-use Rattle.liquid_tags.specs.declared.condition.ConditionShape.TheVariants.{Holds, Compares}
-use Rattle.liquid_tags.specs.declared.series.SeriesShape.{SeriesShape}
-use Rattle.liquid_tags.specs.declared.series.SeriesShape.TheVariants.{Of, Between}
-use Rattle.liquid_tags.specs.declared.rounds.RoundsShape.{RoundsShape}
+use Rattle.liquid_tags.specs.declared.if_block.condition.ConditionShape.{ConditionShape}
+use Rattle.liquid_tags.specs.declared.if_block.condition.ConditionShape.TheVariants.{Holds, Compares}
+use Rattle.liquid_tags.specs.declared.for_block.series.SeriesShape.{SeriesShape}
+use Rattle.liquid_tags.specs.declared.for_block.series.SeriesShape.TheVariants.{Of, Between}
+use Rattle.liquid_tags.specs.declared.for_block.rounds.RoundsShape.{RoundsShape}
 use Rattle.liquid_tags.specs.declared.blocks.BlockShape.{BlockShape}
 use Rattle.liquid_tags.specs.declared.blocks.BlockShape.TheVariants as shape
 use Rattle.liquid_tags.specs.declared.blocks.ProgressShape.{ProgressShape}

@@ -16,7 +16,7 @@ use Rattle.liquid_plugins.specs.meaning.Evaluation.{evaluate}
 use Rattle.liquid_plugins.specs.meaning.Turns.{text_turn, end_turn}
 use Rattle.liquid_plugins.specs.meaning.Discreet.{Discreet, hiding, overlaid, HidesGlobals}
 use Rattle.std.specs.Fmt.{signed_decimal}
-use Rattle.liquid_tags.specs.declared.partials.Inclusion.{Inclusion}
+use Rattle.liquid_tags.specs.declared.partial_call.call.Inclusion.{Inclusion}
 use Rattle.liquid_tags.specs.declared.tags.TagShape.{TagShape}
 use Rattle.liquid_tags.specs.declared.tags.TagShape.TheVariants.{Assign, Increment, Interrupts, Includes}
 use Rattle.liquid_tags.specs.meaning.Counters.{counted_on, counts_from, one_higher, past_limit}

@@ -7,9 +7,9 @@ use Rattle.liquid_parser.specs.meaning.Lang.{Block, BlockMeaning, BlockNames, Bo
 use Rattle.liquid_tags.specs.meaning.Asked.{alone, next_as}
 use Rattle.liquid_tags.specs.meaning.Blocks.{block_of}
 use Rattle.liquid_tags.specs.meaning.ConditionsGiven.{condition_given}
-use Rattle.liquid_tags.specs.declared.condition.ConditionShape.{ConditionShape}
-use Rattle.liquid_tags.specs.declared.series.SeriesShape.{SeriesShape}
-use Rattle.liquid_tags.specs.declared.series.SeriesShape.TheVariants as series
+use Rattle.liquid_tags.specs.declared.if_block.condition.ConditionShape.{ConditionShape}
+use Rattle.liquid_tags.specs.declared.for_block.series.SeriesShape.{SeriesShape}
+use Rattle.liquid_tags.specs.declared.for_block.series.SeriesShape.TheVariants as series
 use Rattle.liquid_tags.specs.declared.blocks.BlockShape.{BlockShape}
 use Rattle.liquid_tags.specs.declared.blocks.BlockShape.TheVariants as shape
 use Rattle.liquid_tags.specs.declared.block_plugins.BlockPlan.{BlockPlan}

@@ -9,7 +9,7 @@ use Rattle.liquid_tags.specs.meaning.Conditions.{chosen, condition_of}
 use Rattle.liquid_tags.specs.meaning.Loops.{loop_takes, rounds_of}
 use Rattle.liquid_tags.specs.meaning.Series.{items_of, series_of}
 use Rattle.liquid_plugins.specs.meaning.Turning.{answers, captures_nothing}
-use Rattle.liquid_tags.specs.declared.rounds.RoundsShape.{RoundsShape}
+use Rattle.liquid_tags.specs.declared.for_block.rounds.RoundsShape.{RoundsShape}
 use Rattle.liquid_tags.specs.declared.blocks.BlockNode.{BlockNode}
 use Rattle.liquid_tags.specs.declared.blocks.BlockNode.TheVariants as block
 use Rattle.liquid_tags.specs.declared.blocks.BlockShape.{BlockShape}

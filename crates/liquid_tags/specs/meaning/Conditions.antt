@@ -11,12 +11,12 @@ use Rattle.liquid_value.specs.meaning.Order.{value_cmp}
 use Rattle.liquid_runtime.specs.meaning.View.{View}
 use Rattle.liquid_plugins.specs.meaning.Evaluation.{evaluate, try_evaluate}
 use Rattle.liquid_plugins.specs.meaning.ExpressionOf.{expression_of}
-use Rattle.liquid_tags.specs.declared.condition.Comparison.{Comparison}
-use Rattle.liquid_tags.specs.declared.condition.Comparison.TheVariants as comparison
-use Rattle.liquid_tags.specs.declared.condition.Condition.{Condition}
-use Rattle.liquid_tags.specs.declared.condition.Condition.TheVariants as condition
-use Rattle.liquid_tags.specs.declared.condition.ConditionShape.{ConditionShape}
-use Rattle.liquid_tags.specs.declared.condition.ConditionShape.TheVariants.{Holds, Compares}
+use Rattle.liquid_tags.specs.declared.if_block.condition.Comparison.{Comparison}
+use Rattle.liquid_tags.specs.declared.if_block.condition.Comparison.TheVariants as comparison
+use Rattle.liquid_tags.specs.declared.if_block.condition.Condition.{Condition}
+use Rattle.liquid_tags.specs.declared.if_block.condition.Condition.TheVariants as condition
+use Rattle.liquid_tags.specs.declared.if_block.condition.ConditionShape.{ConditionShape}
+use Rattle.liquid_tags.specs.declared.if_block.condition.ConditionShape.TheVariants.{Holds, Compares}
 
 -- the shape of a condition
 abbrev pub condition_of : Condition → ConditionShape

@@ -4,10 +4,10 @@ use Rattle.liquid_error.specs.meaning.Refusal.{Refusal, ok_then}
 use Rattle.liquid_plugins.specs.meaning.Expression.{ExpressionShape}
 use Rattle.liquid_parser.specs.meaning.Handed.{Token, Tokens, expect_value, or_unexpected}
 use Rattle.liquid_tags.specs.meaning.Asked.{alone, next_as}
-use Rattle.liquid_tags.specs.declared.condition.Comparison.{Comparison}
-use Rattle.liquid_tags.specs.declared.condition.Comparison.TheVariants as comparison
-use Rattle.liquid_tags.specs.declared.condition.ConditionShape.{ConditionShape}
-use Rattle.liquid_tags.specs.declared.condition.ConditionShape.TheVariants.{Holds, Compares}
+use Rattle.liquid_tags.specs.declared.if_block.condition.Comparison.{Comparison}
+use Rattle.liquid_tags.specs.declared.if_block.condition.Comparison.TheVariants as comparison
+use Rattle.liquid_tags.specs.declared.if_block.condition.ConditionShape.{ConditionShape}
+use Rattle.liquid_tags.specs.declared.if_block.condition.ConditionShape.TheVariants.{Holds, Compares}
 
 -- the comparison that a token's text means
 abbrev pub comparison_of : List ℕ → Option Comparison

@@ -10,8 +10,8 @@ use Rattle.liquid_runtime.specs.meaning.View.{View}
 use Rattle.liquid_runtime.specs.meaning.Frames.{stack_frame}
 use Rattle.liquid_plugins.specs.meaning.Turns.{TurnShape, body_turn, end_turn, Answered}
 use Rattle.liquid_tags.specs.meaning.Items.{items_left}
-use Rattle.liquid_tags.specs.declared.rounds.Rounds.{Rounds}
-use Rattle.liquid_tags.specs.declared.rounds.RoundsShape.{RoundsShape}
+use Rattle.liquid_tags.specs.declared.for_block.rounds.Rounds.{Rounds}
+use Rattle.liquid_tags.specs.declared.for_block.rounds.RoundsShape.{RoundsShape}
 use Rattle.liquid_plugins.specs.meaning.Turning.{answers}
 
 -- the shape of a loop's progress

@@ -15,9 +15,9 @@ use Rattle.liquid_plugins.specs.meaning.Evaluation.{evaluate}
 use Rattle.liquid_plugins.specs.meaning.ExpressionOf.{expression_of}
 use Rattle.liquid_plugins.specs.meaning.Turns.{TurnShape, partial_turn}
 use Rattle.liquid_tags.specs.meaning.Series.{expected}
-use Rattle.liquid_tags.specs.declared.partials.Call.{Call}
-use Rattle.liquid_tags.specs.declared.partials.Inclusion.{Inclusion}
-use Rattle.liquid_tags.specs.declared.partials.Inclusion.TheVariants.{Include, Render}
+use Rattle.liquid_tags.specs.declared.partial_call.call.Call.{Call}
+use Rattle.liquid_tags.specs.declared.partial_call.call.Inclusion.{Inclusion}
+use Rattle.liquid_tags.specs.declared.partial_call.call.Inclusion.TheVariants.{Include, Render}
 
 -- a name with its expression
 abbrev pub Pair : Type 0

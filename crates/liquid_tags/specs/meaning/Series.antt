@@ -10,10 +10,10 @@ use Rattle.liquid_value.specs.meaning.Render.{source}
 use Rattle.liquid_runtime.specs.meaning.View.{View}
 use Rattle.liquid_plugins.specs.meaning.Evaluation.{evaluate}
 use Rattle.liquid_plugins.specs.meaning.ExpressionOf.{expression_of}
-use Rattle.liquid_tags.specs.declared.series.Series.{Series}
-use Rattle.liquid_tags.specs.declared.series.Series.TheVariants as series
-use Rattle.liquid_tags.specs.declared.series.SeriesShape.{SeriesShape}
-use Rattle.liquid_tags.specs.declared.series.SeriesShape.TheVariants.{Of, Between}
+use Rattle.liquid_tags.specs.declared.for_block.series.Series.{Series}
+use Rattle.liquid_tags.specs.declared.for_block.series.Series.TheVariants as series
+use Rattle.liquid_tags.specs.declared.for_block.series.SeriesShape.{SeriesShape}
+use Rattle.liquid_tags.specs.declared.for_block.series.SeriesShape.TheVariants.{Of, Between}
 
 -- the shape of a series
 abbrev pub series_of : Series → SeriesShape

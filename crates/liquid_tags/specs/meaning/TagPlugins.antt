@@ -1,5 +1,5 @@
 -- What the tags make from their tokens.
-use Rattle.std.specs.Prelude.{codes, Result, Ok}
+use Rattle.std.specs.Prelude.{ℕ, List, codes, Result, Ok}
 use Rattle.liquid_error.specs.meaning.Refusal.{Refusal, ok_then}
 use Rattle.liquid_runtime.specs.declared.registers.Interrupt.TheVariants.{Break, Continue}
 use Rattle.liquid_parser.specs.meaning.Cursors.{expect_filter_chain, expect_str}
@@ -7,8 +7,8 @@ use Rattle.liquid_parser.specs.meaning.Handed.{Tokens, expect_identifier}
 use Rattle.liquid_parser.specs.meaning.Lang.{Filters}
 use Rattle.liquid_tags.specs.meaning.Asked.{alone, next_as}
 use Rattle.liquid_tags.specs.meaning.CallsGiven.{call_given}
-use Rattle.liquid_tags.specs.declared.partials.Inclusion.{Inclusion}
-use Rattle.liquid_tags.specs.declared.partials.Inclusion.TheVariants as inclusion
+use Rattle.liquid_tags.specs.declared.partial_call.call.Inclusion.{Inclusion}
+use Rattle.liquid_tags.specs.declared.partial_call.call.Inclusion.TheVariants as inclusion
 use Rattle.liquid_tags.specs.declared.tags.TagShape.{TagShape}
 use Rattle.liquid_tags.specs.declared.tags.TagShape.TheVariants.{Assign, Increment, Interrupts, Includes}
 use Rattle.liquid_tags.specs.declared.tag_plugins.Tags.{Tags}
@@ -36,3 +36,12 @@ tag_given tags.Break filters ts = alone (Interrupts Break) ts
 tag_given tags.Continue filters ts = alone (Interrupts Continue) ts
 tag_given tags.Include filters ts = inclusion_given inclusion.Include ts
 tag_given tags.Render filters ts = inclusion_given inclusion.Render ts
+
+-- the names of the tags
+abbrev pub tag_name : Tags → List ℕ
+tag_name tags.Assign = codes "assign"
+tag_name tags.Increment = codes "increment"
+tag_name tags.Break = codes "break"
+tag_name tags.Continue = codes "continue"
+tag_name tags.Include = codes "include"
+tag_name tags.Render = codes "render"

@@ -10,8 +10,8 @@ use Rattle.liquid_value.specs.meaning.Tree.{Tree}
 use Rattle.liquid_value.specs.meaning.View.{view}
 use Rattle.liquid_value.specs.declared.value.Value.{Value}
 use Rattle.liquid_runtime.specs.meaning.Maps.{Names, names_of}
-use Rattle.liquid_tags.specs.declared.loops.Written.{Written}
-use Rattle.liquid_tags.specs.declared.loops.Written.TheVariants as written
+use Rattle.liquid_tags.specs.declared.for_block.turns.Written.{Written}
+use Rattle.liquid_tags.specs.declared.for_block.turns.Written.TheVariants as written
 
 -- how a name compares with that of an entry
 abbrev pub against : List ℕ → String Global → Ordering

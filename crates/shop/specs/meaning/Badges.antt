@@ -11,7 +11,7 @@ use Rattle.liquid_plugins.specs.meaning.Expression.{ExpressionShape}
 use Rattle.liquid_plugins.specs.meaning.Turning.{answers, begins_with, captures_nothing}
 use Rattle.liquid_plugins.specs.meaning.Turns.{TurnShape, text_turn, Answered, NodeMeaning}
 
--- it takes a value, and no token behind it
+-- it takes a value, and no token after it
 abbrev pub badge_given : Tokens → Result ExpressionShape Refusal
 badge_given ts =
     ok_then (next_as (codes "Value expected") expect_value ts) (λ value. ok_then (expect_nothing value.1) (λ u. Ok value.0))

@@ -15,7 +15,7 @@ use Rattle.liquid_plugins.specs.meaning.Expression.{ExpressionShape}
 use Rattle.liquid_plugins.specs.meaning.Turning.{answers, captures_nothing}
 use Rattle.liquid_plugins.specs.meaning.Turns.{TurnShape, body_turn, Answered, NodeMeaning}
 
--- its start tag takes a value, and no token behind it
+-- its start tag takes a value, and no token after it
 abbrev pub stock_given : Tokens → Result ExpressionShape Refusal
 stock_given ts =
     ok_then (next_as (codes "Value expected") expect_value ts) (λ value. ok_then (expect_nothing value.1) (λ u. Ok value.0))

@@ -11,9 +11,9 @@ use Rattle.liquid_plugins.specs.meaning.Evaluation.{evaluate}
 use Rattle.liquid_plugins.specs.meaning.Expression.{ExpressionShape}
 use Rattle.liquid_plugins.specs.meaning.Turns.{end_turn, text_turn}
 use Rattle.liquid_plugins.proofs.Hiding.{answers_hide, evaluate_hidden}
-use Rattle.liquid_tags.specs.declared.rounds.RoundsShape.{RoundsShape}
-use Rattle.liquid_tags.specs.declared.series.SeriesShape.{SeriesShape}
-use Rattle.liquid_tags.specs.declared.series.SeriesShape.TheVariants.{Of, Between}
+use Rattle.liquid_tags.specs.declared.for_block.rounds.RoundsShape.{RoundsShape}
+use Rattle.liquid_tags.specs.declared.for_block.series.SeriesShape.{SeriesShape}
+use Rattle.liquid_tags.specs.declared.for_block.series.SeriesShape.TheVariants.{Of, Between}
 use Rattle.liquid_tags.specs.meaning.Loops.{behind, is_left, item_turn, loop_takes, rested}
 use Rattle.liquid_tags.specs.meaning.Series.{items_between, items_in, items_of, whole_number}
 use Rattle.std_loops.specs.declared.loops.LoopShape.{LoopShape}

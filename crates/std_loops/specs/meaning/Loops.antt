@@ -3,7 +3,7 @@ use Rattle.std.specs.Prelude.{ℕ, ◌+◌, pos, List, [], ◌∷◌, length, st
 use Rattle.liquid_error.specs.meaning.Refusal.{Refusal, ok_then}
 use Rattle.liquid_value.specs.meaning.Tree.{Tree}
 use Rattle.liquid_runtime.specs.meaning.View.{View}
-use Rattle.liquid_tags.specs.declared.rounds.RoundsShape.{RoundsShape}
+use Rattle.liquid_tags.specs.declared.for_block.rounds.RoundsShape.{RoundsShape}
 use Rattle.liquid_tags.specs.meaning.Series.{items_of, series_of}
 use Rattle.std_loops.specs.declared.loops.Loop.{Loop}
 use Rattle.std_loops.specs.declared.loops.LoopShape.{LoopShape}

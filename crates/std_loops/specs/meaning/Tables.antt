@@ -9,8 +9,8 @@ use Rattle.liquid_runtime.specs.meaning.View.{View}
 use Rattle.liquid_plugins.specs.meaning.Evaluation.{evaluate}
 use Rattle.liquid_plugins.specs.meaning.Turning.{answers}
 use Rattle.liquid_plugins.specs.meaning.Turns.{TurnShape, text_turn, body_turn, end_turn, Answered}
-use Rattle.liquid_tags.specs.declared.series.SeriesShape.{SeriesShape}
-use Rattle.liquid_tags.specs.declared.series.SeriesShape.TheVariants.{Of, Between}
+use Rattle.liquid_tags.specs.declared.for_block.series.SeriesShape.{SeriesShape}
+use Rattle.liquid_tags.specs.declared.for_block.series.SeriesShape.TheVariants.{Of, Between}
 use Rattle.liquid_tags.specs.meaning.Loops.{is_left, rested}
 use Rattle.std_loops.specs.declared.loops.LoopShape.{LoopShape}
 use Rattle.std_loops.specs.declared.tables.Stage.{Stage}

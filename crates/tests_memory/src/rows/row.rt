@@ -21,6 +21,8 @@ const ROWS: &str =
 {"name": "chain", "template": "{{ 5 | fail }}", "written": "", "error": "liquid: bad\nfrom: Filter error\n  with:\n    filter=fail\n    input=5\n", "requests": [["t", "liquid: bad\nfrom: Filter error\n  with:\n    filter=fail\n    input=5\n"]]}
 {"name": "captured", "template": "{% twice %}a{{ b }}{% twice %}c{% endtwice %}{% endtwice %}d", "globals": {"b": 2}, "written": "a2cca2ccd"}
 {"name": "uncaptured", "template": "x{% twice %}a{{ none }}{% endtwice %}y", "written": "x", "error": "liquid: Unknown variable\n  with:\n    requested variable=none\n"}
+{"name": "leak", "template": "{% leak s 1 %}", "parent": {"s": "S"}, "written": "S"}
+{"name": "no_leak", "template": "{% leak s 1 %}", "written": ""}
 {"name": "filter", "template": "{{ a | nope }}", "is_read": false, "written": "", "error": "liquid: Unknown filter (line 1, column 8)\n  with:\n    requested filter=nope\n    available filters=append, fail\n", "requests": [["t", "liquid: Unknown filter (line 1, column 8)\n  with:\n    requested filter=nope\n    available filters=append, fail\n"]]}"#;
 
 /// A row.

@@ -13,6 +13,7 @@ use Rattle.liquid_template.specs.meaning.Runs.{setting, tag_run, block_run}
 use Rattle.liquid_template.specs.meaning.TemplateOf.{template_nodes}
 use Rattle.liquid_template.specs.steps.PartsOf.{parts_of}
 use Rattle.liquid_template.specs.steps.Bound.{partials_size, work}
+use Rattle.liquid_template.specs.steps.Keeps.{Keeps}
 use Rattle.liquid_template.specs.steps.Place.{target, around}
 use Rattle.liquid_template.proofs.cycle.+render.Given as goal
 
@@ -34,9 +35,6 @@ decreases-render_part g l = 8 * work l.depth (partials_size (option_map g.S.Stor
 abbrev pub decreases-render_partial : goal.decreases-render_partial
 decreases-render_partial g l = 8 * work (l.depth - 1) (partials_size (option_map g.S.Store.PartialStore.finds (g.S.Runtime.store l.scopes.now))) (size_nodes (template_nodes g.X.Meant.shape g.T.Meant.shape g.B.Meant.shape l.template.value)) + 4
 
-abbrev pub decreases-take_captured : goal.decreases-take_captured
-decreases-take_captured g l = 8 * work l.depth (partials_size (option_map g.S.Store.PartialStore.finds (g.S.Runtime.store l.scopes.now))) (size_parts (parts_of g.X.Meant.shape g.T.Meant.shape g.B.Meant.shape l.parts.now)) + 5
-
 abbrev pub decreases-take_tag : goal.decreases-take_tag
 decreases-take_tag g l = 8 * work l.depth (partials_size (option_map g.S.Store.PartialStore.finds (g.S.Runtime.store l.scopes.now))) 0 + 6
 
@@ -46,9 +44,8 @@ decreases-take_block g l = 8 * work l.depth (partials_size (option_map g.S.Store
 abbrev pub invariant-render_list-loop-node : goal.invariant-render_list-loop-node
 invariant-render_list-loop-node g l = record {
   owes : g.S.Runtime.restores l.scopes ≡ g.S.Runtime.restores l.fn.scopes;
-  store : option_map g.S.Store.PartialStore.finds (g.S.Runtime.store l.scopes) ≡ option_map g.S.Store.PartialStore.finds (g.S.Runtime.store l.fn.scopes);
+  keeps : Keeps g.S.Runtime.store g.S.Runtime.lent g.S.Store.PartialStore.finds l.depth l.fn.scopes l.scopes;
   answer : IsOk l.answer;
-  borrows : g.S.Runtime.lent l.scopes ≡ g.S.Runtime.lent l.fn.scopes;
   around : around (g.O.Out.place l.out) ≡ around (g.O.Out.place l.fn.out);
   renders : (after : Output) (left : View g.row.S-Register-Shape.Denot) (answer : Result (Unit {0}) Error)
       → RendersWithin (nodes_run (setting g.S.Register.Fresh.fresh g.X.Filter.means g.T.Renderable.means g.B.Renderable.means (option_map g.S.Store.PartialStore.finds (g.S.Runtime.store l.fn.scopes))) l.depth (nodes_of g.X.Meant.shape g.T.Meant.shape g.B.Meant.shape (drop l.node-index l.nodes)) (g.S.Runtime.view l.scopes)) (g.S.Runtime.view l.scopes) (target (g.O.Out.place l.out)) after left answer
@@ -58,9 +55,8 @@ invariant-render_list-loop-node g l = record {
 abbrev pub invariant-render_tag-loop : goal.invariant-render_tag-loop
 invariant-render_tag-loop g l = record {
   owes : g.S.Runtime.restores l.scopes ≡ g.S.Runtime.restores l.fn.scopes;
-  store : option_map g.S.Store.PartialStore.finds (g.S.Runtime.store l.scopes) ≡ option_map g.S.Store.PartialStore.finds (g.S.Runtime.store l.fn.scopes);
+  keeps : Keeps g.S.Runtime.store g.S.Runtime.lent g.S.Store.PartialStore.finds l.depth l.fn.scopes l.scopes;
   answer : IsOk l.answer;
-  borrows : g.S.Runtime.lent l.scopes ≡ g.S.Runtime.lent l.fn.scopes;
   around : around (g.O.Out.place l.out) ≡ around (g.O.Out.place l.fn.out);
   renders : (after : Output) (left : View g.row.S-Register-Shape.Denot) (answer : Result (Unit {0}) Error)
       → RendersWithin (turns (setting g.S.Register.Fresh.fresh g.X.Filter.means g.T.Renderable.means g.B.Renderable.means (option_map g.S.Store.PartialStore.finds (g.S.Runtime.store l.fn.scopes))) (partials_at (setting g.S.Register.Fresh.fresh g.X.Filter.means g.T.Renderable.means g.B.Renderable.means (option_map g.S.Store.PartialStore.finds (g.S.Runtime.store l.fn.scopes))) l.depth) g.T.Renderable.means (g.T.Meant.shape l.tag) [] (l.end - l.counter) (g.T.Progress.Meant.shape l.going.progress) (g.S.Runtime.view l.scopes)) (g.S.Runtime.view l.scopes) (target (g.O.Out.place l.out)) after left answer
@@ -70,9 +66,8 @@ invariant-render_tag-loop g l = record {
 abbrev pub invariant-render_block-loop : goal.invariant-render_block-loop
 invariant-render_block-loop g l = record {
   owes : g.S.Runtime.restores l.scopes ≡ g.S.Runtime.restores l.fn.scopes;
-  store : option_map g.S.Store.PartialStore.finds (g.S.Runtime.store l.scopes) ≡ option_map g.S.Store.PartialStore.finds (g.S.Runtime.store l.fn.scopes);
+  keeps : Keeps g.S.Runtime.store g.S.Runtime.lent g.S.Store.PartialStore.finds l.depth l.fn.scopes l.scopes;
   answer : IsOk l.answer;
-  borrows : g.S.Runtime.lent l.scopes ≡ g.S.Runtime.lent l.fn.scopes;
   around : around (g.O.Out.place l.out) ≡ around (g.O.Out.place l.fn.out);
   renders : (after : Output) (left : View g.row.S-Register-Shape.Denot) (answer : Result (Unit {0}) Error)
       → RendersWithin (turns (setting g.S.Register.Fresh.fresh g.X.Filter.means g.T.Renderable.means g.B.Renderable.means (option_map g.S.Store.PartialStore.finds (g.S.Runtime.store l.fn.scopes))) (partials_at (setting g.S.Register.Fresh.fresh g.X.Filter.means g.T.Renderable.means g.B.Renderable.means (option_map g.S.Store.PartialStore.finds (g.S.Runtime.store l.fn.scopes))) l.depth) g.B.Renderable.means (g.B.Meant.shape l.block) (run_parts (setting g.S.Register.Fresh.fresh g.X.Filter.means g.T.Renderable.means g.B.Renderable.means (option_map g.S.Store.PartialStore.finds (g.S.Runtime.store l.fn.scopes))) (partials_at (setting g.S.Register.Fresh.fresh g.X.Filter.means g.T.Renderable.means g.B.Renderable.means (option_map g.S.Store.PartialStore.finds (g.S.Runtime.store l.fn.scopes))) l.depth) (parts_of g.X.Meant.shape g.T.Meant.shape g.B.Meant.shape l.parts)) (l.end - l.counter) (g.B.Progress.Meant.shape l.going.value.progress) (g.S.Runtime.view l.scopes)) (g.S.Runtime.view l.scopes) (target (g.O.Out.place l.out)) after left answer

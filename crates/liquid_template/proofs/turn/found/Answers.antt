@@ -1,5 +1,6 @@
 use Rattle.std.proofs.Common.{◌<◌, arith}
 use Rattle.liquid_template.proofs.Goings.{finds_none, finds_given}
+use Rattle.liquid_template.proofs.Keeping.{keeps_all, keeps_asked}
 use Rattle.liquid_template.proofs.turn.found.Goals as goal
 
 pub returns-then-depth-eq0-clause-finds : goal.returns-then-depth-eq0-clause-finds
@@ -9,3 +10,11 @@ pub returns-clause-finds : goal.returns-clause-finds
 returns-clause-finds g c =
     let h : 0 < c.args.depth = omega arith in
     finds_given _ _ _ _ _ h c.find.ensures.gives
+
+pub returns-then-depth-eq0-clause-keeps : goal.returns-then-depth-eq0-clause-keeps
+returns-then-depth-eq0-clause-keeps g c = keeps_all _ _ _ _ _
+
+pub returns-clause-keeps : goal.returns-clause-keeps
+returns-clause-keeps g c =
+    let h : 0 < c.args.depth = omega arith in
+    keeps_asked _ _ _ _ _ _ h c.find.ensures.store c.find.ensures.borrows

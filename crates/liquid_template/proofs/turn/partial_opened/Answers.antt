@@ -1,6 +1,7 @@
 use Rattle.std.proofs.Common.{ap, option_map}
 use Rattle.liquid_template.proofs.Framing.{framed_kept}
 use Rattle.liquid_template.proofs.Goings.{frame_lost, partial_fails}
+use Rattle.liquid_template.proofs.Keeping.{keeps_store, keeps_both, keeps_ended}
 use Rattle.liquid_template.proofs.turn.partial_opened.Goals as goal
 
 pub returns-in-Err-clause-opens : goal.returns-in-Err-clause-opens
@@ -13,3 +14,14 @@ returns-in-Err-found-clause-opens g c =
       framed_kept _ _ _ _ _ _ _ _ c.in-Ok.ensures.opens c.in-Err-found.ensures.owes c.pop.ensures.ends,
       partial_fails _ _ _ _ _ _ _ _ _ _ _ _ _ _ c.in-Ok.ensures.ok c.in-Ok.ensures.opens c.in-Err-found.ensures.owes c.in-Err-found.ensures.view c.pop.ensures.ends c.with_own_trace.ensures x,
     )
+
+pub returns-in-Err-clause-keeps : goal.returns-in-Err-clause-keeps
+returns-in-Err-clause-keeps g c = keeps_store _ _ _ _ _ _ c.in-Err.ensures.store c.in-Err.ensures.borrows
+
+pub returns-in-Err-found-clause-keeps : goal.returns-in-Err-found-clause-keeps
+returns-in-Err-found-clause-keeps g c =
+    keeps_ended _ _ _ _ _ _ _ (keeps_both _ _ _ _ _ _ _ (keeps_store _ _ _ _ _ _ c.in-Ok.ensures.store c.in-Ok.ensures.borrows) c.in-Err-found.ensures.keeps) c.pop.ensures.store c.pop.ensures.borrows
+
+pub returns-in-Ok-found-clause-keeps : goal.returns-in-Ok-found-clause-keeps
+returns-in-Ok-found-clause-keeps g c =
+    keeps_both _ _ _ _ _ _ _ (keeps_store _ _ _ _ _ _ c.in-Ok.ensures.store c.in-Ok.ensures.borrows) c.in-Ok-found.ensures.keeps

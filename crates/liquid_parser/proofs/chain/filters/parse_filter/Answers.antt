@@ -5,7 +5,7 @@ use Rattle.liquid_error.specs.meaning.Told.{told, Becomes}
 use Rattle.liquid_parser.specs.meaning.Handed.{place_in, slice_between}
 use Rattle.liquid_parser.specs.meaning.Plugins.{registry_of}
 use Rattle.liquid_parser.specs.meaning.Reading.{filter_or, refusal_of_filter}
-use Rattle.liquid_parser.proofs.AskedLemmas.{err_now}
+use Rattle.liquid_parser.proofs.DispatchLemmas.{err_now}
 use Rattle.liquid_parser.proofs.FiltersLeft.{made_ok, made_err, cut_here}
 use Rattle.liquid_parser.proofs.chain.filters.parse_filter.Goals as goal
 

@@ -1,4 +1,5 @@
 use Rattle.std.proofs.Common.{◌++◌, ◌∷◌, [], map, sym, ap, ◌∙◌, subst, rules}
+use Rattle.std.proofs.lemmas.Result.{err_from_is_err_and}
 use Rattle.std.proofs.lemmas.List.{map_push}
 use Rattle.liquid_error.specs.meaning.Told.{told}
 use Rattle.liquid_grammar.specs.meaning.Faults.{filter_fault, first_fault}
@@ -21,18 +22,19 @@ filters-preserved g c = (
   λ end fs m fine.
       let left = c.filters.invariant.1 end fs m fine in
       let next = left_next (registry_of g.F.ParseFilter.makes c.args.registry.now) c.args.source.now c.filters.rest.now end (map g.F.Filter.Meant.shape c.filters.filters.items) (filters_read (registry_of g.F.ParseFilter.makes c.args.registry.now) c.args.source.now fs) (first_fault filter_fault fs) c.in-Some.start left (c.in-Some.ensures.only end left.filters_left left.match) in
-      let h = c.in-Ok.ensures.value next.middle next.filter next.found next.here (next.fine fine) in
+      let h = c.in_ok-filter.ensures.value next.middle next.filter next.found next.here (next.fine fine) in
       let made = next.made_next (next.fine fine) _ h.0 in
-      subst (λ xs. Left (registry_of g.F.ParseFilter.makes c.args.registry.now) c.args.source.now c.in-Ok.behind.now end xs (filters_read (registry_of g.F.ParseFilter.makes c.args.registry.now) c.args.source.now fs) (first_fault filter_fault fs))
-      (sym (ap (map g.F.Filter.Meant.shape) c.in_ok-push-in-Ok.ensures.items ∙ map_push g.F.Filter.Meant.shape c.filters.filters.items c.in-Ok.filter))
-      (subst (λ p. Left (registry_of g.F.ParseFilter.makes c.args.registry.now) c.args.source.now p end (map g.F.Filter.Meant.shape c.filters.filters.items ++ g.F.Filter.Meant.shape c.in-Ok.filter ∷ []) (filters_read (registry_of g.F.ParseFilter.makes c.args.registry.now) c.args.source.now fs) (first_fault filter_fault fs)) (sym h.1) made),
+      subst (λ xs. Left (registry_of g.F.ParseFilter.makes c.args.registry.now) c.args.source.now c.in_ok-filter.behind.now end xs (filters_read (registry_of g.F.ParseFilter.makes c.args.registry.now) c.args.source.now fs) (first_fault filter_fault fs))
+      (sym (ap (map g.F.Filter.Meant.shape) c.in_ok-push.ensures.items ∙ map_push g.F.Filter.Meant.shape c.filters.filters.items c.in_ok-filter.filter))
+      (subst (λ p. Left (registry_of g.F.ParseFilter.makes c.args.registry.now) c.args.source.now p end (map g.F.Filter.Meant.shape c.filters.filters.items ++ g.F.Filter.Meant.shape c.in_ok-filter.filter ∷ []) (filters_read (registry_of g.F.ParseFilter.makes c.args.registry.now) c.args.source.now fs) (first_fault filter_fault fs)) (sym h.1) made),
 )
 
-pub returns-in-Err : goal.returns-in-Err
-returns-in-Err g c end fs m fine =
+pub returns-in_err-filter : goal.returns-in_err-filter
+returns-in_err-filter g c end fs m fine =
     let left = c.filters.invariant.1 end fs m fine in
     let next = left_next (registry_of g.F.ParseFilter.makes c.args.registry.now) c.args.source.now c.filters.rest.now end (map g.F.Filter.Meant.shape c.filters.filters.items) (filters_read (registry_of g.F.ParseFilter.makes c.args.registry.now) c.args.source.now fs) (first_fault filter_fault fs) c.in-Some.start left (c.in-Some.ensures.only end left.filters_left left.match) in
-    if_some_weaker (told c.in-Err.error) (λ r e. next.refused r e) (c.in-Err.ensures.value next.middle next.filter next.found next.here (next.fine fine))
+    let p = err_from_is_err_and c.from_residual.result c.from_residual.ensures.1 in
+    rw (p.1, p.2) (if_some_weaker (told c.in_err-filter.field-0.0) (λ r e. next.refused r e) (c.in_err-filter.ensures.value next.middle next.filter next.found next.here (next.fine fine)))
 
 pub returns : goal.returns
 returns g c end fs m fine =

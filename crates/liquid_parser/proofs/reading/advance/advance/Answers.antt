@@ -10,7 +10,7 @@ returns-in-Among-clause-value g c own after e es m cover =
 
 pub returns-in-Escaped-clause-value : goal.returns-in-Escaped-clause-value
 returns-in-Escaped-clause-value g c own after e es m cover =
-    subst (λ x. LeavesAt (state_view g.F.Filter.Meant.shape g.T.Node.Meant.shape g.B.Node.Meant.shape g.B.Plan.Meant.shape g.B.ParseBlock.block c.escaped_read.new.state) c.escaped_read.result x) (sym (ap (λ r. ok_then r (λ n. past_escaped c.args.source.now n es)) (rw c.in-Escaped.is at c.in-Ok.ensures own after e m))) (c.escaped_read.ensures.value es cover)
+    subst (λ x. LeavesAt (state_view g.F.Filter.Meant.shape g.T.Node.Meant.shape g.B.Node.Meant.shape g.B.Plan.Meant.shape g.B.ParseBlock.block c.read_escaped.new.state) c.read_escaped.result x) (sym (ap (λ r. ok_then r (λ n. past_escaped c.args.source.now n es)) (rw c.in-Escaped.is at c.in-Ok.ensures own after e m))) (c.read_escaped.ensures.value es cover)
 
 pub returns-in-Err-clause-value : goal.returns-in-Err-clause-value
 returns-in-Err-clause-value g c own after e es m cover = then_refused _ _ (λ n. past_escaped c.args.source.now n es) (c.in-Err.ensures own after e m)

@@ -2,4 +2,4 @@ use Rattle.liquid_parser.proofs.ReadingSteps.{found_only}
 use Rattle.liquid_parser.proofs.reading.parse.parse.Goals as goal
 
 pub returns-clause-only : goal.returns-clause-only
-returns-clause-only g c = found_only _ _ _ c.nodes_of.result c.nodes_of.ensures
+returns-clause-only g c = found_only _ _ _ c.read_nodes.result c.read_nodes.ensures

@@ -1,9 +1,0 @@
-use Rattle.std.proofs.Common.{◌≡◌, subst}
-use Rattle.std.specs.Prelude.{IfSome, codes}
-use Rattle.liquid_error.specs.meaning.Told.{told}
-use Rattle.liquid_parser.specs.meaning.Reading.{refused_at}
-use Rattle.liquid_parser.proofs.chain.fine.no_expression.Goals as goal
-
-pub returns : goal.returns
-returns c behind is =
-    subst (λ place. IfSome (told c.refused_at.result) (λ r. r ≡ refused_at c.args.source.now (codes "Invalid liquid") place)) is c.refused_at.ensures

@@ -1,0 +1,199 @@
+//! Expressions without an error, read in one walk.
+//!
+//! If something in an expression may be an error, the walk leaves it undecided, and another reading finds the error.
+ghost use Rattle.std.specs.Prelude.{◌≡◌, ◌∷◌, ◌<◌, ◌≤◌, ℕ, List, IfOk, IfSome, codes, length, map};
+ghost use Rattle.liquid_error.specs.meaning.Told.{told};
+ghost use Rattle.liquid_grammar.specs.meaning.Faults.{filter_fault, chain_fault, first_fault};
+ghost use Rattle.liquid_grammar.specs.meaning.Parts.{IsFilter, IsHead, OpensExpression};
+ghost use Rattle.liquid_grammar.specs.meaning.Rules.{Repeated};
+ghost use Rattle.liquid_grammar.specs.meaning.Tokens as token;
+ghost use Rattle.liquid_grammar.specs.meaning.Tokens.{Behind, FilterRule};
+ghost use Rattle.liquid_plugins.specs.meaning.ExpressionOf.{chain_of};
+ghost use Rattle.liquid_plugins.specs.meaning.Nodes.{chain_node};
+ghost use Rattle.liquid_plugins.specs.meaning.NodesOf.{node_of, name_chain};
+ghost use Rattle.liquid_parser.specs.meaning.Plugins.{registry_of};
+ghost use Rattle.liquid_parser.specs.meaning.Reading.{chain_read, filters_read, filter_or, refused_at};
+ghost use Rattle.liquid_parser.specs.steps.Built.{ComesTo, Endless, Made, MadeToEnd, MakesNode, StandsInvalid};
+
+use crate::chain::arguments::build_arguments;
+use crate::chain::build::build_from;
+use crate::plugin::block::ParseBlock;
+use crate::plugin::language::Language;
+use crate::plugin::tag::ParseTag;
+use crate::reading::place::refused_at;
+use liquid_error::Error;
+use liquid_grammar::{
+    ChainStep, FilterStart, Head, chain_step, expression_end, expression_start, value_head,
+};
+use liquid_plugins::{BRIEF_LIMIT, Brief, FilterChain, Node, ParseFilter, PluginRegistry};
+use std::alloc::{AllocError, Global};
+
+/// The result of a walk over an expression.
+#[derive(Drop)]
+pub(crate) enum Walked<V> {
+    /// It was read to its end, as this.
+    Whole(V),
+    /// There is no expression here.
+    NoExpression,
+    /// Something in it may be an error.
+    Undecided,
+}
+
+/// Returns the node of the expression that the text begins with, and what follows it. The result is undecided, too, if
+/// a dash has white space before it, or if no expression opens here.
+#[inline(always)]
+pub(crate) fn fast_expression<
+    'a,
+    F: ParseFilter + Drop,
+    T: ParseTag<F> + Drop,
+    B: ParseBlock<F> + Drop,
+>(
+    alloc: Global,
+    s: &'a str,
+    language: &Language<F, T, B>,
+) -> Result<Walked<(Node<F::Filter, T::Node, B::Node>, &'a str)>, AllocError>
+    ensures value { (source : List ℕ) → IfOk result (λ walked. ComesTo walked (λ p. MakesNode (registry_of F.makes language.now.filters)
+        source s.now p.1.now (node_of F.Filter.shape T.Node.shape B.Node.shape p.0)) (StandsInvalid s.now)) }
+    ensures shorter { IfOk result (λ walked. ComesTo walked (λ p. length p.1.now < length s.now) Unit) }
+{
+    match expression_start(s) {
+        Some(start) => fast_from_chain(alloc, start, language),
+        None => Ok(Walked::Undecided),
+    }
+}
+
+/// Does the same, from the chain on. It is a function of its own, so that the walk over tags and raw text stays short.
+#[inline(never)]
+fn fast_from_chain<'a, F: ParseFilter + Drop, T: ParseTag<F> + Drop, B: ParseBlock<F> + Drop>(
+    alloc: Global,
+    start: &'a str,
+    language: &Language<F, T, B>,
+) -> Result<Walked<(Node<F::Filter, T::Node, B::Node>, &'a str)>, AllocError>
+    ensures value { (source s : List ℕ) → OpensExpression s start.now
+        → IfOk result (λ walked. ComesTo walked (λ p. MakesNode (registry_of F.makes language.now.filters)
+        source s p.1.now (node_of F.Filter.shape T.Node.shape B.Node.shape p.0)) (StandsInvalid s)) }
+    ensures shorter { IfOk result (λ walked. ComesTo walked (λ p. length p.1.now < length start.now) Unit) }
+{
+    let (head, behind) = match value_head(start) {
+        Some(begun) => begun,
+        None => return Ok(Walked::NoExpression),
+    };
+    // Most expressions are names.
+    if let Head::Name(name) = head {
+        if let Some(rest) = expression_end(behind) {
+            return Ok(Walked::Whole((name_node::<F, T, B>(alloc, name)?, rest)));
+        }
+    }
+    match fast_chain(alloc, head, behind, &language.filters)? {
+        Walked::Whole((chain, rest)) => Ok(Walked::Whole((Node::Chain(chain), rest))),
+        Walked::NoExpression => Ok(Walked::NoExpression),
+        Walked::Undecided => Ok(Walked::Undecided),
+    }
+}
+
+/// Returns the error "Invalid liquid" at the first brace of an opener of neither a tag nor an expression.
+pub(crate) fn no_expression(alloc: Global, source: &str, brace: &str) -> Error
+    ensures { (behind : List ℕ) → brace.now ≡ 123 ∷ behind
+        → IfSome (told result) (λ r. r ≡ refused_at source.now (codes "Invalid liquid") (123 ∷ behind)) }
+{
+    refused_at(alloc, source, "Invalid liquid", brace)
+}
+
+/// Returns the node of a name alone.
+#[inline(always)]
+pub(crate) fn name_node<F: ParseFilter, T: ParseTag<F>, B: ParseBlock<F>>(
+    alloc: Global,
+    name: &str,
+) -> Result<Node<F::Filter, T::Node, B::Node>, AllocError>
+    ensures { IfOk result (λ node. node_of F.Filter.shape T.Node.shape B.Node.shape node ≡ chain_node (name_chain name.now)) }
+{
+    if name.len() > BRIEF_LIMIT {
+        return Ok(Node::Chain(FilterChain::of_name(alloc, name)?));
+    }
+    let mut brief = Brief::new();
+    brief.push_str(name);
+    Ok(Node::Name(brief))
+}
+
+/// Returns the chain whose value has this beginning, where the text follows it, and what follows the expression's end.
+fn fast_chain<'a, F: ParseFilter + Drop>(
+    alloc: Global,
+    head: Head<'_>,
+    s: &'a str,
+    registry: &PluginRegistry<F>,
+) -> Result<Walked<(FilterChain<F::Filter>, &'a str)>, AllocError>
+    ensures value { (source place middle rest : List ℕ) (c : token.Chain) → IsHead place middle head.entry s.now c.what.0
+        → Repeated (Behind 124 FilterRule) middle rest c.what.1
+        → IfOk result (λ walked. ComesTo walked (λ p. MadeToEnd (chain_fault c) (chain_of F.Filter.shape) p
+        (chain_read (registry_of F.makes registry.now) source c) rest) (Endless rest)) }
+    ensures shorter { IfOk result (λ walked. ComesTo walked (λ p. length p.1.now < length s.now) Unit) }
+{
+    match build_from(alloc, head, s, 0)? {
+        Some((entry, behind)) => match fast_filters(alloc, behind, registry)? {
+            Walked::Whole((filters, rest)) => {
+                Ok(Walked::Whole((FilterChain::new(entry, filters), rest)))
+            }
+            Walked::NoExpression => Ok(Walked::NoExpression),
+            Walked::Undecided => Ok(Walked::Undecided),
+        },
+        None => Ok(Walked::Undecided),
+    }
+}
+
+/// Returns the filters that begin here, each after `|`, and what follows the expression's end.
+fn fast_filters<'a, F: ParseFilter + Drop>(
+    alloc: Global,
+    s: &'a str,
+    registry: &PluginRegistry<F>,
+) -> Result<Walked<(Vec<F::Filter>, &'a str)>, AllocError>
+    ensures value { (source rest : List ℕ) (fs : List token.Filter) → Repeated (Behind 124 FilterRule) s.now rest fs
+        → IfOk result (λ walked. ComesTo walked (λ p. MadeToEnd (first_fault filter_fault fs) (λ v. map F.Filter.shape v.items) p
+        (filters_read (registry_of F.makes registry.now) source fs) rest) (Endless rest)) }
+    ensures shorter { IfOk result (λ walked. ComesTo walked (λ p. length p.1.now < length s.now) Unit) }
+{
+    let mut filters = Vec::new(alloc);
+    let mut rest = s;
+    'filters: loop {
+        match chain_step(rest) {
+            Some(ChainStep::Filter(start)) => match fast_filter(alloc, start, registry)? {
+                Some((filter, behind)) => {
+                    filters.push(filter)?;
+                    rest = behind;
+                }
+                None => return Ok(Walked::Undecided),
+            },
+            Some(ChainStep::End(behind)) => return Ok(Walked::Whole((filters, behind))),
+            None => return Ok(Walked::NoExpression),
+        }
+    }
+}
+
+/// Returns the filter with this beginning, and what follows it. Returns `None` if it may be an error.
+fn fast_filter<'a, F: ParseFilter + Drop>(
+    alloc: Global,
+    start: FilterStart<'a>,
+    registry: &PluginRegistry<F>,
+) -> Result<Option<(F::Filter, &'a str)>, AllocError>
+    ensures value { (source rest : List ℕ) (f : token.Filter) → IsFilter start.entry rest f
+        → IfOk result (λ found. IfSome found (λ p. Made (filter_fault f) F.Filter.shape p
+        (filter_or (registry_of F.makes registry.now) source ((registry_of F.makes registry.now).get f.what.0) f) rest)) }
+    ensures within { IfOk result (λ found. IfSome found (λ p. length p.1.now ≤ length start.entry.rest.now)) }
+{
+    let plug_in = match registry.get(start.name) {
+        Some(plug_in) => plug_in,
+        None => return Ok(None),
+    };
+    match build_arguments(alloc, start.rest)? {
+        Some((arguments, rest)) => match plug_in.parse(alloc, arguments) {
+            Ok(filter) => Ok(Some((filter, rest))),
+            Err(error) => {
+                if error.is_memory() {
+                    Err(AllocError)
+                } else {
+                    Ok(None)
+                }
+            }
+        },
+        None => Ok(None),
+    }
+}

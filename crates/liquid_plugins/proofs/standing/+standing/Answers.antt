@@ -1,9 +1,0 @@
-use Rattle.liquid_value.specs.meaning.View.{view as tree_of}
-use Rattle.liquid_plugins.specs.meaning.ExpressionOf.{expressions_of}
-use Rattle.liquid_plugins.proofs.StandingValues.{literals_lead}
-use Rattle.liquid_plugins.proofs.standing.+standing.Goals as goal
-
-pub standing_behind-returns-in-Some-clause-gives : goal.standing_behind-returns-in-Some-clause-gives
-standing_behind-returns-in-Some-clause-gives g t c =
-    literals_lead (g.R.Runtime.view c.args.runtime.now) (tree_of c.args.value.now) (tree_of c.in-Some.own.now)
-    (expressions_of c.args.indexes.now.items) c.in-Some.ensures

@@ -1,0 +1,7 @@
+//! The block `for`: what it goes over, the items that are left, and its turns.
+
+pub mod items;
+pub mod kept;
+pub mod rounds;
+pub mod series;
+pub mod turns;
