@@ -54,7 +54,8 @@ pub(crate) fn text_in<'w, F: Folder>(
     ending: &str,
     name: &str,
 ) -> Result<String, Fault<'w>>
-    ensures text { WithText (F.known files.old (path_in folder.now ending.now name.now)) (Stops result) (λ text. Brings string_bytes text result) }
+    ensures text { WithText (F.known files.old (path_in folder.now ending.now name.now)) (Stops result)
+        (λ text. Brings string_bytes text result) }
     ensures command { IfErr result (λ fault. fault_status fault ≢ 2) }
     ensures same { F.known files.new ≡ F.known files.old }
     ensures listed { F.listed files.new ≡ F.listed files.old }

@@ -1,5 +1,6 @@
 //! Files in memory, and the program run over them.
-ghost use Rattle.std.specs.Prelude.{◌≡◌, ◌↔◌, List, ℕ, Bool, [], None, Some, OnOk, OnErr, IfOk, true, false, map, option_map, string_bytes, if◌then◌else◌};
+ghost use Rattle.std.specs.Prelude.{◌≡◌, ◌↔◌, List, ℕ, Bool, [], None, Some, OnOk, OnErr, IfOk, true, false};
+ghost use Rattle.std.specs.Prelude.{map, option_map, string_bytes, if◌then◌else◌};
 ghost use Rattle.std.specs.Str.{bytes_eq};
 ghost use Rattle.liquid.specs.meaning.PagesCommand.{is_asked};
 ghost use Rattle.liquid.specs.meaning.Files.{Reads};

@@ -287,9 +287,6 @@ pub(crate) fn long_command<'w>(
     }
     match with_long_option(word, choices.options) {
         Some(options) => long_command(Choices { options, ..choices }, paths, None, rest),
-        None => match awaited_by(word, choices) {
-            Some(option) => long_command(choices, paths, Some(option), rest),
-            None => None,
-        },
+        None => long_command(choices, paths, Some(awaited_by(word, choices)?), rest),
     }
 }

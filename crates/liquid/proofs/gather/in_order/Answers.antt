@@ -23,13 +23,14 @@ loop-name-preserved c =
     let stem : option_map (λ s. s.now) c.stem_of.result ≡ stem_of ending (string_bytes c.in-Some.name) = rw c.as_str.ensures.value at c.stem_of.ensures in
     let put : by_name c.match-stem_of.set ≡ option_map_or (λ s. insert found s tt) (option_map (λ s. s.now) c.stem_of.result) found =
     elim c.match-stem_of.branch [
-        in-Some-stem_of+in_ok-from_str+in_ok-insert w ↦
-            ap by_name w.set-is ∙ by_name-insert c.loop-name.set w.insert.new.self w.in_ok-from_str.field-0 tt w.in_ok-insert.ensures.updates
-            ∙ ap (λ k. insert found k tt) w.in_ok-from_str.ensures.ok
-            ∙ sym (ap (λ r. option_map_or (λ s. insert found s tt) (option_map (λ s. s.now) r) found) w.in-Some-stem_of.is)
+      | in-Some-stem_of+in_ok-from_str+in_ok-insert w ↦
+          ap by_name w.set-is ∙ by_name-insert c.loop-name.set w.insert.new.self w.in_ok-from_str.field-0 tt w.in_ok-insert.ensures.updates
+          ∙ ap (λ k. insert found k tt) w.in_ok-from_str.ensures.ok
+          ∙ sym (ap (λ r. option_map_or (λ s. insert found s tt) (option_map (λ s. s.now) r) found) w.in-Some-stem_of.is)
       | in_default w ↦
-            let none : c.stem_of.result ≡ None = search rules in
-            ap by_name w.set-is ∙ sym (ap (λ r. option_map_or (λ s. insert found s tt) (option_map (λ s. s.now) r) found) none) ] in
+          let none : c.stem_of.result ≡ None = search rules in
+          ap by_name w.set-is ∙ sym (ap (λ r. option_map_or (λ s. insert found s tt) (option_map (λ s. s.now) r) found) none)
+    ] in
     names_step ending found (by_name c.match-stem_of.set) (string_bytes c.in-Some.name) (option_map (λ s. s.now) c.stem_of.result) (map string_bytes c.next.new.self.rest.items) stem put
     ∙ sym (ap (λ ns. names_into ending found (map string_bytes ns)) left)
     ∙ c.loop-name.invariant
