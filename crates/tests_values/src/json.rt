@@ -181,6 +181,14 @@ const NO_JSON: &str = r#"["ends too soon", 1, 0, ""]
 ["is wrong", 2, 8, "{\n  \"a\": x}"]
 ["is wrong", 3, 1, "[1.5,\n2\n}"]"#;
 
+/// Returns `true` if a count is this number.
+fn is_count(count: usize, number: i64) -> bool {
+    match i64::try_from(count) {
+        Ok(count) => count == number,
+        Err(_) => false,
+    }
+}
+
 /// Returns `true` if reading the text fails with the error of the row.
 fn is_no_json(alloc: Global, row: &Line) -> std::result::Result<bool, Fail> {
     match object_from_str(alloc, row.text(3)?) {
@@ -191,9 +199,11 @@ fn is_no_json(alloc: Global, row: &Line) -> std::result::Result<bool, Fail> {
             } else {
                 "is wrong"
             };
-            Ok(told == row.text(0)?
-                && error.line() as i64 == row.number(1)?
-                && error.column() as i64 == row.number(2)?)
+            Ok(
+                told == row.text(0)?
+                    && is_count(error.line(), row.number(1)?)
+                    && is_count(error.column(), row.number(2)?),
+            )
         }
     }
 }
