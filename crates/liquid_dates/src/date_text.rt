@@ -74,15 +74,11 @@ fn date_of(read: Option<(Ymd, &[u8])>) -> Option<Date>
     ensures found { IfSome result (λ d. IsWholeDate read.entry d) }
     ensures none { IfNone result ((d : CivilDate) → ¬ (IsWholeDate read.entry d)) }
 {
-    match read {
-        Some((ymd, rest)) => {
-            if rest.is_empty() {
-                date_of_parts(ymd)
-            } else {
-                None
-            }
-        }
-        None => None,
+    let (ymd, rest) = read?;
+    if rest.is_empty() {
+        date_of_parts(ymd)
+    } else {
+        None
     }
 }
 

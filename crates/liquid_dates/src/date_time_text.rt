@@ -91,13 +91,9 @@ fn date_time_of(given: bool, read: Option<(Stamp, &[u8])>) -> Option<DateTime>
     ensures found { IfSome result (λ dt. IsStamped given read.entry dt) }
     ensures none { IfNone result ((dt : DateTime) → ¬ (IsStamped given read.entry dt)) }
 {
-    match read {
-        Some((stamp, rest)) => match offset_end(given, rest) {
-            Some(offset) => at_stamp(stamp, offset),
-            None => None,
-        },
-        None => None,
-    }
+    let (stamp, rest) = read?;
+    let offset = offset_end(given, rest)?;
+    at_stamp(stamp, offset)
 }
 
 // Reads `YYYY-MM-DD HH:MM:SS off`.

@@ -11,7 +11,7 @@ use crate::directive::{Directive, Name, Number};
 use crate::flags::{Case, Filling, Flags, NumberFilling};
 use crate::names::{month_name, short_month_name, short_weekday_name, weekday_name};
 use crate::numbers::{default_width, number_value};
-use crate::offset_text::offset_of;
+use crate::offset_text::write_offset;
 use crate::writing::{fill, write_cased, write_number};
 use jiff_core::civil::Time;
 use std::alloc::AllocError;
@@ -39,7 +39,7 @@ pub(crate) fn write_directive(
         Directive::OfFraction(digits) => {
             fraction_of(out, width.unwrap_or(digits), date_time.nanosecond())
         }
-        Directive::OfOffset(offset) => offset_of(out, date_time, flags, width, offset),
+        Directive::OfOffset(offset) => write_offset(out, date_time, flags, width, offset),
     }
 }
 

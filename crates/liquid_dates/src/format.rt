@@ -37,10 +37,7 @@ impl DateTime {
         let mut rest = pattern;
         'directives: while let Some((copied, behind)) = rest.split_once('%') {
             write_copied(&mut out, copied)?;
-            match write_directive_at(&mut out, self, behind) {
-                Ok(more) => rest = more,
-                Err(error) => return Err(error),
-            }
+            rest = write_directive_at(&mut out, self, behind)?;
         }
         write_copied(&mut out, rest)?;
         Ok(out)

@@ -16,7 +16,7 @@ use std::alloc::AllocError;
 
 /// Appends the offset, following its flags and its width.
 #[tactic(auto, unfolding(crate::specs::meaning::DirectiveText::offset_of))]
-pub(crate) fn offset_of(
+pub(crate) fn write_offset(
     out: &mut String,
     date_time: DateTime,
     flags: Flags,
