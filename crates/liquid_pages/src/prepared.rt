@@ -235,7 +235,8 @@ where
     T::Node: Discreet<V>,
     B::Node: Discreet<V>,
     ensures shows { (l : Lang F.Filter.Shape T.Node.Shape B.Plan.Shape B.Node.Shape) (texts : Texts)
-        → IsFoundIn l (Some texts) (option_map ⟦<LazyStore<InMemorySource, F, T, B> as PartialStore<F::Filter, T::Node, B::Node>>⟧.finds store.old)
+        → IsFoundIn l (Some texts)
+        (option_map ⟦<LazyStore<InMemorySource, F, T, B> as PartialStore<F::Filter, T::Node, B::Node>>⟧.finds store.old)
         → (shown : Page) → NodesComeTo (setting V.fresh F.Filter.means T.Node.means B.Node.means) l options
         (shapes_of F.Filter.shape T.Node.shape B.Node.shape (own_nodes template.now)) (names_of globals) texts shown
         → Shows shown (⟦<TextSink as Sink>⟧.sunk result.output).taken result.end }

@@ -162,24 +162,15 @@ where
     ensures borrows { (K.sunk sink.new).lent ≡ (K.sunk sink.old).lent }
 {
     let room = room_of(options);
+    let lenient = options.lenient;
     match options.frame {
         PageFrame::Open => {
-            let mut runtime: PageRuntime<V, S, F, T, B> = runtime_of(
-                alloc,
-                options.lenient,
-                globals,
-                store,
-            );
+            let mut runtime = runtime_of::<V, F, T, B, S>(alloc, lenient, globals, store);
             let answer = render_in_room(alloc, room, template, &mut runtime, sink);
             (answer, runtime.into_partials())
         }
         PageFrame::Sandboxed => {
-            let mut runtime: PageRuntime<V, S, F, T, B> = runtime_of(
-                alloc,
-                options.lenient,
-                no_names(alloc),
-                store,
-            );
+            let mut runtime = runtime_of::<V, F, T, B, S>(alloc, lenient, no_names(alloc), store);
             let answer = render_sandboxed_in_room(
                 alloc,
                 room,
@@ -191,12 +182,7 @@ where
             (answer, runtime.into_partials())
         }
         PageFrame::Isolated => {
-            let mut runtime: PageRuntime<V, S, F, T, B> = runtime_of(
-                alloc,
-                options.lenient,
-                no_names(alloc),
-                store,
-            );
+            let mut runtime = runtime_of::<V, F, T, B, S>(alloc, lenient, no_names(alloc), store);
             let answer = render_isolated_in_room(
                 alloc,
                 room,
