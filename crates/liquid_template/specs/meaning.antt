@@ -3,6 +3,7 @@ pub mod FaultText
 pub mod Grows
 pub mod Isolated
 pub mod Nodes
+pub mod Opens
 pub mod Outcome
 pub mod Output
 pub mod Partials

@@ -8,6 +8,7 @@ ghost use Rattle.liquid_template.specs.meaning.Nodes.{run_parts};
 ghost use Rattle.liquid_template.specs.meaning.Partials.{partials_at, partials_of};
 ghost use Rattle.liquid_template.specs.meaning.Rendering.{nodes_run};
 ghost use Rattle.liquid_template.specs.meaning.Outcome.{RendersWithin};
+ghost use Rattle.liquid_template.specs.meaning.Opens.{OpenNone};
 ghost use Rattle.liquid_template.specs.meaning.Runs.{setting, node_run, tag_run, block_run, part_run};
 ghost use Rattle.liquid_template.specs.meaning.TemplateOf.{template_nodes};
 ghost use Rattle.liquid_template.specs.steps.PartsOf.{parts_of};
@@ -52,7 +53,7 @@ where
         (S.view scopes.old))
         (S.view scopes.old) (target (O.place out.old)) (target (O.place out.new)) (S.view scopes.new) answer.new }
     ensures owes { S.restores scopes.new ≡ S.restores scopes.old }
-    ensures keeps { Keeps S.store S.lent S.Store.finds depth scopes.old scopes.new }
+    ensures keeps { Keeps (OpenNone T.means B.means) S.store S.lent S.Store.finds depth scopes.old scopes.new }
     ensures around { around (O.place out.new) ≡ around (O.place out.old) }
 {
     for node in nodes {
@@ -91,7 +92,7 @@ where
         (S.view scopes.old))
         (S.view scopes.old) (target (O.place out.old)) (target (O.place out.new)) (S.view scopes.new) answer.new }
     ensures owes { S.restores scopes.new ≡ S.restores scopes.old }
-    ensures keeps { Keeps S.store S.lent S.Store.finds depth scopes.old scopes.new }
+    ensures keeps { Keeps (OpenNone T.means B.means) S.store S.lent S.Store.finds depth scopes.old scopes.new }
     ensures around { around (O.place out.new) ≡ around (O.place out.old) }
 {
     match node {
@@ -129,7 +130,7 @@ where
         (S.view scopes.old))
         (S.view scopes.old) (target (O.place out.old)) (target (O.place out.new)) (S.view scopes.new) answer.new }
     ensures owes { S.restores scopes.new ≡ S.restores scopes.old }
-    ensures keeps { Keeps S.store S.lent S.Store.finds depth scopes.old scopes.new }
+    ensures keeps { Keeps (OpenNone T.means B.means) S.store S.lent S.Store.finds depth scopes.old scopes.new }
     ensures around { around (O.place out.new) ≡ around (O.place out.old) }
 {
     let mut going = match start_node(alloc, tag, scopes, answer) {
@@ -167,7 +168,7 @@ where
         (T.Progress.shape going.old.progress) (T.Progress.shape going.new.progress)
         (S.view scopes.old) (S.view scopes.new) (target (O.place out.old)) (target (O.place out.new)) answer.new result }
     ensures owes { S.restores scopes.new ≡ S.restores scopes.old }
-    ensures keeps { Keeps S.store S.lent S.Store.finds depth scopes.old scopes.new }
+    ensures keeps { Keeps (OpenNone T.means B.means) S.store S.lent S.Store.finds depth scopes.old scopes.new }
     ensures around { around (O.place out.new) ≡ around (O.place out.old) }
 {
     match take_turn(alloc, tag, going, depth, out, scopes, answer) {
@@ -213,7 +214,7 @@ where
         (S.view scopes.old))
         (S.view scopes.old) (target (O.place out.old)) (target (O.place out.new)) (S.view scopes.new) answer.new }
     ensures owes { S.restores scopes.new ≡ S.restores scopes.old }
-    ensures keeps { Keeps S.store S.lent S.Store.finds depth scopes.old scopes.new }
+    ensures keeps { Keeps (OpenNone T.means B.means) S.store S.lent S.Store.finds depth scopes.old scopes.new }
     ensures around { around (O.place out.new) ≡ around (O.place out.old) }
 {
     let mut going = match start_boxed(alloc, block, scopes, answer) {
@@ -254,7 +255,7 @@ where
         (B.Progress.shape going.old.progress) (B.Progress.shape going.new.progress)
         (S.view scopes.old) (S.view scopes.new) (target (O.place out.old)) (target (O.place out.new)) answer.new result }
     ensures owes { S.restores scopes.new ≡ S.restores scopes.old }
-    ensures keeps { Keeps S.store S.lent S.Store.finds depth scopes.old scopes.new }
+    ensures keeps { Keeps (OpenNone T.means B.means) S.store S.lent S.Store.finds depth scopes.old scopes.new }
     ensures around { around (O.place out.new) ≡ around (O.place out.old) }
 {
     match take_turn(alloc, block, going, depth, out, scopes, answer) {
@@ -301,7 +302,7 @@ where
         (S.view scopes.old))
         (S.view scopes.old) (target (O.place out.old)) (target (O.place out.new)) (S.view scopes.new) answer.new }
     ensures owes { S.restores scopes.new ≡ S.restores scopes.old }
-    ensures keeps { Keeps S.store S.lent S.Store.finds depth scopes.old scopes.new }
+    ensures keeps { Keeps (OpenNone T.means B.means) S.store S.lent S.Store.finds depth scopes.old scopes.new }
     ensures around { around (O.place out.new) ≡ around (O.place out.old) }
 {
     match parts.get(place as usize) {
@@ -335,7 +336,7 @@ where
         (S.view scopes.old))
         (S.view scopes.old) (target (O.place out.old)) (target (O.place out.new)) (S.view scopes.new) answer.new }
     ensures owes { S.restores scopes.new ≡ S.restores scopes.old }
-    ensures keeps { Keeps S.store S.lent S.Store.finds depth scopes.old scopes.new }
+    ensures keeps { Keeps (OpenNone T.means B.means) S.store S.lent S.Store.finds depth scopes.old scopes.new }
     ensures around { around (O.place out.new) ≡ around (O.place out.old) }
 {
     render_list(alloc, template.nodes(), depth - 1, out, scopes, answer);

@@ -2,6 +2,7 @@
 ghost use Rattle.std.specs.Prelude.{◌≡◌, option_map};
 ghost use Rattle.liquid_runtime.specs.meaning.Emptied.{emptied};
 ghost use Rattle.liquid_runtime.specs.meaning.Maps.{names_of};
+ghost use Rattle.liquid_template.specs.meaning.Opens.{OpenNone};
 ghost use Rattle.liquid_template.specs.meaning.Outcome.{RendersWithin};
 ghost use Rattle.liquid_template.specs.meaning.Partials.{partials_of};
 ghost use Rattle.liquid_template.specs.meaning.Rendering.{isolated_run};
@@ -54,6 +55,7 @@ impl<X: Filter, T, B> Template<X, T, B> {
         ensures owes { S.restores scopes.new ≡ S.restores scopes.old }
         ensures store { partials_of S.Store.finds (S.store scopes.new) ≡ partials_of S.Store.finds (S.store scopes.old) }
         ensures unasked { (S.view scopes.old).depth ≡ 0 → S.store scopes.new ≡ S.store scopes.old }
+        ensures unopened { OpenNone T.means B.means → S.store scopes.new ≡ S.store scopes.old }
         ensures borrows { S.lent scopes.new ≡ S.lent scopes.old }
     {
         let mut out: Outlet<K, NoGate> = Outlet::new(sink);
@@ -92,6 +94,7 @@ impl<X: Filter, T, B> Template<X, T, B> {
         ensures owes { S.restores scopes.new ≡ S.restores scopes.old }
         ensures store { partials_of S.Store.finds (S.store scopes.new) ≡ partials_of S.Store.finds (S.store scopes.old) }
         ensures unasked { (S.view scopes.old).depth ≡ 0 → S.store scopes.new ≡ S.store scopes.old }
+        ensures unopened { OpenNone T.means B.means → S.store scopes.new ≡ S.store scopes.old }
         ensures borrows { S.lent scopes.new ≡ S.lent scopes.old }
         ensures around { around (O.place out.new) ≡ around (O.place out.old) }
     {
@@ -134,6 +137,7 @@ impl<X: Filter, T, B> Template<X, T, B> {
         ensures owes { R.restores parent.new ≡ R.restores parent.old }
         ensures store { partials_of R.Store.finds (R.store parent.new) ≡ partials_of R.Store.finds (R.store parent.old) }
         ensures unasked { (R.view parent.old).depth ≡ 0 → R.store parent.new ≡ R.store parent.old }
+        ensures unopened { OpenNone T.means B.means → R.store parent.new ≡ R.store parent.old }
         ensures borrows { R.lent parent.new ≡ R.lent parent.old }
     {
         let mut scopes: FlatScopes<&mut R> = FlatScopes::new(alloc, parent);

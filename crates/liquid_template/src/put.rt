@@ -57,7 +57,7 @@ fn rendered_text(alloc: Global, value: &Value) -> Result<CowStr<'_>, Error>
 }
 
 /// Puts out the text that a value renders as, as one piece. A text is put without a copy, and a number takes no memory.
-/// If there is no memory for the text, nothing is put.
+/// If memory runs out, nothing is put.
 fn put_value<O: Out>(alloc: Global, value: &Value, out: &mut O, answer: &mut Result<(), Error>)
     requires { IsOk answer.old }
     ensures out { ValueOut (render (tree_of value.now)) (target (O.place out.old)) (target (O.place out.new)) answer.new }

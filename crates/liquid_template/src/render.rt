@@ -2,6 +2,7 @@
 ghost use Rattle.std.specs.Prelude.{◌≡◌, string_bytes};
 ghost use Rattle.liquid_error.specs.meaning.Told.{Gives};
 ghost use Rattle.liquid_runtime.specs.meaning.Written.{SameFrames};
+ghost use Rattle.liquid_template.specs.meaning.Opens.{OpenNone};
 ghost use Rattle.liquid_template.specs.meaning.Outcome.{Left, Renders, RendersWithin};
 ghost use Rattle.liquid_template.specs.meaning.Partials.{partials_of};
 ghost use Rattle.liquid_template.specs.meaning.Rendering.{template_run};
@@ -43,6 +44,7 @@ impl<X: Filter, T, B> Template<X, T, B> {
         ensures owes { S.restores scopes.new ≡ S.restores scopes.old }
         ensures store { partials_of S.Store.finds (S.store scopes.new) ≡ partials_of S.Store.finds (S.store scopes.old) }
         ensures unasked { (S.view scopes.old).depth ≡ 0 → S.store scopes.new ≡ S.store scopes.old }
+        ensures unopened { OpenNone T.means B.means → S.store scopes.new ≡ S.store scopes.old }
         ensures borrows { S.lent scopes.new ≡ S.lent scopes.old }
     {
         let mut out: Outlet<K, NoGate> = Outlet::new(sink);
@@ -71,6 +73,7 @@ impl<X: Filter, T, B> Template<X, T, B> {
         ensures owes { S.restores scopes.new ≡ S.restores scopes.old }
         ensures store { partials_of S.Store.finds (S.store scopes.new) ≡ partials_of S.Store.finds (S.store scopes.old) }
         ensures unasked { (S.view scopes.old).depth ≡ 0 → S.store scopes.new ≡ S.store scopes.old }
+        ensures unopened { OpenNone T.means B.means → S.store scopes.new ≡ S.store scopes.old }
         ensures borrows { S.lent scopes.new ≡ S.lent scopes.old }
         ensures around { around (O.place out.new) ≡ around (O.place out.old) }
     {
@@ -97,6 +100,7 @@ impl<X: Filter, T, B> Template<X, T, B> {
         ensures owes { R.restores runtime.new ≡ R.restores runtime.old }
         ensures store { partials_of R.Store.finds (R.store runtime.new) ≡ partials_of R.Store.finds (R.store runtime.old) }
         ensures unasked { (R.view runtime.old).depth ≡ 0 → R.store runtime.new ≡ R.store runtime.old }
+        ensures unopened { OpenNone T.means B.means → R.store runtime.new ≡ R.store runtime.old }
         ensures borrows { R.lent runtime.new ≡ R.lent runtime.old }
     {
         let mut scopes: FlatScopes<&mut R> = FlatScopes::new(alloc, runtime);
@@ -123,6 +127,7 @@ impl<X: Filter, T, B> Template<X, T, B> {
         ensures owes { R.restores runtime.new ≡ R.restores runtime.old }
         ensures store { partials_of R.Store.finds (R.store runtime.new) ≡ partials_of R.Store.finds (R.store runtime.old) }
         ensures unasked { (R.view runtime.old).depth ≡ 0 → R.store runtime.new ≡ R.store runtime.old }
+        ensures unopened { OpenNone T.means B.means → R.store runtime.new ≡ R.store runtime.old }
         ensures borrows { R.lent runtime.new ≡ R.lent runtime.old }
     {
         let mut sink = TextSink::new(alloc);

@@ -2,6 +2,7 @@
 ghost use Rattle.std.specs.Prelude.{◌≡◌, ◌<◌, ◌≤◌, IsOk, IfOk, IfSome, option_map, string_bytes};
 ghost use Rattle.liquid_runtime.specs.meaning.Calls.{frame_of};
 ghost use Rattle.liquid_plugins.specs.meaning.Size.{size_nodes};
+ghost use Rattle.liquid_template.specs.meaning.Opens.{OpensNone};
 ghost use Rattle.liquid_template.specs.meaning.Partials.{partials_of};
 ghost use Rattle.liquid_template.specs.meaning.Runs.{setting};
 ghost use Rattle.liquid_template.specs.meaning.TemplateOf.{template_nodes};
@@ -62,7 +63,7 @@ where
         (option_map (λ s. string_bytes s) going.new.trace) (S.restores scopes.old) (S.restores scopes.new) answer.new result }
     ensures around { around (O.place out.new) ≡ around (O.place out.old) }
     ensures small { Small X.shape T.shape B.shape depth (partials_size (partials_of S.Store.finds (S.store scopes.old))) result }
-    ensures keeps { Keeps S.store S.lent S.Store.finds depth scopes.old scopes.new }
+    ensures keeps { Keeps (OpensNone N.means) S.store S.lent S.Store.finds depth scopes.old scopes.new }
 {
     if !out.pass_turn() {
         refuse(answer, stopped_error(alloc));
@@ -139,7 +140,7 @@ where
         answer.new (option_map (λ s. string_bytes s) kept.new) result }
     ensures small { IfSome result (λ template. (0 < depth) × (size_nodes (template_nodes X.shape T.shape B.shape template.value)
         ≤ partials_size (partials_of S.Store.finds (S.store scopes.old)))) }
-    ensures keeps { Keeps S.store S.lent S.Store.finds depth scopes.old scopes.new }
+    ensures keeps { Keeps ⊥ S.store S.lent S.Store.finds depth scopes.old scopes.new }
 {
     match scopes.push(frame) {
         Ok(()) => {}
@@ -180,7 +181,7 @@ where
         ≤ partials_size (partials_of S.Store.finds (S.store scopes.old))) }
     ensures view { S.view scopes.new ≡ S.view scopes.old }
     ensures owes { S.restores scopes.new ≡ S.restores scopes.old }
-    ensures keeps { Keeps S.store S.lent S.Store.finds depth scopes.old scopes.new }
+    ensures keeps { Keeps ⊥ S.store S.lent S.Store.finds depth scopes.old scopes.new }
 {
     if depth == 0 {
         return Err(too_deep_error(alloc));

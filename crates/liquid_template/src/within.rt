@@ -3,6 +3,7 @@ ghost use Rattle.std.specs.Prelude.{◌≡◌, option_map};
 ghost use Rattle.liquid_runtime.specs.meaning.Emptied.{emptied};
 ghost use Rattle.liquid_runtime.specs.meaning.Maps.{names_of};
 ghost use Rattle.liquid_template.specs.meaning.Isolated.{run_given_back, OnlyIndexChanges};
+ghost use Rattle.liquid_template.specs.meaning.Opens.{OpenNone};
 ghost use Rattle.liquid_template.specs.meaning.Outcome.{RendersWithin};
 ghost use Rattle.liquid_template.specs.meaning.Output.{gated};
 ghost use Rattle.liquid_template.specs.meaning.Partials.{partials_of};
@@ -48,6 +49,7 @@ impl<X: Filter, T, B> Template<X, T, B> {
         ensures owes { R.restores runtime.new ≡ R.restores runtime.old }
         ensures store { partials_of R.Store.finds (R.store runtime.new) ≡ partials_of R.Store.finds (R.store runtime.old) }
         ensures unasked { (R.view runtime.old).depth ≡ 0 → R.store runtime.new ≡ R.store runtime.old }
+        ensures unopened { OpenNone T.means B.means → R.store runtime.new ≡ R.store runtime.old }
         ensures borrows { R.lent runtime.new ≡ R.lent runtime.old }
     {
         let mut scopes: FlatScopes<&mut R> = FlatScopes::new(alloc, runtime);
@@ -79,6 +81,7 @@ impl<X: Filter, T, B> Template<X, T, B> {
         ensures owes { S.restores scopes.new ≡ S.restores scopes.old }
         ensures store { partials_of S.Store.finds (S.store scopes.new) ≡ partials_of S.Store.finds (S.store scopes.old) }
         ensures unasked { (S.view scopes.old).depth ≡ 0 → S.store scopes.new ≡ S.store scopes.old }
+        ensures unopened { OpenNone T.means B.means → S.store scopes.new ≡ S.store scopes.old }
         ensures borrows { S.lent scopes.new ≡ S.lent scopes.old }
     {
         let mut out: Outlet<GatedSink<K, G>, WithGate> = Outlet::new(page);
@@ -123,6 +126,7 @@ impl<X: Filter, T, B> Template<X, T, B> {
         ensures owes { R.restores parent.new ≡ R.restores parent.old }
         ensures store { partials_of R.Store.finds (R.store parent.new) ≡ partials_of R.Store.finds (R.store parent.old) }
         ensures unasked { (R.view parent.old).depth ≡ 0 → R.store parent.new ≡ R.store parent.old }
+        ensures unopened { OpenNone T.means B.means → R.store parent.new ≡ R.store parent.old }
         ensures borrows { R.lent parent.new ≡ R.lent parent.old }
     {
         let mut scopes: FlatScopes<&mut R> = FlatScopes::new(alloc, parent);
@@ -166,6 +170,7 @@ impl<X: Filter, T, B> Template<X, T, B> {
         ensures owes { S.restores scopes.new ≡ S.restores scopes.old }
         ensures store { partials_of S.Store.finds (S.store scopes.new) ≡ partials_of S.Store.finds (S.store scopes.old) }
         ensures unasked { (S.view scopes.old).depth ≡ 0 → S.store scopes.new ≡ S.store scopes.old }
+        ensures unopened { OpenNone T.means B.means → S.store scopes.new ≡ S.store scopes.old }
         ensures borrows { S.lent scopes.new ≡ S.lent scopes.old }
     {
         let mut out: Outlet<GatedSink<K, G>, WithGate> = Outlet::new(page);
@@ -210,6 +215,7 @@ impl<X: Filter, T, B> Template<X, T, B> {
         ensures owes { R.restores parent.new ≡ R.restores parent.old }
         ensures store { partials_of R.Store.finds (R.store parent.new) ≡ partials_of R.Store.finds (R.store parent.old) }
         ensures unasked { (R.view parent.old).depth ≡ 0 → R.store parent.new ≡ R.store parent.old }
+        ensures unopened { OpenNone T.means B.means → R.store parent.new ≡ R.store parent.old }
         ensures borrows { R.lent parent.new ≡ R.lent parent.old }
     {
         let mut scopes: FlatScopes<&mut R> = FlatScopes::new(alloc, parent);
@@ -253,6 +259,7 @@ impl<X: Filter, T, B> Template<X, T, B> {
         ensures owes { S.restores scopes.new ≡ S.restores scopes.old }
         ensures store { partials_of S.Store.finds (S.store scopes.new) ≡ partials_of S.Store.finds (S.store scopes.old) }
         ensures unasked { (S.view scopes.old).depth ≡ 0 → S.store scopes.new ≡ S.store scopes.old }
+        ensures unopened { OpenNone T.means B.means → S.store scopes.new ≡ S.store scopes.old }
         ensures borrows { S.lent scopes.new ≡ S.lent scopes.old }
     {
         let mut out: Outlet<GatedSink<K, G>, WithGate> = Outlet::new(page);

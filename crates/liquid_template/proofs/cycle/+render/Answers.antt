@@ -8,7 +8,7 @@ use Rattle.liquid_template.proofs.Renderings.{stands, stands_not, left_more, lef
 use Rattle.liquid_template.proofs.Framing.{owed_open, framed_kept}
 use Rattle.liquid_template.proofs.Goings.{renders_ok, done_ok, start_none, takes_more, takes_ok, takes_last, turns_over, node_fails, node_stops, node_goes, nodes_over, opens_kept, opens_taken, captured_taken, true_not_false}
 use Rattle.liquid_template.proofs.Capturing.{text_stays, closed_aside, closed_around, text_caught, nothing_open, nothing_aside}
-use Rattle.liquid_template.proofs.Keeping.{keeps_all, keeps_store, keeps_both, keeps_ended, keeps_asked}
+use Rattle.liquid_template.proofs.Keeping.{keeps_all, keeps_store, keeps_both, keeps_ended, keeps_asked, keeps_unless}
 use Rattle.liquid_template.specs.steps.Place.{target}
 use Rattle.liquid_template.proofs.cycle.+render.Goals as goal
 
@@ -20,24 +20,24 @@ render_list-render_node-requires g t c =
 
 pub render_list-loop-node-init : goal.render_list-loop-node-init
 render_list-loop-node-init g t c =
-    record { owes = refl; keeps = keeps_all _ _ _ _ _; answer = search rules; around = refl; renders = λ after left answer h. h }
+    record { owes = refl; keeps = keeps_all _ _ _ _ _ _; answer = search rules; around = refl; renders = λ after left answer h. h }
 
 pub render_list-returns-in-Err : goal.render_list-returns-in-Err
 render_list-returns-in-Err g t c =
     let q = nodes_drop g.X.Meant.shape g.T.Meant.shape g.B.Meant.shape c.args.nodes.now c.loop-node.node-index c.node-item.result c.loop-node-test.true c.node-item.is in
-    record { renders = c.loop-node.invariant.renders _ _ _ (node_fails _ _ _ _ _ q _ _ _ _ _ (rw c.loop-node.invariant.keeps.store_finds at c.render_node.ensures.renders) _ c.in-Err.is); owes = c.render_node.ensures.owes ∙ c.loop-node.invariant.owes; keeps = keeps_both _ _ _ _ _ _ _ c.loop-node.invariant.keeps c.render_node.ensures.keeps; around = c.render_node.ensures.around ∙ c.loop-node.invariant.around }
+    record { renders = c.loop-node.invariant.renders _ _ _ (node_fails _ _ _ _ _ q _ _ _ _ _ (rw c.loop-node.invariant.keeps.store_finds at c.render_node.ensures.renders) _ c.in-Err.is); owes = c.render_node.ensures.owes ∙ c.loop-node.invariant.owes; keeps = keeps_both _ _ _ _ _ _ _ _ c.loop-node.invariant.keeps c.render_node.ensures.keeps; around = c.render_node.ensures.around ∙ c.loop-node.invariant.around }
 
 pub render_list-returns-then-interrupted : goal.render_list-returns-then-interrupted
 render_list-returns-then-interrupted g t c =
     let q = nodes_drop g.X.Meant.shape g.T.Meant.shape g.B.Meant.shape c.args.nodes.now c.loop-node.node-index c.node-item.result c.loop-node-test.true c.node-item.is in
     let i : is_some (g.S.Runtime.view c.render_node.new.scopes).interrupt ≡ _ = ap (λ x. is_some x.interrupt.current) (sym c.registers.ensures) ∙ stands _ _ c.interrupted.ensures c.if-interrupted.true in
-    record { renders = c.loop-node.invariant.renders _ _ _ (node_stops _ _ _ _ _ q _ _ _ _ _ (rw c.loop-node.invariant.keeps.store_finds at c.render_node.ensures.renders) _ c.in-Ok.is i); owes = c.render_node.ensures.owes ∙ c.loop-node.invariant.owes; keeps = keeps_both _ _ _ _ _ _ _ c.loop-node.invariant.keeps c.render_node.ensures.keeps; around = c.render_node.ensures.around ∙ c.loop-node.invariant.around }
+    record { renders = c.loop-node.invariant.renders _ _ _ (node_stops _ _ _ _ _ q _ _ _ _ _ (rw c.loop-node.invariant.keeps.store_finds at c.render_node.ensures.renders) _ c.in-Ok.is i); owes = c.render_node.ensures.owes ∙ c.loop-node.invariant.owes; keeps = keeps_both _ _ _ _ _ _ _ _ c.loop-node.invariant.keeps c.render_node.ensures.keeps; around = c.render_node.ensures.around ∙ c.loop-node.invariant.around }
 
 pub render_list-loop-node-preserved : goal.render_list-loop-node-preserved
 render_list-loop-node-preserved g t c =
     let q = nodes_drop g.X.Meant.shape g.T.Meant.shape g.B.Meant.shape c.args.nodes.now c.loop-node.node-index c.node-item.result c.loop-node-test.true c.node-item.is in
     let i : is_some (g.S.Runtime.view c.render_node.new.scopes).interrupt ≡ _ = ap (λ x. is_some x.interrupt.current) (sym c.registers.ensures) ∙ stands_not _ _ c.interrupted.ensures c.if-interrupted.false in
-    record { owes = c.render_node.ensures.owes ∙ c.loop-node.invariant.owes; keeps = keeps_both _ _ _ _ _ _ _ c.loop-node.invariant.keeps c.render_node.ensures.keeps; around = c.render_node.ensures.around ∙ c.loop-node.invariant.around; answer = rw c.in-Ok.is refl; renders = λ after left answer h. c.loop-node.invariant.renders after left answer (node_goes _ _ _ _ _ q _ _ _ _ _ (rw c.loop-node.invariant.keeps.store_finds at c.render_node.ensures.renders) _ _ _ _ c.in-Ok.is i h) }
+    record { owes = c.render_node.ensures.owes ∙ c.loop-node.invariant.owes; keeps = keeps_both _ _ _ _ _ _ _ _ c.loop-node.invariant.keeps c.render_node.ensures.keeps; around = c.render_node.ensures.around ∙ c.loop-node.invariant.around; answer = rw c.in-Ok.is refl; renders = λ after left answer h. c.loop-node.invariant.renders after left answer (node_goes _ _ _ _ _ q _ _ _ _ _ (rw c.loop-node.invariant.keeps.store_finds at c.render_node.ensures.renders) _ _ _ _ c.in-Ok.is i h) }
 
 pub render_list-returns : goal.render_list-returns
 render_list-returns g t c =
@@ -83,17 +83,17 @@ render_tag-returns-in-None-clause-renders g t c =
 
 pub render_tag-loop-init : goal.render_tag-loop-init
 render_tag-loop-init g t c =
-    record { owes = c.start_node.ensures.owes; keeps = keeps_store _ _ _ _ _ _ c.start_node.ensures.store c.start_node.ensures.borrows; answer = c.in-Some.ensures.begins.0; around = refl; renders = λ after left answer h. start_goes_at _ _ _ _ _ _ _ _ _ _ _ _ _ (none_yet c.turns-end.result _ c.turns-end.ensures) c.in-Some.ensures.begins.1 c.in-Some.ensures.begins.2 c.start_node.ensures.frames h }
+    record { owes = c.start_node.ensures.owes; keeps = keeps_store _ _ _ _ _ _ _ c.start_node.ensures.store c.start_node.ensures.borrows; answer = c.in-Some.ensures.begins.0; around = refl; renders = λ after left answer h. start_goes_at _ _ _ _ _ _ _ _ _ _ _ _ _ (none_yet c.turns-end.result _ c.turns-end.ensures) c.in-Some.ensures.begins.1 c.in-Some.ensures.begins.2 c.start_node.ensures.frames h }
 
 pub render_tag-returns-then-not-take_tag : goal.render_tag-returns-then-not-take_tag
 render_tag-returns-then-not-take_tag g t c =
     let x = rw c.loop.invariant.keeps.store_finds at c.take_tag.ensures.takes in
-    record { renders = c.loop.invariant.renders _ _ _ (takes_last _ _ _ _ _ _ _ _ _ _ _ _ _ _ _ _ (left_more c.loop.counter c.turns-end.result c.loop-test.true) refl c.if-not-take_tag.true x); owes = c.take_tag.ensures.owes ∙ c.loop.invariant.owes; keeps = keeps_both _ _ _ _ _ _ _ c.loop.invariant.keeps c.take_tag.ensures.keeps; around = c.take_tag.ensures.around ∙ c.loop.invariant.around }
+    record { renders = c.loop.invariant.renders _ _ _ (takes_last _ _ _ _ _ _ _ _ _ _ _ _ _ _ _ _ (left_more c.loop.counter c.turns-end.result c.loop-test.true) refl c.if-not-take_tag.true x); owes = c.take_tag.ensures.owes ∙ c.loop.invariant.owes; keeps = keeps_both _ _ _ _ _ _ _ _ c.loop.invariant.keeps c.take_tag.ensures.keeps; around = c.take_tag.ensures.around ∙ c.loop.invariant.around }
 
 pub render_tag-loop-preserved : goal.render_tag-loop-preserved
 render_tag-loop-preserved g t c =
     let x = rw c.loop.invariant.keeps.store_finds at c.take_tag.ensures.takes in
-    record { owes = c.take_tag.ensures.owes ∙ c.loop.invariant.owes; keeps = keeps_both _ _ _ _ _ _ _ c.loop.invariant.keeps c.take_tag.ensures.keeps; answer = takes_ok _ _ _ _ _ _ _ _ _ _ _ _ _ c.if-not-take_tag.false x; around = c.take_tag.ensures.around ∙ c.loop.invariant.around; renders = λ after left answer h. c.loop.invariant.renders after left answer (takes_more _ _ _ _ _ _ _ _ _ _ _ _ _ _ _ _ _ _ _ (left_more c.loop.counter c.turns-end.result c.loop-test.true) refl c.if-not-take_tag.false x h) }
+    record { owes = c.take_tag.ensures.owes ∙ c.loop.invariant.owes; keeps = keeps_both _ _ _ _ _ _ _ _ c.loop.invariant.keeps c.take_tag.ensures.keeps; answer = takes_ok _ _ _ _ _ _ _ _ _ _ _ _ _ c.if-not-take_tag.false x; around = c.take_tag.ensures.around ∙ c.loop.invariant.around; renders = λ after left answer h. c.loop.invariant.renders after left answer (takes_more _ _ _ _ _ _ _ _ _ _ _ _ _ _ _ _ _ _ _ (left_more c.loop.counter c.turns-end.result c.loop-test.true) refl c.if-not-take_tag.false x h) }
 
 pub render_tag-returns : goal.render_tag-returns
 render_tag-returns g t c =
@@ -101,16 +101,16 @@ render_tag-returns g t c =
 
 pub take_tag-returns-in-Stop : goal.take_tag-returns-in-Stop
 take_tag-returns-in-Stop g t c =
-    record { takes = λ k. c.in-Stop.ensures.turned.0 [] k; owes = c.in-Stop.ensures.turned.1; keeps = c.in-Stop.ensures.keeps; around = c.in-Stop.ensures.around }
+    record { takes = λ k. c.in-Stop.ensures.turned.0 [] k; owes = c.in-Stop.ensures.turned.1; keeps = (keeps_unless _ _ _ _ _ _ (λ n. n.0) c.in-Stop.ensures.keeps); around = c.in-Stop.ensures.around }
 
 pub take_tag-returns-in-Next : goal.take_tag-returns-in-Next
 take_tag-returns-in-Next g t c =
-    record { takes = (c.in-Next.ensures.turned.1, λ k a x later rest. c.in-Next.ensures.turned.0 [] k a x later rest); owes = c.in-Next.ensures.turned.2; keeps = c.in-Next.ensures.keeps; around = c.in-Next.ensures.around }
+    record { takes = (c.in-Next.ensures.turned.1, λ k a x later rest. c.in-Next.ensures.turned.0 [] k a x later rest); owes = c.in-Next.ensures.turned.2; keeps = (keeps_unless _ _ _ _ _ _ (λ n. n.0) c.in-Next.ensures.keeps); around = c.in-Next.ensures.around }
 
 pub take_tag-returns-in-Part : goal.take_tag-returns-in-Part
 take_tag-returns-in-Part g t c =
     let ends = c.end_turn.ensures.ends (owed_open _ _ _ _ _ c.in-Part.ensures.turned.0.owes refl) in
-    record { takes = rw c.end_turn.ensures.progress (opens_taken _ _ _ _ _ _ _ _ _ _ _ _ _ _ _ _ _ _ _ _ c.in-Part.ensures.turned.0 refl ends _ _ _ c.end_turn.ensures.goes_on c.end_turn.ensures.traced (done_ok _ _ _ c.in-Part.ensures.turned.1)); owes = opens_kept _ _ _ _ _ _ _ _ _ _ _ _ _ _ _ _ _ _ c.in-Part.ensures.turned.0 refl ends; keeps = keeps_ended _ _ _ _ _ _ _ c.in-Part.ensures.keeps c.end_turn.ensures.store c.end_turn.ensures.borrows; around = c.in-Part.ensures.around }
+    record { takes = rw c.end_turn.ensures.progress (opens_taken _ _ _ _ _ _ _ _ _ _ _ _ _ _ _ _ _ _ _ _ c.in-Part.ensures.turned.0 refl ends _ _ _ c.end_turn.ensures.goes_on c.end_turn.ensures.traced (done_ok _ _ _ c.in-Part.ensures.turned.1)); owes = opens_kept _ _ _ _ _ _ _ _ _ _ _ _ _ _ _ _ _ _ c.in-Part.ensures.turned.0 refl ends; keeps = keeps_ended _ _ _ _ _ _ _ _ (keeps_unless _ _ _ _ _ _ (λ n. n.0) c.in-Part.ensures.keeps) c.end_turn.ensures.store c.end_turn.ensures.borrows; around = c.in-Part.ensures.around }
 
 pub take_tag-returns-then-goes_on-clause-takes : goal.take_tag-returns-then-goes_on-clause-takes
 take_tag-returns-then-goes_on-clause-takes g t c =
@@ -135,16 +135,16 @@ take_tag-returns-else-goes_on-clause-owes g t c =
 
 pub take_tag-returns-then-goes_on-clause-keeps : goal.take_tag-returns-then-goes_on-clause-keeps
 take_tag-returns-then-goes_on-clause-keeps g t c =
-    keeps_ended _ _ _ _ _ _ _ c.in-Captured.ensures.keeps c.end_turn-goes_on.ensures.store c.end_turn-goes_on.ensures.borrows
+    keeps_ended _ _ _ _ _ _ _ _ (keeps_unless _ _ _ _ _ _ (λ n. n.0) c.in-Captured.ensures.keeps) c.end_turn-goes_on.ensures.store c.end_turn-goes_on.ensures.borrows
 
 pub take_tag-returns-else-goes_on-clause-keeps : goal.take_tag-returns-else-goes_on-clause-keeps
 take_tag-returns-else-goes_on-clause-keeps g t c =
-    keeps_ended _ _ _ _ _ _ _ c.in-Captured.ensures.keeps c.end_turn-goes_on.ensures.store c.end_turn-goes_on.ensures.borrows
+    keeps_ended _ _ _ _ _ _ _ _ (keeps_unless _ _ _ _ _ _ (λ n. n.0) c.in-Captured.ensures.keeps) c.end_turn-goes_on.ensures.store c.end_turn-goes_on.ensures.borrows
 
 pub take_tag-returns-in-Partial : goal.take_tag-returns-in-Partial
 take_tag-returns-in-Partial g t c =
     let ends = c.end_turn-in-Partial.ensures.ends (owed_open _ _ _ _ _ c.in-Partial.ensures.turned.0.owes c.render_partial.ensures.owes) in
-    record { takes = rw c.end_turn-in-Partial.ensures.progress (opens_taken _ _ _ _ _ _ _ _ _ _ _ _ _ _ _ _ _ _ _ _ c.in-Partial.ensures.turned.0 c.render_partial.ensures.owes ends _ _ _ c.end_turn-in-Partial.ensures.goes_on c.end_turn-in-Partial.ensures.traced (rw c.in-Partial.ensures.keeps.store_finds at c.render_partial.ensures.renders)); owes = opens_kept _ _ _ _ _ _ _ _ _ _ _ _ _ _ _ _ _ _ c.in-Partial.ensures.turned.0 c.render_partial.ensures.owes ends; keeps = keeps_ended _ _ _ _ _ _ _ (keeps_both _ _ _ _ _ _ _ c.in-Partial.ensures.keeps c.render_partial.ensures.keeps) c.end_turn-in-Partial.ensures.store c.end_turn-in-Partial.ensures.borrows; around = c.render_partial.ensures.around ∙ c.in-Partial.ensures.around }
+    record { takes = rw c.end_turn-in-Partial.ensures.progress (opens_taken _ _ _ _ _ _ _ _ _ _ _ _ _ _ _ _ _ _ _ _ c.in-Partial.ensures.turned.0 c.render_partial.ensures.owes ends _ _ _ c.end_turn-in-Partial.ensures.goes_on c.end_turn-in-Partial.ensures.traced (rw c.in-Partial.ensures.keeps.store_finds at c.render_partial.ensures.renders)); owes = opens_kept _ _ _ _ _ _ _ _ _ _ _ _ _ _ _ _ _ _ c.in-Partial.ensures.turned.0 c.render_partial.ensures.owes ends; keeps = keeps_ended _ _ _ _ _ _ _ _ (keeps_both _ _ _ _ _ _ _ _ (keeps_unless _ _ _ _ _ _ (λ n. n.0) c.in-Partial.ensures.keeps) c.render_partial.ensures.keeps) c.end_turn-in-Partial.ensures.store c.end_turn-in-Partial.ensures.borrows; around = c.render_partial.ensures.around ∙ c.in-Partial.ensures.around }
 
 pub render_block-returns-in-None-clause-renders : goal.render_block-returns-in-None-clause-renders
 render_block-returns-in-None-clause-renders g t c =
@@ -152,17 +152,17 @@ render_block-returns-in-None-clause-renders g t c =
 
 pub render_block-loop-init : goal.render_block-loop-init
 render_block-loop-init g t c =
-    record { owes = c.start_boxed.ensures.owes; keeps = keeps_store _ _ _ _ _ _ c.start_boxed.ensures.store c.start_boxed.ensures.borrows; answer = c.in-Some.ensures.begins.0; around = refl; renders = λ after left answer h. start_goes_at _ _ _ _ _ _ _ _ _ _ _ _ _ (none_yet c.turns-end.result _ (c.turns-end.ensures ∙ ap (λ x. g.B.Renderable.means.count (g.B.Progress.Meant.shape x.progress)) c.deref.ensures)) c.in-Some.ensures.begins.1 c.in-Some.ensures.begins.2 c.start_boxed.ensures.frames h }
+    record { owes = c.start_boxed.ensures.owes; keeps = keeps_store _ _ _ _ _ _ _ c.start_boxed.ensures.store c.start_boxed.ensures.borrows; answer = c.in-Some.ensures.begins.0; around = refl; renders = λ after left answer h. start_goes_at _ _ _ _ _ _ _ _ _ _ _ _ _ (none_yet c.turns-end.result _ (c.turns-end.ensures ∙ ap (λ x. g.B.Renderable.means.count (g.B.Progress.Meant.shape x.progress)) c.deref.ensures)) c.in-Some.ensures.begins.1 c.in-Some.ensures.begins.2 c.start_boxed.ensures.frames h }
 
 pub render_block-returns-then-not-take_block : goal.render_block-returns-then-not-take_block
 render_block-returns-then-not-take_block g t c =
     let x = rw c.loop.invariant.keeps.store_finds at c.take_block.ensures.takes in
-    record { renders = c.loop.invariant.renders _ _ _ (takes_last _ _ _ _ _ _ _ _ _ _ _ _ _ _ _ _ (left_more c.loop.counter c.turns-end.result c.loop-test.true) (ap (λ x. g.B.Progress.Meant.shape x.progress) c.deref_mut.ensures.value) c.if-not-take_block.true x); owes = c.take_block.ensures.owes ∙ c.loop.invariant.owes; keeps = keeps_both _ _ _ _ _ _ _ c.loop.invariant.keeps c.take_block.ensures.keeps; around = c.take_block.ensures.around ∙ c.loop.invariant.around }
+    record { renders = c.loop.invariant.renders _ _ _ (takes_last _ _ _ _ _ _ _ _ _ _ _ _ _ _ _ _ (left_more c.loop.counter c.turns-end.result c.loop-test.true) (ap (λ x. g.B.Progress.Meant.shape x.progress) c.deref_mut.ensures.value) c.if-not-take_block.true x); owes = c.take_block.ensures.owes ∙ c.loop.invariant.owes; keeps = keeps_both _ _ _ _ _ _ _ _ c.loop.invariant.keeps c.take_block.ensures.keeps; around = c.take_block.ensures.around ∙ c.loop.invariant.around }
 
 pub render_block-loop-preserved : goal.render_block-loop-preserved
 render_block-loop-preserved g t c =
     let x = rw c.loop.invariant.keeps.store_finds at c.take_block.ensures.takes in
-    record { owes = c.take_block.ensures.owes ∙ c.loop.invariant.owes; keeps = keeps_both _ _ _ _ _ _ _ c.loop.invariant.keeps c.take_block.ensures.keeps; answer = takes_ok _ _ _ _ _ _ _ _ _ _ _ _ _ c.if-not-take_block.false x; around = c.take_block.ensures.around ∙ c.loop.invariant.around; renders = λ after left answer h. c.loop.invariant.renders after left answer (takes_more _ _ _ _ _ _ _ _ _ _ _ _ _ _ _ _ _ _ _ (left_more c.loop.counter c.turns-end.result c.loop-test.true) (ap (λ x. g.B.Progress.Meant.shape x.progress) c.deref_mut.ensures.value) c.if-not-take_block.false x h) }
+    record { owes = c.take_block.ensures.owes ∙ c.loop.invariant.owes; keeps = keeps_both _ _ _ _ _ _ _ _ c.loop.invariant.keeps c.take_block.ensures.keeps; answer = takes_ok _ _ _ _ _ _ _ _ _ _ _ _ _ c.if-not-take_block.false x; around = c.take_block.ensures.around ∙ c.loop.invariant.around; renders = λ after left answer h. c.loop.invariant.renders after left answer (takes_more _ _ _ _ _ _ _ _ _ _ _ _ _ _ _ _ _ _ _ (left_more c.loop.counter c.turns-end.result c.loop-test.true) (ap (λ x. g.B.Progress.Meant.shape x.progress) c.deref_mut.ensures.value) c.if-not-take_block.false x h) }
 
 pub render_block-returns : goal.render_block-returns
 render_block-returns g t c =
@@ -170,16 +170,16 @@ render_block-returns g t c =
 
 pub take_block-returns-in-Stop : goal.take_block-returns-in-Stop
 take_block-returns-in-Stop g t c =
-    record { takes = λ k. c.in-Stop.ensures.turned.0 _ k; owes = c.in-Stop.ensures.turned.1; keeps = c.in-Stop.ensures.keeps; around = c.in-Stop.ensures.around }
+    record { takes = λ k. c.in-Stop.ensures.turned.0 _ k; owes = c.in-Stop.ensures.turned.1; keeps = (keeps_unless _ _ _ _ _ _ (λ n. n.1) c.in-Stop.ensures.keeps); around = c.in-Stop.ensures.around }
 
 pub take_block-returns-in-Next : goal.take_block-returns-in-Next
 take_block-returns-in-Next g t c =
-    record { takes = (c.in-Next.ensures.turned.1, λ k a x later rest. c.in-Next.ensures.turned.0 _ k a x later rest); owes = c.in-Next.ensures.turned.2; keeps = c.in-Next.ensures.keeps; around = c.in-Next.ensures.around }
+    record { takes = (c.in-Next.ensures.turned.1, λ k a x later rest. c.in-Next.ensures.turned.0 _ k a x later rest); owes = c.in-Next.ensures.turned.2; keeps = (keeps_unless _ _ _ _ _ _ (λ n. n.1) c.in-Next.ensures.keeps); around = c.in-Next.ensures.around }
 
 pub take_block-returns-in-Part : goal.take_block-returns-in-Part
 take_block-returns-in-Part g t c =
     let ends = c.end_turn.ensures.ends (owed_open _ _ _ _ _ c.in-Part.ensures.turned.0.owes c.render_part.ensures.owes) in
-    record { takes = rw c.end_turn.ensures.progress (opens_taken _ _ _ _ _ _ _ _ _ _ _ _ _ _ _ _ _ _ _ _ c.in-Part.ensures.turned.0 c.render_part.ensures.owes ends _ _ _ c.end_turn.ensures.goes_on c.end_turn.ensures.traced (rw c.in-Part.ensures.keeps.store_finds at c.render_part.ensures.renders)); owes = opens_kept _ _ _ _ _ _ _ _ _ _ _ _ _ _ _ _ _ _ c.in-Part.ensures.turned.0 c.render_part.ensures.owes ends; keeps = keeps_ended _ _ _ _ _ _ _ (keeps_both _ _ _ _ _ _ _ c.in-Part.ensures.keeps c.render_part.ensures.keeps) c.end_turn.ensures.store c.end_turn.ensures.borrows; around = c.render_part.ensures.around ∙ c.in-Part.ensures.around }
+    record { takes = rw c.end_turn.ensures.progress (opens_taken _ _ _ _ _ _ _ _ _ _ _ _ _ _ _ _ _ _ _ _ c.in-Part.ensures.turned.0 c.render_part.ensures.owes ends _ _ _ c.end_turn.ensures.goes_on c.end_turn.ensures.traced (rw c.in-Part.ensures.keeps.store_finds at c.render_part.ensures.renders)); owes = opens_kept _ _ _ _ _ _ _ _ _ _ _ _ _ _ _ _ _ _ c.in-Part.ensures.turned.0 c.render_part.ensures.owes ends; keeps = keeps_ended _ _ _ _ _ _ _ _ (keeps_both _ _ _ _ _ _ _ _ (keeps_unless _ _ _ _ _ _ (λ n. n.1) c.in-Part.ensures.keeps) c.render_part.ensures.keeps) c.end_turn.ensures.store c.end_turn.ensures.borrows; around = c.render_part.ensures.around ∙ c.in-Part.ensures.around }
 
 pub take_block-end_captured-requires-clause-frame : goal.take_block-end_captured-requires-clause-frame
 take_block-end_captured-requires-clause-frame g t c =
@@ -213,7 +213,7 @@ take_block-returns-in-Captured-clause-owes g t c =
 
 pub take_block-returns-in-Captured-clause-keeps : goal.take_block-returns-in-Captured-clause-keeps
 take_block-returns-in-Captured-clause-keeps g t c =
-    keeps_ended _ _ _ _ _ _ _ (keeps_both _ _ _ _ _ _ _ c.in-Captured.ensures.keeps c.render_part-in-Captured.ensures.keeps) c.end_captured.ensures.store c.end_captured.ensures.borrows
+    keeps_ended _ _ _ _ _ _ _ _ (keeps_both _ _ _ _ _ _ _ _ (keeps_unless _ _ _ _ _ _ (λ n. n.1) c.in-Captured.ensures.keeps) c.render_part-in-Captured.ensures.keeps) c.end_captured.ensures.store c.end_captured.ensures.borrows
 
 pub take_block-returns-in-Captured-clause-around : goal.take_block-returns-in-Captured-clause-around
 take_block-returns-in-Captured-clause-around g t c =
@@ -222,7 +222,7 @@ take_block-returns-in-Captured-clause-around g t c =
 pub take_block-returns-in-Partial : goal.take_block-returns-in-Partial
 take_block-returns-in-Partial g t c =
     let ends = c.end_turn-in-Partial.ensures.ends (owed_open _ _ _ _ _ c.in-Partial.ensures.turned.0.owes c.render_partial.ensures.owes) in
-    record { takes = rw c.end_turn-in-Partial.ensures.progress (opens_taken _ _ _ _ _ _ _ _ _ _ _ _ _ _ _ _ _ _ _ _ c.in-Partial.ensures.turned.0 c.render_partial.ensures.owes ends _ _ _ c.end_turn-in-Partial.ensures.goes_on c.end_turn-in-Partial.ensures.traced (rw c.in-Partial.ensures.keeps.store_finds at c.render_partial.ensures.renders)); owes = opens_kept _ _ _ _ _ _ _ _ _ _ _ _ _ _ _ _ _ _ c.in-Partial.ensures.turned.0 c.render_partial.ensures.owes ends; keeps = keeps_ended _ _ _ _ _ _ _ (keeps_both _ _ _ _ _ _ _ c.in-Partial.ensures.keeps c.render_partial.ensures.keeps) c.end_turn-in-Partial.ensures.store c.end_turn-in-Partial.ensures.borrows; around = c.render_partial.ensures.around ∙ c.in-Partial.ensures.around }
+    record { takes = rw c.end_turn-in-Partial.ensures.progress (opens_taken _ _ _ _ _ _ _ _ _ _ _ _ _ _ _ _ _ _ _ _ c.in-Partial.ensures.turned.0 c.render_partial.ensures.owes ends _ _ _ c.end_turn-in-Partial.ensures.goes_on c.end_turn-in-Partial.ensures.traced (rw c.in-Partial.ensures.keeps.store_finds at c.render_partial.ensures.renders)); owes = opens_kept _ _ _ _ _ _ _ _ _ _ _ _ _ _ _ _ _ _ c.in-Partial.ensures.turned.0 c.render_partial.ensures.owes ends; keeps = keeps_ended _ _ _ _ _ _ _ _ (keeps_both _ _ _ _ _ _ _ _ (keeps_unless _ _ _ _ _ _ (λ n. n.1) c.in-Partial.ensures.keeps) c.render_partial.ensures.keeps) c.end_turn-in-Partial.ensures.store c.end_turn-in-Partial.ensures.borrows; around = c.render_partial.ensures.around ∙ c.in-Partial.ensures.around }
 
 pub render_part-render_list-requires : goal.render_part-render_list-requires
 render_part-render_list-requires g t c =
@@ -242,8 +242,8 @@ render_partial-returns-clause-renders g t c =
     rw (c.nodes.ensures, c.deref.ensures) at c.render_list.ensures.renders
 
 pub render_part-returns-in-None-clause-keeps : goal.render_part-returns-in-None-clause-keeps
-render_part-returns-in-None-clause-keeps g t c = keeps_all _ _ _ _ _
+render_part-returns-in-None-clause-keeps g t c = keeps_all _ _ _ _ _ _
 
 pub render_partial-returns-clause-keeps : goal.render_partial-returns-clause-keeps
 render_partial-returns-clause-keeps g t c =
-    keeps_asked _ _ _ _ _ _ c.requires.more c.render_list.ensures.keeps.store_finds c.render_list.ensures.keeps.borrows
+    keeps_asked _ _ _ _ _ _ _ c.requires.more c.render_list.ensures.keeps.store_finds c.render_list.ensures.keeps.unopened c.render_list.ensures.keeps.borrows

@@ -9,6 +9,7 @@ use Rattle.liquid_template.specs.meaning.Partials.{partials_at}
 use Rattle.liquid_template.specs.meaning.Rendering.{nodes_run}
 use Rattle.liquid_template.specs.meaning.Output.{Output}
 use Rattle.liquid_template.specs.meaning.Outcome.{RendersWithin}
+use Rattle.liquid_template.specs.meaning.Opens.{OpenNone}
 use Rattle.liquid_template.specs.meaning.Runs.{setting, tag_run, block_run}
 use Rattle.liquid_template.specs.meaning.TemplateOf.{template_nodes}
 use Rattle.liquid_template.specs.steps.PartsOf.{parts_of}
@@ -44,7 +45,7 @@ decreases-take_block g l = 8 * work l.depth (partials_size (option_map g.S.Store
 abbrev pub invariant-render_list-loop-node : goal.invariant-render_list-loop-node
 invariant-render_list-loop-node g l = record {
   owes : g.S.Runtime.restores l.scopes ≡ g.S.Runtime.restores l.fn.scopes;
-  keeps : Keeps g.S.Runtime.store g.S.Runtime.lent g.S.Store.PartialStore.finds l.depth l.fn.scopes l.scopes;
+  keeps : Keeps (OpenNone g.T.Renderable.means g.B.Renderable.means) g.S.Runtime.store g.S.Runtime.lent g.S.Store.PartialStore.finds l.depth l.fn.scopes l.scopes;
   answer : IsOk l.answer;
   around : around (g.O.Out.place l.out) ≡ around (g.O.Out.place l.fn.out);
   renders : (after : Output) (left : View g.row.S-Register-Shape.Denot) (answer : Result (Unit {0}) Error)
@@ -55,7 +56,7 @@ invariant-render_list-loop-node g l = record {
 abbrev pub invariant-render_tag-loop : goal.invariant-render_tag-loop
 invariant-render_tag-loop g l = record {
   owes : g.S.Runtime.restores l.scopes ≡ g.S.Runtime.restores l.fn.scopes;
-  keeps : Keeps g.S.Runtime.store g.S.Runtime.lent g.S.Store.PartialStore.finds l.depth l.fn.scopes l.scopes;
+  keeps : Keeps (OpenNone g.T.Renderable.means g.B.Renderable.means) g.S.Runtime.store g.S.Runtime.lent g.S.Store.PartialStore.finds l.depth l.fn.scopes l.scopes;
   answer : IsOk l.answer;
   around : around (g.O.Out.place l.out) ≡ around (g.O.Out.place l.fn.out);
   renders : (after : Output) (left : View g.row.S-Register-Shape.Denot) (answer : Result (Unit {0}) Error)
@@ -66,7 +67,7 @@ invariant-render_tag-loop g l = record {
 abbrev pub invariant-render_block-loop : goal.invariant-render_block-loop
 invariant-render_block-loop g l = record {
   owes : g.S.Runtime.restores l.scopes ≡ g.S.Runtime.restores l.fn.scopes;
-  keeps : Keeps g.S.Runtime.store g.S.Runtime.lent g.S.Store.PartialStore.finds l.depth l.fn.scopes l.scopes;
+  keeps : Keeps (OpenNone g.T.Renderable.means g.B.Renderable.means) g.S.Runtime.store g.S.Runtime.lent g.S.Store.PartialStore.finds l.depth l.fn.scopes l.scopes;
   answer : IsOk l.answer;
   around : around (g.O.Out.place l.out) ≡ around (g.O.Out.place l.fn.out);
   renders : (after : Output) (left : View g.row.S-Register-Shape.Denot) (answer : Result (Unit {0}) Error)

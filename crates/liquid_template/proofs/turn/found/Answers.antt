@@ -12,9 +12,9 @@ returns-clause-finds g c =
     finds_given _ _ _ _ _ h c.find.ensures.gives
 
 pub returns-then-depth-eq0-clause-keeps : goal.returns-then-depth-eq0-clause-keeps
-returns-then-depth-eq0-clause-keeps g c = keeps_all _ _ _ _ _
+returns-then-depth-eq0-clause-keeps g c = keeps_all _ _ _ _ _ _
 
 pub returns-clause-keeps : goal.returns-clause-keeps
 returns-clause-keeps g c =
     let h : 0 < c.args.depth = omega arith in
-    keeps_asked _ _ _ _ _ _ h c.find.ensures.store c.find.ensures.borrows
+    keeps_asked _ _ _ _ _ _ _ h c.find.ensures.store (λ n. absurd n) c.find.ensures.borrows

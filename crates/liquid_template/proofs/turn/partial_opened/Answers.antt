@@ -16,12 +16,12 @@ returns-in-Err-found-clause-opens g c =
     )
 
 pub returns-in-Err-clause-keeps : goal.returns-in-Err-clause-keeps
-returns-in-Err-clause-keeps g c = keeps_store _ _ _ _ _ _ c.in-Err.ensures.store c.in-Err.ensures.borrows
+returns-in-Err-clause-keeps g c = keeps_store _ _ _ _ _ _ _ c.in-Err.ensures.store c.in-Err.ensures.borrows
 
 pub returns-in-Err-found-clause-keeps : goal.returns-in-Err-found-clause-keeps
 returns-in-Err-found-clause-keeps g c =
-    keeps_ended _ _ _ _ _ _ _ (keeps_both _ _ _ _ _ _ _ (keeps_store _ _ _ _ _ _ c.in-Ok.ensures.store c.in-Ok.ensures.borrows) c.in-Err-found.ensures.keeps) c.pop.ensures.store c.pop.ensures.borrows
+    keeps_ended _ _ _ _ _ _ _ _ (keeps_both _ _ _ _ _ _ _ _ (keeps_store _ _ _ _ _ _ _ c.in-Ok.ensures.store c.in-Ok.ensures.borrows) c.in-Err-found.ensures.keeps) c.pop.ensures.store c.pop.ensures.borrows
 
 pub returns-in-Ok-found-clause-keeps : goal.returns-in-Ok-found-clause-keeps
 returns-in-Ok-found-clause-keeps g c =
-    keeps_both _ _ _ _ _ _ _ (keeps_store _ _ _ _ _ _ c.in-Ok.ensures.store c.in-Ok.ensures.borrows) c.in-Ok-found.ensures.keeps
+    keeps_both _ _ _ _ _ _ _ _ (keeps_store _ _ _ _ _ _ _ c.in-Ok.ensures.store c.in-Ok.ensures.borrows) c.in-Ok-found.ensures.keeps

@@ -1,7 +1,7 @@
 use Rattle.std.proofs.Common.{Ok, rules, refl, ap, ◌∙◌, option_map, string_bytes}
 use Rattle.liquid_plugins.specs.meaning.TurnOf.{turn_of}
 use Rattle.liquid_template.proofs.Goings.{asked_true, asked_false, owed_above, ends_stopped, ends_refused, ends_over, text_ends, text_goes, body_opens, body_ends, capture_opens, capture_ends, partial_opens, partial_ends}
-use Rattle.liquid_template.proofs.Keeping.{keeps_all, keeps_store, keeps_both, keeps_ended}
+use Rattle.liquid_template.proofs.Keeping.{keeps_all, keeps_store, keeps_both, keeps_ended, keeps_unless, opens_one}
 use Rattle.liquid_template.proofs.turn.take_turn.Goals as goal
 
 pub returns-then-not-pass_turn-clause-turned : goal.returns-then-not-pass_turn-clause-turned
@@ -51,40 +51,40 @@ returns-clause-turned g c =
     (ends_over _ _ _ _ _ _ _ c.turn.ensures.frames _ _ (asked_true _ _ _ c.if-not-pass_turn.false c.pass_turn.ensures.turn) c.in-Ok.ensures.after _ (search rules) (c.in-Ok.ensures.answer ∙ ap (λ x. Ok (turn_of x)) c.in-End.is), c.turn.ensures.owes)
 
 pub returns-then-not-pass_turn-clause-keeps : goal.returns-then-not-pass_turn-clause-keeps
-returns-then-not-pass_turn-clause-keeps g c = keeps_all _ _ _ _ _
+returns-then-not-pass_turn-clause-keeps g c = keeps_all _ _ _ _ _ _
 
 pub returns-in-Err-clause-keeps : goal.returns-in-Err-clause-keeps
-returns-in-Err-clause-keeps g c = keeps_store _ _ _ _ _ _ c.turn.ensures.store c.turn.ensures.borrows
+returns-in-Err-clause-keeps g c = keeps_store _ _ _ _ _ _ _ c.turn.ensures.store c.turn.ensures.borrows
 
 pub returns-in-Ok-put-clause-keeps : goal.returns-in-Ok-put-clause-keeps
-returns-in-Ok-put-clause-keeps g c = keeps_store _ _ _ _ _ _ c.turn.ensures.store c.turn.ensures.borrows
+returns-in-Ok-put-clause-keeps g c = keeps_store _ _ _ _ _ _ _ c.turn.ensures.store c.turn.ensures.borrows
 
 pub returns-in-Text-clause-keeps : goal.returns-in-Text-clause-keeps
-returns-in-Text-clause-keeps g c = keeps_store _ _ _ _ _ _ c.turn.ensures.store c.turn.ensures.borrows
+returns-in-Text-clause-keeps g c = keeps_store _ _ _ _ _ _ _ c.turn.ensures.store c.turn.ensures.borrows
 
 pub returns-in-Ok-push-clause-keeps : goal.returns-in-Ok-push-clause-keeps
 returns-in-Ok-push-clause-keeps g c =
-    keeps_ended _ _ _ _ _ _ _ (keeps_store _ _ _ _ _ _ c.turn.ensures.store c.turn.ensures.borrows) c.in-Ok-push.ensures.store c.in-Ok-push.ensures.borrows
+    keeps_ended _ _ _ _ _ _ _ _ (keeps_store _ _ _ _ _ _ _ c.turn.ensures.store c.turn.ensures.borrows) c.in-Ok-push.ensures.store c.in-Ok-push.ensures.borrows
 
 pub returns-in-Body-clause-keeps : goal.returns-in-Body-clause-keeps
 returns-in-Body-clause-keeps g c =
-    keeps_ended _ _ _ _ _ _ _ (keeps_store _ _ _ _ _ _ c.turn.ensures.store c.turn.ensures.borrows) c.in-Err-push.ensures.store c.in-Err-push.ensures.borrows
+    keeps_ended _ _ _ _ _ _ _ _ (keeps_store _ _ _ _ _ _ _ c.turn.ensures.store c.turn.ensures.borrows) c.in-Err-push.ensures.store c.in-Err-push.ensures.borrows
 
 pub returns-in-Ok-push-2-clause-keeps : goal.returns-in-Ok-push-2-clause-keeps
 returns-in-Ok-push-2-clause-keeps g c =
-    keeps_ended _ _ _ _ _ _ _ (keeps_store _ _ _ _ _ _ c.turn.ensures.store c.turn.ensures.borrows) c.in-Ok-push-2.ensures.store c.in-Ok-push-2.ensures.borrows
+    keeps_ended _ _ _ _ _ _ _ _ (keeps_store _ _ _ _ _ _ _ c.turn.ensures.store c.turn.ensures.borrows) c.in-Ok-push-2.ensures.store c.in-Ok-push-2.ensures.borrows
 
 pub returns-in-Capture-clause-keeps : goal.returns-in-Capture-clause-keeps
 returns-in-Capture-clause-keeps g c =
-    keeps_ended _ _ _ _ _ _ _ (keeps_store _ _ _ _ _ _ c.turn.ensures.store c.turn.ensures.borrows) c.in-Err-push-2.ensures.store c.in-Err-push-2.ensures.borrows
+    keeps_ended _ _ _ _ _ _ _ _ (keeps_store _ _ _ _ _ _ _ c.turn.ensures.store c.turn.ensures.borrows) c.in-Err-push-2.ensures.store c.in-Err-push-2.ensures.borrows
 
 pub returns-in-Some-clause-keeps : goal.returns-in-Some-clause-keeps
 returns-in-Some-clause-keeps g c =
-    keeps_both _ _ _ _ _ _ _ (keeps_store _ _ _ _ _ _ c.turn.ensures.store c.turn.ensures.borrows) c.in-Some.ensures.keeps
+    keeps_both _ _ _ _ _ _ _ _ (keeps_store _ _ _ _ _ _ _ c.turn.ensures.store c.turn.ensures.borrows) (keeps_unless _ _ _ _ _ _ (λ n. absurd (opens_one g.N.Renderable.means _ _ _ _ _ _ (c.in-Ok.ensures.answer ∙ ap (λ x. Ok (turn_of x)) c.in-Partial.is) n)) c.in-Some.ensures.keeps)
 
 pub returns-in-Partial-clause-keeps : goal.returns-in-Partial-clause-keeps
 returns-in-Partial-clause-keeps g c =
-    keeps_both _ _ _ _ _ _ _ (keeps_store _ _ _ _ _ _ c.turn.ensures.store c.turn.ensures.borrows) c.in-None.ensures.keeps
+    keeps_both _ _ _ _ _ _ _ _ (keeps_store _ _ _ _ _ _ _ c.turn.ensures.store c.turn.ensures.borrows) (keeps_unless _ _ _ _ _ _ (λ n. absurd (opens_one g.N.Renderable.means _ _ _ _ _ _ (c.in-Ok.ensures.answer ∙ ap (λ x. Ok (turn_of x)) c.in-Partial.is) n)) c.in-None.ensures.keeps)
 
 pub returns-clause-keeps : goal.returns-clause-keeps
-returns-clause-keeps g c = keeps_store _ _ _ _ _ _ c.turn.ensures.store c.turn.ensures.borrows
+returns-clause-keeps g c = keeps_store _ _ _ _ _ _ _ c.turn.ensures.store c.turn.ensures.borrows
