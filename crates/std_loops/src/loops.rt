@@ -1,4 +1,4 @@
-//! What a loop is made of, and what it goes over.
+//! A loop, and the items that it goes over.
 ghost use Rattle.std.specs.Prelude.{◌≡◌};
 ghost use Rattle.liquid_error.specs.meaning.Told.{Gives};
 ghost use Rattle.std_loops.specs.meaning.Loops.{loop_of, picked_items};
@@ -13,7 +13,7 @@ use liquid_tags::Series;
 use liquid_tags::for_block::series::{SeriesShape, items_of};
 use std::alloc::Global;
 
-/// The name of a loop's items, what it goes over, and its options.
+/// The name of a loop's items, the series that it goes over, and its options.
 #[derive(Drop)]
 pub struct Loop {
     pub name: String,
@@ -34,26 +34,20 @@ impl Meant for Loop {
     ghost shape = { loop_of };
 }
 
-/// Returns the items that a loop goes over: those of its series that its options pick.
+/// Returns the items that a loop goes over: those items of its series that its options pick.
 ///
 /// The series is evaluated first, then `offset`, then `limit`.
 #[inline(never)]
 pub fn picked_items<R: Runtime>(alloc: Global, header: &Loop, runtime: &R) -> Result<Picked, Error>
     ensures { Gives picked_left result (picked_items (R.view runtime.now) (loop_of header.now)) }
 {
-    match items_of(alloc, &header.series, runtime) {
-        Ok(items) => match option_number(alloc, &header.options.offset, runtime) {
-            Ok(offset) => match option_number(alloc, &header.options.limit, runtime) {
-                Ok(limit) => Ok(Picked::of(
-                    items,
-                    offset.unwrap_or(0),
-                    limit,
-                    header.options.is_reversed,
-                )),
-                Err(error) => Err(error),
-            },
-            Err(error) => Err(error),
-        },
-        Err(error) => Err(error),
-    }
+    let items = items_of(alloc, &header.series, runtime)?;
+    let offset = option_number(alloc, &header.options.offset, runtime)?;
+    let limit = option_number(alloc, &header.options.limit, runtime)?;
+    Ok(Picked::of(
+        items,
+        offset.unwrap_or(0),
+        limit,
+        header.options.is_reversed,
+    ))
 }
