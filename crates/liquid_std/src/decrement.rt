@@ -20,7 +20,7 @@ use liquid_tags::increment::{counts_from, past_limit};
 use liquid_value::Value;
 use std::alloc::Global;
 
-/// Returns the node of a `decrement`.
+/// Reads the node of a `decrement`.
 pub(crate) fn parse_decrement<X: Filter>(
     alloc: Global,
     tokens: TagTokenIter<'_>,
@@ -28,16 +28,12 @@ pub(crate) fn parse_decrement<X: Filter>(
     ensures { (ts : Tokens) → AreTokens tokens.entry ts → Gives (tag_of X.shape) result (decrement_given ts) }
 {
     let mut tokens = tokens;
-    match tokens.next_identifier(alloc, TOKEN_EXPECTED) {
-        Ok(name) => {
-            let name = String::from_str(alloc, name)?;
-            alone(alloc, tokens, StdTag::Decrement(name))
-        }
-        Err(error) => Err(error),
-    }
+    let name = tokens.next_identifier(alloc, TOKEN_EXPECTED)?;
+    let name = String::from_str(alloc, name)?;
+    alone(alloc, tokens, StdTag::Decrement(name))
 }
 
-/// Sets an index variable one lower, and writes the lower number.
+/// Decrements an index variable, and writes the new number.
 #[inline(never)]
 pub(crate) fn decrement<R: Runtime>(
     alloc: Global,
@@ -56,16 +52,14 @@ pub(crate) fn decrement<R: Runtime>(
     match one_lower(number) {
         Some(lower) => {
             let text = lower.to_string(alloc)?;
-            match runtime.set_index(name.clone()?, Value::scalar(lower)) {
-                Ok(_) => Ok(Turn::Text(text)),
-                Err(error) => Err(error),
-            }
+            runtime.set_index(name.clone()?, Value::scalar(lower))?;
+            Ok(Turn::Text(text))
         }
         None => Err(past_limit(alloc, name.as_str())),
     }
 }
 
-/// Returns the number one lower, if there is one.
+/// Returns the next lower number, if there is one.
 fn one_lower(number: i64) -> Option<i64>
     ensures { result ≡ one_lower number }
 {

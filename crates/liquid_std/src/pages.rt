@@ -24,7 +24,7 @@ use std::alloc::{AllocError, Global};
 use std::rc::Rc;
 use std_marks::Marks;
 
-/// A runtime of a page: names are strict, and 32 partials may be open inside one another.
+/// A runtime of a page: names are strict, and 32 partials may be nested.
 type PageRuntime<S, F> = BuiltRuntime<Marks, LazyStore<S, F, StdTags, StdBlocks>>;
 
 /// Renders a page and writes the result: this text in the standard language with these filters, over these
@@ -59,6 +59,7 @@ where
     }
 }
 
+/// Returns the standard language with these filters, shared.
 fn shared_language<F: ParseFilter>(
     alloc: Global,
     filters: PluginRegistry<F>,
