@@ -3,7 +3,7 @@ use Rattle.std.proofs.Common.{◌≡◌, ℕ, ◌-◌, ◌<◌, List, Option, Ok
 use Rattle.liquid_runtime.specs.meaning.View.{View}
 use Rattle.liquid_runtime.specs.meaning.Frames.{FrameShape}
 use Rattle.liquid_plugins.specs.meaning.Turns.{NodeMeaning, partial_turn}
-use Rattle.liquid_template.specs.meaning.Opens.{OpensNone, opens_partial}
+use Rattle.liquid_template.specs.meaning.Opens.{OpenNone, OpensNone, opens_partial}
 use Rattle.liquid_template.specs.meaning.Partials.{Found}
 use Rattle.liquid_template.specs.steps.Keeps.{Keeps}
 
@@ -36,3 +36,12 @@ true_not_false e = absurd (cc)
 -- a turn that opens a partial is one of nodes that open some
 pub opens_one : {N P Reg : Type 0} (m : NodeMeaning N P Reg) (n : N) (p : P) (v : View Reg) (name : List ℕ) (frame : FrameShape) (trace : Option (List ℕ)) → (m.takes n p v).answer ≡ Ok (partial_turn name frame trace) → OpensNone m → ⊥
 opens_one m n p v name frame trace is none = true_not_false (sym (ap opens_partial is) ∙ none n p v)
+
+-- tags and blocks of which no turn opens one
+pub tags_open_none : {T P B Q Reg : Type 0} (tags : NodeMeaning T P Reg) (blocks : NodeMeaning B Q Reg) → OpenNone tags blocks → OpensNone tags
+unfolding OpenNone
+tags_open_none tags blocks none = none.0
+
+pub blocks_open_none : {T P B Q Reg : Type 0} (tags : NodeMeaning T P Reg) (blocks : NodeMeaning B Q Reg) → OpenNone tags blocks → OpensNone blocks
+unfolding OpenNone
+blocks_open_none tags blocks none = none.1

@@ -14,5 +14,5 @@ abbrev pub OpensNone : {N P Reg : Type 0} → NodeMeaning N P Reg → Type 0
 OpensNone {N = N} {P = P} {Reg = Reg} m = (n : N) → (p : P) → (v : View Reg) → opens_partial (m.takes n p v).answer ≡ false
 
 -- no turn of these tags and blocks does
-abbrev pub OpenNone : {T P B Q Reg : Type 0} → NodeMeaning T P Reg → NodeMeaning B Q Reg → Type 0
+unfoldable pub OpenNone : {T P B Q Reg : Type 0} → NodeMeaning T P Reg → NodeMeaning B Q Reg → Type 0
 OpenNone tags blocks = OpensNone tags × OpensNone blocks

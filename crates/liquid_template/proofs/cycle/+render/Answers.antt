@@ -8,7 +8,7 @@ use Rattle.liquid_template.proofs.Renderings.{stands, stands_not, left_more, lef
 use Rattle.liquid_template.proofs.Framing.{owed_open, framed_kept}
 use Rattle.liquid_template.proofs.Goings.{renders_ok, done_ok, start_none, takes_more, takes_ok, takes_last, turns_over, node_fails, node_stops, node_goes, nodes_over, opens_kept, opens_taken, captured_taken, true_not_false}
 use Rattle.liquid_template.proofs.Capturing.{text_stays, closed_aside, closed_around, text_caught, nothing_open, nothing_aside}
-use Rattle.liquid_template.proofs.Keeping.{keeps_all, keeps_store, keeps_both, keeps_ended, keeps_asked, keeps_unless}
+use Rattle.liquid_template.proofs.Keeping.{keeps_all, keeps_store, keeps_both, keeps_ended, keeps_asked, keeps_unless, tags_open_none, blocks_open_none}
 use Rattle.liquid_template.specs.steps.Place.{target}
 use Rattle.liquid_template.proofs.cycle.+render.Goals as goal
 
@@ -101,16 +101,16 @@ render_tag-returns g t c =
 
 pub take_tag-returns-in-Stop : goal.take_tag-returns-in-Stop
 take_tag-returns-in-Stop g t c =
-    record { takes = λ k. c.in-Stop.ensures.turned.0 [] k; owes = c.in-Stop.ensures.turned.1; keeps = (keeps_unless _ _ _ _ _ _ (λ n. n.0) c.in-Stop.ensures.keeps); around = c.in-Stop.ensures.around }
+    record { takes = λ k. c.in-Stop.ensures.turned.0 [] k; owes = c.in-Stop.ensures.turned.1; keeps = (keeps_unless _ _ _ _ _ _ (tags_open_none g.T.Renderable.means g.B.Renderable.means) c.in-Stop.ensures.keeps); around = c.in-Stop.ensures.around }
 
 pub take_tag-returns-in-Next : goal.take_tag-returns-in-Next
 take_tag-returns-in-Next g t c =
-    record { takes = (c.in-Next.ensures.turned.1, λ k a x later rest. c.in-Next.ensures.turned.0 [] k a x later rest); owes = c.in-Next.ensures.turned.2; keeps = (keeps_unless _ _ _ _ _ _ (λ n. n.0) c.in-Next.ensures.keeps); around = c.in-Next.ensures.around }
+    record { takes = (c.in-Next.ensures.turned.1, λ k a x later rest. c.in-Next.ensures.turned.0 [] k a x later rest); owes = c.in-Next.ensures.turned.2; keeps = (keeps_unless _ _ _ _ _ _ (tags_open_none g.T.Renderable.means g.B.Renderable.means) c.in-Next.ensures.keeps); around = c.in-Next.ensures.around }
 
 pub take_tag-returns-in-Part : goal.take_tag-returns-in-Part
 take_tag-returns-in-Part g t c =
     let ends = c.end_turn.ensures.ends (owed_open _ _ _ _ _ c.in-Part.ensures.turned.0.owes refl) in
-    record { takes = rw c.end_turn.ensures.progress (opens_taken _ _ _ _ _ _ _ _ _ _ _ _ _ _ _ _ _ _ _ _ c.in-Part.ensures.turned.0 refl ends _ _ _ c.end_turn.ensures.goes_on c.end_turn.ensures.traced (done_ok _ _ _ c.in-Part.ensures.turned.1)); owes = opens_kept _ _ _ _ _ _ _ _ _ _ _ _ _ _ _ _ _ _ c.in-Part.ensures.turned.0 refl ends; keeps = keeps_ended _ _ _ _ _ _ _ _ (keeps_unless _ _ _ _ _ _ (λ n. n.0) c.in-Part.ensures.keeps) c.end_turn.ensures.store c.end_turn.ensures.borrows; around = c.in-Part.ensures.around }
+    record { takes = rw c.end_turn.ensures.progress (opens_taken _ _ _ _ _ _ _ _ _ _ _ _ _ _ _ _ _ _ _ _ c.in-Part.ensures.turned.0 refl ends _ _ _ c.end_turn.ensures.goes_on c.end_turn.ensures.traced (done_ok _ _ _ c.in-Part.ensures.turned.1)); owes = opens_kept _ _ _ _ _ _ _ _ _ _ _ _ _ _ _ _ _ _ c.in-Part.ensures.turned.0 refl ends; keeps = keeps_ended _ _ _ _ _ _ _ _ (keeps_unless _ _ _ _ _ _ (tags_open_none g.T.Renderable.means g.B.Renderable.means) c.in-Part.ensures.keeps) c.end_turn.ensures.store c.end_turn.ensures.borrows; around = c.in-Part.ensures.around }
 
 pub take_tag-returns-then-goes_on-clause-takes : goal.take_tag-returns-then-goes_on-clause-takes
 take_tag-returns-then-goes_on-clause-takes g t c =
@@ -135,16 +135,16 @@ take_tag-returns-else-goes_on-clause-owes g t c =
 
 pub take_tag-returns-then-goes_on-clause-keeps : goal.take_tag-returns-then-goes_on-clause-keeps
 take_tag-returns-then-goes_on-clause-keeps g t c =
-    keeps_ended _ _ _ _ _ _ _ _ (keeps_unless _ _ _ _ _ _ (λ n. n.0) c.in-Captured.ensures.keeps) c.end_turn-goes_on.ensures.store c.end_turn-goes_on.ensures.borrows
+    keeps_ended _ _ _ _ _ _ _ _ (keeps_unless _ _ _ _ _ _ (tags_open_none g.T.Renderable.means g.B.Renderable.means) c.in-Captured.ensures.keeps) c.end_turn-goes_on.ensures.store c.end_turn-goes_on.ensures.borrows
 
 pub take_tag-returns-else-goes_on-clause-keeps : goal.take_tag-returns-else-goes_on-clause-keeps
 take_tag-returns-else-goes_on-clause-keeps g t c =
-    keeps_ended _ _ _ _ _ _ _ _ (keeps_unless _ _ _ _ _ _ (λ n. n.0) c.in-Captured.ensures.keeps) c.end_turn-goes_on.ensures.store c.end_turn-goes_on.ensures.borrows
+    keeps_ended _ _ _ _ _ _ _ _ (keeps_unless _ _ _ _ _ _ (tags_open_none g.T.Renderable.means g.B.Renderable.means) c.in-Captured.ensures.keeps) c.end_turn-goes_on.ensures.store c.end_turn-goes_on.ensures.borrows
 
 pub take_tag-returns-in-Partial : goal.take_tag-returns-in-Partial
 take_tag-returns-in-Partial g t c =
     let ends = c.end_turn-in-Partial.ensures.ends (owed_open _ _ _ _ _ c.in-Partial.ensures.turned.0.owes c.render_partial.ensures.owes) in
-    record { takes = rw c.end_turn-in-Partial.ensures.progress (opens_taken _ _ _ _ _ _ _ _ _ _ _ _ _ _ _ _ _ _ _ _ c.in-Partial.ensures.turned.0 c.render_partial.ensures.owes ends _ _ _ c.end_turn-in-Partial.ensures.goes_on c.end_turn-in-Partial.ensures.traced (rw c.in-Partial.ensures.keeps.store_finds at c.render_partial.ensures.renders)); owes = opens_kept _ _ _ _ _ _ _ _ _ _ _ _ _ _ _ _ _ _ c.in-Partial.ensures.turned.0 c.render_partial.ensures.owes ends; keeps = keeps_ended _ _ _ _ _ _ _ _ (keeps_both _ _ _ _ _ _ _ _ (keeps_unless _ _ _ _ _ _ (λ n. n.0) c.in-Partial.ensures.keeps) c.render_partial.ensures.keeps) c.end_turn-in-Partial.ensures.store c.end_turn-in-Partial.ensures.borrows; around = c.render_partial.ensures.around ∙ c.in-Partial.ensures.around }
+    record { takes = rw c.end_turn-in-Partial.ensures.progress (opens_taken _ _ _ _ _ _ _ _ _ _ _ _ _ _ _ _ _ _ _ _ c.in-Partial.ensures.turned.0 c.render_partial.ensures.owes ends _ _ _ c.end_turn-in-Partial.ensures.goes_on c.end_turn-in-Partial.ensures.traced (rw c.in-Partial.ensures.keeps.store_finds at c.render_partial.ensures.renders)); owes = opens_kept _ _ _ _ _ _ _ _ _ _ _ _ _ _ _ _ _ _ c.in-Partial.ensures.turned.0 c.render_partial.ensures.owes ends; keeps = keeps_ended _ _ _ _ _ _ _ _ (keeps_both _ _ _ _ _ _ _ _ (keeps_unless _ _ _ _ _ _ (tags_open_none g.T.Renderable.means g.B.Renderable.means) c.in-Partial.ensures.keeps) c.render_partial.ensures.keeps) c.end_turn-in-Partial.ensures.store c.end_turn-in-Partial.ensures.borrows; around = c.render_partial.ensures.around ∙ c.in-Partial.ensures.around }
 
 pub render_block-returns-in-None-clause-renders : goal.render_block-returns-in-None-clause-renders
 render_block-returns-in-None-clause-renders g t c =
@@ -170,16 +170,16 @@ render_block-returns g t c =
 
 pub take_block-returns-in-Stop : goal.take_block-returns-in-Stop
 take_block-returns-in-Stop g t c =
-    record { takes = λ k. c.in-Stop.ensures.turned.0 _ k; owes = c.in-Stop.ensures.turned.1; keeps = (keeps_unless _ _ _ _ _ _ (λ n. n.1) c.in-Stop.ensures.keeps); around = c.in-Stop.ensures.around }
+    record { takes = λ k. c.in-Stop.ensures.turned.0 _ k; owes = c.in-Stop.ensures.turned.1; keeps = (keeps_unless _ _ _ _ _ _ (blocks_open_none g.T.Renderable.means g.B.Renderable.means) c.in-Stop.ensures.keeps); around = c.in-Stop.ensures.around }
 
 pub take_block-returns-in-Next : goal.take_block-returns-in-Next
 take_block-returns-in-Next g t c =
-    record { takes = (c.in-Next.ensures.turned.1, λ k a x later rest. c.in-Next.ensures.turned.0 _ k a x later rest); owes = c.in-Next.ensures.turned.2; keeps = (keeps_unless _ _ _ _ _ _ (λ n. n.1) c.in-Next.ensures.keeps); around = c.in-Next.ensures.around }
+    record { takes = (c.in-Next.ensures.turned.1, λ k a x later rest. c.in-Next.ensures.turned.0 _ k a x later rest); owes = c.in-Next.ensures.turned.2; keeps = (keeps_unless _ _ _ _ _ _ (blocks_open_none g.T.Renderable.means g.B.Renderable.means) c.in-Next.ensures.keeps); around = c.in-Next.ensures.around }
 
 pub take_block-returns-in-Part : goal.take_block-returns-in-Part
 take_block-returns-in-Part g t c =
     let ends = c.end_turn.ensures.ends (owed_open _ _ _ _ _ c.in-Part.ensures.turned.0.owes c.render_part.ensures.owes) in
-    record { takes = rw c.end_turn.ensures.progress (opens_taken _ _ _ _ _ _ _ _ _ _ _ _ _ _ _ _ _ _ _ _ c.in-Part.ensures.turned.0 c.render_part.ensures.owes ends _ _ _ c.end_turn.ensures.goes_on c.end_turn.ensures.traced (rw c.in-Part.ensures.keeps.store_finds at c.render_part.ensures.renders)); owes = opens_kept _ _ _ _ _ _ _ _ _ _ _ _ _ _ _ _ _ _ c.in-Part.ensures.turned.0 c.render_part.ensures.owes ends; keeps = keeps_ended _ _ _ _ _ _ _ _ (keeps_both _ _ _ _ _ _ _ _ (keeps_unless _ _ _ _ _ _ (λ n. n.1) c.in-Part.ensures.keeps) c.render_part.ensures.keeps) c.end_turn.ensures.store c.end_turn.ensures.borrows; around = c.render_part.ensures.around ∙ c.in-Part.ensures.around }
+    record { takes = rw c.end_turn.ensures.progress (opens_taken _ _ _ _ _ _ _ _ _ _ _ _ _ _ _ _ _ _ _ _ c.in-Part.ensures.turned.0 c.render_part.ensures.owes ends _ _ _ c.end_turn.ensures.goes_on c.end_turn.ensures.traced (rw c.in-Part.ensures.keeps.store_finds at c.render_part.ensures.renders)); owes = opens_kept _ _ _ _ _ _ _ _ _ _ _ _ _ _ _ _ _ _ c.in-Part.ensures.turned.0 c.render_part.ensures.owes ends; keeps = keeps_ended _ _ _ _ _ _ _ _ (keeps_both _ _ _ _ _ _ _ _ (keeps_unless _ _ _ _ _ _ (blocks_open_none g.T.Renderable.means g.B.Renderable.means) c.in-Part.ensures.keeps) c.render_part.ensures.keeps) c.end_turn.ensures.store c.end_turn.ensures.borrows; around = c.render_part.ensures.around ∙ c.in-Part.ensures.around }
 
 pub take_block-end_captured-requires-clause-frame : goal.take_block-end_captured-requires-clause-frame
 take_block-end_captured-requires-clause-frame g t c =
@@ -213,7 +213,7 @@ take_block-returns-in-Captured-clause-owes g t c =
 
 pub take_block-returns-in-Captured-clause-keeps : goal.take_block-returns-in-Captured-clause-keeps
 take_block-returns-in-Captured-clause-keeps g t c =
-    keeps_ended _ _ _ _ _ _ _ _ (keeps_both _ _ _ _ _ _ _ _ (keeps_unless _ _ _ _ _ _ (λ n. n.1) c.in-Captured.ensures.keeps) c.render_part-in-Captured.ensures.keeps) c.end_captured.ensures.store c.end_captured.ensures.borrows
+    keeps_ended _ _ _ _ _ _ _ _ (keeps_both _ _ _ _ _ _ _ _ (keeps_unless _ _ _ _ _ _ (blocks_open_none g.T.Renderable.means g.B.Renderable.means) c.in-Captured.ensures.keeps) c.render_part-in-Captured.ensures.keeps) c.end_captured.ensures.store c.end_captured.ensures.borrows
 
 pub take_block-returns-in-Captured-clause-around : goal.take_block-returns-in-Captured-clause-around
 take_block-returns-in-Captured-clause-around g t c =
@@ -222,7 +222,7 @@ take_block-returns-in-Captured-clause-around g t c =
 pub take_block-returns-in-Partial : goal.take_block-returns-in-Partial
 take_block-returns-in-Partial g t c =
     let ends = c.end_turn-in-Partial.ensures.ends (owed_open _ _ _ _ _ c.in-Partial.ensures.turned.0.owes c.render_partial.ensures.owes) in
-    record { takes = rw c.end_turn-in-Partial.ensures.progress (opens_taken _ _ _ _ _ _ _ _ _ _ _ _ _ _ _ _ _ _ _ _ c.in-Partial.ensures.turned.0 c.render_partial.ensures.owes ends _ _ _ c.end_turn-in-Partial.ensures.goes_on c.end_turn-in-Partial.ensures.traced (rw c.in-Partial.ensures.keeps.store_finds at c.render_partial.ensures.renders)); owes = opens_kept _ _ _ _ _ _ _ _ _ _ _ _ _ _ _ _ _ _ c.in-Partial.ensures.turned.0 c.render_partial.ensures.owes ends; keeps = keeps_ended _ _ _ _ _ _ _ _ (keeps_both _ _ _ _ _ _ _ _ (keeps_unless _ _ _ _ _ _ (λ n. n.1) c.in-Partial.ensures.keeps) c.render_partial.ensures.keeps) c.end_turn-in-Partial.ensures.store c.end_turn-in-Partial.ensures.borrows; around = c.render_partial.ensures.around ∙ c.in-Partial.ensures.around }
+    record { takes = rw c.end_turn-in-Partial.ensures.progress (opens_taken _ _ _ _ _ _ _ _ _ _ _ _ _ _ _ _ _ _ _ _ c.in-Partial.ensures.turned.0 c.render_partial.ensures.owes ends _ _ _ c.end_turn-in-Partial.ensures.goes_on c.end_turn-in-Partial.ensures.traced (rw c.in-Partial.ensures.keeps.store_finds at c.render_partial.ensures.renders)); owes = opens_kept _ _ _ _ _ _ _ _ _ _ _ _ _ _ _ _ _ _ c.in-Partial.ensures.turned.0 c.render_partial.ensures.owes ends; keeps = keeps_ended _ _ _ _ _ _ _ _ (keeps_both _ _ _ _ _ _ _ _ (keeps_unless _ _ _ _ _ _ (blocks_open_none g.T.Renderable.means g.B.Renderable.means) c.in-Partial.ensures.keeps) c.render_partial.ensures.keeps) c.end_turn-in-Partial.ensures.store c.end_turn-in-Partial.ensures.borrows; around = c.render_partial.ensures.around ∙ c.in-Partial.ensures.around }
 
 pub render_part-render_list-requires : goal.render_part-render_list-requires
 render_part-render_list-requires g t c =
