@@ -100,9 +100,9 @@ void liquid_render(const liquid_page *page,
                    liquid_outcome *outcome);
 
 /* Renders the page over each text of globals in turn, as far as there are outcomes; page->globals is passed
- * over. Each page is rendered into the bytes of out that those before it left, so its bytes begin where the
- * written bytes of the outcomes before it end. outcomes[i] is that of globals[i], and the outcomes that are
- * left over stay as they were. message has the text of the last error.
+ * over. The template and the partials are read once. Each page is rendered into the bytes of out that those
+ * before it left, so its bytes begin where the written bytes of the outcomes before it end. outcomes[i] is that
+ * of globals[i], and the outcomes that are left over stay as they were. message has the text of the last error.
  * Returns how many pages are whole, and in out. */
 size_t liquid_render_each(const liquid_page *page,
                           const liquid_bytes *globals, size_t globals_count,

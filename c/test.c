@@ -107,11 +107,10 @@ static liquid_bytes of(const char *text) { return liquid_bytes_of(text, strlen(t
 
 static uint8_t out[ROOM], message[256];
 static liquid_outcome got;
+static liquid_partial partials[4];
 
-static void render(const row_type *row) {
-    liquid_partial partials[4];
+static liquid_page page_of(const row_type *row) {
     liquid_page page;
-    size_t i;
     partials[0].name = of("a"), partials[0].text = of("[{{ y }}]");
     partials[1].name = of("b"), partials[1].text = of("\x80");
     partials[2].name = of("a"), partials[2].text = of("({{ y }})");
@@ -119,6 +118,12 @@ static void render(const row_type *row) {
     page.text = of(row->text), page.globals = of(row->globals);
     page.partials = partials, page.partial_count = row->partials;
     page.options = row->options, page.max_turns = row->turns, page.max_bytes = row->bytes;
+    return page;
+}
+
+static void render(const row_type *row) {
+    liquid_page page = page_of(row);
+    size_t i;
     memset(out, '#', sizeof out);
     memset(&got, 0xff, sizeof got);
     blocks = 0;
@@ -166,44 +171,91 @@ static void try_growths(void) {
     failing = 0;
 }
 
+/* The page over its own globals, others, and its own again: the first and the third outcome are those of liquid_render. */
+static void try_turns(const row_type *row) {
+    static uint8_t all[3 * ROOM];
+    row_type whole = *row;
+    liquid_page page;
+    liquid_bytes globals[3];
+    liquid_outcome each[3];
+    size_t third;
+    whole.room = ROOM;
+    render(&whole);
+    page = page_of(row);
+    globals[0] = globals[2] = page.globals, globals[1] = of("{\"x\": [3], \"y\": {}}");
+    page.globals = of("\xff");
+    blocks = 0;
+    liquid_render_each(&page, globals, 3, all, sizeof all, message, sizeof message, each, 3);
+    third = each[0].written + each[1].written;
+    check(blocks == 0, row->name, "a block is left after three turns");
+    check(!memcmp(&each[0], &got, sizeof got) && !memcmp(all, out, got.written), row->name, "the first of three turns");
+    check(!memcmp(&each[2], &got, sizeof got) && !memcmp(all + third, out, got.written), row->name, "the third of three turns");
+}
+
 /* One template over many globals, with as many outcomes and less room than they want. */
 static void try_each(void) {
-    static const char *name = "each";
-    liquid_partial partials[1];
+    static const row_type row = {"each", "{% include 'a', y: x %}", "\xff", 1, 0, 0, 0, 9, 0, 0, 0, 0, 0, 0, "", ""};
     liquid_bytes globals[4];
     liquid_outcome each[4];
-    liquid_page page;
+    liquid_page page = page_of(&row);
     size_t whole;
-    partials[0].name = of("a"), partials[0].text = of("[{{ y }}]");
     globals[0] = of("{\"x\": 1}"), globals[1] = of("{}"), globals[2] = of("{"), globals[3] = of("{\"x\": \"seven\"}");
-    page.text = of("{% include 'a', y: x %}"), page.globals = of("\xff");
-    page.partials = partials, page.partial_count = 1, page.options = 0;
-    page.max_turns = page.max_bytes = 0;
     memset(out, '#', sizeof out);
     memset(each, 0xff, sizeof each);
     blocks = 0;
-    whole = liquid_render_each(&page, globals, 4, out, 9, message, sizeof message, each, 4);
-    check(blocks == 0, name, "a block is left");
-    check(whole == 1, name, "how many are whole");
-    check(each[0].kind == LIQUID_OK && each[1].kind == LIQUID_REFUSED && each[2].kind == LIQUID_BAD_JSON, name, "kinds");
-    check(each[3].kind == LIQUID_SHORT && each[3].needed == 7 && each[3].written == 6 - each[1].written, name, "short");
-    check(!memcmp(out, "[1]", 3) && out[9] == '#', name, "out");
+    whole = liquid_render_each(&page, globals, 4, out, row.room, message, sizeof message, each, 4);
+    check(blocks == 0, row.name, "a block is left");
+    check(whole == 1, row.name, "how many are whole");
+    check(each[0].kind == LIQUID_OK && each[1].kind == LIQUID_REFUSED && each[2].kind == LIQUID_BAD_JSON, row.name, "kinds");
+    check(each[3].kind == LIQUID_SHORT && each[3].needed == 7 && each[3].written == 6 - each[1].written, row.name, "short");
+    check(!memcmp(out, "[1]", 3) && out[9] == '#', row.name, "out");
     memset(each, 0xff, sizeof each);
     whole = liquid_render_each(&page, globals, 4, out, sizeof out, message, sizeof message, each, 1);
-    check(whole == 1 && each[0].kind == LIQUID_OK && each[1].kind == UINT32_MAX, name, "fewer outcomes");
+    check(whole == 1 && each[0].kind == LIQUID_OK && each[1].kind == UINT32_MAX, row.name, "fewer outcomes");
     whole = liquid_render_each(&page, globals, 0, out, sizeof out, message, 0, each, 0);
-    check(whole == 0, name, "no globals");
+    check(whole == 0, row.name, "no globals");
     page.options = 8;
     whole = liquid_render_each(&page, globals, 2, out, sizeof out, message, sizeof message, each, 4);
-    check(whole == 0 && each[0].kind == LIQUID_NO_OPTIONS && each[1].kind == LIQUID_NO_OPTIONS, name, "no options");
+    check(whole == 0 && each[0].kind == LIQUID_NO_OPTIONS && each[1].kind == LIQUID_NO_OPTIONS, row.name, "no options");
+    check(each[0].needed == 0 && each[0].written == 0 && each[2].kind == UINT32_MAX, row.name, "nothing written");
+}
+
+/* Each growth fails in turn while three pages are rendered: a page that isn't whole is out of memory. */
+static void try_growths_of_each(void) {
+    static const row_type row = {"growths of each", "{% include 'a', y: x %}", "", 1, LIQUID_STANDARD, 0, 0, ROOM, 0, 0, 0, 0, 0, 0, "", ""};
+    static const char *pages[] = {"[1]", "[two]", "[1]"};
+    liquid_bytes globals[3];
+    liquid_outcome each[3];
+    liquid_page page = page_of(&row);
+    size_t i, place, whole, kinds;
+    globals[0] = globals[2] = of("{\"x\": 1}"), globals[1] = of("{\"x\": \"two\"}");
+    for (failing = 1;; failing++) {
+        growths = blocks = 0;
+        whole = liquid_render_each(&page, globals, 3, out, sizeof out, message, sizeof message, each, 3);
+        check(blocks == 0, row.name, "a block is left");
+        for (i = place = kinds = 0; i < 3; place += each[i].written, i++) {
+            check(each[i].kind == LIQUID_NO_MEMORY || (each[i].kind == LIQUID_OK && each[i].needed == strlen(pages[i])), row.name, "kind");
+            check(!memcmp(out + place, pages[i], each[i].written), row.name, "a beginning of the page");
+            kinds += each[i].kind == LIQUID_OK;
+        }
+        check(kinds == whole, row.name, "how many are whole");
+        if (growths < failing) break;
+    }
+    check(whole == 3 && failing > 60, row.name, "too few");
+    printf("growths of three pages that were made to fail: %ld\n", failing - 1);
+    failing = 0;
 }
 
 int main(void) {
     size_t i;
     check(liquid_version() == LIQUID_VERSION, "version", "another");
-    for (i = 0; i < sizeof rows / sizeof rows[0]; i++) try_row(&rows[i]);
+    for (i = 0; i < sizeof rows / sizeof rows[0]; i++) {
+        try_row(&rows[i]);
+        try_turns(&rows[i]);
+    }
     try_each();
     try_growths();
+    try_growths_of_each();
     printf("c: %zu rows, %d failed\n", sizeof rows / sizeof rows[0], failed);
     return failed != 0;
 }

@@ -8,8 +8,9 @@ import time
 
 import liquid_core
 
-LIQUID = "{% for post in posts %}<h2>{{ post.title }}</h2>{% if post.tags.size > 1 %}{{ post.tags | join: ', ' }}{% endif %}{% endfor %}"
-JINJA = "{% for post in posts %}<h2>{{ post.title }}</h2>{% if post.tags|length > 1 %}{{ post.tags | join(', ') }}{% endif %}{% endfor %}"
+LIQUID = "{% for post in posts %}{% include 'title' %}{% if post.tags.size > 1 %}{{ post.tags | join: ', ' }}{% endif %}{% endfor %}"
+JINJA = "{% for post in posts %}{% include 'title' %}{% if post.tags|length > 1 %}{{ post.tags | join(', ') }}{% endif %}{% endfor %}"
+PARTIALS = {"title": "<h2>{{ post.title }}</h2>"}
 
 
 def pages(count):
@@ -18,23 +19,34 @@ def pages(count):
 
 def timed(name, render, objects):
     began = time.perf_counter()
-    rendered = [render(it) for it in objects]
+    rendered = render(objects)
     print(f"{name}: {(time.perf_counter() - began) / len(objects) * 1e6:.1f} us a page")
     return rendered
+
+
+def alone(objects):
+    return [liquid_core.render(LIQUID, it, PARTIALS, standard=True) for it in objects]
+
+
+def together(objects):
+    return liquid_core.render_each(LIQUID, objects, PARTIALS, standard=True)
 
 
 def main():
     objects = pages(int(sys.argv[1]) if len(sys.argv) > 1 else 10_000)
     texts = [json.dumps(it) for it in objects]
-    found = timed("liquid_core, from objects", lambda it: liquid_core.render(LIQUID, it, standard=True), objects)
-    timed("liquid_core, from JSON", lambda it: liquid_core.render(LIQUID, it, standard=True), texts)
+    found = timed("liquid_core, one by one, from objects", alone, objects)
+    timed("liquid_core, one by one, from JSON", alone, texts)
+    if timed("liquid_core, together, from objects", together, objects) != found:
+        sys.exit("the pages differ")
+    timed("liquid_core, together, from JSON", together, texts)
     try:
         import jinja2
     except ImportError:
         print("Jinja2 is not installed")
         return
-    template = jinja2.Template(JINJA)
-    if timed("Jinja2, compiled once", lambda it: template.render(it), objects) != found:
+    template = jinja2.Environment(loader=jinja2.DictLoader(PARTIALS)).from_string(JINJA)
+    if timed("Jinja2, compiled once", lambda all: [template.render(it) for it in all], objects) != found:
         sys.exit("the pages differ")
 
 

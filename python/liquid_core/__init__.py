@@ -13,17 +13,18 @@ import ctypes
 import enum
 import json
 import os
-from collections.abc import Mapping
+from collections.abc import Iterable, Mapping
 from pathlib import Path
 from typing import Any, Union
 
-__all__ = ["Kind", "LiquidError", "render"]
+__all__ = ["Kind", "LiquidError", "render", "render_each"]
 
 _VERSION = 1
 _SANDBOXED, _LENIENT, _STANDARD = 1, 2, 4
 _OK, _SHORT = 0, 7
 _LEAST_ROOM = 1 << 16
 _MESSAGE_ROOM = 1 << 12
+_NO_MEMORY = "liquid: out of memory"
 
 Globals = Union[Mapping[str, Any], str, bytes]
 Text = Union[str, bytes]
@@ -96,14 +97,16 @@ class _Outcome(ctypes.Structure):
 def _load() -> ctypes.CDLL:
     path = os.environ.get("LIQUID_CORE_LIBRARY") or Path(__file__).with_name("libliquid.so")
     library = ctypes.CDLL(os.fspath(path))
+    memory = [ctypes.c_char_p, ctypes.c_size_t, ctypes.c_char_p, ctypes.c_size_t, ctypes.POINTER(_Outcome)]
     library.liquid_render.restype = None
-    library.liquid_render.argtypes = [
+    library.liquid_render.argtypes = [ctypes.POINTER(_Page), *memory]
+    library.liquid_render_each.restype = ctypes.c_size_t
+    library.liquid_render_each.argtypes = [
         ctypes.POINTER(_Page),
-        ctypes.c_char_p,
+        ctypes.POINTER(_Bytes),
         ctypes.c_size_t,
-        ctypes.c_char_p,
+        *memory,
         ctypes.c_size_t,
-        ctypes.POINTER(_Outcome),
     ]
     library.liquid_version.restype = ctypes.c_uint32
     library.liquid_version.argtypes = []
@@ -138,6 +141,41 @@ def _limit(number: int) -> int:
     return number
 
 
+def _page(
+    template: Text, partials: Mapping[str, Text], sandboxed: bool, lenient: bool, standard: bool, max_turns: int, max_bytes: int
+) -> _Page:
+    """Returns a page without globals."""
+    texts = [_Partial(_bytes(name), _bytes(text)) for name, text in partials.items()]
+    array = (_Partial * max(len(texts), 1))(*texts)
+    options = _SANDBOXED * bool(sandboxed) | _LENIENT * bool(lenient) | _STANDARD * bool(standard)
+    return _Page(_bytes(template), _bytes(b""), array, len(texts), options, _limit(max_turns), _limit(max_bytes))
+
+
+def _rendered(page: _Page) -> str:
+    """Returns what the page is rendered as, or raises its error."""
+    outcome = _Outcome()
+    # A page that is longer is rendered again, with room for all of it.
+    room, message_room = max(_LEAST_ROOM, 4 * (page.text.len + page.globals.len)), _MESSAGE_ROOM
+    while True:
+        out = ctypes.create_string_buffer(room)
+        message = ctypes.create_string_buffer(message_room)
+        _library.liquid_render(page, out, room, message, message_room, outcome)
+        if outcome.needed <= room and outcome.message_len <= message_room:
+            break
+        room, message_room = max(room, outcome.needed), max(message_room, outcome.message_len)
+    rendered = ctypes.string_at(out, outcome.written)
+    if outcome.kind == _OK:
+        return rendered.decode()
+    text = ctypes.string_at(message, outcome.message_len).decode("utf-8", "replace").rstrip("\n")
+    raise _error(outcome, text or _NO_MEMORY, rendered)
+
+
+def _error(outcome: _Outcome, message: str, rendered: bytes) -> LiquidError:
+    # A page that ended early may end inside a character.
+    text = rendered.decode("utf-8", "ignore")
+    return LiquidError(message, outcome.line or None, outcome.column or None, Kind(outcome.kind), text)
+
+
 def render(
     template: Text,
     globals: Globals,
@@ -152,37 +190,69 @@ def render(
 
     ``globals`` is a mapping, or the JSON of an object. Its values are what JSON has, but for numbers with a
     fraction. ``partials`` are texts by their names. In a sandbox (``sandboxed``) what the template assigns goes
-    nowhere; a template of standard Liquid sees it until the page ends. With ``lenient`` a name without a value is nil instead of an error. With ``standard`` the template
-    has the tags, blocks and filters of standard Liquid; without it, the few tags and blocks of ``liquid_tags``,
-    and no filters. A page that takes more than ``max_turns`` turns of tags and blocks, or writes more than
-    ``max_bytes`` bytes of UTF-8, is stopped; 0 means no limit.
+    nowhere; a template of standard Liquid sees it until the page ends. With ``lenient`` a name without a value is
+    nil instead of an error. With ``standard`` the template has the tags, blocks and filters of standard Liquid;
+    without it, the few tags and blocks of ``liquid_tags``, and no filters. A page that takes more than
+    ``max_turns`` turns of tags and blocks, or writes more than ``max_bytes`` bytes of UTF-8, is stopped; 0 means
+    no limit.
 
     Raises ``LiquidError`` if the page was not rendered to its end, and ``TypeError`` or ``ValueError`` for
     globals that are not JSON's.
     """
-    texts = [_Partial(_bytes(name), _bytes(text)) for name, text in partials.items()]
-    array = (_Partial * max(len(texts), 1))(*texts)
-    options = _SANDBOXED * bool(sandboxed) | _LENIENT * bool(lenient) | _STANDARD * bool(standard)
-    limits = [_limit(it) for it in (max_turns, max_bytes)]
-    page = _Page(_bytes(template), _json(globals), array, len(texts), options, *limits)
-    outcome = _Outcome()
-    # A page that is longer is rendered again, with room for all of it.
-    room, message_room = max(_LEAST_ROOM, 4 * (page.text.len + page.globals.len)), _MESSAGE_ROOM
-    while True:
-        out = ctypes.create_string_buffer(room)
-        message = ctypes.create_string_buffer(message_room)
-        _library.liquid_render(page, out, room, message, message_room, outcome)
-        if outcome.needed <= room and outcome.message_len <= message_room:
-            break
-        room, message_room = max(room, outcome.needed), max(message_room, outcome.message_len)
-    # A page that ended early may end inside a character.
-    rendered = ctypes.string_at(out, outcome.written).decode("utf-8", "strict" if outcome.kind == _OK else "ignore")
-    if outcome.kind == _OK:
-        return rendered
-    raise LiquidError(
-        ctypes.string_at(message, outcome.message_len).decode("utf-8", "replace").rstrip("\n") or "liquid: out of memory",
-        outcome.line or None,
-        outcome.column or None,
-        Kind(outcome.kind),
-        rendered,
-    )
+    page = _page(template, partials, sandboxed, lenient, standard, max_turns, max_bytes)
+    page.globals = _json(globals)
+    return _rendered(page)
+
+
+def render_each(
+    template: Text,
+    globals: Iterable[Globals],
+    partials: Mapping[str, Text] = {},
+    sandboxed: bool = False,
+    lenient: bool = False,
+    standard: bool = False,
+    max_turns: int = 0,
+    max_bytes: int = 0,
+) -> list[str | LiquidError]:
+    """Renders a template over each of these globals, and returns the pages in their order.
+
+    The template and the partials are read once. Each page is what ``render`` returns over these globals; in the
+    place of a page that was not rendered to its end is the ``LiquidError`` that ``render`` raises.
+    """
+    page = _page(template, partials, sandboxed, lenient, standard, max_turns, max_bytes)
+    texts = [_json(names) for names in globals]
+    pages: list[str | LiquidError] = []
+    room = max(_LEAST_ROOM, 4 * (page.text.len * len(texts) + sum(text.len for text in texts)))
+    while len(pages) < len(texts):
+        room = _extend(pages, page, texts[len(pages) :], room)
+    return pages
+
+
+def _extend(pages: list[str | LiquidError], page: _Page, texts: list[_Bytes], room: int) -> int:
+    """Adds the pages over these globals as far as there is room, and returns how much room is wanted for the others."""
+    count = len(texts)
+    outcomes = (_Outcome * count)()
+    out, message = ctypes.create_string_buffer(room), ctypes.create_string_buffer(1)
+    _library.liquid_render_each(page, (_Bytes * count)(*texts), count, out, room, message, 0, outcomes, count)
+    bytes_of_pages = memoryview(out)
+    place = 0
+    for number, outcome in enumerate(outcomes):
+        if outcome.needed > outcome.written:
+            return sum(it.needed for it in outcomes[number:])
+        rendered = bytes(bytes_of_pages[place : place + outcome.written])
+        place += outcome.written
+        if outcome.kind == _OK:
+            pages.append(rendered.decode())
+        else:
+            pages.append(_error(outcome, _message(page, texts[number]), rendered))
+    return 0
+
+
+def _message(page: _Page, text: _Bytes) -> str:
+    """Returns the text of the error of the page over these globals."""
+    page.globals = text
+    try:
+        _rendered(page)
+    except LiquidError as error:
+        return error.message
+    return _NO_MEMORY

@@ -3,7 +3,7 @@ import pickle
 import threading
 import unittest
 
-from liquid_core import Kind, LiquidError, render
+from liquid_core import Kind, LiquidError, render, render_each
 
 
 class Pages(unittest.TestCase):
@@ -78,6 +78,40 @@ class Errors(unittest.TestCase):
             render("ab{{ x }}", {})
         copy = pickle.loads(pickle.dumps(caught.exception))
         self.assertEqual((copy.message, copy.kind, copy.rendered), (caught.exception.message, Kind.REFUSED, "ab"))
+
+
+class Many(unittest.TestCase):
+    def test_each_page_is_that_of_its_globals(self):
+        self.assertEqual(render_each("{{ x }}!", ({"x": n} for n in range(3))), ["0!", "1!", "2!"])
+        self.assertEqual(render_each("{{ x }}", []), [])
+        pages = render_each("{% for i in list %}{% render 'a', y: i %}{% endfor %}", [{"list": list(range(n % 7))} for n in range(500)], {"a": "[{{ y }}]"}, standard=True)
+        self.assertEqual(pages, ["".join(f"[{i}]" for i in range(n % 7)) for n in range(500)])
+
+    def test_pages_that_are_longer_than_the_first_room(self):
+        names = [{"x": "雨" * n, "n": n} for n in (0, 9, 20_000, 3)]
+        template = "{% for i in (1..9) %}{{ x }}{% endfor %}{{ n }}"
+        self.assertEqual(render_each(template, names), [it["x"] * 9 + str(it["n"]) for it in names])
+
+    def test_what_one_page_assigns_is_not_in_the_next(self):
+        template = "{{ y }}{% assign y = x %}{% increment n %}{{ y }}{% include 'a' %}"
+        for options in ({}, {"standard": True}):
+            self.assertEqual(render_each(template, [{"x": 1}, {"x": 2}, {}], {"a": "{{ y }}"}, lenient=True, **options), ["0" + "11", "0" + "22", "0"])
+
+    def test_an_error_is_in_the_place_of_its_page(self):
+        rows = [
+            ("ab{{ x }}", [{"x": 1}, {}, "{", b"\xff", {"x": 2}], ["ab1", Kind.REFUSED, Kind.BAD_JSON, Kind.NO_TEXT, "ab2"]),
+            ("a\n{% wrong %}", [{}, "[]", {}], [Kind.UNPARSED, Kind.NO_GLOBALS, Kind.UNPARSED]),
+            (b"\xff", [{}, "{"], [Kind.NO_TEXT, Kind.NO_TEXT]),
+        ]
+        for template, names, wanted in rows:
+            found = render_each(template, names)
+            self.assertEqual([getattr(it, "kind", it) for it in found], wanted)
+            for it, error in zip(names, found):
+                if isinstance(error, LiquidError):
+                    with self.assertRaises(LiquidError) as caught:
+                        render(template, it)
+                    self.assertEqual(str(error), str(caught.exception))
+                    self.assertEqual((error.line, error.column, error.rendered), (caught.exception.line, caught.exception.column, caught.exception.rendered))
 
 
 class Threads(unittest.TestCase):

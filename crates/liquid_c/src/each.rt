@@ -1,16 +1,29 @@
 //! Many pages of one template, rendered one after another into the caller's memory.
-ghost use Rattle.std.specs.Prelude.{◌≡◌, ◌≤◌, ◌+◌, length, map, min, take, drop};
-ghost use Rattle.liquid_c.specs.meaning.Outcomes.{LeavesOver};
+ghost use Rattle.std.specs.Prelude.{◌≡◌, ◌≤◌, ◌+◌, ℕ, List, length, map, min, take, drop};
+ghost use Rattle.liquid_parser.specs.meaning.Plugins.{language_of};
+ghost use Rattle.liquid_template.specs.meaning.Runs.{setting};
+ghost use Rattle.liquid_pages.specs.meaning.Shown.{Page as Shown, ComesTo, Shows, bytes_of_partial};
+ghost use Rattle.liquid_c.specs.meaning.Options.{page_options};
+ghost use Rattle.liquid_c.specs.meaning.Outcomes.{Leaves, LeavesOver};
 ghost use Rattle.liquid_c.specs.meaning.Turns.{AllTurns, one_if_whole};
-ghost use Rattle.liquid_c.specs.steps.Chosen.{IsChosen};
+ghost use Rattle.liquid_c.specs.steps.Chosen.{IsRefused};
+ghost use Rattle.liquid_c.specs.steps.Prepared.{LeavesOf};
 
-use crate::languages::{Chosen, choose_language};
+use crate::languages::{Chosen, choose_language, page_options};
 use crate::page::{Outcome, Page};
-use crate::rendering::render_over;
+use crate::rendering::{NO_MEMORY, NO_OPTIONS, finish, refused};
+use crate::repeated::RenderOver;
+use liquid_core::parser::{Discreet, Language, ParseBlock, ParseFilter, ParseTag};
+use liquid_core::{Fresh, Sink, TextSink};
+use liquid_pages::{PageOptions, Rendered, prepare_page};
 use std::alloc::Global;
+use std::rc::Rc;
+use std_marks::Marks;
 
 /// Renders a page over each of these globals, as far as there are outcomes, each into the bytes of `out` that
 /// the pages before it left, and returns how many are whole. `message` has the text of the last error.
+///
+/// The template and the partials are read once.
 pub fn render_each(
     alloc: Global,
     page: &Page<'_>,
@@ -22,12 +35,74 @@ pub fn render_each(
     ensures { AllTurns (LeavesOver page.now) (map (λ g. g.now) globals.now) out.old out.new outcomes.old outcomes.new
         (min (length globals.now) (length outcomes.old)) result }
 {
-    let chosen = choose_language(alloc, page.options);
+    match choose_language(alloc, page.options) {
+        Chosen::NoOptions => refuse_each(NO_OPTIONS, globals, outcomes),
+        Chosen::NoMemory => refuse_each(NO_MEMORY, globals, outcomes),
+        Chosen::Plain(language) => render_each_in::<(), _, _, _>(
+            alloc, &language, page, globals, out, message, outcomes,
+        ),
+        Chosen::Standard(language) => render_each_in::<Marks, _, _, _>(
+            alloc, &language, page, globals, out, message, outcomes,
+        ),
+    }
+}
+
+/// Renders a page in this language over each of these globals, with a register of type `V`.
+fn render_each_in<V, F, T, B>(
+    alloc: Global,
+    language: &Rc<Language<F, T, B>>,
+    page: &Page<'_>,
+    globals: &[&[u8]],
+    out: &mut [u8],
+    message: &mut [u8],
+    outcomes: &mut [Outcome],
+) -> usize
+where
+    V: Fresh,
+    F: ParseFilter + Drop,
+    T: ParseTag<F> + Drop,
+    B: ParseBlock<F> + Drop,
+    T::Node: Discreet<V>,
+    B::Node: Discreet<V>,
+    ensures { AllTurns (LeavesOf (λ g. ComesTo
+        (setting V.fresh F.Filter.means T.Node.means B.Node.means)
+        (language_of F.makes T.gives B.block language.now.value) (page_options page.now) page.now.text.now g
+        (map bytes_of_partial page.now.partials.now)))
+        (map (λ g. g.now) globals.now) out.old out.new outcomes.old outcomes.new
+        (min (length globals.now) (length outcomes.old)) result }
+{
+    let options = page_options(page);
+    let mut prepared = prepare_page(alloc, language, page.text, page.partials);
+    render_turns::<V, _>(
+        alloc,
+        &mut prepared,
+        options,
+        globals,
+        out,
+        message,
+        outcomes,
+    )
+}
+
+/// Renders a page that was read over each of these globals.
+fn render_turns<V, R: RenderOver<V>>(
+    alloc: Global,
+    page: &mut R,
+    options: PageOptions,
+    globals: &[&[u8]],
+    out: &mut [u8],
+    message: &mut [u8],
+    outcomes: &mut [Outcome],
+) -> usize
+    ensures { AllTurns (LeavesOf (R.comes page.old options)) (map (λ g. g.now) globals.now) out.old out.new
+        outcomes.old outcomes.new (min (length globals.now) (length outcomes.old)) result }
+{
     let count = fewer(globals.len(), outcomes.len());
     let mut used: usize = 0;
     let mut whole: usize = 0;
     for place in 0..count {
-        let outcome = render_turn(alloc, &chosen, page, globals[place], used, out, message);
+        let rendered = page.render_over(alloc, options, globals[place]);
+        let outcome = finish_turn(alloc, &rendered, used, out, message);
         used += outcome.written;
         whole += one_if_whole(&outcome);
         outcomes[place] = outcome;
@@ -35,25 +110,35 @@ pub fn render_each(
     whole
 }
 
-/// Renders a page into the bytes of `out` after those that are used.
-fn render_turn(
+/// Hands out what was rendered, into the bytes of `out` after those that are used, and returns how the page ended.
+fn finish_turn(
     alloc: Global,
-    chosen: &Chosen,
-    page: &Page<'_>,
-    globals: &[u8],
+    rendered: &Rendered,
     used: usize,
     out: &mut [u8],
     message: &mut [u8],
 ) -> Outcome
     requires { used ≤ length out.old }
-    ensures leaves { IsChosen page.now.options chosen.now
-        → LeavesOver page.now globals.now (drop used out.old) (drop used out.new) result }
+    ensures leaves { (page : Shown) → Shows page (⟦<TextSink as Sink>⟧.sunk rendered.now.output).taken rendered.now.end
+        → Leaves page (drop used out.old) (drop used out.new) result }
     ensures front { take used out.new ≡ take used out.old }
     ensures room { used + result.written ≤ length out.old }
     ensures size { length out.new ≡ length out.old }
 {
     let (_, room) = out.split_at_mut(used);
-    render_over(alloc, chosen, page, globals, room, message)
+    finish(alloc, rendered, room, message)
+}
+
+/// Writes an outcome of this kind for each of these globals, as far as there are outcomes. No page is whole.
+fn refuse_each(kind: u32, globals: &[&[u8]], outcomes: &mut [Outcome]) -> usize
+    requires { 1 ≤ kind }
+    ensures { (out : List ℕ) → AllTurns (IsRefused kind) (map (λ g. g.now) globals.now) out out outcomes.old outcomes.new
+        (min (length globals.now) (length outcomes.old)) result }
+{
+    for place in 0..fewer(globals.len(), outcomes.len()) {
+        outcomes[place] = refused(kind);
+    }
+    0
 }
 
 fn fewer(a: usize, b: usize) -> usize

@@ -13,6 +13,7 @@ pub mod each;
 pub mod languages;
 pub mod page;
 pub mod rendering;
+mod repeated;
 #[cfg(test)]
 mod tests;
 

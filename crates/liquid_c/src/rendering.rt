@@ -6,8 +6,7 @@ ghost use Rattle.liquid_template.specs.meaning.Runs.{setting};
 ghost use Rattle.liquid_pages.specs.meaning.Faults.{fault_told};
 ghost use Rattle.liquid_pages.specs.meaning.Shown.{Page as Shown, ComesTo, Shows, bytes_of_partial};
 ghost use Rattle.liquid_c.specs.meaning.Options.{page_options};
-ghost use Rattle.liquid_c.specs.meaning.Outcomes.{IsPlaced, IsWhere, IsWhich, Leaves, LeavesAsked, LeavesOver, kind_of};
-ghost use Rattle.liquid_c.specs.steps.Chosen.{IsChosen};
+ghost use Rattle.liquid_c.specs.meaning.Outcomes.{IsPlaced, IsWhere, IsWhich, Leaves, LeavesAsked, kind_of};
 
 use crate::languages::{Chosen, choose_language, page_options};
 use crate::page::{EMPTY, Outcome, Page};
@@ -19,50 +18,40 @@ use std::rc::Rc;
 use std_marks::Marks;
 
 /// The kinds of an outcome that no fault has.
-const NO_MEMORY: u32 = 6;
+pub(crate) const NO_MEMORY: u32 = 6;
 
 const SHORT: u32 = 7;
 
-const NO_OPTIONS: u32 = 8;
+pub(crate) const NO_OPTIONS: u32 = 8;
 
-/// Renders a page over these globals into `out`, in the language that its options choose, and writes the
-/// text of its error to `message`.
-pub(crate) fn render_over(
-    alloc: Global,
-    chosen: &Chosen,
-    page: &Page<'_>,
-    globals: &[u8],
-    out: &mut [u8],
-    message: &mut [u8],
-) -> Outcome
-    ensures leaves { IsChosen page.now.options chosen.now → LeavesOver page.now globals.now out.old out.new result }
-    ensures room { result.written ≤ length out.old }
-    ensures size { length out.new ≡ length out.old }
+/// Renders a page into `out`, in the language that its options choose, and writes the text of its error to `message`.
+pub fn render(alloc: Global, page: &Page<'_>, out: &mut [u8], message: &mut [u8]) -> Outcome
+    ensures { LeavesAsked page.now out.old out.new result }
 {
-    match chosen {
-        Chosen::NoOptions => Outcome {
-            kind: NO_OPTIONS,
-            ..EMPTY
-        },
-        Chosen::NoMemory => Outcome {
-            kind: NO_MEMORY,
-            ..EMPTY
-        },
-        Chosen::Plain(language) => render_in::<(), _, _, _>(
-            alloc, language, page, globals, out, message,
-        ),
-        Chosen::Standard(language) => render_in::<Marks, _, _, _>(
-            alloc, language, page, globals, out, message,
-        ),
+    match choose_language(alloc, page.options) {
+        Chosen::NoOptions => refused(NO_OPTIONS),
+        Chosen::NoMemory => refused(NO_MEMORY),
+        Chosen::Plain(language) => render_in::<(), _, _, _>(alloc, &language, page, out, message),
+        Chosen::Standard(language) => {
+            render_in::<Marks, _, _, _>(alloc, &language, page, out, message)
+        }
     }
 }
 
-/// Renders a page over these globals in this language, over a runtime with a register of type `V`.
+/// Returns the outcome of a page of which nothing was rendered, for this reason.
+pub(crate) fn refused(kind: u32) -> Outcome
+    ensures kind { result.kind ≡ kind }
+    ensures needed { result.needed ≡ 0 }
+    ensures written { result.written ≡ 0 }
+{
+    Outcome { kind, ..EMPTY }
+}
+
+/// Renders a page in this language, over a runtime with a register of type `V`.
 fn render_in<V, F, T, B>(
     alloc: Global,
     language: &Rc<Language<F, T, B>>,
     page: &Page<'_>,
-    globals: &[u8],
     out: &mut [u8],
     message: &mut [u8],
 ) -> Outcome
@@ -75,11 +64,9 @@ where
     B::Node: Discreet<V>,
     ensures leaves { (shown : Shown) → ComesTo
         (setting V.fresh F.Filter.means T.Node.means B.Node.means)
-        (language_of F.makes T.gives B.block language.now.value) (page_options page.now) page.now.text.now globals.now
+        (language_of F.makes T.gives B.block language.now.value) (page_options page.now) page.now.text.now page.now.globals.now
         (map bytes_of_partial page.now.partials.now) shown
         → Leaves shown out.old out.new result }
-    ensures room { result.written ≤ length out.old }
-    ensures size { length out.new ≡ length out.old }
 {
     let options = page_options(page);
     let rendered = render_page::<V, F, T, B>(
@@ -87,22 +74,19 @@ where
         language,
         options,
         page.text,
-        globals,
+        page.globals,
         page.partials,
     );
     finish(alloc, &rendered, out, message)
 }
 
-/// Renders a page into `out`, and writes the text of its error to `message`.
-pub fn render(alloc: Global, page: &Page<'_>, out: &mut [u8], message: &mut [u8]) -> Outcome
-    ensures { LeavesAsked page.now out.old out.new result }
-{
-    let chosen = choose_language(alloc, page.options);
-    render_over(alloc, &chosen, page, page.globals, out, message)
-}
-
 /// Hands out what was rendered, and returns how the page ended.
-fn finish(alloc: Global, rendered: &Rendered, out: &mut [u8], message: &mut [u8]) -> Outcome
+pub(crate) fn finish(
+    alloc: Global,
+    rendered: &Rendered,
+    out: &mut [u8],
+    message: &mut [u8],
+) -> Outcome
     ensures leaves { (page : Shown) → Shows page (⟦<TextSink as Sink>⟧.sunk rendered.now.output).taken rendered.now.end
         → Leaves page out.old out.new result }
     ensures room { result.written ≤ length out.old }

@@ -1,5 +1,5 @@
 -- The language that is chosen before a page is rendered, for proofs alone.
-use Rattle.std.specs.Prelude.{◌≡◌, ◌<◌, ◌≤◌, ℕ, true, false}
+use Rattle.std.specs.Prelude.{◌≡◌, ◌<◌, ◌≤◌, ℕ, List, true, false}
 use Rattle.std.specs.declared.alloc.Global.{Global}
 use Rattle.std.specs.declared.rc.Rc.{Rc}
 use Rattle.liquid_parser.specs.declared.plugin.language.Language.{Language}
@@ -11,6 +11,7 @@ use Rattle.liquid_std.specs.declared.tag_plugins.StdTags.{StdTags}
 use Rattle.liquid_std.specs.meaning.Languages.{meaning_of as standard_meaning}
 use Rattle.std_filters.specs.declared.kinds.StdKind.{StdKind}
 use Rattle.std_filters.specs.declared.plugin.FilterPlugin.{FilterPlugin}
+use Rattle.liquid_c.specs.declared.page.Outcome.{Outcome}
 use Rattle.liquid_c.specs.declared.languages.Chosen.{Chosen}
 use Rattle.liquid_c.specs.declared.languages.Chosen.TheVariants as chosen
 use Rattle.liquid_c.specs.meaning.Languages.{filter_made, plain_language, standard_language}
@@ -27,3 +28,7 @@ IsChosen options chosen.NoOptions = 8 ≤ options
 IsChosen options chosen.NoMemory = options < 8
 IsChosen options (chosen.Plain l) = (options < 8) × ((has_standard options ≡ false) × (meaning_of filter_made l.value ≡ plain_language))
 IsChosen options (chosen.Standard l) = (options < 8) × ((has_standard options ≡ true) × (standard_meaning filter_made l.value ≡ standard_language))
+
+-- a page is refused for a reason of this kind, and nothing is written
+abbrev pub IsRefused : ℕ → List ℕ → List ℕ → List ℕ → Outcome → Type 0
+IsRefused kind globals old new o = (o.kind ≡ kind) × ((o.needed ≡ 0) × ((o.written ≡ 0) × (new ≡ old)))
