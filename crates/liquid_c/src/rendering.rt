@@ -62,7 +62,7 @@ where
     B: ParseBlock<F> + Drop,
     T::Node: Discreet<V>,
     B::Node: Discreet<V>,
-    ensures leaves { (shown : Shown) → ComesTo
+    ensures { (shown : Shown) → ComesTo
         (setting V.fresh F.Filter.means T.Node.means B.Node.means)
         (language_of F.makes T.gives B.block language.now.value) (page_options page.now) page.now.text.now page.now.globals.now
         (map bytes_of_partial page.now.partials.now) shown

@@ -1,5 +1,5 @@
 -- What a page that was read before comes to, for proofs alone.
-use Rattle.std.specs.Prelude.{ℕ, List, Option, map}
+use Rattle.std.specs.Prelude.{ℕ, List, Option}
 use Rattle.liquid_plugins.specs.meaning.Nodes.{NodeShape}
 use Rattle.liquid_parser.specs.meaning.Lang.{Lang}
 use Rattle.liquid_template.specs.meaning.Partials.{Found}

@@ -11,7 +11,7 @@ returns-in-NoMemory c = memory_asked c.args.page.now c.args.page.now.globals.now
     (λ page. nothing_left page _ _ _ c.refused-in-NoMemory.ensures.kind c.refused-in-NoMemory.ensures.needed c.refused-in-NoMemory.ensures.written refl)
 
 pub returns-in-Plain : goal.returns-in-Plain
-returns-in-Plain c = plain_asked c.args.page.now c.args.page.now.globals.now _ _ _ c.choose_language.result c.choose_language.ensures _ c.in-Plain.is c.render_in.ensures.leaves
+returns-in-Plain c = plain_asked c.args.page.now c.args.page.now.globals.now _ _ _ c.choose_language.result c.choose_language.ensures _ c.in-Plain.is c.render_in.ensures
 
 pub returns-in-Standard : goal.returns-in-Standard
-returns-in-Standard c = standard_asked c.args.page.now c.args.page.now.globals.now _ _ _ c.choose_language.result c.choose_language.ensures _ c.in-Standard.is c.render_in-in-Standard.ensures.leaves
+returns-in-Standard c = standard_asked c.args.page.now c.args.page.now.globals.now _ _ _ c.choose_language.result c.choose_language.ensures _ c.in-Standard.is c.render_in-in-Standard.ensures

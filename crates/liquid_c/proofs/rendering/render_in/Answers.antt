@@ -1,4 +1,4 @@
 use Rattle.liquid_c.proofs.rendering.render_in.Goals as goal
 
-pub returns-clause-leaves : goal.returns-clause-leaves
-returns-clause-leaves g c = λ page comes. c.finish.ensures.leaves page (c.render_page-rendered.ensures page (rw c.page_options-options.ensures comes))
+pub returns : goal.returns
+returns g c = λ page comes. c.finish.ensures.leaves page (c.render_page-rendered.ensures page (rw c.page_options-options.ensures comes))
