@@ -124,3 +124,12 @@ module _ {A : Type 0} (finds : NameMap (Result A Refusal)) (name : List ℕ) whe
 
   pub tree_found : (o : Option (Result A Refusal)) → get finds name ≡ o → tree_in finds name ≡ option_and_then read_tree o
   tree_found o e = ap (option_and_then read_tree) e
+
+  -- what is tried is the tree that is found, if there is no fault
+  pub tried_tree : (o : Option A) → tried finds name ≡ Ok o → o ≡ tree_in finds name
+  tried_tree o e = go (get finds name) e
+    where
+      go : (found : Option (Result A Refusal)) → tried_as found ≡ Ok o → o ≡ option_and_then read_tree found
+      go None t = cc
+      go (Some (Ok tree)) t = cc
+      go (Some (Err refusal)) t = cc

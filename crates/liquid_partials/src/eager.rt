@@ -81,7 +81,7 @@ where
     ) -> Result<EagerStore<S, F, T, B>, AllocError>
         ensures compiled { IfOk result (λ store. Compiled (language_of F.makes T.gives B.block language.value) (S.texts self.source)
             (kept_or_read (shared_nodes F.Filter.shape T.Node.shape B.Node.shape)
-            (language_of F.makes T.gives B.block store.lazy.texts.language.value) store.lazy.kept
+            (language_of F.makes T.gives B.block store.lazy.texts.parser.language.value) store.lazy.kept
             (S.texts store.lazy.texts.source))) }
         ensures count { IfOk result (λ store. store.lazy.texts.readings.count ≡ len (S.texts self.source)) }
     {
@@ -134,7 +134,7 @@ where
     B: ParseBlock<F> + Drop,
 {
     ghost finds = { λ store. kept_or_read (shared_nodes F.Filter.shape T.Node.shape B.Node.shape)
-        (language_of F.makes T.gives B.block store.lazy.texts.language.value) store.lazy.kept
+        (language_of F.makes T.gives B.block store.lazy.texts.parser.language.value) store.lazy.kept
         (S.texts store.lazy.texts.source) };
 
     fn contains(&self, name: &str) -> bool {
@@ -153,13 +153,13 @@ where
         ensures gives { IfOk result
             (λ found. option_map (shared_nodes F.Filter.shape T.Node.shape B.Node.shape) found
             ≡ tree_in (kept_or_read (shared_nodes F.Filter.shape T.Node.shape B.Node.shape)
-            (language_of F.makes T.gives B.block self.old.lazy.texts.language.value) self.old.lazy.kept
+            (language_of F.makes T.gives B.block self.old.lazy.texts.parser.language.value) self.old.lazy.kept
             (S.texts self.old.lazy.texts.source)) name.now) }
         ensures kept { (kept_or_read (shared_nodes F.Filter.shape T.Node.shape B.Node.shape)
-            (language_of F.makes T.gives B.block self.new.lazy.texts.language.value) self.new.lazy.kept
+            (language_of F.makes T.gives B.block self.new.lazy.texts.parser.language.value) self.new.lazy.kept
             (S.texts self.new.lazy.texts.source))
             ≡ (kept_or_read (shared_nodes F.Filter.shape T.Node.shape B.Node.shape)
-            (language_of F.makes T.gives B.block self.old.lazy.texts.language.value) self.old.lazy.kept
+            (language_of F.makes T.gives B.block self.old.lazy.texts.parser.language.value) self.old.lazy.kept
             (S.texts self.old.lazy.texts.source)) }
         ensures count { self.new.lazy.texts.readings.count ≡ self.old.lazy.texts.readings.count }
     {
@@ -173,13 +173,13 @@ where
     ) -> Result<Rc<Template<F::Filter, T::Node, B::Node>>, Error>
         ensures gives { Gives (shared_nodes F.Filter.shape T.Node.shape B.Node.shape) result
             (partial_in (kept_or_read (shared_nodes F.Filter.shape T.Node.shape B.Node.shape)
-            (language_of F.makes T.gives B.block self.old.lazy.texts.language.value) self.old.lazy.kept
+            (language_of F.makes T.gives B.block self.old.lazy.texts.parser.language.value) self.old.lazy.kept
             (S.texts self.old.lazy.texts.source)) name.now) }
         ensures kept { (kept_or_read (shared_nodes F.Filter.shape T.Node.shape B.Node.shape)
-            (language_of F.makes T.gives B.block self.new.lazy.texts.language.value) self.new.lazy.kept
+            (language_of F.makes T.gives B.block self.new.lazy.texts.parser.language.value) self.new.lazy.kept
             (S.texts self.new.lazy.texts.source))
             ≡ (kept_or_read (shared_nodes F.Filter.shape T.Node.shape B.Node.shape)
-            (language_of F.makes T.gives B.block self.old.lazy.texts.language.value) self.old.lazy.kept
+            (language_of F.makes T.gives B.block self.old.lazy.texts.parser.language.value) self.old.lazy.kept
             (S.texts self.old.lazy.texts.source)) }
         ensures count { self.new.lazy.texts.readings.count ≡ self.old.lazy.texts.readings.count }
     {

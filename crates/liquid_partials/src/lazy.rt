@@ -1,5 +1,5 @@
 //! Partials that are parsed when they are first requested, and kept.
-ghost use Rattle.std.specs.Prelude.{◌≡◌, ◌+◌, true, false, is_ok, option_map, string_bytes, IfOk, IfSome, OnOk, OnErr};
+ghost use Rattle.std.specs.Prelude.{◌≡◌, ◌+◌, true, false, is_ok, not, option_map, string_bytes, IfOk, IfSome, OnOk, OnErr};
 ghost use Rattle.std.specs.Borrow.{sem, Lends};
 ghost use Rattle.std.specs.FinMap.{contains_key, empty, get, insert};
 ghost use Rattle.liquid_error.specs.meaning.Told.{Gives};
@@ -82,7 +82,7 @@ where
     ) -> Result<LazyStore<S, F, T, B>, AllocError>
         ensures compiled { IfOk result (λ store. Compiled (language_of F.makes T.gives B.block language.value) (S.texts self.source)
             (kept_or_read (shared_nodes F.Filter.shape T.Node.shape B.Node.shape)
-            (language_of F.makes T.gives B.block store.texts.language.value) store.kept
+            (language_of F.makes T.gives B.block store.texts.parser.language.value) store.kept
             (S.texts store.texts.source))) }
         ensures source { IfOk result (λ store. store.texts.source ≡ self.source) }
         ensures kept { IfOk result (λ store. (all_kept (shared_nodes F.Filter.shape T.Node.shape B.Node.shape) store.kept) ≡ empty) }
@@ -154,24 +154,24 @@ where
         ensures gives { IfOk result
             (λ answer. option_map (kept_as (shared_nodes F.Filter.shape T.Node.shape B.Node.shape)) answer
             ≡ get (kept_or_read (shared_nodes F.Filter.shape T.Node.shape B.Node.shape)
-            (language_of F.makes T.gives B.block self.old.texts.language.value) self.old.kept
+            (language_of F.makes T.gives B.block self.old.texts.parser.language.value) self.old.kept
             (S.texts self.old.texts.source)) name.now) }
         ensures told { IfOk result (λ answer. IfSome answer (λ kept. is_answer kept ≡ true)) }
         ensures same { (kept_or_read (shared_nodes F.Filter.shape T.Node.shape B.Node.shape)
-            (language_of F.makes T.gives B.block self.new.texts.language.value) self.new.kept
+            (language_of F.makes T.gives B.block self.new.texts.parser.language.value) self.new.kept
             (S.texts self.new.texts.source))
             ≡ (kept_or_read (shared_nodes F.Filter.shape T.Node.shape B.Node.shape)
-            (language_of F.makes T.gives B.block self.old.texts.language.value) self.old.kept
+            (language_of F.makes T.gives B.block self.old.texts.parser.language.value) self.old.kept
             (S.texts self.old.texts.source)) }
         ensures keeps { (all_kept (shared_nodes F.Filter.shape T.Node.shape B.Node.shape) self.new.kept)
             ≡ kept_after (is_ok result) (kept_or_read (shared_nodes F.Filter.shape T.Node.shape B.Node.shape)
-            (language_of F.makes T.gives B.block self.old.texts.language.value) self.old.kept
+            (language_of F.makes T.gives B.block self.old.texts.parser.language.value) self.old.kept
             (S.texts self.old.texts.source)) name.now
             (all_kept (shared_nodes F.Filter.shape T.Node.shape B.Node.shape) self.old.kept) }
         ensures source { self.new.texts.source ≡ self.old.texts.source }
         ensures count { self.new.texts.readings.count ≡ self.old.texts.readings.count
             + once (is_read (kept_or_read (shared_nodes F.Filter.shape T.Node.shape B.Node.shape)
-            (language_of F.makes T.gives B.block self.old.texts.language.value) self.old.kept
+            (language_of F.makes T.gives B.block self.old.texts.parser.language.value) self.old.kept
             (S.texts self.old.texts.source))
             (all_kept (shared_nodes F.Filter.shape T.Node.shape B.Node.shape) self.old.kept) name.now) }
     {
@@ -194,7 +194,7 @@ where
     B: ParseBlock<F> + Drop,
 {
     ghost finds = { λ store. kept_or_read (shared_nodes F.Filter.shape T.Node.shape B.Node.shape)
-        (language_of F.makes T.gives B.block store.texts.language.value) store.kept (S.texts store.texts.source) };
+        (language_of F.makes T.gives B.block store.texts.parser.language.value) store.kept (S.texts store.texts.source) };
 
     fn contains(&self, name: &str) -> bool {
         self.texts.contains(name)
@@ -213,23 +213,23 @@ where
         ensures gives { IfOk result
             (λ found. option_map (shared_nodes F.Filter.shape T.Node.shape B.Node.shape) found
             ≡ tree_in (kept_or_read (shared_nodes F.Filter.shape T.Node.shape B.Node.shape)
-            (language_of F.makes T.gives B.block self.old.texts.language.value) self.old.kept
+            (language_of F.makes T.gives B.block self.old.texts.parser.language.value) self.old.kept
             (S.texts self.old.texts.source)) name.now) }
         ensures kept { (kept_or_read (shared_nodes F.Filter.shape T.Node.shape B.Node.shape)
-            (language_of F.makes T.gives B.block self.new.texts.language.value) self.new.kept
+            (language_of F.makes T.gives B.block self.new.texts.parser.language.value) self.new.kept
             (S.texts self.new.texts.source))
             ≡ (kept_or_read (shared_nodes F.Filter.shape T.Node.shape B.Node.shape)
-            (language_of F.makes T.gives B.block self.old.texts.language.value) self.old.kept
+            (language_of F.makes T.gives B.block self.old.texts.parser.language.value) self.old.kept
             (S.texts self.old.texts.source)) }
         ensures keeps { (all_kept (shared_nodes F.Filter.shape T.Node.shape B.Node.shape) self.new.kept)
             ≡ kept_after (is_ok result) (kept_or_read (shared_nodes F.Filter.shape T.Node.shape B.Node.shape)
-            (language_of F.makes T.gives B.block self.old.texts.language.value) self.old.kept
+            (language_of F.makes T.gives B.block self.old.texts.parser.language.value) self.old.kept
             (S.texts self.old.texts.source)) name.now
             (all_kept (shared_nodes F.Filter.shape T.Node.shape B.Node.shape) self.old.kept) }
         ensures source { self.new.texts.source ≡ self.old.texts.source }
         ensures count { self.new.texts.readings.count ≡ self.old.texts.readings.count
             + once (is_read (kept_or_read (shared_nodes F.Filter.shape T.Node.shape B.Node.shape)
-            (language_of F.makes T.gives B.block self.old.texts.language.value) self.old.kept
+            (language_of F.makes T.gives B.block self.old.texts.parser.language.value) self.old.kept
             (S.texts self.old.texts.source))
             (all_kept (shared_nodes F.Filter.shape T.Node.shape B.Node.shape) self.old.kept) name.now) }
     {
@@ -251,24 +251,24 @@ where
     ) -> Result<Rc<Template<F::Filter, T::Node, B::Node>>, Error>
         ensures gives { Gives (shared_nodes F.Filter.shape T.Node.shape B.Node.shape) result
             (partial_in (kept_or_read (shared_nodes F.Filter.shape T.Node.shape B.Node.shape)
-            (language_of F.makes T.gives B.block self.old.texts.language.value) self.old.kept
+            (language_of F.makes T.gives B.block self.old.texts.parser.language.value) self.old.kept
             (S.texts self.old.texts.source)) name.now) }
         ensures kept { (kept_or_read (shared_nodes F.Filter.shape T.Node.shape B.Node.shape)
-            (language_of F.makes T.gives B.block self.new.texts.language.value) self.new.kept
+            (language_of F.makes T.gives B.block self.new.texts.parser.language.value) self.new.kept
             (S.texts self.new.texts.source))
             ≡ (kept_or_read (shared_nodes F.Filter.shape T.Node.shape B.Node.shape)
-            (language_of F.makes T.gives B.block self.old.texts.language.value) self.old.kept
+            (language_of F.makes T.gives B.block self.old.texts.parser.language.value) self.old.kept
             (S.texts self.old.texts.source)) }
         ensures keeps { (all_kept (shared_nodes F.Filter.shape T.Node.shape B.Node.shape) self.new.kept)
             ≡ kept_after (is_answer result)
             (kept_or_read (shared_nodes F.Filter.shape T.Node.shape B.Node.shape)
-            (language_of F.makes T.gives B.block self.old.texts.language.value) self.old.kept
+            (language_of F.makes T.gives B.block self.old.texts.parser.language.value) self.old.kept
             (S.texts self.old.texts.source)) name.now
             (all_kept (shared_nodes F.Filter.shape T.Node.shape B.Node.shape) self.old.kept) }
         ensures source { self.new.texts.source ≡ self.old.texts.source }
         ensures count { self.new.texts.readings.count ≡ self.old.texts.readings.count
             + once (is_read (kept_or_read (shared_nodes F.Filter.shape T.Node.shape B.Node.shape)
-            (language_of F.makes T.gives B.block self.old.texts.language.value) self.old.kept
+            (language_of F.makes T.gives B.block self.old.texts.parser.language.value) self.old.kept
             (S.texts self.old.texts.source))
             (all_kept (shared_nodes F.Filter.shape T.Node.shape B.Node.shape) self.old.kept) name.now) }
     {
@@ -283,8 +283,8 @@ where
     }
 }
 
-/// Returns what has to be kept for a name, and `None` if the source doesn't have the name. An `Err` means out of
-/// memory.
+/// Returns what has to be kept for a name, and `None` if the source doesn't have the name. It returns `Err` exactly if
+/// memory runs out while it reads the text.
 fn kept_of<S, F, T, B>(
     alloc: Global,
     texts: &mut Texts<S, F, T, B>,
@@ -296,14 +296,15 @@ where
     T: ParseTag<F> + Drop,
     B: ParseBlock<F> + Drop,
     ensures gives { IfOk result (λ kept. option_map (kept_as (shared_nodes F.Filter.shape T.Node.shape B.Node.shape)) kept
-        ≡ get (readings (language_of F.makes T.gives B.block texts.old.language.value) (S.texts texts.old.source)) name.now) }
+        ≡ get (readings (language_of F.makes T.gives B.block texts.old.parser.language.value) (S.texts texts.old.source)) name.now) }
     ensures told { IfOk result (λ kept. IfSome kept (λ answer. is_answer answer ≡ true)) }
     ensures source { texts.new.source ≡ texts.old.source }
-    ensures language { texts.new.language ≡ texts.old.language }
+    ensures language { texts.new.parser ≡ texts.old.parser }
     ensures count { texts.new.readings.count ≡ texts.old.readings.count + once (contains_key (S.texts texts.old.source) name.now) }
+    ensures lost { texts.new.readings.lost ≡ texts.old.readings.lost + once (not (is_ok result)) }
 {
     match texts.read(alloc, name) {
-        Ok(Some(template)) => Ok(Some(Ok(Rc::new(alloc, template)?))),
+        Ok(Some(template)) => Ok(Some(Ok(template))),
         Ok(None) => Ok(None),
         Err(error) => {
             if error.is_memory() {

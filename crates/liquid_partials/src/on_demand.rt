@@ -1,11 +1,12 @@
 //! Partials that are parsed at each request.
-ghost use Rattle.std.specs.Prelude.{◌≡◌, ◌+◌, option_map, IfOk};
+ghost use Rattle.std.specs.Prelude.{◌≡◌, ◌+◌, true, is_ok, not, option_map, IfOk};
 ghost use Rattle.std.specs.Borrow.{sem, Lends};
 ghost use Rattle.std.specs.FinMap.{contains_key};
 ghost use Rattle.liquid_error.specs.meaning.Told.{Gives};
 ghost use Rattle.liquid_parser.specs.meaning.Plugins.{language_of};
 ghost use Rattle.liquid_partials.specs.meaning.Compiled.{Compiled, once};
 ghost use Rattle.liquid_partials.specs.contracts.on_demand.OnDemandCompiler.{the_row};
+ghost use Rattle.liquid_partials.specs.meaning.Keeping.{is_answer};
 ghost use Rattle.liquid_partials.specs.meaning.Kept.{readings, shared_nodes};
 ghost use Rattle.liquid_template.specs.meaning.Partials.{partial_in, tree_in};
 
@@ -79,7 +80,7 @@ where
         language: Rc<Language<F, T, B>>,
     ) -> Result<OnDemandStore<S, F, T, B>, AllocError>
         ensures compiled { IfOk result (λ store. Compiled (language_of F.makes T.gives B.block language.value) (S.texts self.source)
-            (readings (language_of F.makes T.gives B.block store.texts.language.value) (S.texts store.texts.source))) }
+            (readings (language_of F.makes T.gives B.block store.texts.parser.language.value) (S.texts store.texts.source))) }
         ensures count { IfOk result (λ store. store.texts.readings.count ≡ 0) }
     {
         Ok(OnDemandStore {
@@ -101,7 +102,7 @@ where
     T: ParseTag<F> + Drop,
     B: ParseBlock<F> + Drop,
 {
-    ghost finds = { λ store. readings (language_of F.makes T.gives B.block store.texts.language.value) (S.texts store.texts.source) };
+    ghost finds = { λ store. readings (language_of F.makes T.gives B.block store.texts.parser.language.value) (S.texts store.texts.source) };
 
     fn contains(&self, name: &str) -> bool {
         self.texts.contains(name)
@@ -111,6 +112,7 @@ where
         self.texts.names(alloc)
     }
 
+    /// Parses the text of the name. It returns `Err` exactly if memory runs out while it reads the text.
     fn try_get(
         &mut self,
         alloc: Global,
@@ -118,17 +120,17 @@ where
     ) -> Result<Option<Rc<Template<F::Filter, T::Node, B::Node>>>, AllocError>
         ensures gives { IfOk result
             (λ found. option_map (shared_nodes F.Filter.shape T.Node.shape B.Node.shape) found
-            ≡ tree_in (readings (language_of F.makes T.gives B.block self.old.texts.language.value)
+            ≡ tree_in (readings (language_of F.makes T.gives B.block self.old.texts.parser.language.value)
             (S.texts self.old.texts.source)) name.now) }
-        ensures kept { readings (language_of F.makes T.gives B.block self.new.texts.language.value)
+        ensures kept { readings (language_of F.makes T.gives B.block self.new.texts.parser.language.value)
             (S.texts self.new.texts.source) ≡ readings
-            (language_of F.makes T.gives B.block self.old.texts.language.value) (S.texts self.old.texts.source) }
+            (language_of F.makes T.gives B.block self.old.texts.parser.language.value) (S.texts self.old.texts.source) }
         ensures count { self.new.texts.readings.count ≡ self.old.texts.readings.count
             + once (contains_key (S.texts self.old.texts.source) name.now) }
+        ensures lost { self.new.texts.readings.lost ≡ self.old.texts.readings.lost + once (not (is_ok result)) }
     {
         match self.texts.read(alloc, name) {
-            Ok(Some(template)) => Ok(Some(Rc::new(alloc, template)?)),
-            Ok(None) => Ok(None),
+            Ok(found) => Ok(found),
             Err(error) => {
                 if error.is_memory() {
                     Err(AllocError)
@@ -139,22 +141,26 @@ where
         }
     }
 
+    /// Parses the text of the name. If the source has the name, it returns `Error::Memory` exactly if memory runs out while
+    /// it reads the text.
     fn get(
         &mut self,
         alloc: Global,
         name: &str,
     ) -> Result<Rc<Template<F::Filter, T::Node, B::Node>>, Error>
         ensures gives { Gives (shared_nodes F.Filter.shape T.Node.shape B.Node.shape) result
-            (partial_in (readings (language_of F.makes T.gives B.block self.old.texts.language.value)
+            (partial_in (readings (language_of F.makes T.gives B.block self.old.texts.parser.language.value)
             (S.texts self.old.texts.source)) name.now) }
-        ensures kept { readings (language_of F.makes T.gives B.block self.new.texts.language.value)
+        ensures kept { readings (language_of F.makes T.gives B.block self.new.texts.parser.language.value)
             (S.texts self.new.texts.source) ≡ readings
-            (language_of F.makes T.gives B.block self.old.texts.language.value) (S.texts self.old.texts.source) }
+            (language_of F.makes T.gives B.block self.old.texts.parser.language.value) (S.texts self.old.texts.source) }
         ensures count { self.new.texts.readings.count ≡ self.old.texts.readings.count
             + once (contains_key (S.texts self.old.texts.source) name.now) }
+        ensures lost { contains_key (S.texts self.old.texts.source) name.now ≡ true
+            → self.new.texts.readings.lost ≡ self.old.texts.readings.lost + once (not (is_answer result)) }
     {
         match self.texts.read(alloc, name) {
-            Ok(Some(template)) => Ok(Rc::new(alloc, template)?),
+            Ok(Some(template)) => Ok(template),
             Ok(None) => Err(self.texts.unknown(alloc, name)),
             Err(error) => Err(error),
         }

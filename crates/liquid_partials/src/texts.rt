@@ -1,17 +1,17 @@
 //! The texts of a source, parsed in a language.
-ghost use Rattle.std.specs.Prelude.{◌≡◌, ◌+◌, is_some, map, option_map, Ok, IfOk, IfSome};
+ghost use Rattle.std.specs.Prelude.{◌≡◌, ◌+◌, is_some, map, not, option_map, IfOk, IfSome};
 ghost use Rattle.std.specs.FinMap.{contains_key, get, keys};
 ghost use Rattle.liquid_error.specs.meaning.Told.{told, Gives};
 ghost use Rattle.liquid_parser.specs.meaning.Plugins.{language_of};
-ghost use Rattle.liquid_partials.specs.meaning.Compiled.{as_tree, once};
-ghost use Rattle.liquid_partials.specs.meaning.Kept.{reading, readings, tried};
+ghost use Rattle.liquid_partials.specs.meaning.Compiled.{once};
+ghost use Rattle.liquid_partials.specs.meaning.Keeping.{is_answer};
+ghost use Rattle.liquid_partials.specs.meaning.Kept.{readings, shared_nodes, tried};
 ghost use Rattle.liquid_template.specs.meaning.Partials.{unknown_partial};
-ghost use Rattle.liquid_template.specs.meaning.TemplateOf.{template_nodes};
 
-use crate::readings::Readings;
+use crate::readings::{CountedSource, Readings, TextParser};
 use crate::source::PartialSource;
 use liquid_error::Error;
-use liquid_parser::{Language, ParseBlock, ParseTag, parse};
+use liquid_parser::{Language, ParseBlock, ParseTag};
 use liquid_plugins::ParseFilter;
 use liquid_template::{Template, unknown_partial};
 use std::alloc::{AllocError, Global};
@@ -19,12 +19,13 @@ use std::rc::Rc;
 
 /// A source and the language that its texts are parsed in.
 ///
-/// Both are private to it. Only `read` parses a text: it runs the parser and counts that. The other calls return names,
-/// or whether the source has a name.
+/// Both are private to it. Only `read` reads a text: it requests it from the source, which counts that, and parses it
+/// once. The other calls return names, or whether the source has a name. They can't read a text, since they don't
+/// change the count.
 #[derive(Drop)]
 pub struct Texts<S, F, T, B> {
-    source: S,
-    language: Rc<Language<F, T, B>>,
+    source: CountedSource<S>,
+    parser: TextParser<F, T, B>,
     readings: Readings,
 }
 
@@ -35,16 +36,18 @@ where
     T: ParseTag<F> + Drop,
     B: ParseBlock<F> + Drop,
 {
-    /// Returns the texts of a source, of which none is parsed yet.
+    /// Returns the texts of a source, of which none is read yet.
     pub fn new(source: S, language: Rc<Language<F, T, B>>) -> Texts<S, F, T, B>
         ensures source { result.source ≡ source }
-        ensures language { result.language ≡ language }
+        ensures language { result.parser.language ≡ language }
         ensures count { result.readings.count ≡ 0 }
+        ensures lost { result.readings.lost ≡ 0 }
     {
+        let (source, readings) = CountedSource::new(source);
         Texts {
             source,
-            language,
-            readings: Readings::none(),
+            parser: TextParser::new(language),
+            readings,
         }
     }
 
@@ -77,19 +80,19 @@ where
         &mut self,
         alloc: Global,
         name: &str,
-    ) -> Result<Option<Template<F::Filter, T::Node, B::Node>>, Error>
-        ensures gives { Gives (option_map (λ template. template_nodes F.Filter.shape T.Node.shape B.Node.shape template)) result
-            (tried (readings (language_of F.makes T.gives B.block self.old.language.value) (S.texts self.old.source)) name.now) }
+    ) -> Result<Option<Rc<Template<F::Filter, T::Node, B::Node>>>, Error>
+        ensures gives { Gives (option_map (shared_nodes F.Filter.shape T.Node.shape B.Node.shape)) result
+            (tried (readings (language_of F.makes T.gives B.block self.old.parser.language.value) (S.texts self.old.source)) name.now) }
         ensures source { self.new.source ≡ self.old.source }
-        ensures language { self.new.language ≡ self.old.language }
+        ensures language { self.new.parser ≡ self.old.parser }
         ensures count { self.new.readings.count ≡ self.old.readings.count + once (contains_key (S.texts self.old.source) name.now) }
+        ensures lost { self.new.readings.lost ≡ self.old.readings.lost + once (not (is_answer result)) }
     {
         if !self.source.contains(name) {
             return Ok(None);
         }
-        self.readings.one_more();
-        match self.source.try_get(alloc, name) {
-            Ok(Some(text)) => match parsed(alloc, text.as_str(), &self.language) {
+        match self.source.try_get(alloc, name, &mut self.readings) {
+            Ok(Some(text)) => match self.parser.parse(alloc, text, &mut self.readings) {
                 Ok(template) => Ok(Some(template)),
                 Err(error) => Err(error),
             },
@@ -98,25 +101,10 @@ where
         }
     }
 
-    /// Returns the number of parsed texts.
+    /// Returns the count of the readings.
     pub fn into_readings(self) -> Readings
         ensures { result ≡ self.readings }
     {
         self.readings
-    }
-}
-
-/// Returns the template of a text, or the text's fault.
-fn parsed<F: ParseFilter + Drop, T: ParseTag<F> + Drop, B: ParseBlock<F> + Drop>(
-    alloc: Global,
-    text: &str,
-    language: &Language<F, T, B>,
-) -> Result<Template<F::Filter, T::Node, B::Node>, Error>
-    ensures { Gives (template_nodes F.Filter.shape T.Node.shape B.Node.shape) result
-        (as_tree (reading (language_of F.makes T.gives B.block language.now) text.now)) }
-{
-    match parse(alloc, text, language) {
-        Ok(nodes) => Ok(Template::new(nodes)),
-        Err(error) => Err(error),
     }
 }

@@ -226,7 +226,10 @@ fn is_read_on_demand(alloc: Global, asked: &Rc<Cell<u64>>) -> Result<(), Fail> {
     request(alloc, &mut store, "p")?;
     request(alloc, &mut store, "p")?;
     request(alloc, &mut store, "none")?;
-    holds(asked.get() == 2, "each request reads its text")
+    holds(asked.get() == 2, "each request reads its text")?;
+    get(alloc, &mut store, "none");
+    holds(lists_its_names(alloc, &store)?, "a store has its names")?;
+    holds(asked.get() == 2, "a name is listed or unknown unread")
 }
 
 /// Returns an eager store reads each text when it is made, and none later.
@@ -250,7 +253,10 @@ fn is_read_lazily(alloc: Global, asked: &Rc<Cell<u64>>) -> Result<(), Fail> {
     holds(asked.get() == 6, "a text is read once")?;
     get(alloc, &mut store, "bad");
     request(alloc, &mut store, "bad")?;
-    holds(asked.get() == 7, "a text that is refused is read once")
+    holds(asked.get() == 7, "a text that is refused is read once")?;
+    get(alloc, &mut store, "none");
+    holds(lists_its_names(alloc, &store)?, "a store has its names")?;
+    holds(asked.get() == 7, "a name is listed or unknown unread")
 }
 
 #[test]

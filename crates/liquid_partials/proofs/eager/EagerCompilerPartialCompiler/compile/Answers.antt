@@ -22,7 +22,7 @@ loop-name-preserved g c =
     record {
       source = c.in_ok-try_get.ensures.source ∙ c.loop-name.invariant.source;
       compiled = subst (Compiled (language_of g.F.ParseFilter.makes g.T.ParseTag.gives g.B.ParseBlock.block c.args.language.value) (g.S.PartialSource.texts c.args.self.source)) (sym c.in_ok-try_get.ensures.kept) c.loop-name.invariant.compiled;
-      read = read_more (λ template. template_nodes g.F.Filter.Meant.shape g.T.Node.Meant.shape g.B.Node.Meant.shape template.value) (language_of g.F.ParseFilter.makes g.T.ParseTag.gives g.B.ParseBlock.block old.texts.language.value) (g.S.PartialSource.texts c.args.self.source) old.kept c.try_get.new.self.kept old.texts.readings.count c.try_get.new.self.texts.readings.count (string_bytes c.in-Some.name) (map (λ name. string_bytes name) c.next.new.self.rest.items)
+      read = read_more (λ template. template_nodes g.F.Filter.Meant.shape g.T.Node.Meant.shape g.B.Node.Meant.shape template.value) (language_of g.F.ParseFilter.makes g.T.ParseTag.gives g.B.ParseBlock.block old.texts.parser.language.value) (g.S.PartialSource.texts c.args.self.source) old.kept c.try_get.new.self.kept old.texts.readings.count c.try_get.new.self.texts.readings.count (string_bytes c.in-Some.name) (map (λ name. string_bytes name) c.next.new.self.rest.items)
           known so_far (rw (c.as_str.ensures.value, c.loop-name.invariant.source) at c.in_ok-try_get.ensures.keeps) (rw (c.as_str.ensures.value, c.loop-name.invariant.source) at c.in_ok-try_get.ensures.count);
     }
 

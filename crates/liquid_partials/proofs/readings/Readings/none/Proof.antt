@@ -20,11 +20,11 @@ abbrev stored : Val
 stored = vstruct (vcons (vstruct vnil) vnil)
 
 abbrev empty : Readings
-empty = record { marker = record {}; count = 0 }
+empty = record { marker = record {}; count = 0; lost = 0 }
 
 pub none_spec : {M : Type 1} → statement M
 none_spec 𝓤 𝓛 𝓜 𝓡 wired =
-    let c = f.clauses 𝓛 𝓜.mem 𝓡.returns in let both : empty.count ≡ 0 = refl in
+    let c = f.clauses 𝓛 𝓜.mem 𝓡.returns in let both : (empty.count ≡ 0) × (empty.lost ≡ 0) = (refl, refl) in
     proved 𝓛 f.ended tt c 𝓜 𝓡 tt
     f.Key.name code.function (code.unfolded 𝓤 𝓛.H 𝓜 𝓡 wired)
     (λ κs. tt) (λ κs. tt) (λ κs qs bounds a g are.

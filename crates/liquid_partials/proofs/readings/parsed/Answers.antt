@@ -5,7 +5,7 @@ use Rattle.liquid_parser.specs.meaning.Plugins.{language_of}
 use Rattle.liquid_partials.specs.meaning.Compiled.{as_tree}
 use Rattle.liquid_partials.specs.meaning.Kept.{reading}
 use Rattle.liquid_partials.proofs.StoreLemmas.{if_some, reading_reads}
-use Rattle.liquid_partials.proofs.texts.parsed.Goals as goal
+use Rattle.liquid_partials.proofs.readings.parsed.Goals as goal
 
 pub returns-in-Ok : goal.returns-in-Ok
 returns-in-Ok g c =
