@@ -7,6 +7,7 @@ use Rattle.std.specs.Str.{bytes_eq}
 use Rattle.std.specs.String.{string_cmp}
 use Rattle.std.proofs.lemmas.Map.Text.{btree_map_updates_text}
 use Rattle.std.specs.declared.alloc.Global.{Global}
+use Rattle.liquid.specs.meaning.Files.{Replaces, Same}
 
 choose : {A B : Type 0} (f : A → B) (b : Bool) (x : A) (rest : Option A) → option_map f (cond b (Some x) rest) ≡ cond b (Some (f x)) (option_map f rest)
 choose f true x rest = refl
@@ -25,3 +26,17 @@ pub names_at-insert : (old new : BTreeMap (String Global) (Vec (String Global)))
 names_at-insert old new k names updates p =
     ap (option_map (λ v. map string_bytes v.items)) (btree_map_updates_text (string_bytes k) old new (Some names) updates p)
     ∙ choose (λ v. map string_bytes v.items) (bytes_eq (string_bytes k) p) names (get_by_text old p)
+
+some_of : (b : Bool) (x y : Option (List ℕ)) → Some (cond b x y) ≡ cond b (Some x) (Some y)
+some_of true x y = refl
+some_of false x y = refl
+
+-- files in memory are known
+pub replaced_in_memory : (old new : List ℕ → Option (List ℕ)) (file bytes : List ℕ) → ((p : List ℕ) → new p ≡ (if bytes_eq file p then Some bytes else old p))
+    → Replaces (λ p. Some (old p)) (λ p. Some (new p)) file bytes
+replaced_in_memory old new file bytes added = λ p. ap Some (added p) ∙ some_of (bytes_eq file p) (Some bytes) (old p)
+
+pub same_in_memory : (old new : List ℕ → Option (List ℕ)) → ((p : List ℕ) → new p ≡ old p) → Same (λ p. Some (old p)) (λ p. Some (new p))
+same_in_memory old new kept = λ p. ap Some (kept p)
+
+pub ruleset in_memory = (replaced_in_memory, same_in_memory)

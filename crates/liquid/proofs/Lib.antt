@@ -7,3 +7,5 @@ pub mod UntouchedSinks
 pub mod FilesInMemory
 pub mod RunLemmas
 pub mod ShownRuns
+pub mod PagesLemmas
+pub mod EndingLemmas

@@ -9,7 +9,7 @@ use Rattle.liquid_partials.specs.meaning.Sources.{Texts}
 use Rattle.liquid_pages.specs.declared.options.PageOptions.{PageOptions}
 use Rattle.liquid_pages.specs.meaning.Pages.{Renders as RendersPage}
 use Rattle.liquid.specs.declared.command.Options.{Options}
-use Rattle.liquid.specs.meaning.Program.{Prints, Renders, RendersIn, Runs, page_options}
+use Rattle.liquid.specs.meaning.Program.{Printed, Renders, RendersIn, page_options}
 use Rattle.liquid.specs.meaning.ProgramLanguage.{PlainLang, StandardLang, plain_language, plain_setting, standard_language, standard_setting}
 use Rattle.liquid.specs.meaning.Status.{settled}
 
@@ -44,13 +44,13 @@ appends_kept (Some x) None after more appended kept = absurd appended
 appends_kept (Some x) (Some y) None more appended kept = absurd kept
 appends_kept (Some x) (Some y) (Some z) more appended kept = kept ∙ appended
 
--- a run over a sink that has taken nothing, then a flush
-pub Prints-settled : (words : List (List ℕ)) (known : List ℕ → Option (Option (List ℕ))) (listed : List ℕ → Option (Option (List (List ℕ)))) (start stop : Sunk)
+-- what is done over a sink that has taken nothing, then a flush
+pub Printed-settled : (Done : Sunk → Sunk → ℕ → Type 0) (start stop : Sunk)
     (before between after : Option (List ℕ)) (answered status : ℕ) (flushed : Bool)
-    → Runs words known listed start stop answered
+    → Done start stop answered
     → start.taken ≡ [] → start.failures ≡ 0 → start.behind ≡ before → stop.lent ≡ start.lent → Grows start stop → between ≡ stop.behind → Keeps between after
-    → status ≡ settled answered flushed → Prints words known listed before after status
-Prints-settled words known listed start stop before between after answered status flushed runs nothing none same_before same_lent grows same_between kept is =
+    → status ≡ settled answered flushed → Printed Done before after status
+Printed-settled Done start stop before between after answered status flushed done nothing none same_before same_lent grows same_between kept is =
     let begins : start ≡ sunk [] 0 before start.lent =
     ap (λ t. sunk t start.failures start.behind start.lent) nothing ∙ ap (λ n. sunk [] n start.behind start.lent) none ∙ ap (λ b. sunk [] 0 b start.lent) same_before in
     let ends : stop ≡ sunk stop.taken stop.failures stop.behind start.lent = ap (λ l. sunk stop.taken stop.failures stop.behind l) same_lent in
@@ -65,8 +65,8 @@ Prints-settled words known listed start stop before between after answered statu
           subst (λ t. Appends before after t) (sym (grows.taken_is ∙ ap (λ t. t ++ grows.more) nothing))
           (appends_kept before between after grows.more
           (subst (λ b. Appends before b grows.more) (sym same_between) (subst (λ b. Appends b stop.behind grows.more) same_before grows.behind_is)) kept);
-      runs =
-          subst (λ s. Runs words known listed s (sunk stop.taken stop.failures stop.behind start.lent) answered) begins
-          (subst (λ s. Runs words known listed start s answered) ends runs);
+      done =
+          subst (λ s. Done s (sunk stop.taken stop.failures stop.behind start.lent) answered) begins
+          (subst (λ s. Done start s answered) ends done);
       status_is = is;
     }

@@ -20,10 +20,13 @@ use Rattle.liquid_template.specs.meaning.Run.{Action}
 use Rattle.liquid_pages.specs.declared.options.PageOptions.{PageOptions}
 use Rattle.liquid_pages.specs.meaning.Pages.{PageAnswer, Renders as RendersPage, Settings, first_register, first_view, page_action}
 use Rattle.liquid.specs.meaning.ProgramLanguage.{plain_language, plain_setting, standard_language, standard_setting}
-use Rattle.liquid.specs.meaning.Program.{page_options, status_of, Fails, Finishes, Executes, Prints, RendersIn}
+use Rattle.liquid.specs.meaning.Program.{page_options, status_of, Fails, Finishes, Executes, Printed, RendersIn}
+use Rattle.liquid.specs.meaning.PagesCommand.{AskedPages, pages_of}
+use Rattle.liquid.specs.meaning.Written.{Placed, Prints, WritesOthers}
+use Rattle.std.specs.Option.{unwrap_or}
 use Rattle.liquid.specs.meaning.Command.{Asked, command_of}
 use Rattle.liquid.specs.meaning.Status.{settled}
-use Rattle.liquid.specs.meaning.InMemory.{IsBeginning, IsWhole, ShowsAnswer, ShowsNothing, ShowsPage, ShowsIn, ShowsText, ShowsCommand, Shows}
+use Rattle.liquid.specs.meaning.InMemory.{IsBeginning, IsWhole, ShowsAnswer, ShowsNothing, ShowsPage, ShowsIn, ShowsText, ShowsCommand, ShowsPlaced, Shows, known_in, listed_in}
 use Rattle.liquid.specs.declared.command.Options.{Options}
 use Rattle.liquid.proofs.GatheredLemmas.{gathers_follow}
 
@@ -34,10 +37,6 @@ refused_status false = refl
 unread_status : (flushed : Bool) → settled 3 flushed ≡ 3
 unread_status true = refl
 unread_status false = refl
-
-usage_status : (flushed : Bool) → settled 2 flushed ≡ 2
-usage_status true = refl
-usage_status false = refl
 
 whole_begins : {Reg : Type 0} (r : Run Reg) (output : List ℕ) → output ≡ written r → IsBeginning r output
 whole_begins r output is = ([], sym is ∙ sym (append-nil output))
@@ -104,22 +103,39 @@ module _ (behind behind_after : Option (List ℕ)) (lent : List ℕ) where
       subst (λ s. ShowsText options text globals partials output (settled s flushed)) (sym finishes.status_is)
       (shown_in options.standard (page_options options) text globals partials output failures flushed finishes.result finishes.renders)
 
-  shown_command : (options : Options) (paths : List (List ℕ)) (files : List ℕ → Option (List ℕ)) (folders : List ℕ → Option (List (List ℕ))) (output : List ℕ) (failures answered : ℕ) (flushed : Bool)
-      → Executes options paths (λ path. Some (files path)) (λ path. Some (folders path)) fresh (filled output failures) answered → ShowsCommand options paths files folders output (settled answered flushed)
-  shown_command options paths files folders output failures answered flushed runs =
-      gathers_follow paths (λ path. Some (files path)) (λ path. Some (folders path)) _ _ _ _ (shown_nothing output failures answered flushed)
+  shown_command : (options : Options) (ending : Option (List ℕ)) (paths : List (List ℕ)) (files : List ℕ → Option (List ℕ)) (folders : Bool → List ℕ → Option (List (List ℕ))) (output : List ℕ) (failures answered : ℕ) (flushed : Bool)
+      → Executes options ending paths (known_in files) (listed_in folders) fresh (filled output failures) answered → ShowsCommand options ending paths files folders output (settled answered flushed)
+  shown_command options ending paths files folders output failures answered flushed runs =
+      gathers_follow paths ending (known_in files) (listed_in folders) _ _ _ _ (shown_nothing output failures answered flushed)
       (λ text globals partials. shown_text options text globals partials output failures answered flushed) runs
 
+module _ (files left : List ℕ → Option (List ℕ)) (folders : Bool → List ℕ → Option (List (List ℕ))) (output : List ℕ) (status : ℕ) where
+  -- a page that is printed to an empty output is what its command shows
+  printed_page : (options : Options) (ending : Option (List ℕ)) (paths : List (List ℕ))
+      → Printed (Executes options ending paths (known_in files) (listed_in folders)) (Some []) (Some output) status → ShowsCommand options ending paths files folders output status
+  printed_page options ending paths p =
+      let same : p.taken ≡ output = sym p.appended in
+      subst (λ s. ShowsCommand options ending paths files folders output s) (sym p.status_is)
+      (subst (λ o. ShowsCommand options ending paths files folders o (settled p.answered p.flushed)) same
+      (shown_command (Some []) p.behind p.lent options ending paths files folders p.taken p.failures p.answered p.flushed p.done))
+
+  printed_output : (after : Option (List ℕ)) → Some output ≡ after → after ≡ Some [] → output ≡ []
+  printed_output after same is = ap (λ o. unwrap_or o output) (same ∙ is)
+
+  printed_asked : (asked : Asked) (place : Option (List ℕ)) → Placed Printed asked place (known_in files) (listed_in folders) (known_in left) (Some []) (Some output) status
+      → ShowsPlaced asked place files folders left output status
+  printed_asked asked None p = (p.0, printed_page asked.choices.options asked.choices.ending asked.paths p.1)
+  printed_asked asked (Some place) p = (printed_output (Some output) refl p.0, p.1)
+
+  printed_words : (command : Option Asked) (others : Option AskedPages)
+      → MatchOption command ((Some output ≡ Some []) × WritesOthers others (known_in files) (listed_in folders) (known_in left) status)
+      (λ asked. Placed Printed asked asked.choices.output (known_in files) (listed_in folders) (known_in left) (Some []) (Some output) status)
+      → MatchOption command ((output ≡ []) × WritesOthers others (known_in files) (listed_in folders) (known_in left) status)
+      (λ asked. ShowsPlaced asked asked.choices.output files folders left output status)
+  printed_words None others p = (printed_output (Some output) refl p.0, p.1)
+  printed_words (Some asked) others p = printed_asked asked asked.choices.output p
+
 -- what is printed to an empty output is what the words show
-pub Shows-printed : (words : List (List ℕ)) (files : List ℕ → Option (List ℕ)) (folders : List ℕ → Option (List (List ℕ))) (output : List ℕ) (status : ℕ)
-    → Prints words (λ path. Some (files path)) (λ path. Some (folders path)) (Some []) (Some output) status → Shows words files folders output status
-Shows-printed words files folders output status p =
-    let same : p.taken ≡ output = sym p.appended in
-    subst (λ s. Shows words files folders output s) (sym p.status_is) (subst (λ o. Shows words files folders o (settled p.answered p.flushed)) same (shown (command_of words) p.runs))
-  where
-    shown : (command : Option Asked)
-        → MatchOption command ((sunk p.taken p.failures p.behind p.lent ≡ sunk [] 0 (Some []) p.lent) × (p.answered ≡ 2))
-        (λ asked. Executes asked.options asked.paths (λ path. Some (files path)) (λ path. Some (folders path)) (sunk [] 0 (Some []) p.lent) (sunk p.taken p.failures p.behind p.lent) p.answered)
-        → MatchOption command ((p.taken ≡ []) × (settled p.answered p.flushed ≡ 2)) (λ asked. ShowsCommand asked.options asked.paths files folders p.taken (settled p.answered p.flushed))
-    shown None none = (ap (λ s. s.taken) none.0, rw none.1 (usage_status p.flushed))
-    shown (Some asked) runs = shown_command (Some []) p.behind p.lent asked.options asked.paths files folders p.taken p.failures p.answered p.flushed runs
+pub Shows-printed : (words : List (List ℕ)) (files left : List ℕ → Option (List ℕ)) (folders : Bool → List ℕ → Option (List (List ℕ))) (output : List ℕ) (status : ℕ)
+    → Prints words (known_in files) (listed_in folders) (known_in left) (Some []) (Some output) status → Shows words files folders left output status
+Shows-printed words files left folders output status p = printed_words files left folders output status (command_of words) (pages_of words) p

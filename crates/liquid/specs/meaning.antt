@@ -5,3 +5,5 @@ pub mod InMemory
 pub mod Program
 pub mod ProgramLanguage
 pub mod Status
+pub mod PagesCommand
+pub mod Written

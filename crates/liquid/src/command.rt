@@ -1,8 +1,9 @@
-//! The command line of the program.
+//! The command line of one page.
 ghost use Rattle.std.specs.Prelude.{◌≡◌, ◌∷◌, IfSome, is_some, map, option_map, string_bytes};
 ghost use Rattle.liquid.specs.meaning.Command.{
   are_paths,
   asked_of,
+  choices_of,
   command_in,
   command_of,
   first_word,
@@ -10,22 +11,39 @@ ghost use Rattle.liquid.specs.meaning.Command.{
   is_verb,
   options_before,
   path_words,
+  plainly,
   short_command,
   with_option,
 };
 
 use crate::long_command::{PathsRead, long_command};
 
-/// A command: its options, and the paths of a template, of its globals and of the folder of its partials, if there is
-/// one.
+/// A command for one page: what its options choose, and the paths of a template, of its globals and of the folder of its
+/// partials, if there is one.
 ///
 /// The short form is `render [--standard] [--sandboxed] [--lenient] TEMPLATE GLOBALS.json [DIR]`. Words that are not of
 /// this form may be of the long one: `render`, and then options and paths in any order. It has the options
-/// `--explain`, `--turns N` and `--bytes N` too. After the word `--` all words are paths. Each option is given at most once.
+/// `--explain`, `--turns N`, `--bytes N`, `--ext .EXT` and `-o FILE` too. After the word `--` all words are paths. Each
+/// option is given at most once.
 #[derive(Clone, Copy)]
 pub struct Command<'w> {
-    pub options: Options,
+    pub choices: Choices<'w>,
     pub paths: Paths<'w>,
+}
+
+/// What options choose.
+#[derive(Clone, Copy)]
+pub struct Choices<'w> {
+    /// The options that have no word of their own, and those with a number.
+    pub options: Options,
+    /// The ending of the files that are partials, if not all are.
+    pub ending: Option<&'w str>,
+    /// The file or the folder that is written to, if not standard output.
+    pub output: Option<&'w str>,
+    /// The file of the globals of several pages.
+    pub globals: Option<&'w str>,
+    /// The folder of the partials of several pages.
+    pub partials: Option<&'w str>,
 }
 
 /// Whether to render with the standard filters, whether to render in a sandbox, whether a name without a value is nil
@@ -40,11 +58,15 @@ pub struct Options {
     pub max_bytes: Option<u64>,
 }
 
-/// An option that has a number.
+/// An option whose word is the next one.
 #[derive(Clone, Copy)]
-pub(crate) enum Limit {
+pub(crate) enum Awaited {
     Turns,
     Bytes,
+    Ending,
+    Output,
+    Globals,
+    Partials,
 }
 
 /// The paths that a command names.
@@ -55,7 +77,7 @@ pub struct Paths<'w> {
     pub folder: Option<&'w str>,
 }
 
-const NO_OPTIONS: Options = Options {
+pub(crate) const NO_OPTIONS: Options = Options {
     standard: false,
     sandboxed: false,
     lenient: false,
@@ -64,7 +86,20 @@ const NO_OPTIONS: Options = Options {
     max_bytes: None,
 };
 
-fn is_verb(word: &str) -> bool
+/// Returns these options, and nothing else chosen.
+pub(crate) fn plainly<'w>(options: Options) -> Choices<'w>
+    ensures { choices_of result ≡ plainly options }
+{
+    Choices {
+        options,
+        ending: None,
+        output: None,
+        globals: None,
+        partials: None,
+    }
+}
+
+pub(crate) fn is_verb(word: &str) -> bool
     ensures { result ≡ is_verb word.now }
 {
     word == "render"
@@ -157,7 +192,10 @@ fn short_command(words: &[String]) -> Option<Command<'_>>
 {
     let (options, rest) = split_options(NO_OPTIONS, words);
     let paths = Paths::from_words(rest)?;
-    Some(Command { options, paths })
+    Some(Command {
+        choices: plainly(options),
+        paths,
+    })
 }
 
 impl<'w> Command<'w> {
@@ -180,6 +218,6 @@ fn command_in(words: &[String]) -> Option<Command<'_>>
 {
     match short_command(words) {
         Some(command) => Some(command),
-        None => long_command(NO_OPTIONS, PathsRead::None, None, words),
+        None => long_command(plainly(NO_OPTIONS), PathsRead::None, None, words),
     }
 }

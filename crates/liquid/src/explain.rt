@@ -1,8 +1,10 @@
 //! What `--explain` adds to a fault.
+ghost use Rattle.std.specs.Prelude.{◌≡◌};
 
-use crate::command::Command;
+use crate::command::Paths;
 use crate::fault::Fault;
 use crate::folder::{Folder, Why};
+use liquid_core::{Error, Place};
 use liquid_pages::{PageFault, globals_of};
 use std::alloc::Global;
 use std::io::Write;
@@ -13,11 +15,13 @@ const WIDTH: usize = 300;
 /// Writes a fault, with long lines cut, and what is known of its cause.
 pub fn explain<F: Folder, E: Write>(
     alloc: Global,
-    command: &Command<'_>,
+    paths: &Paths<'_>,
     fault: &Fault<'_>,
     files: &mut F,
     err: &mut E,
-) {
+)
+    ensures { F.known files.new ≡ F.known files.old }
+{
     match format!(in alloc; "{fault}") {
         Ok(text) => {
             for line in text.as_str().lines() {
@@ -29,21 +33,36 @@ pub fn explain<F: Folder, E: Write>(
         }
     }
     match fault {
-        Fault::Unreadable(path) => explain_unread(
-            path,
-            command.paths.folder == Some(*path),
-            files,
-            err,
-        ),
+        Fault::Unreadable(path) => explain_unread(path, paths.folder == Some(*path), files, err),
         Fault::UnreadableInFolder(path) => explain_unread(path.as_str(), false, files, err),
         Fault::BadJson(path) => explain_json(alloc, path, files, err),
         Fault::NoGlobals(_) => {
-            let _ = writeln!(err, "  in {}", command.paths.globals);
+            let _ = writeln!(err, "  in {}", paths.globals);
+        }
+        Fault::Unwritable(_) => {
+            let _ = writeln!(err, "  rendering {}", paths.template);
         }
         Fault::Refused(error) => if !error.is_memory() {
-            let _ = writeln!(err, "  rendering {}", command.paths.template);
+            explain_place(alloc, error, err);
+            let _ = writeln!(err, "  rendering {}", paths.template);
         },
         Fault::Usage => {}
+    }
+}
+
+/// Writes the place that an error is about, if its text doesn't have it.
+fn explain_place<E: Write>(alloc: Global, error: &Error, err: &mut E) {
+    let Some(Place { line, column }) = error.place() else {
+        return;
+    };
+    let Ok(text) = format!(in alloc; "{error}") else {
+        return;
+    };
+    let Ok(place) = format!(in alloc; "(line {line}, column {column})") else {
+        return;
+    };
+    if !text.as_str().contains(place.as_str()) {
+        let _ = writeln!(err, "  at line {line}, column {column}");
     }
 }
 
@@ -59,7 +78,9 @@ fn write_cut<E: Write>(line: &str, err: &mut E) {
 }
 
 /// Writes why a file or a folder can't be read.
-fn explain_unread<F: Folder, E: Write>(path: &str, is_listed: bool, files: &mut F, err: &mut E) {
+fn explain_unread<F: Folder, E: Write>(path: &str, is_listed: bool, files: &mut F, err: &mut E)
+    ensures { F.known files.new ≡ F.known files.old }
+{
     let why = match files.why(path, is_listed) {
         Why::NotThere => "there is no such file",
         Why::Folder => "it is a folder",
@@ -72,7 +93,9 @@ fn explain_unread<F: Folder, E: Write>(path: &str, is_listed: bool, files: &mut 
 }
 
 /// Writes where the text of a file is not JSON.
-fn explain_json<F: Folder, E: Write>(alloc: Global, path: &str, files: &mut F, err: &mut E) {
+fn explain_json<F: Folder, E: Write>(alloc: Global, path: &str, files: &mut F, err: &mut E)
+    ensures { F.known files.new ≡ F.known files.old }
+{
     let Ok(bytes) = files.read(alloc, path) else {
         return;
     };

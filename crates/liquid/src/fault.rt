@@ -18,6 +18,9 @@ pub enum Fault<'w> {
     /// The same for a file in a folder.
     #[error("liquid: cannot read {0}\n")]
     UnreadableInFolder(String),
+    /// The page can't be written to the file at this path.
+    #[error("liquid: cannot write {0}\n")]
+    Unwritable(String),
     /// The text of the file at this path is not JSON.
     #[error("liquid: bad JSON in {0}\n")]
     BadJson(&'w str),
@@ -34,7 +37,7 @@ impl Fault<'_> {
         ensures { result ≡ fault_status self.now }
     {
         match self {
-            Fault::Refused(_) => 1,
+            Fault::Refused(_) | Fault::Unwritable(_) => 1,
             Fault::Usage => 2,
             Fault::Unreadable(_)
             | Fault::UnreadableInFolder(_)

@@ -1,6 +1,7 @@
 //! Reading the files that a command names.
-ghost use Rattle.std.specs.Prelude.{◌≡◌, ◌≢◌, Some, IfOk, IfErr, map, option_map, string_bytes};
+ghost use Rattle.std.specs.Prelude.{◌≡◌, ◌≢◌, [], Some, is_some, IfOk, IfErr, map, option_map, string_bytes};
 ghost use Rattle.std.specs.FinMap.{empty, keys};
+ghost use Rattle.std.specs.Option.{unwrap_or};
 ghost use Rattle.liquid_runtime.specs.meaning.Maps.{names_of};
 ghost use Rattle.liquid_plugins.specs.meaning.Registry.{by_name};
 ghost use Rattle.liquid_json.specs.meaning.Given.{object_read};
@@ -8,6 +9,7 @@ ghost use Rattle.liquid.specs.meaning.Command.{option_words};
 ghost use Rattle.liquid.specs.meaning.Gathered.{
   names_into,
   path_in,
+  stem_of,
   WithFiles,
   WithFolder,
   WithGlobals,
@@ -49,14 +51,16 @@ pub(crate) fn text_in<'w, F: Folder>(
     alloc: Global,
     files: &mut F,
     folder: &str,
+    ending: &str,
     name: &str,
 ) -> Result<String, Fault<'w>>
-    ensures text { WithText (F.known files.old (path_in folder.now name.now)) (Stops result) (λ text. Brings string_bytes text result) }
+    ensures text { WithText (F.known files.old (path_in folder.now ending.now name.now)) (Stops result)
+        (λ text. Brings string_bytes text result) }
     ensures command { IfErr result (λ fault. fault_status fault ≢ 2) }
     ensures same { F.known files.new ≡ F.known files.old }
     ensures listed { F.listed files.new ≡ F.listed files.old }
 {
-    let Ok(path) = path_in(alloc, folder, name) else {
+    let Ok(path) = path_in(alloc, folder, ending, name) else {
         return Err(Fault::Refused(Error::Memory));
     };
     match read_text(alloc, files, path.as_str()) {
@@ -66,10 +70,10 @@ pub(crate) fn text_in<'w, F: Folder>(
     }
 }
 
-fn path_in(alloc: Global, folder: &str, name: &str) -> Result<String, AllocError>
-    ensures { IfOk result (λ path. string_bytes path ≡ path_in folder.now name.now) }
+fn path_in(alloc: Global, folder: &str, ending: &str, name: &str) -> Result<String, AllocError>
+    ensures { IfOk result (λ path. string_bytes path ≡ path_in folder.now ending.now name.now) }
 {
-    format!(in alloc; "{folder}/{name}")
+    format!(in alloc; "{folder}/{name}{ending}")
 }
 
 fn read_text<F: Folder>(alloc: Global, files: &mut F, path: &str) -> Result<String, Unread>
@@ -84,19 +88,21 @@ fn read_text<F: Folder>(alloc: Global, files: &mut F, path: &str) -> Result<Stri
     }
 }
 
-/// Returns the names of the files in a folder, in byte order.
+/// Returns the names of the partials in a folder, in byte order.
 fn names_in<'w, F: Folder>(
     alloc: Global,
     files: &mut F,
+    ending: Option<&str>,
     folder: &'w str,
 ) -> Result<BTreeMap<String, ()>, Fault<'w>>
-    ensures names { WithNames (F.listed files.old folder.now) (Stops result) (λ names. Brings by_name (names_into empty names) result) }
+    ensures names { WithNames (F.listed files.old (is_some (option_map (λ e. e.now) ending.entry)) folder.now) (Stops result)
+        (λ names. Brings by_name (names_into (option_map (λ e. e.now) ending.entry) empty names) result) }
     ensures command { IfErr result (λ fault. fault_status fault ≢ 2) }
     ensures same { F.known files.new ≡ F.known files.old }
     ensures listed { F.listed files.new ≡ F.listed files.old }
 {
-    match files.list(alloc, folder) {
-        Ok(names) => match in_order(alloc, names) {
+    match files.list(alloc, folder, is_deep(ending)) {
+        Ok(names) => match in_order(alloc, ending, names) {
             Ok(names) => Ok(names),
             Err(_) => Err(Fault::Refused(Error::Memory)),
         },
@@ -105,60 +111,106 @@ fn names_in<'w, F: Folder>(
     }
 }
 
-fn in_order(alloc: Global, names: Vec<String>) -> Result<BTreeMap<String, ()>, AllocError>
-    ensures { IfOk result (λ set. by_name set ≡ names_into empty (map string_bytes names.items)) }
+/// Returns `true` if partials have an ending. Then those in subfolders are among them.
+fn is_deep(ending: Option<&str>) -> bool
+    ensures { result ≡ is_some (option_map (λ e. e.now) ending.entry) }
+{
+    match ending {
+        Some(_) => true,
+        None => false,
+    }
+}
+
+/// Returns the name of the partial in the file of this name, if it is one.
+#[tactic(auto, using(crate::proofs::EndingLemmas::stem_stripped))]
+fn stem_of<'n>(ending: Option<&str>, name: &'n str) -> Option<&'n str>
+    ensures { option_map (λ stem. stem.now) result ≡ stem_of (option_map (λ e. e.now) ending.entry) name.now }
+{
+    match ending {
+        None => Some(name),
+        Some(ending) => name.strip_suffix(ending),
+    }
+}
+
+fn in_order(
+    alloc: Global,
+    ending: Option<&str>,
+    names: Vec<String>,
+) -> Result<BTreeMap<String, ()>, AllocError>
+    ensures { IfOk result (λ set. by_name set
+        ≡ names_into (option_map (λ e. e.now) ending.entry) empty (map string_bytes names.items)) }
 {
     let mut set = BTreeMap::new(alloc);
     for name in names {
-        set.insert(name, ())?;
+        if let Some(stem) = stem_of(ending, name.as_str()) {
+            set.insert(String::from_str(alloc, stem)?, ())?;
+        }
     }
     Ok(set)
 }
 
-/// Returns the partials of the command's folder, if it names one.
+/// Returns the partials of the folder, if there is one.
 pub(crate) fn partials_of<'w, F: Folder>(
     alloc: Global,
     files: &mut F,
+    ending: Option<&str>,
     folder: Option<&'w str>,
 ) -> Result<Option<InMemorySource>, Fault<'w>>
-    ensures partials { WithPartials (F.known files.old) (F.listed files.old) (option_words (option_map (λ f. f.now) folder.entry))
+    ensures partials { WithPartials (F.known files.old) (F.listed files.old) (option_map (λ e. e.now) ending.entry)
+        (option_words (option_map (λ f. f.now) folder.entry))
         (Stops result) (λ partials. Brings (λ source. source) partials result) }
     ensures command { IfErr result (λ fault. fault_status fault ≢ 2) }
+    ensures same { F.known files.new ≡ F.known files.old }
 {
     match folder {
-        Some(folder) => Ok(Some(partials_in(alloc, files, folder)?)),
+        Some(folder) => Ok(Some(partials_in(alloc, files, ending, folder)?)),
         None => Ok(None),
     }
 }
 
-/// Returns the partials of a folder: the text of each of its files, under the file's name.
+/// Returns the partials of a folder: the text of each, under its name.
 fn partials_in<'w, F: Folder>(
     alloc: Global,
     files: &mut F,
+    ending: Option<&str>,
     folder: &'w str,
 ) -> Result<InMemorySource, Fault<'w>>
-    ensures partials { WithFolder (F.known files.old) folder.now (F.listed files.old folder.now)
+    ensures partials { WithFolder (F.known files.old) folder.now (option_map (λ e. e.now) ending.entry)
+        (F.listed files.old (is_some (option_map (λ e. e.now) ending.entry)) folder.now)
         (Stops result) (λ texts. Brings (λ source. source) texts result) }
     ensures command { IfErr result (λ fault. fault_status fault ≢ 2) }
+    ensures same { F.known files.new ≡ F.known files.old }
 {
-    let names = names_in(alloc, files, folder)?;
-    texts_of(alloc, files, folder, names)
+    let names = names_in(alloc, files, ending, folder)?;
+    texts_of(alloc, files, folder, ending_text(ending), names)
 }
 
-/// Returns the texts of the files of these names in a folder, each under its name.
+/// Returns the ending, and the empty text if there is none.
+fn ending_text<'e>(ending: Option<&'e str>) -> &'e str
+    ensures { result.now ≡ unwrap_or (option_map (λ e. e.now) ending.entry) [] }
+{
+    match ending {
+        Some(ending) => ending,
+        None => "",
+    }
+}
+
+/// Returns the texts of the partials of these names in a folder, each under its name.
 fn texts_of<'w, F: Folder>(
     alloc: Global,
     files: &mut F,
     folder: &str,
+    ending: &str,
     names: BTreeMap<String, ()>,
 ) -> Result<InMemorySource, Fault<'w>>
-    ensures texts { WithFiles (F.known files.old) folder.now (keys (by_name names)) empty
+    ensures texts { WithFiles (F.known files.old) folder.now ending.now (keys (by_name names)) empty
         (Stops result) (λ texts. Brings (λ source. source) texts result) }
     ensures command { IfErr result (λ fault. fault_status fault ≢ 2) }
+    ensures same { F.known files.new ≡ F.known files.old }
 {
     let mut source = InMemorySource::new(alloc);
     for (name, ()) in names {
-        let text = text_in(alloc, files, folder, name.as_str())?;
+        let text = text_in(alloc, files, folder, ending, name.as_str())?;
         if source.add(name, text).is_err() {
             return Err(Fault::Refused(Error::Memory));
         }

@@ -2,21 +2,27 @@
 ghost use Rattle.std.specs.Prelude.{◌≡◌, map, option_map, string_bytes};
 ghost use Rattle.liquid.specs.meaning.Command.{
   asked_of,
-  limit_of,
+  awaited_by,
+  choices_of,
+  is_ending,
+  is_output,
+  is_place,
   long_command,
   number,
   number_after,
   path_named,
   whole_command,
+  with_bytes,
   with_digit,
-  with_limit,
   with_long_option,
   with_path,
   with_paths,
+  with_turns,
+  with_word,
 };
 ghost use Rattle.liquid.specs.steps.Words.{words_of};
 
-use crate::command::{Command, Limit, Options, Paths, is_path, with_option};
+use crate::command::{Awaited, Choices, Command, Options, Paths, is_path, with_option};
 
 /// The paths that have been read.
 #[derive(Clone, Copy)]
@@ -69,14 +75,17 @@ fn with_paths<'w>(paths: PathsRead<'w>, words: &'w [String]) -> Option<PathsRead
     }
 }
 
-/// Returns the command of these options and paths, if a template and its globals are among them.
-fn whole_command<'w>(options: Options, paths: PathsRead<'w>) -> Option<Command<'w>>
-    ensures { option_map asked_of result ≡ whole_command options (words_of paths.entry) }
+/// Returns the command of these choices and paths, if a template and its globals are among them.
+fn whole_command<'w>(choices: Choices<'w>, paths: PathsRead<'w>) -> Option<Command<'w>>
+    ensures { option_map asked_of result ≡ whole_command (choices_of choices.entry) (words_of paths.entry) }
 {
+    if choices.globals.is_some() || choices.partials.is_some() {
+        return None;
+    }
     match paths {
         PathsRead::None | PathsRead::One(_) => None,
         PathsRead::Two(template, globals) => Some(Command {
-            options,
+            choices,
             paths: Paths {
                 template,
                 globals,
@@ -84,7 +93,7 @@ fn whole_command<'w>(options: Options, paths: PathsRead<'w>) -> Option<Command<'
             },
         }),
         PathsRead::Three(template, globals, folder) => Some(Command {
-            options,
+            choices,
             paths: Paths {
                 template,
                 globals,
@@ -130,8 +139,8 @@ fn number(word: &str) -> Option<u64>
     }
 }
 
-/// Returns the options with the one that a word is, if it has no number and isn't set yet.
-fn with_long_option(word: &str, options: Options) -> Option<Options>
+/// Returns the options with the one that a word is, if it has no word after it and isn't set yet.
+pub(crate) fn with_long_option(word: &str, options: Options) -> Option<Options>
     ensures { result ≡ with_long_option word.now options }
 {
     if word == "--explain" && !options.explain {
@@ -144,75 +153,140 @@ fn with_long_option(word: &str, options: Options) -> Option<Options>
     }
 }
 
-/// Returns the limit whose number comes after the word, if it isn't set yet.
-fn limit_of(word: &str, options: Options) -> Option<Limit>
-    ensures { result ≡ limit_of word.now options }
+/// Returns the option whose word comes after this one, if it isn't chosen yet.
+pub(crate) fn awaited_by(word: &str, choices: Choices<'_>) -> Option<Awaited>
+    ensures { result ≡ awaited_by word.now (choices_of choices.entry) }
 {
-    if word == "--turns" && options.max_turns.is_none() {
-        Some(Limit::Turns)
-    } else if word == "--bytes" && options.max_bytes.is_none() {
-        Some(Limit::Bytes)
+    if word == "--turns" && choices.options.max_turns.is_none() {
+        Some(Awaited::Turns)
+    } else if word == "--bytes" && choices.options.max_bytes.is_none() {
+        Some(Awaited::Bytes)
+    } else if word == "--ext" && choices.ending.is_none() {
+        Some(Awaited::Ending)
+    } else if word == "-o" && choices.output.is_none() {
+        Some(Awaited::Output)
+    } else if word == "--globals" && choices.globals.is_none() {
+        Some(Awaited::Globals)
+    } else if word == "--partials" && choices.partials.is_none() {
+        Some(Awaited::Partials)
     } else {
         None
     }
 }
 
-/// Returns the options with a limit of this number.
-fn with_limit(limit: Limit, number: u64, options: Options) -> Options
-    ensures { result ≡ with_limit limit number options }
+/// Returns `true` if a word in the place of a path is not an option.
+pub(crate) fn is_place(word: &str) -> bool
+    ensures { result ≡ is_place word.now }
 {
-    match limit {
-        Limit::Turns => Options {
-            max_turns: Some(number),
-            ..options
+    is_path(word) && word != "-o"
+}
+
+fn is_ending(word: &str) -> bool
+    ensures { result ≡ is_ending word.now }
+{
+    let bytes = word.as_bytes();
+    bytes.starts_with(b".") && bytes.len() > 1 && !bytes.contains(&b'/')
+}
+
+fn is_output(word: &str) -> bool
+    ensures { result ≡ is_output word.now }
+{
+    !word.is_empty() && is_place(word) && word != "-"
+}
+
+fn with_turns<'w>(choices: Choices<'w>, turns: u64) -> Choices<'w>
+    ensures { choices_of result ≡ with_turns (choices_of choices.entry) turns }
+{
+    Choices {
+        options: Options {
+            max_turns: Some(turns),
+            ..choices.options
         },
-        Limit::Bytes => Options {
-            max_bytes: Some(number),
-            ..options
-        },
+        ..choices
     }
 }
 
-/// Returns the command that the words are after these options and paths. If `limit` is given, the first word is its
-/// number.
+fn with_bytes<'w>(choices: Choices<'w>, bytes: u64) -> Choices<'w>
+    ensures { choices_of result ≡ with_bytes (choices_of choices.entry) bytes }
+{
+    Choices {
+        options: Options {
+            max_bytes: Some(bytes),
+            ..choices.options
+        },
+        ..choices
+    }
+}
+
+/// Returns the choices with the word of an option, if it is one that the option can have.
+pub(crate) fn with_word<'w>(
+    option: Awaited,
+    word: &'w str,
+    choices: Choices<'w>,
+) -> Option<Choices<'w>>
+    ensures { option_map choices_of result ≡ with_word option word.now (choices_of choices.entry) }
+{
+    match option {
+        Awaited::Turns => Some(with_turns(choices, number(word)?)),
+        Awaited::Bytes => Some(with_bytes(choices, number(word)?)),
+        Awaited::Ending if is_ending(word) => Some(Choices {
+            ending: Some(word),
+            ..choices
+        }),
+        Awaited::Output if is_output(word) => Some(Choices {
+            output: Some(word),
+            ..choices
+        }),
+        Awaited::Globals if is_place(word) => Some(Choices {
+            globals: Some(path_named(word)),
+            ..choices
+        }),
+        Awaited::Partials if is_place(word) => Some(Choices {
+            partials: Some(word),
+            ..choices
+        }),
+        _ => None,
+    }
+}
+
+/// Returns the command that the words are after these choices and paths. If `option` is given, the first word is its
+/// word.
 pub(crate) fn long_command<'w>(
-    options: Options,
+    choices: Choices<'w>,
     paths: PathsRead<'w>,
-    limit: Option<Limit>,
+    option: Option<Awaited>,
     words: &'w [String],
 ) -> Option<Command<'w>>
-    ensures { option_map asked_of result ≡ long_command options (words_of paths.entry) limit (map string_bytes words.now) }
+    ensures { option_map asked_of result
+        ≡ long_command (choices_of choices.entry) (words_of paths.entry) option (map string_bytes words.now) }
 {
     let [word, rest @ ..] = words else {
-        return match limit {
-            None => whole_command(options, paths),
+        return match option {
+            None => whole_command(choices, paths),
             Some(_) => None,
         };
     };
     let word = word.as_str();
-    if let Some(limit) = limit {
-        return match number(word) {
-            Some(n) => long_command(with_limit(limit, n, options), paths, None, rest),
+    if let Some(option) = option {
+        return match with_word(option, word, choices) {
+            Some(choices) => long_command(choices, paths, None, rest),
             None => None,
         };
     }
     if word == "--" {
         return match with_paths(paths, rest) {
-            Some(paths) => whole_command(options, paths),
+            Some(paths) => whole_command(choices, paths),
             None => None,
         };
     }
-    if is_path(word) {
+    if is_place(word) {
         return match with_path(paths, word) {
-            Some(paths) => long_command(options, paths, None, rest),
+            Some(paths) => long_command(choices, paths, None, rest),
             None => None,
         };
     }
-    match with_long_option(word, options) {
-        Some(options) => long_command(options, paths, None, rest),
-        None => match limit_of(word, options) {
-            Some(limit) => long_command(options, paths, Some(limit), rest),
-            None => None,
-        },
+    match with_long_option(word, choices.options) {
+        Some(options) => long_command(Choices { options, ..choices }, paths, None, rest),
+        None => long_command(choices, paths, Some(awaited_by(word, choices)?), rest),
     }
 }

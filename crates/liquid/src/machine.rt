@@ -3,19 +3,21 @@ ghost use Rattle.std.specs.Prelude.{◌≡◌, ◌↔◌, []};
 ghost use Rattle.std.specs.IoError.{error_kind};
 
 use crate::folder::{Folder, Unread, Why};
+use crate::tree::files_below;
 use std::alloc::Global;
 use std::fs::{self, DirEntry, File, OpenFile};
-use std::io::{self, ErrorKind, Read};
+use std::io::{self, Eprint, ErrorKind, Read, Write};
 use std::rt::Files;
 
-/// The files of the machine, by the runtime.
+/// The files of the machine, by the runtime, and whether its error stream is a terminal, so that someone may watch.
 #[derive(Drop)]
 pub struct Machine<'a, R> {
     pub rt: &'a R,
+    pub is_watched: bool,
 }
 
 // Running out of memory is kept apart from every other fault.
-fn unread(error: io::Error) -> Unread
+pub(crate) fn unread(error: io::Error) -> Unread
     ensures { (result ≡ Unread.Memory) ↔ (error_kind error ≡ ErrorKind.OutOfMemory) }
 {
     match error.kind() {
@@ -57,7 +59,38 @@ fn is_passed_over<R: Files>(rt: &R, entry: &DirEntry<R>) -> bool {
     }
 }
 
-impl<R: Files + AllocGlobal + Clone + Drop> Folder for Machine<'_, R> {
+// The names of the files directly in a folder.
+fn files_in<R: Files + AllocGlobal + Clone + Drop>(
+    alloc: Global,
+    rt: &R,
+    path: &str,
+) -> Result<Vec<String>, Unread> {
+    let mut names = Vec::new(alloc);
+    for entry in fs::read_dir(rt, path).map_err(unread)? {
+        let entry = entry.map_err(unread)?;
+        if !is_passed_over(rt, &entry) {
+            let name = String::from_str(alloc, entry.file_name());
+            let name = name.map_err(|_| Unread::Memory)?;
+            names.push(name).map_err(|_| Unread::Memory)?;
+        }
+    }
+    Ok(names)
+}
+
+// Whether there is no file at the path yet, or one that is no folder, device or pipe.
+fn is_replaceable<R: Files>(rt: &R, path: &str) -> bool {
+    match fs::metadata(rt, path) {
+        Ok(metadata) => metadata.is_file(),
+        Err(error) => error.kind() == ErrorKind::NotFound,
+    }
+}
+
+fn write_file<R: Files>(rt: &R, path: &str, bytes: &[u8]) -> io::Result<()> {
+    let mut file = File::create(rt, path)?;
+    file.write_all(bytes)
+}
+
+impl<R: Files + AllocGlobal + Eprint + Clone + Drop> Folder for Machine<'_, R> {
     fn read(&mut self, alloc: Global, path: &str) -> Result<Vec<u8>, Unread> {
         let mut file = File::open(self.rt, path).map_err(unread)?;
         let mut bytes = room_for(alloc, &file);
@@ -65,17 +98,38 @@ impl<R: Files + AllocGlobal + Clone + Drop> Folder for Machine<'_, R> {
         Ok(bytes)
     }
 
-    fn list(&mut self, alloc: Global, path: &str) -> Result<Vec<String>, Unread> {
-        let mut names = Vec::new(alloc);
-        for entry in fs::read_dir(self.rt, path).map_err(unread)? {
-            let entry = entry.map_err(unread)?;
-            if !is_passed_over(self.rt, &entry) {
-                let name = String::from_str(alloc, entry.file_name());
-                let name = name.map_err(|_| Unread::Memory)?;
-                names.push(name).map_err(|_| Unread::Memory)?;
+    fn list(&mut self, alloc: Global, path: &str, is_deep: bool) -> Result<Vec<String>, Unread> {
+        if is_deep {
+            files_below(alloc, self.rt, path)
+        } else {
+            files_in(alloc, self.rt, path)
+        }
+    }
+
+    fn replace(&mut self, alloc: Global, path: &str, bytes: &[u8]) -> Result<(), Unread> {
+        if !is_replaceable(self.rt, path) {
+            return Err(Unread::Fault);
+        }
+        let Ok(beside) = format!(in alloc; "{path}.tmp") else {
+            return Err(Unread::Memory);
+        };
+        let written = match write_file(self.rt, beside.as_str(), bytes) {
+            Ok(()) => fs::rename(self.rt, beside.as_str(), path),
+            Err(error) => Err(error),
+        };
+        match written {
+            Ok(()) => Ok(()),
+            Err(error) => {
+                let _ = fs::remove_file(self.rt, beside.as_str());
+                Err(unread(error))
             }
         }
-        Ok(names)
+    }
+
+    fn announce(&mut self, page: usize, count: usize, template: &str) {
+        if self.is_watched {
+            let _ = self.rt.eprint(format_args!("liquid: page {page} of {count}: {template}\n"));
+        }
     }
 
     fn why(&mut self, path: &str, is_listed: bool) -> Why {

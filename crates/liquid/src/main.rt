@@ -11,16 +11,20 @@ pub mod help;
 pub mod in_memory;
 pub mod long_command;
 pub mod machine;
+pub mod pages;
+pub mod pages_command;
 pub mod rendering;
 pub mod run;
 #[cfg(test)]
 mod tests;
+mod tree;
+pub mod write;
 
 use fault::Fault;
 use liquid_core::Error;
 use machine::Machine;
 use run::run;
-use std::io::BufWriter;
+use std::io::{BufWriter, IsTerminal};
 use std::process::ExitCode;
 use std::{env, io};
 
@@ -58,7 +62,8 @@ fn serve(rt: &HostRuntime) -> Result<u8, Fault<'static>> {
     };
     let errors = rt.stderr();
     let mut err = io::writer(&errors);
-    let mut files = Machine { rt };
+    let is_watched = errors.is_terminal();
+    let mut files = Machine { rt, is_watched };
     Ok(run(rt.alloc(), words.as_slice(), &mut files, &mut out, &mut err))
 }
 

@@ -1,6 +1,9 @@
 //! The program over files and streams in memory.
 mod commands;
+mod endings;
 mod explain;
+mod faults;
+mod files;
 mod globals;
 mod lenient;
 mod limits;

@@ -1,12 +1,17 @@
 -- What a run of the program over files in memory shows on its output.
-use Rattle.std.specs.Prelude.{◌≡◌, ℕ, Bool, true, false, ◌⊎◌, List, [], ◌++◌, Option, None, Some, MatchOption, Ok, Err, map, string_bytes, option_map}
-use Rattle.std.specs.BTreeMap.{get_by_text}
+use Rattle.std.specs.Prelude.{◌≡◌, String, ℕ, Bool, true, false, ◌⊎◌, List, [], ◌++◌, Option, None, Some, MatchOption, Ok, Err, map, string_bytes, option_map}
+use Rattle.std.specs.BTreeMap.{BTreeMap, get_by_text}
+use Rattle.std.specs.Global.{Vec}
+use Rattle.std.specs.declared.alloc.Global.{Global}
 use Rattle.liquid_runtime.specs.meaning.Maps.{Names}
 use Rattle.liquid_parser.specs.meaning.Reading.{Reads}
 use Rattle.liquid_template.specs.meaning.Run.{Run, written}
 use Rattle.liquid_partials.specs.meaning.Sources.{Texts}
 use Rattle.liquid.specs.declared.in_memory.InMemoryFolder.{InMemoryFolder}
-use Rattle.liquid.specs.meaning.Command.{command_of}
+use Rattle.liquid.specs.meaning.Command.{Asked, command_of}
+use Rattle.liquid.specs.meaning.Files.{Same}
+use Rattle.liquid.specs.meaning.PagesCommand.{pages_of}
+use Rattle.liquid.specs.meaning.Written.{WritesAsked, WritesOthers}
 use Rattle.liquid.specs.declared.command.Options.{Options}
 use Rattle.liquid.specs.meaning.Gathered.{Gathers}
 use Rattle.liquid_plugins.specs.meaning.Nodes.{NodeShape}
@@ -22,9 +27,18 @@ use Rattle.liquid.specs.meaning.ProgramLanguage.{plain_language, plain_setting, 
 abbrev pub bytes_at : InMemoryFolder → List ℕ → Option (List ℕ)
 bytes_at folder path = option_map (λ v. v.items) (get_by_text folder.files path)
 
--- the names in the folder at a path
-abbrev pub names_at : InMemoryFolder → List ℕ → Option (List (List ℕ))
-names_at folder path = option_map (λ v. map string_bytes v.items) (get_by_text folder.folders path)
+-- the list at a path
+abbrev pub list_at : BTreeMap (String Global) (Vec (String Global)) → List ℕ → Option (List (List ℕ))
+list_at lists path = option_map (λ v. map string_bytes v.items) (get_by_text lists path)
+
+-- of two kinds of lists the one that is asked for, at a path
+abbrev pub lists_at : BTreeMap (String Global) (Vec (String Global)) → BTreeMap (String Global) (Vec (String Global)) → Bool → List ℕ → Option (List (List ℕ))
+lists_at folders trees false path = list_at folders path
+lists_at folders trees true path = list_at trees path
+
+-- the names in the folder at a path, or the paths in it and in its subfolders
+abbrev pub names_at : InMemoryFolder → Bool → List ℕ → Option (List (List ℕ))
+names_at folder = lists_at folder.folders folder.trees
 
 -- the output is all pieces of the run, which has no refusal
 abbrev pub IsWhole : {Reg : Type 0} → Run Reg → List ℕ → Type 0
@@ -56,12 +70,26 @@ ShowsIn true options text globals partials output status = ShowsPage standard_se
 abbrev pub ShowsText : Options → List ℕ → Names → Option Texts → List ℕ → ℕ → Type 0
 ShowsText options text globals partials output status = ShowsIn options.standard (page_options options) text globals partials output status
 
--- what a command shows, by the files at its paths
-abbrev pub ShowsCommand : Options → List (List ℕ) → (List ℕ → Option (List ℕ)) → (List ℕ → Option (List (List ℕ))) → List ℕ → ℕ → Type 0
-ShowsCommand options paths files folders output status =
-    Gathers paths (λ path. Some (files path)) (λ path. Some (folders path)) (ShowsNothing output status) (λ text globals partials. ShowsText options text globals partials output status)
+-- files in memory are known
+abbrev pub known_in : (List ℕ → Option (List ℕ)) → List ℕ → Option (Option (List ℕ))
+known_in files path = Some (files path)
 
--- what the words show, by the files; words that are not a command show nothing
-abbrev pub Shows : List (List ℕ) → (List ℕ → Option (List ℕ)) → (List ℕ → Option (List (List ℕ))) → List ℕ → ℕ → Type 0
-Shows words files folders output status =
-    MatchOption (command_of words) ((output ≡ []) × (status ≡ 2)) (λ asked. ShowsCommand asked.options asked.paths files folders output status)
+abbrev pub listed_in : (Bool → List ℕ → Option (List (List ℕ))) → Bool → List ℕ → Option (Option (List (List ℕ)))
+listed_in folders is_deep path = Some (folders is_deep path)
+
+-- what a command shows, by the files at its paths
+abbrev pub ShowsCommand : Options → Option (List ℕ) → List (List ℕ) → (List ℕ → Option (List ℕ)) → (Bool → List ℕ → Option (List (List ℕ))) → List ℕ → ℕ → Type 0
+ShowsCommand options ending paths files folders output status =
+    Gathers paths ending (known_in files) (listed_in folders) (ShowsNothing output status) (λ text globals partials. ShowsText options text globals partials output status)
+
+-- a page that goes to the output leaves all files as they are; one that goes to a file shows nothing
+abbrev pub ShowsPlaced : Asked → Option (List ℕ) → (List ℕ → Option (List ℕ)) → (Bool → List ℕ → Option (List (List ℕ))) → (List ℕ → Option (List ℕ)) → List ℕ → ℕ → Type 0
+ShowsPlaced asked None files folders left output status =
+    Same (known_in files) (known_in left) × ShowsCommand asked.choices.options asked.choices.ending asked.paths files folders output status
+ShowsPlaced asked (Some place) files folders left output status =
+    (output ≡ []) × WritesAsked asked place (known_in files) (listed_in folders) (known_in left) status
+
+-- what the words show, by the files, and which files there are then
+abbrev pub Shows : List (List ℕ) → (List ℕ → Option (List ℕ)) → (Bool → List ℕ → Option (List (List ℕ))) → (List ℕ → Option (List ℕ)) → List ℕ → ℕ → Type 0
+Shows words files folders left output status =
+    MatchOption (command_of words) ((output ≡ []) × WritesOthers (pages_of words) (known_in files) (listed_in folders) (known_in left) status) (λ asked. ShowsPlaced asked asked.choices.output files folders left output status)

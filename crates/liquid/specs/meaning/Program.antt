@@ -1,5 +1,5 @@
 -- What the program does, by its words, the files that they name and the sink that it writes to.
-use Rattle.std.specs.Prelude.{◌≡◌, ℕ, Bool, true, false, ◌⊎◌, List, [], Option, MatchOption, Result, Ok, Err}
+use Rattle.std.specs.Prelude.{◌≡◌, ℕ, Bool, true, false, ◌⊎◌, List, [], Option, Result, Ok, Err}
 use Rattle.std.specs.Io.KnownBytes.{Appends}
 use Rattle.liquid_error.specs.declared.error.Error.{Error}
 use Rattle.liquid_runtime.specs.meaning.Maps.{Names}
@@ -10,9 +10,8 @@ use Rattle.liquid_pages.specs.declared.options.PageFrame.TheVariants.{Open, Sand
 use Rattle.liquid_pages.specs.declared.options.PageOptions.{PageOptions}
 use Rattle.liquid_pages.specs.meaning.Pages.{Renders as RendersPage}
 use Rattle.liquid.specs.meaning.ProgramLanguage.{plain_language, plain_setting, standard_language, standard_setting}
-use Rattle.liquid.specs.meaning.Command.{command_of}
 use Rattle.liquid.specs.declared.command.Options.{Options}
-use Rattle.liquid.specs.meaning.Gathered.{Gathers}
+use Rattle.liquid.specs.meaning.Gathered.{Gathers, WithText}
 use Rattle.liquid.specs.meaning.Status.{settled}
 
 -- where the globals of a page are. With the standard tags a template sees what it assigns, also where it may not change
@@ -56,16 +55,17 @@ abbrev pub Fails : Sunk → Sunk → ℕ → Type 0
 Fails before after status = (after ≡ before) × ((status ≡ 3) ⊎ (status ≡ 1))
 
 -- the files at these paths are read, and the template is rendered over the globals
-abbrev pub Executes : Options → List (List ℕ) → (List ℕ → Option (Option (List ℕ))) → (List ℕ → Option (Option (List (List ℕ)))) → Sunk → Sunk → ℕ → Type 0
-Executes options paths known listed before after status = Gathers paths known listed (Fails before after status) (λ text globals partials. Finishes options text globals partials before after status)
+abbrev pub Executes : Options → Option (List ℕ) → List (List ℕ) → (List ℕ → Option (Option (List ℕ))) → (Bool → List ℕ → Option (Option (List (List ℕ)))) → Sunk → Sunk → ℕ → Type 0
+Executes options ending paths known listed before after status =
+    Gathers paths ending known listed (Fails before after status) (λ text globals partials. Finishes options text globals partials before after status)
 
--- a command is executed; words that are not a command write nothing, with status 2
-abbrev pub Runs : List (List ℕ) → (List ℕ → Option (Option (List ℕ))) → (List ℕ → Option (Option (List (List ℕ)))) → Sunk → Sunk → ℕ → Type 0
-Runs words known listed before after status =
-    MatchOption (command_of words) ((after ≡ before) × (status ≡ 2)) (λ asked. Executes asked.options asked.paths known listed before after status)
+-- the template at a path is read and rendered, over globals and partials that were read before
+abbrev pub ExecutesOne : Options → List ℕ → Names → Option Texts → (List ℕ → Option (Option (List ℕ))) → Sunk → Sunk → ℕ → Type 0
+ExecutesOne options template globals partials known before after status =
+    WithText (known template) (Fails before after status) (λ text. Finishes options text globals partials before after status)
 
--- the content of the output grew by what a fresh sink over it takes when the words are run; then the output was flushed
-pub record Prints (words : List (List ℕ)) (known : List ℕ → Option (Option (List ℕ))) (listed : List ℕ → Option (Option (List (List ℕ)))) (before after : Option (List ℕ)) (status : ℕ) : Type 0 where
+-- the content of an output grew by what a fresh sink over it takes when this is done; then the output was flushed
+pub record Printed (Done : Sunk → Sunk → ℕ → Type 0) (before after : Option (List ℕ)) (status : ℕ) : Type 0 where
   pub taken : List ℕ
   pub failures : ℕ
   pub behind : Option (List ℕ)
@@ -73,5 +73,5 @@ pub record Prints (words : List (List ℕ)) (known : List ℕ → Option (Option
   pub answered : ℕ
   pub flushed : Bool
   pub appended : Appends before after taken
-  pub runs : Runs words known listed (sunk [] 0 before lent) (sunk taken failures behind lent) answered
+  pub done : Done (sunk [] 0 before lent) (sunk taken failures behind lent) answered
   pub status_is : status ≡ settled answered flushed

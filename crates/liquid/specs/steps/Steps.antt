@@ -25,3 +25,8 @@ abbrev pub BringsText : List ℕ → Result (String Global) Unread → Type 0
 BringsText bytes (Ok text) = string_bytes text ≡ bytes
 BringsText bytes (Err Absent) = ⊥
 BringsText bytes (Err Memory) = ⊤
+
+-- the status of several pages, or of the fault that came before them
+abbrev pub all_status : Result ℕ Fault → ℕ
+all_status (Ok status) = status
+all_status (Err fault) = fault_status fault

@@ -15,7 +15,7 @@ type Row = (
 
 const EXPLAINED: &[&str] = &["render", "--explain", "t", "g.json"];
 
-const ROWS: [Row; 11] = [
+const ROWS: [Row; 13] = [
     (b"x", b"{}", EXPLAINED, 0, "x", ""),
     (
         b"x",
@@ -80,6 +80,22 @@ const ROWS: [Row; 11] = [
         1,
         "a",
         "liquid: Unknown variable\n  with:\n    requested variable=x\n  rendering t\n",
+    ),
+    (
+        b"x{{ y | append }}",
+        b"{}",
+        EXPLAINED,
+        1,
+        "",
+        "liquid: Unexpected arguments\nfrom: Filter parsing error\n  with:\n    filter=append\n  at line 1, column 9\n  rendering t\n",
+    ),
+    (
+        b"x\n{{ y |",
+        b"{}",
+        EXPLAINED,
+        1,
+        "",
+        "liquid: Invalid liquid (line 2, column 1)\n  rendering t\n",
     ),
     (b"x", b"{}", &["render", "--explain"], 2, "", USAGE),
     (

@@ -16,7 +16,7 @@ use Rattle.liquid.proofs.gather.texts_of.Goals as goal
 pub loop-name-init : goal.loop-name-init
 loop-name-init g c = record {
   same = refl;
-  read = nothing_read (g.F.Folder.known c.args.files.now) c.args.folder.now (keys (by_name c.args.names)) _ c.new-source.result
+  read = nothing_read (g.F.Folder.known c.args.files.now) c.args.folder.now c.args.ending.now (keys (by_name c.args.names)) _ c.new-source.result
       (sym (names-by_name c.args.names c.into_iter-name-iterator.ensures.into_iter_gives.5) ∙ ap (λ es. map (λ s. string_bytes s) (keys_of es)) (sym c.into_iter-name-iterator.ensures.into_iter_gives.0))
       c.new-source.ensures;
 }
@@ -26,13 +26,13 @@ loop-name-preserved g c =
     let known = g.F.Folder.known c.args.files.now in
     let names = keys (by_name c.args.names) in
     let left : c.loop-name.name-iterator ≡ (c.in-Some.name, tt) ∷ c.next.new.self = search rules in
-    let so_far = subst (λ es. ReadSoFar known c.args.folder.now names (map (λ s. string_bytes s) (keys_of es)) c.loop-name.source) left c.loop-name.invariant.read in
-    let there = subst (λ (k : Files). WithText (k (path_in c.args.folder.now (string_bytes c.in-Some.name))) (Stops (Ok c.in_ok-text.text)) (λ bytes. Brings (string_bytes {Z = Global}) bytes (Ok c.in_ok-text.text))) c.loop-name.invariant.same
+    let so_far = subst (λ es. ReadSoFar known c.args.folder.now c.args.ending.now names (map (λ s. string_bytes s) (keys_of es)) c.loop-name.source) left c.loop-name.invariant.read in
+    let there = subst (λ (k : Files). WithText (k (path_in c.args.folder.now c.args.ending.now (string_bytes c.in-Some.name))) (Stops (Ok c.in_ok-text.text)) (λ bytes. Brings (string_bytes {Z = Global}) bytes (Ok c.in_ok-text.text))) c.loop-name.invariant.same
     (rw c.as_str.ensures.value at c.in_ok-text.ensures.text) in
     let put : c.add.new.self ≡ insert c.loop-name.source (string_bytes c.in-Some.name) (string_bytes c.in_ok-text.text) = search rules in
     record {
       same = c.text_in.ensures.same ∙ c.loop-name.invariant.same;
-      read = read_more known c.args.folder.now (string_bytes c.in-Some.name) names (map (λ s. string_bytes s) (keys_of c.next.new.self)) c.loop-name.source c.add.new.self c.in_ok-text.text so_far there put;
+      read = read_more known c.args.folder.now (string_bytes c.in-Some.name) c.args.ending.now names (map (λ s. string_bytes s) (keys_of c.next.new.self)) c.loop-name.source c.add.new.self c.in_ok-text.text so_far there put;
     }
 
 pub returns-in_err-text-clause-texts : goal.returns-in_err-text-clause-texts
@@ -41,17 +41,17 @@ returns-in_err-text-clause-texts g c =
     let names = keys (by_name c.args.names) in
     let fault = c.in_err-text.field-0.0 in
     let left : c.loop-name.name-iterator ≡ (c.in-Some.name, tt) ∷ c.next.new.self = search rules in
-    let so_far = subst (λ es. ReadSoFar known c.args.folder.now names (map (λ s. string_bytes s) (keys_of es)) c.loop-name.source) left c.loop-name.invariant.read in
-    let step = subst (λ (k : Files). WithText (k (path_in c.args.folder.now (string_bytes c.in-Some.name))) (Stops {A = String Global} (Err fault)) (λ bytes. Brings (string_bytes {Z = Global}) bytes (Err fault))) c.loop-name.invariant.same
+    let so_far = subst (λ es. ReadSoFar known c.args.folder.now c.args.ending.now names (map (λ s. string_bytes s) (keys_of es)) c.loop-name.source) left c.loop-name.invariant.read in
+    let step = subst (λ (k : Files). WithText (k (path_in c.args.folder.now c.args.ending.now (string_bytes c.in-Some.name))) (Stops {A = String Global} (Err fault)) (λ bytes. Brings (string_bytes {Z = Global}) bytes (Err fault))) c.loop-name.invariant.same
     (rw c.as_str.ensures.value at c.in_err-text.ensures.text) in
     let is : c.from_residual.result ≡ Err fault = search rules in
-    subst (λ r. WithFiles known c.args.folder.now names empty (Stops r) (λ texts. Brings (λ (s : Texts). s) texts r)) (sym is)
-    (read_stops known c.args.folder.now (string_bytes c.in-Some.name) names (map (λ s. string_bytes s) (keys_of c.next.new.self)) c.loop-name.source fault so_far step)
+    subst (λ r. WithFiles known c.args.folder.now c.args.ending.now names empty (Stops r) (λ texts. Brings (λ (s : Texts). s) texts r)) (sym is)
+    (read_stops known c.args.folder.now (string_bytes c.in-Some.name) c.args.ending.now names (map (λ s. string_bytes s) (keys_of c.next.new.self)) c.loop-name.source fault so_far step)
 
 pub returns-then-is_err-clause-texts : goal.returns-then-is_err-clause-texts
-returns-then-is_err-clause-texts g c = read_memory (g.F.Folder.known c.args.files.now) c.args.folder.now (keys (by_name c.args.names)) _ c.loop-name.source (Refused (roll-Error Error-F.Memory)) c.loop-name.invariant.read refl
+returns-then-is_err-clause-texts g c = read_memory (g.F.Folder.known c.args.files.now) c.args.folder.now c.args.ending.now (keys (by_name c.args.names)) _ c.loop-name.source (Refused (roll-Error Error-F.Memory)) c.loop-name.invariant.read refl
 
 pub returns-clause-texts : goal.returns-clause-texts
 returns-clause-texts g c =
     let none : c.loop-name.name-iterator ≡ [] = search rules in
-    read_all (g.F.Folder.known c.args.files.now) c.args.folder.now (keys (by_name c.args.names)) _ c.loop-name.source c.loop-name.invariant.read (ap (λ es. map (λ s. string_bytes s) (keys_of es)) none)
+    read_all (g.F.Folder.known c.args.files.now) c.args.folder.now c.args.ending.now (keys (by_name c.args.names)) _ c.loop-name.source c.loop-name.invariant.read (ap (λ es. map (λ s. string_bytes s) (keys_of es)) none)

@@ -11,13 +11,13 @@ use Rattle.liquid.proofs.run.execute.Goals as goal
 pub returns-in_err-template-clause-executes : goal.returns-in_err-template-clause-executes
 returns-in_err-template-clause-executes g c =
     let before = g.K.Sink.sunk c.args.sink.now in
-    no_template c.args.command.options c.args.command.paths.template.now c.args.command.paths.globals.now (option_map (λ f. f.now) c.args.command.paths.folder) (g.F.Folder.known c.args.files.now) (g.F.Folder.listed c.args.files.now) before
+    no_template c.args.command.choices.options (option_map (λ e. e.now) c.args.command.choices.ending) c.args.command.paths.template.now c.args.command.paths.globals.now (option_map (λ f. f.now) c.args.command.paths.folder) (g.F.Folder.known c.args.files.now) (g.F.Folder.listed c.args.files.now) before
     (exit_status c.from_residual.result) c.in_err-template.field-0.0 (failed c.from_residual.result c.in_err-template.field-0.0 (search rules)) c.in_err-template.ensures.text
 
 pub returns-in_err-json-clause-executes : goal.returns-in_err-json-clause-executes
 returns-in_err-json-clause-executes g c =
     let before = g.K.Sink.sunk c.args.sink.now in
-    no_json c.args.command.options c.args.command.paths.template.now c.args.command.paths.globals.now (option_map (λ f. f.now) c.args.command.paths.folder) (g.F.Folder.known c.args.files.now) (g.F.Folder.listed c.args.files.now) before
+    no_json c.args.command.choices.options (option_map (λ e. e.now) c.args.command.choices.ending) c.args.command.paths.template.now c.args.command.paths.globals.now (option_map (λ f. f.now) c.args.command.paths.folder) (g.F.Folder.known c.args.files.now) (g.F.Folder.listed c.args.files.now) before
     (exit_status c.from_residual-in_err-json.result) c.in_ok-template.template c.in_ok-template.ensures.text c.in_err-json.field-0.0 (failed c.from_residual-in_err-json.result c.in_err-json.field-0.0 (search rules))
     (subst (λ (known : Files). WithText (known c.args.command.paths.globals.now) (Stops {A = String Global} (Err c.in_err-json.field-0.0)) (λ bytes. Brings (string_bytes {Z = Global}) bytes (Err c.in_err-json.field-0.0))) c.text_of.ensures.same c.in_err-json.ensures.text)
 
@@ -25,7 +25,7 @@ pub returns-in_err-globals-clause-executes : goal.returns-in_err-globals-clause-
 returns-in_err-globals-clause-executes g c =
     let before = g.K.Sink.sunk c.args.sink.now in
     let json = subst (λ (known : Files). WithText (known c.args.command.paths.globals.now) (Stops (Ok c.in_ok-json.json)) (λ bytes. Brings string_bytes bytes (Ok c.in_ok-json.json))) c.text_of.ensures.same c.in_ok-json.ensures.text in
-    no_globals c.args.command.options c.args.command.paths.template.now c.args.command.paths.globals.now (option_map (λ f. f.now) c.args.command.paths.folder) (g.F.Folder.known c.args.files.now) (g.F.Folder.listed c.args.files.now) before
+    no_globals c.args.command.choices.options (option_map (λ e. e.now) c.args.command.choices.ending) c.args.command.paths.template.now c.args.command.paths.globals.now (option_map (λ f. f.now) c.args.command.paths.folder) (g.F.Folder.known c.args.files.now) (g.F.Folder.listed c.args.files.now) before
     (exit_status c.from_residual-in_err-globals.result) c.in_ok-template.template c.in_ok-template.ensures.text c.in_ok-json.json json c.in_err-globals.field-0.0 (failed c.from_residual-in_err-globals.result c.in_err-globals.field-0.0 (search rules))
     (rw c.as_str.ensures.value at c.in_err-globals.ensures.globals)
 
@@ -33,29 +33,31 @@ pub returns-in_err-partials-clause-executes : goal.returns-in_err-partials-claus
 returns-in_err-partials-clause-executes g c =
     let before = g.K.Sink.sunk c.args.sink.now in
     let json = subst (λ (known : Files). WithText (known c.args.command.paths.globals.now) (Stops (Ok c.in_ok-json.json)) (λ bytes. Brings string_bytes bytes (Ok c.in_ok-json.json))) c.text_of.ensures.same c.in_ok-json.ensures.text in
+    let ending = option_map (λ e. e.now) c.args.command.choices.ending in
     let words = option_words (option_map (λ f. f.now) c.args.command.paths.folder) in
     let same = c.text_of-2.ensures.same ∙ c.text_of.ensures.same in
     let listed = c.text_of-2.ensures.listed ∙ c.text_of.ensures.listed in
     let fault = c.in_err-partials.field-0.0 in
-    no_partials c.args.command.options c.args.command.paths.template.now c.args.command.paths.globals.now (option_map (λ f. f.now) c.args.command.paths.folder) (g.F.Folder.known c.args.files.now) (g.F.Folder.listed c.args.files.now) before
+    no_partials c.args.command.choices.options (option_map (λ e. e.now) c.args.command.choices.ending) c.args.command.paths.template.now c.args.command.paths.globals.now (option_map (λ f. f.now) c.args.command.paths.folder) (g.F.Folder.known c.args.files.now) (g.F.Folder.listed c.args.files.now) before
     (exit_status c.from_residual-in_err-partials.result) c.in_ok-template.template c.in_ok-template.ensures.text c.in_ok-json.json json c.in_ok-globals.globals (rw c.as_str.ensures.value at c.in_ok-globals.ensures.globals)
     fault (failed c.from_residual-in_err-partials.result fault (search rules))
-    (subst (λ (f : Folders). WithPartials (g.F.Folder.known c.args.files.now) f words (Stops {A = Option Texts} (Err fault)) (λ partials. Brings (λ (source : Option Texts). source) partials (Err fault))) listed
-    (subst (λ (k : Files). WithPartials k (g.F.Folder.listed c.text_of-2.new.files) words (Stops {A = Option Texts} (Err fault)) (λ partials. Brings (λ (source : Option Texts). source) partials (Err fault))) same c.in_err-partials.ensures.partials))
+    (subst (λ (f : Folders). WithPartials (g.F.Folder.known c.args.files.now) f ending words (Stops {A = Option Texts} (Err fault)) (λ partials. Brings (λ (source : Option Texts). source) partials (Err fault))) listed
+    (subst (λ (k : Files). WithPartials k (g.F.Folder.listed c.text_of-2.new.files) ending words (Stops {A = Option Texts} (Err fault)) (λ partials. Brings (λ (source : Option Texts). source) partials (Err fault))) same c.in_err-partials.ensures.partials))
 
 pub returns-in-Ok-clause-executes : goal.returns-in-Ok-clause-executes
 returns-in-Ok-clause-executes g c =
     let before = g.K.Sink.sunk c.args.sink.now in
     let after = g.K.Sink.sunk c.render_over.new.sink in
     let json = subst (λ (known : Files). WithText (known c.args.command.paths.globals.now) (Stops (Ok c.in_ok-json.json)) (λ bytes. Brings string_bytes bytes (Ok c.in_ok-json.json))) c.text_of.ensures.same c.in_ok-json.ensures.text in
+    let ending = option_map (λ e. e.now) c.args.command.choices.ending in
     let words = option_words (option_map (λ f. f.now) c.args.command.paths.folder) in
     let same = c.text_of-2.ensures.same ∙ c.text_of.ensures.same in
     let listed = c.text_of-2.ensures.listed ∙ c.text_of.ensures.listed in
     let source = c.in_ok-partials.partials in
-    executed c.args.command.options c.args.command.paths.template.now c.args.command.paths.globals.now (option_map (λ f. f.now) c.args.command.paths.folder) (g.F.Folder.known c.args.files.now) (g.F.Folder.listed c.args.files.now) before after 0
+    executed c.args.command.choices.options (option_map (λ e. e.now) c.args.command.choices.ending) c.args.command.paths.template.now c.args.command.paths.globals.now (option_map (λ f. f.now) c.args.command.paths.folder) (g.F.Folder.known c.args.files.now) (g.F.Folder.listed c.args.files.now) before after 0
     c.in_ok-template.template c.in_ok-json.json c.in_ok-globals.globals source c.render_over.result c.in_ok-template.ensures.text json (rw c.as_str.ensures.value at c.in_ok-globals.ensures.globals)
-    (subst (λ (f : Folders). WithPartials (g.F.Folder.known c.args.files.now) f words (Stops (Ok source)) (λ partials. Brings (λ (s : Option Texts). s) partials (Ok source))) listed
-    (subst (λ (k : Files). WithPartials k (g.F.Folder.listed c.text_of-2.new.files) words (Stops (Ok source)) (λ partials. Brings (λ (s : Option Texts). s) partials (Ok source))) same c.in_ok-partials.ensures.partials))
+    (subst (λ (f : Folders). WithPartials (g.F.Folder.known c.args.files.now) f ending words (Stops (Ok source)) (λ partials. Brings (λ (s : Option Texts). s) partials (Ok source))) listed
+    (subst (λ (k : Files). WithPartials k (g.F.Folder.listed c.text_of-2.new.files) ending words (Stops (Ok source)) (λ partials. Brings (λ (s : Option Texts). s) partials (Ok source))) same c.in_ok-partials.ensures.partials))
     (rw c.as_str-2.ensures.value at c.render_over.ensures.renders) (search rules)
 
 pub returns-clause-executes : goal.returns-clause-executes
@@ -63,12 +65,13 @@ returns-clause-executes g c =
     let before = g.K.Sink.sunk c.args.sink.now in
     let after = g.K.Sink.sunk c.render_over.new.sink in
     let json = subst (λ (known : Files). WithText (known c.args.command.paths.globals.now) (Stops (Ok c.in_ok-json.json)) (λ bytes. Brings string_bytes bytes (Ok c.in_ok-json.json))) c.text_of.ensures.same c.in_ok-json.ensures.text in
+    let ending = option_map (λ e. e.now) c.args.command.choices.ending in
     let words = option_words (option_map (λ f. f.now) c.args.command.paths.folder) in
     let same = c.text_of-2.ensures.same ∙ c.text_of.ensures.same in
     let listed = c.text_of-2.ensures.listed ∙ c.text_of.ensures.listed in
     let source = c.in_ok-partials.partials in
-    executed c.args.command.options c.args.command.paths.template.now c.args.command.paths.globals.now (option_map (λ f. f.now) c.args.command.paths.folder) (g.F.Folder.known c.args.files.now) (g.F.Folder.listed c.args.files.now) before after 1
+    executed c.args.command.choices.options (option_map (λ e. e.now) c.args.command.choices.ending) c.args.command.paths.template.now c.args.command.paths.globals.now (option_map (λ f. f.now) c.args.command.paths.folder) (g.F.Folder.known c.args.files.now) (g.F.Folder.listed c.args.files.now) before after 1
     c.in_ok-template.template c.in_ok-json.json c.in_ok-globals.globals source c.render_over.result c.in_ok-template.ensures.text json (rw c.as_str.ensures.value at c.in_ok-globals.ensures.globals)
-    (subst (λ (f : Folders). WithPartials (g.F.Folder.known c.args.files.now) f words (Stops (Ok source)) (λ partials. Brings (λ (s : Option Texts). s) partials (Ok source))) listed
-    (subst (λ (k : Files). WithPartials k (g.F.Folder.listed c.text_of-2.new.files) words (Stops (Ok source)) (λ partials. Brings (λ (s : Option Texts). s) partials (Ok source))) same c.in_ok-partials.ensures.partials))
+    (subst (λ (f : Folders). WithPartials (g.F.Folder.known c.args.files.now) f ending words (Stops (Ok source)) (λ partials. Brings (λ (s : Option Texts). s) partials (Ok source))) listed
+    (subst (λ (k : Files). WithPartials k (g.F.Folder.listed c.text_of-2.new.files) ending words (Stops (Ok source)) (λ partials. Brings (λ (s : Option Texts). s) partials (Ok source))) same c.in_ok-partials.ensures.partials))
     (rw c.as_str-2.ensures.value at c.render_over.ensures.renders) (search rules)

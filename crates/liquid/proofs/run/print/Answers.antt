@@ -1,0 +1,8 @@
+use Rattle.std.proofs.Common.{rules, ◌∙◌}
+use Rattle.liquid.proofs.RunLemmas.{Printed-settled}
+use Rattle.liquid.proofs.run.print.Goals as goal
+
+pub returns-clause-prints : goal.returns-clause-prints
+returns-clause-prints g c =
+    Printed-settled _ _ _ _ _ _ _ _ _ c.execute-answer.ensures.executes c.new-sink.ensures.taken c.new-sink.ensures.failures c.new-sink.ensures.behind
+    c.execute-answer.ensures.borrows c.execute-answer.ensures.behind c.into_inner.ensures.behind (search rules) c.settle.ensures
