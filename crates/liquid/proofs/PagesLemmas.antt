@@ -11,7 +11,7 @@ use Rattle.liquid_json.specs.meaning.Given.{object_read}
 use Rattle.liquid_pages.specs.meaning.Globals.{global_names}
 use Rattle.liquid.specs.declared.command.Options.{Options}
 use Rattle.liquid.specs.declared.fault.Fault.{Fault}
-use Rattle.liquid.specs.declared.fault.Fault.TheVariants.{Refused, Usage, Unreadable, UnreadableInFolder, Unwritable, BadJson, NoGlobals}
+use Rattle.liquid.specs.declared.fault.Fault.TheVariants.{Refused, Explained, Usage, Unreadable, UnreadableInFolder, Unwritable, BadJson, NoGlobals}
 use Rattle.liquid.specs.meaning.Command.{option_words}
 use Rattle.liquid.specs.meaning.Files.{Replaces, Same}
 use Rattle.liquid.specs.meaning.Gathered.{WithText, WithGlobals, WithPartials}
@@ -26,12 +26,13 @@ use Rattle.liquid.proofs.ExecutedLemmas.{finishes_memory, stopped}
 -- no fault has status 0
 fault_is_one : (fault : Fault) → fault_status fault ≢ 0
 fault_is_one (Refused error) = λ zero. omega (arith, zero)
+fault_is_one (Explained error notes) = λ zero. omega (arith, zero)
 fault_is_one Usage = λ zero. omega (arith, zero)
 fault_is_one (Unreadable path) = λ zero. omega (arith, zero)
 fault_is_one (UnreadableInFolder path) = λ zero. omega (arith, zero)
 fault_is_one (Unwritable path) = λ zero. omega (arith, zero)
-fault_is_one (BadJson path) = λ zero. omega (arith, zero)
-fault_is_one (NoGlobals error) = λ zero. omega (arith, zero)
+fault_is_one (BadJson path note) = λ zero. omega (arith, zero)
+fault_is_one (NoGlobals error note) = λ zero. omega (arith, zero)
 
 -- a page that was not rendered to its end
 pub lands_broken : (known left : Files) (file page : List ℕ) (fault : Fault) (answered status : ℕ) → answered ≡ fault_status fault → status ≡ fault_status fault → Same known left → Lands known left file page answered status

@@ -5,7 +5,6 @@ use crate::command::Paths;
 use crate::fault::Fault;
 use crate::folder::{Folder, Why};
 use liquid_core::{Error, Place};
-use liquid_pages::{PageFault, globals_of};
 use std::alloc::Global;
 use std::io::Write;
 
@@ -35,18 +34,34 @@ pub fn explain<F: Folder, E: Write>(
     match fault {
         Fault::Unreadable(path) => explain_unread(path, paths.folder == Some(*path), files, err),
         Fault::UnreadableInFolder(path) => explain_unread(path.as_str(), false, files, err),
-        Fault::BadJson(path) => explain_json(alloc, path, files, err),
-        Fault::NoGlobals(_) => {
+        Fault::BadJson(_, note) => write_note(note.as_str(), err),
+        Fault::NoGlobals(_, note) => {
+            write_note(note.as_str(), err);
             let _ = writeln!(err, "  in {}", paths.globals);
         }
-        Fault::Unwritable(_) => {
-            let _ = writeln!(err, "  rendering {}", paths.template);
+        Fault::Unwritable(_) => write_template(paths, err),
+        Fault::Explained(error, note) => {
+            explain_place(alloc, error, err);
+            write_note(note.as_str(), err);
+            write_template(paths, err);
         }
         Fault::Refused(error) => if !error.is_memory() {
-            explain_place(alloc, error, err);
-            let _ = writeln!(err, "  rendering {}", paths.template);
+            write_template(paths, err);
         },
         Fault::Usage => {}
+    }
+}
+
+/// Writes which template was rendered.
+fn write_template<E: Write>(paths: &Paths<'_>, err: &mut E) {
+    let _ = writeln!(err, "  rendering {}", paths.template);
+}
+
+/// Writes a line that explains a fault, if there is one.
+fn write_note<E: Write>(note: &str, err: &mut E) {
+    if !note.is_empty() {
+        let _ = write!(err, "  ");
+        write_cut(note, err);
     }
 }
 
@@ -90,19 +105,4 @@ fn explain_unread<F: Folder, E: Write>(path: &str, is_listed: bool, files: &mut 
         Why::Unknown => return,
     };
     let _ = writeln!(err, "  {why}");
-}
-
-/// Writes where the text of a file is not JSON.
-fn explain_json<F: Folder, E: Write>(alloc: Global, path: &str, files: &mut F, err: &mut E)
-    ensures { F.known files.new ≡ F.known files.old }
-{
-    let Ok(bytes) = files.read(alloc, path) else {
-        return;
-    };
-    let Ok(text) = String::from_utf8(bytes) else {
-        return;
-    };
-    if let Err(PageFault::BadJson(error)) = globals_of(alloc, text.as_str()) {
-        let _ = writeln!(err, "  {error}");
-    }
 }

@@ -9,6 +9,9 @@ pub enum Fault<'w> {
     /// A template had an error, or memory ran out.
     #[error("{0}")]
     Refused(Error),
+    /// A template had an error, and these lines explain it.
+    #[error("{0}")]
+    Explained(Error, String),
     /// The words are not a command.
     #[error("usage: liquid render [--sandboxed] [--lenient] TEMPLATE GLOBALS.json [DIR]\n")]
     Usage,
@@ -21,12 +24,12 @@ pub enum Fault<'w> {
     /// The page can't be written to the file at this path.
     #[error("liquid: cannot write {0}\n")]
     Unwritable(String),
-    /// The text of the file at this path is not JSON.
+    /// The text of the file at this path is not JSON, which this line explains.
     #[error("liquid: bad JSON in {0}\n")]
-    BadJson(&'w str),
-    /// The JSON of the globals is not an object of values.
+    BadJson(&'w str, String),
+    /// The JSON of the globals is not an object of values, which this line explains, if there is one.
     #[error("{0}")]
-    NoGlobals(Error),
+    NoGlobals(Error, String),
 }
 
 impl Fault<'_> {
@@ -37,12 +40,12 @@ impl Fault<'_> {
         ensures { result ≡ fault_status self.now }
     {
         match self {
-            Fault::Refused(_) | Fault::Unwritable(_) => 1,
+            Fault::Refused(_) | Fault::Explained(..) | Fault::Unwritable(_) => 1,
             Fault::Usage => 2,
             Fault::Unreadable(_)
             | Fault::UnreadableInFolder(_)
-            | Fault::BadJson(_)
-            | Fault::NoGlobals(_) => 3,
+            | Fault::BadJson(..)
+            | Fault::NoGlobals(..) => 3,
         }
     }
 }

@@ -22,6 +22,7 @@ ghost use Rattle.liquid.specs.steps.Steps.{Brings, BringsText, Stops, StopsUnrea
 
 use crate::fault::Fault;
 use crate::folder::{Folder, Unread};
+use crate::json_notes::{note_of_number, note_of_text};
 use liquid_core::partials::InMemorySource;
 use liquid_core::{Error, Object};
 use liquid_pages::PageFault;
@@ -225,11 +226,13 @@ pub(crate) fn globals_of<'w>(alloc: Global, text: &str, path: &'w str) -> Result
 {
     match liquid_pages::globals_of(alloc, text) {
         Ok(object) => Ok(object),
-        Err(PageFault::BadJson(_)) => Err(Fault::BadJson(path)),
+        Err(PageFault::BadJson(error)) => {
+            Err(Fault::BadJson(path, note_of_text(alloc, text, &error)))
+        }
         Err(PageFault::NoGlobals(error)) => if error.is_memory() {
             Err(Fault::Refused(error))
         } else {
-            Err(Fault::NoGlobals(error))
+            Err(Fault::NoGlobals(error, note_of_number(alloc, text)))
         },
         Err(_) => Err(Fault::Refused(Error::Memory)),
     }

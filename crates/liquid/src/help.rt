@@ -17,7 +17,8 @@ DIR            a folder: each file directly in it is a partial, under the file's
 --standard     the template has the tags, blocks and filters of standard Liquid
 --turns N      the page may take N turns of tags and blocks
 --bytes N      the page may write N bytes
---explain      an error says more: why a file can't be read, where a text is not JSON, which template it is
+--explain      an error says more: why a file can't be read, where a text is not JSON, where an open block begins, which
+               names are similar, which template it is
 --ext .EXT     only files of DIR that end in .EXT are partials, under their names without it, and so are those in folders
                of DIR: 'nav/item' is DIR/nav/item.EXT. Nothing else is read. Links in DIR are passed over
 -o FILE        the page is written to FILE, which is replaced only if the page is whole. FILE/ is a folder: the page gets

@@ -19,6 +19,7 @@ use crate::command::Paths;
 use crate::fault::Fault;
 use crate::folder::Folder;
 use crate::gather::{globals_of, partials_of, text_of};
+use crate::notes::{Sources, refuse};
 use crate::pages_command::Pages;
 use crate::rendering::render_over;
 use crate::run::{settle, tell};
@@ -175,12 +176,19 @@ fn execute_one<'w, F: Folder, K: Sink>(
 {
     let text = text_of(alloc, files, template)?;
     let globals = globals_of(alloc, json, pages.globals)?;
-    let Ok(partials) = copied(partials) else {
+    let Ok(copy) = copied(partials) else {
         return Err(Fault::Refused(Error::Memory));
     };
-    match render_over(alloc, pages.options, text.as_str(), globals, partials, sink) {
+    match render_over(alloc, pages.options, text.as_str(), globals, copy, sink) {
         Ok(()) => Ok(()),
-        Err(error) => Err(Fault::Refused(error)),
+        Err(error) => {
+            let sources = Sources {
+                template: text.as_str(),
+                json,
+                partials: partials.as_ref(),
+            };
+            Err(refuse(alloc, pages.options, sources, error))
+        }
     }
 }
 

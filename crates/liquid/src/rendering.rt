@@ -21,10 +21,10 @@ use std_filters::{FilterPlugin, StdKind, filters};
 use std_marks::Marks;
 
 /// The tag library with `append` and `fail`.
-type PlainLanguage = Language<PlainFilters, Tags, Blocks>;
+pub(crate) type PlainLanguage = Language<PlainFilters, Tags, Blocks>;
 
 /// Standard Liquid.
-type StandardLanguage = Language<FilterPlugin<StdKind>, StdTags, StdBlocks>;
+pub(crate) type StandardLanguage = Language<FilterPlugin<StdKind>, StdTags, StdBlocks>;
 
 /// Renders the text over these globals and these partials, with these options, and writes the result.
 pub fn render_over<K: Sink>(
@@ -99,14 +99,14 @@ fn render_standard<K: Sink>(
     }
 }
 
-fn plain_language(alloc: Global) -> Result<Rc<PlainLanguage>, AllocError>
+pub(crate) fn plain_language(alloc: Global) -> Result<Rc<PlainLanguage>, AllocError>
     ensures { IfOk result (λ language. plain_meaning plain_made language.value ≡ plain_language) }
 {
     let language = liquid_tags::language(alloc, plain_filters(alloc)?)?;
     Ok(Rc::new(alloc, language)?)
 }
 
-fn standard_language(alloc: Global) -> Result<Rc<StandardLanguage>, AllocError>
+pub(crate) fn standard_language(alloc: Global) -> Result<Rc<StandardLanguage>, AllocError>
     ensures { IfOk result (λ language. standard_meaning standard_made language.value ≡ standard_language) }
 {
     let language = liquid_std::language(alloc, filters(alloc, None)?)?;

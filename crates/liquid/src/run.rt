@@ -7,15 +7,17 @@ ghost use Rattle.liquid.specs.meaning.Program.{Executes, Printed};
 ghost use Rattle.liquid.specs.meaning.Status.{exit_status, settled};
 ghost use Rattle.liquid.specs.meaning.Written.{Placed, Prints, Runs, WritesOthers};
 
-use crate::command::{Choices, Command, Paths};
+use crate::command::{Choices, Command, Options, Paths};
 use crate::explain::explain;
 use crate::fault::Fault;
 use crate::folder::Folder;
 use crate::gather::{globals_of, partials_of, text_of};
+use crate::notes::{Sources, refuse};
 use crate::pages::write_pages;
 use crate::pages_command::Pages;
 use crate::rendering::render_over;
 use crate::write::write_page;
+use liquid_core::partials::InMemorySource;
 use liquid_core::{Error, Sink, WriterSink};
 use std::alloc::Global;
 use std::io::{self, Write};
@@ -225,7 +227,7 @@ pub(crate) fn settle<'w>(
     ensures { exit_status result ≡ settled (exit_status answer.entry) (is_ok flushed) }
 {
     match (answer, flushed) {
-        (Ok(()) | Err(Fault::Refused(_)), Err(_)) => {
+        (Ok(()) | Err(Fault::Refused(_) | Fault::Explained(..)), Err(_)) => {
             Err(Fault::Refused(Error::with_msg(alloc, "Failed to render")))
         }
         (answer, _) => answer,
@@ -257,10 +259,36 @@ fn execute<'w, F: Folder, K: Sink>(
     let template = text_of(alloc, files, paths.template)?;
     let json = text_of(alloc, files, paths.globals)?;
     let globals = globals_of(alloc, json.as_str(), paths.globals)?;
-    drop(json);
+    let json = keep_text(alloc, options, json);
     let partials = partials_of(alloc, files, ending, paths.folder)?;
+    let kept = keep_partials(options, &partials);
     match render_over(alloc, options, template.as_str(), globals, partials, sink) {
         Ok(()) => Ok(()),
-        Err(error) => Err(Fault::Refused(error)),
+        Err(error) => {
+            let sources = Sources {
+                template: template.as_str(),
+                json: json.as_str(),
+                partials: kept.as_ref(),
+            };
+            Err(refuse(alloc, options, sources, error))
+        }
+    }
+}
+
+/// Returns the text if an error may be explained by it, and no text otherwise.
+fn keep_text(alloc: Global, options: Options, text: String) -> String {
+    if options.explain {
+        text
+    } else {
+        drop(text);
+        String::new(alloc)
+    }
+}
+
+/// Returns a copy of the partials if an error may be explained by them, and if there is memory.
+fn keep_partials(options: Options, partials: &Option<InMemorySource>) -> Option<InMemorySource> {
+    match partials {
+        Some(source) if options.explain => source.clone().ok(),
+        _ => None,
     }
 }

@@ -8,6 +8,7 @@ mod globals;
 mod lenient;
 mod limits;
 mod long_commands;
+mod notes;
 mod partials;
 mod sandbox;
 mod standard;

@@ -1,16 +1,17 @@
 -- The exit status of the program.
 use Rattle.std.specs.Prelude.{ℕ, Bool, true, false, Result, Ok, Err, nat_lt, if◌then◌else◌}
 use Rattle.liquid.specs.declared.fault.Fault.{Fault}
-use Rattle.liquid.specs.declared.fault.Fault.TheVariants.{Refused, Usage, Unreadable, UnreadableInFolder, Unwritable, BadJson, NoGlobals}
+use Rattle.liquid.specs.declared.fault.Fault.TheVariants.{Refused, Explained, Usage, Unreadable, UnreadableInFolder, Unwritable, BadJson, NoGlobals}
 
 abbrev pub fault_status : Fault → ℕ
 fault_status (Refused error) = 1
+fault_status (Explained error notes) = 1
 fault_status Usage = 2
 fault_status (Unreadable path) = 3
 fault_status (UnreadableInFolder path) = 3
 fault_status (Unwritable path) = 1
-fault_status (BadJson path) = 3
-fault_status (NoGlobals error) = 3
+fault_status (BadJson path note) = 3
+fault_status (NoGlobals error note) = 3
 
 abbrev pub exit_status : Result (Unit {0}) Fault → ℕ
 exit_status (Ok _) = 0
