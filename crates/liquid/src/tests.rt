@@ -53,10 +53,15 @@ fn answers(ran: &Ran, status: u8, out: &str, err: &str) -> Result<(), Fail> {
     let is_out = ran.out.as_slice() == out.as_bytes();
     let is_err = ran.err.as_slice() == err.as_bytes();
     if ran.status == status && is_out && is_err {
-        Ok(())
-    } else {
-        Err(Fail::new(format_args!("another answer than {status}, {out:?}, {err:?}")))
+        return Ok(());
     }
+    let own = (ran.status, text_of(&ran.out), text_of(&ran.err));
+    Err(Fail::new(format_args!("{own:?} is another answer than {:?}", (status, out, err))))
+}
+
+/// Returns what a stream has, as far as it is text.
+fn text_of(bytes: &Vec<u8>) -> &str {
+    str::from_utf8(bytes.as_slice()).unwrap_or("bytes that are not UTF-8")
 }
 
 fn rows_answer(alloc: Global, rows: &[Row]) -> Result<(), Fail> {

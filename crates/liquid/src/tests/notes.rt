@@ -104,7 +104,7 @@ const PLACES: [Row; 9] = [
         b"{}",
         PLAIN,
         "",
-        "liquid: Unclosed block. {% endif %} tag expected. (line 2, column 55)\n  {% endif %} ends the block that begins at line 2, column 7\n  rendering t\n",
+        "liquid: Unclosed block. {% endif %} tag expected. (line 2, column 52)\n  {% endif %} ends the block that begins at line 2, column 7\n  rendering t\n",
     ),
     (
         b"{% if a %}{% raw %}{% endif %}",
@@ -170,7 +170,7 @@ const GLOBALS: [Row; 5] = [
         b"{\"a\": 1e999, \"b\": [}",
         PLAIN,
         "",
-        "liquid: bad JSON in g.json\n  number out of range at line 1 column 12\n",
+        "liquid: bad JSON in g.json\n  number out of range at line 1 column 14\n",
     ),
     (
         b"x",
@@ -229,19 +229,19 @@ fn nested(alloc: Global, arrays: usize, end: &str) -> Result<String, Fail> {
 }
 
 const TOO_DEEP: &str =
-    "liquid: bad JSON in g.json\n  invalid JSON at line 1 column 147: more than 127 arrays and objects are nested\n";
+    "liquid: bad JSON in g.json\n  invalid JSON at line 1 column 146: more than 127 arrays and objects are nested\n";
 
 #[test]
 fn globals_that_are_nested_too_deep_are_told_apart(rt: HostRuntime) -> Result<(), Fail> {
     let alloc = rt.alloc();
     let words = words_of(alloc, &["render", "--explain", "t", "g.json"])?;
     let rows = [
-        (126, "", TOO_DEEP),
-        (127, "}", TOO_DEEP),
+        (126, "1]", TOO_DEEP),
+        (130, "}", TOO_DEEP),
         (
             125,
-            "}",
-            "liquid: bad JSON in g.json\n  invalid JSON at line 1 column 147\n",
+            "} ",
+            "liquid: bad JSON in g.json\n  invalid JSON at line 1 column 146\n",
         ),
     ];
     for (arrays, end, err) in rows {
