@@ -1,7 +1,7 @@
 //! What `--explain` adds to a fault of the globals.
 
 use json::{Reader, Scratch, Token};
-use serde_json::{Error, Value as Json};
+use serde_json::{Error, Map, Value as Json};
 use std::alloc::{AllocError, Global};
 
 /// How many arrays and objects may be nested.
@@ -33,12 +33,13 @@ fn unfit_number(alloc: Global, text: &str) -> Result<Option<String>, AllocError>
     let Ok(Json::Object(members)) = Json::from_str(alloc, text) else {
         return Ok(None);
     };
-    for (name, member) in &members {
-        if let Some(rest) = path_of_unfit(alloc, member)? {
-            return Ok(Some(format!(in alloc; "at {name}{rest}")?));
+    match path_in_members(alloc, &members)? {
+        Some(path) => {
+            let path = path.as_str().strip_prefix(".").unwrap_or("");
+            Ok(Some(format!(in alloc; "at {path}")?))
         }
+        None => Ok(None),
     }
-    Ok(None)
 }
 
 /// Returns the path within a value to its first number that is not a whole number of 64 bits.
@@ -49,24 +50,35 @@ fn path_of_unfit(alloc: Global, json: &Json) -> Result<Option<String>, AllocErro
             Some(_) => Ok(None),
             None => Ok(Some(String::new(alloc))),
         },
-        Json::Array(items) => {
-            for (place, item) in items.iter().enumerate() {
-                if let Some(rest) = path_of_unfit(alloc, item)? {
-                    return Ok(Some(format!(in alloc; "[{place}]{rest}")?));
-                }
-            }
-            Ok(None)
-        }
-        Json::Object(members) => {
-            for (name, member) in members {
-                if let Some(rest) = path_of_unfit(alloc, member)? {
-                    return Ok(Some(format!(in alloc; ".{name}{rest}")?));
-                }
-            }
-            Ok(None)
-        }
+        Json::Array(items) => path_in_items(alloc, items),
+        Json::Object(members) => path_in_members(alloc, members),
         Json::Null | Json::Bool(_) | Json::String(_) => Ok(None),
     }
+}
+
+#[cycle(path)]
+fn path_in_items(alloc: Global, items: &Vec<Json>) -> Result<Option<String>, AllocError> {
+    let mut place: usize = 0;
+    for item in items {
+        if let Some(rest) = path_of_unfit(alloc, item)? {
+            return Ok(Some(format!(in alloc; "[{place}]{rest}")?));
+        }
+        place = place.saturating_add(1);
+    }
+    Ok(None)
+}
+
+#[cycle(path)]
+fn path_in_members(
+    alloc: Global,
+    members: &Map<String, Json>,
+) -> Result<Option<String>, AllocError> {
+    for (name, member) in members.iter() {
+        if let Some(rest) = path_of_unfit(alloc, member)? {
+            return Ok(Some(format!(in alloc; ".{name}{rest}")?));
+        }
+    }
+    Ok(None)
 }
 
 /// What is open in a text of JSON: an array, an object, or a member of an object, after its key.

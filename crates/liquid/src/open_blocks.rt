@@ -1,4 +1,5 @@
 //! The blocks that are open at a place of a template.
+ghost use Rattle.std.specs.Prelude.{◌≤◌, length, IfSome};
 
 use liquid_core::parser::{Language, ParseBlock, ParseFilter, TagReflection};
 use liquid_grammar::{Element, TagText, next_element, next_token};
@@ -79,7 +80,9 @@ fn after_escaped<'a>(
     start_name: &str,
     end_name: &str,
     nests: bool,
-) -> Option<&'a str> {
+) -> Option<&'a str>
+    ensures { IfSome result (λ after. length after.now ≤ length body.now) }
+{
     let mut level: usize = 0;
     let mut rest = body;
     'elements: while let Some((element, after)) = next_element(rest) {
