@@ -3,6 +3,7 @@ ghost use Rattle.std.specs.Prelude.{◌≡◌, ◌≢◌, IfOk, map, string_byte
 ghost use Rattle.liquid_template.specs.meaning.Grows.{Grows};
 ghost use Rattle.liquid_json.specs.meaning.Given.{object_read};
 ghost use Rattle.liquid.specs.meaning.Gathered.{WithGlobals};
+ghost use Rattle.liquid.specs.meaning.PagesCommand.{asked_pages};
 ghost use Rattle.liquid.specs.meaning.Program.{ExecutesOne, Printed};
 ghost use Rattle.liquid.specs.meaning.Status.{exit_status};
 ghost use Rattle.liquid.specs.meaning.Written.{
@@ -13,7 +14,6 @@ ghost use Rattle.liquid.specs.meaning.Written.{
   WritesPages,
 };
 ghost use Rattle.liquid.specs.steps.Steps.{all_status};
-ghost use Rattle.liquid.specs.steps.Words.{asked_pages};
 
 use crate::command::Paths;
 use crate::fault::Fault;

@@ -5,13 +5,13 @@ ghost use Rattle.liquid.specs.meaning.Command.{choices_of};
 ghost use Rattle.liquid.specs.meaning.PagesCommand.{
   are_apart,
   are_places,
+  asked_pages,
   is_named,
   is_new,
   pages_in,
   pages_of,
   whole_pages,
 };
-ghost use Rattle.liquid.specs.steps.Words.{asked_pages};
 
 use crate::command::{Awaited, Choices, NO_OPTIONS, Options, is_verb, plainly};
 use crate::long_command::{awaited_by, is_place, with_long_option, with_word};

@@ -1,11 +1,12 @@
 -- The command line of several pages: `render`, options, and then the templates. Its options are those of a single page,
 -- and `--globals FILE`, `--partials DIR` and `-o DIR`, of which the first and the last have to be there.
-use Rattle.std.specs.Prelude.{◌&&◌, ◌||◌, ℕ, List, [], ◌∷◌, ◌++◌, Bool, true, false, not, is_some, Option, None, Some, codes, if◌then◌else◌}
+use Rattle.std.specs.Prelude.{◌&&◌, ◌||◌, ℕ, List, [], ◌∷◌, ◌++◌, Bool, true, false, not, is_some, Option, None, Some, codes, if◌then◌else◌, map, option_map, string_bytes}
 use Rattle.std.specs.Option.{option_map_or}
 use Rattle.std.specs.Str.{bytes_eq}
 use Rattle.std.specs.Path.{path_file_name}
 use Rattle.liquid.specs.declared.command.Awaited.{Awaited}
 use Rattle.liquid.specs.declared.command.Options.{Options}
+use Rattle.liquid.specs.declared.pages_command.Pages.{Pages}
 use Rattle.liquid.specs.meaning.Command.{Choices, awaited_by, is_command, is_place, is_verb, no_options, plainly, with_long_option, with_word}
 
 -- what several pages need: how they are rendered, the ending of the files that are partials, the folder of the pages, the
@@ -70,3 +71,14 @@ pages_of (verb ∷ words) = if is_verb verb then pages_in (plainly no_options) N
 -- whether the words are a command, of one page or of several
 abbrev pub is_asked : List (List ℕ) → Bool
 is_asked words = is_command words || is_some (pages_of words)
+
+-- what several pages that were read need
+abbrev pub asked_pages : Pages → AskedPages
+asked_pages p = record {
+  options = p.options;
+  ending = option_map (λ w. w.now) p.ending;
+  output = p.output.now;
+  globals = p.globals.now;
+  partials = option_map (λ w. w.now) p.partials;
+  templates = map string_bytes p.templates.now;
+}

@@ -2,7 +2,7 @@ use Rattle.std.proofs.Common.{◌≡◌, ◌==◌, ap, map, rules, string_bytes,
 use Rattle.std.specs.Prelude.{if◌then◌else◌}
 use Rattle.liquid.specs.meaning.Status.{exit_status}
 use Rattle.liquid.specs.meaning.Written.{first_fault}
-use Rattle.liquid.specs.steps.Words.{asked_pages}
+use Rattle.liquid.specs.meaning.PagesCommand.{asked_pages}
 use Rattle.liquid.proofs.PagesLemmas.{each_more}
 use Rattle.liquid.proofs.pages.+write_each.Goals as goal
 use Rattle.liquid.proofs.pages.+write_each.Goals.{then-status-eq0, else-status-eq0}

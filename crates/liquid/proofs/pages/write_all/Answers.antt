@@ -6,7 +6,7 @@ use Rattle.liquid.specs.meaning.Command.{option_words}
 use Rattle.liquid.specs.meaning.Gathered.{WithGlobals, WithPartials}
 use Rattle.liquid.specs.meaning.Written.{WritesEach}
 use Rattle.liquid.specs.steps.Steps.{Brings, Stops, all_status}
-use Rattle.liquid.specs.steps.Words.{asked_pages}
+use Rattle.liquid.specs.meaning.PagesCommand.{asked_pages}
 use Rattle.liquid.proofs.GatheredLemmas.{Files, Folders}
 use Rattle.liquid.proofs.PagesLemmas.{each_written, failed_all, no_globals_object, no_globals_text, no_pages_partials, same_known}
 use Rattle.liquid.proofs.pages.write_all.Goals as goal

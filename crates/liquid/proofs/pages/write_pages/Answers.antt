@@ -1,7 +1,7 @@
 use Rattle.std.proofs.Common.{subst, sym}
 use Rattle.liquid.specs.meaning.Status.{fault_status}
 use Rattle.liquid.specs.meaning.Written.{WritesPages}
-use Rattle.liquid.specs.steps.Words.{asked_pages}
+use Rattle.liquid.specs.meaning.PagesCommand.{asked_pages}
 use Rattle.liquid.proofs.GatheredLemmas.{Files}
 use Rattle.liquid.proofs.pages.write_pages.Goals as goal
 
