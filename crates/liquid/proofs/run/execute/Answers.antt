@@ -1,8 +1,9 @@
-use Rattle.std.proofs.Common.{Ok, Err, Option, String, Global, rules, subst, ◌∙◌, string_bytes, option_map}
+use Rattle.std.proofs.Common.{◌≡◌, Ok, Err, Option, String, Global, rules, subst, ◌∙◌, string_bytes, option_map}
 use Rattle.liquid_partials.specs.meaning.Sources.{Texts}
 use Rattle.liquid.specs.meaning.Command.{option_words}
 use Rattle.liquid.specs.meaning.Gathered.{WithText, WithPartials}
-use Rattle.liquid.specs.meaning.Status.{exit_status}
+use Rattle.liquid.specs.meaning.Program.{status_of}
+use Rattle.liquid.specs.meaning.Status.{exit_status, fault_status}
 use Rattle.liquid.specs.steps.Steps.{Stops, Brings}
 use Rattle.liquid.proofs.GatheredLemmas.{Files, Folders}
 use Rattle.liquid.proofs.ExecutedLemmas.{no_template, no_json, no_globals, no_partials, executed, failed}
@@ -70,8 +71,9 @@ returns-clause-executes g c =
     let same = c.text_of-2.ensures.same ∙ c.text_of.ensures.same in
     let listed = c.text_of-2.ensures.listed ∙ c.text_of.ensures.listed in
     let source = c.in_ok-partials.partials in
-    executed c.args.command.choices.options (option_map (λ e. e.now) c.args.command.choices.ending) c.args.command.paths.template.now c.args.command.paths.globals.now (option_map (λ f. f.now) c.args.command.paths.folder) (g.F.Folder.known c.args.files.now) (g.F.Folder.listed c.args.files.now) before after 1
+    let one : 1 ≡ status_of c.render_over.result = search rules in
+    executed c.args.command.choices.options (option_map (λ e. e.now) c.args.command.choices.ending) c.args.command.paths.template.now c.args.command.paths.globals.now (option_map (λ f. f.now) c.args.command.paths.folder) (g.F.Folder.known c.args.files.now) (g.F.Folder.listed c.args.files.now) before after (fault_status c.refuse.result)
     c.in_ok-template.template c.in_ok-json.json c.in_ok-globals.globals source c.render_over.result c.in_ok-template.ensures.text json (rw c.as_str.ensures.value at c.in_ok-globals.ensures.globals)
     (subst (λ (f : Folders). WithPartials (g.F.Folder.known c.args.files.now) f ending words (Stops (Ok source)) (λ partials. Brings (λ (s : Option Texts). s) partials (Ok source))) listed
     (subst (λ (k : Files). WithPartials k (g.F.Folder.listed c.text_of-2.new.files) ending words (Stops (Ok source)) (λ partials. Brings (λ (s : Option Texts). s) partials (Ok source))) same c.in_ok-partials.ensures.partials))
-    (rw c.as_str-2.ensures.value at c.render_over.ensures.renders) (search rules)
+    (rw c.as_str-2.ensures.value at c.render_over.ensures.renders) (c.refuse.ensures ∙ one)
