@@ -1,5 +1,5 @@
 -- The blocks of the library mean what their images mean.
-use Rattle.std.proofs.Common.{◌≡◌, ℕ, ◌+◌, Bool, cond, List, [], ◌∷◌, map, Option, None, Some, pos, ℤ, Result, Ok, Err, refl, ap, ◌∙◌}
+use Rattle.std.proofs.Common.{◌≡◌, ℕ, ◌+◌, cond, List, [], ◌∷◌, map, Option, None, pos, ℤ, Result, Ok, Err, refl, ap, ◌∙◌}
 use Rattle.std.specs.Prelude.{false, unwrap_or}
 use Rattle.liquid_error.specs.meaning.Refusal.{Refusal, ok_then}
 use Rattle.liquid_value.specs.meaning.Tree.{Tree}

@@ -1,17 +1,17 @@
 -- A text that the library reads is read as its image.
-use Rattle.std.proofs.Common.{◌≡◌, ℕ, List, [], ◌∷◌, map, Result, Ok, Err, refl, sym, ap, ◌∙◌}
-use Rattle.liquid_error.specs.meaning.Refusal.{Refusal, ok_then}
+use Rattle.std.proofs.Common.{◌≡◌, ℕ, List, [], ◌∷◌, map, Ok, sym, ap, ◌∙◌}
+use Rattle.liquid_error.specs.meaning.Refusal.{ok_then}
 use Rattle.liquid_grammar.specs.meaning.Cover.{Element, joined}
 use Rattle.liquid_plugins.specs.meaning.Nodes.{NodeShape}
 use Rattle.liquid_parser.specs.meaning.Lang.{Filters}
-use Rattle.liquid_parser.specs.meaning.Reading.{Reads, ended, read, step}
+use Rattle.liquid_parser.specs.meaning.Reading.{ended, read, step}
 use Rattle.liquid_tags.specs.declared.blocks.BlockShape.{BlockShape}
 use Rattle.liquid_tags.specs.declared.tags.TagShape.{TagShape}
 use Rattle.liquid_tags.specs.meaning.Languages as languages
 use Rattle.liquid_std.specs.meaning.Languages.{tags_and_blocks}
 use Rattle.std_superset.specs.meaning.Images.{node_image}
 use Rattle.std_superset.specs.laws.Superset.{ReadsImages}
-use Rattle.std_superset.proofs.StepLemmas.{Opened, Reading, among_nodes, inside_raw, new_state, old_state, reads_step}
+use Rattle.std_superset.proofs.StepLemmas.{Reading, among_nodes, inside_raw, new_state, old_state, reads_step}
 use Rattle.std_superset.proofs.TokenLemmas.{made_from, same_value}
 
 module _ {F : Type 0} (filters : Filters F) (source : List ℕ) where

@@ -1,5 +1,5 @@
 -- One element more is read in both languages.
-use Rattle.std.proofs.Common.{◌≡◌, ℕ, zero, suc, Bool, true, false, cond, List, [], ◌∷◌, ◌++◌, ◌+◌, codes, length, map, Option, Some, None, option_map, Result, Ok, Err, refl, sym, ap, subst, ◌∙◌}
+use Rattle.std.proofs.Common.{◌≡◌, ℕ, Bool, true, false, List, [], ◌∷◌, ◌++◌, ◌+◌, codes, length, map, Option, Some, None, option_map, Result, Ok, Err, refl, sym, ap, ◌∙◌}
 use Rattle.std.specs.FinMap.{get}
 use Rattle.std.specs.List.{list_any}
 use Rattle.std.specs.Prelude.{bytes_eq, if◌then◌else◌, nat_lt}
@@ -9,12 +9,10 @@ use Rattle.liquid_error.specs.meaning.Refusal.{Refusal, ok_then}
 use Rattle.liquid_grammar.specs.meaning.Cover.{Element, raw, tag_element, expression, invalid, text_of}
 use Rattle.liquid_grammar.specs.meaning.Faults.{chain_fault, tag_fault}
 use Rattle.liquid_grammar.specs.meaning.Tokens as token
-use Rattle.liquid_plugins.specs.meaning.Chain.{ChainShape}
 use Rattle.liquid_plugins.specs.meaning.Nodes.{NodeShape, text_node, chain_node, tag_node}
 use Rattle.liquid_parser.specs.meaning.Handed.{Tokens, expect_nothing, handed, place_in}
-use Rattle.liquid_parser.specs.meaning.Lang.{Block, Filters, Lang, parts, escaped}
-use Rattle.liquid_parser.specs.meaning.Plugins.{registry_of}
-use Rattle.liquid_parser.specs.meaning.Reading.{Open, State, among, inside, begun, block_begun, block_limit, block_with, chain_read, checked, closed, element_read, entered, escape_read, expression_read, finished, level_behind, name_place, node_added, outer_read, parted, placed_at, refused_at, step, tag_given, tag_read}
+use Rattle.liquid_parser.specs.meaning.Lang.{Block, Filters, Lang, parts}
+use Rattle.liquid_parser.specs.meaning.Reading.{Open, State, among, inside, begun, block_limit, block_with, chain_read, checked, closed, element_read, entered, escape_read, expression_read, finished, level_behind, name_place, node_added, outer_read, parted, placed_at, refused_at, step, tag_given, tag_read}
 use Rattle.liquid_parser.proofs.DispatchLemmas.{block_outer, divider_read, end_read, other_read, tag_outer, unknown_outer}
 use Rattle.liquid_tags.specs.declared.blocks.BlockShape.{BlockShape}
 use Rattle.liquid_tags.specs.declared.block_plugins.Blocks.{Blocks}
@@ -32,7 +30,7 @@ use Rattle.liquid_std.specs.declared.tag_plugins.StdTags.TheVariants as tag
 use Rattle.liquid_std.specs.declared.tags.StdTagShape.{StdTagShape}
 use Rattle.liquid_std.specs.declared.tags.StdTagShape.TheVariants.{Library}
 use Rattle.liquid_std.specs.meaning.BlockPlugins as standard
-use Rattle.liquid_std.specs.meaning.Languages.{tags_and_blocks, the_blocks, the_tags}
+use Rattle.liquid_std.specs.meaning.Languages.{tags_and_blocks}
 use Rattle.liquid_std.specs.meaning.TagPlugins as standard_tag
 use Rattle.std_superset.specs.meaning.Images.{block_image, node_image}
 use Rattle.std_superset.proofs.NameLemmas.{block_kept as own_block, block_named, standard_block, tag_free, tag_kept, tag_named}

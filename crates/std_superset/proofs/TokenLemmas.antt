@@ -6,7 +6,7 @@ use Rattle.std.proofs.lemmas.List.{map-append}
 use Rattle.std.proofs.lemmas.Slice.Eq.{bytes_eq-Decides}
 use Rattle.std.specs.List.{list_any}
 use Rattle.liquid_error.specs.declared.place.Place.{Place}
-use Rattle.liquid_error.specs.meaning.Refusal.{Refusal, located, ok_then}
+use Rattle.liquid_error.specs.meaning.Refusal.{Refusal, ok_then}
 use Rattle.liquid_parser.specs.meaning.Cursors.{expect_str}
 use Rattle.liquid_parser.specs.meaning.Handed.{Token, Tokens, expect_identifier, expect_value, none_left, or_unexpected}
 use Rattle.liquid_plugins.specs.meaning.Expression.{ExpressionShape}
@@ -25,14 +25,13 @@ use Rattle.liquid_tags.specs.meaning.BlockPlugins.{expect_series}
 use Rattle.liquid_tags.specs.meaning.ConditionsGiven as asked
 use Rattle.liquid_tags.specs.meaning.ConditionsGiven.{comparison_of}
 use Rattle.std_conditions.specs.declared.condition.ConditionShape as standard
-use Rattle.std_conditions.specs.declared.condition.Operator.{Operator}
 use Rattle.std_conditions.specs.declared.condition.Operator.TheVariants as operator
 use Rattle.std_conditions.specs.declared.condition.TestShape.TheVariants as test
 use Rattle.std_conditions.specs.meaning.ConditionsGiven.{after_test, after_value, condition_given, from_second, from_value, joined_by, operator_of}
 use Rattle.std_loops.specs.declared.loops.LoopShape.{LoopShape}
 use Rattle.std_loops.specs.declared.options.LoopBlock.TheVariants as loop
 use Rattle.std_loops.specs.declared.options.OptionsShape.{OptionsShape}
-use Rattle.std_loops.specs.meaning.OptionsGiven.{loop_given, no_options, options_from}
+use Rattle.std_loops.specs.meaning.OptionsGiven.{no_options, options_from}
 use Rattle.liquid_std.specs.declared.blocks.StdBlockShape.{StdBlockShape}
 use Rattle.liquid_std.specs.declared.blocks.StdBlockShape.TheVariants as shape
 use Rattle.liquid_std.specs.declared.block_plugins.StdPlanShape.{StdPlanShape}
