@@ -1,6 +1,6 @@
 //! The shop's language.
 ghost use Rattle.std.specs.Prelude.{◌≡◌, IfOk};
-ghost use Rattle.shop.specs.meaning.Languages.{the_blocks, the_filters, the_tags};
+ghost use Rattle.shop.specs.meaning.Languages.{meaning_of, the_blocks, the_filters, the_language, the_tags};
 
 use crate::badge::Badge;
 use crate::filters::{Quoted, ShopFilters};
@@ -22,26 +22,40 @@ pub type ShopBlocks = Beside<Blocks, Beside<Stock, TextBlockPlugin<Twice>>>;
 /// The standard filters and `quoted`, and these tags and blocks.
 pub type ShopLanguage = Language<ShopFilters, ShopTags, ShopBlocks>;
 
-/// Returns the plug-ins, each under its name.
+/// Returns the language of the plug-ins, each under its name.
 pub fn language(alloc: Global) -> Result<ShopLanguage, AllocError>
     ensures filters { IfOk result (λ l. l.filters ≡ the_filters) }
     ensures tags { IfOk result (λ l. l.tags ≡ the_tags) }
     ensures blocks { IfOk result (λ l. l.blocks ≡ the_blocks) }
+    ensures means { IfOk result (λ l. meaning_of l ≡ the_language) }
 {
-    let filters = filters_beside(alloc, None, &[Quoted])?;
+    Ok(Language {
+        filters: filters_beside(alloc, None, &[Quoted])?,
+        tags: tags(alloc)?,
+        blocks: blocks(alloc)?,
+    })
+}
+
+/// Returns the tags.
+fn tags(alloc: Global) -> Result<PluginRegistry<ShopTags>, AllocError>
+    ensures { IfOk result (λ tags. tags ≡ the_tags) }
+{
     let mut tags = PluginRegistry::new(alloc);
     tags.register("assign", Beside::Library(Tags::Assign))?;
     tags.register("include", Beside::Library(Tags::Include))?;
     tags.register("badge", Beside::Own(Badge))?;
+    Ok(tags)
+}
+
+/// Returns the blocks.
+fn blocks(alloc: Global) -> Result<PluginRegistry<ShopBlocks>, AllocError>
+    ensures { IfOk result (λ blocks. blocks ≡ the_blocks) }
+{
     let mut blocks = PluginRegistry::new(alloc);
     blocks.register("if", Beside::Library(Blocks::If))?;
     blocks.register("for", Beside::Library(Blocks::For))?;
     blocks.register("stock", Beside::Own(Beside::Library(Stock)))?;
     let twice = TextBlockPlugin { kind: Twice };
     blocks.register("twice", Beside::Own(Beside::Own(twice)))?;
-    Ok(Language {
-        filters,
-        tags,
-        blocks,
-    })
+    Ok(blocks)
 }

@@ -1,11 +1,25 @@
 //! The shop's page, and what its customers write.
+ghost use Rattle.std.specs.Prelude.{◌≡◌, Some, Ok, IfOk, string_bytes};
+ghost use Rattle.std.specs.FinMap.{insert};
+ghost use Rattle.liquid_json.specs.meaning.Given.{object_read};
+ghost use Rattle.liquid_runtime.specs.meaning.Frames.{built_view};
+ghost use Rattle.liquid_runtime.specs.meaning.Maps.{names_of};
+ghost use Rattle.liquid_partials.specs.meaning.Compiled.{Compiled};
+ghost use Rattle.liquid_template.specs.meaning.Partials.{partials_of};
+ghost use Rattle.liquid_scalar.specs.meaning.Scalar.{text};
+ghost use Rattle.liquid_value.specs.meaning.Tree.{scalar};
+ghost use Rattle.liquid_value.specs.meaning.View.{view as tree_of, members_view};
+ghost use Rattle.shop.specs.meaning.Languages.{meaning_of, the_language};
+ghost use Rattle.shop.specs.meaning.Pages.{refusal_names, the_partials, visit_names};
+ghost use Rattle.shop.specs.meaning.Pages.{FindsPartials, PageShown, ReviewShown, SandboxShown, SeesGoods};
+
 use crate::filters::ShopFilters;
 use crate::languages::{ShopBlocks, ShopLanguage, ShopTags, language};
 use liquid_core::model::{Object, Value, object_from_str};
-use liquid_core::parser::parse;
+use liquid_core::parser::{ParseBlock, ParseFilter, ParseTag, parse};
 use liquid_core::partials::{InMemorySource, LazyCompiler, LazyStore, PartialCompiler};
-use liquid_core::runtime::{BuiltRuntime, RuntimeBuilder, Template};
-use liquid_core::{Error, Sink, render_source};
+use liquid_core::runtime::{BuiltRuntime, Runtime, RuntimeBuilder, Template};
+use liquid_core::{Error, PartialStore, Sink, no_names, render_source};
 use std::alloc::{AllocError, Global};
 use std::rc::Rc;
 
@@ -27,31 +41,66 @@ const PAGE: &str = "<h1>{{ shop.name | upcase }}</h1>
 const ITEM: &str = "<p>{{ item.name }} {% badge item.mark %}: \
     {% stock item.left %}{{ item.left }} left{% soldout %}sold out{% endstock %}</p>";
 
+/// The text after a review that has an error.
+const REFUSED: &str = "\nRefused: {{ refusal }}";
+
 /// The store of the shop's partials.
 type ShopStore = LazyStore<InMemorySource, ShopFilters, ShopTags, ShopBlocks>;
+
+/// The runtime of the shop.
+type ShopRuntime = BuiltRuntime<(), ShopStore>;
+
+/// The nodes of the shop's templates.
+type ShopFilter = <ShopFilters as ParseFilter>::Filter;
+
+type ShopTag = <ShopTags as ParseTag<ShopFilters>>::Node;
+
+type ShopBlock = <ShopBlocks as ParseBlock<ShopFilters>>::Node;
 
 /// The shop: its language, and a runtime of its goods, which its pages share.
 #[derive(Drop)]
 pub struct Shop {
     language: Rc<ShopLanguage>,
-    runtime: BuiltRuntime<(), ShopStore>,
+    runtime: ShopRuntime,
 }
 
 impl Shop {
     /// Opens a shop with its goods and its partials.
-    pub fn open(alloc: Global) -> Result<Shop, Error> {
-        let goods = goods(alloc)?;
-        let language = Rc::new(alloc, language(alloc)?)?;
-        let store = LazyCompiler::new(partials(alloc)?).compile(alloc, language.clone()?)?;
-        let runtime = RuntimeBuilder::new(alloc)
-            .set_globals(goods)
-            .set_partials(store)
-            .build();
-        Ok(Shop { language, runtime })
+    pub fn open(alloc: Global) -> Result<Shop, Error>
+        ensures language { IfOk result (λ shop. meaning_of shop.language.value ≡ the_language) }
+        ensures goods { IfOk result (λ shop. SeesGoods (⟦<ShopRuntime as Runtime>⟧.view shop.runtime)) }
+        ensures partials { IfOk result (λ shop. FindsPartials
+            (partials_of ⟦<ShopStore as PartialStore<ShopFilter, ShopTag, ShopBlock>>⟧.finds
+            (⟦<ShopRuntime as Runtime>⟧.store shop.runtime))) }
+    {
+        match goods(alloc) {
+            Ok(goods) => match shared_language(alloc) {
+                Ok(language) => match store_of(alloc, &language) {
+                    Ok(store) => {
+                        let runtime = runtime_of(alloc, goods, store);
+                        Ok(Shop { language, runtime })
+                    }
+                    Err(_) => Err(Error::Memory),
+                },
+                Err(_) => Err(Error::Memory),
+            },
+            Err(error) => Err(error),
+        }
     }
 
     /// Writes the shop's page.
-    pub fn write_page<K: Sink>(&mut self, alloc: Global, sink: &mut K) -> Result<(), Error> {
+    pub fn write_page<K: Sink>(&mut self, alloc: Global, sink: &mut K) -> Result<(), Error>
+        ensures shown { PageShown (meaning_of self.old.language.value)
+            (partials_of ⟦<ShopStore as PartialStore<ShopFilter, ShopTag, ShopBlock>>⟧.finds
+            (⟦<ShopRuntime as Runtime>⟧.store self.old.runtime))
+            (⟦<ShopRuntime as Runtime>⟧.view self.old.runtime)
+            (K.sunk sink.old) (K.sunk sink.new) (⟦<ShopRuntime as Runtime>⟧.view self.new.runtime) result }
+        ensures language { self.new.language ≡ self.old.language }
+        ensures partials { partials_of ⟦<ShopStore as PartialStore<ShopFilter, ShopTag, ShopBlock>>⟧.finds
+            (⟦<ShopRuntime as Runtime>⟧.store self.new.runtime)
+            ≡ partials_of ⟦<ShopStore as PartialStore<ShopFilter, ShopTag, ShopBlock>>⟧.finds
+            (⟦<ShopRuntime as Runtime>⟧.store self.old.runtime) }
+    {
         render_source(alloc, PAGE, &self.language, &mut self.runtime, sink)
     }
 
@@ -62,7 +111,18 @@ impl Shop {
         text: &str,
         names: Object,
         sink: &mut K,
-    ) -> Result<(), Error> {
+    ) -> Result<(), Error>
+        ensures shown { SandboxShown (meaning_of self.old.language.value)
+            (partials_of ⟦<ShopStore as PartialStore<ShopFilter, ShopTag, ShopBlock>>⟧.finds
+            (⟦<ShopRuntime as Runtime>⟧.store self.old.runtime)) (names_of names) text.now
+            (⟦<ShopRuntime as Runtime>⟧.view self.old.runtime)
+            (K.sunk sink.old) (K.sunk sink.new) (⟦<ShopRuntime as Runtime>⟧.view self.new.runtime) result }
+        ensures language { self.new.language ≡ self.old.language }
+        ensures partials { partials_of ⟦<ShopStore as PartialStore<ShopFilter, ShopTag, ShopBlock>>⟧.finds
+            (⟦<ShopRuntime as Runtime>⟧.store self.new.runtime)
+            ≡ partials_of ⟦<ShopStore as PartialStore<ShopFilter, ShopTag, ShopBlock>>⟧.finds
+            (⟦<ShopRuntime as Runtime>⟧.store self.old.runtime) }
+    {
         match parse(alloc, text, &self.language) {
             Ok(nodes) => {
                 let page = Template::new(nodes);
@@ -79,37 +139,136 @@ pub fn write_review<K: Sink>(
     shop: &mut Shop,
     review: &str,
     sink: &mut K,
-) -> Result<(), Error> {
-    match shop.write_sandboxed(alloc, review, visit(alloc)?, sink) {
-        Ok(()) => Ok(()),
-        Err(refusal) => {
-            let text = refusal.to_string(alloc)?;
-            let shown = Value::scalar(text);
-            let mut names = Object::new(alloc);
-            names.insert(String::from_str(alloc, "refusal")?, shown)?;
-            shop.write_sandboxed(alloc, "\nRefused: {{ refusal }}", names, sink)
-        }
+) -> Result<(), Error>
+    ensures shown { ReviewShown (meaning_of shop.old.language.value)
+        (partials_of ⟦<ShopStore as PartialStore<ShopFilter, ShopTag, ShopBlock>>⟧.finds
+        (⟦<ShopRuntime as Runtime>⟧.store shop.old.runtime)) review.now
+        (⟦<ShopRuntime as Runtime>⟧.view shop.old.runtime)
+        (K.sunk sink.old) (K.sunk sink.new) (⟦<ShopRuntime as Runtime>⟧.view shop.new.runtime) result }
+    ensures language { shop.new.language ≡ shop.old.language }
+    ensures partials { partials_of ⟦<ShopStore as PartialStore<ShopFilter, ShopTag, ShopBlock>>⟧.finds
+        (⟦<ShopRuntime as Runtime>⟧.store shop.new.runtime)
+        ≡ partials_of ⟦<ShopStore as PartialStore<ShopFilter, ShopTag, ShopBlock>>⟧.finds
+        (⟦<ShopRuntime as Runtime>⟧.store shop.old.runtime) }
+{
+    match visit(alloc) {
+        Ok(names) => match shop.write_sandboxed(alloc, review, names, sink) {
+            Ok(()) => Ok(()),
+            Err(refusal) => write_refusal(alloc, shop, &refusal, sink),
+        },
+        Err(_) => Err(Error::Memory),
+    }
+}
+
+/// Writes the error of a review.
+fn write_refusal<K: Sink>(
+    alloc: Global,
+    shop: &mut Shop,
+    refusal: &Error,
+    sink: &mut K,
+) -> Result<(), Error>
+    ensures shown { SandboxShown (meaning_of shop.old.language.value)
+        (partials_of ⟦<ShopStore as PartialStore<ShopFilter, ShopTag, ShopBlock>>⟧.finds
+        (⟦<ShopRuntime as Runtime>⟧.store shop.old.runtime)) (refusal_names refusal.now) REFUSED.now
+        (⟦<ShopRuntime as Runtime>⟧.view shop.old.runtime)
+        (K.sunk sink.old) (K.sunk sink.new) (⟦<ShopRuntime as Runtime>⟧.view shop.new.runtime) result }
+    ensures language { shop.new.language ≡ shop.old.language }
+    ensures partials { partials_of ⟦<ShopStore as PartialStore<ShopFilter, ShopTag, ShopBlock>>⟧.finds
+        (⟦<ShopRuntime as Runtime>⟧.store shop.new.runtime)
+        ≡ partials_of ⟦<ShopStore as PartialStore<ShopFilter, ShopTag, ShopBlock>>⟧.finds
+        (⟦<ShopRuntime as Runtime>⟧.store shop.old.runtime) }
+{
+    match refusal_names(alloc, refusal) {
+        Ok(names) => shop.write_sandboxed(alloc, REFUSED, names, sink),
+        Err(_) => Err(Error::Memory),
     }
 }
 
 /// Returns what a review may show.
-fn visit(alloc: Global) -> Result<Object, AllocError> {
-    let mut names = Object::new(alloc);
-    let visitor = Value::scalar(String::from_str(alloc, "Ada")?);
-    names.insert(String::from_str(alloc, "visitor")?, visitor)?;
-    let item = Value::scalar(String::from_str(alloc, "Rain gauge")?);
-    names.insert(String::from_str(alloc, "item")?, item)?;
+fn visit(alloc: Global) -> Result<Object, AllocError>
+    ensures { IfOk result (λ names. names_of names ≡ visit_names) }
+{
+    let mut names = no_names(alloc);
+    set_text(
+        alloc,
+        &mut names,
+        "visitor",
+        String::from_str(alloc, "Ada")?,
+    )?;
+    set_text(
+        alloc,
+        &mut names,
+        "item",
+        String::from_str(alloc, "Rain gauge")?,
+    )?;
     Ok(names)
 }
 
-fn goods(alloc: Global) -> Result<Object, Error> {
+/// Returns what the text after a review sees: the text of the review's error.
+fn refusal_names(alloc: Global, refusal: &Error) -> Result<Object, AllocError>
+    ensures { IfOk result (λ names. names_of names ≡ refusal_names refusal.now) }
+{
+    let mut names = no_names(alloc);
+    set_text(alloc, &mut names, "refusal", refusal.to_string(alloc)?)?;
+    Ok(names)
+}
+
+/// Gives a name this text.
+#[tactic(auto, using(liquid_runtime::proofs::ObjectNames::changed_objects))]
+fn set_text(alloc: Global, names: &mut Object, name: &str, value: String) -> Result<(), AllocError>
+    ensures { IfOk result (λ _. names_of names.new ≡ insert (names_of names.old) name.now (scalar (text (string_bytes value)))) }
+{
+    names.insert(String::from_str(alloc, name)?, text_value(value))?;
+    Ok(())
+}
+
+/// Returns the value of a text.
+fn text_value(value: String) -> Value
+    ensures { tree_of result ≡ scalar (text (string_bytes value)) }
+{
+    Value::scalar(value)
+}
+
+/// Returns the shop's language, for its pages and its store.
+fn shared_language(alloc: Global) -> Result<Rc<ShopLanguage>, AllocError>
+    ensures { IfOk result (λ language. meaning_of language.value ≡ the_language) }
+{
+    Ok(Rc::new(alloc, language(alloc)?)?)
+}
+
+/// Returns a store of the shop's partials in this language.
+fn store_of(alloc: Global, language: &Rc<ShopLanguage>) -> Result<ShopStore, AllocError>
+    ensures { IfOk result (λ store. Compiled (meaning_of language.now.value) the_partials
+        (⟦<ShopStore as PartialStore<ShopFilter, ShopTag, ShopBlock>>⟧.finds store)) }
+{
+    Ok(LazyCompiler::new(partials(alloc)?).compile(alloc, language.clone()?)?)
+}
+
+/// Returns the runtime over these goods and this store.
+fn runtime_of(alloc: Global, goods: Object, store: ShopStore) -> ShopRuntime
+    ensures view { ⟦<ShopRuntime as Runtime>⟧.view result ≡ built_view tt 32 (names_of goods) }
+    ensures store { ⟦<ShopRuntime as Runtime>⟧.store result ≡ Some store }
+{
+    RuntimeBuilder::new(alloc)
+        .set_globals(goods)
+        .set_partials(store)
+        .build()
+}
+
+/// Returns what the shop sells, as globals.
+fn goods(alloc: Global) -> Result<Object, Error>
+    ensures { IfOk result (λ goods. object_read GOODS.now ≡ Some (Ok (members_view goods.entries))) }
+{
     match object_from_str(alloc, GOODS) {
         Ok(goods) => goods,
         Err(_) => Err(Error::with_msg(alloc, "The goods are no JSON")),
     }
 }
 
-fn partials(alloc: Global) -> Result<InMemorySource, AllocError> {
+/// Returns the shop's partials.
+fn partials(alloc: Global) -> Result<InMemorySource, AllocError>
+    ensures { IfOk result (λ source. source ≡ the_partials) }
+{
     let mut source = InMemorySource::new(alloc);
     let item = String::from_str(alloc, ITEM)?;
     source.add(String::from_str(alloc, "item")?, item)?;

@@ -1,19 +1,35 @@
--- The plug-ins by their names.
-use Rattle.std.specs.Prelude.{ℕ, List, [], ◌∷◌, None, codes}
+-- The plug-ins by their names, and what a language of them means.
+use Rattle.std.specs.Prelude.{ℕ, List, [], ◌∷◌, None, codes, Result}
 use Rattle.std.specs.FinMap.{empty}
+use Rattle.liquid_error.specs.meaning.Refusal.{Refusal}
 use Rattle.liquid_runtime.specs.meaning.Maps.{NameMap}
+use Rattle.liquid_plugins.specs.meaning.ArgumentsOf.{Arguments}
+use Rattle.liquid_parser.specs.declared.plugin.language.Language.{Language}
+use Rattle.liquid_parser.specs.meaning.Handed.{Tokens}
+use Rattle.liquid_parser.specs.meaning.Lang.{Block, Filters, Lang}
+use Rattle.liquid_parser.specs.meaning.Plugins.{language_of}
+use Rattle.liquid_tags.specs.meaning.BlockPlugins.{whole_block}
 use Rattle.liquid_tags.specs.meaning.Languages.{registered}
+use Rattle.liquid_tags.specs.meaning.TagPlugins.{tag_given}
 use Rattle.liquid_tags.specs.declared.tag_plugins.Tags.TheVariants as tags
 use Rattle.liquid_tags.specs.declared.block_plugins.Blocks.TheVariants as blocks
 use Rattle.shop.specs.declared.filters.Quoted.{Quoted}
+use Rattle.shop.specs.meaning.Badges.{badge_given}
 use Rattle.shop.specs.meaning.Filters.{quoted}
+use Rattle.shop.specs.meaning.Shapes.{ShopFilter, ShopTag, ShopPlan, ShopBlock}
+use Rattle.shop.specs.meaning.Stocks.{stock_block}
+use Rattle.shop.specs.meaning.Twices.{twice}
 use Rattle.std_filters.specs.declared.beside.Beside.{Beside}
 use Rattle.std_filters.specs.declared.kinds.StdKind.{StdKind}
 use Rattle.std_filters.specs.declared.plugin.FilterPlugin.{FilterPlugin}
-use Rattle.std_filters.specs.meaning.Registered.{filters_beside}
+use Rattle.std_filters.specs.meaning.Calls.{call_made}
+use Rattle.std_filters.specs.meaning.Registered.{filters_beside, sense_beside}
+use Rattle.std_filters.specs.meaning.Standard.{std_sense}
 use Rattle.beside.specs.declared.one_of.Beside as one_of
 use Rattle.beside.specs.declared.one_of.Beside.TheVariants.{Library, Own}
+use Rattle.beside.specs.meaning.Plugins.{block_beside, tag_beside}
 use Rattle.text_blocks.specs.declared.plugin.TextBlockPlugin.{TextBlockPlugin}
+use Rattle.text_blocks.specs.meaning.Blocks.{text_block}
 use Rattle.liquid_tags.specs.declared.tag_plugins.Tags.{Tags}
 use Rattle.liquid_tags.specs.declared.block_plugins.Blocks.{Blocks}
 use Rattle.shop.specs.declared.badge.Badge.{Badge}
@@ -34,3 +50,22 @@ the_blocks =
     registered empty
     ((codes "if", Library blocks.If) ∷ (codes "for", Library blocks.For) ∷ (codes "stock", Own (Library (record {})))
     ∷ (codes "twice", Own (Own (record { kind = record {} }))) ∷ [])
+
+-- what a filter makes of its arguments, a tag of its tokens, and what a block takes
+abbrev pub filter_made : FilterPlugin (Beside StdKind Quoted) → Arguments → Result ShopFilter Refusal
+filter_made plugin arguments = call_made (sense_beside std_sense quoted) plugin.kind arguments
+
+abbrev pub tag_made : one_of.Beside Tags Badge → Filters ShopFilter → Tokens → Result ShopTag Refusal
+tag_made = tag_beside tag_given (λ tag filters ts. badge_given ts)
+
+abbrev pub block_taken : one_of.Beside Blocks (one_of.Beside Stock (TextBlockPlugin Twice)) → Block ShopFilter ShopPlan ShopBlock
+block_taken = block_beside whole_block (block_beside (λ block. stock_block) (λ plugin. text_block twice plugin.kind))
+
+-- what a language of such plug-ins means
+abbrev pub meaning_of : Language (FilterPlugin (Beside StdKind Quoted)) (one_of.Beside Tags Badge) (one_of.Beside Blocks (one_of.Beside Stock (TextBlockPlugin Twice)))
+    → Lang ShopFilter ShopTag ShopPlan ShopBlock
+meaning_of = language_of filter_made tag_made block_taken
+
+-- the shop's language
+unfoldable pub the_language : Lang ShopFilter ShopTag ShopPlan ShopBlock
+the_language = meaning_of (record { filters = the_filters; tags = the_tags; blocks = the_blocks })

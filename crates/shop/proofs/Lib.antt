@@ -1,0 +1,2 @@
+pub mod LanguageLemmas
+pub mod PageLemmas
