@@ -18,7 +18,7 @@ returns-in-Ok-answer-clause-turned g c =
 
 pub returns-in-Text-clause-turned : goal.returns-in-Text-clause-turned
 returns-in-Text-clause-turned g c =
-    (text_ends _ _ _ _ _ _ _ c.turn.ensures.frames _ _ (asked_true _ _ _ c.if-not-pass_turn.false c.pass_turn.ensures.turn) c.in-Ok.ensures.after _ c.in-Ok.ensures.progress _ _ _ (c.in-Ok.ensures.answer ∙ ap (λ x. Ok (turn_of x)) c.in-Text.is) (rw c.as_str.ensures.value at c.put.ensures.put), c.turn.ensures.owes)
+    rw c.in-Err-answer.is (text_ends _ _ _ _ _ _ _ c.turn.ensures.frames _ _ (asked_true _ _ _ c.if-not-pass_turn.false c.pass_turn.ensures.turn) c.in-Ok.ensures.after _ c.in-Ok.ensures.progress _ _ _ (c.in-Ok.ensures.answer ∙ ap (λ x. Ok (turn_of x)) c.in-Text.is) (rw (c.as_str.ensures.value, c.in-Err-answer.is) at c.put.ensures.put), c.turn.ensures.owes)
 
 pub returns-in-Ok-push-clause-turned : goal.returns-in-Ok-push-clause-turned
 returns-in-Ok-push-clause-turned g c =
