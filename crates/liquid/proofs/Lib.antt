@@ -9,3 +9,4 @@ pub mod RunLemmas
 pub mod ShownRuns
 pub mod PagesLemmas
 pub mod EndingLemmas
+pub mod RequestsLemmas

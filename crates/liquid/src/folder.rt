@@ -1,6 +1,6 @@
 //! Where the program's files come from.
 ghost use Rattle.std.specs.Prelude.{◌≡◌, ℕ, Bool, List, Option, None, OnOk, OnErr, map, string_bytes};
-ghost use Rattle.liquid.specs.meaning.Files.{Reads, Replaces, Same};
+ghost use Rattle.liquid.specs.meaning.Files.{also, listing, reading, Reads, Replaces, Requests, Same};
 
 use std::alloc::Global;
 
@@ -31,6 +31,10 @@ pub trait Folder {
     /// If `true` comes before the path, it is the paths, within the folder, of the files in it and in its subfolders.
     ghost listed: { Self → Bool → List ℕ → Option (Option (List (List ℕ))) } = { λ _ _ _. None };
 
+    /// What is known of the files that were read and of the folders that were listed so far: nothing, or all of them in
+    /// order.
+    ghost requests: { Self → Requests } = { λ _. None };
+
     /// Returns the bytes of the file at `path`.
     ///
     /// If something is known of the file, the returned bytes are those that are known. Which fault is returned is
@@ -39,7 +43,8 @@ pub trait Folder {
     fn read(&mut self, alloc: Global, path: &str) -> Result<Vec<u8>, Unread>
         ensures reads { Reads (λ bytes. bytes.items) (known self.old path.now) result }
         ensures same { known self.new ≡ known self.old }
-        ensures listed { listed self.new ≡ listed self.old };
+        ensures listed { listed self.new ≡ listed self.old }
+        ensures requests { requests self.new ≡ also (requests self.old) (reading path.now) };
 
     /// Returns the names of the files directly in the folder at `path`, in any order. Folders in it are left out. A
     /// name that is not UTF-8 is a fault.
@@ -51,7 +56,8 @@ pub trait Folder {
     fn list(&mut self, alloc: Global, path: &str, is_deep: bool) -> Result<Vec<String>, Unread>
         ensures lists { Reads (λ names. map string_bytes names.items) (listed self.old is_deep path.now) result }
         ensures same { known self.new ≡ known self.old }
-        ensures listed { listed self.new ≡ listed self.old };
+        ensures listed { listed self.new ≡ listed self.old }
+        ensures requests { requests self.new ≡ also (requests self.old) (listing is_deep path.now) };
 
     /// Puts a file of these bytes at `path`, in place of any other file there. The file is replaced as a whole: if there
     /// is a fault, what is at `path` stays.
@@ -60,14 +66,17 @@ pub trait Folder {
     fn replace(&mut self, alloc: Global, path: &str, bytes: &[u8]) -> Result<(), Unread>
         ensures replaced { OnOk result (Replaces (known self.old) (known self.new) path.now bytes.now) }
         ensures same { OnErr result (Same (known self.old) (known self.new)) }
-        ensures listed { listed self.new ≡ listed self.old };
+        ensures listed { listed self.new ≡ listed self.old }
+        ensures requests { requests self.new ≡ requests self.old };
 
     /// Says, where someone may watch, that this page of so many is next.
     fn announce(&mut self, _page: usize, _count: usize, _template: &str)
         ensures same { known self.new ≡ known self.old }
-        ensures listed { listed self.new ≡ listed self.old };
+        ensures listed { listed self.new ≡ listed self.old }
+        ensures requests { requests self.new ≡ requests self.old };
 
     /// Returns why the file at `path` can't be read as text, or if it should be listed, why the folder can't be.
     fn why(&mut self, path: &str, is_listed: bool) -> Why
-        ensures same { known self.new ≡ known self.old };
+        ensures same { known self.new ≡ known self.old }
+        ensures requests { requests self.new ≡ requests self.old };
 }

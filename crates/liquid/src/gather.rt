@@ -6,9 +6,13 @@ ghost use Rattle.liquid_runtime.specs.meaning.Maps.{names_of};
 ghost use Rattle.liquid_plugins.specs.meaning.Registry.{by_name};
 ghost use Rattle.liquid_json.specs.meaning.Given.{object_read};
 ghost use Rattle.liquid.specs.meaning.Command.{option_words};
+ghost use Rattle.liquid.specs.meaning.Files.{also, listing, reading, Requested};
 ghost use Rattle.liquid.specs.meaning.Gathered.{
   names_into,
   path_in,
+  RequestsFiles,
+  RequestsFolder,
+  RequestsPartials,
   stem_of,
   WithFiles,
   WithFolder,
@@ -18,7 +22,7 @@ ghost use Rattle.liquid.specs.meaning.Gathered.{
   WithText,
 };
 ghost use Rattle.liquid.specs.meaning.Status.{fault_status};
-ghost use Rattle.liquid.specs.steps.Steps.{Brings, BringsText, Stops, StopsUnread};
+ghost use Rattle.liquid.specs.steps.Steps.{Arrives, Brings, BringsText, Halts, IsMemory, Stops, StopsUnread};
 
 use crate::fault::Fault;
 use crate::folder::{Folder, Unread};
@@ -39,6 +43,7 @@ pub(crate) fn text_of<'w, F: Folder>(
     ensures command { IfErr result (λ fault. fault_status fault ≢ 2) }
     ensures same { F.known files.new ≡ F.known files.old }
     ensures listed { F.listed files.new ≡ F.listed files.old }
+    ensures requests { F.requests files.new ≡ also (F.requests files.old) (reading path.now) }
 {
     match read_text(alloc, files, path) {
         Ok(text) => Ok(text),
@@ -60,6 +65,8 @@ pub(crate) fn text_in<'w, F: Folder>(
     ensures command { IfErr result (λ fault. fault_status fault ≢ 2) }
     ensures same { F.known files.new ≡ F.known files.old }
     ensures listed { F.listed files.new ≡ F.listed files.old }
+    ensures requests { Requested (F.requests files.new) (IsMemory result)
+        (also (F.requests files.old) (reading (path_in folder.now ending.now name.now))) }
 {
     let Ok(path) = path_in(alloc, folder, ending, name) else {
         return Err(Fault::Refused(Error::Memory));
@@ -81,6 +88,7 @@ fn read_text<F: Folder>(alloc: Global, files: &mut F, path: &str) -> Result<Stri
     ensures text { WithText (F.known files.old path.now) (StopsUnread result) (λ text. BringsText text result) }
     ensures same { F.known files.new ≡ F.known files.old }
     ensures listed { F.listed files.new ≡ F.listed files.old }
+    ensures requests { F.requests files.new ≡ also (F.requests files.old) (reading path.now) }
 {
     let bytes = files.read(alloc, path)?;
     match String::from_utf8(bytes) {
@@ -101,6 +109,8 @@ fn names_in<'w, F: Folder>(
     ensures command { IfErr result (λ fault. fault_status fault ≢ 2) }
     ensures same { F.known files.new ≡ F.known files.old }
     ensures listed { F.listed files.new ≡ F.listed files.old }
+    ensures requests { F.requests files.new
+        ≡ also (F.requests files.old) (listing (is_some (option_map (λ e. e.now) ending.entry)) folder.now) }
 {
     match files.list(alloc, folder, is_deep(ending)) {
         Ok(names) => match in_order(alloc, ending, names) {
@@ -162,6 +172,9 @@ pub(crate) fn partials_of<'w, F: Folder>(
         (Stops result) (λ partials. Brings (λ source. source) partials result) }
     ensures command { IfErr result (λ fault. fault_status fault ≢ 2) }
     ensures same { F.known files.new ≡ F.known files.old }
+    ensures requests { RequestsPartials (F.known files.old) (F.listed files.old) (option_map (λ e. e.now) ending.entry)
+        (option_words (option_map (λ f. f.now) folder.entry)) (F.requests files.old)
+        (Halts (F.requests files.new) result) (Arrives (F.requests files.new) result) }
 {
     match folder {
         Some(folder) => Ok(Some(partials_in(alloc, files, ending, folder)?)),
@@ -181,6 +194,9 @@ fn partials_in<'w, F: Folder>(
         (Stops result) (λ texts. Brings (λ source. source) texts result) }
     ensures command { IfErr result (λ fault. fault_status fault ≢ 2) }
     ensures same { F.known files.new ≡ F.known files.old }
+    ensures requests { RequestsFolder (F.known files.old) folder.now (option_map (λ e. e.now) ending.entry)
+        (F.listed files.old (is_some (option_map (λ e. e.now) ending.entry)) folder.now) (F.requests files.old)
+        (Halts (F.requests files.new) result) (Arrives (F.requests files.new) result) }
 {
     let names = names_in(alloc, files, ending, folder)?;
     texts_of(alloc, files, folder, ending_text(ending), names)
@@ -208,6 +224,8 @@ fn texts_of<'w, F: Folder>(
         (Stops result) (λ texts. Brings (λ source. source) texts result) }
     ensures command { IfErr result (λ fault. fault_status fault ≢ 2) }
     ensures same { F.known files.new ≡ F.known files.old }
+    ensures requests { RequestsFiles (F.known files.old) folder.now ending.now (keys (by_name names)) (F.requests files.old)
+        (Halts (F.requests files.new) result) (Arrives (F.requests files.new) result) }
 {
     let mut source = InMemorySource::new(alloc);
     for (name, ()) in names {

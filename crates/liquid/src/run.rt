@@ -2,10 +2,12 @@
 ghost use Rattle.std.specs.Prelude.{◌≡◌, ◌≢◌, ◌↔◌, false, is_ok, is_some, map, string_bytes};
 ghost use Rattle.liquid_template.specs.meaning.Grows.{Grows};
 ghost use Rattle.liquid.specs.meaning.Command.{asked_of};
+ghost use Rattle.liquid.specs.meaning.Files.{Requested};
+ghost use Rattle.liquid.specs.meaning.Gathered.{RequestsAll};
 ghost use Rattle.liquid.specs.meaning.PagesCommand.{is_asked, pages_of};
 ghost use Rattle.liquid.specs.meaning.Program.{Executes, Printed};
 ghost use Rattle.liquid.specs.meaning.Status.{exit_status, settled};
-ghost use Rattle.liquid.specs.meaning.Written.{Placed, Prints, Runs, WritesOthers};
+ghost use Rattle.liquid.specs.meaning.Written.{Placed, Prints, RequestsBy, RequestsOthers, Runs, WritesOthers};
 
 use crate::command::{Choices, Command, Options, Paths};
 use crate::explain::explain;
@@ -42,6 +44,9 @@ use std::io::{self, Write};
 /// order, each is turned into what it means before the next is read, and the first fault is returned. What was written to
 /// `out` before an error stays written. A fault of `err` changes no status, and with status 0 nothing is written to `err`.
 ///
+/// No other file is read and no other folder listed than those that the words name, each once and in this order, up to the
+/// first fault.
+///
 /// Running out of memory has status 1, wherever it happens. When it happens is unspecified, and so is which of 3 and 1
 /// is returned if a file can't be read as what it should be.
 ///
@@ -57,6 +62,8 @@ pub fn run<F: Folder, W: Write, E: Write>(
     ensures usage { (result ≡ 2) ↔ (is_asked (map string_bytes words.now) ≡ false) }
     ensures prints { Prints (map string_bytes words.now) (F.known files.old) (F.listed files.old) (F.known files.new)
         (W.contents out.old) (W.contents out.new) result }
+    ensures requests { RequestsBy (map string_bytes words.now) (F.known files.old) (F.listed files.old)
+        (F.requests files.old) (F.requests files.new) result }
     ensures quiet { result ≡ 0 → err.new ≡ err.old }
 {
     match Command::from_words(words) {
@@ -87,6 +94,8 @@ pub fn run_to<F: Folder, K: Sink, E: Write>(
     ensures usage { (result ≡ 2) ↔ (is_asked (map string_bytes words.now) ≡ false) }
     ensures runs { Runs (map string_bytes words.now) (F.known files.old) (F.listed files.old) (F.known files.new)
         (K.sunk sink.old) (K.sunk sink.new) result }
+    ensures requests { RequestsBy (map string_bytes words.now) (F.known files.old) (F.listed files.old)
+        (F.requests files.old) (F.requests files.new) result }
     ensures quiet { result ≡ 0 → err.new ≡ err.old }
     ensures behind { Grows (K.sunk sink.old) (K.sunk sink.new) }
     ensures borrows { (K.sunk sink.new).lent ≡ (K.sunk sink.old).lent }
@@ -118,6 +127,8 @@ fn run_others<F: Folder, E: Write>(
     ensures usage { (result ≡ 2) ↔ (is_some (pages_of (map string_bytes words.now)) ≡ false) }
     ensures writes { WritesOthers (pages_of (map string_bytes words.now)) (F.known files.old) (F.listed files.old)
         (F.known files.new) result }
+    ensures requests { RequestsOthers (pages_of (map string_bytes words.now)) (F.known files.old) (F.listed files.old)
+        (F.requests files.old) (F.requests files.new) result }
     ensures quiet { result ≡ 0 → err.new ≡ err.old }
 {
     match Pages::from_words(words) {
@@ -147,6 +158,7 @@ pub(crate) fn tell<F: Folder, E: Write>(
     ensures status { result ≡ exit_status answer.entry }
     ensures quiet { result ≡ 0 → err.new ≡ err.old }
     ensures same { F.known files.new ≡ F.known files.old }
+    ensures requests { F.requests files.new ≡ F.requests files.old }
 {
     match answer {
         Ok(()) => 0,
@@ -172,6 +184,9 @@ fn print_or_write<'w, F: Folder, W: Write>(
     ensures command { exit_status result ≢ 2 }
     ensures placed { Placed Printed (asked_of command.entry) (asked_of command.entry).choices.output (F.known files.old)
         (F.listed files.old) (F.known files.new) (W.contents out.old) (W.contents out.new) (exit_status result) }
+    ensures requests { RequestsAll (asked_of command.entry).paths (asked_of command.entry).choices.ending
+        (F.known files.old) (F.listed files.old) (F.requests files.old)
+        (Requested (F.requests files.new) (exit_status result ≡ 1)) }
 {
     match command.choices.output {
         None => print(alloc, command, files, out),
@@ -190,6 +205,9 @@ fn execute_or_write<'w, F: Folder, K: Sink>(
     ensures command { exit_status result ≢ 2 }
     ensures placed { Placed (λ done. done) (asked_of command.entry) (asked_of command.entry).choices.output (F.known files.old)
         (F.listed files.old) (F.known files.new) (K.sunk sink.old) (K.sunk sink.new) (exit_status result) }
+    ensures requests { RequestsAll (asked_of command.entry).paths (asked_of command.entry).choices.ending
+        (F.known files.old) (F.listed files.old) (F.requests files.old)
+        (Requested (F.requests files.new) (exit_status result ≡ 1)) }
     ensures behind { Grows (K.sunk sink.old) (K.sunk sink.new) }
     ensures borrows { (K.sunk sink.new).lent ≡ (K.sunk sink.old).lent }
 {
@@ -210,6 +228,9 @@ pub(crate) fn print<'w, F: Folder, W: Write>(
     ensures prints { Printed (Executes command.entry.choices.options (asked_of command.entry).choices.ending (asked_of command.entry).paths
         (F.known files.old) (F.listed files.old)) (W.contents out.old) (W.contents out.new) (exit_status result) }
     ensures same { F.known files.new ≡ F.known files.old }
+    ensures requests { RequestsAll (asked_of command.entry).paths (asked_of command.entry).choices.ending
+        (F.known files.old) (F.listed files.old) (F.requests files.old)
+        (Requested (F.requests files.new) (exit_status result ≡ 1)) }
 {
     let mut sink = WriterSink::new(out);
     let answer = execute(alloc, command, files, &mut sink);
@@ -247,6 +268,9 @@ fn execute<'w, F: Folder, K: Sink>(
         (F.known files.old) (F.listed files.old)
         (K.sunk sink.old) (K.sunk sink.new) (exit_status result) }
     ensures same { F.known files.new ≡ F.known files.old }
+    ensures requests { RequestsAll (asked_of command.entry).paths (asked_of command.entry).choices.ending
+        (F.known files.old) (F.listed files.old) (F.requests files.old)
+        (Requested (F.requests files.new) (exit_status result ≡ 1)) }
     ensures behind { Grows (K.sunk sink.old) (K.sunk sink.new) }
     ensures borrows { (K.sunk sink.new).lent ≡ (K.sunk sink.old).lent }
 {

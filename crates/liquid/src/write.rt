@@ -1,6 +1,8 @@
 //! Writing a page to a file.
 ghost use Rattle.std.specs.Prelude.{◌≡◌, ◌≢◌, IfOk, string_bytes};
 ghost use Rattle.liquid.specs.meaning.Command.{asked_of};
+ghost use Rattle.liquid.specs.meaning.Files.{Requested};
+ghost use Rattle.liquid.specs.meaning.Gathered.{RequestsAll};
 ghost use Rattle.liquid.specs.meaning.Status.{exit_status};
 ghost use Rattle.liquid.specs.meaning.Written.{
   file_in,
@@ -72,6 +74,7 @@ pub(crate) fn land<'w, F: Folder>(
     ensures lands { Lands (F.known files.old) (F.known files.new) (string_bytes file) page.now
         (exit_status answer.entry) (exit_status result) }
     ensures command { exit_status answer.entry ≢ 2 → exit_status result ≢ 2 }
+    ensures requests { F.requests files.new ≡ F.requests files.old }
 {
     answer?;
     match files.replace(alloc, file.as_str(), page) {
@@ -92,6 +95,9 @@ pub(crate) fn write_page<'w, F: Folder>(
     ensures command { exit_status result ≢ 2 }
     ensures writes { WritesAsked (asked_of command.entry) place.now (F.known files.old) (F.listed files.old)
         (F.known files.new) (exit_status result) }
+    ensures requests { RequestsAll (asked_of command.entry).paths (asked_of command.entry).choices.ending
+        (F.known files.old) (F.listed files.old) (F.requests files.old)
+        (Requested (F.requests files.new) (exit_status result ≡ 1)) }
 {
     let mut page = Vec::new(alloc);
     let answer = print(alloc, command, files, &mut page);

@@ -1,5 +1,6 @@
--- What reading a file or a folder's names returns, and what replacing a file changes, if something is known of it.
-use Rattle.std.specs.Prelude.{◌≡◌, ℕ, List, Option, None, Some, Result, Ok, Err, option_map, ⊤, if◌then◌else◌}
+-- What reading a file or a folder's names returns, what replacing a file changes, if something is known of it, and which
+-- files and folders were requested.
+use Rattle.std.specs.Prelude.{◌≡◌, ℕ, ◌⊎◌, List, [], ◌∷◌, ◌++◌, Bool, Option, None, Some, Result, Ok, Err, option_map, ⊤, if◌then◌else◌}
 use Rattle.std.specs.Str.{bytes_eq}
 use Rattle.liquid.specs.declared.folder.Unread.{Unread}
 use Rattle.liquid.specs.declared.folder.Unread.TheVariants.{Fault, Memory}
@@ -21,3 +22,26 @@ Same before after = (path : List ℕ) → after path ≡ before path
 -- of a file, nothing is known of it then
 abbrev pub Replaces : (List ℕ → Option (Option (List ℕ))) → (List ℕ → Option (Option (List ℕ))) → List ℕ → List ℕ → Type 0
 Replaces before after file bytes = (path : List ℕ) → after path ≡ (if bytes_eq file path then option_map (λ _. Some bytes) (before path) else before path)
+
+-- a request of the bytes of the file at a path, or of the names in the folder at a path; with `true`, also of those in its
+-- subfolders
+pub data Request : Type 0 where
+  reading : List ℕ → Request
+  listing : Bool → List ℕ → Request
+
+-- the requests so far, in order, if they are known
+abbrev pub Requests : Type 0
+Requests = Option (List Request)
+
+-- one more request
+abbrev pub also : Requests → Request → Requests
+also before request = option_map (λ requests. requests ++ request ∷ []) before
+
+-- these requests, and maybe more after them
+abbrev pub Extends : Requests → Requests → Type 0
+Extends None all = all ≡ None
+Extends (Some first) all = (more : List Request) × (all ≡ Some (first ++ more))
+
+-- all of these requests were made, or if memory ran out, the first of them
+abbrev pub Requested : Requests → Type 0 → Requests → Type 0
+Requested made is_memory all = (made ≡ all) ⊎ (is_memory × Extends made all)

@@ -11,6 +11,7 @@ use Rattle.liquid_runtime.specs.meaning.Maps.{NameMap, Names}
 use Rattle.liquid_partials.specs.meaning.Sources.{Texts}
 use Rattle.liquid_json.specs.meaning.Given.{object_read}
 use Rattle.liquid_pages.specs.meaning.Globals.{global_names}
+use Rattle.liquid.specs.meaning.Files.{Requests, also, reading, listing}
 
 -- a file that exists and is UTF-8 is its text
 abbrev pub WithText : Option (Option (List ℕ)) → Type 0 → (List ℕ → Type 0) → Type 0
@@ -79,3 +80,43 @@ GathersGlobals globals rest ending known listed stop next =
     WithText (known globals) stop (λ json.
     WithGlobals (object_read json) stop (λ names.
     WithPartials known listed ending rest stop (λ partials. next names partials)))
+
+-- the requests of the files of these names in a folder, up to the first that is no text: what `stop` says of them then, and
+-- what `next` says of them otherwise
+abbrev pub RequestsFiles : (List ℕ → Option (Option (List ℕ))) → List ℕ → List ℕ → List (List ℕ) → Requests → (Requests → Type 0) → (Requests → Type 0) → Type 0
+RequestsFiles known folder ending [] made stop next = next made
+RequestsFiles known folder ending (name ∷ names) made stop next =
+    WithText (known (path_in folder ending name)) (stop (also made (reading (path_in folder ending name))))
+    (λ text. RequestsFiles known folder ending names (also made (reading (path_in folder ending name))) stop next)
+
+-- the requests of a folder: its names, and then its files
+abbrev pub RequestsFolder : (List ℕ → Option (Option (List ℕ))) → List ℕ → Option (List ℕ) → Option (Option (List (List ℕ))) → Requests → (Requests → Type 0) → (Requests → Type 0) → Type 0
+RequestsFolder known folder ending names made stop next =
+    WithNames names (stop (also made (listing (is_some ending) folder)))
+    (λ listed. RequestsFiles known folder (unwrap_or ending []) (in_order ending listed) (also made (listing (is_some ending) folder)) stop next)
+
+-- without a folder there are none
+abbrev pub RequestsPartials : (List ℕ → Option (Option (List ℕ))) → (Bool → List ℕ → Option (Option (List (List ℕ)))) → Option (List ℕ) → List (List ℕ) → Requests → (Requests → Type 0) → (Requests → Type 0) → Type 0
+RequestsPartials known listed ending [] made stop next = next made
+RequestsPartials known listed ending (folder ∷ words) made stop next = RequestsFolder known folder ending (listed (is_some ending) folder) made stop next
+
+-- the requests of a command: the template, then its globals, then its partials
+abbrev pub RequestsAll : List (List ℕ) → Option (List ℕ) → (List ℕ → Option (Option (List ℕ))) → (Bool → List ℕ → Option (Option (List (List ℕ)))) → Requests → (Requests → Type 0) → Type 0
+RequestsAll (template ∷ globals ∷ rest) ending known listed made says =
+    WithText (known template) (says (also made (reading template))) (λ text.
+    WithText (known globals) (says (also (also made (reading template)) (reading globals))) (λ json.
+    WithGlobals (object_read json) (says (also (also made (reading template)) (reading globals))) (λ names.
+    RequestsPartials known listed ending rest (also (also made (reading template)) (reading globals)) says says)))
+RequestsAll other ending known listed made says = ⊤
+
+-- one request after another, of these files
+abbrev pub also_files : Requests → List (List ℕ) → Requests
+also_files made [] = made
+also_files made (path ∷ paths) = also_files (also made (reading path)) paths
+
+-- the requests of several pages: their globals, then their partials, and then each template
+abbrev pub RequestsPages : List ℕ → List (List ℕ) → Option (List ℕ) → List (List ℕ) → (List ℕ → Option (Option (List ℕ))) → (Bool → List ℕ → Option (Option (List (List ℕ)))) → Requests → (Requests → Type 0) → Type 0
+RequestsPages globals rest ending templates known listed made says =
+    WithText (known globals) (says (also made (reading globals))) (λ json.
+    WithGlobals (object_read json) (says (also made (reading globals))) (λ names.
+    RequestsPartials known listed ending rest (also made (reading globals)) says (λ read. says (also_files read templates))))

@@ -7,8 +7,8 @@ use Rattle.liquid_runtime.specs.meaning.Maps.{Names}
 use Rattle.liquid_template.specs.meaning.Sunk.{Sunk}
 use Rattle.liquid_partials.specs.meaning.Sources.{Texts}
 use Rattle.liquid.specs.meaning.Command.{Asked, command_of, first_word, option_words}
-use Rattle.liquid.specs.meaning.Files.{Replaces, Same}
-use Rattle.liquid.specs.meaning.Gathered.{GathersGlobals}
+use Rattle.liquid.specs.meaning.Files.{Replaces, Requested, Requests, Same}
+use Rattle.liquid.specs.meaning.Gathered.{GathersGlobals, RequestsAll, RequestsPages}
 use Rattle.liquid.specs.meaning.PagesCommand.{AskedPages, pages_of}
 use Rattle.liquid.specs.meaning.Program.{Executes, ExecutesOne, Printed}
 
@@ -90,3 +90,15 @@ abbrev pub Prints : List (List ℕ) → (List ℕ → Option (Option (List ℕ))
 Prints words known listed left before after status =
     MatchOption (command_of words) ((after ≡ before) × WritesOthers (pages_of words) known listed left status)
     (λ asked. Placed Printed asked asked.choices.output known listed left before after status)
+
+-- which files and folders the words request, in order, up to the first that can't be read as what it should be. If memory
+-- runs out, there may be fewer
+abbrev pub RequestsOthers : Option AskedPages → (List ℕ → Option (Option (List ℕ))) → (Bool → List ℕ → Option (Option (List (List ℕ)))) → Requests → Requests → ℕ → Type 0
+RequestsOthers None known listed before made status = made ≡ before
+RequestsOthers (Some pages) known listed before made status =
+    RequestsPages pages.globals (option_words pages.partials) pages.ending pages.templates known listed before (Requested made (status ≡ 1))
+
+abbrev pub RequestsBy : List (List ℕ) → (List ℕ → Option (Option (List ℕ))) → (Bool → List ℕ → Option (Option (List (List ℕ)))) → Requests → Requests → ℕ → Type 0
+RequestsBy words known listed before made status =
+    MatchOption (command_of words) (RequestsOthers (pages_of words) known listed before made status)
+    (λ asked. RequestsAll asked.paths asked.choices.ending known listed before (Requested made (status ≡ 1)))

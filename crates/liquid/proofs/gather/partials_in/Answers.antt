@@ -4,10 +4,11 @@ use Rattle.std.specs.Prelude.{is_some}
 use Rattle.std.specs.FinMap.{empty, keys}
 use Rattle.liquid_partials.specs.meaning.Sources.{Texts}
 use Rattle.liquid_plugins.specs.meaning.Registry.{by_name}
-use Rattle.liquid.specs.meaning.Gathered.{WithFiles, WithFolder}
-use Rattle.liquid.specs.steps.Steps.{Stops, Brings}
+use Rattle.liquid.specs.meaning.Gathered.{RequestsFiles, RequestsFolder, WithFiles, WithFolder}
+use Rattle.liquid.specs.steps.Steps.{Arrives, Brings, Halts, Stops}
 use Rattle.liquid.proofs.FolderLemmas.{folder_read, folder_stops}
 use Rattle.liquid.proofs.GatheredLemmas.{Files}
+use Rattle.liquid.proofs.RequestsLemmas.{folder_requested, folder_not_requested}
 use Rattle.liquid.proofs.gather.partials_in.Goals as goal
 
 pub returns-in_err-names-clause-partials : goal.returns-in_err-names-clause-partials
@@ -24,3 +25,23 @@ returns-clause-partials g c =
     let ending = option_map (λ e. e.now) c.args.ending in
     folder_read (g.F.Folder.known c.args.files.now) c.args.folder.now ending (g.F.Folder.listed c.args.files.now (is_some ending) c.args.folder.now) c.in_ok-names.names _ _ c.in_ok-names.ensures.names
     (subst (λ (k : Files). WithFiles k c.args.folder.now (unwrap_or ending []) (keys (by_name c.in_ok-names.names)) empty (Stops c.texts_of.result) (λ texts. Brings (λ (s : Texts). s) texts c.texts_of.result)) c.names_in.ensures.same (rw c.ending_text.ensures at c.texts_of.ensures.texts))
+
+pub returns-in_err-names-clause-requests : goal.returns-in_err-names-clause-requests
+returns-in_err-names-clause-requests g c =
+    let ending = option_map (λ e. e.now) c.args.ending in
+    let listed = g.F.Folder.listed c.args.files.now (is_some ending) c.args.folder.now in
+    let before = g.F.Folder.requests c.args.files.now in
+    let after = g.F.Folder.requests c.names_in.new.files in
+    let fault = c.in_err-names.field-0.0 in
+    let is : c.from_residual.result ≡ Err fault = search rules in
+    subst (λ r. RequestsFolder (g.F.Folder.known c.args.files.now) c.args.folder.now ending listed before (Halts after r) (Arrives after r)) (sym is)
+    (folder_not_requested (g.F.Folder.known c.args.files.now) c.args.folder.now ending listed before after fault c.in_err-names.ensures.names c.names_in.ensures.requests)
+
+pub returns-clause-requests : goal.returns-clause-requests
+returns-clause-requests g c =
+    let ending = option_map (λ e. e.now) c.args.ending in
+    let after = g.F.Folder.requests c.texts_of.new.files in
+    folder_requested (g.F.Folder.known c.args.files.now) c.args.folder.now ending (g.F.Folder.listed c.args.files.now (is_some ending) c.args.folder.now) c.in_ok-names.names (g.F.Folder.requests c.args.files.now) (g.F.Folder.requests c.names_in.new.files) _ _
+    c.in_ok-names.ensures.names c.names_in.ensures.requests
+    (subst (λ (k : Files). RequestsFiles k c.args.folder.now (unwrap_or ending []) (keys (by_name c.in_ok-names.names)) (g.F.Folder.requests c.names_in.new.files) (Halts after c.texts_of.result) (Arrives after c.texts_of.result)) c.names_in.ensures.same
+    (rw c.ending_text.ensures at c.texts_of.ensures.requests))

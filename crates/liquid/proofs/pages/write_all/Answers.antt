@@ -9,6 +9,10 @@ use Rattle.liquid.specs.steps.Steps.{Brings, Stops, all_status}
 use Rattle.liquid.specs.meaning.PagesCommand.{asked_pages}
 use Rattle.liquid.proofs.GatheredLemmas.{Files, Folders}
 use Rattle.liquid.proofs.PagesLemmas.{each_written, failed_all, no_globals_object, no_globals_text, no_pages_partials, same_known}
+use Rattle.liquid.specs.meaning.Files.{also, reading}
+use Rattle.liquid.specs.meaning.Gathered.{RequestsPartials, also_files}
+use Rattle.liquid.specs.steps.Steps.{Arrives, Halts}
+use Rattle.liquid.proofs.RequestsLemmas.{pages_asked, pages_globals_asked, pages_partials_not_asked, pages_text_asked}
 use Rattle.liquid.proofs.pages.write_all.Goals as goal
 
 pub returns-in_err-json-clause-writes : goal.returns-in_err-json-clause-writes
@@ -49,3 +53,43 @@ returns-clause-writes g c =
     c.in_ok-partials.ensures.partials))
     (subst (λ (k : Files). WithGlobals (object_read (string_bytes c.in_ok-json.json)) ⊤ (λ names. WritesEach (asked_pages c.args.pages) names source (map string_bytes c.args.pages.templates.now) k left 0 c.write_each.result))
     (c.partials_of.ensures.same ∙ c.text_of.ensures.same) (rw c.as_str-2.ensures.value at c.write_each.ensures.writes))
+
+pub returns-in_err-json-clause-requests : goal.returns-in_err-json-clause-requests
+returns-in_err-json-clause-requests g c =
+    let fault = c.in_err-json.field-0.0 in
+    pages_text_asked (asked_pages c.args.pages) (g.F.Folder.known c.args.files.now) (g.F.Folder.listed c.args.files.now) (g.F.Folder.requests c.args.files.now) (g.F.Folder.requests c.text_of.new.files) (all_status c.from_residual.result)
+    fault (failed_all c.from_residual.result fault (search rules)) c.text_of.ensures.requests c.in_err-json.ensures.text
+
+pub returns-in_err-globals_of-clause-requests : goal.returns-in_err-globals_of-clause-requests
+returns-in_err-globals_of-clause-requests g c =
+    let fault = c.in_err-globals_of.field-0.0 in
+    pages_globals_asked (asked_pages c.args.pages) (g.F.Folder.known c.args.files.now) (g.F.Folder.listed c.args.files.now) (g.F.Folder.requests c.args.files.now) (g.F.Folder.requests c.text_of.new.files) (all_status c.from_residual-in_err-globals_of.result)
+    c.in_ok-json.json c.in_ok-json.ensures.text fault (failed_all c.from_residual-in_err-globals_of.result fault (search rules)) c.text_of.ensures.requests (rw c.as_str.ensures.value at c.in_err-globals_of.ensures.globals)
+
+pub returns-in_err-partials-clause-requests : goal.returns-in_err-partials-clause-requests
+returns-in_err-partials-clause-requests g c =
+    let ending = option_map (λ e. e.now) c.args.pages.ending in
+    let words = option_words (option_map (λ f. f.now) c.args.pages.partials) in
+    let between = g.F.Folder.requests c.text_of.new.files in
+    let after = g.F.Folder.requests c.partials_of.new.files in
+    let fault = c.in_err-partials.field-0.0 in
+    pages_partials_not_asked (asked_pages c.args.pages) (g.F.Folder.known c.args.files.now) (g.F.Folder.listed c.args.files.now) (g.F.Folder.requests c.args.files.now) after (all_status c.from_residual-in_err-partials.result)
+    c.in_ok-json.json c.in_ok-json.ensures.text c.in_ok-globals_of.field-0 (rw c.as_str.ensures.value at c.in_ok-globals_of.ensures.globals)
+    between fault (failed_all c.from_residual-in_err-partials.result fault (search rules)) c.text_of.ensures.requests
+    (subst (λ (f : Folders). RequestsPartials (g.F.Folder.known c.args.files.now) f ending words between (Halts {A = Option Texts} after (Err fault)) (Arrives {A = Option Texts} after (Err fault))) c.text_of.ensures.listed
+    (subst (λ (k : Files). RequestsPartials k (g.F.Folder.listed c.text_of.new.files) ending words between (Halts {A = Option Texts} after (Err fault)) (Arrives {A = Option Texts} after (Err fault))) c.text_of.ensures.same
+    c.in_err-partials.ensures.requests))
+
+pub returns-clause-requests : goal.returns-clause-requests
+returns-clause-requests g c =
+    let ending = option_map (λ e. e.now) c.args.pages.ending in
+    let words = option_words (option_map (λ f. f.now) c.args.pages.partials) in
+    let between = g.F.Folder.requests c.text_of.new.files in
+    let read = g.F.Folder.requests c.partials_of.new.files in
+    let source = c.in_ok-partials.partials in
+    pages_asked (asked_pages c.args.pages) (g.F.Folder.known c.args.files.now) (g.F.Folder.listed c.args.files.now) (g.F.Folder.requests c.args.files.now) (g.F.Folder.requests c.write_each.new.files) c.write_each.result
+    c.in_ok-json.json c.in_ok-json.ensures.text c.in_ok-globals_of.field-0 (rw c.as_str.ensures.value at c.in_ok-globals_of.ensures.globals)
+    between read source c.text_of.ensures.requests c.write_each.ensures.requests
+    (subst (λ (f : Folders). RequestsPartials (g.F.Folder.known c.args.files.now) f ending words between (Halts read (Ok source)) (Arrives read (Ok source))) c.text_of.ensures.listed
+    (subst (λ (k : Files). RequestsPartials k (g.F.Folder.listed c.text_of.new.files) ending words between (Halts read (Ok source)) (Arrives read (Ok source))) c.text_of.ensures.same
+    c.in_ok-partials.ensures.requests))

@@ -1,4 +1,5 @@
-use Rattle.std.proofs.Common.{Ok, Err, Option, String, Global, rules, subst, ◌∙◌, string_bytes, option_map}
+use Rattle.liquid.specs.meaning.Files.{also, reading}
+use Rattle.std.proofs.Common.{ap, Ok, Err, Option, String, Global, rules, subst, ◌∙◌, string_bytes, option_map}
 use Rattle.liquid_partials.specs.meaning.Sources.{Texts}
 use Rattle.liquid.specs.meaning.Command.{option_words}
 use Rattle.liquid.specs.meaning.Gathered.{WithText, WithPartials}
@@ -6,6 +7,9 @@ use Rattle.liquid.specs.meaning.Status.{exit_status}
 use Rattle.liquid.specs.steps.Steps.{Stops, Brings}
 use Rattle.liquid.proofs.GatheredLemmas.{Files, Folders}
 use Rattle.liquid.proofs.ExecutedLemmas.{no_template, no_json, no_globals, no_partials, executed, failed}
+use Rattle.liquid.specs.meaning.Gathered.{RequestsPartials}
+use Rattle.liquid.specs.steps.Steps.{Arrives, Halts}
+use Rattle.liquid.proofs.RequestsLemmas.{template_asked, json_asked, globals_asked, partials_not_asked, partials_asked}
 use Rattle.liquid.proofs.run.execute.Goals as goal
 
 pub returns-in_err-template-clause-executes : goal.returns-in_err-template-clause-executes
@@ -75,3 +79,71 @@ returns-clause-executes g c =
     (subst (λ (f : Folders). WithPartials (g.F.Folder.known c.args.files.now) f ending words (Stops (Ok source)) (λ partials. Brings (λ (s : Option Texts). s) partials (Ok source))) listed
     (subst (λ (k : Files). WithPartials k (g.F.Folder.listed c.text_of-2.new.files) ending words (Stops (Ok source)) (λ partials. Brings (λ (s : Option Texts). s) partials (Ok source))) same c.in_ok-partials.ensures.partials))
     (rw c.as_str-2.ensures.value at c.render_over.ensures.renders) (search rules)
+
+pub returns-in_err-template-clause-requests : goal.returns-in_err-template-clause-requests
+returns-in_err-template-clause-requests g c =
+    template_asked (option_map (λ e. e.now) c.args.command.choices.ending) c.args.command.paths.template.now c.args.command.paths.globals.now (option_map (λ f. f.now) c.args.command.paths.folder) (g.F.Folder.known c.args.files.now) (g.F.Folder.listed c.args.files.now) (g.F.Folder.requests c.args.files.now) (g.F.Folder.requests c.text_of.new.files)
+    (exit_status c.from_residual.result) c.in_err-template.field-0.0 (failed c.from_residual.result c.in_err-template.field-0.0 (search rules)) c.text_of.ensures.requests c.in_err-template.ensures.text
+
+pub returns-in_err-json-clause-requests : goal.returns-in_err-json-clause-requests
+returns-in_err-json-clause-requests g c =
+    json_asked (option_map (λ e. e.now) c.args.command.choices.ending) c.args.command.paths.template.now c.args.command.paths.globals.now (option_map (λ f. f.now) c.args.command.paths.folder) (g.F.Folder.known c.args.files.now) (g.F.Folder.listed c.args.files.now) (g.F.Folder.requests c.args.files.now) (g.F.Folder.requests c.text_of-2.new.files)
+    (exit_status c.from_residual-in_err-json.result) c.in_ok-template.template c.in_ok-template.ensures.text c.in_err-json.field-0.0 (failed c.from_residual-in_err-json.result c.in_err-json.field-0.0 (search rules))
+    (c.text_of-2.ensures.requests ∙ ap (λ a. also a (reading c.args.command.paths.globals.now)) c.text_of.ensures.requests)
+    (subst (λ (known : Files). WithText (known c.args.command.paths.globals.now) (Stops {A = String Global} (Err c.in_err-json.field-0.0)) (λ bytes. Brings (string_bytes {Z = Global}) bytes (Err c.in_err-json.field-0.0))) c.text_of.ensures.same c.in_err-json.ensures.text)
+
+pub returns-in_err-globals-clause-requests : goal.returns-in_err-globals-clause-requests
+returns-in_err-globals-clause-requests g c =
+    let json = subst (λ (known : Files). WithText (known c.args.command.paths.globals.now) (Stops (Ok c.in_ok-json.json)) (λ bytes. Brings string_bytes bytes (Ok c.in_ok-json.json))) c.text_of.ensures.same c.in_ok-json.ensures.text in
+    globals_asked (option_map (λ e. e.now) c.args.command.choices.ending) c.args.command.paths.template.now c.args.command.paths.globals.now (option_map (λ f. f.now) c.args.command.paths.folder) (g.F.Folder.known c.args.files.now) (g.F.Folder.listed c.args.files.now) (g.F.Folder.requests c.args.files.now) (g.F.Folder.requests c.text_of-2.new.files)
+    (exit_status c.from_residual-in_err-globals.result) c.in_ok-template.template c.in_ok-template.ensures.text c.in_ok-json.json json c.in_err-globals.field-0.0 (failed c.from_residual-in_err-globals.result c.in_err-globals.field-0.0 (search rules))
+    (c.text_of-2.ensures.requests ∙ ap (λ a. also a (reading c.args.command.paths.globals.now)) c.text_of.ensures.requests)
+    (rw c.as_str.ensures.value at c.in_err-globals.ensures.globals)
+
+pub returns-in_err-partials-clause-requests : goal.returns-in_err-partials-clause-requests
+returns-in_err-partials-clause-requests g c =
+    let json = subst (λ (known : Files). WithText (known c.args.command.paths.globals.now) (Stops (Ok c.in_ok-json.json)) (λ bytes. Brings string_bytes bytes (Ok c.in_ok-json.json))) c.text_of.ensures.same c.in_ok-json.ensures.text in
+    let ending = option_map (λ e. e.now) c.args.command.choices.ending in
+    let words = option_words (option_map (λ f. f.now) c.args.command.paths.folder) in
+    let same = c.text_of-2.ensures.same ∙ c.text_of.ensures.same in
+    let listed = c.text_of-2.ensures.listed ∙ c.text_of.ensures.listed in
+    let between = g.F.Folder.requests c.text_of-2.new.files in
+    let after = g.F.Folder.requests c.partials_of.new.files in
+    let fault = c.in_err-partials.field-0.0 in
+    partials_not_asked (option_map (λ e. e.now) c.args.command.choices.ending) c.args.command.paths.template.now c.args.command.paths.globals.now (option_map (λ f. f.now) c.args.command.paths.folder) (g.F.Folder.known c.args.files.now) (g.F.Folder.listed c.args.files.now) (g.F.Folder.requests c.args.files.now) after
+    (exit_status c.from_residual-in_err-partials.result) c.in_ok-template.template c.in_ok-template.ensures.text c.in_ok-json.json json c.in_ok-globals.globals (rw c.as_str.ensures.value at c.in_ok-globals.ensures.globals)
+    between fault (failed c.from_residual-in_err-partials.result fault (search rules)) (c.text_of-2.ensures.requests ∙ ap (λ a. also a (reading c.args.command.paths.globals.now)) c.text_of.ensures.requests)
+    (subst (λ (f : Folders). RequestsPartials (g.F.Folder.known c.args.files.now) f ending words between (Halts {A = Option Texts} after (Err fault)) (Arrives {A = Option Texts} after (Err fault))) listed
+    (subst (λ (k : Files). RequestsPartials k (g.F.Folder.listed c.text_of-2.new.files) ending words between (Halts {A = Option Texts} after (Err fault)) (Arrives {A = Option Texts} after (Err fault))) same c.in_err-partials.ensures.requests))
+
+pub returns-in-Ok-clause-requests : goal.returns-in-Ok-clause-requests
+returns-in-Ok-clause-requests g c =
+    let json = subst (λ (known : Files). WithText (known c.args.command.paths.globals.now) (Stops (Ok c.in_ok-json.json)) (λ bytes. Brings string_bytes bytes (Ok c.in_ok-json.json))) c.text_of.ensures.same c.in_ok-json.ensures.text in
+    let ending = option_map (λ e. e.now) c.args.command.choices.ending in
+    let words = option_words (option_map (λ f. f.now) c.args.command.paths.folder) in
+    let same = c.text_of-2.ensures.same ∙ c.text_of.ensures.same in
+    let listed = c.text_of-2.ensures.listed ∙ c.text_of.ensures.listed in
+    let between = g.F.Folder.requests c.text_of-2.new.files in
+    let after = g.F.Folder.requests c.partials_of.new.files in
+    let source = c.in_ok-partials.partials in
+    partials_asked (option_map (λ e. e.now) c.args.command.choices.ending) c.args.command.paths.template.now c.args.command.paths.globals.now (option_map (λ f. f.now) c.args.command.paths.folder) (g.F.Folder.known c.args.files.now) (g.F.Folder.listed c.args.files.now) (g.F.Folder.requests c.args.files.now) after
+    0 c.in_ok-template.template c.in_ok-template.ensures.text c.in_ok-json.json json c.in_ok-globals.globals (rw c.as_str.ensures.value at c.in_ok-globals.ensures.globals)
+    between source (c.text_of-2.ensures.requests ∙ ap (λ a. also a (reading c.args.command.paths.globals.now)) c.text_of.ensures.requests)
+    (subst (λ (f : Folders). RequestsPartials (g.F.Folder.known c.args.files.now) f ending words between (Halts after (Ok source)) (Arrives after (Ok source))) listed
+    (subst (λ (k : Files). RequestsPartials k (g.F.Folder.listed c.text_of-2.new.files) ending words between (Halts after (Ok source)) (Arrives after (Ok source))) same c.in_ok-partials.ensures.requests))
+
+pub returns-clause-requests : goal.returns-clause-requests
+returns-clause-requests g c =
+    let json = subst (λ (known : Files). WithText (known c.args.command.paths.globals.now) (Stops (Ok c.in_ok-json.json)) (λ bytes. Brings string_bytes bytes (Ok c.in_ok-json.json))) c.text_of.ensures.same c.in_ok-json.ensures.text in
+    let ending = option_map (λ e. e.now) c.args.command.choices.ending in
+    let words = option_words (option_map (λ f. f.now) c.args.command.paths.folder) in
+    let same = c.text_of-2.ensures.same ∙ c.text_of.ensures.same in
+    let listed = c.text_of-2.ensures.listed ∙ c.text_of.ensures.listed in
+    let between = g.F.Folder.requests c.text_of-2.new.files in
+    let after = g.F.Folder.requests c.partials_of.new.files in
+    let source = c.in_ok-partials.partials in
+    partials_asked (option_map (λ e. e.now) c.args.command.choices.ending) c.args.command.paths.template.now c.args.command.paths.globals.now (option_map (λ f. f.now) c.args.command.paths.folder) (g.F.Folder.known c.args.files.now) (g.F.Folder.listed c.args.files.now) (g.F.Folder.requests c.args.files.now) after
+    1 c.in_ok-template.template c.in_ok-template.ensures.text c.in_ok-json.json json c.in_ok-globals.globals (rw c.as_str.ensures.value at c.in_ok-globals.ensures.globals)
+    between source (c.text_of-2.ensures.requests ∙ ap (λ a. also a (reading c.args.command.paths.globals.now)) c.text_of.ensures.requests)
+    (subst (λ (f : Folders). RequestsPartials (g.F.Folder.known c.args.files.now) f ending words between (Halts after (Ok source)) (Arrives after (Ok source))) listed
+    (subst (λ (k : Files). RequestsPartials k (g.F.Folder.listed c.text_of-2.new.files) ending words between (Halts after (Ok source)) (Arrives after (Ok source))) same c.in_ok-partials.ensures.requests))
