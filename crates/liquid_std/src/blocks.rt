@@ -113,28 +113,26 @@ impl<V: HoldsMarks> Renderable<V> for StdBlock {
         runtime: &mut R,
     ) -> Result<StdProgress, Error> {
         match self {
-            StdBlock::If(conditions) => match part_if(alloc, conditions.as_slice(), &*runtime) {
-                Ok(part) => Ok(StdProgress::Once(part)),
-                Err(error) => Err(error),
-            },
-            StdBlock::Unless(conditions) => {
-                match part_unless(alloc, conditions.as_slice(), &*runtime) {
-                    Ok(part) => Ok(StdProgress::Once(part)),
-                    Err(error) => Err(error),
-                }
+            StdBlock::If(conditions) => {
+                let part = part_if(alloc, conditions.as_slice(), &*runtime)?;
+                Ok(StdProgress::Once(part))
             }
-            StdBlock::Case(case) => match part_case(alloc, &**case, &*runtime) {
-                Ok(part) => Ok(StdProgress::Once(part)),
-                Err(error) => Err(error),
-            },
-            StdBlock::For(header) => match picked_items(alloc, &**header, &*runtime) {
-                Ok(items) => Ok(over_items(alloc, items)?),
-                Err(error) => Err(error),
-            },
-            StdBlock::Tablerow(header) => match table_over(alloc, &**header, &*runtime) {
-                Ok(table) => Ok(over_table(table)),
-                Err(error) => Err(error),
-            },
+            StdBlock::Unless(conditions) => {
+                let part = part_unless(alloc, conditions.as_slice(), &*runtime)?;
+                Ok(StdProgress::Once(part))
+            }
+            StdBlock::Case(case) => {
+                let part = part_case(alloc, &**case, &*runtime)?;
+                Ok(StdProgress::Once(part))
+            }
+            StdBlock::For(header) => {
+                let items = picked_items(alloc, &**header, &*runtime)?;
+                Ok(over_items(alloc, items)?)
+            }
+            StdBlock::Tablerow(header) => {
+                let table = table_over(alloc, &**header, &*runtime)?;
+                Ok(over_table(table))
+            }
             StdBlock::Capture(_) | StdBlock::Ifchanged => Ok(StdProgress::Capturing(None)),
             StdBlock::Comment | StdBlock::Raw(_) => Ok(StdProgress::Once(0)),
         }

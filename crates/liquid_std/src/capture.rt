@@ -24,13 +24,9 @@ pub(crate) fn begun_capture(alloc: Global, tokens: TagTokenIter<'_>) -> Result<S
     ensures { (ts : Tokens) → AreTokens tokens.entry ts → Gives plan_of result (capture_given ts) }
 {
     let mut tokens = tokens;
-    match tokens.next_identifier(alloc, TOKEN_EXPECTED) {
-        Ok(name) => {
-            let name = String::from_str(alloc, name)?;
-            alone(alloc, tokens, planned(StdBlock::Capture(name)))
-        }
-        Err(error) => Err(error),
-    }
+    let name = tokens.next_identifier(alloc, TOKEN_EXPECTED)?;
+    let name = String::from_str(alloc, name)?;
+    alone(alloc, tokens, planned(StdBlock::Capture(name)))
 }
 
 /// Captures the part in the first turn, and assigns its text to the name in the second.
@@ -52,10 +48,10 @@ pub(crate) fn capture_turn<R: Runtime>(
     ensures borrows { R.lent runtime.new ≡ R.lent runtime.old }
 {
     match mem::replace(text, None) {
-        Some(text) => match runtime.set_global(name.clone()?, Value::scalar(text)) {
-            Ok(_) => Ok(Turn::End),
-            Err(error) => Err(error),
-        },
+        Some(text) => {
+            runtime.set_global(name.clone()?, Value::scalar(text))?;
+            Ok(Turn::End)
+        }
         None => Ok(Turn::Capture(0, Frame::None, None)),
     }
 }

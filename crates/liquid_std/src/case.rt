@@ -22,20 +22,16 @@ pub(crate) fn begun_case(alloc: Global, tokens: TagTokenIter<'_>) -> Result<StdP
     ensures { (ts : Tokens) → AreTokens tokens.entry ts → Gives plan_of result (case_given ts) }
 {
     let mut tokens = tokens;
-    match tokens.next_value(alloc, TOKEN_EXPECTED) {
-        Ok(value) => {
-            let alternatives = Vec::new(alloc);
-            let case = Box::new(
-                alloc,
-                Case {
-                    value,
-                    alternatives,
-                },
-            )?;
-            alone(alloc, tokens, planned(StdBlock::Case(case)))
-        }
-        Err(error) => Err(error),
-    }
+    let value = tokens.next_value(alloc, TOKEN_EXPECTED)?;
+    let alternatives = Vec::new(alloc);
+    let case = Box::new(
+        alloc,
+        Case {
+            value,
+            alternatives,
+        },
+    )?;
+    alone(alloc, tokens, planned(StdBlock::Case(case)))
 }
 
 /// Appends the alternatives of a `when`.
@@ -47,8 +43,6 @@ pub(crate) fn push_alternatives(
     ensures { (ts : Tokens) → AreTokens tokens.entry ts
         → Gives (λ _. case_of case.new) result (with_alternatives (case_of case.old) ts) }
 {
-    match read_values(alloc, tokens, &WHEN_SEPARATORS) {
-        Ok(values) => Ok(case.alternatives.push(values)?),
-        Err(error) => Err(error),
-    }
+    let values = read_values(alloc, tokens, &WHEN_SEPARATORS)?;
+    Ok(case.alternatives.push(values)?)
 }

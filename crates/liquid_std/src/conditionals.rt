@@ -19,28 +19,20 @@ use std_conditions::read_condition::read_condition;
 pub(crate) fn begun_if(alloc: Global, tokens: TagTokenIter<'_>) -> Result<StdPlan, Error>
     ensures { (ts : Tokens) → AreTokens tokens.entry ts → Gives plan_of result (condition_planned If ts) }
 {
-    match read_condition(alloc, tokens) {
-        Ok(first) => {
-            let mut conditions = Vec::new(alloc);
-            conditions.push(first)?;
-            Ok(planned(StdBlock::If(conditions)))
-        }
-        Err(error) => Err(error),
-    }
+    let first = read_condition(alloc, tokens)?;
+    let mut conditions = Vec::new(alloc);
+    conditions.push(first)?;
+    Ok(planned(StdBlock::If(conditions)))
 }
 
 /// Returns what the start tag of an `unless` plans.
 pub(crate) fn begun_unless(alloc: Global, tokens: TagTokenIter<'_>) -> Result<StdPlan, Error>
     ensures { (ts : Tokens) → AreTokens tokens.entry ts → Gives plan_of result (condition_planned Unless ts) }
 {
-    match read_condition(alloc, tokens) {
-        Ok(first) => {
-            let mut conditions = Vec::new(alloc);
-            conditions.push(first)?;
-            Ok(planned(StdBlock::Unless(conditions)))
-        }
-        Err(error) => Err(error),
-    }
+    let first = read_condition(alloc, tokens)?;
+    let mut conditions = Vec::new(alloc);
+    conditions.push(first)?;
+    Ok(planned(StdBlock::Unless(conditions)))
 }
 
 /// Appends the condition of an `elsif`.
@@ -52,8 +44,6 @@ pub(crate) fn push_condition(
     ensures { (ts : Tokens) → AreTokens tokens.entry ts
         → Gives (λ _. map condition_of conditions.new.items) result (with_condition (map condition_of conditions.old.items) ts) }
 {
-    match read_condition(alloc, tokens) {
-        Ok(condition) => Ok(conditions.push(condition)?),
-        Err(error) => Err(error),
-    }
+    let condition = read_condition(alloc, tokens)?;
+    Ok(conditions.push(condition)?)
 }

@@ -27,10 +27,8 @@ pub(crate) fn parse_cycle<X: Filter>(
 ) -> Result<StdTag<X>, Error>
     ensures { (ts : Tokens) → AreTokens tokens.entry ts → Gives (tag_of X.shape) result (cycle_node_given ts) }
 {
-    match read_cycle(alloc, tokens) {
-        Ok(cycle) => Ok(StdTag::Cycle(Box::new(alloc, cycle)?)),
-        Err(error) => Err(error),
-    }
+    let cycle = read_cycle(alloc, tokens)?;
+    Ok(StdTag::Cycle(Box::new(alloc, cycle)?))
 }
 
 /// Returns the `cycle` that all tokens make: values with commas between them, and before them perhaps a name and a colon.
@@ -89,14 +87,10 @@ fn read_named(alloc: Global, name: TagToken<'_>, tokens: TagTokenIter<'_>) -> Re
 fn read_unnamed(alloc: Global, tokens: TagTokenIter<'_>) -> Result<Cycle, Error>
     ensures { (ts : Tokens) → AreTokens tokens.entry ts → Gives cycle_of result (unnamed_given ts) }
 {
-    match read_values(alloc, tokens, &SEPARATORS) {
-        Ok(values) => {
-            let key = values_key(alloc, values.as_slice())?;
-            Ok(Cycle {
-                group: Group::Unnamed(key),
-                values,
-            })
-        }
-        Err(error) => Err(error),
-    }
+    let values = read_values(alloc, tokens, &SEPARATORS)?;
+    let key = values_key(alloc, values.as_slice())?;
+    Ok(Cycle {
+        group: Group::Unnamed(key),
+        values,
+    })
 }

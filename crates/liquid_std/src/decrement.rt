@@ -28,13 +28,9 @@ pub(crate) fn parse_decrement<X: Filter>(
     ensures { (ts : Tokens) → AreTokens tokens.entry ts → Gives (tag_of X.shape) result (decrement_given ts) }
 {
     let mut tokens = tokens;
-    match tokens.next_identifier(alloc, TOKEN_EXPECTED) {
-        Ok(name) => {
-            let name = String::from_str(alloc, name)?;
-            alone(alloc, tokens, StdTag::Decrement(name))
-        }
-        Err(error) => Err(error),
-    }
+    let name = tokens.next_identifier(alloc, TOKEN_EXPECTED)?;
+    let name = String::from_str(alloc, name)?;
+    alone(alloc, tokens, StdTag::Decrement(name))
 }
 
 /// Sets an index variable one lower, and writes the lower number.
@@ -56,10 +52,8 @@ pub(crate) fn decrement<R: Runtime>(
     match one_lower(number) {
         Some(lower) => {
             let text = lower.to_string(alloc)?;
-            match runtime.set_index(name.clone()?, Value::scalar(lower)) {
-                Ok(_) => Ok(Turn::Text(text)),
-                Err(error) => Err(error),
-            }
+            runtime.set_index(name.clone()?, Value::scalar(lower))?;
+            Ok(Turn::Text(text))
         }
         None => Err(past_limit(alloc, name.as_str())),
     }

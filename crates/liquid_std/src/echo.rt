@@ -27,13 +27,9 @@ pub(crate) fn parse_echo<F: ParseFilter>(
         → Gives (tag_of F.Filter.shape) result (echo_given (registry_of F.makes filters.now) ts) }
 {
     let mut tokens = tokens;
-    match tokens.next_filter_chain(alloc, TOKEN_EXPECTED, filters) {
-        Ok(chain) => {
-            let chain = Box::new(alloc, chain)?;
-            alone(alloc, tokens, StdTag::Echo(chain))
-        }
-        Err(error) => Err(error),
-    }
+    let chain = tokens.next_filter_chain(alloc, TOKEN_EXPECTED, filters)?;
+    let chain = Box::new(alloc, chain)?;
+    alone(alloc, tokens, StdTag::Echo(chain))
 }
 
 /// Writes the value of a chain.
@@ -45,8 +41,6 @@ pub(crate) fn echo<X: Filter, R: Runtime>(
 ) -> Result<Turn, Error>
     ensures { Gives turn_of result (echo_turn (chain_value X.means (chain_of X.shape chain.now) (R.view runtime.now))) }
 {
-    match chain.evaluate(alloc, runtime) {
-        Ok(value) => Ok(Turn::Text(ValueRender::new(value.as_view()).to_string(alloc)?)),
-        Err(error) => Err(error),
-    }
+    let value = chain.evaluate(alloc, runtime)?;
+    Ok(Turn::Text(ValueRender::new(value.as_view()).to_string(alloc)?))
 }

@@ -20,26 +20,18 @@ use std_loops::{LoopBlock, Picked, Table, rounds_over};
 pub(crate) fn begun_for(alloc: Global, tokens: TagTokenIter<'_>) -> Result<StdPlan, Error>
     ensures { (ts : Tokens) → AreTokens tokens.entry ts → Gives plan_of result (for_given ts) }
 {
-    match read_loop(alloc, LoopBlock::For, tokens) {
-        Ok(header) => {
-            let header = Box::new(alloc, header)?;
-            Ok(planned(StdBlock::For(header)))
-        }
-        Err(error) => Err(error),
-    }
+    let header = read_loop(alloc, LoopBlock::For, tokens)?;
+    let header = Box::new(alloc, header)?;
+    Ok(planned(StdBlock::For(header)))
 }
 
 /// Returns what the start tag of a `tablerow` plans.
 pub(crate) fn begun_tablerow(alloc: Global, tokens: TagTokenIter<'_>) -> Result<StdPlan, Error>
     ensures { (ts : Tokens) → AreTokens tokens.entry ts → Gives plan_of result (tablerow_given ts) }
 {
-    match read_loop(alloc, LoopBlock::Tablerow, tokens) {
-        Ok(header) => {
-            let header = Box::new(alloc, header)?;
-            Ok(planned(StdBlock::Tablerow(header)))
-        }
-        Err(error) => Err(error),
-    }
+    let header = read_loop(alloc, LoopBlock::Tablerow, tokens)?;
+    let header = Box::new(alloc, header)?;
+    Ok(planned(StdBlock::Tablerow(header)))
 }
 
 /// Returns the progress of a loop over these items; without items the second part comes.

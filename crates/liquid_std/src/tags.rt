@@ -66,10 +66,7 @@ impl<X: Filter, V: HoldsMarks> Renderable<V> for StdTag<X> {
         runtime: &mut R,
     ) -> Result<Turn, Error> {
         match self {
-            StdTag::Library(tag) => match tag.turn(alloc, progress, runtime) {
-                Ok(turn) => Ok(isolated(turn)),
-                Err(error) => Err(error),
-            },
+            StdTag::Library(tag) => Ok(isolated(tag.turn(alloc, progress, runtime)?)),
             StdTag::Decrement(name) => decrement(alloc, name, runtime),
             StdTag::Echo(chain) => echo(alloc, &**chain, &*runtime),
             StdTag::Cycle(cycle) => cycle_turn(alloc, &**cycle, runtime),

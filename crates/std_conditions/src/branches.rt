@@ -56,11 +56,13 @@ pub fn part_unless<R: Runtime>(
     ensures { Gives (λ n. n) result (part_unless (R.view runtime.now) (map condition_of conditions.now)) }
 {
     match conditions {
-        [first, others @ ..] => match holds(alloc, first, runtime) {
-            Ok(true) => part_from(alloc, 1, others, runtime),
-            Ok(false) => Ok(0),
-            Err(error) => Err(error),
-        },
+        [first, others @ ..] => {
+            if holds(alloc, first, runtime)? {
+                part_from(alloc, 1, others, runtime)
+            } else {
+                Ok(0)
+            }
+        }
         [] => Ok(0),
     }
 }
@@ -91,15 +93,13 @@ fn part_from<R: Runtime>(
 pub fn part_case<R: Runtime>(alloc: Global, case: &Case, runtime: &R) -> Result<u64, Error>
     ensures { Gives (λ n. n) result (part_case (R.view runtime.now) (case_of case.now)) }
 {
-    match case.value.evaluate(alloc, runtime) {
-        Ok(value) => part_when(
-            alloc,
-            value.as_view(),
-            case.alternatives.as_slice(),
-            runtime,
-        ),
-        Err(error) => Err(error),
-    }
+    let value = case.value.evaluate(alloc, runtime)?;
+    part_when(
+        alloc,
+        value.as_view(),
+        case.alternatives.as_slice(),
+        runtime,
+    )
 }
 
 fn part_when<R: Runtime>(

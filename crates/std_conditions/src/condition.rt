@@ -88,13 +88,11 @@ fn test_holds<R: Runtime>(alloc: Global, test: &Test, runtime: &R) -> Result<boo
 {
     match test {
         Test::Holds(value) => Ok(is_truthy(value.try_evaluate(alloc, runtime)?)),
-        Test::Passes(left, operator, right) => match left.evaluate(alloc, runtime) {
-            Ok(left) => match right.evaluate(alloc, runtime) {
-                Ok(right) => Ok(passes(alloc, *operator, left.as_view(), right.as_view())?),
-                Err(error) => Err(error),
-            },
-            Err(error) => Err(error),
-        },
+        Test::Passes(left, operator, right) => {
+            let left = left.evaluate(alloc, runtime)?;
+            let right = right.evaluate(alloc, runtime)?;
+            Ok(passes(alloc, *operator, left.as_view(), right.as_view())?)
+        }
     }
 }
 

@@ -41,19 +41,13 @@ impl Meant for Loop {
 pub fn picked_items<R: Runtime>(alloc: Global, header: &Loop, runtime: &R) -> Result<Picked, Error>
     ensures { Gives picked_left result (picked_items (R.view runtime.now) (loop_of header.now)) }
 {
-    match items_of(alloc, &header.series, runtime) {
-        Ok(items) => match option_number(alloc, &header.options.offset, runtime) {
-            Ok(offset) => match option_number(alloc, &header.options.limit, runtime) {
-                Ok(limit) => Ok(Picked::of(
-                    items,
-                    offset.unwrap_or(0),
-                    limit,
-                    header.options.is_reversed,
-                )),
-                Err(error) => Err(error),
-            },
-            Err(error) => Err(error),
-        },
-        Err(error) => Err(error),
-    }
+    let items = items_of(alloc, &header.series, runtime)?;
+    let offset = option_number(alloc, &header.options.offset, runtime)?;
+    let limit = option_number(alloc, &header.options.limit, runtime)?;
+    Ok(Picked::of(
+        items,
+        offset.unwrap_or(0),
+        limit,
+        header.options.is_reversed,
+    ))
 }

@@ -65,10 +65,10 @@ pub fn option_number<R: Runtime>(
     ensures { Gives (λ n. n) result (option_number (R.view runtime.now) (option_map expression_of option.now)) }
 {
     match option {
-        Some(expression) => match expression.evaluate(alloc, runtime) {
-            Ok(value) => number_given(alloc, value.as_view()),
-            Err(error) => Err(error),
-        },
+        Some(expression) => {
+            let value = expression.evaluate(alloc, runtime)?;
+            number_given(alloc, value.as_view())
+        }
         None => Ok(None),
     }
 }
@@ -78,9 +78,6 @@ fn number_given(alloc: Global, value: &Value) -> Result<Option<i64>, Error>
 {
     match value {
         Value::Nil => Ok(None),
-        other => match whole(alloc, other) {
-            Ok(number) => Ok(Some(number)),
-            Err(error) => Err(error),
-        },
+        other => Ok(Some(whole(alloc, other)?)),
     }
 }

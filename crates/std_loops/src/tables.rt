@@ -109,20 +109,13 @@ pub fn table_over<R: Runtime>(
 ) -> Result<Option<Box<Table>>, Error>
     ensures { Gives (option_map (λ t. table_of t.value)) result (table_over (R.view runtime.now) (loop_of header.now)) }
 {
-    match is_over_nil(alloc, &header.series, runtime) {
-        Ok(true) => Ok(None),
-        Ok(false) => match picked_items(alloc, header, runtime) {
-            Ok(items) => match option_number(alloc, &header.options.cols, runtime) {
-                Ok(columns) => {
-                    let table = Table::of(items, natural(columns.unwrap_or(0)))?;
-                    Ok(Some(Box::new(alloc, table)?))
-                }
-                Err(error) => Err(error),
-            },
-            Err(error) => Err(error),
-        },
-        Err(error) => Err(error),
+    if is_over_nil(alloc, &header.series, runtime)? {
+        return Ok(None);
     }
+    let items = picked_items(alloc, header, runtime)?;
+    let columns = option_number(alloc, &header.options.cols, runtime)?;
+    let table = Table::of(items, natural(columns.unwrap_or(0)))?;
+    Ok(Some(Box::new(alloc, table)?))
 }
 
 /// Returns `true` if a series is a value that is nil.
@@ -130,10 +123,7 @@ fn is_over_nil<R: Runtime>(alloc: Global, series: &Series, runtime: &R) -> Resul
     ensures { Gives (λ b. b) result (is_over_nil (R.view runtime.now) (series_of series.now)) }
 {
     match series {
-        Series::Of(value) => match value.evaluate(alloc, runtime) {
-            Ok(value) => Ok(is_nil(value.as_view())),
-            Err(error) => Err(error),
-        },
+        Series::Of(value) => Ok(is_nil(value.evaluate(alloc, runtime)?.as_view())),
         Series::Between(_, _) => Ok(false),
     }
 }
