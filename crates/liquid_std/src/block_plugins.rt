@@ -7,10 +7,10 @@ ghost use Rattle.liquid_std.specs.meaning.BlockPlugins.{begun, finished_escaped,
 ghost use Rattle.liquid_std.specs.meaning.Blocks.{block_of};
 
 use crate::blocks::{StdBlock, StdBlockShape};
-use crate::capture::begun_capture;
-use crate::case::{begun_case, push_alternatives};
-use crate::conditionals::{begun_if, begun_unless, push_condition};
-use crate::loops::{begun_for, begun_tablerow};
+use crate::capture::begin_capture;
+use crate::case::{begin_case, push_alternatives};
+use crate::conditionals::{begin_if, begin_unless, push_condition};
+use crate::loops::{begin_for, begin_tablerow};
 use liquid_error::Error;
 use liquid_parser::{BlockBody, BlockReflection, ParseBlock, TagTokenIter};
 use liquid_plugins::{Meant, ParseFilter, PluginRegistry};
@@ -26,6 +26,7 @@ static CASE_DIVIDERS: [&str; 2] = ["when", "else"];
 /// The divider of `for`.
 static FOR_DIVIDERS: [&str; 1] = ["else"];
 
+/// The dividers of the other blocks.
 static NO_DIVIDERS: [&str; 0] = [];
 
 /// The standard blocks.
@@ -42,7 +43,7 @@ pub enum StdBlocks {
     Raw,
 }
 
-/// What is planned while a block is read: the node so far, and whether its `else` has come.
+/// A block that is being read: its node so far, and whether its `else` has come.
 #[derive(Drop)]
 pub struct StdPlan {
     pub node: StdBlock,
@@ -59,6 +60,18 @@ impl Meant for StdPlan {
     type Shape = StdPlanShape;
 
     ghost shape = { plan_of };
+}
+
+impl StdPlan {
+    /// Returns a plan that no `else` has closed yet.
+    pub(crate) fn new(node: StdBlock) -> StdPlan
+        ensures { plan_of result ≡ planned (block_of node) }
+    {
+        StdPlan {
+            node,
+            is_closed: false,
+        }
+    }
 }
 
 impl BlockReflection for StdBlocks {
@@ -164,7 +177,7 @@ impl<F: ParseFilter> ParseBlock<F> for StdBlocks {
         tokens: TagTokenIter<'_>,
         _filters: &PluginRegistry<F>,
     ) -> Result<StdPlan, Error> {
-        begun(alloc, *self, tokens)
+        begin_block(alloc, *self, tokens)
     }
 
     fn divide(
@@ -178,13 +191,9 @@ impl<F: ParseFilter> ParseBlock<F> for StdBlocks {
             return Err(tokens.raise_error(alloc, "Divider after else"));
         }
         if name == "else" {
-            return match tokens.expect_nothing(alloc) {
-                Ok(()) => {
-                    plan.is_closed = true;
-                    Ok(())
-                }
-                Err(error) => Err(error),
-            };
+            tokens.expect_nothing(alloc)?;
+            plan.is_closed = true;
+            return Ok(());
         }
         divide_node(alloc, &mut plan.node, tokens)
     }
@@ -197,34 +206,28 @@ impl<F: ParseFilter> ParseBlock<F> for StdBlocks {
     }
 }
 
-/// Returns what a block's start tag plans.
-fn begun(alloc: Global, block: StdBlocks, tokens: TagTokenIter<'_>) -> Result<StdPlan, Error>
+/// Reads the start tag of a block.
+fn begin_block(alloc: Global, block: StdBlocks, tokens: TagTokenIter<'_>) -> Result<StdPlan, Error>
     ensures { (ts : Tokens) → AreTokens tokens.entry ts → Gives plan_of result (begun block ts) }
 {
     match block {
-        StdBlocks::If => begun_if(alloc, tokens),
-        StdBlocks::Unless => begun_unless(alloc, tokens),
-        StdBlocks::Case => begun_case(alloc, tokens),
-        StdBlocks::For => begun_for(alloc, tokens),
-        StdBlocks::Tablerow => begun_tablerow(alloc, tokens),
-        StdBlocks::Capture => begun_capture(alloc, tokens),
-        StdBlocks::Ifchanged => alone(alloc, tokens, planned(StdBlock::Ifchanged)),
-        StdBlocks::Comment => alone(alloc, tokens, planned(StdBlock::Comment)),
-        StdBlocks::Raw => alone(alloc, tokens, planned(StdBlock::Raw(String::new(alloc)))),
+        StdBlocks::If => begin_if(alloc, tokens),
+        StdBlocks::Unless => begin_unless(alloc, tokens),
+        StdBlocks::Case => begin_case(alloc, tokens),
+        StdBlocks::For => begin_for(alloc, tokens),
+        StdBlocks::Tablerow => begin_tablerow(alloc, tokens),
+        StdBlocks::Capture => begin_capture(alloc, tokens),
+        StdBlocks::Ifchanged => alone(alloc, tokens, StdPlan::new(StdBlock::Ifchanged)),
+        StdBlocks::Comment => alone(alloc, tokens, StdPlan::new(StdBlock::Comment)),
+        StdBlocks::Raw => alone(
+            alloc,
+            tokens,
+            StdPlan::new(StdBlock::Raw(String::new(alloc))),
+        ),
     }
 }
 
-/// Returns a plan that no `else` has closed yet.
-pub(crate) fn planned(node: StdBlock) -> StdPlan
-    ensures { plan_of result ≡ planned (block_of node) }
-{
-    StdPlan {
-        node,
-        is_closed: false,
-    }
-}
-
-/// Takes in a divider that is not `else`: the condition of an `elsif`, or the alternatives of a `when`.
+/// Reads a divider that is not `else`: the condition of an `elsif`, or the alternatives of a `when`.
 fn divide_node(alloc: Global, node: &mut StdBlock, tokens: TagTokenIter<'_>) -> Result<(), Error>
     ensures { (ts : Tokens) → AreTokens tokens.entry ts → Gives (λ _. block_of node.new) result (node_divided (block_of node.old) ts) }
 {
@@ -241,7 +244,7 @@ fn divide_node(alloc: Global, node: &mut StdBlock, tokens: TagTokenIter<'_>) -> 
     }
 }
 
-/// Returns the node of a block with an escaped body.
+/// Returns the node of a block with an escaped body, which is the text of a `raw`.
 fn finish_escaped(alloc: Global, node: StdBlock, text: &str) -> Result<StdBlock, Error>
     ensures { Gives block_of result (finished_escaped (block_of node) text.now) }
 {

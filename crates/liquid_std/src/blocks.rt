@@ -4,7 +4,7 @@ ghost use Rattle.liquid_std.specs.laws.BlockLaws.{blocks_hide};
 ghost use Rattle.liquid_std.specs.meaning.Blocks.{block_count, block_nodes, block_of, progress_of};
 
 use crate::capture::capture_turn;
-use crate::loops::{over_items, over_table};
+use crate::loops::{start_rounds, start_table};
 use liquid_error::Error;
 use liquid_plugins::{Bytes, Discreet, ListOf, Meant, Renderable, Turn};
 use liquid_runtime::{Frame, Runtime};
@@ -19,26 +19,26 @@ use std_loops::tables::TableShape;
 use std_loops::{Loop, Rounds, Table, loop_turn, picked_items, table_over, table_turn};
 use std_marks::{HoldsMarks, changed_turn};
 
-/// What a block is made to.
+/// The node of a block.
 #[derive(Drop)]
 pub enum StdBlock {
-    /// The part after the first condition that holds, and the part after them all if none does.
+    /// Renders the part after the first condition that holds, or the part after them all if none does.
     If(Vec<Condition>),
-    /// The same, but that the first condition must not hold.
+    /// The same, except that the first condition must not hold.
     Unless(Vec<Condition>),
-    /// The part of the first `when` with an equal value, and the part after them all if there is none.
+    /// Renders the part of the first `when` with an equal value, or the part after them all if there is none.
     Case(Box<Case>),
-    /// The first part for each item, or the second part if there are no items.
+    /// Renders the first part for each item, or the second part if there are no items.
     For(Box<Loop>),
-    /// A table with its part in a cell for each item.
+    /// Renders a table, with its part in a cell for each item.
     Tablerow(Box<Loop>),
-    /// The text of its part, assigned to this name.
+    /// Assigns the text of its part to this name.
     Capture(String),
-    /// Its part, unless its text is that of the last such block.
+    /// Writes the text of its part, unless it is that of the last such block.
     Ifchanged,
-    /// Nothing.
+    /// Writes nothing.
     Comment,
-    /// A text that is written unchanged.
+    /// Writes this text unchanged.
     Raw(String),
 }
 
@@ -55,16 +55,16 @@ pub enum StdBlockShape {
     Raw(Bytes),
 }
 
-/// How far a block is.
+/// The progress of a block.
 #[derive(Drop)]
 pub enum StdProgress {
-    /// This part comes, or the block's text, and no turn after it.
+    /// One turn, with this part or with the block's text.
     Once(u64),
     /// A loop. It is in a box, so that the progress of the other blocks is small.
     Rounds(Box<Rounds>),
-    /// A table, in a box too.
+    /// A table, which is in a box too.
     Table(Box<Table>),
-    /// A capture or an `ifchanged`, and the text of its part after the part has been rendered.
+    /// A `capture` or an `ifchanged`, with the text of its part once the part is rendered.
     Capturing(Option<String>),
 }
 
@@ -77,7 +77,7 @@ pub enum StdProgressShape {
 }
 
 impl StdProgress {
-    /// Returns how many turns there are at most.
+    /// Returns the greatest number of turns.
     pub fn turns(&self) -> u64
         ensures { result ≡ block_count (progress_of self.now) }
     {
@@ -127,11 +127,11 @@ impl<V: HoldsMarks> Renderable<V> for StdBlock {
             }
             StdBlock::For(header) => {
                 let items = picked_items(alloc, &**header, &*runtime)?;
-                Ok(over_items(alloc, items)?)
+                Ok(start_rounds(alloc, items)?)
             }
             StdBlock::Tablerow(header) => {
                 let table = table_over(alloc, &**header, &*runtime)?;
-                Ok(over_table(table))
+                Ok(start_table(table))
             }
             StdBlock::Capture(_) | StdBlock::Ifchanged => Ok(StdProgress::Capturing(None)),
             StdBlock::Comment | StdBlock::Raw(_) => Ok(StdProgress::Once(0)),

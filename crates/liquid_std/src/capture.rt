@@ -8,7 +8,7 @@ ghost use Rattle.liquid_plugins.specs.meaning.TurnOf.{turn_of, Leaves, LeavesPro
 ghost use Rattle.liquid_std.specs.meaning.BlockPlugins.{capture_given, plan_of};
 ghost use Rattle.liquid_std.specs.meaning.Captures.{captures, text_of};
 
-use crate::block_plugins::{StdPlan, planned};
+use crate::block_plugins::StdPlan;
 use crate::blocks::StdBlock;
 use liquid_error::Error;
 use liquid_parser::TagTokenIter;
@@ -19,14 +19,14 @@ use liquid_value::Value;
 use std::alloc::Global;
 use std::mem;
 
-/// Returns what the start tag of a `capture` plans.
-pub(crate) fn begun_capture(alloc: Global, tokens: TagTokenIter<'_>) -> Result<StdPlan, Error>
+/// Reads the start tag of a `capture`.
+pub(crate) fn begin_capture(alloc: Global, tokens: TagTokenIter<'_>) -> Result<StdPlan, Error>
     ensures { (ts : Tokens) → AreTokens tokens.entry ts → Gives plan_of result (capture_given ts) }
 {
     let mut tokens = tokens;
     let name = tokens.next_identifier(alloc, TOKEN_EXPECTED)?;
     let name = String::from_str(alloc, name)?;
-    alone(alloc, tokens, planned(StdBlock::Capture(name)))
+    alone(alloc, tokens, StdPlan::new(StdBlock::Capture(name)))
 }
 
 /// Captures the part in the first turn, and assigns its text to the name in the second.

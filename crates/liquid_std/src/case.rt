@@ -5,7 +5,7 @@ ghost use Rattle.liquid_parser.specs.meaning.Plugins.{AreTokens};
 ghost use Rattle.std_conditions.specs.meaning.Branches.{case_of};
 ghost use Rattle.liquid_std.specs.meaning.BlockPlugins.{case_given, plan_of, with_alternatives};
 
-use crate::block_plugins::{StdPlan, planned};
+use crate::block_plugins::StdPlan;
 use crate::blocks::StdBlock;
 use liquid_error::Error;
 use liquid_parser::TagTokenIter;
@@ -14,11 +14,11 @@ use std::alloc::Global;
 use std_conditions::Case;
 use std_conditions::read_values::read_values;
 
-/// What separates two values of a `when`.
+/// The separators between two values of a `when`.
 static WHEN_SEPARATORS: [&str; 2] = [",", "or"];
 
-/// Returns what the start tag of a `case` plans.
-pub(crate) fn begun_case(alloc: Global, tokens: TagTokenIter<'_>) -> Result<StdPlan, Error>
+/// Reads the start tag of a `case`.
+pub(crate) fn begin_case(alloc: Global, tokens: TagTokenIter<'_>) -> Result<StdPlan, Error>
     ensures { (ts : Tokens) → AreTokens tokens.entry ts → Gives plan_of result (case_given ts) }
 {
     let mut tokens = tokens;
@@ -31,10 +31,10 @@ pub(crate) fn begun_case(alloc: Global, tokens: TagTokenIter<'_>) -> Result<StdP
             alternatives,
         },
     )?;
-    alone(alloc, tokens, planned(StdBlock::Case(case)))
+    alone(alloc, tokens, StdPlan::new(StdBlock::Case(case)))
 }
 
-/// Appends the alternatives of a `when`.
+/// Reads a `when`, and appends its alternatives.
 pub(crate) fn push_alternatives(
     alloc: Global,
     case: &mut Case,

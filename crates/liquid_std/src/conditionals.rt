@@ -7,7 +7,7 @@ ghost use Rattle.std_conditions.specs.meaning.Conditions.{condition_of};
 ghost use Rattle.liquid_std.specs.declared.blocks.StdBlockShape.TheVariants.{If, Unless};
 ghost use Rattle.liquid_std.specs.meaning.BlockPlugins.{condition_planned, plan_of, with_condition};
 
-use crate::block_plugins::{StdPlan, planned};
+use crate::block_plugins::StdPlan;
 use crate::blocks::StdBlock;
 use liquid_error::Error;
 use liquid_parser::TagTokenIter;
@@ -15,27 +15,27 @@ use std::alloc::Global;
 use std_conditions::Condition;
 use std_conditions::read_condition::read_condition;
 
-/// Returns what the start tag of an `if` plans.
-pub(crate) fn begun_if(alloc: Global, tokens: TagTokenIter<'_>) -> Result<StdPlan, Error>
+/// Reads the start tag of an `if`.
+pub(crate) fn begin_if(alloc: Global, tokens: TagTokenIter<'_>) -> Result<StdPlan, Error>
     ensures { (ts : Tokens) → AreTokens tokens.entry ts → Gives plan_of result (condition_planned If ts) }
 {
     let first = read_condition(alloc, tokens)?;
     let mut conditions = Vec::new(alloc);
     conditions.push(first)?;
-    Ok(planned(StdBlock::If(conditions)))
+    Ok(StdPlan::new(StdBlock::If(conditions)))
 }
 
-/// Returns what the start tag of an `unless` plans.
-pub(crate) fn begun_unless(alloc: Global, tokens: TagTokenIter<'_>) -> Result<StdPlan, Error>
+/// Reads the start tag of an `unless`.
+pub(crate) fn begin_unless(alloc: Global, tokens: TagTokenIter<'_>) -> Result<StdPlan, Error>
     ensures { (ts : Tokens) → AreTokens tokens.entry ts → Gives plan_of result (condition_planned Unless ts) }
 {
     let first = read_condition(alloc, tokens)?;
     let mut conditions = Vec::new(alloc);
     conditions.push(first)?;
-    Ok(planned(StdBlock::Unless(conditions)))
+    Ok(StdPlan::new(StdBlock::Unless(conditions)))
 }
 
-/// Appends the condition of an `elsif`.
+/// Reads an `elsif`, and appends its condition.
 pub(crate) fn push_condition(
     alloc: Global,
     conditions: &mut Vec<Condition>,

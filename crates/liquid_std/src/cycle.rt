@@ -17,10 +17,10 @@ use std_conditions::read_values::read_values;
 use std_marks::groups::values_key;
 use std_marks::{Cycle, Group};
 
-/// What separates two values.
+/// The separator between two values.
 static SEPARATORS: [&str; 1] = [","];
 
-/// Returns the node of a `cycle`.
+/// Reads the node of a `cycle`.
 pub(crate) fn parse_cycle<X: Filter>(
     alloc: Global,
     tokens: TagTokenIter<'_>,
@@ -31,9 +31,9 @@ pub(crate) fn parse_cycle<X: Filter>(
     Ok(StdTag::Cycle(Box::new(alloc, cycle)?))
 }
 
-/// Returns the `cycle` that all tokens make: values with commas between them, and before them perhaps a name and a colon.
+/// Reads a `cycle` from all tokens: values with commas between them, after a name and a colon if there is a name.
 ///
-/// A value that is missing is an `Err`, "Token expected". So is a token of another kind, "Unexpected token".
+/// A missing value is an `Err`, "Token expected". A token that does not fit is an `Err` too, "Unexpected token".
 fn read_cycle(alloc: Global, tokens: TagTokenIter<'_>) -> Result<Cycle, Error>
     ensures { (ts : Tokens) → AreTokens tokens.entry ts → Gives cycle_of result (cycle_given ts) }
 {
@@ -44,17 +44,16 @@ fn read_cycle(alloc: Global, tokens: TagTokenIter<'_>) -> Result<Cycle, Error>
     }
 }
 
-/// Takes out the first token and the colon after it, and returns that token. Takes out nothing if the second token is
-/// not a colon.
+/// Removes the next token and the colon after it, and returns the token. Removes nothing if no colon is after it.
 fn take_name<'a>(tokens: &mut TagTokenIter<'a>) -> Option<TagToken<'a>>
     ensures { (ts : Tokens) → AreTokens tokens.old ts → HandsOut result tokens.new ts (name_in ts) }
 {
-    let mut behind = *tokens;
-    match behind.next() {
-        Some(name) => match behind.next() {
+    let mut rest = *tokens;
+    match rest.next() {
+        Some(name) => match rest.next() {
             Some(colon) => {
                 if colon.as_str() == ":" {
-                    *tokens = behind;
+                    *tokens = rest;
                     Some(name)
                 } else {
                     None
@@ -66,24 +65,20 @@ fn take_name<'a>(tokens: &mut TagTokenIter<'a>) -> Option<TagToken<'a>>
     }
 }
 
-/// Returns the `cycle` of this name, and of the values that all tokens make.
+/// Reads the values of a `cycle` with this name.
 fn read_named(alloc: Global, name: TagToken<'_>, tokens: TagTokenIter<'_>) -> Result<Cycle, Error>
     ensures { (t : Token) → IsToken name.entry t → (ts : Tokens) → AreTokens tokens.entry ts
         → Gives cycle_of result (named_given t ts) }
 {
-    match name.expect_value(alloc)?.into_result(alloc) {
-        Ok(name) => match read_values(alloc, tokens, &SEPARATORS) {
-            Ok(values) => Ok(Cycle {
-                group: Group::Named(name),
-                values,
-            }),
-            Err(error) => Err(error),
-        },
-        Err(error) => Err(error),
-    }
+    let name = name.expect_value(alloc)?.into_result(alloc)?;
+    let values = read_values(alloc, tokens, &SEPARATORS)?;
+    Ok(Cycle {
+        group: Group::Named(name),
+        values,
+    })
 }
 
-/// Returns the `cycle` of the values that all tokens make.
+/// Reads the values of a `cycle` without a name.
 fn read_unnamed(alloc: Global, tokens: TagTokenIter<'_>) -> Result<Cycle, Error>
     ensures { (ts : Tokens) → AreTokens tokens.entry ts → Gives cycle_of result (unnamed_given ts) }
 {

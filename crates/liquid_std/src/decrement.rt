@@ -20,7 +20,7 @@ use liquid_tags::increment::{counts_from, past_limit};
 use liquid_value::Value;
 use std::alloc::Global;
 
-/// Returns the node of a `decrement`.
+/// Reads the node of a `decrement`.
 pub(crate) fn parse_decrement<X: Filter>(
     alloc: Global,
     tokens: TagTokenIter<'_>,
@@ -33,7 +33,7 @@ pub(crate) fn parse_decrement<X: Filter>(
     alone(alloc, tokens, StdTag::Decrement(name))
 }
 
-/// Sets an index variable one lower, and writes the lower number.
+/// Decrements an index variable, and writes the new number.
 #[inline(never)]
 pub(crate) fn decrement<R: Runtime>(
     alloc: Global,
@@ -59,7 +59,7 @@ pub(crate) fn decrement<R: Runtime>(
     }
 }
 
-/// Returns the number one lower, if there is one.
+/// Returns the next lower number, if there is one.
 fn one_lower(number: i64) -> Option<i64>
     ensures { result ≡ one_lower number }
 {

@@ -17,7 +17,7 @@ use liquid_tags::asked::{TOKEN_EXPECTED, alone};
 use liquid_value::render::ValueRender;
 use std::alloc::Global;
 
-/// Returns the node of an `echo`.
+/// Reads the node of an `echo`.
 pub(crate) fn parse_echo<F: ParseFilter>(
     alloc: Global,
     tokens: TagTokenIter<'_>,

@@ -7,17 +7,18 @@ ghost use Rattle.liquid_std.specs.meaning.Isolated.{isolated, isolated_from};
 use liquid_plugins::Turn;
 use liquid_runtime::Frame;
 
-/// Returns the turn, but that a partial in a sandboxed frame gets an isolated one.
-pub(crate) fn isolated(turn: Turn) -> Turn
+/// Returns the turn, with an isolated frame for its partial if it had a sandboxed one.
+pub(crate) fn isolate(turn: Turn) -> Turn
     ensures { turn_of result ≡ isolated (turn_of turn) }
 {
     match turn {
-        Turn::Partial(name, frame, trace) => Turn::Partial(name, isolated_from(frame), trace),
+        Turn::Partial(name, frame, trace) => Turn::Partial(name, isolate_frame(frame), trace),
         other => other,
     }
 }
 
-fn isolated_from(frame: Frame) -> Frame
+/// Returns an isolated frame in place of a sandboxed one, and any other frame unchanged.
+fn isolate_frame(frame: Frame) -> Frame
     ensures { frame_of result ≡ isolated_from (frame_of frame) }
 {
     match frame {

@@ -8,7 +8,7 @@ ghost use Rattle.std_loops.specs.meaning.Tables.{table_of};
 ghost use Rattle.liquid_std.specs.meaning.BlockPlugins.{for_given, plan_of, tablerow_given};
 ghost use Rattle.liquid_std.specs.meaning.Blocks.{over_items, over_table, progress_of};
 
-use crate::block_plugins::{StdPlan, planned};
+use crate::block_plugins::StdPlan;
 use crate::blocks::{StdBlock, StdProgress};
 use liquid_error::Error;
 use liquid_parser::TagTokenIter;
@@ -16,27 +16,27 @@ use std::alloc::{AllocError, Global};
 use std_loops::read_loop::read_loop;
 use std_loops::{LoopBlock, Picked, Table, rounds_over};
 
-/// Returns what the start tag of a `for` plans.
-pub(crate) fn begun_for(alloc: Global, tokens: TagTokenIter<'_>) -> Result<StdPlan, Error>
+/// Reads the start tag of a `for`.
+pub(crate) fn begin_for(alloc: Global, tokens: TagTokenIter<'_>) -> Result<StdPlan, Error>
     ensures { (ts : Tokens) → AreTokens tokens.entry ts → Gives plan_of result (for_given ts) }
 {
     let header = read_loop(alloc, LoopBlock::For, tokens)?;
     let header = Box::new(alloc, header)?;
-    Ok(planned(StdBlock::For(header)))
+    Ok(StdPlan::new(StdBlock::For(header)))
 }
 
-/// Returns what the start tag of a `tablerow` plans.
-pub(crate) fn begun_tablerow(alloc: Global, tokens: TagTokenIter<'_>) -> Result<StdPlan, Error>
+/// Reads the start tag of a `tablerow`.
+pub(crate) fn begin_tablerow(alloc: Global, tokens: TagTokenIter<'_>) -> Result<StdPlan, Error>
     ensures { (ts : Tokens) → AreTokens tokens.entry ts → Gives plan_of result (tablerow_given ts) }
 {
     let header = read_loop(alloc, LoopBlock::Tablerow, tokens)?;
     let header = Box::new(alloc, header)?;
-    Ok(planned(StdBlock::Tablerow(header)))
+    Ok(StdPlan::new(StdBlock::Tablerow(header)))
 }
 
-/// Returns the progress of a loop over these items; without items the second part comes.
+/// Returns the progress of a loop over these items, or of its second part if there are none.
 #[inline(never)]
-pub(crate) fn over_items(alloc: Global, items: Picked) -> Result<StdProgress, AllocError>
+pub(crate) fn start_rounds(alloc: Global, items: Picked) -> Result<StdProgress, AllocError>
     ensures { IfOk result (λ p. progress_of p ≡ over_items (picked_left items)) }
 {
     match rounds_over(alloc, items)? {
@@ -45,8 +45,8 @@ pub(crate) fn over_items(alloc: Global, items: Picked) -> Result<StdProgress, Al
     }
 }
 
-/// Returns the progress of a table; without one nothing is rendered.
-pub(crate) fn over_table(table: Option<Box<Table>>) -> StdProgress
+/// Returns the progress of a table. Without a table nothing is rendered.
+pub(crate) fn start_table(table: Option<Box<Table>>) -> StdProgress
     ensures { progress_of result ≡ over_table (option_map (λ t. table_of t.value) table) }
 {
     match table {

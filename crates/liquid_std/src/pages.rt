@@ -24,7 +24,7 @@ use std::alloc::{AllocError, Global};
 use std::rc::Rc;
 use std_marks::Marks;
 
-/// A runtime of a page: names are strict, and 32 partials may be open inside one another.
+/// A runtime of a page: names are strict, and 32 partials may be nested.
 type PageRuntime<S, F> = BuiltRuntime<Marks, LazyStore<S, F, StdTags, StdBlocks>>;
 
 /// Renders a page and writes the result: this text in the standard language with these filters, over these
@@ -47,18 +47,13 @@ where
     ensures { RendersPage F.Filter.means (registry_of F.makes filters) text.now (names_of globals) (S.texts partials)
         (K.sunk sink.old) (K.sunk sink.new) result }
 {
-    match shared_language(alloc, filters) {
-        Ok(language) => match store_of(alloc, &language, partials) {
-            Ok(store) => {
-                let mut runtime = runtime_of(alloc, globals, store);
-                render_source(alloc, text, &language, &mut runtime, sink)
-            }
-            Err(_) => Err(Error::Memory),
-        },
-        Err(_) => Err(Error::Memory),
-    }
+    let language = shared_language(alloc, filters)?;
+    let store = store_of(alloc, &language, partials)?;
+    let mut runtime = runtime_of(alloc, globals, store);
+    render_source(alloc, text, &language, &mut runtime, sink)
 }
 
+/// Returns the standard language with these filters, shared.
 fn shared_language<F: ParseFilter>(
     alloc: Global,
     filters: PluginRegistry<F>,

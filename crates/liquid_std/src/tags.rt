@@ -4,7 +4,7 @@ ghost use Rattle.liquid_std.specs.meaning.Tags.{tag_nodes, tag_of};
 
 use crate::decrement::decrement;
 use crate::echo::echo;
-use crate::isolated::isolated;
+use crate::isolated::isolate;
 use liquid_error::Error;
 use liquid_plugins::{Bytes, ChainMark, Discreet, Filter, FilterChain, Meant, Renderable, Turn};
 use liquid_runtime::Runtime;
@@ -14,12 +14,12 @@ use std::alloc::Global;
 use std_marks::cycle::CycleShape;
 use std_marks::{Cycle, HoldsMarks, cycle_turn};
 
-/// What a tag is made to, over filters `X`.
+/// The node of a tag, over filters `X`.
 #[derive(Drop)]
 pub enum StdTag<X> {
-    /// A tag of `liquid_tags`. A partial that it renders sees what it assigns itself.
+    /// A tag of `liquid_tags`. A partial that it renders sees what the partial itself assigns.
     Library(TagNode<X>),
-    /// Writes an index variable, after it has set it one lower.
+    /// Decrements this index variable, and writes the new number.
     Decrement(String),
     /// Writes the value of a chain.
     Echo(Box<FilterChain<X>>),
@@ -66,7 +66,7 @@ impl<X: Filter, V: HoldsMarks> Renderable<V> for StdTag<X> {
         runtime: &mut R,
     ) -> Result<Turn, Error> {
         match self {
-            StdTag::Library(tag) => Ok(isolated(tag.turn(alloc, progress, runtime)?)),
+            StdTag::Library(tag) => Ok(isolate(tag.turn(alloc, progress, runtime)?)),
             StdTag::Decrement(name) => decrement(alloc, name, runtime),
             StdTag::Echo(chain) => echo(alloc, &**chain, &*runtime),
             StdTag::Cycle(cycle) => cycle_turn(alloc, &**cycle, runtime),

@@ -15,7 +15,7 @@ use liquid_runtime::Runtime;
 use liquid_value::{Value, ValueViewCmp};
 use std::alloc::Global;
 
-/// What a `case` compares, and the alternatives of each `when`.
+/// The value of a `case`, and the alternatives of each `when`.
 #[derive(Drop)]
 pub struct Case {
     pub value: Expression,
@@ -34,9 +34,9 @@ impl Meant for Case {
     ghost shape = { case_of };
 }
 
-/// Returns the part after the first condition that holds, and the part after them all if none does.
+/// Returns the part after the first condition that holds, or the part after them all if none does.
 ///
-/// What follows a condition that holds is not evaluated.
+/// Conditions after one that holds are not evaluated.
 pub fn part_if<R: Runtime>(
     alloc: Global,
     conditions: &[Condition],
@@ -47,7 +47,7 @@ pub fn part_if<R: Runtime>(
     part_from(alloc, 0, conditions, runtime)
 }
 
-/// Returns the same as [`part_if`], but that the first condition must not hold.
+/// Returns the same as [`part_if`], except that the first condition must not hold.
 pub fn part_unless<R: Runtime>(
     alloc: Global,
     conditions: &[Condition],
@@ -67,6 +67,7 @@ pub fn part_unless<R: Runtime>(
     }
 }
 
+/// Returns the same as [`part_if`], where `first` is the part after the first condition.
 fn part_from<R: Runtime>(
     alloc: Global,
     first: u64,
@@ -78,18 +79,17 @@ fn part_from<R: Runtime>(
 {
     let mut part = first;
     for condition in conditions {
-        match holds(alloc, condition, runtime) {
-            Ok(true) => return Ok(part),
-            Ok(false) => part += 1,
-            Err(error) => return Err(error),
+        if holds(alloc, condition, runtime)? {
+            return Ok(part);
         }
+        part += 1;
     }
     Ok(part)
 }
 
-/// Returns the part of a `case`: that of the first `when` with an equal value, and the part after them all if there is none.
+/// Returns the part of the first `when` with an equal value, or the part after them all if there is none.
 ///
-/// The value of the `case` is evaluated once, and no value after one that is equal.
+/// The value of the `case` is evaluated once. Alternatives after an equal one are not evaluated.
 pub fn part_case<R: Runtime>(alloc: Global, case: &Case, runtime: &R) -> Result<u64, Error>
     ensures { Gives (λ n. n) result (part_case (R.view runtime.now) (case_of case.now)) }
 {
@@ -102,6 +102,7 @@ pub fn part_case<R: Runtime>(alloc: Global, case: &Case, runtime: &R) -> Result<
     )
 }
 
+/// Returns the part of the first list of alternatives with an equal value, or the part after them all.
 fn part_when<R: Runtime>(
     alloc: Global,
     value: &Value,
@@ -112,16 +113,15 @@ fn part_when<R: Runtime>(
 {
     let mut part = 1;
     for values in alternatives {
-        match equals_one(alloc, value, values.as_slice(), runtime) {
-            Ok(true) => return Ok(part),
-            Ok(false) => part += 1,
-            Err(error) => return Err(error),
+        if equals_one(alloc, value, values.as_slice(), runtime)? {
+            return Ok(part);
         }
+        part += 1;
     }
     Ok(part)
 }
 
-/// Returns `true` if the value equals the value of one of the expressions.
+/// Returns `true` if the value equals that of one of the expressions.
 fn equals_one<R: Runtime>(
     alloc: Global,
     value: &Value,
@@ -131,13 +131,9 @@ fn equals_one<R: Runtime>(
     ensures { Gives (λ b. b) result (equals_one (R.view runtime.now) (tree_of value.now) (map expression_of expressions.now)) }
 {
     for expression in expressions {
-        match expression.evaluate(alloc, runtime) {
-            Ok(other) => {
-                if is_equal(value, other.as_view()) {
-                    return Ok(true);
-                }
-            }
-            Err(error) => return Err(error),
+        let other = expression.evaluate(alloc, runtime)?;
+        if is_equal(value, other.as_view()) {
+            return Ok(true);
         }
     }
     Ok(false)

@@ -13,21 +13,21 @@ use liquid_tags::if_block::condition::{compares, is_truthy};
 use liquid_value::Value;
 use std::alloc::{AllocError, Global};
 
-/// What is asked of two values.
+/// An operator between two values.
 #[derive(Debug, Clone, Copy, PartialEq, Eq, Drop)]
 pub enum Operator {
-    /// They compare so.
+    /// A comparison, such as `==`.
     Compares(Comparison),
-    /// The first contains the second.
+    /// `contains`: the first value contains the second.
     Contains,
 }
 
 /// A condition without `and` and `or`.
 #[derive(Drop)]
 pub enum Test {
-    /// There is a value, and it is truthy.
+    /// Holds if there is a value, and it is truthy.
     Holds(Expression),
-    /// Two values pass the operator.
+    /// Holds if two values pass the operator.
     Passes(Expression, Operator, Expression),
 }
 
@@ -37,7 +37,7 @@ pub enum TestShape {
     Passes(ExpressionMark, Operator, ExpressionMark),
 }
 
-/// What joins a test to all that follows it.
+/// The word between a test and the rest of its condition.
 #[derive(Debug, Clone, Copy, PartialEq, Eq, Drop)]
 pub enum Connective {
     And,
@@ -47,7 +47,7 @@ pub enum Connective {
 /// Tests that are joined from right to left: `a and b or c` is `a and (b or c)`.
 #[derive(Drop)]
 pub struct Condition {
-    /// The tests before the last one, each with what joins it to the rest.
+    /// The tests before the last one, each with the word after it.
     pub joined: Vec<(Test, Connective)>,
     /// The last test.
     pub last: Test,
@@ -65,19 +65,17 @@ impl Meant for Condition {
     ghost shape = { condition_of };
 }
 
-/// Returns whether the condition holds. A value that is missing is an `Err` in a comparison, and does not hold by itself.
-/// What follows a test that decides is not evaluated.
+/// Returns `true` if the condition holds.
+///
+/// A missing value is an `Err` in a comparison, and does not hold as a test of its own. Tests after one that decides are
+/// not evaluated.
 pub fn holds<R: Runtime>(alloc: Global, condition: &Condition, runtime: &R) -> Result<bool, Error>
     ensures { Gives (λ b. b) result (holds (R.view runtime.now) (condition_of condition.now)) }
 {
     for joined in condition.joined.as_slice() {
-        match test_holds(alloc, &joined.0, runtime) {
-            Ok(it_holds) => {
-                if decides(joined.1, it_holds) {
-                    return Ok(it_holds);
-                }
-            }
-            Err(error) => return Err(error),
+        let it_holds = test_holds(alloc, &joined.0, runtime)?;
+        if decides(joined.1, it_holds) {
+            return Ok(it_holds);
         }
     }
     test_holds(alloc, &condition.last, runtime)
@@ -96,7 +94,7 @@ fn test_holds<R: Runtime>(alloc: Global, test: &Test, runtime: &R) -> Result<boo
     }
 }
 
-/// Returns whether a test's answer is that of all tests, whatever follows.
+/// Returns `true` if the whole condition has the result of this test: `false` before `and`, `true` before `or`.
 fn decides(connective: Connective, it_holds: bool) -> bool
     ensures { result ≡ decides connective it_holds }
 {

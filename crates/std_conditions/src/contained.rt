@@ -9,7 +9,7 @@ use liquid_value::{Array, Object, Value};
 use memchr::memmem;
 use std::alloc::{AllocError, Global};
 
-/// Returns whether the first value contains the second: a text in a text, an item of an array, or a name of an object.
+/// Returns `true` if the first value contains the second: a text in a text, an item of an array, or a name of an object.
 ///
 /// Nothing contains nil or false, and no other kind of value contains anything.
 pub fn contains(alloc: Global, container: &Value, value: &Value) -> Result<bool, AllocError>

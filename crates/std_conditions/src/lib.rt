@@ -1,4 +1,4 @@
-//! Conditions as tags ask for them, with `and`, `or` and `contains`, and the parts that `if`, `unless` and `case` choose by them.
+//! Conditions with `and`, `or` and `contains`, and the parts that `if`, `unless` and `case` choose.
 #![tactic(auto)]
 
 pub mod branches;

@@ -1,4 +1,4 @@
-//! Reading of conditions.
+//! Reading conditions.
 ghost use Rattle.std.specs.Prelude.{◌≡◌, ◌<◌, ◌≤◌, IfOk};
 ghost use Rattle.liquid_error.specs.meaning.Told.{Gives};
 ghost use Rattle.liquid_parser.specs.meaning.Cursors.{IsToken, Takes, bytes_left};
@@ -16,21 +16,18 @@ use liquid_tags::if_block::read_condition::comparison_of;
 use std::alloc::Global;
 use std::mem;
 
-/// Returns the condition that all tokens make.
+/// Reads a condition from all tokens.
 ///
-/// A value that is missing is an `Err`, "Token expected", and a token of another kind or one too many is one too,
-/// "Unexpected token".
+/// A missing value is an `Err`, "Token expected". A token that does not fit is an `Err` too, "Unexpected token".
 pub fn read_condition(alloc: Global, tokens: TagTokenIter<'_>) -> Result<Condition, Error>
     ensures { (ts : Tokens) → AreTokens tokens.entry ts → Gives condition_of result (condition_given ts) }
 {
     let mut tokens = tokens;
-    match next_test(alloc, &mut tokens) {
-        Ok(first) => read_joined(alloc, first, tokens),
-        Err(error) => Err(error),
-    }
+    let first = next_test(alloc, &mut tokens)?;
+    read_joined(alloc, first, tokens)
 }
 
-/// Returns the condition that begins with this test.
+/// Reads the rest of a condition, after its first test.
 fn read_joined(alloc: Global, first: Test, tokens: TagTokenIter<'_>) -> Result<Condition, Error>
     ensures { (ts : Tokens) → AreTokens tokens.entry ts → Gives condition_of result (after_test (test_of first) ts.left) }
 {
@@ -38,18 +35,14 @@ fn read_joined(alloc: Global, first: Test, tokens: TagTokenIter<'_>) -> Result<C
     let mut joined = Vec::new(alloc);
     let mut last = first;
     'tests: while let Some(token) = tokens.next() {
-        match read_connective(alloc, token) {
-            Ok(connective) => match next_test(alloc, &mut tokens) {
-                Ok(test) => joined.push((mem::replace(&mut last, test), connective))?,
-                Err(error) => return Err(error),
-            },
-            Err(error) => return Err(error),
-        }
+        let connective = read_connective(alloc, token)?;
+        let test = next_test(alloc, &mut tokens)?;
+        joined.push((mem::replace(&mut last, test), connective))?;
     }
     Ok(Condition { joined, last })
 }
 
-/// Returns what the token joins tests by.
+/// Reads a token as `and` or `or`.
 fn read_connective(alloc: Global, token: TagToken<'_>) -> Result<Connective, Error>
     ensures { (t : Token) → IsToken token.entry t → Gives (λ c. c) result (or_unexpected t (connective_of t.text)) }
 {
@@ -59,33 +52,31 @@ fn read_connective(alloc: Global, token: TagToken<'_>) -> Result<Connective, Err
     }
 }
 
-/// Returns the test that the next tokens make.
+/// Reads the next test.
 fn next_test(alloc: Global, tokens: &mut TagTokenIter<'_>) -> Result<Test, Error>
     ensures value { (ts : Tokens) → AreTokens tokens.old ts → Takes test_of result tokens.new (test_given ts) }
     ensures shorter { IfOk result (λ test. bytes_left tokens.new < bytes_left tokens.old) }
 {
-    match tokens.next_value(alloc, TOKEN_EXPECTED) {
-        Ok(left) => match next_operator(tokens) {
-            Some(operator) => match tokens.next_value(alloc, TOKEN_EXPECTED) {
-                Ok(right) => Ok(Test::Passes(left, operator, right)),
-                Err(error) => Err(error),
-            },
-            None => Ok(Test::Holds(left)),
-        },
-        Err(error) => Err(error),
+    let left = tokens.next_value(alloc, TOKEN_EXPECTED)?;
+    match next_operator(tokens) {
+        Some(operator) => {
+            let right = tokens.next_value(alloc, TOKEN_EXPECTED)?;
+            Ok(Test::Passes(left, operator, right))
+        }
+        None => Ok(Test::Holds(left)),
     }
 }
 
-/// Returns the operator that the next token is. If it is none, the token is left.
+/// Reads the next token if it is an operator, and leaves it otherwise.
 fn next_operator(tokens: &mut TagTokenIter<'_>) -> Option<Operator>
     ensures value { (ts : Tokens) → AreTokens tokens.old ts → TakesIf result tokens.new ts (operator_in ts) }
     ensures shorter { bytes_left tokens.new ≤ bytes_left tokens.old }
 {
-    let mut behind = *tokens;
-    match behind.next() {
+    let mut rest = *tokens;
+    match rest.next() {
         Some(token) => match operator_of(token.as_str()) {
             Some(operator) => {
-                *tokens = behind;
+                *tokens = rest;
                 Some(operator)
             }
             None => None,

@@ -1,4 +1,4 @@
-//! Reading of lists of values.
+//! Reading lists of values.
 ghost use Rattle.std.specs.Prelude.{◌≡◌, bytes_eq, map};
 ghost use Rattle.std.specs.List.{list_any};
 ghost use Rattle.liquid_error.specs.meaning.Told.{Gives};
@@ -13,9 +13,9 @@ use liquid_plugins::Expression;
 use liquid_tags::asked::TOKEN_EXPECTED;
 use std::alloc::Global;
 
-/// Returns the values that all tokens make, with one of the separators between each two of them.
+/// Reads values from all tokens, with one of the separators between each two of them.
 ///
-/// A value that is missing is an `Err`, "Token expected". So is a token of another kind, "Unexpected token".
+/// A missing value is an `Err`, "Token expected". A token that does not fit is an `Err` too, "Unexpected token".
 pub fn read_values(
     alloc: Global,
     tokens: TagTokenIter<'_>,
@@ -26,23 +26,17 @@ pub fn read_values(
 {
     let mut tokens = tokens;
     let mut values = Vec::new(alloc);
-    match tokens.next_value(alloc, TOKEN_EXPECTED) {
-        Ok(value) => values.push(value)?,
-        Err(error) => return Err(error),
-    }
+    let first = tokens.next_value(alloc, TOKEN_EXPECTED)?;
+    values.push(first)?;
     'values: while let Some(token) = tokens.next() {
-        match read_one_of(alloc, token, separators) {
-            Ok(()) => match tokens.next_value(alloc, TOKEN_EXPECTED) {
-                Ok(value) => values.push(value)?,
-                Err(error) => return Err(error),
-            },
-            Err(error) => return Err(error),
-        }
+        read_one_of(alloc, token, separators)?;
+        let value = tokens.next_value(alloc, TOKEN_EXPECTED)?;
+        values.push(value)?;
     }
     Ok(values)
 }
 
-/// Refuses a token that is none of these texts.
+/// Checks that a token is one of these texts.
 fn read_one_of(alloc: Global, token: TagToken<'_>, texts: &[&str]) -> Result<(), Error>
     ensures { (t : Token) → IsToken token.entry t
         → Gives (λ u. u) result (or_unexpected t (expect_one_of (map (λ s. s.now) texts.now) t)) }

@@ -31,7 +31,7 @@ fn column_at(columns: u64, place: u64) -> Result<u64, AllocError>
     one_more(place % columns)
 }
 
-/// Returns the number after this one. There is one, since memory has no room for that many items.
+/// Returns the next number. If it does not fit, the error is out of memory: no memory holds that many items.
 fn one_more(number: u64) -> Result<u64, AllocError>
     ensures { IfOk result (λ n. n ≡ number + 1) }
 {
@@ -57,7 +57,7 @@ pub(crate) fn tablerowloop(
     Ok(Value::Object(SharedObject::shared(alloc, members)?))
 }
 
-/// Puts in what is said of the cell in this row and column.
+/// Inserts the members about the cell in this row and column.
 fn put_cell(
     alloc: Global,
     members: &mut Object,
@@ -90,7 +90,7 @@ fn loop_members(alloc: Global, place: u64, size: u64) -> Result<Object, AllocErr
     Ok(members)
 }
 
-/// Inserts a count. It is a number of a value, since memory has no room for more items.
+/// Inserts a count. If it does not fit, the error is out of memory: no memory holds that many items.
 fn put_number(alloc: Global, members: &mut Object, name: &str, count: u64) -> Result<(), AllocError>
     ensures { IfOk result
         (λ _. members_view members.new.entries ≡ put_member name.now (scalar (integer (pos count))) (members_view members.old.entries)) }
@@ -101,6 +101,7 @@ fn put_number(alloc: Global, members: &mut Object, name: &str, count: u64) -> Re
     }
 }
 
+/// Inserts a member.
 #[tactic(auto, using(liquid_tags::proofs::Writes::inserted))]
 fn put(alloc: Global, members: &mut Object, name: &str, value: Value) -> Result<(), AllocError>
     ensures { IfOk result (λ _. members_view members.new.entries
@@ -110,7 +111,7 @@ fn put(alloc: Global, members: &mut Object, name: &str, value: Value) -> Result<
     Ok(())
 }
 
-/// Returns the text at a place: before the first item's body, between two, or after the last.
+/// Returns the text at a place: before the body of the first item, between two bodies, or after the last one.
 pub(crate) fn text_between(
     alloc: Global,
     columns: u64,
@@ -130,7 +131,7 @@ pub(crate) fn text_between(
     }
 }
 
-/// Returns what closes the cell before a place, or opens the first row.
+/// Returns the text that closes the cell before a place, or opens the first row.
 fn begins(place: u64) -> &'static str
     ensures { result.now ≡ begins place }
 {
@@ -141,7 +142,7 @@ fn begins(place: u64) -> &'static str
     }
 }
 
-/// Returns what opens the cell of a place, after what is between its row and the one before if it begins a row.
+/// Returns the text that opens the cell at a place. If the cell begins a row, the text between the rows comes first.
 fn next_cell(alloc: Global, columns: u64, place: u64) -> Result<String, AllocError>
     ensures { IfOk result (λ text. string_bytes text ≡ next_cell columns place) }
 {
@@ -152,13 +153,14 @@ fn next_cell(alloc: Global, columns: u64, place: u64) -> Result<String, AllocErr
     Ok(text)
 }
 
+/// Returns the text that opens a cell in this column.
 fn opens_cell(alloc: Global, column: u64) -> Result<String, AllocError>
     ensures { IfOk result (λ text. string_bytes text ≡ opens_cell column) }
 {
     format!(in alloc; "<td class=\"col{column}\">")
 }
 
-/// Returns what is between two rows if a row begins at a place, and it is not the first.
+/// Returns the text between two rows if a row other than the first begins at a place, and an empty text otherwise.
 fn next_row(alloc: Global, columns: u64, place: u64) -> Result<String, AllocError>
     ensures { IfOk result (λ text. string_bytes text ≡ next_row columns place) }
 {

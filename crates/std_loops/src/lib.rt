@@ -1,4 +1,4 @@
-//! Loops with options: what `for` and `tablerow` go over, and their turns.
+//! Loops with options: the items that `for` and `tablerow` go over, and their turns.
 #![tactic(auto)]
 
 mod cells;

@@ -1,4 +1,4 @@
-//! What a loop is made of, and what it goes over.
+//! A loop, and the items that it goes over.
 ghost use Rattle.std.specs.Prelude.{◌≡◌};
 ghost use Rattle.liquid_error.specs.meaning.Told.{Gives};
 ghost use Rattle.std_loops.specs.meaning.Loops.{loop_of, picked_items};
@@ -13,7 +13,7 @@ use liquid_tags::Series;
 use liquid_tags::for_block::series::{SeriesShape, items_of};
 use std::alloc::Global;
 
-/// The name of a loop's items, what it goes over, and its options.
+/// The name of a loop's items, the series that it goes over, and its options.
 #[derive(Drop)]
 pub struct Loop {
     pub name: String,
@@ -34,7 +34,7 @@ impl Meant for Loop {
     ghost shape = { loop_of };
 }
 
-/// Returns the items that a loop goes over: those of its series that its options pick.
+/// Returns the items that a loop goes over: those items of its series that its options pick.
 ///
 /// The series is evaluated first, then `offset`, then `limit`.
 #[inline(never)]

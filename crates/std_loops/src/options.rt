@@ -22,13 +22,13 @@ pub enum LoopBlock {
 /// An option of a loop.
 #[derive(Debug, Clone, Copy, PartialEq, Eq, Drop)]
 pub enum LoopOption {
-    /// From which place on, counted from 0.
+    /// `offset`: the first place, counted from 0.
     Offset,
-    /// How many places at most.
+    /// `limit`: the greatest number of places.
     Limit,
-    /// In reverse.
+    /// `reversed`: the items in reverse order.
     Reversed,
-    /// The number of columns.
+    /// `cols`: the number of columns.
     Cols,
 }
 
@@ -55,8 +55,7 @@ impl Meant for Options {
     ghost shape = { options_of };
 }
 
-/// Returns the whole number of an option. An option that is not given, or is nil, has none. An
-/// `Err` is that of another value.
+/// Returns the whole number of an option, or `None` if the option is missing or nil. Any other value is an `Err`.
 pub fn option_number<R: Runtime>(
     alloc: Global,
     option: &Option<Expression>,
@@ -73,6 +72,7 @@ pub fn option_number<R: Runtime>(
     }
 }
 
+/// Returns the whole number that a value is, or `None` for nil.
 fn number_given(alloc: Global, value: &Value) -> Result<Option<i64>, Error>
     ensures { Gives (λ n. n) result (number_given (tree_of value.now)) }
 {

@@ -1,4 +1,4 @@
-//! Some of the items of a series, in their order or in reverse.
+//! Some of the items of a series, in order or in reverse.
 ghost use Rattle.std.specs.Prelude.{◌≡◌, ◌+ℤ◌, drop, length, option_map, slice_get, IfOk, OnOk};
 ghost use Rattle.liquid_value.specs.meaning.View.{view as tree_of};
 ghost use Rattle.liquid_tags.specs.meaning.Items.{items_left};
@@ -8,7 +8,7 @@ use liquid_tags::Items;
 use liquid_value::Value;
 use std::alloc::AllocError;
 
-/// The items from a place to another that a loop still goes over.
+/// The items that a loop has left: those from one place up to another.
 #[derive(Drop)]
 pub struct Picked {
     items: Items,
@@ -52,7 +52,7 @@ impl Picked {
         self.to.min(self.items.len()).saturating_sub(self.from)
     }
 
-    /// Takes out the first item, if there is one.
+    /// Removes the first item and returns it, if there is one.
     #[tactic(auto, using(crate::proofs::PickedLemmas::taken))]
     pub fn take_first(&mut self) -> Result<Option<Value>, AllocError>
         ensures first { IfOk result (λ item. option_map tree_of item ≡ slice_get (picked_left self.old) 0) }
@@ -82,7 +82,7 @@ pub(crate) fn natural(number: i64) -> u64
     if number < 0 { 0 } else { number as u64 }
 }
 
-/// Returns the place that is a number of places after another, or 0 if it is below 0.
+/// Returns the sum of a place and a number of places, or 0 if it is below 0.
 fn place_after(offset: i64, limit: i64) -> u64
     ensures { result ≡ natural (offset +ℤ limit) }
 {

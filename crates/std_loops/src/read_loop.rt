@@ -1,4 +1,4 @@
-//! Reading of loops.
+//! Reading loops.
 ghost use Rattle.std.specs.Prelude.{◌≡◌, ◌<◌, ◌≤◌, IfOk};
 ghost use Rattle.liquid_error.specs.meaning.Told.{Gives};
 ghost use Rattle.liquid_parser.specs.meaning.Cursors.{IsToken, Takes, Tries, bytes_left};
@@ -20,37 +20,27 @@ use liquid_tags::asked::TOKEN_EXPECTED;
 use liquid_tags::block_plugins::next_series;
 use std::alloc::{AllocError, Global};
 
-/// Returns the loop that all tokens make: a name, `in`, a range or a value, and the options that the block takes.
+/// Reads a loop from all tokens: a name, `in`, a range or a value, and the options that the block takes.
 ///
-/// What is missing is an `Err`, "Token expected". A token of another kind and an option that was given before are one too,
-/// "Unexpected token".
+/// A missing token is an `Err`, "Token expected". A token that does not fit, such as an option that is given twice, is an
+/// `Err` too, "Unexpected token".
 pub fn read_loop(alloc: Global, block: LoopBlock, tokens: TagTokenIter<'_>) -> Result<Loop, Error>
     ensures { (ts : Tokens) → AreTokens tokens.entry ts → Gives loop_of result (loop_given block ts) }
 {
     let mut tokens = tokens;
-    match tokens.next_identifier(alloc, TOKEN_EXPECTED) {
-        Ok(name) => match tokens.next_str(alloc, TOKEN_EXPECTED, "in") {
-            Ok(()) => match next_series(alloc, &mut tokens) {
-                Ok(series) => match read_options(alloc, block, tokens) {
-                    Ok(options) => {
-                        let name = String::from_str(alloc, name)?;
-                        Ok(Loop {
-                            name,
-                            series,
-                            options,
-                        })
-                    }
-                    Err(error) => Err(error),
-                },
-                Err(error) => Err(error),
-            },
-            Err(error) => Err(error),
-        },
-        Err(error) => Err(error),
-    }
+    let name = tokens.next_identifier(alloc, TOKEN_EXPECTED)?;
+    tokens.next_str(alloc, TOKEN_EXPECTED, "in")?;
+    let series = next_series(alloc, &mut tokens)?;
+    let options = read_options(alloc, block, tokens)?;
+    let name = String::from_str(alloc, name)?;
+    Ok(Loop {
+        name,
+        series,
+        options,
+    })
 }
 
-/// Returns the options that all tokens make.
+/// Reads options from all tokens.
 fn read_options(alloc: Global, block: LoopBlock, tokens: TagTokenIter<'_>) -> Result<Options, Error>
     ensures { (ts : Tokens) → AreTokens tokens.entry ts → Gives options_of result (options_from block no_options ts.left) }
 {
@@ -58,16 +48,14 @@ fn read_options(alloc: Global, block: LoopBlock, tokens: TagTokenIter<'_>) -> Re
     let mut options = no_options();
     'options: while let Some(token) = tokens.next() {
         match option_named(block, &options, token.as_str()) {
-            Some(option) => match take_option(alloc, option, &mut options, &mut tokens) {
-                Ok(()) => {}
-                Err(error) => return Err(error),
-            },
+            Some(option) => take_option(alloc, option, &mut options, &mut tokens)?,
             None => return Err(token.raise_error(alloc)),
         }
     }
     Ok(options)
 }
 
+/// Returns the options of a loop without any.
 fn no_options() -> Options
     ensures { options_of result ≡ no_options }
 {
@@ -79,7 +67,7 @@ fn no_options() -> Options
     }
 }
 
-/// Returns the option that a text names, if the block takes it and it was not given yet.
+/// Returns the option with this name, if the block takes it and it was not given before.
 fn option_named(block: LoopBlock, given: &Options, text: &str) -> Option<LoopOption>
     ensures { result ≡ option_named block (options_of given.now) text.now }
 {
@@ -98,7 +86,7 @@ fn option_named(block: LoopBlock, given: &Options, text: &str) -> Option<LoopOpt
     range_named(given, text)
 }
 
-/// Returns the option of either block that a text names, if it was not given yet.
+/// Returns the option with this name, if both blocks take it and it was not given before.
 fn range_named(given: &Options, text: &str) -> Option<LoopOption>
     ensures { result ≡ range_named (options_of given.now) text.now }
 {
@@ -111,7 +99,7 @@ fn range_named(given: &Options, text: &str) -> Option<LoopOption>
     }
 }
 
-/// Takes in an option, after the token that names it.
+/// Reads an option, after the token with its name.
 fn take_option(
     alloc: Global,
     option: LoopOption,
@@ -127,31 +115,22 @@ fn take_option(
             options.is_reversed = true;
             Ok(())
         }
-        LoopOption::Offset => match next_argument(alloc, LoopOption::Offset, tokens) {
-            Ok(value) => {
-                options.offset = Some(value);
-                Ok(())
-            }
-            Err(error) => Err(error),
-        },
-        LoopOption::Limit => match next_argument(alloc, LoopOption::Limit, tokens) {
-            Ok(value) => {
-                options.limit = Some(value);
-                Ok(())
-            }
-            Err(error) => Err(error),
-        },
-        LoopOption::Cols => match next_argument(alloc, LoopOption::Cols, tokens) {
-            Ok(value) => {
-                options.cols = Some(value);
-                Ok(())
-            }
-            Err(error) => Err(error),
-        },
+        LoopOption::Offset => {
+            options.offset = Some(next_argument(alloc, LoopOption::Offset, tokens)?);
+            Ok(())
+        }
+        LoopOption::Limit => {
+            options.limit = Some(next_argument(alloc, LoopOption::Limit, tokens)?);
+            Ok(())
+        }
+        LoopOption::Cols => {
+            options.cols = Some(next_argument(alloc, LoopOption::Cols, tokens)?);
+            Ok(())
+        }
     }
 }
 
-/// Returns the value of an option, after a colon.
+/// Reads a colon and the value of an option.
 fn next_argument(
     alloc: Global,
     option: LoopOption,
@@ -160,13 +139,11 @@ fn next_argument(
     ensures value { (ts : Tokens) → AreTokens tokens.old ts → Takes expression_of result tokens.new (argument_given option ts) }
     ensures shorter { IfOk result (λ value. bytes_left tokens.new < bytes_left tokens.old) }
 {
-    match tokens.next_str(alloc, TOKEN_EXPECTED, ":") {
-        Ok(()) => next_value_of(alloc, option, tokens),
-        Err(error) => Err(error),
-    }
+    tokens.next_str(alloc, TOKEN_EXPECTED, ":")?;
+    next_value_of(alloc, option, tokens)
 }
 
-/// Returns the value of an option.
+/// Reads the value of an option.
 fn next_value_of(
     alloc: Global,
     option: LoopOption,
@@ -176,13 +153,11 @@ fn next_value_of(
         → Takes expression_of result tokens.new (next_as (expect_argument option) ts) }
     ensures shorter { IfOk result (λ value. bytes_left tokens.new < bytes_left tokens.old) }
 {
-    match tokens.expect_next(alloc, TOKEN_EXPECTED) {
-        Ok(token) => expect_argument(alloc, option, token)?.into_result(alloc),
-        Err(error) => Err(error),
-    }
+    let token = tokens.expect_next(alloc, TOKEN_EXPECTED)?;
+    expect_argument(alloc, option, token)?.into_result(alloc)
 }
 
-/// Returns the value of an option; `continue` is none for `offset`.
+/// Reads a token as the value of an option. `continue` is not a value of `offset`.
 fn expect_argument<'a>(
     alloc: Global,
     option: LoopOption,

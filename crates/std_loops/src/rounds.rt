@@ -19,16 +19,20 @@ use liquid_value::{Object, Value};
 use std::alloc::{AllocError, Global};
 use std::mem;
 
-/// The items that are left of a loop, the place of the first of them, how many items there were, and how many turns there
-/// are: one for each item, and one after the last. Besides, the object `forloop` and the names of the turn before, which the
-/// next turn writes over.
+/// The progress of a loop.
 #[derive(Drop)]
 pub struct Rounds {
+    /// The items that are left.
     left: Picked,
+    /// The place of the first of them.
     place: u64,
+    /// The number of items at the start.
     size: u64,
+    /// The greatest number of turns: one for each item, and one after the last.
     turns: u64,
+    /// The object `forloop` of the turn that has ended. The next turn writes over it.
     kept: Option<Kept>,
+    /// The names of the turn that has ended. The next turn writes over them.
     names: Option<Object>,
 }
 
@@ -39,7 +43,7 @@ impl Meant for Rounds {
 }
 
 impl Rounds {
-    /// Returns how many turns there are at most.
+    /// Returns the greatest number of turns.
     pub fn turns(&self) -> u64
         ensures { result ≡ (rounds_of self.now).turns }
     {
@@ -54,7 +58,7 @@ impl Rounds {
     }
 }
 
-/// Returns the rounds over these items, if there are any.
+/// Returns the progress of a loop that starts over these items, or `None` if there are none.
 #[inline(never)]
 pub fn rounds_over(alloc: Global, items: Picked) -> Result<Option<Box<Rounds>>, AllocError>
     ensures { IfOk result (λ rounds. option_map (λ r. rounds_of r.value) rounds ≡ rounds_over (picked_left items)) }
@@ -79,7 +83,7 @@ pub fn rounds_over(alloc: Global, items: Picked) -> Result<Option<Box<Rounds>>, 
     }
 }
 
-/// Returns a turn of the loop over items of this name: the next item's part, or the end.
+/// Returns the next turn of a loop whose items have this name: the part of the next item, or the end.
 #[inline(never)]
 pub fn loop_turn<R: Runtime>(
     alloc: Global,
@@ -108,7 +112,7 @@ pub fn loop_turn<R: Runtime>(
     Ok(item_turn(alloc, name, &mut rounds.kept, used, place, size, item)?)
 }
 
-/// Takes out the next item, if there is one.
+/// Removes the next item and returns it, if there is one.
 fn next_item(rounds: &mut Rounds) -> Result<Option<Value>, AllocError>
     ensures item { IfOk result (λ item. option_map tree_of item ≡ slice_get (rounds_of rounds.old).left 0) }
     ensures behind { OnOk result (rounds_of rounds.new ≡ behind (rounds_of rounds.old)) }

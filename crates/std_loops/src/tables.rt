@@ -26,7 +26,7 @@ use liquid_tags::names::bind;
 use liquid_value::{Object, Value};
 use std::alloc::{AllocError, Global};
 
-/// What the next turn of a table is.
+/// What comes next in a table.
 #[derive(Debug, Clone, Copy, PartialEq, Eq, Drop)]
 pub enum Stage {
     /// The text before the next item's body, or after the last one's.
@@ -37,15 +37,20 @@ pub enum Stage {
     End,
 }
 
-/// The items that are left of a table, the place of the first of them, how many items there were, the number of columns or 0
-/// if there is none, what comes next, and how many turns there are: two for each item, the last text, and the end.
+/// The progress of a table.
 #[derive(Drop)]
 pub struct Table {
+    /// The items that are left.
     left: Picked,
+    /// The place of the first of them.
     place: u64,
+    /// The number of items at the start.
     size: u64,
+    /// The number of columns, or 0 if all cells are in one row.
     columns: u64,
+    /// What comes next.
     stage: Stage,
+    /// The greatest number of turns: two for each item, the last text, and the end.
     turns: u64,
 }
 
@@ -66,7 +71,7 @@ impl Meant for Table {
 }
 
 impl Table {
-    /// Returns a table of these items in this number of columns, or in one row if it is 0.
+    /// Returns a table that starts over these items, in this number of columns, or in one row if that is 0.
     fn of(items: Picked, columns: u64) -> Result<Table, AllocError>
         ensures { IfOk result (λ t. table_of t ≡ table (picked_left items) columns) }
     {
@@ -84,7 +89,7 @@ impl Table {
         }
     }
 
-    /// Returns how many turns there are at most.
+    /// Returns the greatest number of turns.
     pub fn turns(&self) -> u64
         ensures { result ≡ (table_of self.now).turns }
     {
@@ -92,15 +97,16 @@ impl Table {
     }
 }
 
-/// Returns the number of turns of a table of that many items, if it has 64 bits.
+/// Returns the number of turns of a table of that many items, if it fits into 64 bits.
 fn turns_over(size: u64) -> Option<u64>
     ensures { IfSome result (λ turns. turns ≡ size + size + 2) }
 {
     size.checked_add(size)?.checked_add(2)
 }
 
-/// Returns the table over the items of a loop. Over nil there is none, and no option is evaluated; else `cols` is evaluated
-/// after the other options.
+/// Returns the table over the items of a loop, or `None` over nil.
+///
+/// Over nil no option is evaluated. Otherwise `cols` is evaluated after the other options.
 #[inline(never)]
 pub fn table_over<R: Runtime>(
     alloc: Global,
@@ -118,7 +124,7 @@ pub fn table_over<R: Runtime>(
     Ok(Some(Box::new(alloc, table)?))
 }
 
-/// Returns `true` if a series is a value that is nil.
+/// Returns `true` if a series is the value nil.
 fn is_over_nil<R: Runtime>(alloc: Global, series: &Series, runtime: &R) -> Result<bool, Error>
     ensures { Gives (λ b. b) result (is_over_nil (R.view runtime.now) (series_of series.now)) }
 {
@@ -137,7 +143,7 @@ fn is_nil(value: &Value) -> bool
     }
 }
 
-/// Returns a turn of the table over items of this name: a text, the next item's body, or the end.
+/// Returns the next turn of a table whose items have this name: a text, the body of the next item, or the end.
 #[inline(never)]
 pub fn table_turn<R: Runtime>(
     alloc: Global,
@@ -165,7 +171,7 @@ pub fn table_turn<R: Runtime>(
     }
 }
 
-/// Returns whether the body before a place has left the table. No interrupt is there any more after a body.
+/// Returns `true` if the body before a place has ended the table by `break`, and clears the interrupt of that body.
 fn has_left<R: Runtime>(place: u64, runtime: &mut R) -> bool
     ensures answer { result ≡ is_left place (R.view runtime.old).interrupt }
     ensures view { R.view runtime.new ≡ rested place (R.view runtime.old) }
@@ -184,7 +190,7 @@ fn has_left<R: Runtime>(place: u64, runtime: &mut R) -> bool
     }
 }
 
-/// Returns the turn of the text at the table's place. If the table is left or has no more items, it is the last one.
+/// Returns the turn of the text at the table's place. It is the last text if the table is left or has no more items.
 fn next_text(alloc: Global, table: &mut Table, is_left: bool) -> Result<Turn, AllocError>
     ensures answer { IfOk result (λ turn. turn_of turn ≡ text_turn (text_at (table_of table.old) is_left)) }
     ensures after { OnOk result (table_of table.new ≡ after_text (table_of table.old) is_left) }
@@ -195,7 +201,7 @@ fn next_text(alloc: Global, table: &mut Table, is_left: bool) -> Result<Turn, Al
     Ok(Turn::Text(text))
 }
 
-/// Takes out the next item, and returns the turn of its body.
+/// Removes the next item, and returns the turn of its body.
 fn next_body(alloc: Global, name: &String, table: &mut Table) -> Result<Turn, AllocError>
     ensures answer { IfOk result (λ turn. turn_of turn ≡ body_of (string_bytes name.now) (table_of table.old)) }
     ensures after { OnOk result (table_of table.new ≡ after_body (table_of table.old)) }
@@ -233,7 +239,7 @@ fn cell_turn(
     }
 }
 
-/// Returns the names of an item's frame: `tablerowloop`, and the table's own name, which wins.
+/// Returns the names of an item's frame: `tablerowloop`, and then the name of the item, which wins if it is the same.
 fn names_of_cell(
     alloc: Global,
     name: &String,

@@ -18,12 +18,15 @@ module _ {Reg F : Type 0} (held : MarksIn Reg) (fresh : Reg) (m : FilterMeaning 
   -- under a sandboxed frame a template renders over any outside as over that outside emptied
   abbrev pub StandardIsolated : Type 0
   StandardIsolated =
-      (finds : Option (Found F (StdTagShape F) StdBlockShape)) (names : Names) (name : Option (List ℕ)) (ns : Nodes F (StdTagShape F) StdBlockShape) (outside : View Reg) → HasGlobals outside →
-      sandboxed_run (standard held fresh m finds) names name ns outside ≡ run_over_outside outside (sandboxed_run (standard held fresh m finds) names name ns (emptied fresh outside))
+      (finds : Option (Found F (StdTagShape F) StdBlockShape)) (names : Names) (name : Option (List ℕ))
+      → (ns : Nodes F (StdTagShape F) StdBlockShape) (outside : View Reg) → HasGlobals outside
+      → let run = sandboxed_run (standard held fresh m finds) names name ns in
+      run outside ≡ run_over_outside outside (run (emptied fresh outside))
 
   -- so two outsides that agree on depth, leniency, index variables and name get the same text, refusal and writes
   abbrev pub StandardAgrees : Type 0
   StandardAgrees =
-      (finds : Option (Found F (StdTagShape F) StdBlockShape)) (names : Names) (name : Option (List ℕ)) (ns : Nodes F (StdTagShape F) StdBlockShape) (o p : View Reg) → HasGlobals o → HasGlobals p →
-      o.depth ≡ p.depth → o.lenient ≡ p.lenient → o.index ≡ p.index → o.name ≡ p.name →
-      SameRun o p (sandboxed_run (standard held fresh m finds) names name ns o) (sandboxed_run (standard held fresh m finds) names name ns p)
+      (finds : Option (Found F (StdTagShape F) StdBlockShape)) (names : Names) (name : Option (List ℕ))
+      → (ns : Nodes F (StdTagShape F) StdBlockShape) (o p : View Reg) → HasGlobals o → HasGlobals p
+      → o.depth ≡ p.depth → o.lenient ≡ p.lenient → o.index ≡ p.index → o.name ≡ p.name
+      → let run = sandboxed_run (standard held fresh m finds) names name ns in SameRun o p (run o) (run p)

@@ -81,7 +81,9 @@ condition_planned block ts = ok_then (condition_given ts) (λ c. Ok (planned (bl
 
 -- `case` takes a value
 abbrev pub case_given : Tokens → Result StdPlanShape Refusal
-case_given ts = ok_then (next_as expect_value ts) (λ value. alone (planned (shape.Case (record { value = value.0; alternatives = [] }))) value.1)
+case_given ts =
+    ok_then (next_as expect_value ts) (λ value.
+    alone (planned (shape.Case (record { value = value.0; alternatives = [] }))) value.1)
 
 -- `for` and `tablerow` take a loop
 abbrev pub for_given : Tokens → Result StdPlanShape Refusal
@@ -112,7 +114,8 @@ with_condition cs ts = ok_then (condition_given ts) (λ c. Ok (cs ++ c ∷ []))
 -- a `case` with the alternatives of a `when`, which have commas or `or` between them
 abbrev pub with_alternatives : CaseShape → Tokens → Result CaseShape Refusal
 with_alternatives c ts =
-    ok_then (values_given (codes "," ∷ codes "or" ∷ []) ts) (λ es. Ok (record { value = c.value; alternatives = c.alternatives ++ es ∷ [] }))
+    ok_then (values_given (codes "," ∷ codes "or" ∷ []) ts) (λ es.
+    Ok (record { value = c.value; alternatives = c.alternatives ++ es ∷ [] }))
 
 -- `elsif` takes a condition, and `when` alternatives; the other blocks have no such dividers
 abbrev pub node_divided : StdBlockShape → Tokens → Result StdBlockShape Refusal

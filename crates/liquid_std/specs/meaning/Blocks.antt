@@ -94,7 +94,8 @@ part_turn (Table t) = end_turn
 part_turn (Capturing text) = end_turn
 
 -- what a block's turn answers
-abbrev pub block_takes : {Reg : Type 0} → MarksIn Reg → StdBlockShape → StdProgressShape → View Reg → Answered TurnShape StdProgressShape Reg
+abbrev pub block_takes : {Reg : Type 0} → MarksIn Reg → StdBlockShape → StdProgressShape → View Reg
+    → Answered TurnShape StdProgressShape Reg
 block_takes held (shape.Raw text) p v = answers (Ok (text_turn text)) p v
 block_takes held shape.Comment p v = answers (Ok end_turn) p v
 block_takes held (shape.For l) (Rounds r) v = in_rounds (loop_takes l.name r v)

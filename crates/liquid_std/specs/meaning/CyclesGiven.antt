@@ -21,7 +21,8 @@ cycled ts = values_given (codes "," ∷ []) ts
 
 -- the values of a group with this name
 abbrev pub named_given : Token → Tokens → Result CycleShape Refusal
-named_given t ts = ok_then (or_unexpected t (expect_value t)) (λ e. ok_then (cycled ts) (λ es. Ok (record { group = Named e; values = es })))
+named_given t ts =
+    ok_then (or_unexpected t (expect_value t)) (λ e. ok_then (cycled ts) (λ es. Ok (record { group = Named e; values = es })))
 
 -- values without a name
 abbrev pub unnamed_given : Tokens → Result CycleShape Refusal

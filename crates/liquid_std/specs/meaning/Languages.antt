@@ -29,7 +29,8 @@ abbrev pub the_blocks : NameMap StdBlocks
 the_blocks = under_names start_of empty (If ∷ Unless ∷ Case ∷ For ∷ Tablerow ∷ Capture ∷ Ifchanged ∷ Comment ∷ Raw ∷ [])
 
 -- what a language of such tags and blocks means, by what its filters make of their arguments
-abbrev pub meaning_of : {U F : Type 0} → (U → Arguments → Result F Refusal) → Language U StdTags StdBlocks → Lang F (StdTagShape F) StdPlanShape StdBlockShape
+abbrev pub meaning_of : {U F : Type 0} → (U → Arguments → Result F Refusal)
+    → Language U StdTags StdBlocks → Lang F (StdTagShape F) StdPlanShape StdBlockShape
 meaning_of makes = language_of makes tag_given whole_block
 
 -- the standard language with these filters

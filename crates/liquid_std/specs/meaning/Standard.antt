@@ -13,4 +13,10 @@ use Rattle.liquid_std.specs.meaning.Tags.{tag_nodes}
 module _ {Reg F : Type 0} (held : MarksIn Reg) (fresh : Reg) (m : FilterMeaning F) where
   -- what templates of the standard language are rendered with
   abbrev pub standard : Option (Found F (StdTagShape F) StdBlockShape) → Setting Reg F (StdTagShape F) ℕ StdBlockShape StdProgressShape
-  standard finds = record { fresh = fresh; filters = m; tags = tag_nodes held m; blocks = block_nodes held; finds = option_map partial_in finds }
+  standard finds = record {
+    fresh = fresh;
+    filters = m;
+    tags = tag_nodes held m;
+    blocks = block_nodes held;
+    finds = option_map partial_in finds;
+  }

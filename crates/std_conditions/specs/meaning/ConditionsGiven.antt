@@ -16,7 +16,8 @@ use Rattle.std_conditions.specs.declared.condition.TestShape.TheVariants.{Holds,
 
 -- the operator that a token's text means
 abbrev pub operator_of : List ℕ → Option Operator
-operator_of text = cond (bytes_eq text (codes "contains")) (Some Contains) (option_map (λ comparison. Compares comparison) (comparison_of text))
+operator_of text =
+    cond (bytes_eq text (codes "contains")) (Some Contains) (option_map (λ comparison. Compares comparison) (comparison_of text))
 
 -- what a token's text joins conditions by
 abbrev pub connective_of : List ℕ → Option Connective
@@ -28,7 +29,9 @@ of_test test = record { joined = []; last = test }
 
 -- a test joined to the conditions after it, by a token that has to be `and` or `or`
 abbrev pub joined_by : TestShape → Token → Result ConditionShape Refusal → Result ConditionShape Refusal
-joined_by test t rest = ok_then (or_unexpected t (connective_of t.text)) (λ connective. ok_then rest (λ c. Ok (record c { joined = (test, connective) ∷ c.joined })))
+joined_by test t rest =
+    ok_then (or_unexpected t (connective_of t.text)) (λ connective.
+    ok_then rest (λ c. Ok (record c { joined = (test, connective) ∷ c.joined })))
 
 -- a test is a value, or two values with an operator between them; `and` or `or` joins it to the rest
 abbrev mutual
@@ -38,7 +41,8 @@ abbrev mutual
 
   pub after_value : ExpressionShape → List Token → Result ConditionShape Refusal
   after_value e [] = Ok (of_test (Holds e))
-  after_value e (t ∷ ts) = elim (operator_of t.text) [ None ↦ joined_by (Holds e) t (from_value t.behind ts) | Some op ↦ from_second e op t.behind ts ]
+  after_value e (t ∷ ts) =
+      elim (operator_of t.text) [ None ↦ joined_by (Holds e) t (from_value t.behind ts) | Some op ↦ from_second e op t.behind ts ]
 
   pub from_second : ExpressionShape → Operator → Place → List Token → Result ConditionShape Refusal
   from_second e op place [] = Err (located token_expected place)

@@ -22,7 +22,8 @@ expect_one_of texts t = cond (list_any (bytes_eq t.text) texts) (Some tt) None
 abbrev mutual
   pub values_from : List (List ℕ) → Place → List Token → Result (List ExpressionShape) Refusal
   values_from separators place [] = Err (located token_expected place)
-  values_from separators place (t ∷ ts) = ok_then (or_unexpected t (expect_value t)) (λ e. ok_then (values_after separators ts) (λ es. Ok (e ∷ es)))
+  values_from separators place (t ∷ ts) =
+      ok_then (or_unexpected t (expect_value t)) (λ e. ok_then (values_after separators ts) (λ es. Ok (e ∷ es)))
 
   pub values_after : List (List ℕ) → List Token → Result (List ExpressionShape) Refusal
   values_after separators [] = Ok []

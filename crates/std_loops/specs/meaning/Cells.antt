@@ -24,7 +24,8 @@ cell_members columns row column ms =
 
 -- the object `tablerowloop` of the item at a place: what `forloop` says of it, and what is said of its cell
 abbrev pub tablerowloop : ℕ → ℕ → ℕ → Tree
-tablerowloop columns place size = object (cell_members columns (row_at columns place) (column_at columns place) (forloop_members place size))
+tablerowloop columns place size =
+    object (cell_members columns (row_at columns place) (column_at columns place) (forloop_members place size))
 
 abbrev pub opens_row : ℕ → List ℕ
 opens_row row = codes "<tr class=\"row" ++ (decimal row ++ codes "\">")

@@ -18,7 +18,8 @@ loop_of l = record { name = string_bytes l.name; series = series_of l.series; op
 -- the items of the series that the options pick; without `offset` these are the items from place 0 on
 abbrev pub picked_items : {Reg : Type 0} → View Reg → LoopShape → Result (List Tree) Refusal
 picked_items v l =
-    ok_then (items_of v l.series) (λ ts. ok_then (option_number v l.options.offset) (λ offset. ok_then (option_number v l.options.limit) (λ limit.
+    ok_then (items_of v l.series) (λ ts.
+    ok_then (option_number v l.options.offset) (λ offset. ok_then (option_number v l.options.limit) (λ limit.
     Ok (picked (unwrap_or offset (pos 0)) limit l.options.is_reversed ts))))
 
 -- the shape of a loop's progress

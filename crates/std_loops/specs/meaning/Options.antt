@@ -12,7 +12,12 @@ use Rattle.std_loops.specs.declared.options.OptionsShape.{OptionsShape}
 
 -- the shape of options
 abbrev pub options_of : Options → OptionsShape
-options_of o = record { offset = option_map expression_of o.offset; limit = option_map expression_of o.limit; is_reversed = o.is_reversed; cols = option_map expression_of o.cols }
+options_of o = record {
+  offset = option_map expression_of o.offset;
+  limit = option_map expression_of o.limit;
+  is_reversed = o.is_reversed;
+  cols = option_map expression_of o.cols;
+}
 
 -- the whole number that a value is; nil is none
 abbrev pub number_given : Tree → Result (Option ℤ) Refusal

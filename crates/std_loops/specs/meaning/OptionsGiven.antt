@@ -52,11 +52,13 @@ abbrev mutual
 
   pub from_colon : LoopBlock → LoopOption → OptionsShape → Place → List Token → Result OptionsShape Refusal
   from_colon block option o place [] = Err (located token_expected place)
-  from_colon block option o place (t ∷ ts) = ok_then (or_unexpected t (expect_str (codes ":") t)) (λ u. from_argument block option o t.behind ts)
+  from_colon block option o place (t ∷ ts) =
+      ok_then (or_unexpected t (expect_str (codes ":") t)) (λ u. from_argument block option o t.behind ts)
 
   pub from_argument : LoopBlock → LoopOption → OptionsShape → Place → List Token → Result OptionsShape Refusal
   from_argument block option o place [] = Err (located token_expected place)
-  from_argument block option o place (t ∷ ts) = ok_then (or_unexpected t (expect_argument option t)) (λ e. options_from block (with_option option e o) ts)
+  from_argument block option o place (t ∷ ts) =
+      ok_then (or_unexpected t (expect_argument option t)) (λ e. options_from block (with_option option e o) ts)
 
 -- no options
 abbrev pub no_options : OptionsShape

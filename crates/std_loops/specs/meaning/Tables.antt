@@ -42,7 +42,8 @@ is_over_nil v (Between from to) = Ok false
 abbrev pub table_over : {Reg : Type 0} → View Reg → LoopShape → Result (Option TableShape) Refusal
 table_over v l =
     ok_then (is_over_nil v l.series) (λ nothing. cond nothing (Ok None)
-    (ok_then (picked_items v l) (λ ts. ok_then (option_number v l.options.cols) (λ columns. Ok (Some (table ts (natural (unwrap_or columns (pos 0)))))))))
+    (ok_then (picked_items v l) (λ ts. ok_then (option_number v l.options.cols) (λ columns.
+    Ok (Some (table ts (natural (unwrap_or columns (pos 0)))))))))
 
 -- the names of the frame of an item: `tablerowloop` and the table's own name, which wins
 abbrev pub names_of_cell : List ℕ → Tree → Tree → Names
