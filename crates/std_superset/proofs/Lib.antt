@@ -1,0 +1,7 @@
+pub mod NameLemmas
+pub mod TokenLemmas
+pub mod TreeLemmas
+pub mod StepLemmas
+pub mod ReadLemmas
+pub mod MeaningLemmas
+pub mod RunLemmas
