@@ -81,15 +81,6 @@ dropped_frame m n bs q v w j e is up h = changed m n bs q w j up ∙ drop_split 
 pub new_name : (m n : Places) (bs q : List ℕ) (w : Frames) (j : ℕ) (e : Bool) → None ≡ get_by_text m bs → get_by_text n q ≡ cond (bytes_eq bs q) (Some w) (get_by_text m q) → is_place w.last w.earlier j ≡ e → stands n q j ≡ (stands m q j || (bytes_eq bs q && e))
 new_name m n bs q w j e is up h = changed m n bs q w j up ∙ new_split (bytes_eq bs q) w (get_by_text m q) j e (at_same m bs q None is) h
 
-left_out : (b : Bool) (w v : Frames) (old : Option Frames) (j : ℕ) (e : Bool) → (b ≡ true → old ≡ Some v) → (is_place v.last v.earlier j && not e) ≡ false → is_among (cond b None (cond b (Some w) old)) j ≡ (is_among old j && not (b && e))
-left_out true w v old j e h alone = sym alone ∙ ap (λ o. is_among o j && not e) (sym (h refl))
-left_out false w v old j e h alone = sym (and_true (is_among old j))
-
--- a name whose only frame is removed leaves the index
-pub emptied_name : (m n o : Places) (bs q : List ℕ) (v w : Frames) (j : ℕ) (e : Bool) → Some v ≡ get_by_text m bs → get_by_text n q ≡ cond (bytes_eq bs q) (Some w) (get_by_text m q) → get_by_text o q ≡ cond (bytes_eq bs q) None (get_by_text n q) → (is_place v.last v.earlier j && not e) ≡ false → stands o q j ≡ (stands m q j && not (bytes_eq bs q && e))
-emptied_name m n o bs q v w j e is up gone alone =
-    ap (λ k. is_among k j) (gone ∙ ap (cond (bytes_eq bs q) None) up) ∙ left_out (bytes_eq bs q) w v (get_by_text m q) j e (at_same m bs q (Some v) is) alone
-
 pub on_ok : {A E P Q : Type 0} (o : Result A E) → (P → Q) → OnOk o P → OnOk o Q
 on_ok (Ok x) f h = f h
 on_ok (Err e) f h = h

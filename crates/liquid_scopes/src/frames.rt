@@ -1,74 +1,73 @@
 //! The places of the frames that have one name.
-ghost use Rattle.std.specs.Prelude.{◌≡◌, ◌<◌, ◌&&◌, ◌||◌, ℕ, true, false, not, nat_eq, Some, None, IfErr, OnOk, OnErr};
+ghost use Rattle.std.specs.Prelude.{◌≡◌, ℕ, ◌&&◌, ◌||◌, true, not, nat_eq, Some, None, IfErr, OnOk, OnErr};
 ghost use Rattle.std.specs.Ordering.{nat_cmp};
 ghost use Rattle.std.specs.BTreeSet.{contains};
 ghost use Rattle.liquid_error.specs.meaning.Told.{told};
-ghost use Rattle.liquid_scopes.specs.steps.NamePlaces.{is_place, TopOf};
+ghost use Rattle.liquid_scopes.specs.steps.NamePlaces.{is_place, is_under, TopOf};
 
 use liquid_error::Error;
 use std::alloc::Global;
 use std::collections::BTreeSet;
 
-/// The places of the frames that give a name a value, of which there is at least one. The last one is kept apart: a
-/// name that only one frame has takes no memory for its places.
+/// The places of the frames that give a name a value. The last one is kept apart: a name that only one frame has takes
+/// no memory for its places.
 #[derive(Drop)]
 pub(crate) struct Frames {
-    last: usize,
+    last: Option<usize>,
     earlier: BTreeSet<usize>,
-    ghost ordered: { (j : ℕ) → contains nat_cmp earlier j ≡ true → j < last },
+    ghost ordered: { (j : ℕ) → contains nat_cmp earlier j ≡ true → is_under j last ≡ true },
 }
 
 impl Frames {
+    // Returns the places of one frame.
     pub(crate) fn one(alloc: Global, place: usize) -> Frames
         ensures { (j : ℕ) → is_place result.last result.earlier j ≡ nat_eq j place }
     {
         Frames {
-            last: place,
+            last: Some(place),
             earlier: BTreeSet::new(alloc),
         }
     }
 
-    pub(crate) fn last(&self) -> usize
-        ensures { TopOf (is_place self.now.last self.now.earlier) (Some result) }
+    // Returns the last place, if there is one.
+    pub(crate) fn last(&self) -> Option<usize>
+        ensures { TopOf (is_place self.now.last self.now.earlier) result }
     {
         self.last
     }
 
+    // Adds a place.
     pub(crate) fn add(&mut self, place: usize) -> Result<(), Error>
         ensures added { OnOk result ((j : ℕ) → is_place self.new.last self.new.earlier j
             ≡ (is_place self.old.last self.old.earlier j || nat_eq j place)) }
         ensures unchanged { OnErr result ((j : ℕ) → is_place self.new.last self.new.earlier j ≡ is_place self.old.last self.old.earlier j) }
         ensures err { IfErr result (λ e. told e ≡ None) }
     {
-        if place == self.last {
+        let Some(last) = self.last else {
+            self.last = Some(place);
+            return Ok(());
+        };
+        if place == last {
             return Ok(());
         }
-        let earlier = place.min(self.last);
-        match self.earlier.insert(earlier) {
+        match self.earlier.insert(place.min(last)) {
             Ok(_) => {
-                self.last = place.max(self.last);
+                self.last = Some(place.max(last));
                 Ok(())
             }
             Err(_) => Err(Error::Memory),
         }
     }
 
-    // Removes a place, and returns whether another one is left. A place that is the only one stays.
-    pub(crate) fn leave(&mut self, place: usize) -> bool
-        ensures left { result ≡ true → (j : ℕ) → is_place self.new.last self.new.earlier j
+    // Removes a place.
+    pub(crate) fn leave(&mut self, place: usize)
+        ensures { (j : ℕ) → is_place self.new.last self.new.earlier j
             ≡ (is_place self.old.last self.old.earlier j && not (nat_eq j place)) }
-        ensures alone { result ≡ false → (j : ℕ) → (is_place self.old.last self.old.earlier j && not (nat_eq j place)) ≡ false }
     {
-        if place != self.last {
+        if self.last == Some(place) {
+            self.last = self.earlier.pop_last();
+        } else {
             self.earlier.remove(&place);
-            return true;
-        }
-        match self.earlier.pop_last() {
-            Some(last) => {
-                self.last = last;
-                true
-            }
-            None => false,
         }
     }
 }

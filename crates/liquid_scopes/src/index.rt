@@ -12,7 +12,8 @@ use liquid_value::Object;
 use std::alloc::Global;
 use std::collections::BTreeMap;
 
-/// The places of the listed frames that give a value, for each name. A name without such frames has no entry.
+/// The places of the listed frames that give a value, for each name. A name keeps its entry after its frames have ended,
+/// so that a frame that begins again in a loop takes no memory.
 #[derive(Drop)]
 pub(crate) struct Index {
     places: BTreeMap<String, Frames>,
@@ -32,7 +33,7 @@ impl Index {
         ensures { TopOf (stands self.now.places name.now) result }
     {
         match self.places.get(name) {
-            Some(frames) => Some(frames.last()),
+            Some(frames) => frames.last(),
             None => None,
         }
     }
@@ -58,20 +59,15 @@ impl Index {
         }
     }
 
-    // Records that the frame no longer gives the name a value. A name without frames is removed from the index.
+    // Records that the frame no longer gives the name a value.
     #[inline(always)]
     pub(crate) fn forget(&mut self, name: &str, frame: usize)
         ensures { Forgotten (λ q. bytes_eq name.now q) frame self.old.places self.new.places }
     {
         match self.places.get_mut(name) {
-            Some(frames) => {
-                if frames.leave(frame) {
-                    return;
-                }
-            }
-            None => return,
+            Some(frames) => frames.leave(frame),
+            None => {}
         }
-        self.places.remove(name);
     }
 
     // Records that the frame gives these names a value. If memory runs out, some of them are recorded.

@@ -1,6 +1,6 @@
 -- The result of putting a piece to an open text, and through a gate to a sink.
 use Rattle.std.proofs.Common.{◌≡◌, ◌≢◌, ℕ, ◌+◌, ◌<◌, true, false, Bool, List, [], ◌++◌, length, Option, Some, None, Result, Ok, Err, ◌⊎◌, inl, inr, refl, sym, ap, subst, ◌∙◌, arith}
-use Rattle.std.specs.Prelude.{MatchOption, IfSome, IsUtf8}
+use Rattle.std.specs.Prelude.{MatchOption, IfSome, IsOk, IsUtf8}
 use Rattle.std.proofs.lemmas.List.{append-nil}
 use Rattle.liquid_error.specs.declared.error.Error.{Error}
 use Rattle.liquid_error.specs.meaning.Refusal.{Refusal}
@@ -13,6 +13,7 @@ use Rattle.liquid_template.specs.steps.PieceOut.{PieceLost, PieceFails, PieceRef
 use Rattle.liquid_template.specs.steps.PiecePut.{Partly, PiecePutTaken, PiecePut}
 use Rattle.liquid_template.specs.steps.Place.{target_of}
 use Rattle.liquid_template.proofs.Passing.{passes_none}
+use Rattle.liquid_template.proofs.Pieces.{answer_ok}
 use Rattle.liquid_template.proofs.Pouring.{pours_nothing, pours_refused}
 
 abbrev Answer : Type 0
@@ -118,3 +119,10 @@ nothing_put piece o u e = subst (λ x. PieceOut x o o (Ok u)) (sym e) (record {
   turns = refl;
   pours = pours_nothing o.sunk u;
 })
+
+-- the same where the answer has no error
+pub text_written : (o : Output) (open_text : Option (List ℕ)) (text piece new : List ℕ) (answer : Result (Unit {0}) Error) → IsOk answer → IsUtf8 piece → open_text ≡ Some text → new ≡ text ++ piece → PieceOut piece (target_of o open_text) (target_of o (Some new)) answer
+text_written o open_text text piece new answer h t i e = subst (λ x. PieceOut piece (target_of o open_text) (target_of o (Some new)) x) (sym (answer_ok answer h)) (text_put o open_text text piece new tt t i e)
+
+pub empty_piece : (piece : List ℕ) (o : Output) (answer : Result (Unit {0}) Error) → IsOk answer → piece ≡ [] → PieceOut piece o o answer
+empty_piece piece o answer h e = subst (λ x. PieceOut piece o o x) (sym (answer_ok answer h)) (nothing_put piece o tt e)

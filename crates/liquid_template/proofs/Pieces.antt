@@ -1,6 +1,6 @@
 -- How far one piece is written, and the result of writing it.
-use Rattle.std.proofs.Common.{◌≡◌, ℕ, ◌+◌, ◌-◌, ◌<◌, List, [], ◌∷◌, ◌++◌, length, take, drop, Option, None, Some, Ok, Err, refl, sym, ap, ◌∙◌, ◌⊎◌, inl, inr, arith, append_assoc}
-use Rattle.std.specs.Prelude.{MatchOption, IfSome, IsUtf8}
+use Rattle.std.proofs.Common.{◌≡◌, ℕ, ◌+◌, ◌-◌, ◌<◌, List, [], ◌∷◌, ◌++◌, length, take, drop, Option, None, Some, Result, Ok, Err, refl, sym, ap, subst, ◌∙◌, ◌⊎◌, inl, inr, arith, append_assoc}
+use Rattle.std.specs.Prelude.{MatchOption, IfSome, IsOk, IsUtf8}
 use Rattle.std.specs.Io.KnownBytes.{Appends}
 use Rattle.std.proofs.lemmas.List.{append-nil, length-drop, take_all, take-append-drop}
 use Rattle.liquid_error.specs.declared.error.Error.{Error, fold-Error}
@@ -90,3 +90,11 @@ piece_lost piece rest b m a e s h p is = record {
   taken = (partly piece rest b m a 0 s h p, lost_cases (told e) a.failures b.failures is (omega (arith, p.failures, s.failures)));
   pours = record { grows = put_grows [] 0 b m a s.grows p; lent = p.lent ∙ s.lent; text = tt };
 }
+
+-- an answer without an error is the one of a call that is done
+pub answer_ok : (answer : Result (Unit {0}) Error) → IsOk answer → answer ≡ Ok tt
+answer_ok (Ok u) h = refl
+answer_ok (Err e) h = absurd (cc)
+
+pub piece_written : (piece rest : List ℕ) (b a : Sunk) (answer : Result (Unit {0}) Error) → IsOk answer → length rest ≡ 0 → IsUtf8 piece → SoFar piece rest b a → PiecePut piece b a answer
+piece_written piece rest b a answer h e t s = subst (λ x. PiecePut piece b a x) (sym (answer_ok answer h)) (piece_done piece rest b a tt e t s)

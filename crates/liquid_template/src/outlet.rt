@@ -1,5 +1,5 @@
 //! Where the renderer's pieces go: the text that is captured, otherwise the caller's sink, after its gate was asked.
-ghost use Rattle.std.specs.Prelude.{◌≡◌, [], IsSome, None, Some, IfSome, string_bytes};
+ghost use Rattle.std.specs.Prelude.{◌≡◌, [], IsOk, IsSome, None, Some, IfSome, string_bytes};
 ghost use Rattle.liquid_error.specs.meaning.Told.{told};
 ghost use Rattle.liquid_template.specs.meaning.Outcome.{was_stopped};
 ghost use Rattle.liquid_template.specs.meaning.Output.{Output, gated, ungated};
@@ -9,6 +9,7 @@ ghost use Rattle.liquid_template.specs.steps.Place.{Place, TurnAsked, Swapped, p
 use crate::gate::{Gate, GatedSink};
 use crate::piece::write_piece;
 use crate::sink::Sink;
+use crate::trace::refuse;
 use liquid_error::Error;
 use std::alloc::Global;
 use std::marker::PhantomData;
@@ -22,8 +23,9 @@ pub(crate) trait Ask<K> {
     fn turn(sink: &mut K) -> bool
         ensures { TurnAsked (output sink.old) (output sink.new) result };
 
-    fn put(alloc: Global, sink: &mut K, piece: &str) -> Result<(), Error>
-        ensures { PieceOut piece.now (output sink.old) (output sink.new) result };
+    fn put(alloc: Global, sink: &mut K, piece: &str, answer: &mut Result<(), Error>)
+        requires { IsOk answer.old }
+        ensures { PieceOut piece.now (output sink.old) (output sink.new) answer.new };
 }
 
 /// Without a gate, everything passes.
@@ -38,8 +40,8 @@ impl<K: Sink> Ask<K> for NoGate {
     }
 
     #[inline(always)]
-    fn put(alloc: Global, sink: &mut K, piece: &str) -> Result<(), Error> {
-        write_piece(alloc, sink, piece)
+    fn put(alloc: Global, sink: &mut K, piece: &str, answer: &mut Result<(), Error>) {
+        write_piece(alloc, sink, piece, answer)
     }
 }
 
@@ -53,14 +55,14 @@ impl<K: Sink, G: Gate> Ask<GatedSink<K, G>> for WithGate {
         page.gate.turn()
     }
 
-    fn put(alloc: Global, page: &mut GatedSink<K, G>, piece: &str) -> Result<(), Error> {
+    fn put(alloc: Global, page: &mut GatedSink<K, G>, piece: &str, answer: &mut Result<(), Error>) {
         if piece.is_empty() {
-            return Ok(());
+            return;
         }
         if page.gate.bytes(piece.len() as u64) {
-            write_piece(alloc, &mut page.sink, piece)
+            write_piece(alloc, &mut page.sink, piece, answer)
         } else {
-            Err(stopped_error(alloc))
+            refuse(answer, stopped_error(alloc))
         }
     }
 }
@@ -83,9 +85,10 @@ pub(crate) trait Out {
         ensures turn { TurnAsked (target (place self.old)) (target (place self.new)) result }
         ensures around { around (place self.new) ≡ around (place self.old) };
 
-    /// Puts a piece to the open text, otherwise to the sink.
-    fn put(&mut self, alloc: Global, piece: &str) -> Result<(), Error>
-        ensures put { PieceOut piece.now (target (place self.old)) (target (place self.new)) result }
+    /// Puts a piece to the open text, otherwise to the sink. `answer` is the error, if there is one.
+    fn put(&mut self, alloc: Global, piece: &str, answer: &mut Result<(), Error>)
+        requires { IsOk answer.old }
+        ensures put { PieceOut piece.now (target (place self.old)) (target (place self.new)) answer.new }
         ensures around { around (place self.new) ≡ around (place self.old) };
 
     /// Opens an empty text, and returns the one that was open.
@@ -141,13 +144,13 @@ impl<'k, K, A: Ask<K>> Out for Outlet<'k, K, A> {
     }
 
     #[inline(always)]
-    fn put(&mut self, alloc: Global, piece: &str) -> Result<(), Error> {
+    fn put(&mut self, alloc: Global, piece: &str, answer: &mut Result<(), Error>) {
         match &mut self.text {
             Some(text) => match text.push_str(piece) {
-                Ok(()) => Ok(()),
-                Err(_) => Err(Error::Memory),
+                Ok(()) => {}
+                Err(_) => refuse(answer, Error::Memory),
             },
-            None => A::put(alloc, &mut *self.sink, piece),
+            None => A::put(alloc, &mut *self.sink, piece, answer),
         }
     }
 

@@ -34,10 +34,7 @@ pub(crate) fn put_text<O: Out>(
     ensures out { PieceOut text.now (target (O.place out.old)) (target (O.place out.new)) answer.new }
     ensures around { around (O.place out.new) ≡ around (O.place out.old) }
 {
-    match out.put(alloc, text) {
-        Ok(()) => {}
-        Err(error) => *answer = Err(error),
-    }
+    out.put(alloc, text, answer)
 }
 
 /// Returns the text that a value renders as. A text is borrowed in place.

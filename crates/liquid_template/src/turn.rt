@@ -77,13 +77,13 @@ where
         }
     };
     match turn {
-        Turn::Text(text) => match out.put(alloc, text.as_str()) {
-            Ok(()) => Step::Next,
-            Err(error) => {
-                refuse(answer, error);
-                Step::Stop
+        Turn::Text(text) => {
+            out.put(alloc, text.as_str(), answer);
+            match answer {
+                Ok(()) => Step::Next,
+                Err(_) => Step::Stop,
             }
-        },
+        }
         Turn::Body(place, frame, trace) => match scopes.push(frame) {
             Ok(()) => {
                 keep_trace(&mut going.trace, trace);

@@ -12,13 +12,13 @@ pub returns-in-Err-clause-turned : goal.returns-in-Err-clause-turned
 returns-in-Err-clause-turned g c =
     rw c.refuse-in-Err.ensures (ends_refused _ _ _ _ _ _ _ c.turn.ensures.frames _ _ (asked_true _ _ _ c.if-not-pass_turn.false c.pass_turn.ensures.turn) _ c.in-Err.ensures.answer c.in-Err.ensures.after, c.turn.ensures.owes)
 
-pub returns-in-Ok-put-clause-turned : goal.returns-in-Ok-put-clause-turned
-returns-in-Ok-put-clause-turned g c =
-    (text_goes _ _ _ _ _ _ _ c.turn.ensures.frames _ _ (asked_true _ _ _ c.if-not-pass_turn.false c.pass_turn.ensures.turn) c.in-Ok.ensures.after _ c.in-Ok.ensures.progress _ _ _ (c.in-Ok.ensures.answer ∙ ap (λ x. Ok (turn_of x)) c.in-Text.is) (rw c.as_str.ensures.value at c.in-Ok-put.ensures.put), search rules, c.turn.ensures.owes)
+pub returns-in-Ok-answer-clause-turned : goal.returns-in-Ok-answer-clause-turned
+returns-in-Ok-answer-clause-turned g c =
+    (text_goes _ _ _ _ _ _ _ c.turn.ensures.frames _ _ (asked_true _ _ _ c.if-not-pass_turn.false c.pass_turn.ensures.turn) c.in-Ok.ensures.after _ c.in-Ok.ensures.progress _ _ _ (c.in-Ok.ensures.answer ∙ ap (λ x. Ok (turn_of x)) c.in-Text.is) (rw (c.as_str.ensures.value, c.in-Ok-answer.is) at c.put.ensures.put), search rules, c.turn.ensures.owes)
 
 pub returns-in-Text-clause-turned : goal.returns-in-Text-clause-turned
 returns-in-Text-clause-turned g c =
-    rw c.refuse-in-Err-put.ensures (text_ends _ _ _ _ _ _ _ c.turn.ensures.frames _ _ (asked_true _ _ _ c.if-not-pass_turn.false c.pass_turn.ensures.turn) c.in-Ok.ensures.after _ c.in-Ok.ensures.progress _ _ _ (c.in-Ok.ensures.answer ∙ ap (λ x. Ok (turn_of x)) c.in-Text.is) (rw c.as_str.ensures.value at c.in-Err-put.ensures.put), c.turn.ensures.owes)
+    rw c.in-Err-answer.is (text_ends _ _ _ _ _ _ _ c.turn.ensures.frames _ _ (asked_true _ _ _ c.if-not-pass_turn.false c.pass_turn.ensures.turn) c.in-Ok.ensures.after _ c.in-Ok.ensures.progress _ _ _ (c.in-Ok.ensures.answer ∙ ap (λ x. Ok (turn_of x)) c.in-Text.is) (rw (c.as_str.ensures.value, c.in-Err-answer.is) at c.put.ensures.put), c.turn.ensures.owes)
 
 pub returns-in-Ok-push-clause-turned : goal.returns-in-Ok-push-clause-turned
 returns-in-Ok-push-clause-turned g c =
@@ -56,8 +56,8 @@ returns-then-not-pass_turn-clause-keeps g c = keeps_all _ _ _ _ _ _
 pub returns-in-Err-clause-keeps : goal.returns-in-Err-clause-keeps
 returns-in-Err-clause-keeps g c = keeps_store _ _ _ _ _ _ _ c.turn.ensures.store c.turn.ensures.borrows
 
-pub returns-in-Ok-put-clause-keeps : goal.returns-in-Ok-put-clause-keeps
-returns-in-Ok-put-clause-keeps g c = keeps_store _ _ _ _ _ _ _ c.turn.ensures.store c.turn.ensures.borrows
+pub returns-in-Ok-answer-clause-keeps : goal.returns-in-Ok-answer-clause-keeps
+returns-in-Ok-answer-clause-keeps g c = keeps_store _ _ _ _ _ _ _ c.turn.ensures.store c.turn.ensures.borrows
 
 pub returns-in-Text-clause-keeps : goal.returns-in-Text-clause-keeps
 returns-in-Text-clause-keeps g c = keeps_store _ _ _ _ _ _ _ c.turn.ensures.store c.turn.ensures.borrows
