@@ -26,18 +26,12 @@ pub fn read_values(
 {
     let mut tokens = tokens;
     let mut values = Vec::new(alloc);
-    match tokens.next_value(alloc, TOKEN_EXPECTED) {
-        Ok(value) => values.push(value)?,
-        Err(error) => return Err(error),
-    }
+    let first = tokens.next_value(alloc, TOKEN_EXPECTED)?;
+    values.push(first)?;
     'values: while let Some(token) = tokens.next() {
-        match read_one_of(alloc, token, separators) {
-            Ok(()) => match tokens.next_value(alloc, TOKEN_EXPECTED) {
-                Ok(value) => values.push(value)?,
-                Err(error) => return Err(error),
-            },
-            Err(error) => return Err(error),
-        }
+        read_one_of(alloc, token, separators)?;
+        let value = tokens.next_value(alloc, TOKEN_EXPECTED)?;
+        values.push(value)?;
     }
     Ok(values)
 }

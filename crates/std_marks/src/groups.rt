@@ -41,10 +41,10 @@ pub fn key_in<R: Runtime>(alloc: Global, group: &Group, runtime: &R) -> Result<S
     ensures { Gives (λ s. string_bytes s) result (key_in (R.view runtime.now) (group_of group.now)) }
 {
     match group {
-        Group::Named(name) => match name.evaluate(alloc, runtime) {
-            Ok(name) => named_key(alloc, name.as_view()),
-            Err(error) => Err(error),
-        },
+        Group::Named(name) => {
+            let name = name.evaluate(alloc, runtime)?;
+            named_key(alloc, name.as_view())
+        }
         Group::Unnamed(key) => Ok(key.clone()?),
     }
 }
