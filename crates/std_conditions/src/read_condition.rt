@@ -16,7 +16,7 @@ use liquid_tags::if_block::read_condition::comparison_of;
 use std::alloc::Global;
 use std::mem;
 
-/// Reads a condition from all tokens.
+/// Reads all tokens as a condition.
 ///
 /// A missing value is an `Err`, "Token expected". A token that does not fit is an `Err` too, "Unexpected token".
 pub fn read_condition(alloc: Global, tokens: TagTokenIter<'_>) -> Result<Condition, Error>

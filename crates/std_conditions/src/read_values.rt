@@ -13,7 +13,7 @@ use liquid_plugins::Expression;
 use liquid_tags::asked::TOKEN_EXPECTED;
 use std::alloc::Global;
 
-/// Reads values from all tokens, with one of the separators between each two of them.
+/// Reads all tokens as values, each two of them separated by one of the separators.
 ///
 /// A missing value is an `Err`, "Token expected". A token that does not fit is an `Err` too, "Unexpected token".
 pub fn read_values(

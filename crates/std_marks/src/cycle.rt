@@ -15,7 +15,7 @@ use liquid_runtime::Runtime;
 use liquid_value::render::ValueRender;
 use std::alloc::Global;
 
-/// What a `cycle` is made to: its group, and its values.
+/// A `cycle`: its group and its values.
 #[derive(Drop)]
 pub struct Cycle {
     pub group: Group,
@@ -36,7 +36,7 @@ impl Meant for Cycle {
 
 /// Writes the text of the value at the place of the group, and moves the group to its next place.
 ///
-/// Only that value is evaluated. An error moves nothing.
+/// Only that value is evaluated. If there is an error, the group keeps its place.
 #[inline(never)]
 pub fn cycle_turn<V: HoldsMarks, R: Runtime<Register = V>>(
     alloc: Global,
@@ -77,7 +77,7 @@ fn text_at<R: Runtime>(
     }
 }
 
-/// Returns the place after a place, of this many.
+/// Returns the place after this one, of that many. After the last place comes the first.
 fn next_place(place: u64, count: usize) -> u64
     ensures { result ≡ next_place place count }
 {

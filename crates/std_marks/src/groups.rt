@@ -16,9 +16,9 @@ use std::alloc::{AllocError, Global};
 /// The group of a `cycle`. The tags of a group share a place.
 #[derive(Drop)]
 pub enum Group {
-    /// Those whose name has the same text.
+    /// The tags whose name has the same text.
     Named(Expression),
-    /// Those without a name whose values are displayed alike. This is the key of the group.
+    /// The tags without a name whose values are displayed alike. This is the key of the group.
     Unnamed(String),
 }
 
@@ -89,7 +89,7 @@ pub fn values_key(alloc: Global, values: &[Expression]) -> Result<String, AllocE
     Ok(key)
 }
 
-/// Appends a text with its length before it.
+/// Appends the length of a text, a colon and the text.
 fn push_text(alloc: Global, key: &mut String, text: &str) -> Result<(), AllocError>
     ensures { OnOk result (string_bytes key.new ≡ string_bytes key.old ++ with_length text.now) }
 {
