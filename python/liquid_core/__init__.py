@@ -166,7 +166,7 @@ def _rendered(page: _Page) -> str:
     rendered = ctypes.string_at(out, outcome.written)
     if outcome.kind == _OK:
         return rendered.decode()
-    text = ctypes.string_at(message, outcome.message_len).decode("utf-8", "replace").rstrip("\n")
+    text = ctypes.string_at(message, outcome.message_len).decode("utf-8", "replace").removesuffix("\n")
     raise _error(outcome, text or _NO_MEMORY, rendered)
 
 
