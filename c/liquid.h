@@ -5,16 +5,18 @@
  * before it returns. It keeps no pointer.
  *
  * What the caller owes, since nothing checks it here:
- *  1. Each pointer is aligned for its type and points to as many items as its count says, which are at most
- *     PTRDIFF_MAX bytes and stay as they are during the call. With a count of 0 it may be any aligned pointer
- *     but null; liquid_bytes_of gives one.
- *  2. out, message and outcome (outcomes) overlap neither one another nor the other arguments, and nobody else
- *     reads or writes them during the call.
- *  3. malloc, realloc and free are of one allocator, and align as C asks.
- *  4. No call is made from a signal handler, nor in the child of a fork of a process with threads.
+ *  1. Each pointer, those in structs too, is aligned for its type, is not null, and points to as many items as
+ *     its count says, or to one if it has no count. They are at most PTRDIFF_MAX bytes. With a count of 0 any
+ *     aligned pointer but null will do; liquid_bytes_of makes one of a null pointer.
+ *  2. During the call nobody writes to page, globals and what they point to. out, message and outcome (outcomes)
+ *     overlap neither one another nor these, and nobody else reads or writes them. What they hold before the
+ *     call does not matter.
+ *  3. malloc, realloc and free are of one allocator. It aligns a block to each power of two up to 16 that
+ *     divides its size, as every allocator of C does.
+ *  4. No call is made from a signal handler, nor in the forked child of a process with threads.
  *  5. 1 MB of stack is free, for templates as deep as the limits allow.
  *  6. The processor has the instructions of x86-64-v2.
- * What the bytes are is not the caller's to check: any bytes and any options have an outcome.
+ * What the bytes are is not the caller's to check: any bytes, any options and any limits have an outcome.
  *
  * Calls may run in several threads at once, each with an out, a message and an outcome of its own.
  */
@@ -42,13 +44,13 @@ typedef struct liquid_partial {
     liquid_bytes text;
 } liquid_partial;
 
-/* The options of a page: a sum of these. */
+/* The options of a page: none of these (0), or some of them, joined by |. */
 enum {
-    LIQUID_SANDBOXED = 1, /* the globals are the data of a sandbox: what the template assigns goes nowhere, and in
-                             standard Liquid is seen until the page ends */
+    LIQUID_SANDBOXED = 1, /* the globals are the data of a sandbox: what the template assigns goes nowhere. A
+                             template of standard Liquid sees it until the page ends */
     LIQUID_LENIENT = 2,   /* a name or an index without a value is nil instead of an error */
-    LIQUID_STANDARD = 4   /* the template has the tags, blocks and filters of standard Liquid; else the few tags and
-                             blocks of liquid_tags, and no filters */
+    LIQUID_STANDARD = 4   /* the template has the tags, blocks and filters of standard Liquid; without it, the few
+                             tags and blocks of liquid_tags, and no filters */
 };
 
 typedef struct liquid_page {
@@ -57,24 +59,25 @@ typedef struct liquid_page {
     const liquid_partial *partials; /* never null */
     size_t partial_count;
     uint32_t options;
-    /* A page that takes more turns of tags and blocks, or writes more bytes, is stopped: it ends as LIQUID_REFUSED.
-     * 0 means no limit. */
+    /* A page that takes more turns of tags and blocks, or writes more bytes, is stopped, and ends as
+     * LIQUID_REFUSED. A loop takes a turn for each item and one for its end. 0 means no limit. */
     uint64_t max_turns;
     uint64_t max_bytes;
 } liquid_page;
 
-/* The kinds of an outcome. The texts are read in this order, and the first error ends it: the template,
- * the globals, and the name and the text of each partial; then the template is read, and rendered. */
+/* The kinds of an outcome. Of several errors it is that of the first, in this order: the options are known; the
+ * template is UTF-8; the globals are UTF-8, JSON, and an object of values; each partial's name and text are UTF-8;
+ * the template is read; it is rendered. */
 enum {
     LIQUID_OK = 0,         /* the whole page was rendered, and is in out */
     LIQUID_UNPARSED = 1,   /* the template can't be read: nothing was rendered */
     LIQUID_REFUSED = 2,    /* rendering ended early: what was rendered before is in out */
     LIQUID_BAD_JSON = 3,   /* the globals are not JSON */
-    LIQUID_NO_GLOBALS = 4, /* the JSON is not an object of values, as a list, or a number with a fraction */
+    LIQUID_NO_GLOBALS = 4, /* the JSON is not an object, or has a number that is not a whole one of 64 bits */
     LIQUID_NO_TEXT = 5,    /* a text is not UTF-8: outcome.which says which */
-    LIQUID_NO_MEMORY = 6,  /* malloc or realloc failed */
-    LIQUID_SHORT = 7,      /* the whole page was rendered, but out has room for fewer than needed bytes */
-    LIQUID_NO_OPTIONS = 8  /* the options are no sum of those above: nothing was read */
+    LIQUID_NO_MEMORY = 6,  /* malloc or realloc failed: a beginning of the page is in out */
+    LIQUID_SHORT = 7,      /* the whole page was rendered, but is longer than out: its beginning is in out */
+    LIQUID_NO_OPTIONS = 8  /* there are no such options: nothing was read */
 };
 
 /* outcome.which, if the kind is LIQUID_NO_TEXT. */
@@ -84,26 +87,27 @@ typedef struct liquid_outcome {
     uint32_t kind;
     uint32_t which;
     size_t partial;     /* LIQUID_PARTIAL_NAME and LIQUID_PARTIAL_TEXT: the number of the partial, from 0 */
-    size_t line;        /* where the error is, in the text of the template, of a partial or of the JSON, from 1; */
-    size_t column;      /* 0 if it has no place. Columns count characters, and bytes in JSON */
+    size_t line;        /* where the error is in the template, in a partial or in the JSON, from 1; */
+    size_t column;      /* 0 if it has no place. Columns count characters, but bytes in JSON */
     size_t needed;      /* how many bytes were rendered */
     size_t written;     /* how many of them are in out: the smaller of needed and out_len */
     size_t message_len; /* how many bytes the text of the error has; message has the first of them */
 } liquid_outcome;
 
 /* Renders a page into out, and writes all of *outcome. out[written] and what comes after it stay as they
- * were. The text of an error has lines, each with a line feed at its end. A call with the same page has the
- * same outcome, unless memory runs out: after LIQUID_SHORT, needed bytes of room are enough. */
+ * were. message gets the text of the error, as far as it has room: lines, each with a line feed at its end.
+ * The same page is rendered alike each time, unless memory runs out, so after LIQUID_SHORT a call with needed
+ * bytes of room has the whole page. */
 void liquid_render(const liquid_page *page,
                    uint8_t *out, size_t out_len,
                    uint8_t *message, size_t message_len,
                    liquid_outcome *outcome);
 
-/* Renders the page over each text of globals in turn, as far as there are outcomes; page->globals is passed
- * over. The template and the partials are read once. Each page is rendered into the bytes of out that those
- * before it left, so its bytes begin where the written bytes of the outcomes before it end. outcomes[i] is that
- * of globals[i], and the outcomes that are left over stay as they were. message has the text of the last error.
- * Returns how many pages are whole, and in out. */
+/* Renders the page over each text of globals in turn, as far as there are outcomes. page->globals is not read.
+ * The template and the partials are read once. The pages are in out one after another: each begins where the
+ * written bytes of those before it end, and has the room that they left. outcomes[i] is that of globals[i], and
+ * outcomes that are left over stay as they were. message gets the text of the last error, as far as it has room.
+ * Returns how many pages are whole and in out, which are those whose outcome is LIQUID_OK. */
 size_t liquid_render_each(const liquid_page *page,
                           const liquid_bytes *globals, size_t globals_count,
                           uint8_t *out, size_t out_len,

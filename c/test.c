@@ -192,6 +192,24 @@ static void try_turns(const row_type *row) {
     check(!memcmp(&each[2], &got, sizeof got) && !memcmp(all + third, out, got.written), row->name, "the third of three turns");
 }
 
+/* Partials of one name, of no name, and of a name that is not UTF-8; and sizes of 0. */
+static void try_names(void) {
+    static const row_type row = {"names", "{% include 'a' %}{% include '' %}", "{}", 3, 0, 0, 0, ROOM, 0, 0, 0, 0, 0, 0, "", ""};
+    liquid_page page = page_of(&row);
+    partials[0].name = of(""), partials[0].text = of("none");
+    partials[1].name = of("a"), partials[1].text = of("earlier");
+    partials[2].name = of("a"), partials[2].text = of("later");
+    liquid_render(&page, out, row.room, message, sizeof message, &got);
+    check(got.kind == LIQUID_OK && got.written == 9 && !memcmp(out, "laternone", 9), row.name, "the later of two stays");
+    partials[1].name = of("\xff");
+    liquid_render(&page, out, row.room, message, sizeof message, &got);
+    check(got.kind == LIQUID_NO_TEXT && got.which == LIQUID_PARTIAL_NAME && got.partial == 1, row.name, "not UTF-8");
+    page.text = page.globals = liquid_bytes_of(NULL, 7);
+    page.partial_count = 0;
+    liquid_render(&page, out, 0, message, 0, &got);
+    check(got.kind == LIQUID_BAD_JSON && got.needed == 0 && got.message_len > 0, row.name, "sizes of 0");
+}
+
 /* One template over many globals, with as many outcomes and less room than they want. */
 static void try_each(void) {
     static const row_type row = {"each", "{% include 'a', y: x %}", "\xff", 1, 0, 0, 0, 9, 0, 0, 0, 0, 0, 0, "", ""};
@@ -253,6 +271,7 @@ int main(void) {
         try_row(&rows[i]);
         try_turns(&rows[i]);
     }
+    try_names();
     try_each();
     try_growths();
     try_growths_of_each();

@@ -40,20 +40,20 @@ class Kind(enum.IntEnum):
     BAD_JSON = 3
     """The globals are not JSON."""
     NO_GLOBALS = 4
-    """The JSON is not an object of values: a list, or a number with a fraction."""
+    """The JSON is not an object, or has a number that is not a whole one of 64 bits."""
     NO_TEXT = 5
     """A text is not UTF-8."""
     NO_MEMORY = 6
     """Memory ran out."""
     NO_OPTIONS = 8
-    """The library doesn't have these options."""
+    """The library has no such options: it is of another version than the package."""
 
 
 class LiquidError(Exception):
     """A page that was not rendered to its end.
 
-    ``message`` is the text of the error, as the program prints it. ``line`` and ``column`` are from 1, and ``None``
-    if the error has no place. ``rendered`` is what was rendered before it.
+    ``message`` is the text of the error, of one line or more. ``line`` and ``column`` are where it is, from 1, and
+    ``None`` if it has no place. ``rendered`` is what was rendered before it.
     """
 
     def __init__(self, message: str, line: int | None, column: int | None, kind: Kind, rendered: str) -> None:
@@ -166,7 +166,7 @@ def _rendered(page: _Page) -> str:
     rendered = ctypes.string_at(out, outcome.written)
     if outcome.kind == _OK:
         return rendered.decode()
-    text = ctypes.string_at(message, outcome.message_len).decode("utf-8", "replace").rstrip("\n")
+    text = ctypes.string_at(message, outcome.message_len).decode("utf-8", "replace").removesuffix("\n")
     raise _error(outcome, text or _NO_MEMORY, rendered)
 
 

@@ -1,7 +1,6 @@
 //! Reading the files that a command names.
-ghost use Rattle.std.specs.Prelude.{◌≡◌, ◌≢◌, [], Some, is_some, IfOk, IfErr, map, option_map, string_bytes};
+ghost use Rattle.std.specs.Prelude.{◌≡◌, ◌≢◌, Some, is_some, IfOk, IfErr, map, option_map, string_bytes};
 ghost use Rattle.std.specs.FinMap.{empty, keys};
-ghost use Rattle.std.specs.Option.{unwrap_or};
 ghost use Rattle.liquid_runtime.specs.meaning.Maps.{names_of};
 ghost use Rattle.liquid_plugins.specs.meaning.Registry.{by_name};
 ghost use Rattle.liquid_json.specs.meaning.Given.{object_read};
@@ -17,6 +16,7 @@ ghost use Rattle.liquid.specs.meaning.Gathered.{
   WithPartials,
   WithText,
 };
+ghost use Rattle.liquid.specs.meaning.Files.{Reads};
 ghost use Rattle.liquid.specs.meaning.Status.{fault_status};
 ghost use Rattle.liquid.specs.steps.Steps.{Brings, BringsText, Stops, StopsUnread};
 
@@ -102,7 +102,7 @@ fn names_in<'w, F: Folder>(
     ensures same { F.known files.new ≡ F.known files.old }
     ensures listed { F.listed files.new ≡ F.listed files.old }
 {
-    match files.list(alloc, folder, is_deep(ending)) {
+    match list_folder(alloc, files, ending, folder) {
         Ok(names) => match in_order(alloc, ending, names) {
             Ok(names) => Ok(names),
             Err(_) => Err(Fault::Refused(Error::Memory)),
@@ -112,13 +112,21 @@ fn names_in<'w, F: Folder>(
     }
 }
 
-/// Returns `true` if partials have an ending. Then those in subfolders are among them.
-fn is_deep(ending: Option<&str>) -> bool
-    ensures { result ≡ is_some (option_map (λ e. e.now) ending.entry) }
+/// Lists a folder, with its subfolders if partials have an ending.
+fn list_folder<F: Folder>(
+    alloc: Global,
+    files: &mut F,
+    ending: Option<&str>,
+    folder: &str,
+) -> Result<Vec<String>, Unread>
+    ensures lists { Reads (λ names. map string_bytes names.items)
+        (F.listed files.old (is_some (option_map (λ e. e.now) ending.entry)) folder.now) result }
+    ensures same { F.known files.new ≡ F.known files.old }
+    ensures listed { F.listed files.new ≡ F.listed files.old }
 {
     match ending {
-        Some(_) => true,
-        None => false,
+        Some(_) => files.list_tree(alloc, folder),
+        None => files.list(alloc, folder),
     }
 }
 
@@ -183,17 +191,7 @@ fn partials_in<'w, F: Folder>(
     ensures same { F.known files.new ≡ F.known files.old }
 {
     let names = names_in(alloc, files, ending, folder)?;
-    texts_of(alloc, files, folder, ending_text(ending), names)
-}
-
-/// Returns the ending, and the empty text if there is none.
-fn ending_text<'e>(ending: Option<&'e str>) -> &'e str
-    ensures { result.now ≡ unwrap_or (option_map (λ e. e.now) ending.entry) [] }
-{
-    match ending {
-        Some(ending) => ending,
-        None => "",
-    }
+    texts_of(alloc, files, folder, ending.unwrap_or(""), names)
 }
 
 /// Returns the texts of the partials of these names in a folder, each under its name.

@@ -101,12 +101,12 @@ impl Folder for InMemoryFolder {
         }
     }
 
-    fn list(&mut self, alloc: Global, path: &str, is_deep: bool) -> Result<Vec<String>, Unread> {
-        if is_deep {
-            listed_at(alloc, &self.trees, path)
-        } else {
-            listed_at(alloc, &self.folders, path)
-        }
+    fn list(&mut self, alloc: Global, path: &str) -> Result<Vec<String>, Unread> {
+        listed_at(alloc, &self.folders, path)
+    }
+
+    fn list_tree(&mut self, alloc: Global, path: &str) -> Result<Vec<String>, Unread> {
+        listed_at(alloc, &self.trees, path)
     }
 
     #[tactic(auto, using(crate::proofs::FilesInMemory::in_memory))]
@@ -116,8 +116,6 @@ impl Folder for InMemoryFolder {
         }
         self.add(alloc, path, bytes).map_err(|_| Unread::Memory)
     }
-
-    fn announce(&mut self, _page: usize, _count: usize, _template: &str) {}
 
     fn why(&mut self, path: &str, is_listed: bool) -> Why {
         match (

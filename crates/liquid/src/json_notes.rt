@@ -20,8 +20,8 @@ pub(crate) fn note_of_text(alloc: Global, text: &str, error: &Error) -> String {
     note.unwrap_or(String::new(alloc))
 }
 
-/// Returns where the first number of an object's members is that is not a whole number of 64 bits, in the order in which
-/// they are converted. Returns nothing if there is no such number, or if memory runs out.
+/// Returns the path in an object of JSON to the first number that is not a whole number of 64 bits, after the word `at`.
+/// Returns nothing if there is no such number, or if memory runs out.
 pub(crate) fn note_of_number(alloc: Global, text: &str) -> String {
     match unfit_number(alloc, text) {
         Ok(Some(path)) => path,

@@ -77,7 +77,8 @@ fn files_in<R: Files + AllocGlobal + Clone + Drop>(
     Ok(names)
 }
 
-// Whether there is no file at the path yet, or one that is no folder, device or pipe.
+// Whether a file may be put at the path: there is a plain file, or nothing. Folders, devices and pipes are left as they
+// are.
 fn is_replaceable<R: Files>(rt: &R, path: &str) -> bool {
     match fs::metadata(rt, path) {
         Ok(metadata) => metadata.is_file(),
@@ -98,12 +99,12 @@ impl<R: Files + AllocGlobal + Eprint + Clone + Drop> Folder for Machine<'_, R> {
         Ok(bytes)
     }
 
-    fn list(&mut self, alloc: Global, path: &str, is_deep: bool) -> Result<Vec<String>, Unread> {
-        if is_deep {
-            files_below(alloc, self.rt, path)
-        } else {
-            files_in(alloc, self.rt, path)
-        }
+    fn list(&mut self, alloc: Global, path: &str) -> Result<Vec<String>, Unread> {
+        files_in(alloc, self.rt, path)
+    }
+
+    fn list_tree(&mut self, alloc: Global, path: &str) -> Result<Vec<String>, Unread> {
+        files_below(alloc, self.rt, path)
     }
 
     fn replace(&mut self, alloc: Global, path: &str, bytes: &[u8]) -> Result<(), Unread> {

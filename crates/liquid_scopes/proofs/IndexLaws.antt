@@ -1,6 +1,7 @@
 -- What the calls of an index do to the places of names.
 use Rattle.std.proofs.Common.{◌≡◌, ℕ, List, [], ◌∷◌, Option, None, Some, Bool, true, false, cond, refl, sym, ap, ◌∙◌, String, Global}
 use Rattle.std.specs.Prelude.{is_some, ◌&&◌, ◌||◌, not, string_bytes, bytes_eq}
+use Rattle.std.specs.Option.{option_or}
 use Rattle.std.specs.BTreeMap.{get_by_text}
 use Rattle.std.specs.Map.{lookup as lookup_entry}
 use Rattle.std.specs.Ordering.{nat_cmp, is_eq}
@@ -139,3 +140,21 @@ undone false false X h z = refl
 pub nothing_found : {A : Type 0} (o : Option A) → is_some o ≡ false → None ≡ o
 nothing_found None e = refl
 nothing_found (Some x) e = absurd (cc)
+
+and_twice : (b e : Bool) → ((b && e) && e) ≡ (b && e)
+and_twice true true = refl
+and_twice true false = refl
+and_twice false e = refl
+
+-- names of one object that are forgotten after those of another
+pub both_forgotten : {A : Type 0} (x y z e : Bool) (a b : Option A) → y ≡ (x && not (is_some b && e)) → z ≡ (y && not (is_some a && e)) → z ≡ (x && not (is_some (option_or a b) && e))
+both_forgotten x y z e None b h k = k ∙ and_true y ∙ h
+both_forgotten x y z e (Some v) None h k = k ∙ ap (λ w. w && not e) (h ∙ and_true x)
+both_forgotten x y z e (Some v) (Some u) h k = k ∙ ap (λ w. w && not e) h ∙ and_twice x (not e)
+
+-- names of one object that are noted in part after those of another
+pub both_partly : {A : Type 0} (x y z e : Bool) (a b : Option A) → (y || (is_some b && e)) ≡ (x || (is_some b && e)) → (z || (is_some a && e)) ≡ (y || (is_some a && e))
+    → (z || (is_some (option_or a b) && e)) ≡ (x || (is_some (option_or a b) && e))
+both_partly x y z e None b h k = ap (λ w. w || (is_some b && e)) (sym (or_false z) ∙ k ∙ or_false y) ∙ h
+both_partly x y z e (Some v) None h k = k ∙ ap (λ w. w || e) (sym (or_false y) ∙ h ∙ or_false x)
+both_partly x y z e (Some v) (Some u) h k = k ∙ h

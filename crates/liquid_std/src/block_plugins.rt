@@ -11,9 +11,8 @@ use crate::capture::begin_capture;
 use crate::case::{begin_case, push_alternatives};
 use crate::conditionals::{begin_if, begin_unless, push_condition};
 use crate::loops::{begin_for, begin_tablerow};
-use liquid_error::Error;
-use liquid_parser::{BlockBody, BlockReflection, ParseBlock, TagTokenIter};
-use liquid_plugins::{Meant, ParseFilter, PluginRegistry};
+use liquid_core::parser::{Meant, PluginRegistry};
+use liquid_core::{BlockBody, BlockReflection, Error, ParseBlock, ParseFilter, TagTokenIter};
 use liquid_tags::asked::alone;
 use std::alloc::Global;
 

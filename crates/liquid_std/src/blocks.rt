@@ -5,11 +5,9 @@ ghost use Rattle.liquid_std.specs.meaning.Blocks.{block_count, block_nodes, bloc
 
 use crate::capture::capture_turn;
 use crate::loops::{start_rounds, start_table};
-use liquid_error::Error;
-use liquid_plugins::{Bytes, Discreet, ListOf, Meant, Renderable, Turn};
-use liquid_runtime::{Frame, Runtime};
+use liquid_core::parser::{Bytes, ListOf, Meant};
+use liquid_core::{Discreet, Error, Frame, Object, Renderable, Runtime, Turn};
 use liquid_tags::for_block::rounds::RoundsShape;
-use liquid_value::Object;
 use std::alloc::Global;
 use std_conditions::branches::CaseShape;
 use std_conditions::condition::ConditionShape;

@@ -10,12 +10,8 @@ ghost use Rattle.liquid_std.specs.meaning.Captures.{captures, text_of};
 
 use crate::block_plugins::StdPlan;
 use crate::blocks::StdBlock;
-use liquid_error::Error;
-use liquid_parser::TagTokenIter;
-use liquid_plugins::Turn;
-use liquid_runtime::{Frame, Runtime};
+use liquid_core::{Error, Frame, Runtime, TagTokenIter, Turn, Value};
 use liquid_tags::asked::{TOKEN_EXPECTED, alone};
-use liquid_value::Value;
 use std::alloc::Global;
 use std::mem;
 

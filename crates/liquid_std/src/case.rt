@@ -7,8 +7,7 @@ ghost use Rattle.liquid_std.specs.meaning.BlockPlugins.{case_given, plan_of, wit
 
 use crate::block_plugins::StdPlan;
 use crate::blocks::StdBlock;
-use liquid_error::Error;
-use liquid_parser::TagTokenIter;
+use liquid_core::{Error, TagTokenIter};
 use liquid_tags::asked::{TOKEN_EXPECTED, alone};
 use std::alloc::Global;
 use std_conditions::Case;

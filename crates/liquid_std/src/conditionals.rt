@@ -9,8 +9,7 @@ ghost use Rattle.liquid_std.specs.meaning.BlockPlugins.{condition_planned, plan_
 
 use crate::block_plugins::StdPlan;
 use crate::blocks::StdBlock;
-use liquid_error::Error;
-use liquid_parser::TagTokenIter;
+use liquid_core::{Error, TagTokenIter};
 use std::alloc::Global;
 use std_conditions::Condition;
 use std_conditions::read_condition::read_condition;

@@ -9,9 +9,8 @@ ghost use Rattle.liquid_std.specs.meaning.TagPlugins.{cycle_node_given};
 ghost use Rattle.liquid_std.specs.meaning.Tags.{tag_of};
 
 use crate::tags::StdTag;
-use liquid_error::Error;
-use liquid_parser::{TagToken, TagTokenIter};
-use liquid_plugins::Filter;
+use liquid_core::parser::TagToken;
+use liquid_core::{Error, Filter, TagTokenIter};
 use std::alloc::Global;
 use std_conditions::read_values::read_values;
 use std_marks::groups::values_key;

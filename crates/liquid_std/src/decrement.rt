@@ -11,13 +11,9 @@ ghost use Rattle.liquid_std.specs.meaning.TagPlugins.{decrement_given};
 ghost use Rattle.liquid_std.specs.meaning.Tags.{tag_of};
 
 use crate::tags::StdTag;
-use liquid_error::Error;
-use liquid_parser::TagTokenIter;
-use liquid_plugins::{Filter, Turn};
-use liquid_runtime::Runtime;
+use liquid_core::{Error, Filter, Runtime, TagTokenIter, Turn, Value};
 use liquid_tags::asked::{TOKEN_EXPECTED, alone};
 use liquid_tags::increment::{counts_from, past_limit};
-use liquid_value::Value;
 use std::alloc::Global;
 
 /// Reads the node of a `decrement`.

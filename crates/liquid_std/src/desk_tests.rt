@@ -3,12 +3,10 @@ ghost use Rattle.std.specs.Prelude.{refl};
 ghost use Rattle.std_marks.specs.meaning.Marks.{marks_of, no_marks};
 
 use crate::languages::language;
-use liquid_error::Error;
-use liquid_parser::NoPlugin;
-use liquid_partials::render_source;
-use liquid_plugins::PluginRegistry;
-use liquid_runtime::{BuiltRuntime, Fresh, Runtime, RuntimeBuilder};
-use liquid_template::TextSink;
+use liquid_core::parser::PluginRegistry;
+use liquid_core::{
+    BuiltRuntime, Error, Fresh, NoPlugin, Runtime, RuntimeBuilder, TextSink, render_source,
+};
 use std::alloc::{AllocError, Global};
 use std::test::Fail;
 use std_marks::marks::MarksShape;

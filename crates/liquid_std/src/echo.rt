@@ -9,12 +9,10 @@ ghost use Rattle.liquid_std.specs.meaning.TagPlugins.{echo_given};
 ghost use Rattle.liquid_std.specs.meaning.Tags.{echo_turn, tag_of};
 
 use crate::tags::StdTag;
-use liquid_error::Error;
-use liquid_parser::TagTokenIter;
-use liquid_plugins::{Filter, FilterChain, ParseFilter, PluginRegistry, Turn};
-use liquid_runtime::Runtime;
+use liquid_core::model::ValueRender;
+use liquid_core::parser::{FilterChain, PluginRegistry};
+use liquid_core::{Error, Filter, ParseFilter, Runtime, TagTokenIter, Turn};
 use liquid_tags::asked::{TOKEN_EXPECTED, alone};
-use liquid_value::render::ValueRender;
 use std::alloc::Global;
 
 /// Reads the node of an `echo`.

@@ -4,8 +4,7 @@ ghost use Rattle.liquid_runtime.specs.meaning.Calls.{frame_of};
 ghost use Rattle.liquid_plugins.specs.meaning.TurnOf.{turn_of};
 ghost use Rattle.liquid_std.specs.meaning.Isolated.{isolated, isolated_from};
 
-use liquid_plugins::Turn;
-use liquid_runtime::Frame;
+use liquid_core::{Frame, Turn};
 
 /// Returns the turn, with an isolated frame for its partial if it had a sandboxed one.
 pub(crate) fn isolate(turn: Turn) -> Turn

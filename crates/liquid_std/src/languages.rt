@@ -5,8 +5,8 @@ ghost use Rattle.liquid_std.specs.meaning.Languages.{meaning_of, tags_and_blocks
 
 use crate::block_plugins::StdBlocks;
 use crate::tag_plugins::StdTags;
-use liquid_parser::Language;
-use liquid_plugins::{ParseFilter, PluginRegistry};
+use liquid_core::parser::PluginRegistry;
+use liquid_core::{Language, ParseFilter};
 use liquid_tags::Tags;
 use std::alloc::{AllocError, Global};
 

@@ -10,8 +10,7 @@ ghost use Rattle.liquid_std.specs.meaning.Blocks.{over_items, over_table, progre
 
 use crate::block_plugins::StdPlan;
 use crate::blocks::{StdBlock, StdProgress};
-use liquid_error::Error;
-use liquid_parser::TagTokenIter;
+use liquid_core::{Error, TagTokenIter};
 use std::alloc::{AllocError, Global};
 use std_loops::read_loop::read_loop;
 use std_loops::{LoopBlock, Picked, Table, rounds_over};

@@ -13,13 +13,12 @@ use crate::blocks::StdBlock;
 use crate::languages::language;
 use crate::tag_plugins::StdTags;
 use crate::tags::StdTag;
-use liquid_error::Error;
-use liquid_parser::Language;
-use liquid_partials::{LazyCompiler, LazyStore, PartialCompiler, PartialSource, render_source};
-use liquid_plugins::{ParseFilter, PluginRegistry};
-use liquid_runtime::{BuiltRuntime, Runtime, RuntimeBuilder};
-use liquid_template::{PartialStore, Sink};
-use liquid_value::Object;
+use liquid_core::parser::PluginRegistry;
+use liquid_core::partials::{LazyCompiler, PartialCompiler, PartialSource};
+use liquid_core::{
+    BuiltRuntime, Error, Language, LazyStore, Object, ParseFilter, PartialStore, Runtime,
+    RuntimeBuilder, Sink, render_source,
+};
 use std::alloc::{AllocError, Global};
 use std::rc::Rc;
 use std_marks::Marks;

@@ -5,9 +5,8 @@ use crate::cycle::parse_cycle;
 use crate::decrement::parse_decrement;
 use crate::echo::parse_echo;
 use crate::tags::StdTag;
-use liquid_error::Error;
-use liquid_parser::{ParseTag, TagReflection, TagTokenIter};
-use liquid_plugins::{ParseFilter, PluginRegistry};
+use liquid_core::parser::PluginRegistry;
+use liquid_core::{Error, ParseFilter, ParseTag, TagReflection, TagTokenIter};
 use liquid_tags::Tags;
 use std::alloc::Global;
 

@@ -1,11 +1,9 @@
 //! Pages of the standard tags and blocks.
 use crate::pages::render_page;
-use liquid_error::Error;
-use liquid_json::object_from_str;
-use liquid_parser::NoPlugin;
-use liquid_partials::InMemorySource;
-use liquid_plugins::PluginRegistry;
-use liquid_template::TextSink;
+use liquid_core::model::object_from_str;
+use liquid_core::parser::PluginRegistry;
+use liquid_core::partials::InMemorySource;
+use liquid_core::{Error, NoPlugin, TextSink};
 use std::alloc::Global;
 use std::test::Fail;
 use tests_lines::Line;

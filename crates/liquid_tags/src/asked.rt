@@ -4,9 +4,8 @@ ghost use Rattle.liquid_parser.specs.meaning.Handed.{Tokens};
 ghost use Rattle.liquid_parser.specs.meaning.Plugins.{AreTokens};
 ghost use Rattle.liquid_tags.specs.meaning.Asked.{alone};
 
-use liquid_error::Error;
-use liquid_parser::TagTokenIter;
-use liquid_plugins::Meant;
+use liquid_core::parser::Meant;
+use liquid_core::{Error, TagTokenIter};
 use std::alloc::Global;
 
 /// The message of a token that is missing.

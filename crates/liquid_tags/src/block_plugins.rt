@@ -16,11 +16,8 @@ use crate::blocks::{BlockNode, BlockShape};
 use crate::for_block::series::Series;
 use crate::if_block::condition::Condition;
 use crate::if_block::read_condition::read_condition;
-use liquid_error::Error;
-use liquid_parser::{
-    BlockBody, BlockReflection, ParseBlock, TagToken, TagTokenIter, TryMatchToken,
-};
-use liquid_plugins::{Meant, ParseFilter, PluginRegistry};
+use liquid_core::parser::{Meant, PluginRegistry, TagToken, TryMatchToken};
+use liquid_core::{BlockBody, BlockReflection, Error, ParseBlock, ParseFilter, TagTokenIter};
 use std::alloc::{AllocError, Global};
 
 /// The dividers of `if`.

@@ -9,10 +9,8 @@ use crate::for_block::rounds::{Rounds, RoundsShape};
 use crate::for_block::series::{Series, SeriesShape, items_of};
 use crate::for_block::turns::loop_turn;
 use crate::if_block::condition::{Condition, ConditionShape, chosen};
-use liquid_error::Error;
-use liquid_plugins::{Bytes, Discreet, ListOf, Meant, Renderable, Turn};
-use liquid_runtime::{Frame, Fresh, Runtime};
-use liquid_value::Object;
+use liquid_core::parser::{Bytes, ListOf, Meant};
+use liquid_core::{Discreet, Error, Frame, Fresh, Object, Renderable, Runtime, Turn};
 use std::alloc::{AllocError, Global};
 
 /// What a block is made into.

@@ -5,8 +5,8 @@ ghost use Rattle.liquid_tags.specs.meaning.Languages.{meaning_of, tags_and_block
 
 use crate::block_plugins::Blocks;
 use crate::tag_plugins::Tags;
-use liquid_parser::Language;
-use liquid_plugins::{ParseFilter, PluginRegistry};
+use liquid_core::parser::PluginRegistry;
+use liquid_core::{Language, ParseFilter};
 use std::alloc::{AllocError, Global};
 
 /// Returns the language of the library's tags and blocks, each under its name, with these filters.

@@ -4,7 +4,7 @@ ghost use Rattle.liquid_plugins.specs.meaning.Chain.{FilterMeaning};
 ghost use Rattle.liquid_tags.specs.laws.LoopRuns.{LoopRuns};
 ghost use Rattle.liquid_tags.specs.laws.Sandboxes.{LibraryAgrees, LibraryIsolated};
 
-use liquid_runtime::Fresh;
+use liquid_core::Fresh;
 
 /// Under a sandboxed frame, a template of the library has the same run as over an outside without names: the same steps
 /// and the same end. The outside's own names, interrupt and register are as they were, and its globals are overlaid by

@@ -4,7 +4,7 @@ ghost use Rattle.std.specs.Prelude.{◌≡◌, IfOk};
 ghost use Rattle.liquid_value.specs.meaning.View.{view as tree_of};
 ghost use Rattle.liquid_runtime.specs.meaning.Maps.{names_of};
 
-use liquid_value::{Object, Value};
+use liquid_core::{Object, Value};
 use std::alloc::{AllocError, Global};
 
 /// Gives a name this value.

@@ -9,10 +9,9 @@ use crate::asked::{TOKEN_EXPECTED, alone};
 use crate::partial_call::call::Inclusion;
 use crate::partial_call::read_call::read_call;
 use crate::tags::TagNode;
-use liquid_error::Error;
-use liquid_parser::{ParseTag, TagReflection, TagTokenIter};
-use liquid_plugins::{Filter, ParseFilter, PluginRegistry};
-use liquid_runtime::Interrupt;
+use liquid_core::parser::PluginRegistry;
+use liquid_core::runtime::Interrupt;
+use liquid_core::{Error, Filter, ParseFilter, ParseTag, TagReflection, TagTokenIter};
 use std::alloc::Global;
 
 /// The tags of the library.

@@ -5,12 +5,9 @@ ghost use Rattle.liquid_tags.specs.laws.TagLaws.{tags_hide};
 use crate::assign::assign;
 use crate::increment::increment;
 use crate::partial_call::call::{Call, Inclusion, included};
-use liquid_error::Error;
-use liquid_plugins::{
-    Bytes, ChainMark, Discreet, ExpressionMark, Filter, FilterChain, ListOf, Meant, Renderable,
-    Turn,
-};
-use liquid_runtime::{Fresh, Interrupt, Runtime};
+use liquid_core::parser::{Bytes, ChainMark, FilterChain, ListOf, Meant};
+use liquid_core::runtime::{ExpressionMark, Interrupt};
+use liquid_core::{Discreet, Error, Filter, Fresh, Renderable, Runtime, Turn};
 use std::alloc::Global;
 
 /// What a tag is made into, over filters `X`.

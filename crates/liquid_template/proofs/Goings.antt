@@ -157,8 +157,9 @@ module _ {Reg F T P B Q : Type 0} (s : Setting Reg F T P B Q) (depth : ℕ) wher
               fails = λ parts k d x e one. first parts k x d (Err e) (turn_fails s (partials_at s depth) m n parts k p q v v1 x b d (body_turn place frame trace) e tt a written progress same (turn_bodies s (partials_at s depth) parts place frame trace v1 x b d (Err e) one));
             }
 
-            pub body_ends : (place : ℕ) (e : Error) → (m.takes n p v).answer ≡ Ok (body_turn place frame trace) → told e ≡ None → w ≡ v1 → Ends s depth m n p q v w b0 b (Err e)
-            body_ends place e a h i = λ parts k. subst (λ x. RendersWithin (turns s (partials_at s depth) m n parts (suc k) p v) v b0 b x (Err e)) (sym i)
+            pub body_ends : (place : ℕ) (answer : Answer) → (m.takes n p v).answer ≡ Ok (body_turn place frame trace) → IsErrAnd answer (λ e. told e ≡ None) → w ≡ v1 → Ends s depth m n p q v w b0 b answer
+            body_ends place (Ok u) a h i = absurd h
+            body_ends place (Err e) a h i = λ parts k. subst (λ x. RendersWithin (turns s (partials_at s depth) m n parts (suc k) p v) v b0 b x (Err e)) (sym i)
                 (first parts k v1 b (Err e) (turn_fails s (partials_at s depth) m n parts k p q v v1 v1 b b (body_turn place frame trace) e tt a written progress same (turn_bodies s (partials_at s depth) parts place frame trace v1 v1 b b (Err e) (renders_memory (under s.fresh frame trace (part_at parts place) v1) v1 b e h))))
 
             -- the captured part's run, as it is under its frame
@@ -179,8 +180,9 @@ module _ {Reg F T P B Q : Type 0} (s : Setting Reg F T P B Q) (depth : ℕ) wher
                   (subst {A = Run Reg} (λ r. RendersWithin (silent r) v1 b d x (Err e)) (sym (captured_is parts place)) one));
             }
 
-            pub capture_ends : (place : ℕ) (e : Error) → (m.takes n p v).answer ≡ Ok (capture_turn place frame trace) → told e ≡ None → w ≡ v1 → Ends s depth m n p q v w b0 b (Err e)
-            capture_ends place e a h i = λ parts k. subst (λ x. RendersWithin (turns s (partials_at s depth) m n parts (suc k) p v) v b0 b x (Err e)) (sym i)
+            pub capture_ends : (place : ℕ) (answer : Answer) → (m.takes n p v).answer ≡ Ok (capture_turn place frame trace) → IsErrAnd answer (λ e. told e ≡ None) → w ≡ v1 → Ends s depth m n p q v w b0 b answer
+            capture_ends place (Ok u) a h i = absurd h
+            capture_ends place (Err e) a h i = λ parts k. subst (λ x. RendersWithin (turns s (partials_at s depth) m n parts (suc k) p v) v b0 b x (Err e)) (sym i)
                 (first parts k v1 b (Err e) (capture_fails s (partials_at s depth) m n parts place frame trace k p q v v1 v1 b b e a written progress same (renders_memory (silent (performed s (partials_at s depth) parts (capture_turn place frame trace) v1)) v1 b e h)))
 
             pub partial_opens : (name : List ℕ) (inner : Action Reg) (rs rs1 : List (Restore Reg)) → (m.takes n p v).answer ≡ Ok (partial_turn name frame trace) → partials_at s depth name ≡ inner → w ≡ beginning s.fresh frame v1 → rs1 ≡ restored_by frame v1 ∷ rs

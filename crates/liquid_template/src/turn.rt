@@ -7,7 +7,7 @@ ghost use Rattle.liquid_template.specs.meaning.Partials.{partials_of};
 ghost use Rattle.liquid_template.specs.meaning.Runs.{setting};
 ghost use Rattle.liquid_template.specs.meaning.TemplateOf.{template_nodes};
 ghost use Rattle.liquid_template.specs.steps.Bound.{partials_size};
-ghost use Rattle.liquid_template.specs.steps.Going.{Turned, Small, Finds, PartialOpens};
+ghost use Rattle.liquid_template.specs.steps.Going.{Turned, Small, Finds, FrameBegins, PartialOpens};
 ghost use Rattle.liquid_template.specs.steps.Keeps.{Keeps};
 ghost use Rattle.liquid_template.specs.steps.Place.{target, around};
 
@@ -69,49 +69,65 @@ where
         refuse(answer, stopped_error(alloc));
         return Step::Stop;
     }
-    let turn = match node.turn(alloc, &mut going.progress, scopes) {
-        Ok(turn) => turn,
+    let kept = &mut going.trace;
+    match node.turn(alloc, &mut going.progress, scopes) {
         Err(error) => {
             refuse(answer, error);
-            return Step::Stop;
+            Step::Stop
         }
-    };
-    match turn {
-        Turn::Text(text) => {
+        Ok(Turn::End) => Step::Stop,
+        Ok(Turn::Text(text)) => {
             out.put(alloc, text.as_str(), answer);
             match answer {
                 Ok(()) => Step::Next,
                 Err(_) => Step::Stop,
             }
         }
-        Turn::Body(place, frame, trace) => match scopes.push(frame) {
-            Ok(()) => {
-                keep_trace(&mut going.trace, trace);
-                Step::Part(place)
-            }
-            Err(error) => {
-                refuse(answer, error);
-                Step::Stop
-            }
+        Ok(Turn::Body(place, frame, trace)) => match begin(frame, trace, kept, scopes, answer) {
+            true => Step::Part(place),
+            false => Step::Stop,
         },
-        Turn::Capture(place, frame, trace) => match scopes.push(frame) {
-            Ok(()) => {
-                keep_trace(&mut going.trace, trace);
-                Step::Captured(place)
-            }
-            Err(error) => {
-                refuse(answer, error);
-                Step::Stop
-            }
+        Ok(Turn::Capture(place, frame, trace)) => match begin(frame, trace, kept, scopes, answer) {
+            true => Step::Captured(place),
+            false => Step::Stop,
         },
-        Turn::Partial(name, frame, trace) => {
-            let kept = &mut going.trace;
+        Ok(Turn::Partial(name, frame, trace)) => {
             match partial_opened(alloc, &name, frame, trace, kept, depth, scopes, answer) {
                 Some(template) => Step::Partial(template),
                 None => Step::Stop,
             }
         }
-        Turn::End => Step::Stop,
+    }
+}
+
+/// Begins the frame of a part, keeps the part's trace, and returns true. Out of memory, it returns false: `answer` is
+/// the error, and no frame has begun.
+#[inline(always)]
+fn begin<S>(
+    frame: Frame,
+    trace: Option<String>,
+    kept: &mut Option<String>,
+    scopes: &mut S,
+    answer: &mut Result<(), Error>,
+) -> bool
+where
+    S: Scopes,
+    requires { IsOk answer.old }
+    ensures begins { FrameBegins S.Register.fresh (frame_of frame) (option_map (λ s. string_bytes s) trace)
+        (S.view scopes.old) (S.view scopes.new) (S.restores scopes.old) (S.restores scopes.new)
+        answer.new (option_map (λ s. string_bytes s) kept.new) result }
+    ensures store { S.store scopes.new ≡ S.store scopes.old }
+    ensures borrows { S.lent scopes.new ≡ S.lent scopes.old }
+{
+    match scopes.push(frame) {
+        Ok(()) => {
+            keep_trace(kept, trace);
+            true
+        }
+        Err(error) => {
+            refuse(answer, error);
+            false
+        }
     }
 }
 

@@ -9,10 +9,10 @@ ghost use Rattle.std_conditions.specs.meaning.Conditions.{condition_of};
 ghost use Rattle.std_conditions.specs.meaning.Values.{expressions_of};
 
 use crate::condition::{Condition, holds};
-use liquid_error::Error;
-use liquid_plugins::{Expression, ExpressionMark, ListOf, Meant};
-use liquid_runtime::Runtime;
-use liquid_value::{Value, ValueViewCmp};
+use liquid_core::model::ValueViewCmp;
+use liquid_core::parser::{ListOf, Meant};
+use liquid_core::runtime::ExpressionMark;
+use liquid_core::{Error, Expression, Runtime, Value};
 use std::alloc::Global;
 
 /// The value of a `case`, and the alternatives of each `when`.

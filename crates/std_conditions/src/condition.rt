@@ -5,12 +5,11 @@ ghost use Rattle.liquid_value.specs.meaning.View.{view as tree_of};
 ghost use Rattle.std_conditions.specs.meaning.Conditions.{condition_of, decides, holds, joined_of, passes, test_holds, test_of};
 
 use crate::contained::contains;
-use liquid_error::Error;
-use liquid_plugins::{Expression, ExpressionMark, ListOf, Meant};
-use liquid_runtime::Runtime;
+use liquid_core::parser::{ListOf, Meant};
+use liquid_core::runtime::ExpressionMark;
+use liquid_core::{Error, Expression, Runtime, Value};
 use liquid_tags::Comparison;
 use liquid_tags::if_block::condition::{compares, is_truthy};
-use liquid_value::Value;
 use std::alloc::{AllocError, Global};
 
 /// An operator between two values.

@@ -4,8 +4,8 @@ ghost use Rattle.liquid_value.specs.meaning.Members.{get_member};
 ghost use Rattle.liquid_value.specs.meaning.View.{view as tree_of, items_view, members_view};
 ghost use Rattle.std_conditions.specs.meaning.Contained.{contains, contains_value, has_item, occurs_in};
 
-use liquid_scalar::ScalarOf;
-use liquid_value::{Array, Object, Value};
+use liquid_core::model::{Array, ScalarOf};
+use liquid_core::{Object, Value};
 use memchr::memmem;
 use std::alloc::{AllocError, Global};
 

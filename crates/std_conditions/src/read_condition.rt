@@ -9,8 +9,8 @@ ghost use Rattle.std_conditions.specs.meaning.ConditionsGiven.{after_test, condi
 ghost use Rattle.std_conditions.specs.steps.Tests.{TakesIf, operator_in, test_given};
 
 use crate::condition::{Condition, Connective, Operator, Test};
-use liquid_error::Error;
-use liquid_parser::{TagToken, TagTokenIter};
+use liquid_core::parser::TagToken;
+use liquid_core::{Error, TagTokenIter};
 use liquid_tags::asked::TOKEN_EXPECTED;
 use liquid_tags::if_block::read_condition::comparison_of;
 use std::alloc::Global;

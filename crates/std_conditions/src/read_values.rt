@@ -7,9 +7,8 @@ ghost use Rattle.liquid_parser.specs.meaning.Handed.{Token, Tokens, or_unexpecte
 ghost use Rattle.liquid_parser.specs.meaning.Plugins.{AreTokens};
 ghost use Rattle.std_conditions.specs.meaning.Values.{expect_one_of, expressions_of, values_given};
 
-use liquid_error::Error;
-use liquid_parser::{TagToken, TagTokenIter};
-use liquid_plugins::Expression;
+use liquid_core::parser::TagToken;
+use liquid_core::{Error, Expression, TagTokenIter};
 use liquid_tags::asked::TOKEN_EXPECTED;
 use std::alloc::Global;
 

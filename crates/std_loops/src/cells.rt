@@ -8,7 +8,7 @@ ghost use Rattle.liquid_tags.specs.meaning.Loops.{forloop_members};
 ghost use Rattle.std_loops.specs.meaning.Cells.{begins, cell_members, column_at, next_cell, next_row, opens_cell, row_at, tablerowloop};
 ghost use Rattle.std_loops.specs.meaning.Cells.{text_between};
 
-use liquid_value::{Object, SharedObject, Value};
+use liquid_core::{Object, SharedObject, Value};
 use std::alloc::{AllocError, Global};
 
 /// Returns the number of the row of the item at a place, from 1. Places count from 0; without columns there is one row.

@@ -6,9 +6,8 @@ ghost use Rattle.std_loops.specs.meaning.Picked.{picked_left};
 
 use crate::options::{Options, OptionsShape, option_number};
 use crate::picked::Picked;
-use liquid_error::Error;
-use liquid_plugins::{Bytes, Meant};
-use liquid_runtime::Runtime;
+use liquid_core::parser::{Bytes, Meant};
+use liquid_core::{Error, Runtime};
 use liquid_tags::Series;
 use liquid_tags::for_block::series::{SeriesShape, items_of};
 use std::alloc::Global;

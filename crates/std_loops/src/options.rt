@@ -5,10 +5,9 @@ ghost use Rattle.liquid_value.specs.meaning.View.{view as tree_of};
 ghost use Rattle.liquid_plugins.specs.meaning.ExpressionOf.{expression_of};
 ghost use Rattle.std_loops.specs.meaning.Options.{number_given, option_number, options_of};
 
-use liquid_error::Error;
-use liquid_plugins::{Expression, ExpressionMark, Meant};
-use liquid_runtime::Runtime;
-use liquid_value::Value;
+use liquid_core::parser::Meant;
+use liquid_core::runtime::ExpressionMark;
+use liquid_core::{Error, Expression, Runtime, Value};
 use std::alloc::{AllocError, Global};
 use std_values::numbers::whole;
 

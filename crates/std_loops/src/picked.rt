@@ -4,8 +4,8 @@ ghost use Rattle.liquid_value.specs.meaning.View.{view as tree_of};
 ghost use Rattle.liquid_tags.specs.meaning.Items.{items_left};
 ghost use Rattle.std_loops.specs.meaning.Picked.{natural, picked, picked_left};
 
+use liquid_core::Value;
 use liquid_tags::Items;
-use liquid_value::Value;
 use std::alloc::AllocError;
 
 /// The items that a loop has left: those from one place up to another.

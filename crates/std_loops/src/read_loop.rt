@@ -13,9 +13,8 @@ ghost use Rattle.std_loops.specs.steps.Reading.{argument_given, option_given};
 
 use crate::loops::Loop;
 use crate::options::{LoopBlock, LoopOption, Options};
-use liquid_error::Error;
-use liquid_parser::{TagToken, TagTokenIter, TryMatchToken};
-use liquid_plugins::Expression;
+use liquid_core::parser::{TagToken, TryMatchToken};
+use liquid_core::{Error, Expression, TagTokenIter};
 use liquid_tags::asked::TOKEN_EXPECTED;
 use liquid_tags::block_plugins::next_series;
 use std::alloc::{AllocError, Global};

@@ -9,13 +9,12 @@ ghost use Rattle.std_loops.specs.meaning.Loops.{rounds_of, rounds_over};
 ghost use Rattle.std_loops.specs.meaning.Picked.{picked_left};
 
 use crate::picked::Picked;
-use liquid_error::Error;
-use liquid_plugins::{Meant, Turn};
-use liquid_runtime::{Interrupt, Runtime};
+use liquid_core::parser::Meant;
+use liquid_core::runtime::Interrupt;
+use liquid_core::{Error, Object, Runtime, Turn, Value};
 use liquid_tags::for_block::kept::Kept;
 use liquid_tags::for_block::rounds::RoundsShape;
 use liquid_tags::for_block::turns::item_turn;
-use liquid_value::{Object, Value};
 use std::alloc::{AllocError, Global};
 use std::mem;
 

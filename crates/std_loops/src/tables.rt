@@ -17,13 +17,11 @@ use crate::cells::{tablerowloop, text_between};
 use crate::loops::{Loop, picked_items};
 use crate::options::option_number;
 use crate::picked::{Picked, natural};
-use liquid_error::Error;
-use liquid_plugins::{ListOf, Meant, TreeMark, Turn};
-use liquid_runtime::names::no_names;
-use liquid_runtime::{Frame, Interrupt, Runtime};
+use liquid_core::parser::{ListOf, Meant, TreeMark};
+use liquid_core::runtime::Interrupt;
+use liquid_core::{Error, Frame, Object, Runtime, Turn, Value, no_names};
 use liquid_tags::Series;
 use liquid_tags::names::bind;
-use liquid_value::{Object, Value};
 use std::alloc::{AllocError, Global};
 
 /// What comes next in a table.

@@ -6,9 +6,7 @@ ghost use Rattle.liquid_plugins.specs.meaning.TurnOf.{turn_of, Leaves, LeavesPro
 ghost use Rattle.std_marks.specs.meaning.Changes.{changes};
 
 use crate::holder::HoldsMarks;
-use liquid_error::Error;
-use liquid_plugins::Turn;
-use liquid_runtime::{Frame, Runtime};
+use liquid_core::{Error, Frame, Runtime, Turn};
 use std::mem;
 
 /// Captures the part in the first turn, and writes its text in the second, unless it is that of the last `ifchanged`.

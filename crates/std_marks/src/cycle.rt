@@ -9,10 +9,10 @@ ghost use Rattle.std_marks.specs.meaning.Cycles.{cycle_of, cycles, next_place, t
 
 use crate::groups::{Group, GroupShape, key_in};
 use crate::holder::HoldsMarks;
-use liquid_error::Error;
-use liquid_plugins::{Expression, ExpressionMark, ListOf, Meant, Turn};
-use liquid_runtime::Runtime;
-use liquid_value::render::ValueRender;
+use liquid_core::model::ValueRender;
+use liquid_core::parser::{ListOf, Meant};
+use liquid_core::runtime::ExpressionMark;
+use liquid_core::{Error, Expression, Runtime, Turn};
 use std::alloc::Global;
 
 /// A `cycle`: its group and its values.

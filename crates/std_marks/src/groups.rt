@@ -6,11 +6,10 @@ ghost use Rattle.liquid_plugins.specs.meaning.ExpressionOf.{expression_of};
 ghost use Rattle.std_values.specs.meaning.Errors.{found_error};
 ghost use Rattle.std_marks.specs.meaning.Groups.{displayed, group_key, group_of, key_in, named, named_key, unnamed, with_length};
 
-use liquid_error::Error;
-use liquid_plugins::{Bytes, Expression, ExpressionMark, Meant};
-use liquid_runtime::Runtime;
-use liquid_value::Value;
-use liquid_value::render::ValueSource;
+use liquid_core::model::ValueSource;
+use liquid_core::parser::{Bytes, Meant};
+use liquid_core::runtime::ExpressionMark;
+use liquid_core::{Error, Expression, Runtime, Value};
 use std::alloc::{AllocError, Global};
 
 /// The group of a `cycle`. The tags of a group share a place.

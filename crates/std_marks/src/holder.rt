@@ -4,7 +4,7 @@ ghost use Rattle.std_marks.specs.meaning.Held.{marks_alone, KeepsMarks, MarksIn}
 ghost use Rattle.std_marks.specs.meaning.Marks.{marks_of, with_last, with_place};
 
 use crate::marks::Marks;
-use liquid_runtime::Fresh;
+use liquid_core::Fresh;
 use std::alloc::{AllocError, Global};
 
 /// A register that holds marks, so that a template over it may use `cycle` and `ifchanged`.

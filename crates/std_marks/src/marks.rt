@@ -3,8 +3,8 @@ ghost use Rattle.std.specs.Prelude.{◌≡◌, string_bytes, OnOk};
 ghost use Rattle.std_marks.specs.meaning.Marks.{is_last, marks_of, no_marks, place_of, with_last, with_place};
 
 use crate::places::Places;
-use liquid_plugins::Bytes;
-use liquid_runtime::Fresh;
+use liquid_core::Fresh;
+use liquid_core::parser::Bytes;
 use std::alloc::{AllocError, Global};
 
 /// The marks of `cycle` and `ifchanged`: the place of each group, and the text of the last `ifchanged`.

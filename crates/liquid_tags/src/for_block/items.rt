@@ -7,7 +7,7 @@ ghost use Rattle.liquid_value.specs.meaning.View.{array_view};
 ghost use Rattle.liquid_tags.specs.meaning.Series.{counted, trees};
 ghost use Rattle.liquid_tags.specs.meaning.Items.{items_left};
 
-use liquid_value::{SharedArray, Value};
+use liquid_core::{SharedArray, Value};
 use std::alloc::AllocError;
 
 /// The items that a loop has left.

@@ -5,8 +5,8 @@ ghost use Rattle.liquid_value.specs.meaning.View.{view, object_view, members_vie
 ghost use Rattle.liquid_tags.specs.meaning.Loops.{forloop, forloop_members};
 ghost use Rattle.liquid_tags.specs.steps.Forloops.{AreNumbers, IsForloop, flag_at, next_place, number_at, written, written_over};
 
-use liquid_scalar::Scalar;
-use liquid_value::{Object, SharedObject, Value};
+use liquid_core::model::Scalar;
+use liquid_core::{Object, SharedObject, Value};
 use std::alloc::{AllocError, Global};
 use std::marker::Model;
 

@@ -3,8 +3,8 @@ ghost use Rattle.liquid_tags.specs.meaning.Loops.{rounds_of};
 
 use crate::for_block::items::Items;
 use crate::for_block::kept::Kept;
-use liquid_plugins::{ListOf, Meant, TreeMark};
-use liquid_value::Object;
+use liquid_core::Object;
+use liquid_core::parser::{ListOf, Meant, TreeMark};
 
 /// The items that a loop has left, the place of the first of them, how many items there were, and how many turns there
 /// are: one for each item, and one after the last. In addition, the object `forloop` and the names of the frame of the

@@ -13,11 +13,10 @@ ghost use Rattle.liquid_tags.specs.meaning.Series.{expected, items_between, item
 ghost use Rattle.liquid_tags.specs.meaning.Series.{series_of, trees, whole_number};
 
 use crate::for_block::items::Items;
-use liquid_error::Error;
-use liquid_plugins::{Expression, ExpressionMark, Meant};
-use liquid_runtime::Runtime;
-use liquid_value::render::ValueSource;
-use liquid_value::{Array, Object, SharedArray, Value, ValueCow};
+use liquid_core::model::{Array, ValueSource};
+use liquid_core::parser::Meant;
+use liquid_core::runtime::ExpressionMark;
+use liquid_core::{Error, Expression, Object, Runtime, SharedArray, Value, ValueCow};
 use std::alloc::{AllocError, Global};
 
 /// A value, or the numbers of a range.

@@ -11,11 +11,8 @@ ghost use Rattle.liquid_tags.specs.steps.Reuse.{IsWritten, Writes};
 use crate::for_block::kept::Kept;
 use crate::for_block::rounds::Rounds;
 use crate::names::bind;
-use liquid_error::Error;
-use liquid_plugins::Turn;
-use liquid_runtime::names::no_names;
-use liquid_runtime::{Frame, Interrupt, Runtime};
-use liquid_value::{Object, Value};
+use liquid_core::runtime::Interrupt;
+use liquid_core::{Error, Frame, Object, Runtime, Turn, Value, no_names};
 use std::alloc::{AllocError, Global};
 use std::mem;
 

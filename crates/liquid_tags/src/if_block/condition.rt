@@ -5,10 +5,10 @@ ghost use Rattle.liquid_value.specs.meaning.Cow.{cow_view};
 ghost use Rattle.liquid_value.specs.meaning.View.{view as tree_of};
 ghost use Rattle.liquid_tags.specs.meaning.Conditions.{chosen, compares, condition_of, holds, is_ordered, is_truthy};
 
-use liquid_error::Error;
-use liquid_plugins::{Expression, ExpressionMark, Meant};
-use liquid_runtime::Runtime;
-use liquid_value::{State, Value, ValueCow, ValueViewCmp};
+use liquid_core::model::{State, ValueViewCmp};
+use liquid_core::parser::Meant;
+use liquid_core::runtime::ExpressionMark;
+use liquid_core::{Error, Expression, Runtime, Value, ValueCow};
 use std::alloc::Global;
 use std::cmp::Ordering;
 

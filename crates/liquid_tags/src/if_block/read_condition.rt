@@ -9,9 +9,7 @@ ghost use Rattle.liquid_tags.specs.meaning.ConditionsGiven.{behind_value, compar
 
 use crate::asked::{TOKEN_EXPECTED, alone};
 use crate::if_block::condition::{Comparison, Condition};
-use liquid_error::Error;
-use liquid_parser::TagTokenIter;
-use liquid_plugins::Expression;
+use liquid_core::{Error, Expression, TagTokenIter};
 use std::alloc::Global;
 
 /// Returns the condition that all tokens make.

@@ -10,11 +10,7 @@ ghost use Rattle.liquid_tags.specs.meaning.Partials.{bound, included, inclusion_
 
 use crate::for_block::series::expected;
 use crate::names::bind;
-use liquid_error::Error;
-use liquid_plugins::{Expression, Turn};
-use liquid_runtime::names::no_names;
-use liquid_runtime::{Frame, Runtime};
-use liquid_value::{Object, Value};
+use liquid_core::{Error, Expression, Frame, Object, Runtime, Turn, Value, no_names};
 use std::alloc::{AllocError, Global};
 
 /// What the partial sees: its pairs and the names around it, or only its pairs.

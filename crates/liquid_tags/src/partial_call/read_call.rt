@@ -9,9 +9,8 @@ ghost use Rattle.liquid_tags.specs.meaning.CallsGiven.{call_given, comma, pair_g
 
 use crate::asked::TOKEN_EXPECTED;
 use crate::partial_call::call::Call;
-use liquid_error::Error;
-use liquid_parser::{TagToken, TagTokenIter};
-use liquid_plugins::Expression;
+use liquid_core::parser::TagToken;
+use liquid_core::{Error, Expression, TagTokenIter};
 use std::alloc::Global;
 
 /// Returns the call that all tokens make.

@@ -128,3 +128,9 @@ module _ {Reg F T P B Q : Type 0} (s : Setting Reg F T P B Q) (depth : ℕ) {A :
       × IsOk answer
   PartialOpens frame trace v w rs rs1 answer kept None =
       (rs1 ≡ rs) × IsErrAnd answer (λ e. (b : Output) → RendersWithin (under s.fresh frame trace (partials_at s depth name) v) v b b w (Err e))
+
+-- the frame of a part has begun, with the part's trace kept; or out of memory is the answer, and no frame has begun
+abbrev pub FrameBegins : {Reg : Type 0} → Reg → FrameShape → Option (List ℕ) → View Reg → View Reg → List (Restore Reg) → List (Restore Reg)
+    → Answer → Option (List ℕ) → Bool → Type 0
+FrameBegins fresh frame trace v w rs rs1 answer kept true = (w ≡ beginning fresh frame v) × (rs1 ≡ restored_by frame v ∷ rs) × (kept ≡ trace) × IsOk answer
+FrameBegins fresh frame trace v w rs rs1 answer kept false = (w ≡ v) × (rs1 ≡ rs) × IsErrAnd answer (λ e. told e ≡ None)

@@ -6,6 +6,7 @@ use Rattle.liquid_partials.specs.meaning.Sources.{Texts}
 use Rattle.liquid_plugins.specs.meaning.Registry.{by_name}
 use Rattle.liquid.specs.meaning.Gathered.{WithFiles, WithFolder}
 use Rattle.liquid.specs.steps.Steps.{Stops, Brings}
+use Rattle.liquid.proofs.EndingLemmas.{unwrapped}
 use Rattle.liquid.proofs.FolderLemmas.{folder_read, folder_stops}
 use Rattle.liquid.proofs.GatheredLemmas.{Files}
 use Rattle.liquid.proofs.gather.partials_in.Goals as goal
@@ -23,4 +24,4 @@ pub returns-clause-partials : goal.returns-clause-partials
 returns-clause-partials g c =
     let ending = option_map (λ e. e.now) c.args.ending in
     folder_read (g.F.Folder.known c.args.files.now) c.args.folder.now ending (g.F.Folder.listed c.args.files.now (is_some ending) c.args.folder.now) c.in_ok-names.names _ _ c.in_ok-names.ensures.names
-    (subst (λ (k : Files). WithFiles k c.args.folder.now (unwrap_or ending []) (keys (by_name c.in_ok-names.names)) empty (Stops c.texts_of.result) (λ texts. Brings (λ (s : Texts). s) texts c.texts_of.result)) c.names_in.ensures.same (rw c.ending_text.ensures at c.texts_of.ensures.texts))
+    (subst (λ (k : Files). WithFiles k c.args.folder.now (unwrap_or ending []) (keys (by_name c.in_ok-names.names)) empty (Stops c.texts_of.result) (λ texts. Brings (λ (s : Texts). s) texts c.texts_of.result)) c.names_in.ensures.same (rw (unwrapped c.args.ending _ _ c.unwrap_or.ensures (search rules)) at c.texts_of.ensures.texts))
