@@ -13,4 +13,4 @@ pub returns-in_err-operator-clause-value : goal.returns-in_err-operator-clause-v
 returns-in_err-operator-clause-value c ts at =
     let given = c.in_ok-token.ensures.value ts at in
     let fails = ap operator_of (sym (c.as_str.ensures given.0.0 given.2.token_is)) ∙ sym c.in_err-operator.ensures in
-    rw c.from_residual.ensures (no_operator ts given.0 given.1 fails, at)
+    rw c.from_residual-in_err-operator.ensures (no_operator ts given.0 given.1 fails, at)

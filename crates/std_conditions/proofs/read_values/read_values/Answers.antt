@@ -51,5 +51,5 @@ values-preserved c ts at =
       taken.2,
       value_read (map (λ s. s.now) c.args.separators.now) (expressions_of c.values.values) _ so_far.0.left given.0 (expression_of c.in_ok-value.value) taken.0 tt _
           so_far.2 given.1 (c.in_ok-read_one_of.ensures given.0.0 given.2.token_is) taken.1
-          (ap (map expression_of) c.in_ok-push-in-Some.ensures.items ∙ map-append expression_of c.values.values.items (c.in_ok-value.value ∷ [])),
+          (ap (map expression_of) c.in_ok-push-2.ensures.items ∙ map-append expression_of c.values.values.items (c.in_ok-value.value ∷ [])),
     )
