@@ -190,13 +190,9 @@ impl<F: ParseFilter> ParseBlock<F> for StdBlocks {
             return Err(tokens.raise_error(alloc, "Divider after else"));
         }
         if name == "else" {
-            return match tokens.expect_nothing(alloc) {
-                Ok(()) => {
-                    plan.is_closed = true;
-                    Ok(())
-                }
-                Err(error) => Err(error),
-            };
+            tokens.expect_nothing(alloc)?;
+            plan.is_closed = true;
+            return Ok(());
         }
         divide_node(alloc, &mut plan.node, tokens)
     }

@@ -48,19 +48,13 @@ fn take_name<'a>(tokens: &mut TagTokenIter<'a>) -> Option<TagToken<'a>>
     ensures { (ts : Tokens) → AreTokens tokens.old ts → HandsOut result tokens.new ts (name_in ts) }
 {
     let mut rest = *tokens;
-    match rest.next() {
-        Some(name) => match rest.next() {
-            Some(colon) => {
-                if colon.as_str() == ":" {
-                    *tokens = rest;
-                    Some(name)
-                } else {
-                    None
-                }
-            }
-            None => None,
-        },
-        None => None,
+    let name = rest.next()?;
+    let colon = rest.next()?;
+    if colon.as_str() == ":" {
+        *tokens = rest;
+        Some(name)
+    } else {
+        None
     }
 }
 
@@ -69,16 +63,12 @@ fn read_named(alloc: Global, name: TagToken<'_>, tokens: TagTokenIter<'_>) -> Re
     ensures { (t : Token) → IsToken name.entry t → (ts : Tokens) → AreTokens tokens.entry ts
         → Gives cycle_of result (named_given t ts) }
 {
-    match name.expect_value(alloc)?.into_result(alloc) {
-        Ok(name) => match read_values(alloc, tokens, &SEPARATORS) {
-            Ok(values) => Ok(Cycle {
-                group: Group::Named(name),
-                values,
-            }),
-            Err(error) => Err(error),
-        },
-        Err(error) => Err(error),
-    }
+    let name = name.expect_value(alloc)?.into_result(alloc)?;
+    let values = read_values(alloc, tokens, &SEPARATORS)?;
+    Ok(Cycle {
+        group: Group::Named(name),
+        values,
+    })
 }
 
 /// Reads the values of a `cycle` without a name.

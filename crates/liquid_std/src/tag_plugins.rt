@@ -54,10 +54,7 @@ impl<F: ParseFilter> ParseTag<F> for StdTags {
         filters: &PluginRegistry<F>,
     ) -> Result<StdTag<F::Filter>, Error> {
         match self {
-            StdTags::Library(tag) => match tag.parse(alloc, tokens, filters) {
-                Ok(node) => Ok(StdTag::Library(node)),
-                Err(error) => Err(error),
-            },
+            StdTags::Library(tag) => Ok(StdTag::Library(tag.parse(alloc, tokens, filters)?)),
             StdTags::Decrement => parse_decrement(alloc, tokens),
             StdTags::Echo => parse_echo(alloc, tokens, filters),
             StdTags::Cycle => parse_cycle(alloc, tokens),

@@ -16,17 +16,15 @@ use liquid_tags::if_block::read_condition::comparison_of;
 use std::alloc::Global;
 use std::mem;
 
-/// Reads a condition from all tokens.
+/// Reads all tokens as a condition.
 ///
 /// A missing value is an `Err`, "Token expected". A token that does not fit is an `Err` too, "Unexpected token".
 pub fn read_condition(alloc: Global, tokens: TagTokenIter<'_>) -> Result<Condition, Error>
     ensures { (ts : Tokens) → AreTokens tokens.entry ts → Gives condition_of result (condition_given ts) }
 {
     let mut tokens = tokens;
-    match next_test(alloc, &mut tokens) {
-        Ok(first) => read_joined(alloc, first, tokens),
-        Err(error) => Err(error),
-    }
+    let first = next_test(alloc, &mut tokens)?;
+    read_joined(alloc, first, tokens)
 }
 
 /// Reads the rest of a condition, after its first test.
@@ -37,13 +35,9 @@ fn read_joined(alloc: Global, first: Test, tokens: TagTokenIter<'_>) -> Result<C
     let mut joined = Vec::new(alloc);
     let mut last = first;
     'tests: while let Some(token) = tokens.next() {
-        match read_connective(alloc, token) {
-            Ok(connective) => match next_test(alloc, &mut tokens) {
-                Ok(test) => joined.push((mem::replace(&mut last, test), connective))?,
-                Err(error) => return Err(error),
-            },
-            Err(error) => return Err(error),
-        }
+        let connective = read_connective(alloc, token)?;
+        let test = next_test(alloc, &mut tokens)?;
+        joined.push((mem::replace(&mut last, test), connective))?;
     }
     Ok(Condition { joined, last })
 }
@@ -63,15 +57,13 @@ fn next_test(alloc: Global, tokens: &mut TagTokenIter<'_>) -> Result<Test, Error
     ensures value { (ts : Tokens) → AreTokens tokens.old ts → Takes test_of result tokens.new (test_given ts) }
     ensures shorter { IfOk result (λ test. bytes_left tokens.new < bytes_left tokens.old) }
 {
-    match tokens.next_value(alloc, TOKEN_EXPECTED) {
-        Ok(left) => match next_operator(tokens) {
-            Some(operator) => match tokens.next_value(alloc, TOKEN_EXPECTED) {
-                Ok(right) => Ok(Test::Passes(left, operator, right)),
-                Err(error) => Err(error),
-            },
-            None => Ok(Test::Holds(left)),
-        },
-        Err(error) => Err(error),
+    let left = tokens.next_value(alloc, TOKEN_EXPECTED)?;
+    match next_operator(tokens) {
+        Some(operator) => {
+            let right = tokens.next_value(alloc, TOKEN_EXPECTED)?;
+            Ok(Test::Passes(left, operator, right))
+        }
+        None => Ok(Test::Holds(left)),
     }
 }
 
@@ -81,16 +73,10 @@ fn next_operator(tokens: &mut TagTokenIter<'_>) -> Option<Operator>
     ensures shorter { bytes_left tokens.new ≤ bytes_left tokens.old }
 {
     let mut rest = *tokens;
-    match rest.next() {
-        Some(token) => match operator_of(token.as_str()) {
-            Some(operator) => {
-                *tokens = rest;
-                Some(operator)
-            }
-            None => None,
-        },
-        None => None,
-    }
+    let token = rest.next()?;
+    let operator = operator_of(token.as_str())?;
+    *tokens = rest;
+    Some(operator)
 }
 
 fn operator_of(text: &str) -> Option<Operator>
@@ -99,10 +85,8 @@ fn operator_of(text: &str) -> Option<Operator>
     if text == "contains" {
         return Some(Operator::Contains);
     }
-    match comparison_of(text) {
-        Some(comparison) => Some(Operator::Compares(comparison)),
-        None => None,
-    }
+    let comparison = comparison_of(text)?;
+    Some(Operator::Compares(comparison))
 }
 
 fn connective_of(text: &str) -> Option<Connective>

@@ -12,7 +12,7 @@ use liquid_core::{Error, Expression, TagTokenIter};
 use liquid_tags::asked::TOKEN_EXPECTED;
 use std::alloc::Global;
 
-/// Reads values from all tokens, with one of the separators between each two of them.
+/// Reads all tokens as values, each two of them separated by one of the separators.
 ///
 /// A missing value is an `Err`, "Token expected". A token that does not fit is an `Err` too, "Unexpected token".
 pub fn read_values(
@@ -25,18 +25,12 @@ pub fn read_values(
 {
     let mut tokens = tokens;
     let mut values = Vec::new(alloc);
-    match tokens.next_value(alloc, TOKEN_EXPECTED) {
-        Ok(value) => values.push(value)?,
-        Err(error) => return Err(error),
-    }
+    let first = tokens.next_value(alloc, TOKEN_EXPECTED)?;
+    values.push(first)?;
     'values: while let Some(token) = tokens.next() {
-        match read_one_of(alloc, token, separators) {
-            Ok(()) => match tokens.next_value(alloc, TOKEN_EXPECTED) {
-                Ok(value) => values.push(value)?,
-                Err(error) => return Err(error),
-            },
-            Err(error) => return Err(error),
-        }
+        read_one_of(alloc, token, separators)?;
+        let value = tokens.next_value(alloc, TOKEN_EXPECTED)?;
+        values.push(value)?;
     }
     Ok(values)
 }

@@ -21,7 +21,7 @@ pub struct CallArguments<'c> {
 }
 
 impl<'c> CallArguments<'c> {
-    /// Returns the value that is given by this keyword, if one is.
+    /// Returns the value that this keyword has, if it is given.
     pub fn keyword(&self, name: &str) -> Option<&Value>
         ensures { option_map (λ v. tree_of v.now) result ≡ keyword_of name.now (given self.now).keyword }
     {
@@ -42,7 +42,7 @@ fn find_keyword<'v>(given: &'v [(&str, ValueCow<'_>)], name: &str) -> Option<&'v
     }
 }
 
-/// Returns the values of the expressions, from left to right, or the first error.
+/// Evaluates the expressions from left to right. Returns their values, or the first error.
 pub(crate) fn evaluate_all<'c, R: Runtime>(
     alloc: Global,
     expressions: &'c Vec<Expression>,
@@ -57,13 +57,14 @@ pub(crate) fn evaluate_all<'c, R: Runtime>(
     Ok(values)
 }
 
-/// Returns the values of the expressions, each under its keyword, from left to right, or the first error.
+/// Evaluates the expressions from left to right. Returns their values, each with its keyword, or the first error.
 pub(crate) fn evaluate_named<'c, R: Runtime>(
     alloc: Global,
     expressions: &'c Vec<(String, Expression)>,
     runtime: &'c R,
 ) -> Result<Vec<(&'c str, ValueCow<'c>)>, Error>
-    ensures { Gives (λ v. map named_tree v.items) result (evaluate_named (R.view runtime.now) (map named_expression expressions.now.items)) }
+    ensures { Gives (λ v. map named_tree v.items) result
+        (evaluate_named (R.view runtime.now) (map named_expression expressions.now.items)) }
 {
     let mut values = Vec::with_capacity(alloc, expressions.len())?;
     for (keyword, expression) in expressions {

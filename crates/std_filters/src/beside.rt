@@ -1,4 +1,4 @@
-//! The kinds of a library and a host's own kinds, as kinds of one table.
+//! The kinds of a library and a host's own kinds, in one table.
 ghost use Rattle.std_filters.specs.meaning.Registered.{sense_beside};
 
 use crate::arguments::CallArguments;
@@ -7,7 +7,7 @@ use liquid_error::Error;
 use liquid_value::Value;
 use std::alloc::Global;
 
-/// A kind of a library, or a host's own.
+/// A kind of a library, or one of a host's own.
 #[derive(Debug, Clone, Copy, Drop)]
 pub enum Beside<L, O> {
     Library(L),

@@ -17,7 +17,7 @@ use liquid_value::{Value, ValueCow};
 use std::alloc::Global;
 use std::slice;
 
-/// A filter of a chain, with the expressions of its arguments.
+/// A filter in a chain, with the expressions of its arguments.
 #[derive(Drop)]
 pub struct FilterCall<K> {
     pub kind: K,
@@ -56,7 +56,7 @@ impl<K: FilterKind> Filter for FilterCall<K> {
     }
 }
 
-/// Returns what a call makes of the input. Calls with one argument or none need no list.
+/// Applies a call to the input. A call without keywords and with at most one argument allocates no list of arguments.
 fn answer<K: FilterKind, R: Runtime>(
     call: &FilterCall<K>,
     alloc: Global,
@@ -92,7 +92,9 @@ fn answer_one<K: FilterKind, R: Runtime>(
     argument: &Expression,
     runtime: &R,
 ) -> Result<Value, Error>
-    ensures { Gives tree_of result (ok_then (evaluate (R.view runtime.now) (expression_of argument.now)) (λ t. (K.sense kind).answers (tree_of input.now) (alone (t ∷ [])))) }
+    ensures { Gives tree_of result
+        (ok_then (evaluate (R.view runtime.now) (expression_of argument.now))
+        (λ t. (K.sense kind).answers (tree_of input.now) (alone (t ∷ [])))) }
 {
     let value = argument.evaluate(alloc, runtime)?;
     let arguments = CallArguments {

@@ -15,8 +15,8 @@ use std::alloc::Global;
 use std_dates::{moment_of, pattern_error};
 use std_values::errors::unexpected_arguments;
 
-/// Prints the moment that the input means by the pattern. The input is returned if it means no moment, or if the
-/// pattern is empty.
+/// Formats the moment that the input means, by the pattern. Returns the input if it means no moment or if the pattern is
+/// empty.
 pub fn date(
     alloc: Global,
     now: Option<DateTime>,

@@ -94,7 +94,8 @@ fn push_member(
     member: &Value,
     out: &mut String,
 ) -> Result<(), AllocError>
-    ensures { OnOk result (string_bytes out.new ≡ string_bytes out.old ++ (comma later ++ (quoted name.now ++ (codes ":" ++ json_text (tree_of member.now))))) }
+    ensures { OnOk result (string_bytes out.new ≡ string_bytes out.old
+        ++ (comma later ++ (quoted name.now ++ (codes ":" ++ json_text (tree_of member.now))))) }
 {
     push_comma(later, out)?;
     push_text(alloc, name, out)?;

@@ -1,5 +1,5 @@
-//! The standard filters, by a table: each has a name, parameters and a function of values. A host adds its own filters
-//! as further rows.
+//! The standard filters, in a table: each row has a name, parameters and a function of values. A host adds its own
+//! filters as further rows.
 #![tactic(auto)]
 
 pub mod arguments;

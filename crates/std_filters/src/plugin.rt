@@ -1,6 +1,15 @@
 //! Kinds of filters as plug-ins, which make calls from arguments.
 ghost use Rattle.std.specs.Prelude.{◌≡◌, IfOk, length, map};
-ghost use Rattle.std_filters.specs.meaning.Calls.{accepts, call_made, is_among, is_given, named_expression, required, takes, takes_keywords};
+ghost use Rattle.std_filters.specs.meaning.Calls.{
+  accepts,
+  call_made,
+  is_among,
+  is_given,
+  named_expression,
+  required,
+  takes,
+  takes_keywords,
+};
 ghost use Rattle.liquid_plugins.specs.meaning.ArgumentsOf.{arguments_of};
 ghost use Rattle.liquid_plugins.specs.meaning.ExpressionOf.{expression_of};
 
@@ -83,7 +92,7 @@ fn takes(parameters: &[ParameterReflection], count: usize) -> bool
     required(parameters) <= count && count <= parameters.len()
 }
 
-/// Returns how many of the parameters are not optional.
+/// Returns the number of parameters that are not optional.
 fn required(parameters: &[ParameterReflection]) -> usize
     ensures { result ≡ required (map (λ p. p.is_optional) parameters.now) }
 {
@@ -96,7 +105,7 @@ fn required(parameters: &[ParameterReflection]) -> usize
     count
 }
 
-/// Returns `true` if each argument's name is a keyword, and none is given twice.
+/// Returns `true` if each argument has one of the keywords, and no two have the same.
 fn takes_keywords(keywords: &[ParameterReflection], given: &[(&str, Expression)]) -> bool
     ensures { result ≡ takes_keywords (map (λ p. p.name.now) keywords.now) (map (λ k. (k.0.now, expression_of k.1)) given.now) }
 {
@@ -130,7 +139,7 @@ fn is_given(given: &[(&str, Expression)], name: &str) -> bool
     false
 }
 
-/// Returns the arguments with their names owned.
+/// Returns the arguments with owned names.
 fn owned_keywords(
     alloc: Global,
     given: Vec<(&str, Expression)>,

@@ -73,8 +73,8 @@ const TIMELESS_KINDS: [StdKind; 53] = [
     StdKind::Values(ValueKind::Size),
 ];
 
-/// Returns the standard filters. For `date`, the texts `now` and `today` are the moment that is given, and not dates
-/// without one.
+/// Returns the standard filters. `date` reads the texts `now` and `today` as the moment that is given. Without a moment
+/// they are not dates.
 pub fn filters(
     alloc: Global,
     now: Option<DateTime>,
@@ -87,7 +87,7 @@ pub fn filters(
     Ok(filters)
 }
 
-/// Returns the standard filters, as `filters` does, and a host's own, which replace those of the same name.
+/// Returns the filters of [`filters`] and a host's own, which replace those of the same name.
 pub fn filters_beside<O: FilterKind>(
     alloc: Global,
     now: Option<DateTime>,
@@ -131,7 +131,7 @@ fn register_own<L: FilterKind, O: FilterKind>(
     Ok(())
 }
 
-/// Registers the filter under its name, in place of any other there.
+/// Registers the filter under its name. It replaces a filter that has the name already.
 pub fn register<K: FilterKind>(
     filters: &mut PluginRegistry<FilterPlugin<K>>,
     kind: K,

@@ -1,4 +1,4 @@
-//! Kinds of filters: what each says about itself, and what it returns.
+//! Kinds of filters: how each describes itself, and what it returns.
 ghost use Rattle.std.specs.Prelude.{◌≡◌, []};
 ghost use Rattle.liquid_error.specs.meaning.Told.{Gives};
 ghost use Rattle.liquid_value.specs.meaning.View.{view as tree_of};
@@ -13,9 +13,9 @@ use liquid_plugins::ParameterReflection;
 use liquid_value::Value;
 use std::alloc::Global;
 
-/// What a filter says about itself: its name, what it does, its positional parameters and its keywords.
+/// The description of a filter: its name, what it does, its positional parameters and its keywords.
 ///
-/// The parameters also decide what the filter takes: at most as many arguments as it has positional parameters, at
+/// The parameters also decide which arguments the filter takes: at most as many as it has positional parameters, at
 /// least those that are not optional, and each keyword at most once.
 #[derive(Debug, Clone, Copy)]
 pub struct FilterRow {
@@ -52,11 +52,11 @@ pub trait FilterKind: Clone + Copy + Drop {
     // its name, what it takes, and what it returns
     ghost sense: { Self → FilterSense };
 
-    /// Returns what the filter says about itself.
+    /// Returns the description of the filter.
     fn row(&self) -> FilterRow
         ensures { IsRow (sense self.now) result };
 
-    /// Returns what the filter makes of the input, or its error.
+    /// Applies the filter to the input, and returns the result or the error.
     fn answer(
         &self,
         alloc: Global,

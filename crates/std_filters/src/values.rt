@@ -13,8 +13,8 @@ use std::alloc::Global;
 use std_values::errors::unexpected_arguments;
 use std_values::parts::{is_truthy, size_of};
 
-/// Returns the argument if the input is nil, false or empty, and otherwise the input. With a truthy `allow_false`,
-/// `false` is kept.
+/// Returns the argument if the input is nil, `false` or empty, and otherwise the input. With a truthy `allow_false` the
+/// input `false` is kept.
 pub fn default(alloc: Global, input: &Value, arguments: &CallArguments<'_>) -> Result<Value, Error>
     ensures { Gives tree_of result (defaulted (tree_of input.now) (given arguments.now)) }
 {
@@ -34,7 +34,7 @@ pub fn default(alloc: Global, input: &Value, arguments: &CallArguments<'_>) -> R
     }
 }
 
-/// Returns `true` if the input is nil, false or empty, except for a `false` that is kept.
+/// Returns `true` if the input is nil, `false` or empty, except for a `false` that is kept.
 fn is_missing(input: &Value, allow_false: Option<&Value>) -> bool
     ensures { result ≡ is_missing (tree_of input.now) (option_map (λ v. tree_of v.now) allow_false.entry) }
 {
@@ -59,7 +59,7 @@ fn allows_false(argument: Option<&Value>) -> bool
     }
 }
 
-/// Returns the number of entries of an array or an object, or of characters of another value's text.
+/// Returns the number of entries of an array or an object, or the number of characters in the text of any other value.
 pub fn size(alloc: Global, input: &Value) -> Result<Value, Error>
     ensures { Gives tree_of result (Ok (size (tree_of input.now))) }
 {

@@ -57,7 +57,7 @@ pub(crate) fn tablerowloop(
     Ok(Value::Object(SharedObject::shared(alloc, members)?))
 }
 
-/// Inserts the members about the cell in this row and column.
+/// Inserts the members that describe the cell in this row and column.
 fn put_cell(
     alloc: Global,
     members: &mut Object,

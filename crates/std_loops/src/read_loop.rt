@@ -47,10 +47,7 @@ fn read_options(alloc: Global, block: LoopBlock, tokens: TagTokenIter<'_>) -> Re
     let mut options = no_options();
     'options: while let Some(token) = tokens.next() {
         match option_named(block, &options, token.as_str()) {
-            Some(option) => match take_option(alloc, option, &mut options, &mut tokens) {
-                Ok(()) => {}
-                Err(error) => return Err(error),
-            },
+            Some(option) => take_option(alloc, option, &mut options, &mut tokens)?,
             None => return Err(token.raise_error(alloc)),
         }
     }
@@ -117,27 +114,18 @@ fn take_option(
             options.is_reversed = true;
             Ok(())
         }
-        LoopOption::Offset => match next_argument(alloc, LoopOption::Offset, tokens) {
-            Ok(value) => {
-                options.offset = Some(value);
-                Ok(())
-            }
-            Err(error) => Err(error),
-        },
-        LoopOption::Limit => match next_argument(alloc, LoopOption::Limit, tokens) {
-            Ok(value) => {
-                options.limit = Some(value);
-                Ok(())
-            }
-            Err(error) => Err(error),
-        },
-        LoopOption::Cols => match next_argument(alloc, LoopOption::Cols, tokens) {
-            Ok(value) => {
-                options.cols = Some(value);
-                Ok(())
-            }
-            Err(error) => Err(error),
-        },
+        LoopOption::Offset => {
+            options.offset = Some(next_argument(alloc, LoopOption::Offset, tokens)?);
+            Ok(())
+        }
+        LoopOption::Limit => {
+            options.limit = Some(next_argument(alloc, LoopOption::Limit, tokens)?);
+            Ok(())
+        }
+        LoopOption::Cols => {
+            options.cols = Some(next_argument(alloc, LoopOption::Cols, tokens)?);
+            Ok(())
+        }
     }
 }
 
@@ -150,10 +138,8 @@ fn next_argument(
     ensures value { (ts : Tokens) → AreTokens tokens.old ts → Takes expression_of result tokens.new (argument_given option ts) }
     ensures shorter { IfOk result (λ value. bytes_left tokens.new < bytes_left tokens.old) }
 {
-    match tokens.next_str(alloc, TOKEN_EXPECTED, ":") {
-        Ok(()) => next_value_of(alloc, option, tokens),
-        Err(error) => Err(error),
-    }
+    tokens.next_str(alloc, TOKEN_EXPECTED, ":")?;
+    next_value_of(alloc, option, tokens)
 }
 
 /// Reads the value of an option.
@@ -166,10 +152,8 @@ fn next_value_of(
         → Takes expression_of result tokens.new (next_as (expect_argument option) ts) }
     ensures shorter { IfOk result (λ value. bytes_left tokens.new < bytes_left tokens.old) }
 {
-    match tokens.expect_next(alloc, TOKEN_EXPECTED) {
-        Ok(token) => expect_argument(alloc, option, token)?.into_result(alloc),
-        Err(error) => Err(error),
-    }
+    let token = tokens.expect_next(alloc, TOKEN_EXPECTED)?;
+    expect_argument(alloc, option, token)?.into_result(alloc)
 }
 
 /// Reads a token as the value of an option. `continue` is not a value of `offset`.

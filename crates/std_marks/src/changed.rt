@@ -11,7 +11,7 @@ use std::mem;
 
 /// Captures the part in the first turn, and writes its text in the second, unless it is that of the last `ifchanged`.
 ///
-/// `text` is the text of the part after the part has been rendered, and `None` before.
+/// `text` is the text of the part once the part is rendered, and `None` before that.
 #[inline(never)]
 pub fn changed_turn<V: HoldsMarks, R: Runtime<Register = V>>(
     text: &mut Option<String>,

@@ -15,7 +15,7 @@ use liquid_core::runtime::ExpressionMark;
 use liquid_core::{Error, Expression, Runtime, Turn};
 use std::alloc::Global;
 
-/// What a `cycle` is made to: its group, and its values.
+/// A `cycle`: its group and its values.
 #[derive(Drop)]
 pub struct Cycle {
     pub group: Group,
@@ -36,7 +36,7 @@ impl Meant for Cycle {
 
 /// Writes the text of the value at the place of the group, and moves the group to its next place.
 ///
-/// Only that value is evaluated. An error moves nothing.
+/// Only that value is evaluated. If there is an error, the group keeps its place.
 #[inline(never)]
 pub fn cycle_turn<V: HoldsMarks, R: Runtime<Register = V>>(
     alloc: Global,
@@ -51,20 +51,12 @@ pub fn cycle_turn<V: HoldsMarks, R: Runtime<Register = V>>(
     ensures owes { R.restores runtime.new ≡ R.restores runtime.old }
     ensures borrows { R.lent runtime.new ≡ R.lent runtime.old }
 {
-    match key_in(alloc, &cycle.group, &*runtime) {
-        Ok(key) => {
-            let place = runtime.registers().value.marks().place(key.as_str());
-            match text_at(alloc, cycle.values.as_slice(), place, &*runtime) {
-                Ok(text) => {
-                    let next = next_place(place, cycle.values.len());
-                    runtime.registers_mut().value.move_group(alloc, key, next)?;
-                    Ok(Turn::Text(text))
-                }
-                Err(error) => Err(error),
-            }
-        }
-        Err(error) => Err(error),
-    }
+    let key = key_in(alloc, &cycle.group, &*runtime)?;
+    let place = runtime.registers().value.marks().place(key.as_str());
+    let text = text_at(alloc, cycle.values.as_slice(), place, &*runtime)?;
+    let next = next_place(place, cycle.values.len());
+    runtime.registers_mut().value.move_group(alloc, key, next)?;
+    Ok(Turn::Text(text))
 }
 
 /// Returns the text of the value at a place, or an empty text if there is none.
@@ -77,15 +69,15 @@ fn text_at<R: Runtime>(
     ensures { Gives (λ s. string_bytes s) result (text_at (R.view runtime.now) (map expression_of values.now) place) }
 {
     match values.get(place as usize) {
-        Some(value) => match value.evaluate(alloc, runtime) {
-            Ok(value) => Ok(ValueRender::new(value.as_view()).to_string(alloc)?),
-            Err(error) => Err(error),
-        },
+        Some(value) => {
+            let value = value.evaluate(alloc, runtime)?;
+            Ok(ValueRender::new(value.as_view()).to_string(alloc)?)
+        }
         None => Ok(String::new(alloc)),
     }
 }
 
-/// Returns the place after a place, of this many.
+/// Returns the place after this one, of that many. After the last place comes the first.
 fn next_place(place: u64, count: usize) -> u64
     ensures { result ≡ next_place place count }
 {

@@ -15,9 +15,9 @@ use std::alloc::{AllocError, Global};
 /// The group of a `cycle`. The tags of a group share a place.
 #[derive(Drop)]
 pub enum Group {
-    /// Those whose name has the same text.
+    /// The tags whose name has the same text.
     Named(Expression),
-    /// Those without a name whose values are displayed alike. This is the key of the group.
+    /// The tags without a name whose values are displayed alike. This is the key of the group.
     Unnamed(String),
 }
 
@@ -40,10 +40,10 @@ pub fn key_in<R: Runtime>(alloc: Global, group: &Group, runtime: &R) -> Result<S
     ensures { Gives (λ s. string_bytes s) result (key_in (R.view runtime.now) (group_of group.now)) }
 {
     match group {
-        Group::Named(name) => match name.evaluate(alloc, runtime) {
-            Ok(name) => named_key(alloc, name.as_view()),
-            Err(error) => Err(error),
-        },
+        Group::Named(name) => {
+            let name = name.evaluate(alloc, runtime)?;
+            named_key(alloc, name.as_view())
+        }
         Group::Unnamed(key) => Ok(key.clone()?),
     }
 }
@@ -88,7 +88,7 @@ pub fn values_key(alloc: Global, values: &[Expression]) -> Result<String, AllocE
     Ok(key)
 }
 
-/// Appends a text with its length before it.
+/// Appends the length of a text, a colon and the text.
 fn push_text(alloc: Global, key: &mut String, text: &str) -> Result<(), AllocError>
     ensures { OnOk result (string_bytes key.new ≡ string_bytes key.old ++ with_length text.now) }
 {

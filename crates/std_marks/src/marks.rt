@@ -9,7 +9,7 @@ use std::alloc::{AllocError, Global};
 
 /// The marks of `cycle` and `ifchanged`: the place of each group, and the text of the last `ifchanged`.
 ///
-/// The first marks are made without an allocator, so the fields are `None` there.
+/// Marks are first made without an allocator, so their fields start as `None`.
 #[derive(Drop)]
 pub struct Marks {
     places: Option<Places>,

@@ -3,14 +3,14 @@ use Rattle.std_conditions.specs.meaning.ConditionsGiven.{operator_of}
 use Rattle.std_conditions.proofs.ReadLemmas.{no_operator, operator_taken}
 use Rattle.std_conditions.proofs.read_condition.next_operator.Goals as goal
 
-pub returns-in-Some-operator_of-clause-value : goal.returns-in-Some-operator_of-clause-value
-returns-in-Some-operator_of-clause-value c ts at =
-    let given = c.in-Some.ensures.value ts at in
-    let fits = ap operator_of (sym (c.as_str.ensures given.0.0 given.2.token_is)) ∙ sym c.in-Some-operator_of.ensures in
-    (given.0.1, operator_taken ts given.0 c.in-Some-operator_of.operator given.1 fits, given.2.left)
+pub returns-clause-value : goal.returns-clause-value
+returns-clause-value c ts at =
+    let given = c.in_ok-token.ensures.value ts at in
+    let fits = ap operator_of (sym (c.as_str.ensures given.0.0 given.2.token_is)) ∙ sym c.in_ok-operator.ensures in
+    (given.0.1, operator_taken ts given.0 c.in_ok-operator.operator given.1 fits, given.2.left)
 
-pub returns-in-None-operator_of-clause-value : goal.returns-in-None-operator_of-clause-value
-returns-in-None-operator_of-clause-value c ts at =
-    let given = c.in-Some.ensures.value ts at in
-    let fails = ap operator_of (sym (c.as_str.ensures given.0.0 given.2.token_is)) ∙ sym c.in-None-operator_of.ensures in
-    (no_operator ts given.0 given.1 fails, at)
+pub returns-in_err-operator-clause-value : goal.returns-in_err-operator-clause-value
+returns-in_err-operator-clause-value c ts at =
+    let given = c.in_ok-token.ensures.value ts at in
+    let fails = ap operator_of (sym (c.as_str.ensures given.0.0 given.2.token_is)) ∙ sym c.in_err-operator.ensures in
+    rw c.from_residual.ensures (no_operator ts given.0 given.1 fails, at)
