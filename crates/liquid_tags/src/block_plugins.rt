@@ -131,18 +131,12 @@ impl<F: ParseFilter> ParseBlock<F> for Blocks {
             return Err(tokens.raise_error(alloc, "Divider after else"));
         }
         if name == "else" {
-            return match tokens.expect_nothing(alloc) {
-                Ok(()) => {
-                    plan.is_closed = true;
-                    Ok(())
-                }
-                Err(error) => Err(error),
-            };
+            tokens.expect_nothing(alloc)?;
+            plan.is_closed = true;
+            return Ok(());
         }
-        match read_condition(alloc, tokens) {
-            Ok(condition) => Ok(add_condition(&mut plan.node, condition)?),
-            Err(error) => Err(error),
-        }
+        let condition = read_condition(alloc, tokens)?;
+        Ok(add_condition(&mut plan.node, condition)?)
     }
 
     fn finish(
@@ -216,10 +210,8 @@ fn begun_for(alloc: Global, tokens: TagTokenIter<'_>) -> Result<BlockPlan, Error
 pub fn next_series(alloc: Global, tokens: &mut TagTokenIter<'_>) -> Result<Series, Error>
     ensures { (ts : Tokens) → AreTokens tokens.old ts → Takes series_of result tokens.new (next_as expect_series ts) }
 {
-    match tokens.expect_next(alloc, TOKEN_EXPECTED) {
-        Ok(token) => expect_series(alloc, token)?.into_result(alloc),
-        Err(error) => Err(error),
-    }
+    let token = tokens.expect_next(alloc, TOKEN_EXPECTED)?;
+    expect_series(alloc, token)?.into_result(alloc)
 }
 
 /// Reads a range, or a value without filters.

@@ -71,6 +71,9 @@ fn holds<R: Runtime>(alloc: Global, condition: &Condition, runtime: &R) -> Resul
         Condition::Holds(value) => Ok(is_truthy(value.try_evaluate(alloc, runtime)?)),
         Condition::Compares(left, comparison, right) => {
             let left = left.evaluate(alloc, runtime)?;
+            if let Expression::Literal(right) = right {
+                return Ok(compares(*comparison, left.as_view(), right));
+            }
             let right = right.evaluate(alloc, runtime)?;
             Ok(compares(*comparison, left.as_view(), right.as_view()))
         }

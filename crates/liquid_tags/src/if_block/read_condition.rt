@@ -17,10 +17,8 @@ pub(crate) fn read_condition(alloc: Global, tokens: TagTokenIter<'_>) -> Result<
     ensures { (ts : Tokens) → AreTokens tokens.entry ts → Gives condition_of result (condition_given ts) }
 {
     let mut tokens = tokens;
-    match tokens.next_value(alloc, TOKEN_EXPECTED) {
-        Ok(left) => behind_value(alloc, left, tokens),
-        Err(error) => Err(error),
-    }
+    let left = tokens.next_value(alloc, TOKEN_EXPECTED)?;
+    behind_value(alloc, left, tokens)
 }
 
 /// Returns the condition that begins with this value.
@@ -36,10 +34,10 @@ fn behind_value(
         None => Ok(Condition::Holds(left)),
         Some(token) => match comparison_of(token.as_str()) {
             None => Err(token.raise_error(alloc)),
-            Some(comparison) => match tokens.next_value(alloc, TOKEN_EXPECTED) {
-                Ok(right) => alone(alloc, tokens, Condition::Compares(left, comparison, right)),
-                Err(error) => Err(error),
-            },
+            Some(comparison) => {
+                let right = tokens.next_value(alloc, TOKEN_EXPECTED)?;
+                alone(alloc, tokens, Condition::Compares(left, comparison, right))
+            }
         },
     }
 }

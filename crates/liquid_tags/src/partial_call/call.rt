@@ -65,10 +65,8 @@ fn bound<R: Runtime>(
 {
     let mut names = no_names(alloc);
     for pair in pairs {
-        match pair.1.evaluate(alloc, runtime) {
-            Ok(value) => bind(alloc, &mut names, pair.0.as_str(), value.into_owned()?)?,
-            Err(error) => return Err(error),
-        }
+        let value = pair.1.evaluate(alloc, runtime)?;
+        bind(alloc, &mut names, pair.0.as_str(), value.into_owned()?)?;
     }
     Ok(names)
 }

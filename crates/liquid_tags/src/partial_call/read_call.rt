@@ -18,13 +18,9 @@ pub(crate) fn read_call(alloc: Global, tokens: TagTokenIter<'_>) -> Result<Call,
     ensures { (ts : Tokens) → AreTokens tokens.entry ts → Gives call_of result (call_given ts) }
 {
     let mut tokens = tokens;
-    match tokens.next_value(alloc, TOKEN_EXPECTED) {
-        Ok(name) => match read_pairs(alloc, tokens) {
-            Ok(pairs) => Ok(Call { name, pairs }),
-            Err(error) => Err(error),
-        },
-        Err(error) => Err(error),
-    }
+    let name = tokens.next_value(alloc, TOKEN_EXPECTED)?;
+    let pairs = read_pairs(alloc, tokens)?;
+    Ok(Call { name, pairs })
 }
 
 /// Returns the pairs that all tokens make.
@@ -34,13 +30,9 @@ fn read_pairs(alloc: Global, tokens: TagTokenIter<'_>) -> Result<Vec<(String, Ex
     let mut tokens = tokens;
     let mut pairs = Vec::new(alloc);
     'pairs: while let Some(comma) = tokens.next() {
-        match read_comma(alloc, comma) {
-            Ok(()) => match read_pair(alloc, &mut tokens) {
-                Ok(pair) => pairs.push(pair)?,
-                Err(error) => return Err(error),
-            },
-            Err(error) => return Err(error),
-        }
+        read_comma(alloc, comma)?;
+        let pair = read_pair(alloc, &mut tokens)?;
+        pairs.push(pair)?;
     }
     Ok(pairs)
 }
@@ -57,14 +49,8 @@ fn read_pair(alloc: Global, tokens: &mut TagTokenIter<'_>) -> Result<(String, Ex
     ensures value { (ts : Tokens) → AreTokens tokens.old ts → Takes pair_of result tokens.new (pair_given ts) }
     ensures shorter { IfOk result (λ pair. bytes_left tokens.new < bytes_left tokens.old) }
 {
-    match tokens.next_identifier(alloc, TOKEN_EXPECTED) {
-        Ok(name) => match tokens.next_str(alloc, TOKEN_EXPECTED, ":") {
-            Ok(()) => match tokens.next_value(alloc, TOKEN_EXPECTED) {
-                Ok(value) => Ok((String::from_str(alloc, name)?, value)),
-                Err(error) => Err(error),
-            },
-            Err(error) => Err(error),
-        },
-        Err(error) => Err(error),
-    }
+    let name = tokens.next_identifier(alloc, TOKEN_EXPECTED)?;
+    tokens.next_str(alloc, TOKEN_EXPECTED, ":")?;
+    let value = tokens.next_value(alloc, TOKEN_EXPECTED)?;
+    Ok((String::from_str(alloc, name)?, value))
 }

@@ -8,7 +8,7 @@ use std::alloc::Global;
 /// Returns the result of each call of values.
 pub fn wanted(word: &str) -> &'static str {
     match word {
-        "clone" | "into_owned" | "to_value" => "[1, two, kv, ]",
+        "clone" | "into_owned" | "to_value" | "shared_array_push" => "[1, two, kv, ]",
         "cow_clone" | "scalar_clone" => "\"m\"",
         "array" => "[5, 6, 7, 8, 9, 10, 11, ]",
         "to_kstr" => "1twokv",
@@ -17,7 +17,7 @@ pub fn wanted(word: &str) -> &'static str {
         "insert" | "object_extend" | "array_push" | "array_extend" => "done",
         "array_of" => "[a, b, ]",
         "object_of" => "{\"k\": 1, }",
-        "lookup" => "{\"b\": 1two, }",
+        "lookup" | "shared_object_insert" => "{\"b\": 1two, }",
         "keys" => "a i",
         _ => "",
     }
@@ -60,6 +60,28 @@ fn of_growing<'g>(alloc: Global, word: &str, given: &'g mut Given, member: Value
         _ => return Ok(Answer::Nothing),
     }
     Ok(Answer::Done)
+}
+
+/// Writes to an array that another value shares, and returns the other value.
+fn of_shared_arrays<'g>(given: &'g mut Given, member: Value) -> Answered<'g> {
+    let other = Value::clone(&given.value)?;
+    if let Some(array) = given.value.as_array_mut() {
+        array.to_mut()?.push(member)?;
+    }
+    Ok(Answer::Value(other))
+}
+
+/// Writes to an object that another value shares, and returns the other value.
+fn of_shared_objects<'g>(alloc: Global, given: &'g mut Given, member: Value) -> Answered<'g> {
+    let name = std::mem::replace(&mut given.text, String::new(alloc));
+    let Some(value) = given.object.get_mut("a") else {
+        return Ok(Answer::Nothing);
+    };
+    let other = Value::clone(value)?;
+    if let Some(object) = value.as_object_mut() {
+        let _old = object.to_mut()?.insert(name, member)?;
+    }
+    Ok(Answer::Value(other))
 }
 
 /// Makes the calls that search an object, or make one.
@@ -105,6 +127,8 @@ pub fn call<'g>(alloc: Global, word: &str, given: &'g mut Given) -> Answered<'g>
         "insert" | "object_extend" | "array_push" | "array_extend" => {
             of_growing(alloc, word, given, member)
         }
+        "shared_array_push" => of_shared_arrays(given, member),
+        "shared_object_insert" => of_shared_objects(alloc, given, member),
         "cow_clone" => Ok(Answer::Found(ValueCow::clone(&ValueCow::Owned(member))?)),
         _ => of_scalars(alloc, word, member),
     }

@@ -1,5 +1,6 @@
 use Rattle.std.proofs.Common.{map, ap, [], ◌∷◌, ◌∙◌}
 use Rattle.std.proofs.lemmas.List.{map-append}
+use Rattle.std.proofs.lemmas.Result.{err_from_is_err_and}
 use Rattle.liquid_error.specs.meaning.Told.{told}
 use Rattle.liquid_tags.specs.meaning.Partials.{pair_of}
 use Rattle.liquid_tags.specs.meaning.CallsGiven.{pairs_given}
@@ -10,24 +11,28 @@ pub pairs-preserved : goal.pairs-preserved
 pairs-preserved c ts at =
     let so_far = c.pairs.invariant ts at in
     let given = c.in-Some.ensures.value so_far.0 so_far.1 in
-    let taken = c.in-Ok-read_pair.ensures.value given.0.1 given.2.left in (
+    let taken = c.in_ok-pair.ensures.value given.0.1 given.2.left in (
       taken.0,
       taken.2,
-      pair_read (map pair_of c.pairs.pairs.items) _ so_far.0.left given.0 (pair_of c.in-Ok-read_pair.pair) taken.0 tt (pairs_given ts.left) so_far.2 given.1 (c.in-Ok.ensures given.0.0 given.2.token_is) taken.1
-          (ap (map pair_of) c.in_ok-push-in-Ok-read_pair.ensures.items ∙ map-append pair_of c.pairs.pairs.items (c.in-Ok-read_pair.pair ∷ [])),
+      pair_read (map pair_of c.pairs.pairs.items) _ so_far.0.left given.0 (pair_of c.in_ok-pair.pair) taken.0 tt (pairs_given ts.left) so_far.2 given.1 (c.in_ok-read_comma.ensures given.0.0 given.2.token_is) taken.1
+          (ap (map pair_of) c.in_ok-push.ensures.items ∙ map-append pair_of c.pairs.pairs.items (c.in_ok-pair.pair ∷ [])),
     )
 
-pub returns-in-Err-read_pair : goal.returns-in-Err-read_pair
-returns-in-Err-read_pair c ts at =
+pub returns-in_err-pair : goal.returns-in_err-pair
+returns-in_err-pair c ts at =
     let so_far = c.pairs.invariant ts at in
     let given = c.in-Some.ensures.value so_far.0 so_far.1 in
-    pair_refused (map pair_of c.pairs.pairs.items) so_far.0.left given.0 tt (told c.in-Err-read_pair.error) (pairs_given ts.left) so_far.2 given.1 (c.in-Ok.ensures given.0.0 given.2.token_is) (c.in-Err-read_pair.ensures.value given.0.1 given.2.left)
+    let p = err_from_is_err_and c.from_residual-in_err-pair.result c.from_residual-in_err-pair.ensures.1 in
+    rw (p.1, p.2) (pair_refused (map pair_of c.pairs.pairs.items) so_far.0.left given.0 tt (told c.in_err-pair.field-0.0) (pairs_given ts.left)
+    so_far.2 given.1 (c.in_ok-read_comma.ensures given.0.0 given.2.token_is) (c.in_err-pair.ensures.value given.0.1 given.2.left))
 
-pub returns-in-Err : goal.returns-in-Err
-returns-in-Err c ts at =
+pub returns-in_err-read_comma : goal.returns-in_err-read_comma
+returns-in_err-read_comma c ts at =
     let so_far = c.pairs.invariant ts at in
     let given = c.in-Some.ensures.value so_far.0 so_far.1 in
-    comma_refused (map pair_of c.pairs.pairs.items) so_far.0.left given.0 (told c.in-Err.error) (pairs_given ts.left) so_far.2 given.1 (c.in-Err.ensures given.0.0 given.2.token_is)
+    let p = err_from_is_err_and c.from_residual.result c.from_residual.ensures.1 in
+    rw (p.1, p.2) (comma_refused (map pair_of c.pairs.pairs.items) so_far.0.left given.0 (told c.in_err-read_comma.field-0.0) (pairs_given ts.left)
+    so_far.2 given.1 (c.in_err-read_comma.ensures given.0.0 given.2.token_is))
 
 pub returns : goal.returns
 returns c ts at =
