@@ -1,5 +1,5 @@
 -- What is left of a name whose ending is taken off.
-use Rattle.std.proofs.Common.{◌≡◌, ◌∙◌, ℕ, ◌-◌, List, [], ◌∷◌, length, take, Option, None, Some, true, false, Bor, option_map, sym, ap, refl, eqb}
+use Rattle.std.proofs.Common.{◌≡◌, ◌∙◌, ℕ, ◌-◌, List, [], ◌∷◌, length, take, Option, None, Some, false, Bor, option_map, sym, ap, refl}
 use Rattle.std.specs.Prelude.{MatchOption, if◌then◌else◌}
 use Rattle.std.specs.Str.Pattern.{FindsTextSuffix, StripsSuffix}
 use Rattle.std.proofs.lemmas.Bool.Decides.{Decides-eqb}

@@ -9,3 +9,6 @@ pub mod RunLemmas
 pub mod ShownRuns
 pub mod PagesLemmas
 pub mod EndingLemmas
+pub mod RequestsLemmas
+pub mod StepsLemmas
+pub mod GivenLemmas

@@ -17,9 +17,9 @@ use Rattle.liquid.specs.meaning.Files.{Replaces, Same}
 use Rattle.liquid.specs.meaning.Gathered.{WithText, WithGlobals, WithPartials}
 use Rattle.liquid.specs.meaning.PagesCommand.{AskedPages}
 use Rattle.liquid.specs.meaning.Program.{ExecutesOne, Fails, Finishes, Printed, Renders, status_of}
-use Rattle.liquid.specs.meaning.Status.{exit_status, fault_status}
+use Rattle.liquid.specs.meaning.Status.{all_status, fault_status}
 use Rattle.liquid.specs.meaning.Written.{Lands, WritesEach, WritesFile, WritesNothing, WritesPages, file_in, first_fault, pages_folder}
-use Rattle.liquid.specs.steps.Steps.{Stops, Brings, all_status}
+use Rattle.liquid.specs.steps.Steps.{Stops, Brings}
 use Rattle.liquid.proofs.GatheredLemmas.{Files, Folders, text_follows, globals_follow, partials_follow, text_anyhow, globals_anyhow, partials_anyhow}
 use Rattle.liquid.proofs.ExecutedLemmas.{finishes_memory, stopped}
 

@@ -26,7 +26,8 @@ use Rattle.liquid.specs.meaning.Written.{Placed, Prints, WritesOthers}
 use Rattle.std.specs.Option.{unwrap_or}
 use Rattle.liquid.specs.meaning.Command.{Asked, command_of}
 use Rattle.liquid.specs.meaning.Status.{settled}
-use Rattle.liquid.specs.meaning.InMemory.{IsBeginning, IsWhole, ShowsAnswer, ShowsNothing, ShowsPage, ShowsIn, ShowsText, ShowsCommand, ShowsPlaced, Shows, known_in, listed_in}
+use Rattle.liquid.specs.meaning.InMemory.{IsBeginning, IsWhole, ShowsAnswer, ShowsNothing, ShowsPage, ShowsIn, ShowsText, ShowsCommand, ShowsPlaced, Shows}
+use Rattle.liquid.specs.meaning.Files.{known_in, listed_in}
 use Rattle.liquid.specs.declared.command.Options.{Options}
 use Rattle.liquid.proofs.GatheredLemmas.{gathers_follow}
 

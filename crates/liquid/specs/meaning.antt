@@ -3,6 +3,7 @@ pub mod Files
 pub mod Gathered
 pub mod InMemory
 pub mod Program
+pub mod Requests
 pub mod ProgramLanguage
 pub mod Status
 pub mod PagesCommand

@@ -19,7 +19,8 @@ pub fn explain<F: Folder, E: Write>(
     files: &mut F,
     err: &mut E,
 )
-    ensures { F.known files.new ≡ F.known files.old }
+    ensures same { F.known files.new ≡ F.known files.old }
+    ensures requests { F.requests files.new ≡ F.requests files.old }
 {
     match format!(in alloc; "{fault}") {
         Ok(text) => {
@@ -94,7 +95,8 @@ fn write_cut<E: Write>(line: &str, err: &mut E) {
 
 /// Writes why a file or a folder can't be read.
 fn explain_unread<F: Folder, E: Write>(path: &str, is_listed: bool, files: &mut F, err: &mut E)
-    ensures { F.known files.new ≡ F.known files.old }
+    ensures same { F.known files.new ≡ F.known files.old }
+    ensures requests { F.requests files.new ≡ F.requests files.old }
 {
     let why = match files.why(path, is_listed) {
         Why::NotThere => "there is no such file",

@@ -1,6 +1,6 @@
 //! Where the program's files come from.
-ghost use Rattle.std.specs.Prelude.{◌≡◌, ℕ, Bool, true, false, List, Option, None, OnOk, OnErr, map, string_bytes};
-ghost use Rattle.liquid.specs.meaning.Files.{Reads, Replaces, Same};
+ghost use Rattle.std.specs.Prelude.{◌≡◌, ℕ, Bool, true, false, List, [], ◌∷◌, Option, None, OnOk, OnErr, map, string_bytes};
+ghost use Rattle.liquid.specs.meaning.Files.{Reads, Replaces, Request, Requests, Same, also, listing, reading};
 
 use std::alloc::Global;
 
@@ -32,6 +32,10 @@ pub trait Folder {
     /// subfolders.
     ghost listed: { Self → Bool → List ℕ → Option (Option (List (List ℕ))) } = { λ _ _ _. None };
 
+    /// What is known of the files that were read and the folders that were listed so far: nothing, or all of them, in
+    /// order.
+    ghost requests: { Self → Requests } = { λ _. None };
+
     /// Returns the bytes of the file at `path`.
     ///
     /// If something is known of the file, the returned bytes are those that are known. Which fault is returned is
@@ -40,7 +44,8 @@ pub trait Folder {
     fn read(&mut self, alloc: Global, path: &str) -> Result<Vec<u8>, Unread>
         ensures reads { Reads (λ bytes. bytes.items) (known self.old path.now) result }
         ensures same { known self.new ≡ known self.old }
-        ensures listed { listed self.new ≡ listed self.old };
+        ensures listed { listed self.new ≡ listed self.old }
+        ensures requests { requests self.new ≡ also (requests self.old) (reading path.now ∷ []) };
 
     /// Returns the names of the files directly in the folder at `path`, in any order. Folders in it are left out. A
     /// name that is not UTF-8 is a fault.
@@ -49,7 +54,8 @@ pub trait Folder {
     fn list(&mut self, alloc: Global, path: &str) -> Result<Vec<String>, Unread>
         ensures lists { Reads (λ names. map string_bytes names.items) (listed self.old false path.now) result }
         ensures same { known self.new ≡ known self.old }
-        ensures listed { listed self.new ≡ listed self.old };
+        ensures listed { listed self.new ≡ listed self.old }
+        ensures requests { requests self.new ≡ also (requests self.old) (listing false path.now ∷ []) };
 
     /// Returns the paths, within the folder at `path`, of the files in it and in its subfolders, in any order. Links are
     /// left out, so all these files are in the folder.
@@ -58,7 +64,8 @@ pub trait Folder {
     fn list_tree(&mut self, alloc: Global, path: &str) -> Result<Vec<String>, Unread>
         ensures lists { Reads (λ paths. map string_bytes paths.items) (listed self.old true path.now) result }
         ensures same { known self.new ≡ known self.old }
-        ensures listed { listed self.new ≡ listed self.old };
+        ensures listed { listed self.new ≡ listed self.old }
+        ensures requests { requests self.new ≡ also (requests self.old) (listing true path.now ∷ []) };
 
     /// Puts a file of these bytes at `path`, in place of any other file there. The file is replaced as a whole: if there
     /// is a fault, what is at `path` stays.
@@ -68,6 +75,7 @@ pub trait Folder {
         ensures replaced { OnOk result (Replaces (known self.old) (known self.new) path.now bytes.now) }
         ensures same { OnErr result (Same (known self.old) (known self.new)) }
         ensures listed { listed self.new ≡ listed self.old }
+        ensures requests { requests self.new ≡ requests self.old }
     {
         Err(Unread::Fault)
     }
@@ -76,12 +84,14 @@ pub trait Folder {
     fn announce(&mut self, _page: usize, _count: usize, _template: &str)
         ensures same { known self.new ≡ known self.old }
         ensures listed { listed self.new ≡ listed self.old }
+        ensures requests { requests self.new ≡ requests self.old }
     {}
 
     /// Returns why the file at `path` can't be read as text, or if it should be listed, why the folder can't be. By
     /// default that is unknown.
     fn why(&mut self, _path: &str, _is_listed: bool) -> Why
         ensures same { known self.new ≡ known self.old }
+        ensures requests { requests self.new ≡ requests self.old }
     {
         Why::Unknown
     }

@@ -1,5 +1,5 @@
 //! Reading the files that a command names.
-ghost use Rattle.std.specs.Prelude.{◌≡◌, ◌≢◌, Some, is_some, IfOk, IfErr, map, option_map, string_bytes};
+ghost use Rattle.std.specs.Prelude.{◌≡◌, ◌≢◌, ℕ, List, [], ◌∷◌, Option, Some, is_some, IfOk, IfErr, map, option_map, string_bytes};
 ghost use Rattle.std.specs.FinMap.{empty, keys};
 ghost use Rattle.liquid_runtime.specs.meaning.Maps.{names_of};
 ghost use Rattle.liquid_plugins.specs.meaning.Registry.{by_name};
@@ -16,9 +16,26 @@ ghost use Rattle.liquid.specs.meaning.Gathered.{
   WithPartials,
   WithText,
 };
-ghost use Rattle.liquid.specs.meaning.Files.{Reads};
+ghost use Rattle.liquid.specs.meaning.Files.{Reads, also, known_in, listing, reading};
+ghost use Rattle.liquid.specs.meaning.Requests.{
+  WhereKnown,
+  file_steps,
+  folder_steps,
+  object_trouble,
+  partials_steps,
+  unreadable,
+};
 ghost use Rattle.liquid.specs.meaning.Status.{fault_status};
-ghost use Rattle.liquid.specs.steps.Steps.{Brings, BringsText, Stops, StopsUnread};
+ghost use Rattle.liquid.specs.steps.Steps.{
+  Brings,
+  BringsText,
+  Collects,
+  Reports,
+  ReportsAny,
+  Requested,
+  Stops,
+  StopsUnread,
+};
 
 use crate::fault::Fault;
 use crate::folder::{Folder, Unread};
@@ -36,6 +53,8 @@ pub(crate) fn text_of<'w, F: Folder>(
     path: &'w str,
 ) -> Result<String, Fault<'w>>
     ensures text { WithText (F.known files.old path.now) (Stops result) (λ text. Brings string_bytes text result) }
+    ensures reports { Reports (unreadable path.now) result }
+    ensures requests { F.requests files.new ≡ also (F.requests files.old) (reading path.now ∷ []) }
     ensures command { IfErr result (λ fault. fault_status fault ≢ 2) }
     ensures same { F.known files.new ≡ F.known files.old }
     ensures listed { F.listed files.new ≡ F.listed files.old }
@@ -57,6 +76,9 @@ pub(crate) fn text_in<'w, F: Folder>(
 ) -> Result<String, Fault<'w>>
     ensures text { WithText (F.known files.old (path_in folder.now ending.now name.now)) (Stops result)
         (λ text. Brings string_bytes text result) }
+    ensures reports { Reports (unreadable (path_in folder.now ending.now name.now)) result }
+    ensures requests { Requested (reading (path_in folder.now ending.now name.now)) (F.requests files.old)
+        (F.requests files.new) result }
     ensures command { IfErr result (λ fault. fault_status fault ≢ 2) }
     ensures same { F.known files.new ≡ F.known files.old }
     ensures listed { F.listed files.new ≡ F.listed files.old }
@@ -79,6 +101,7 @@ fn path_in(alloc: Global, folder: &str, ending: &str, name: &str) -> Result<Stri
 
 fn read_text<F: Folder>(alloc: Global, files: &mut F, path: &str) -> Result<String, Unread>
     ensures text { WithText (F.known files.old path.now) (StopsUnread result) (λ text. BringsText text result) }
+    ensures requests { F.requests files.new ≡ also (F.requests files.old) (reading path.now ∷ []) }
     ensures same { F.known files.new ≡ F.known files.old }
     ensures listed { F.listed files.new ≡ F.listed files.old }
 {
@@ -98,6 +121,9 @@ fn names_in<'w, F: Folder>(
 ) -> Result<BTreeMap<String, ()>, Fault<'w>>
     ensures names { WithNames (F.listed files.old (is_some (option_map (λ e. e.now) ending.entry)) folder.now) (Stops result)
         (λ names. Brings by_name (names_into (option_map (λ e. e.now) ending.entry) empty names) result) }
+    ensures reports { Reports (unreadable folder.now) result }
+    ensures requests { F.requests files.new ≡ also (F.requests files.old)
+        (listing (is_some (option_map (λ e. e.now) ending.entry)) folder.now ∷ []) }
     ensures command { IfErr result (λ fault. fault_status fault ≢ 2) }
     ensures same { F.known files.new ≡ F.known files.old }
     ensures listed { F.listed files.new ≡ F.listed files.old }
@@ -123,6 +149,8 @@ fn list_folder<F: Folder>(
         (F.listed files.old (is_some (option_map (λ e. e.now) ending.entry)) folder.now) result }
     ensures same { F.known files.new ≡ F.known files.old }
     ensures listed { F.listed files.new ≡ F.listed files.old }
+    ensures requests { F.requests files.new ≡ also (F.requests files.old)
+        (listing (is_some (option_map (λ e. e.now) ending.entry)) folder.now ∷ []) }
 {
     match ending {
         Some(_) => files.list_tree(alloc, folder),
@@ -168,6 +196,9 @@ pub(crate) fn partials_of<'w, F: Folder>(
     ensures partials { WithPartials (F.known files.old) (F.listed files.old) (option_map (λ e. e.now) ending.entry)
         (option_words (option_map (λ f. f.now) folder.entry))
         (Stops result) (λ partials. Brings (λ source. source) partials result) }
+    ensures requests { WhereKnown (F.known files.old) (F.listed files.old) (λ all folders.
+        Collects (partials_steps all folders (option_words (option_map (λ f. f.now) folder.entry))
+        (option_map (λ e. e.now) ending.entry)) (F.requests files.old) (F.requests files.new) result) }
     ensures command { IfErr result (λ fault. fault_status fault ≢ 2) }
     ensures same { F.known files.new ≡ F.known files.old }
 {
@@ -187,6 +218,9 @@ fn partials_in<'w, F: Folder>(
     ensures partials { WithFolder (F.known files.old) folder.now (option_map (λ e. e.now) ending.entry)
         (F.listed files.old (is_some (option_map (λ e. e.now) ending.entry)) folder.now)
         (Stops result) (λ texts. Brings (λ source. source) texts result) }
+    ensures requests { WhereKnown (F.known files.old) (F.listed files.old) (λ all folders.
+        Collects (folder_steps all folder.now (option_map (λ e. e.now) ending.entry)
+        (folders (is_some (option_map (λ e. e.now) ending.entry)) folder.now)) (F.requests files.old) (F.requests files.new) result) }
     ensures command { IfErr result (λ fault. fault_status fault ≢ 2) }
     ensures same { F.known files.new ≡ F.known files.old }
 {
@@ -204,6 +238,8 @@ fn texts_of<'w, F: Folder>(
 ) -> Result<InMemorySource, Fault<'w>>
     ensures texts { WithFiles (F.known files.old) folder.now ending.now (keys (by_name names)) empty
         (Stops result) (λ texts. Brings (λ source. source) texts result) }
+    ensures requests { (all : List ℕ → Option (List ℕ)) → F.known files.old ≡ known_in all → Collects
+        (file_steps all folder.now ending.now (keys (by_name names))) (F.requests files.old) (F.requests files.new) result }
     ensures command { IfErr result (λ fault. fault_status fault ≢ 2) }
     ensures same { F.known files.new ≡ F.known files.old }
 {
@@ -220,6 +256,7 @@ fn texts_of<'w, F: Folder>(
 /// Returns the globals of a text of JSON, which was read from this path.
 pub(crate) fn globals_of<'w>(alloc: Global, text: &str, path: &'w str) -> Result<Object, Fault<'w>>
     ensures globals { WithGlobals (object_read text.now) (Stops result) (λ names. Brings names_of names result) }
+    ensures reports { ReportsAny (object_trouble path.now (object_read text.now)) result }
     ensures command { IfErr result (λ fault. fault_status fault ≢ 2) }
 {
     match liquid_pages::globals_of(alloc, text) {

@@ -1,5 +1,6 @@
 //! What `--explain` adds to an error of a template.
-ghost use Rattle.std.specs.Prelude.{◌≡◌};
+ghost use Rattle.std.specs.Prelude.{◌≡◌, None};
+ghost use Rattle.liquid.specs.meaning.Requests.{reported};
 ghost use Rattle.liquid.specs.meaning.Status.{fault_status};
 
 use crate::command::Options;
@@ -29,7 +30,8 @@ pub(crate) fn refuse<'w>(
     sources: Sources<'_>,
     error: Error,
 ) -> Fault<'w>
-    ensures { fault_status result ≡ 1 }
+    ensures status { fault_status result ≡ 1 }
+    ensures trouble { reported result ≡ None }
 {
     if !options.explain || error.is_memory() {
         return Fault::Refused(error);

@@ -1,11 +1,13 @@
 //! Writing several pages over the same globals and partials.
-ghost use Rattle.std.specs.Prelude.{◌≡◌, ◌≢◌, IfOk, map, string_bytes, ⊤};
+ghost use Rattle.std.specs.Prelude.{◌≡◌, ◌≢◌, [], ◌∷◌, IfOk, map, string_bytes, ⊤};
 ghost use Rattle.liquid_template.specs.meaning.Grows.{Grows};
 ghost use Rattle.liquid_json.specs.meaning.Given.{object_read};
+ghost use Rattle.liquid.specs.meaning.Files.{also, reading};
 ghost use Rattle.liquid.specs.meaning.Gathered.{WithGlobals};
 ghost use Rattle.liquid.specs.meaning.PagesCommand.{asked_pages};
 ghost use Rattle.liquid.specs.meaning.Program.{ExecutesOne, Printed};
-ghost use Rattle.liquid.specs.meaning.Status.{exit_status};
+ghost use Rattle.liquid.specs.meaning.Requests.{Follows, FollowsTo, WhereKnown, pages_steps};
+ghost use Rattle.liquid.specs.meaning.Status.{all_status, exit_status};
 ghost use Rattle.liquid.specs.meaning.Written.{
   file_in,
   pages_folder,
@@ -13,7 +15,6 @@ ghost use Rattle.liquid.specs.meaning.Written.{
   WritesFile,
   WritesPages,
 };
-ghost use Rattle.liquid.specs.steps.Steps.{all_status};
 
 use crate::command::Paths;
 use crate::fault::Fault;
@@ -39,6 +40,8 @@ pub(crate) fn write_pages<F: Folder, E: Write>(
 ) -> u8
     ensures command { result ≢ 2 }
     ensures writes { WritesPages (asked_pages pages.entry) (F.known files.old) (F.listed files.old) (F.known files.new) result }
+    ensures requests { WhereKnown (F.known files.old) (F.listed files.old) (λ all folders. FollowsTo
+        (pages_steps all folders (asked_pages pages.entry)) (F.requests files.old) (F.requests files.new) result) }
     ensures quiet { result ≡ 0 → err.new ≡ err.old }
 {
     match write_all(alloc, pages, files, err) {
@@ -60,6 +63,8 @@ fn write_all<'w, F: Folder, E: Write>(
     ensures command { all_status result ≢ 2 }
     ensures writes { WritesPages (asked_pages pages.entry) (F.known files.old) (F.listed files.old) (F.known files.new)
         (all_status result) }
+    ensures requests { WhereKnown (F.known files.old) (F.listed files.old) (λ all folders. Follows
+        (pages_steps all folders (asked_pages pages.entry)) (F.requests files.old) (F.requests files.new) result) }
     ensures quiet { all_status result ≡ 0 → err.new ≡ err.old }
 {
     let json = text_of(alloc, files, pages.globals)?;
@@ -91,6 +96,7 @@ fn write_each<'w, F: Folder, E: Write>(
     ensures command { status ≢ 2 → result ≢ 2 }
     ensures writes { WithGlobals (object_read json.now) ⊤ (λ globals. WritesEach (asked_pages pages.entry) globals partials.now
         (map string_bytes templates.now) (F.known files.old) (F.known files.new) status result) }
+    ensures requests { F.requests files.new ≡ also (F.requests files.old) (map reading (map string_bytes templates.now)) }
     ensures first { status ≢ 0 → result ≡ status }
     ensures quiet { result ≡ 0 → err.new ≡ err.old }
 {
@@ -121,6 +127,7 @@ fn write_one<'w, F: Folder>(
     ensures writes { WithGlobals (object_read json.now) ⊤ (λ globals. WritesFile
         (ExecutesOne pages.entry.options template.now globals partials.now (F.known files.old))
         (file_in (pages_folder pages.entry.output.now) template.now) (F.known files.old) (F.known files.new) (exit_status result)) }
+    ensures requests { F.requests files.new ≡ also (F.requests files.old) (reading template.now ∷ []) }
 {
     let mut page = Vec::new(alloc);
     let answer = print_one(alloc, pages, json, partials, template, files, &mut page);
@@ -148,6 +155,7 @@ fn print_one<'w, F: Folder, W: Write>(
         (ExecutesOne pages.entry.options template.now globals partials.now (F.known files.old))
         (W.contents out.old) (W.contents out.new) (exit_status result)) }
     ensures same { F.known files.new ≡ F.known files.old }
+    ensures requests { F.requests files.new ≡ also (F.requests files.old) (reading template.now ∷ []) }
 {
     let mut sink = WriterSink::new(out);
     let answer = execute_one(alloc, pages, json, partials, template, files, &mut sink);
@@ -171,6 +179,7 @@ fn execute_one<'w, F: Folder, K: Sink>(
         ExecutesOne pages.entry.options template.now globals partials.now (F.known files.old)
         (K.sunk sink.old) (K.sunk sink.new) (exit_status result)) }
     ensures same { F.known files.new ≡ F.known files.old }
+    ensures requests { F.requests files.new ≡ also (F.requests files.old) (reading template.now ∷ []) }
     ensures behind { Grows (K.sunk sink.old) (K.sunk sink.new) }
     ensures borrows { (K.sunk sink.new).lent ≡ (K.sunk sink.old).lent }
 {
@@ -223,6 +232,7 @@ fn report<'w, F: Folder, E: Write>(
     ensures status { result ≡ exit_status answer.entry }
     ensures quiet { result ≡ 0 → err.new ≡ err.old }
     ensures same { F.known files.new ≡ F.known files.old }
+    ensures requests { F.requests files.new ≡ F.requests files.old }
 {
     let paths = paths_of(pages, template);
     let status = tell(alloc, pages.options.explain, paths, files, answer, err);

@@ -1,10 +1,22 @@
 //! Running a command.
-ghost use Rattle.std.specs.Prelude.{◌≡◌, ◌≢◌, ◌↔◌, false, is_ok, is_some, map, string_bytes};
+ghost use Rattle.std.specs.Option.{option_map_or};
+ghost use Rattle.std.specs.Prelude.{◌≡◌, ◌≢◌, ◌↔◌, [], None, false, is_ok, is_some, map, string_bytes};
 ghost use Rattle.liquid_template.specs.meaning.Grows.{Grows};
 ghost use Rattle.liquid.specs.meaning.Command.{asked_of};
 ghost use Rattle.liquid.specs.meaning.PagesCommand.{is_asked, pages_of};
 ghost use Rattle.liquid.specs.meaning.Program.{Executes, Printed};
-ghost use Rattle.liquid.specs.meaning.Status.{exit_status, settled};
+ghost use Rattle.liquid.specs.meaning.Requests.{
+  Follows,
+  FollowsTo,
+  FollowsWords,
+  IsMemory,
+  WhereKnown,
+  command_steps,
+  pages_steps,
+  reported,
+  trouble_in,
+};
+ghost use Rattle.liquid.specs.meaning.Status.{exit_status, fault_status, settled};
 ghost use Rattle.liquid.specs.meaning.Written.{Placed, Prints, Runs, WritesOthers};
 
 use crate::command::{Choices, Command, Options, Paths};
@@ -39,7 +51,8 @@ use std::io::{self, Write};
 /// text on `err`, or the page can't be written to its file; 2 if the words are not a command, with the usage on `err`; 3
 /// if a file can't be read as UTF-8 text, or the globals are not JSON, with the path on `err`, and if the JSON is not an
 /// object of values, with the error's text. Of several pages it is the first status that isn't 0. The files are read in
-/// order, each is turned into what it means before the next is read, and the first fault is returned. What was written to
+/// order, each is turned into what it means before the next is read, and the first fault is returned. No other file is
+/// read and no other folder listed. What was written to
 /// `out` before an error stays written. A fault of `err` changes no status, and with status 0 nothing is written to `err`.
 ///
 /// Running out of memory has status 1, wherever it happens. When it happens is unspecified, and so is which of 3 and 1
@@ -57,6 +70,8 @@ pub fn run<F: Folder, W: Write, E: Write>(
     ensures usage { (result ≡ 2) ↔ (is_asked (map string_bytes words.now) ≡ false) }
     ensures prints { Prints (map string_bytes words.now) (F.known files.old) (F.listed files.old) (F.known files.new)
         (W.contents out.old) (W.contents out.new) result }
+    ensures requests { FollowsWords (map string_bytes words.now) (F.known files.old) (F.listed files.old)
+        (F.requests files.old) (F.requests files.new) result }
     ensures quiet { result ≡ 0 → err.new ≡ err.old }
 {
     match Command::from_words(words) {
@@ -87,6 +102,8 @@ pub fn run_to<F: Folder, K: Sink, E: Write>(
     ensures usage { (result ≡ 2) ↔ (is_asked (map string_bytes words.now) ≡ false) }
     ensures runs { Runs (map string_bytes words.now) (F.known files.old) (F.listed files.old) (F.known files.new)
         (K.sunk sink.old) (K.sunk sink.new) result }
+    ensures requests { FollowsWords (map string_bytes words.now) (F.known files.old) (F.listed files.old)
+        (F.requests files.old) (F.requests files.new) result }
     ensures quiet { result ≡ 0 → err.new ≡ err.old }
     ensures behind { Grows (K.sunk sink.old) (K.sunk sink.new) }
     ensures borrows { (K.sunk sink.new).lent ≡ (K.sunk sink.old).lent }
@@ -118,6 +135,9 @@ fn run_others<F: Folder, E: Write>(
     ensures usage { (result ≡ 2) ↔ (is_some (pages_of (map string_bytes words.now)) ≡ false) }
     ensures writes { WritesOthers (pages_of (map string_bytes words.now)) (F.known files.old) (F.listed files.old)
         (F.known files.new) result }
+    ensures requests { WhereKnown (F.known files.old) (F.listed files.old) (λ all folders. FollowsTo
+        (option_map_or (pages_steps all folders) (pages_of (map string_bytes words.now)) [])
+        (F.requests files.old) (F.requests files.new) result) }
     ensures quiet { result ≡ 0 → err.new ≡ err.old }
 {
     match Pages::from_words(words) {
@@ -147,6 +167,7 @@ pub(crate) fn tell<F: Folder, E: Write>(
     ensures status { result ≡ exit_status answer.entry }
     ensures quiet { result ≡ 0 → err.new ≡ err.old }
     ensures same { F.known files.new ≡ F.known files.old }
+    ensures requests { F.requests files.new ≡ F.requests files.old }
 {
     match answer {
         Ok(()) => 0,
@@ -172,6 +193,9 @@ fn print_or_write<'w, F: Folder, W: Write>(
     ensures command { exit_status result ≢ 2 }
     ensures placed { Placed Printed (asked_of command.entry) (asked_of command.entry).choices.output (F.known files.old)
         (F.listed files.old) (F.known files.new) (W.contents out.old) (W.contents out.new) (exit_status result) }
+    ensures requests { WhereKnown (F.known files.old) (F.listed files.old) (λ all folders. Follows
+        (command_steps all folders (asked_of command.entry).paths (asked_of command.entry).choices.ending)
+        (F.requests files.old) (F.requests files.new) result) }
 {
     match command.choices.output {
         None => print(alloc, command, files, out),
@@ -190,6 +214,9 @@ fn execute_or_write<'w, F: Folder, K: Sink>(
     ensures command { exit_status result ≢ 2 }
     ensures placed { Placed (λ done. done) (asked_of command.entry) (asked_of command.entry).choices.output (F.known files.old)
         (F.listed files.old) (F.known files.new) (K.sunk sink.old) (K.sunk sink.new) (exit_status result) }
+    ensures requests { WhereKnown (F.known files.old) (F.listed files.old) (λ all folders. Follows
+        (command_steps all folders (asked_of command.entry).paths (asked_of command.entry).choices.ending)
+        (F.requests files.old) (F.requests files.new) result) }
     ensures behind { Grows (K.sunk sink.old) (K.sunk sink.new) }
     ensures borrows { (K.sunk sink.new).lent ≡ (K.sunk sink.old).lent }
 {
@@ -210,6 +237,9 @@ pub(crate) fn print<'w, F: Folder, W: Write>(
     ensures prints { Printed (Executes command.entry.choices.options (asked_of command.entry).choices.ending (asked_of command.entry).paths
         (F.known files.old) (F.listed files.old)) (W.contents out.old) (W.contents out.new) (exit_status result) }
     ensures same { F.known files.new ≡ F.known files.old }
+    ensures requests { WhereKnown (F.known files.old) (F.listed files.old) (λ all folders. Follows
+        (command_steps all folders (asked_of command.entry).paths (asked_of command.entry).choices.ending)
+        (F.requests files.old) (F.requests files.new) result) }
 {
     let mut sink = WriterSink::new(out);
     let answer = execute(alloc, command, files, &mut sink);
@@ -218,20 +248,33 @@ pub(crate) fn print<'w, F: Folder, W: Write>(
 }
 
 /// Returns the answer after the output was flushed. If that failed, what was rendered, or written before an error, has
-/// the error of a sink that fails.
+/// the error of a sink that fails, unless memory ran out.
 pub(crate) fn settle<'w>(
     alloc: Global,
     answer: Result<(), Fault<'w>>,
     flushed: io::Result<()>,
 ) -> Result<(), Fault<'w>>
-    ensures { exit_status result ≡ settled (exit_status answer.entry) (is_ok flushed) }
+    ensures status { exit_status result ≡ settled (exit_status answer.entry) (is_ok flushed) }
+    ensures trouble { trouble_in result ≡ trouble_in answer.entry }
+    ensures memory { IsMemory answer.entry → IsMemory result }
 {
     match (answer, flushed) {
-        (Ok(()) | Err(Fault::Refused(_) | Fault::Explained(..)), Err(_)) => {
-            Err(Fault::Refused(Error::with_msg(alloc, "Failed to render")))
-        }
+        (Ok(()) | Err(Fault::Explained(..)), Err(_)) => Err(failed(alloc)),
+        (Err(Fault::Refused(error)), Err(_)) => if error.is_memory() {
+            Err(Fault::Refused(error))
+        } else {
+            Err(failed(alloc))
+        },
         (answer, _) => answer,
     }
+}
+
+/// Returns the fault of a sink that fails.
+fn failed<'w>(alloc: Global) -> Fault<'w>
+    ensures status { fault_status result ≡ 1 }
+    ensures trouble { reported result ≡ None }
+{
+    Fault::Refused(Error::with_msg(alloc, "Failed to render"))
 }
 
 /// Reads the files that the command names, renders its template and writes the result.
@@ -247,6 +290,9 @@ fn execute<'w, F: Folder, K: Sink>(
         (F.known files.old) (F.listed files.old)
         (K.sunk sink.old) (K.sunk sink.new) (exit_status result) }
     ensures same { F.known files.new ≡ F.known files.old }
+    ensures requests { WhereKnown (F.known files.old) (F.listed files.old) (λ all folders. Follows
+        (command_steps all folders (asked_of command.entry).paths (asked_of command.entry).choices.ending)
+        (F.requests files.old) (F.requests files.new) result) }
     ensures behind { Grows (K.sunk sink.old) (K.sunk sink.new) }
     ensures borrows { (K.sunk sink.new).lent ≡ (K.sunk sink.old).lent }
 {

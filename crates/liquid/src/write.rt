@@ -1,6 +1,7 @@
 //! Writing a page to a file.
 ghost use Rattle.std.specs.Prelude.{◌≡◌, ◌≢◌, IfOk, string_bytes};
 ghost use Rattle.liquid.specs.meaning.Command.{asked_of};
+ghost use Rattle.liquid.specs.meaning.Requests.{Follows, IsMemory, WhereKnown, command_steps, trouble_in};
 ghost use Rattle.liquid.specs.meaning.Status.{exit_status};
 ghost use Rattle.liquid.specs.meaning.Written.{
   file_in,
@@ -72,6 +73,9 @@ pub(crate) fn land<'w, F: Folder>(
     ensures lands { Lands (F.known files.old) (F.known files.new) (string_bytes file) page.now
         (exit_status answer.entry) (exit_status result) }
     ensures command { exit_status answer.entry ≢ 2 → exit_status result ≢ 2 }
+    ensures requests { F.requests files.new ≡ F.requests files.old }
+    ensures trouble { trouble_in result ≡ trouble_in answer.entry }
+    ensures memory { IsMemory answer.entry → IsMemory result }
 {
     answer?;
     match files.replace(alloc, file.as_str(), page) {
@@ -92,6 +96,9 @@ pub(crate) fn write_page<'w, F: Folder>(
     ensures command { exit_status result ≢ 2 }
     ensures writes { WritesAsked (asked_of command.entry) place.now (F.known files.old) (F.listed files.old)
         (F.known files.new) (exit_status result) }
+    ensures requests { WhereKnown (F.known files.old) (F.listed files.old) (λ all folders. Follows
+        (command_steps all folders (asked_of command.entry).paths (asked_of command.entry).choices.ending)
+        (F.requests files.old) (F.requests files.new) result) }
 {
     let mut page = Vec::new(alloc);
     let answer = print(alloc, command, files, &mut page);

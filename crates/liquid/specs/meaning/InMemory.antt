@@ -9,7 +9,7 @@ use Rattle.liquid_template.specs.meaning.Run.{Run, written}
 use Rattle.liquid_partials.specs.meaning.Sources.{Texts}
 use Rattle.liquid.specs.declared.in_memory.InMemoryFolder.{InMemoryFolder}
 use Rattle.liquid.specs.meaning.Command.{Asked, command_of}
-use Rattle.liquid.specs.meaning.Files.{Same}
+use Rattle.liquid.specs.meaning.Files.{Same, known_in, listed_in}
 use Rattle.liquid.specs.meaning.PagesCommand.{pages_of}
 use Rattle.liquid.specs.meaning.Written.{WritesAsked, WritesOthers}
 use Rattle.liquid.specs.declared.command.Options.{Options}
@@ -69,13 +69,6 @@ ShowsIn true options text globals partials output status = ShowsPage standard_se
 
 abbrev pub ShowsText : Options → List ℕ → Names → Option Texts → List ℕ → ℕ → Type 0
 ShowsText options text globals partials output status = ShowsIn options.standard (page_options options) text globals partials output status
-
--- files in memory are known
-abbrev pub known_in : (List ℕ → Option (List ℕ)) → List ℕ → Option (Option (List ℕ))
-known_in files path = Some (files path)
-
-abbrev pub listed_in : (Bool → List ℕ → Option (List (List ℕ))) → Bool → List ℕ → Option (Option (List (List ℕ)))
-listed_in folders is_deep path = Some (folders is_deep path)
 
 -- what a command shows, by the files at its paths
 abbrev pub ShowsCommand : Options → Option (List ℕ) → List (List ℕ) → (List ℕ → Option (List ℕ)) → (Bool → List ℕ → Option (List (List ℕ))) → List ℕ → ℕ → Type 0

@@ -1,6 +1,6 @@
 -- The command line of several pages: `render`, options, and then the templates. Its options are those of a single page,
 -- and `--globals FILE`, `--partials DIR` and `-o DIR`, of which the first and the last have to be there.
-use Rattle.std.specs.Prelude.{◌&&◌, ◌||◌, ℕ, List, [], ◌∷◌, ◌++◌, Bool, true, false, not, is_some, Option, None, Some, codes, if◌then◌else◌, map, option_map, string_bytes}
+use Rattle.std.specs.Prelude.{◌&&◌, ◌||◌, ℕ, List, [], ◌∷◌, Bool, true, false, not, is_some, Option, None, Some, codes, if◌then◌else◌, map, option_map, string_bytes}
 use Rattle.std.specs.Option.{option_map_or}
 use Rattle.std.specs.Str.{bytes_eq}
 use Rattle.std.specs.Path.{path_file_name}

@@ -1,6 +1,6 @@
 -- The two languages of the program: the tag library with two filters, and standard Liquid; and what their templates are
 -- rendered with.
-use Rattle.std.specs.Prelude.{ℕ, List, [], ◌∷◌, false, codes, Option, None, Result, Ok, Err}
+use Rattle.std.specs.Prelude.{ℕ, [], ◌∷◌, false, codes, Option, None, Result, Err}
 use Rattle.std.specs.FinMap.{empty}
 use Rattle.liquid_error.specs.meaning.Refusal.{Refusal, plain}
 use Rattle.liquid_runtime.specs.meaning.Maps.{NameMap}

@@ -17,6 +17,11 @@ abbrev pub exit_status : Result (Unit {0}) Fault → ℕ
 exit_status (Ok _) = 0
 exit_status (Err fault) = fault_status fault
 
+-- the status of several pages, or of the fault that came before them
+abbrev pub all_status : Result ℕ Fault → ℕ
+all_status (Ok status) = status
+all_status (Err fault) = fault_status fault
+
 -- the status after a flush of the output: if it failed, that of an error, unless nothing was rendered
 abbrev pub settled : ℕ → Bool → ℕ
 settled status true = status

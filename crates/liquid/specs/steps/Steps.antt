@@ -1,9 +1,11 @@
 -- What each step of reading returns: what was requested, or the status of a fault.
-use Rattle.std.specs.Prelude.{◌≡◌, ℕ, ◌⊎◌, List, Result, Ok, Err, String, string_bytes, ⊤}
+use Rattle.std.specs.Prelude.{◌≡◌, ℕ, ◌⊎◌, List, [], ◌∷◌, Option, None, Some, Result, Ok, Err, String, string_bytes, ⊤}
 use Rattle.std.specs.declared.alloc.Global.{Global}
 use Rattle.liquid.specs.declared.fault.Fault.{Fault}
 use Rattle.liquid.specs.declared.folder.Unread.{Unread}
 use Rattle.liquid.specs.declared.folder.Unread.TheVariants.{Fault as Absent, Memory}
+use Rattle.liquid.specs.meaning.Files.{Request, Requests, also}
+use Rattle.liquid.specs.meaning.Requests.{Begins, IsMemory, OutOfMemory, Step, Trouble, first_trouble, reported, up_to_trouble}
 use Rattle.liquid.specs.meaning.Status.{fault_status}
 
 -- what was requested can't be read, or memory ran out
@@ -26,7 +28,36 @@ BringsText bytes (Ok text) = string_bytes text ≡ bytes
 BringsText bytes (Err Absent) = ⊥
 BringsText bytes (Err Memory) = ⊤
 
--- the status of several pages, or of the fault that came before them
-abbrev pub all_status : Result ℕ Fault → ℕ
-all_status (Ok status) = status
-all_status (Err fault) = fault_status fault
+-- a fault reports this trouble, or memory ran out
+abbrev pub ReportsTrouble : Trouble → Fault → Type 0
+ReportsTrouble trouble fault = (reported fault ≡ Some trouble) ⊎ OutOfMemory fault
+
+abbrev pub Reports : {A : Type 0} → Trouble → Result A Fault → Type 0
+Reports trouble (Ok x) = ⊤
+Reports trouble (Err fault) = ReportsTrouble trouble fault
+
+-- there is a trouble, which a fault reports, or memory ran out
+abbrev pub ReportsSome : Option Trouble → Fault → Type 0
+ReportsSome any fault = ((trouble : Trouble) × (any ≡ Some trouble) × (reported fault ≡ Some trouble)) ⊎ OutOfMemory fault
+
+abbrev pub ReportsAny : {A : Type 0} → Option Trouble → Result A Fault → Type 0
+ReportsAny any (Ok x) = any ≡ None
+ReportsAny any (Err fault) = ReportsSome any fault
+
+-- a request was made, unless memory ran out before it
+abbrev pub Requested : {A : Type 0} → Request → Requests → Requests → Result A Fault → Type 0
+Requested request before after result = (after ≡ also before (request ∷ [])) ⊎ (IsMemory result × (after ≡ before))
+
+-- all requests were made, and there is no trouble
+abbrev pub CollectsAll : List Step → Requests → Requests → Type 0
+CollectsAll steps before after = (after ≡ also before (up_to_trouble steps)) × (first_trouble steps ≡ None)
+
+-- the requests up to the first trouble were made, which a fault reports; or memory ran out after some of them
+abbrev pub CollectsSome : List Step → Requests → Requests → Fault → Type 0
+CollectsSome steps before after fault =
+    ((after ≡ also before (up_to_trouble steps)) × (trouble : Trouble) × (first_trouble steps ≡ Some trouble) × (reported fault ≡ Some trouble))
+    ⊎ (OutOfMemory fault × Begins (up_to_trouble steps) before after)
+
+abbrev pub Collects : {A : Type 0} → List Step → Requests → Requests → Result A Fault → Type 0
+Collects steps before after (Ok x) = CollectsAll steps before after
+Collects steps before after (Err fault) = CollectsSome steps before after fault

@@ -17,7 +17,9 @@ const WITH_NONE: &[&str] = &["render", "t", "g.json", "none"];
 
 const WITH_BAD: &[&str] = &["render", "t", "g.json", "d"];
 
-const ROWS: [Row; 13] = [
+const WITH_NO_GLOBALS: &[&str] = &["render", "t", "none.json", "none"];
+
+const ROWS: [Row; 20] = [
     (
         b"{{ x | }}",
         b"{}",
@@ -78,6 +80,37 @@ const ROWS: [Row; 13] = [
         3,
         "liquid: cannot read none\n",
     ),
+    (b"x", b"{", WITH_NONE, 3, "liquid: bad JSON in g.json\n"),
+    (
+        b"x",
+        b"{\"a\": 1.5}",
+        WITH_NONE,
+        3,
+        "liquid: Fractional number\n",
+    ),
+    (
+        b"{{ x | }}",
+        b"\xff",
+        WITH_BAD,
+        3,
+        "liquid: cannot read g.json\n",
+    ),
+    (
+        b"{{ x | }}",
+        b"{}",
+        WITH_NO_GLOBALS,
+        3,
+        "liquid: cannot read none.json\n",
+    ),
+    (
+        b"\xff",
+        b"{}",
+        WITH_NO_GLOBALS,
+        3,
+        "liquid: cannot read t\n",
+    ),
+    (b"\xff", b"[1]", WITH_BAD, 3, "liquid: cannot read t\n"),
+    (b"\xff", b"{}", WITH_NONE, 3, "liquid: cannot read t\n"),
     (b"\xff", b"{", &["render", "t"], 2, USAGE),
 ];
 

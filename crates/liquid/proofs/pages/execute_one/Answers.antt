@@ -1,11 +1,10 @@
-use Rattle.std.proofs.Common.{Ok, rules, subst, ◌∙◌, refl}
+use Rattle.std.proofs.Common.{rules, ◌∙◌, refl}
 use Rattle.std.specs.Prelude.{⊤}
 use Rattle.liquid_json.specs.meaning.Given.{object_read}
-use Rattle.liquid.specs.meaning.Program.{ExecutesOne}
 use Rattle.liquid.specs.meaning.Status.{exit_status}
 use Rattle.liquid.proofs.ExecutedLemmas.{failed}
 use Rattle.liquid.proofs.GatheredLemmas.{globals_anyhow}
-use Rattle.liquid.proofs.PagesLemmas.{maybe_globals, one_memory, one_rendered, one_unread}
+use Rattle.liquid.proofs.PagesLemmas.{maybe_globals, one_memory, one_unread}
 use Rattle.liquid.proofs.pages.execute_one.Goals as goal
 
 pub returns-in_err-text-clause-executes : goal.returns-in_err-text-clause-executes

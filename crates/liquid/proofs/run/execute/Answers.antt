@@ -1,4 +1,4 @@
-use Rattle.std.proofs.Common.{◌≡◌, Ok, Err, Option, String, Global, rules, subst, ◌∙◌, string_bytes, option_map}
+use Rattle.std.proofs.Common.{◌≡◌, ◌∷◌, ap, refl, sym, Ok, Err, Option, Result, String, Global, rules, subst, ◌∙◌, string_bytes, option_map}
 use Rattle.liquid_partials.specs.meaning.Sources.{Texts}
 use Rattle.liquid.specs.meaning.Command.{option_words}
 use Rattle.liquid.specs.meaning.Gathered.{WithText, WithPartials}
@@ -7,6 +7,9 @@ use Rattle.liquid.specs.meaning.Status.{exit_status, fault_status}
 use Rattle.liquid.specs.steps.Steps.{Stops, Brings}
 use Rattle.liquid.proofs.GatheredLemmas.{Files, Folders}
 use Rattle.liquid.proofs.ExecutedLemmas.{no_template, no_json, no_globals, no_partials, executed, failed}
+use Rattle.liquid.specs.declared.fault.Fault.{Fault}
+use Rattle.liquid.specs.meaning.Requests.{Follows, command_steps}
+use Rattle.liquid.proofs.StepsLemmas.{all_followed, globals_known, globals_refused, globals_stop, globals_unread, partials_stop, template_stops, text_known}
 use Rattle.liquid.proofs.run.execute.Goals as goal
 
 pub returns-in_err-template-clause-executes : goal.returns-in_err-template-clause-executes
@@ -76,4 +79,102 @@ returns-clause-executes g c =
     c.in_ok-template.template c.in_ok-json.json c.in_ok-globals.globals source c.render_over.result c.in_ok-template.ensures.text json (rw c.as_str.ensures.value at c.in_ok-globals.ensures.globals)
     (subst (λ (f : Folders). WithPartials (g.F.Folder.known c.args.files.now) f ending words (Stops (Ok source)) (λ partials. Brings (λ (s : Option Texts). s) partials (Ok source))) listed
     (subst (λ (k : Files). WithPartials k (g.F.Folder.listed c.text_of-2.new.files) ending words (Stops (Ok source)) (λ partials. Brings (λ (s : Option Texts). s) partials (Ok source))) same c.in_ok-partials.ensures.partials))
-    (rw c.as_str-2.ensures.value at c.render_over.ensures.renders) (c.refuse.ensures ∙ one)
+    (rw c.as_str-2.ensures.value at c.render_over.ensures.renders) (c.refuse.ensures.status ∙ one)
+
+pub returns-in_err-template-clause-requests : goal.returns-in_err-template-clause-requests
+returns-in_err-template-clause-requests g c = λ all folders known listed.
+    let ending = option_map (λ e. e.now) c.args.command.choices.ending in
+    let template = c.args.command.paths.template.now in
+    let globals = c.args.command.paths.globals.now in
+    let words = option_words (option_map (λ f. f.now) c.args.command.paths.folder) in
+    let before = g.F.Folder.requests c.args.files.now in
+    let first = g.F.Folder.requests c.text_of.new.files in
+    let fault = c.in_err-template.field-0.0 in
+    let is : c.from_residual.result ≡ Err fault = search rules in
+    subst (λ r. Follows (command_steps all folders (template ∷ globals ∷ words) ending) before first r) (sym is)
+    (template_stops all folders template globals words ending before first fault c.text_of.ensures.requests
+    (text_known (all template) _ template (Err fault) (ap (λ (k : Files). k template) known) c.in_err-template.ensures.text c.in_err-template.ensures.reports))
+
+pub returns-in_err-json-clause-requests : goal.returns-in_err-json-clause-requests
+returns-in_err-json-clause-requests g c = λ all folders known listed.
+    let ending = option_map (λ e. e.now) c.args.command.choices.ending in
+    let template = c.args.command.paths.template.now in
+    let globals = c.args.command.paths.globals.now in
+    let words = option_words (option_map (λ f. f.now) c.args.command.paths.folder) in
+    let before = g.F.Folder.requests c.args.files.now in
+    let first = g.F.Folder.requests c.text_of.new.files in
+    let second = g.F.Folder.requests c.text_of-2.new.files in
+    let here = ap (λ (k : Files). k globals) (c.text_of.ensures.same ∙ known) in
+    let none = text_known (all template) _ template (Ok c.in_ok-template.template) (ap (λ (k : Files). k template) known) c.in_ok-template.ensures.text tt in
+    let fault = c.in_err-json.field-0.0 in
+    let is : c.from_residual-in_err-json.result ≡ Err fault = search rules in
+    subst (λ r. Follows (command_steps all folders (template ∷ globals ∷ words) ending) before second r) (sym is)
+    (globals_stop all folders template globals words ending before first c.text_of.ensures.requests none second fault c.text_of-2.ensures.requests
+    (globals_unread (all globals) globals fault (text_known (all globals) _ globals (Err fault) here c.in_err-json.ensures.text c.in_err-json.ensures.reports)))
+
+pub returns-in_err-globals-clause-requests : goal.returns-in_err-globals-clause-requests
+returns-in_err-globals-clause-requests g c = λ all folders known listed.
+    let ending = option_map (λ e. e.now) c.args.command.choices.ending in
+    let template = c.args.command.paths.template.now in
+    let globals = c.args.command.paths.globals.now in
+    let words = option_words (option_map (λ f. f.now) c.args.command.paths.folder) in
+    let before = g.F.Folder.requests c.args.files.now in
+    let first = g.F.Folder.requests c.text_of.new.files in
+    let second = g.F.Folder.requests c.text_of-2.new.files in
+    let here = ap (λ (k : Files). k globals) (c.text_of.ensures.same ∙ known) in
+    let none = text_known (all template) _ template (Ok c.in_ok-template.template) (ap (λ (k : Files). k template) known) c.in_ok-template.ensures.text tt in
+    let fault = c.in_err-globals.field-0.0 in
+    let is : c.from_residual-in_err-globals.result ≡ Err fault = search rules in
+    subst (λ r. Follows (command_steps all folders (template ∷ globals ∷ words) ending) before second r) (sym is)
+    (globals_stop all folders template globals words ending before first c.text_of.ensures.requests none second fault c.text_of-2.ensures.requests
+    (globals_refused (all globals) _ globals c.in_ok-json.json fault here c.in_ok-json.ensures.text (rw c.as_str.ensures.value at c.in_err-globals.ensures.reports)))
+
+pub returns-in_err-partials-clause-requests : goal.returns-in_err-partials-clause-requests
+returns-in_err-partials-clause-requests g c = λ all folders known listed.
+    let ending = option_map (λ e. e.now) c.args.command.choices.ending in
+    let template = c.args.command.paths.template.now in
+    let globals = c.args.command.paths.globals.now in
+    let words = option_words (option_map (λ f. f.now) c.args.command.paths.folder) in
+    let before = g.F.Folder.requests c.args.files.now in
+    let first = g.F.Folder.requests c.text_of.new.files in
+    let second = g.F.Folder.requests c.text_of-2.new.files in
+    let here = ap (λ (k : Files). k globals) (c.text_of.ensures.same ∙ known) in
+    let none = text_known (all template) _ template (Ok c.in_ok-template.template) (ap (λ (k : Files). k template) known) c.in_ok-template.ensures.text tt in
+    let fault = c.in_err-partials.field-0.0 in
+    let is : c.from_residual-in_err-partials.result ≡ Err fault = search rules in
+    let after = g.F.Folder.requests c.partials_of.new.files in
+    let fit = globals_known (all globals) _ globals c.in_ok-json.json here c.in_ok-json.ensures.text ∙ (rw c.as_str.ensures.value at c.in_ok-globals.ensures.reports) in
+    subst (λ r. Follows (command_steps all folders (template ∷ globals ∷ words) ending) before after r) (sym is)
+    (partials_stop all folders template globals words ending before first c.text_of.ensures.requests none second c.text_of-2.ensures.requests fit after fault
+    (c.in_err-partials.ensures.requests all folders (c.text_of-2.ensures.same ∙ c.text_of.ensures.same ∙ known) (c.text_of-2.ensures.listed ∙ c.text_of.ensures.listed ∙ listed)))
+
+pub returns-in-Ok-clause-requests : goal.returns-in-Ok-clause-requests
+returns-in-Ok-clause-requests g c = λ all folders known listed.
+    let ending = option_map (λ e. e.now) c.args.command.choices.ending in
+    let template = c.args.command.paths.template.now in
+    let globals = c.args.command.paths.globals.now in
+    let words = option_words (option_map (λ f. f.now) c.args.command.paths.folder) in
+    let before = g.F.Folder.requests c.args.files.now in
+    let first = g.F.Folder.requests c.text_of.new.files in
+    let second = g.F.Folder.requests c.text_of-2.new.files in
+    let here = ap (λ (k : Files). k globals) (c.text_of.ensures.same ∙ known) in
+    let none = text_known (all template) _ template (Ok c.in_ok-template.template) (ap (λ (k : Files). k template) known) c.in_ok-template.ensures.text tt in
+    let fit = globals_known (all globals) _ globals c.in_ok-json.json here c.in_ok-json.ensures.text ∙ (rw c.as_str.ensures.value at c.in_ok-globals.ensures.reports) in
+    all_followed all folders template globals words ending before first c.text_of.ensures.requests none second c.text_of-2.ensures.requests fit (g.F.Folder.requests c.partials_of.new.files) (Ok (tt {0}))
+    (c.in_ok-partials.ensures.requests all folders (c.text_of-2.ensures.same ∙ c.text_of.ensures.same ∙ known) (c.text_of-2.ensures.listed ∙ c.text_of.ensures.listed ∙ listed)) refl
+
+pub returns-clause-requests : goal.returns-clause-requests
+returns-clause-requests g c = λ all folders known listed.
+    let ending = option_map (λ e. e.now) c.args.command.choices.ending in
+    let template = c.args.command.paths.template.now in
+    let globals = c.args.command.paths.globals.now in
+    let words = option_words (option_map (λ f. f.now) c.args.command.paths.folder) in
+    let before = g.F.Folder.requests c.args.files.now in
+    let first = g.F.Folder.requests c.text_of.new.files in
+    let second = g.F.Folder.requests c.text_of-2.new.files in
+    let here = ap (λ (k : Files). k globals) (c.text_of.ensures.same ∙ known) in
+    let none = text_known (all template) _ template (Ok c.in_ok-template.template) (ap (λ (k : Files). k template) known) c.in_ok-template.ensures.text tt in
+    let fit = globals_known (all globals) _ globals c.in_ok-json.json here c.in_ok-json.ensures.text ∙ (rw c.as_str.ensures.value at c.in_ok-globals.ensures.reports) in
+    let answer : Result (Unit {0}) Fault = Err c.refuse.result in
+    all_followed all folders template globals words ending before first c.text_of.ensures.requests none second c.text_of-2.ensures.requests fit (g.F.Folder.requests c.partials_of.new.files) answer
+    (c.in_ok-partials.ensures.requests all folders (c.text_of-2.ensures.same ∙ c.text_of.ensures.same ∙ known) (c.text_of-2.ensures.listed ∙ c.text_of.ensures.listed ∙ listed)) c.refuse.ensures.trouble
