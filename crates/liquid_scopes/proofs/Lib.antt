@@ -6,4 +6,5 @@ pub mod Places
 pub mod Unlisted
 pub mod Sealed
 pub mod FlatLaws
+pub mod GivesLaws
 pub mod Alike

@@ -82,22 +82,13 @@ impl<R: Runtime> Runtime for ChainedScopes<R> {
 
     fn set_global(&mut self, name: String, value: Value) -> Result<Option<Value>, Error> {
         match self.last_global() {
-            Some(i) => match self.links[i].assign(name, value) {
-                Ok(old) => Ok(old),
-                Err(e) => Err(e),
-            },
-            None => match self.base.set_global(name, value) {
-                Ok(old) => Ok(old),
-                Err(e) => Err(e),
-            },
+            Some(i) => self.links[i].assign(name, value),
+            None => self.base.set_global(name, value),
         }
     }
 
     fn set_index(&mut self, name: String, value: Value) -> Result<Option<Value>, Error> {
-        match self.base.set_index(name, value) {
-            Ok(old) => Ok(old),
-            Err(e) => Err(e),
-        }
+        self.base.set_index(name, value)
     }
 
     fn registers(&self) -> &Registers<R::Register> {
@@ -133,15 +124,10 @@ impl<R: Runtime> Scopes for ChainedScopes<R> {
     }
 
     fn push(&mut self, frame: Frame) -> Result<(), Error> {
-        match self.links.reserve(1) {
-            Ok(()) => {}
-            Err(_) => return Err(Error::Memory),
-        }
+        self.links.reserve(1)?;
         let link = opening(self.alloc, &mut self.base, frame);
-        match self.links.push(link) {
-            Ok(()) => return Ok(()),
-            Err(_) => return Err(Error::Memory),
-        }
+        self.links.push_reserved(link);
+        Ok(())
     }
 
     fn pop(&mut self) {

@@ -169,22 +169,13 @@ impl<R: Runtime> Runtime for FlatScopes<R> {
 
     fn set_global(&mut self, name: String, value: Value) -> Result<Option<Value>, Error> {
         match self.table.last_global() {
-            Some(place) => match self.table.assign(self.alloc, place, name, value) {
-                Ok(old) => Ok(old),
-                Err(e) => Err(e),
-            },
-            None => match self.base.set_global(name, value) {
-                Ok(old) => Ok(old),
-                Err(e) => Err(e),
-            },
+            Some(place) => self.table.assign(self.alloc, place, name, value),
+            None => self.base.set_global(name, value),
         }
     }
 
     fn set_index(&mut self, name: String, value: Value) -> Result<Option<Value>, Error> {
-        match self.base.set_index(name, value) {
-            Ok(old) => Ok(old),
-            Err(e) => Err(e),
-        }
+        self.base.set_index(name, value)
     }
 
     fn registers(&self) -> &Registers<R::Register> {

@@ -50,13 +50,9 @@ impl Frames {
         if place == last {
             return Ok(());
         }
-        match self.earlier.insert(place.min(last)) {
-            Ok(_) => {
-                self.last = Some(place.max(last));
-                Ok(())
-            }
-            Err(_) => Err(Error::Memory),
-        }
+        self.earlier.insert(place.min(last))?;
+        self.last = Some(place.max(last));
+        Ok(())
     }
 
     // Removes a place.

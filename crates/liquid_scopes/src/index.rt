@@ -49,14 +49,9 @@ impl Index {
             Some(frames) => return frames.add(frame),
             None => {}
         }
-        let name = match String::from_str(alloc, name) {
-            Ok(name) => name,
-            Err(_) => return Err(Error::Memory),
-        };
-        match self.places.insert(name, Frames::one(alloc, frame)) {
-            Ok(_) => Ok(()),
-            Err(_) => Err(Error::Memory),
-        }
+        let name = String::from_str(alloc, name)?;
+        self.places.insert(name, Frames::one(alloc, frame))?;
+        Ok(())
     }
 
     // Records that the frame no longer gives the name a value.
@@ -83,10 +78,7 @@ impl Index {
         ensures err { IfErr result (λ e. told e ≡ None) }
     {
         for (name, _) in names.iter() {
-            match self.note(alloc, name.as_str(), frame) {
-                Ok(()) => {}
-                Err(error) => return Err(error),
-            }
+            self.note(alloc, name.as_str(), frame)?;
         }
         Ok(())
     }

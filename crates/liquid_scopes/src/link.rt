@@ -258,10 +258,8 @@ fn note_both(
     ensures partly { PartlyNoted (λ q. is_some (option_or (get (names_of assigned.now) q) (get (names_of names.now) q)))
         place index.old.places index.new.places }
 {
-    match index.note_all(alloc, names, place) {
-        Ok(()) => index.note_all(alloc, assigned, place),
-        Err(error) => Err(error),
-    }
+    index.note_all(alloc, names, place)?;
+    index.note_all(alloc, assigned, place)
 }
 
 // Records that the frame at this place no longer gives the names of both objects a value.

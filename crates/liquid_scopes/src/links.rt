@@ -80,8 +80,5 @@ pub(crate) fn put<V: Fresh>(
         ≡ places_where is_global 0 (layers_of links.old.items)) }
     ensures unchanged { OnErr result (map layer_of links.new.items ≡ map layer_of links.old.items) }
 {
-    match links[place].assign(name, value) {
-        Ok(old) => Ok(old),
-        Err(error) => Err(error),
-    }
+    links[place].assign(name, value)
 }

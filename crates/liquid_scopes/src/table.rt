@@ -216,10 +216,7 @@ impl<V: Fresh> Table<V> {
         if !next.can_hold_names() {
             return Ok(());
         }
-        match self.list(alloc) {
-            Ok(()) => {}
-            Err(error) => return Err(error),
-        }
+        self.list(alloc)?;
         self.unlisted = Some(self.links.len());
         Ok(())
     }
@@ -308,14 +305,8 @@ impl<V: Fresh> Table<V> {
         if is_at(self.unlisted, place) {
             return put(&mut self.links, place, name, value);
         }
-        let kept = match name.clone() {
-            Ok(kept) => kept,
-            Err(_) => return Err(Error::Memory),
-        };
-        match self.index.note(alloc, kept.as_str(), place) {
-            Ok(()) => {}
-            Err(error) => return Err(error),
-        }
+        let kept = name.clone()?;
+        self.index.note(alloc, kept.as_str(), place)?;
         match put(&mut self.links, place, name, value) {
             Ok(old) => Ok(old),
             Err(error) => {

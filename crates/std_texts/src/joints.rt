@@ -12,6 +12,9 @@ use liquid_value::{Value, ValueCow};
 use std::alloc::Global;
 use std_values::errors::unexpected_arguments;
 
+/// The most bytes that an integer is written in.
+const DIGITS: usize = 20;
+
 /// Returns the text, followed by that of the argument.
 pub fn append(alloc: Global, input: &Value, arguments: &[ValueCow<'_>]) -> Result<Value, Error>
     ensures { Gives tree_of result (appended (tree_of input.now) (map cow_view arguments.now)) }
@@ -32,10 +35,19 @@ pub fn prepend(alloc: Global, input: &Value, arguments: &[ValueCow<'_>]) -> Resu
     }
 }
 
+/// Returns the texts of both values as one. Its room is made once, unless both are longer than expected.
 fn join(alloc: Global, front: &Value, back: &Value) -> Result<Value, Error>
     ensures { Gives tree_of result (Ok (joined (tree_of front.now) (tree_of back.now))) }
 {
-    let front = ValueRender::new(front);
-    let back = ValueRender::new(back);
-    Ok(Value::Scalar(ScalarOf::Str(format!(in alloc; "{front}{back}")?)))
+    let mut text = String::with_capacity(alloc, width(front).saturating_add(width(back)))?;
+    write!(text, "{}{}", ValueRender::new(front), ValueRender::new(back))?;
+    Ok(Value::Scalar(ScalarOf::Str(text)))
+}
+
+/// Returns how many bytes to expect of the text of a value: those of a text, and room for a number otherwise.
+fn width(value: &Value) -> usize {
+    match value {
+        Value::Scalar(ScalarOf::Str(text)) => text.len(),
+        _ => DIGITS,
+    }
 }

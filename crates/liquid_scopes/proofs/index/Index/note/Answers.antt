@@ -19,14 +19,14 @@ returns-in-Some-clause-unchanged c =
     on_err c.add.result (λ h q j. same_frames c.args.self.now.places (c.get_mut.follows.lender w) c.args.name.now q c.in-Some.frames.now w j c.in-Some.ensures.value
     (btree_map_updates_text c.args.name.now c.args.self.now.places (c.get_mut.follows.lender w) (Some w) ((c.get_mut.follows.holds w).3 (search rules)) q) (h j)) c.add.ensures.unchanged
 
-pub returns-in-Ok-insert-clause-noted : goal.returns-in-Ok-insert-clause-noted
-returns-in-Ok-insert-clause-noted c = λ q j.
+pub returns-clause-noted : goal.returns-clause-noted
+returns-clause-noted c = λ q j.
     let m = c.args.self.now.places in
     let asked = c.get_mut.follows.lender-at-none in
     let same : asked ≡ m = c.get_mut.follows.holds-at-none in
-    let k = string_bytes c.in-Ok.name in
-    let named : k ≡ c.args.name.now = c.in-Ok.ensures.ok in
+    let k = string_bytes c.in_ok-name.name in
+    let named : k ≡ c.args.name.now = c.in_ok-name.ensures.ok in
     new_name asked c.insert.new.self k q c.one.result j (nat_eq j c.args.frame) (c.in-None.ensures.value ∙ ap (get_by_text m) (sym named) ∙ ap (λ x. get_by_text x k) (sym same))
-    (btree_map_updates_text k asked c.insert.new.self (Some c.one.result) c.in-Ok-insert.ensures.updates q) (c.one.ensures j)
+    (btree_map_updates_text k asked c.insert.new.self (Some c.one.result) c.in_ok-insert.ensures.updates q) (c.one.ensures j)
     ∙ ap (λ x. stands x q j || (bytes_eq k q && nat_eq j c.args.frame)) same
     ∙ ap (λ bs. stands m q j || (bytes_eq bs q && nat_eq j c.args.frame)) named

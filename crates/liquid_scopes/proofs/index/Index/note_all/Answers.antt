@@ -21,19 +21,19 @@ loop-name-preserved c = λ q j.
     let es = c.next.new.self in
     let e = nat_eq j c.args.frame in
     let b = bytes_eq (string_bytes k) q in
-    let noted : stands c.note.new.self.places q j ≡ (S || (b && e)) = c.in-Ok.ensures.noted q j ∙ ap (λ bs. S || (bytes_eq bs q && e)) c.as_str.ensures.value in
+    let noted : stands c.note.new.self.places q j ≡ (S || (b && e)) = c.in_ok-note.ensures.noted q j ∙ ap (λ bs. S || (bytes_eq bs q && e)) c.as_str.ensures.value in
     let more : has_name q c.loop-name.name-iterator ≡ (b || has_name q es) = ap (has_name q) c.in-Some.ensures.steps ∙ has_more k c.in-Some.field-0-1.now es q in (
       ap (λ x. x || (has_name q es && e)) noted ∙ note_moves S b (has_name q es) e ∙ ap (λ x. S || (x && e)) (sym more) ∙ (c.loop-name.invariant q j).0,
       ap (λ x. x || O) noted ∙ stays_there S (b && e) O (c.loop-name.invariant q j).1 ∙ sym noted,
     )
 
-pub returns-in-Err-clause-partly : goal.returns-in-Err-clause-partly
-returns-in-Err-clause-partly c = λ q j.
+pub returns-in_err-note-clause-partly : goal.returns-in_err-note-clause-partly
+returns-in_err-note-clause-partly c = λ q j.
     let S = stands c.loop-name.self.places q j in
     let O = stands c.args.self.now.places q j in
     let e = nat_eq j c.args.frame in
     let X = is_some (get (names_of c.args.names.now) q) && e in
-    ap (λ x. x || X) (c.in-Err.ensures.unchanged q j) ∙ partly_noted S O X (has_name q c.loop-name.name-iterator && e) (c.loop-name.invariant q j).0 (c.loop-name.invariant q j).1
+    ap (λ x. x || X) (c.in_err-note.ensures.unchanged q j) ∙ partly_noted S O X (has_name q c.loop-name.name-iterator && e) (c.loop-name.invariant q j).0 (c.loop-name.invariant q j).1
 
 pub returns-clause-noted : goal.returns-clause-noted
 returns-clause-noted c = λ q j.
