@@ -40,7 +40,12 @@ fn join(alloc: Global, front: &Value, back: &Value) -> Result<Value, Error>
     ensures { Gives tree_of result (Ok (joined (tree_of front.now) (tree_of back.now))) }
 {
     let mut text = String::with_capacity(alloc, width(front).saturating_add(width(back)))?;
-    write!(text, "{}{}", ValueRender::new(front), ValueRender::new(back))?;
+    write!(
+        text,
+        "{}{}",
+        ValueRender::new(front),
+        ValueRender::new(back)
+    )?;
     Ok(Value::Scalar(ScalarOf::Str(text)))
 }
 

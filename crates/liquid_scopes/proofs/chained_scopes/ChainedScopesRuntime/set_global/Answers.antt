@@ -20,8 +20,8 @@ returns-in-Some-clause-gives g c =
     let xs = c.args.self.now.links.items in
     let here = read_here layer_of xs c.in-Some.i c.index_mut.result.now c.in-Some.ensures in
     gives_value (option_map tree_of) c.assign.result _ (IfOk-weaker c.assign.result _ _ (λ old is.
-      ap (λ o. old_value no_global_frame o q) (globals_here (g.R.Runtime.view c.args.self.now.base) (map layer_of xs) c.in-Some.i c.in-Some.ensures)
-      ∙ ap (λ o. Ok o) (sym (is ∙ ap (λ k. get (assigned (layer_of k)) q) c.index_mut.ensures.value ∙ ap (λ k. get (assigned k) q) here))) c.assign.ensures.old) c.assign.ensures.err
+    ap (λ o. old_value no_global_frame o q) (globals_here (g.R.Runtime.view c.args.self.now.base) (map layer_of xs) c.in-Some.i c.in-Some.ensures)
+    ∙ ap (λ o. Ok o) (sym (is ∙ ap (λ k. get (assigned (layer_of k)) q) c.index_mut.ensures.value ∙ ap (λ k. get (assigned k) q) here))) c.assign.ensures.old) c.assign.ensures.err
 
 pub returns-in-Some-clause-sets : goal.returns-in-Some-clause-sets
 returns-in-Some-clause-sets g c =
@@ -30,7 +30,7 @@ returns-in-Some-clause-sets g c =
     let t = tree_of c.args.value in
     let here = read_here layer_of xs c.in-Some.i c.index_mut.result.now c.in-Some.ensures in
     on_ok_weaker c.assign.result (λ is. set_shown layer_of (g.R.Runtime.view c.args.self.now.base) xs c.in-Some.i c.assign.new.self q t c.in-Some.ensures
-      (is ∙ ap (λ k. assigning (insert (assigned (layer_of k)) q t) (layer_of k)) c.index_mut.ensures.value ∙ ap (λ k. assigning (insert (assigned k) q t) k) here)) c.assign.ensures.sets
+    (is ∙ ap (λ k. assigning (insert (assigned (layer_of k)) q t) (layer_of k)) c.index_mut.ensures.value ∙ ap (λ k. assigning (insert (assigned k) q t) k) here)) c.assign.ensures.sets
 
 pub returns-in-Some-clause-unchanged : goal.returns-in-Some-clause-unchanged
 returns-in-Some-clause-unchanged g c =
@@ -47,10 +47,10 @@ returns-in-Some-clause-owes g c =
     let rs = scope_base ∷ g.R.Runtime.restores c.args.self.now.base in
     let here = read_here layer_of xs c.in-Some.i c.index_mut.result.now c.in-Some.ensures in
     on_both c.assign.result
-      (λ is. set_restoring g.R.Register.Fresh.shape layer_of v xs c.in-Some.i c.assign.new.self q t rs c.in-Some.ensures
-        (is ∙ ap (λ k. assigning (insert (assigned (layer_of k)) q t) (layer_of k)) c.index_mut.ensures.value ∙ ap (λ k. assigning (insert (assigned k) q t) k) here))
-      (λ same. ap (λ ys. restoring g.R.Register.Fresh.shape v ys rs) (set_same layer_of xs c.in-Some.i c.assign.new.self c.in-Some.ensures (same ∙ ap layer_of c.index_mut.ensures.value ∙ here)))
-      c.assign.ensures.sets c.assign.ensures.unchanged
+    (λ is. set_restoring g.R.Register.Fresh.shape layer_of v xs c.in-Some.i c.assign.new.self q t rs c.in-Some.ensures
+    (is ∙ ap (λ k. assigning (insert (assigned (layer_of k)) q t) (layer_of k)) c.index_mut.ensures.value ∙ ap (λ k. assigning (insert (assigned k) q t) k) here))
+    (λ same. ap (λ ys. restoring g.R.Register.Fresh.shape v ys rs) (set_same layer_of xs c.in-Some.i c.assign.new.self c.in-Some.ensures (same ∙ ap layer_of c.index_mut.ensures.value ∙ here)))
+    c.assign.ensures.sets c.assign.ensures.unchanged
 
 pub returns-in-None-clause-gives : goal.returns-in-None-clause-gives
 returns-in-None-clause-gives g c = gives_same _ c.set_global.result _ _ (ap (λ o. old_value no_global_frame o (string_bytes c.args.name)) (shown_globals_are (g.R.Runtime.view c.args.self.now.base) (map layer_of c.args.self.now.links.items) c.in-None.ensures)) c.set_global.ensures.gives
@@ -70,6 +70,6 @@ returns-in-None-clause-owes g c =
     let rs = scope_base ∷ g.R.Runtime.restores c.set_global.new.self in
     let below = ap (λ xs. restoring g.R.Register.Fresh.shape v ls (scope_base ∷ xs)) c.set_global.ensures.owes in
     on_both c.set_global.result
-      (λ is. ap (λ u. restoring g.R.Register.Fresh.shape u ls rs) is ∙ restoring_put_global g.R.Register.Fresh.shape v ls (string_bytes c.args.name) (tree_of c.args.value) rs c.in-None.ensures ∙ below)
-      (λ same. ap (λ u. restoring g.R.Register.Fresh.shape u ls rs) same ∙ below)
-      c.set_global.ensures.sets c.set_global.ensures.unchanged
+    (λ is. ap (λ u. restoring g.R.Register.Fresh.shape u ls rs) is ∙ restoring_put_global g.R.Register.Fresh.shape v ls (string_bytes c.args.name) (tree_of c.args.value) rs c.in-None.ensures ∙ below)
+    (λ same. ap (λ u. restoring g.R.Register.Fresh.shape u ls rs) same ∙ below)
+    c.set_global.ensures.sets c.set_global.ensures.unchanged

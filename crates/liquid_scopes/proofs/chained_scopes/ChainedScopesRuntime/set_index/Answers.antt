@@ -27,6 +27,6 @@ returns-clause-owes g c =
     let rs = scope_base ∷ g.R.Runtime.restores c.set_index.new.self in
     let below = ap (λ xs. restoring g.R.Register.Fresh.shape v ls (scope_base ∷ xs)) c.set_index.ensures.owes in
     on_both c.set_index.result
-      (λ is. ap (λ u. restoring g.R.Register.Fresh.shape u ls rs) is ∙ restoring_put_index g.R.Register.Fresh.shape v ls (string_bytes c.args.name) (tree_of c.args.value) rs ∙ below)
-      (λ same. ap (λ u. restoring g.R.Register.Fresh.shape u ls rs) same ∙ below)
-      c.set_index.ensures.sets c.set_index.ensures.unchanged
+    (λ is. ap (λ u. restoring g.R.Register.Fresh.shape u ls rs) is ∙ restoring_put_index g.R.Register.Fresh.shape v ls (string_bytes c.args.name) (tree_of c.args.value) rs ∙ below)
+    (λ same. ap (λ u. restoring g.R.Register.Fresh.shape u ls rs) same ∙ below)
+    c.set_index.ensures.sets c.set_index.ensures.unchanged

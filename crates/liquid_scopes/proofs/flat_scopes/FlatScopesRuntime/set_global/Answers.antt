@@ -39,6 +39,6 @@ returns-in-None-clause-owes g c =
     let rs = scope_base ∷ g.R.Runtime.restores c.set_global.new.self in
     let below = ap (λ xs. restoring g.R.Register.Fresh.shape v ls (scope_base ∷ xs)) c.set_global.ensures.owes in
     on_both c.set_global.result
-      (λ is. ap (λ u. restoring g.R.Register.Fresh.shape u ls rs) is ∙ restoring_put_global g.R.Register.Fresh.shape v ls (string_bytes c.args.name) (tree_of c.args.value) rs c.in-None.ensures ∙ below)
-      (λ same. ap (λ u. restoring g.R.Register.Fresh.shape u ls rs) same ∙ below)
-      c.set_global.ensures.sets c.set_global.ensures.unchanged
+    (λ is. ap (λ u. restoring g.R.Register.Fresh.shape u ls rs) is ∙ restoring_put_global g.R.Register.Fresh.shape v ls (string_bytes c.args.name) (tree_of c.args.value) rs c.in-None.ensures ∙ below)
+    (λ same. ap (λ u. restoring g.R.Register.Fresh.shape u ls rs) same ∙ below)
+    c.set_global.ensures.sets c.set_global.ensures.unchanged
