@@ -18,6 +18,10 @@ pub record IsExpression (x : ExpCursor) (source : List ℕ) (chain : Chain) : Ty
   pub name_is : option_map (λ name. name.now) x.name ≡ identifier_of (chain_kind chain.what.0 chain.what.1)
   pub fine : chain_fault chain ≡ None
 
+-- this holds of each source and of the expression that the cursor is there
+abbrev pub IfExpression : ExpCursor → (List ℕ → Chain → Type 0) → Type 0
+IfExpression x holds = (source : List ℕ) (chain : Chain) → IsExpression x source chain → holds source chain
+
 -- what is neither a tag nor an expression, by its brace
 pub record IsInvalid (x : InvalidLiquidToken) (source behind : List ℕ) : Type 0 where
   pub source_is : x.source.now ≡ source
@@ -30,3 +34,7 @@ StandsFor (Tag x) source behind (tag_element tag text) = IsTag x source tag × (
 StandsFor (Expression x) source behind (expression chain text) = IsExpression x source chain × (x.text.now ≡ text)
 StandsFor (Invalid x) source behind (invalid text) = IsInvalid x source behind × (x.text.now ≡ text)
 StandsFor _ source behind _ = ⊥
+
+-- this holds of each source, of the text that follows, and of the element that the cursor means there
+abbrev pub IfElement : BlockElement → (List ℕ → List ℕ → cover.Element → Type 0) → Type 0
+IfElement x holds = (source behind : List ℕ) (e : cover.Element) → StandsFor x source behind e → holds source behind e

@@ -65,10 +65,14 @@ module _ {F : Type 0} (filters : Filters F) (source : List ℕ) where
   filter_or None f = Err (unknown_filter f)
   filter_or (Some make) f = filter_refused (place_in source f.place) (slice_between f.place f.behind) (make (arguments_meant f.what.1))
 
+  -- a filter of a chain, which the language has by its name
+  abbrev pub filter_read : token.Filter → Result F Refusal
+  filter_read f = filter_or (filters.get f.what.0) f
+
   -- the filters of a chain, from left to right
   abbrev pub filters_read : List token.Filter → Result (List F) Refusal
   filters_read [] = Ok []
-  filters_read (f ∷ fs) = ok_then (filter_or (filters.get f.what.0) f) (λ x. ok_then (filters_read fs) (λ xs. Ok (x ∷ xs)))
+  filters_read (f ∷ fs) = ok_then (filter_read f) (λ x. ok_then (filters_read fs) (λ xs. Ok (x ∷ xs)))
 
   abbrev pub chain_read : token.Chain → Result (ChainShape F) Refusal
   chain_read c = ok_then (filters_read c.what.1) (λ xs. Ok (record { entry = expression_meant c.what.0; filters = xs }))

@@ -24,6 +24,10 @@ pub record IsTag (tag : Tag) (source : List ℕ) (t : token.Tag) : Type 0 where
   pub tokens_are : AreTokens tag.tokens (handed source t)
   pub fine : tag_fault t ≡ None
 
+-- this holds of each source and of the tag that the cursor is there
+abbrev pub IfTag : Tag → (List ℕ → token.Tag → Type 0) → Type 0
+IfTag tag holds = (source : List ℕ) (t : token.Tag) → IsTag tag source t → holds source t
+
 -- the tag that the source is, unless one of its literals or brackets has a fault; an out-of-memory error says nothing
 abbrev pub GivesTag : Result Tag Error → List ℕ → token.Tag → Type 0
 GivesTag (Ok tag) source t = (checked source (tag_fault t) ≡ Ok tt) × IsTag tag source t × (tag.text.now ≡ source)

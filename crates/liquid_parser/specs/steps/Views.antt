@@ -1,19 +1,34 @@
 -- What the parser's stack means to the reading.
-use Rattle.std.specs.Prelude.{◌≡◌, ℕ, List, [], map, reverse, Option, Some, None, Result, Ok, Err, IfSome}
+use Rattle.std.specs.Prelude.{◌≡◌, ℕ, List, [], ◌∷◌, map, reverse, Option, Some, None, Result, Ok, Err, IfSome}
 use Rattle.std.specs.Borrow.{Bor}
+use Rattle.std.specs.Global.{Vec}
 use Rattle.liquid_error.specs.declared.error.Error.{Error}
-use Rattle.liquid_error.specs.meaning.Told.{told}
+use Rattle.liquid_error.specs.meaning.Told.{told, Gives}
 use Rattle.liquid_error.specs.meaning.Refusal.{Refusal, ok_then}
 use Rattle.liquid_grammar.specs.meaning.Cover.{Element, Cover}
 use Rattle.liquid_plugins.specs.declared.tree.Node.{Node}
+use Rattle.liquid_plugins.specs.meaning.Nodes.{NodeShape}
+use Rattle.liquid_parser.specs.declared.cursor.element.BlockElement.{BlockElement}
 use Rattle.liquid_parser.specs.declared.reading.stack.OpenBlock.{OpenBlock}
 use Rattle.liquid_parser.specs.declared.reading.stack.ParserState.{ParserState}
 use Rattle.liquid_parser.specs.declared.reading.stack.Next.{Next}
 use Rattle.liquid_parser.specs.declared.reading.stack.Next.TheVariants.{Among, Escaped}
 use Rattle.liquid_plugins.specs.meaning.NodesOf.{shapes_of}
+use Rattle.liquid_parser.specs.meaning.Elements.{IfElement}
 use Rattle.liquid_parser.specs.meaning.Handed.{place_in}
 use Rattle.liquid_parser.specs.meaning.Lang.{Lang, Block, escaped}
 use Rattle.liquid_parser.specs.meaning.Reading.{Open, State, among, inside, step, escape, finished, unclosed_by}
+
+-- the state that a call leads to, and the elements that are left of the text after it; an out-of-memory error says
+-- nothing
+abbrev pub LeadsTo : {A S : Type 0} → (A → S) → Result (A × Bor (List ℕ)) Error → Result (S × List Element) Refusal → Type 0
+LeadsTo of (Ok p) meant = (left : List Element) × Cover p.1.now left × (meant ≡ Ok (of p.0, left))
+LeadsTo of (Err e) meant = IfSome (told e) (λ r. meant ≡ Err r)
+
+-- the same for a call to which the state is lent, and which leaves it at this one
+abbrev pub LeavesAt : {S : Type 0} → S → Result (Bor (List ℕ)) Error → Result (S × List Element) Refusal → Type 0
+LeavesAt st (Ok rest) meant = (left : List Element) × Cover rest.now left × (meant ≡ Ok (st, left))
+LeavesAt st (Err e) meant = IfSome (told e) (λ r. meant ≡ Err r)
 
 -- blocks of the program, over what filters, tag nodes, block nodes, plans and kinds of block mean
 module _ {X N K L W F T B P : Type 0} (filter : X → F) (tag : N → T) (block : K → B) (plan : L → P) (kind : W → Block F P B) where
@@ -38,6 +53,45 @@ module _ {X N K L W F T B P : Type 0} (filter : X → F) (tag : N → T) (block 
   next_view Among s = state_view s
   next_view (Escaped b) s = inside (open_view b) (blocks_view s.open.items) 0 []
 
+  -- a call that opens a block after these nodes, divides a block or closes it gives what is meant of the block and of
+  -- these nodes, which are the next part of an open block
+  abbrev pub Opens : List (Node X N K) → Result (OpenBlock W L (Node X N K)) Error → (List (NodeShape F T B) → Result (Open F T P B) Refusal) → Type 0
+  Opens nodes result meant = Gives open_view result (meant (shapes_of filter tag block nodes))
+
+  abbrev pub Divides : {U : Type 0} → (old new : OpenBlock W L (Node X N K)) → List (Node X N K) → Result U Error
+      → (Open F T P B → List (NodeShape F T B) → Result (Open F T P B) Refusal) → Type 0
+  Divides old new nodes result meant = Gives (λ _. open_view new) result (meant (open_view old) (shapes_of filter tag block nodes))
+
+  abbrev pub Closes : OpenBlock W L (Node X N K) → List (Node X N K) → Result (Vec (Node X N K)) Error
+      → (Open F T P B → List (NodeShape F T B) → Result (List (NodeShape F T B)) Refusal) → Type 0
+  Closes b nodes result meant = Gives (λ v. shapes_of filter tag block v.items) result (meant (open_view b) (shapes_of filter tag block nodes))
+
+  -- a call takes the state one step on: to what is meant of its open blocks and of the nodes so far
+  abbrev pub Steps : (old new : ParserState W L (Node X N K)) → Result (Next W L (Node X N K)) Error
+      → (List (Open F T P B) → List (NodeShape F T B) → Result (State F T P B) Refusal) → Type 0
+  Steps old new result meant = Gives (λ n. next_view n new) result (meant (blocks_view old.open.items) (shapes_of filter tag block old.nodes.items))
+
+  -- the same if a block is open: to what is meant of the innermost block, of those around it and of the nodes so far
+  abbrev pub StepsInside : (old new : ParserState W L (Node X N K)) → Result (Next W L (Node X N K)) Error
+      → (Open F T P B → List (Open F T P B) → List (NodeShape F T B) → Result (State F T P B) Refusal) → Type 0
+  StepsInside old new result meant =
+      (b : Open F T P B) (blocks : List (Open F T P B)) → blocks_view old.open.items ≡ b ∷ blocks → Gives (λ n. next_view n new) result (meant b blocks (shapes_of filter tag block old.nodes.items))
+
+  -- a call reads some of the text from a state on, which it leaves at a state
+  abbrev pub Leaves : Next W L (Node X N K) → (old new : ParserState W L (Node X N K)) → List ℕ → Result (Bor (List ℕ)) Error
+      → (State F T P B → List Element → Result (State F T P B × List Element) Refusal) → Type 0
+  Leaves next old new text result meant = (es : List Element) → Cover text es → LeavesAt (state_view new) result (meant (next_view next old) es)
+
+  -- the same for an element, which this text follows
+  abbrev pub Advances : BlockElement → (old new : ParserState W L (Node X N K)) → List ℕ → Result (Bor (List ℕ)) Error
+      → (State F T P B → (own behind : List ℕ) → Element → List Element → Result (State F T P B × List Element) Refusal) → Type 0
+  Advances element old new text result meant = IfElement element (λ own behind e. Leaves Among old new text result (λ st es. meant st own behind e es))
+
+  -- a call reads some of the text from a state on, up to these nodes
+  abbrev pub ReadsOn : Next W L (Node X N K) → ParserState W L (Node X N K) → List ℕ → Result (Vec (Node X N K) × Bor (List ℕ)) Error
+      → (State F T P B → List Element → Result (List (NodeShape F T B) × List Element) Refusal) → Type 0
+  ReadsOn next s text result meant = (es : List Element) → Cover text es → LeadsTo (λ v. shapes_of filter tag block v.items) result (meant (next_view next s) es)
+
 -- the escaped body of a block that has just begun is read to its end: how far the text is read then, and the elements
 -- that are left
 abbrev pub escaped_body : {F T P B : Type 0} → List ℕ → Open F T P B → List (Open F T P B) → Option (List ℕ × List Element)
@@ -55,14 +109,3 @@ past_escaped source (inside b blocks level so_far) es =
 abbrev pub advanced : {F T P B : Type 0} → Lang F T P B → (source : List ℕ) → ℕ → State F T P B → (own behind : List ℕ) → Element
     → List Element → Result (State F T P B × List Element) Refusal
 advanced l source outside st own behind e es = ok_then (step l own outside st e behind) (λ next. past_escaped source next es)
-
--- the state that a call leads to, and the elements that are left of the text after it; an out-of-memory error says
--- nothing
-abbrev pub LeadsTo : {A S : Type 0} → (A → S) → Result (A × Bor (List ℕ)) Error → Result (S × List Element) Refusal → Type 0
-LeadsTo of (Ok p) meant = (left : List Element) × Cover p.1.now left × (meant ≡ Ok (of p.0, left))
-LeadsTo of (Err e) meant = IfSome (told e) (λ r. meant ≡ Err r)
-
--- the same for a call to which the state is lent, and which leaves it at this one
-abbrev pub LeavesAt : {S : Type 0} → S → Result (Bor (List ℕ)) Error → Result (S × List Element) Refusal → Type 0
-LeavesAt st (Ok rest) meant = (left : List Element) × Cover rest.now left × (meant ≡ Ok (st, left))
-LeavesAt st (Err e) meant = IfSome (told e) (λ r. meant ≡ Err r)

@@ -4,7 +4,7 @@ ghost use Rattle.liquid_grammar.specs.meaning.Faults.{argument_fault, first_faul
 ghost use Rattle.liquid_grammar.specs.meaning.Parts.{ArgumentsFrom};
 ghost use Rattle.liquid_grammar.specs.meaning.Tokens.{Argument};
 ghost use Rattle.liquid_plugins.specs.meaning.ArgumentsOf.{arguments_of};
-ghost use Rattle.liquid_parser.specs.steps.Built.{BuiltUnless};
+ghost use Rattle.liquid_parser.specs.steps.Built.{Builds};
 ghost use Rattle.liquid_parser.specs.meaning.Handed.{arguments_meant};
 
 use crate::chain::build::build_from;
@@ -20,7 +20,7 @@ pub(crate) fn build_arguments<'a>(
     s: &'a str,
 ) -> Result<Option<(FilterArguments<'a>, &'a str)>, AllocError>
     ensures value { (rest : List ℕ) (given : List Argument) → ArgumentsFrom true s.now rest given
-        → IfOk result (λ found. BuiltUnless (first_fault argument_fault given) arguments_of found (arguments_meant given) rest) }
+        → Builds (first_fault argument_fault given) arguments_of result (arguments_meant given) rest }
     ensures within { IfOk result (λ found. IfSome found (λ p. length p.1.now ≤ length s.now)) }
 {
     let mut positional = Vec::new(alloc);

@@ -1,15 +1,15 @@
 //! Expressions, built from a text that begins with one. Each part of the text is walked once.
-ghost use Rattle.std.specs.Prelude.{◌≡◌, ◌<◌, ◌≤◌, ℕ, List, None, IfOk, IfSome, MatchOption, length};
+ghost use Rattle.std.specs.Prelude.{◌≡◌, ◌≤◌, ℕ, List, None, IfOk, IfSome, MatchOption, length};
 ghost use Rattle.liquid_grammar.specs.meaning.Faults.{fault_within, index_fault, indexes_fault, literal_fault};
 ghost use Rattle.liquid_grammar.specs.meaning.Meanings.{literal_of};
 ghost use Rattle.liquid_grammar.specs.meaning.Parts.{IsHead, IsIndex};
-ghost use Rattle.liquid_grammar.specs.meaning.Rules.{Begins, Repeated};
-ghost use Rattle.liquid_grammar.specs.meaning.Values.{Value as MatchedValue, ValueRule, Index, IndexRule, CloseBracket, gather};
+ghost use Rattle.liquid_grammar.specs.meaning.Rules.{Repeated};
+ghost use Rattle.liquid_grammar.specs.meaning.Values.{Value as MatchedValue, ValueRule, Index, IndexRule, gather};
 ghost use Rattle.liquid_scalar.specs.meaning.Scalar.{text};
 ghost use Rattle.liquid_value.specs.meaning.View.{view as tree_of};
 ghost use Rattle.liquid_plugins.specs.meaning.Expression.{variable};
 ghost use Rattle.liquid_plugins.specs.meaning.ExpressionOf.{expression_of};
-ghost use Rattle.liquid_parser.specs.steps.Built.{BuiltUnless};
+ghost use Rattle.liquid_parser.specs.steps.Built.{Builds, ClosesInside};
 ghost use Rattle.liquid_parser.specs.meaning.Handed.{literal_tree, expression_meant, indexes_meant, index_meant};
 
 use liquid_grammar::{
@@ -31,8 +31,8 @@ pub(crate) fn build_value<'a>(
     depth: usize,
 ) -> Result<Option<(Expression, &'a str)>, AllocError>
     requires { depth ≤ 100 }
-    ensures value { (rest : List ℕ) (v : MatchedValue) → ValueRule s.now rest v → (0 < depth → Begins CloseBracket rest)
-        → IfOk result (λ found. BuiltUnless (fault_within depth v) expression_of found (expression_meant v) rest) }
+    ensures value { (rest : List ℕ) (v : MatchedValue) → ValueRule s.now rest v → ClosesInside depth rest
+        → Builds (fault_within depth v) expression_of result (expression_meant v) rest }
     ensures within { IfOk result (λ found. IfSome found (λ p. length p.1.now ≤ length s.now)) }
 {
     match value_head(s) {
@@ -50,8 +50,8 @@ pub(crate) fn build_from<'a>(
     depth: usize,
 ) -> Result<Option<(Expression, &'a str)>, AllocError>
     requires { depth ≤ 100 }
-    ensures value { (place rest : List ℕ) (v : MatchedValue) → IsHead place rest head.entry s.now v → (0 < depth → Begins CloseBracket rest)
-        → IfOk result (λ found. BuiltUnless (fault_within depth v) expression_of found (expression_meant v) rest) }
+    ensures value { (place rest : List ℕ) (v : MatchedValue) → IsHead place rest head.entry s.now v → ClosesInside depth rest
+        → Builds (fault_within depth v) expression_of result (expression_meant v) rest }
     ensures within { IfOk result (λ found. IfSome found (λ p. length p.1.now ≤ length s.now)) }
 {
     match head {
@@ -72,9 +72,8 @@ pub(crate) fn build_variable<'a>(
     depth: usize,
 ) -> Result<Option<(Expression, &'a str)>, AllocError>
     requires { depth ≤ 100 }
-    ensures value { (rest : List ℕ) (is : List Index) → Repeated IndexRule s.now rest is → (0 < depth → Begins CloseBracket rest)
-        → IfOk result (λ found. BuiltUnless (indexes_fault depth (gather is)) expression_of found
-        (variable (text name.now) (indexes_meant (gather is))) rest) }
+    ensures value { (rest : List ℕ) (is : List Index) → Repeated IndexRule s.now rest is → ClosesInside depth rest
+        → Builds (indexes_fault depth (gather is)) expression_of result (variable (text name.now) (indexes_meant (gather is))) rest }
     ensures within { IfOk result (λ found. IfSome found (λ p. length p.1.now ≤ length s.now)) }
 {
     let mut indexes = Vec::new(alloc);
@@ -102,7 +101,7 @@ fn build_index<'a>(
 ) -> Result<Option<(Expression, &'a str)>, AllocError>
     requires { depth ≤ 100 }
     ensures value { (place rest : List ℕ) (i : Index) → IsIndex place start.entry s.now rest i
-        → IfOk result (λ found. BuiltUnless (index_fault depth i) expression_of found (index_meant i) rest) }
+        → Builds (index_fault depth i) expression_of result (index_meant i) rest }
     ensures within { IfOk result (λ found. IfSome found (λ p. length p.1.now ≤ length s.now)) }
 {
     match start {

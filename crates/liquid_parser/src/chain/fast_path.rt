@@ -4,16 +4,14 @@
 ghost use Rattle.std.specs.Prelude.{◌≡◌, ◌∷◌, ◌<◌, ◌≤◌, ℕ, List, IfOk, IfSome, codes, length, map};
 ghost use Rattle.liquid_error.specs.meaning.Told.{told};
 ghost use Rattle.liquid_grammar.specs.meaning.Faults.{filter_fault, chain_fault, first_fault};
-ghost use Rattle.liquid_grammar.specs.meaning.Parts.{IsFilter, IsHead, OpensExpression};
-ghost use Rattle.liquid_grammar.specs.meaning.Rules.{Repeated};
-ghost use Rattle.liquid_grammar.specs.meaning.Tokens as token;
-ghost use Rattle.liquid_grammar.specs.meaning.Tokens.{Behind, FilterRule};
+ghost use Rattle.liquid_grammar.specs.meaning.Parts.{IsFilter, OpensExpression};
+ghost use Rattle.liquid_grammar.specs.meaning.Tokens.{Filter};
 ghost use Rattle.liquid_plugins.specs.meaning.ExpressionOf.{chain_of};
 ghost use Rattle.liquid_plugins.specs.meaning.Nodes.{chain_node};
 ghost use Rattle.liquid_plugins.specs.meaning.NodesOf.{node_of, name_chain};
 ghost use Rattle.liquid_parser.specs.meaning.Plugins.{registry_of};
-ghost use Rattle.liquid_parser.specs.meaning.Reading.{chain_read, filters_read, filter_or, refused_at};
-ghost use Rattle.liquid_parser.specs.steps.Built.{ComesTo, Endless, Made, MadeToEnd, MakesNode, StandsInvalid};
+ghost use Rattle.liquid_parser.specs.meaning.Reading.{chain_read, filters_read, filter_read, refused_at};
+ghost use Rattle.liquid_parser.specs.steps.Built.{ComesTo, FiltersRule, IfHeaded, Made, WalksToEnd, WalksToNode};
 
 use crate::chain::arguments::build_arguments;
 use crate::chain::build::build_from;
@@ -52,8 +50,8 @@ pub(crate) fn fast_expression<
     s: &'a str,
     language: &Language<F, T, B>,
 ) -> Result<Walked<(Node<F::Filter, T::Node, B::Node>, &'a str)>, AllocError>
-    ensures value { (source : List ℕ) → IfOk result (λ walked. ComesTo walked (λ p. MakesNode (registry_of F.makes language.now.filters)
-        source s.now p.1.now (node_of F.Filter.shape T.Node.shape B.Node.shape p.0)) (StandsInvalid s.now)) }
+    ensures value { (source : List ℕ) → WalksToNode F.Filter.shape T.Node.shape B.Node.shape
+        (registry_of F.makes language.now.filters) source s.now result }
     ensures shorter { IfOk result (λ walked. ComesTo walked (λ p. length p.1.now < length s.now) Unit) }
 {
     match expression_start(s) {
@@ -70,8 +68,7 @@ fn fast_from_chain<'a, F: ParseFilter + Drop, T: ParseTag<F> + Drop, B: ParseBlo
     language: &Language<F, T, B>,
 ) -> Result<Walked<(Node<F::Filter, T::Node, B::Node>, &'a str)>, AllocError>
     ensures value { (source s : List ℕ) → OpensExpression s start.now
-        → IfOk result (λ walked. ComesTo walked (λ p. MakesNode (registry_of F.makes language.now.filters)
-        source s p.1.now (node_of F.Filter.shape T.Node.shape B.Node.shape p.0)) (StandsInvalid s)) }
+        → WalksToNode F.Filter.shape T.Node.shape B.Node.shape (registry_of F.makes language.now.filters) source s result }
     ensures shorter { IfOk result (λ walked. ComesTo walked (λ p. length p.1.now < length start.now) Unit) }
 {
     let (head, behind) = match value_head(start) {
@@ -122,10 +119,8 @@ fn fast_chain<'a, F: ParseFilter + Drop>(
     s: &'a str,
     registry: &PluginRegistry<F>,
 ) -> Result<Walked<(FilterChain<F::Filter>, &'a str)>, AllocError>
-    ensures value { (source place middle rest : List ℕ) (c : token.Chain) → IsHead place middle head.entry s.now c.what.0
-        → Repeated (Behind 124 FilterRule) middle rest c.what.1
-        → IfOk result (λ walked. ComesTo walked (λ p. MadeToEnd (chain_fault c) (chain_of F.Filter.shape) p
-        (chain_read (registry_of F.makes registry.now) source c) rest) (Endless rest)) }
+    ensures value { (source : List ℕ) → IfHeaded head.entry s.now (λ rest c. WalksToEnd (chain_fault c) (chain_of F.Filter.shape) result
+        (chain_read (registry_of F.makes registry.now) source c) rest) }
     ensures shorter { IfOk result (λ walked. ComesTo walked (λ p. length p.1.now < length s.now) Unit) }
 {
     match build_from(alloc, head, s, 0)? {
@@ -146,9 +141,9 @@ fn fast_filters<'a, F: ParseFilter + Drop>(
     s: &'a str,
     registry: &PluginRegistry<F>,
 ) -> Result<Walked<(Vec<F::Filter>, &'a str)>, AllocError>
-    ensures value { (source rest : List ℕ) (fs : List token.Filter) → Repeated (Behind 124 FilterRule) s.now rest fs
-        → IfOk result (λ walked. ComesTo walked (λ p. MadeToEnd (first_fault filter_fault fs) (λ v. map F.Filter.shape v.items) p
-        (filters_read (registry_of F.makes registry.now) source fs) rest) (Endless rest)) }
+    ensures value { (source rest : List ℕ) (fs : List Filter) → FiltersRule s.now rest fs
+        → WalksToEnd (first_fault filter_fault fs) (λ v. map F.Filter.shape v.items) result
+        (filters_read (registry_of F.makes registry.now) source fs) rest }
     ensures shorter { IfOk result (λ walked. ComesTo walked (λ p. length p.1.now < length s.now) Unit) }
 {
     let mut filters = Vec::new(alloc);
@@ -174,9 +169,9 @@ fn fast_filter<'a, F: ParseFilter + Drop>(
     start: FilterStart<'a>,
     registry: &PluginRegistry<F>,
 ) -> Result<Option<(F::Filter, &'a str)>, AllocError>
-    ensures value { (source rest : List ℕ) (f : token.Filter) → IsFilter start.entry rest f
+    ensures value { (source rest : List ℕ) (f : Filter) → IsFilter start.entry rest f
         → IfOk result (λ found. IfSome found (λ p. Made (filter_fault f) F.Filter.shape p
-        (filter_or (registry_of F.makes registry.now) source ((registry_of F.makes registry.now).get f.what.0) f) rest)) }
+        (filter_read (registry_of F.makes registry.now) source f) rest)) }
     ensures within { IfOk result (λ found. IfSome found (λ p. length p.1.now ≤ length start.entry.rest.now)) }
 {
     let plug_in = match registry.get(start.name) {

@@ -3,12 +3,11 @@ ghost use Rattle.std.specs.Prelude.{◌≡◌, ◌≤◌, ℕ, List, None, IfOk,
 ghost use Rattle.liquid_error.specs.meaning.Told.{told, Gives, Becomes};
 ghost use Rattle.liquid_grammar.specs.meaning.Faults.{filter_fault, chain_fault, first_fault};
 ghost use Rattle.liquid_grammar.specs.meaning.Parts.{IsFilter};
-ghost use Rattle.liquid_grammar.specs.meaning.Rules.{Repeated};
-ghost use Rattle.liquid_grammar.specs.meaning.Tokens.{Behind, FilterRule, ChainRule};
+ghost use Rattle.liquid_grammar.specs.meaning.Tokens.{FilterRule, ChainRule};
 ghost use Rattle.liquid_plugins.specs.meaning.ExpressionOf.{chain_of};
-ghost use Rattle.liquid_parser.specs.steps.Built.{GivesUpTo};
+ghost use Rattle.liquid_parser.specs.steps.Built.{FiltersRule, GivesUpTo};
 ghost use Rattle.liquid_parser.specs.meaning.Plugins.{registry_of};
-ghost use Rattle.liquid_parser.specs.meaning.Reading.{chain_read, filters_read, filter_or, unknown_filter, refusal_of_filter};
+ghost use Rattle.liquid_parser.specs.meaning.Reading.{chain_read, filters_read, filter_read, unknown_filter, refusal_of_filter};
 ghost use Rattle.liquid_grammar.specs.meaning.Tokens as token;
 ghost use Rattle.liquid_parser.specs.meaning.Handed as spec;
 
@@ -50,7 +49,7 @@ fn parse_filters<F: ParseFilter + Drop>(
     s: &str,
     registry: &PluginRegistry<F>,
 ) -> Result<Vec<F::Filter>, Error>
-    ensures { (rest : List ℕ) (fs : List token.Filter) → Repeated (Behind 124 FilterRule) s.now rest fs → first_fault filter_fault fs ≡ None
+    ensures { (rest : List ℕ) (fs : List token.Filter) → FiltersRule s.now rest fs → first_fault filter_fault fs ≡ None
         → Gives (λ v. map F.Filter.shape v.items) result (filters_read (registry_of F.makes registry.now) source.now fs) }
 {
     let mut filters = Vec::new(alloc);
@@ -71,8 +70,7 @@ fn parse_filter<'a, F: ParseFilter + Drop>(
     registry: &PluginRegistry<F>,
 ) -> Result<(F::Filter, &'a str), Error>
     ensures value { (rest : List ℕ) (f : token.Filter) → IsFilter start.entry rest f → FilterRule f.place f.behind f → filter_fault f ≡ None
-        → GivesUpTo F.Filter.shape result
-        (filter_or (registry_of F.makes registry.now) source.now ((registry_of F.makes registry.now).get f.what.0) f) rest }
+        → GivesUpTo F.Filter.shape result (filter_read (registry_of F.makes registry.now) source.now f) rest }
     ensures within { IfOk result (λ p. length p.1.now ≤ length start.entry.rest.now) }
 {
     let plug_in = match registry.get(start.name) {

@@ -74,16 +74,10 @@ impl<'a, 'n> TagBlock<'a, 'n> {
         match next_element(place) {
             Some((found, behind)) => {
                 self.rest = behind;
-                match hand_over(alloc, self.source, place, found) {
-                    Ok(element) => match is_end(alloc, element, self.end_name) {
-                        Ok(is_end) => {
-                            self.is_closed = is_end;
-                            if is_end { Ok(None) } else { Ok(Some(element)) }
-                        }
-                        Err(error) => Err(error),
-                    },
-                    Err(error) => Err(error),
-                }
+                let element = hand_over(alloc, self.source, place, found)?;
+                let is_end = is_end(alloc, element, self.end_name)?;
+                self.is_closed = is_end;
+                if is_end { Ok(None) } else { Ok(Some(element)) }
             }
             None => Err(unclosed(alloc, self.source, self.end_name)),
         }

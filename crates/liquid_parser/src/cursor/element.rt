@@ -3,9 +3,8 @@ ghost use Rattle.std.specs.Prelude.{◌≡◌, ◌∷◌, ℕ, List, IfOk, IfSom
 ghost use Rattle.liquid_error.specs.meaning.Told.{told, Gives};
 ghost use Rattle.liquid_grammar.specs.meaning.Cover.{IsElement, text_of, Cover};
 ghost use Rattle.liquid_grammar.specs.meaning.Elements.{Means};
-ghost use Rattle.liquid_grammar.specs.meaning.Tokens.{Chain};
 ghost use Rattle.liquid_plugins.specs.meaning.NodesOf.{node_of, IsText};
-ghost use Rattle.liquid_parser.specs.meaning.Elements.{IsExpression, IsInvalid, StandsFor};
+ghost use Rattle.liquid_parser.specs.meaning.Elements.{IfElement, IfExpression, IsInvalid, StandsFor};
 ghost use Rattle.liquid_parser.specs.meaning.ElementReading.{HandsOver, node_read};
 ghost use Rattle.liquid_parser.specs.meaning.Plugins.{registry_of, language_of};
 ghost use Rattle.liquid_parser.specs.meaning.Reading.{expression_read, refused_at};
@@ -102,18 +101,15 @@ impl<'a> Exp<'a> {
         alloc: Global,
         language: &Language<F, T, B>,
     ) -> std::result::Result<Node<F::Filter, T::Node, B::Node>, Error>
-        ensures { (source : List ℕ) (chain : Chain) → IsExpression self.entry source chain
-            → Gives (node_of F.Filter.shape T.Node.shape B.Node.shape) result
-            (expression_read (registry_of F.makes language.now.filters) source chain) }
+        ensures { IfExpression self.entry (λ source chain. Gives (node_of F.Filter.shape T.Node.shape B.Node.shape) result
+            (expression_read (registry_of F.makes language.now.filters) source chain)) }
     {
         // Most expressions are names, whose text doesn't have to be walked again.
         if let Some(name) = self.name {
             return Ok(name_node::<F, T, B>(alloc, name)?);
         }
-        match parse_chain(alloc, self.source, self.chain, &language.filters) {
-            Ok(chain) => Ok(Node::Chain(chain)),
-            Err(error) => Err(error),
-        }
+        let chain = parse_chain(alloc, self.source, self.chain, &language.filters)?;
+        Ok(Node::Chain(chain))
     }
 }
 
@@ -201,8 +197,9 @@ pub(crate) fn hand_over<'a>(
     parts_are_matches();
     match element {
         Element::Raw(text) => Ok(BlockElement::Raw(Raw { text })),
-        Element::Tag(tag) => match check(alloc, source, tag.fault) {
-            Ok(()) => Ok(BlockElement::Tag(Tag {
+        Element::Tag(tag) => {
+            check(alloc, source, tag.fault)?;
+            Ok(BlockElement::Tag(Tag {
                 name: tag.name,
                 from: tag.place,
                 text: tag.text,
@@ -210,18 +207,17 @@ pub(crate) fn hand_over<'a>(
                     source,
                     rest: tag.tokens,
                 },
-            })),
-            Err(error) => Err(error),
-        },
-        Element::Expression(expression) => match check(alloc, source, expression.fault) {
-            Ok(()) => Ok(BlockElement::Expression(Exp {
+            }))
+        }
+        Element::Expression(expression) => {
+            check(alloc, source, expression.fault)?;
+            Ok(BlockElement::Expression(Exp {
                 source,
                 text: expression.text,
                 chain: expression.chain,
                 name: expression.kind.identifier(),
-            })),
-            Err(error) => Err(error),
-        },
+            }))
+        }
         Element::Invalid(text) => Ok(BlockElement::Invalid(InvalidLiquidToken {
             source,
             text,

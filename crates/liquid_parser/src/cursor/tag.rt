@@ -3,14 +3,11 @@ ghost use Rattle.std.specs.Prelude.{◌≡◌, [], codes, IfSome, MatchOption, �
 ghost use Rattle.liquid_grammar.specs.meaning.Elements.{MeansTag};
 ghost use Rattle.liquid_grammar.specs.meaning.Tokens.{Tag as MatchedTag, TagRule};
 ghost use Rattle.liquid_parser.specs.meaning.Reading.{refused_at};
-ghost use Rattle.liquid_parser.specs.meaning.WholeTag.{GivesTag, Refuses, WholeTag, IsTag};
-ghost use Rattle.liquid_grammar.specs.meaning.Cover.{Cover};
+ghost use Rattle.liquid_parser.specs.meaning.WholeTag.{GivesTag, IfTag, Refuses, WholeTag};
 ghost use Rattle.liquid_plugins.specs.meaning.NodesOf.{node_of};
-ghost use Rattle.liquid_parser.specs.meaning.BlockReading.{Parsed, Passes};
+ghost use Rattle.liquid_parser.specs.meaning.BlockReading.{ParsedFrom, Passes};
 ghost use Rattle.liquid_parser.specs.meaning.ElementReading.{tag_node_read};
 ghost use Rattle.liquid_parser.specs.meaning.Plugins.{language_of};
-ghost use Rattle.liquid_grammar.specs.meaning.Cover as cover;
-ghost use Rattle.liquid_grammar.specs.meaning.Tokens as token;
 
 use crate::cursor::block::TagBlock;
 use crate::cursor::tokens::TagTokenIter;
@@ -102,9 +99,8 @@ impl<'a> Tag<'a> {
         block: &mut TagBlock<'_, '_>,
         language: &Language<F, T, B>,
     ) -> std::result::Result<Node<F::Filter, T::Node, B::Node>, Error>
-        ensures value { (own : List ℕ) (t : token.Tag) (es : List cover.Element) → IsTag self.entry own t → Cover block.old.rest.now es
-            → Parsed (node_of F.Filter.shape T.Node.shape B.Node.shape) result block.new
-            (tag_node_read (language_of F.makes T.gives B.block language.now) block.old.source.now 1 own t es) }
+        ensures value { IfTag self.entry (λ own t. ParsedFrom (node_of F.Filter.shape T.Node.shape B.Node.shape) result
+            block.old block.new (tag_node_read (language_of F.makes T.gives B.block language.now) block.old.source.now 1 own t)) }
         ensures passes { Passes block.old block.new }
         ensures closed { block.new.is_closed ≡ block.old.is_closed }
     {
@@ -112,19 +108,13 @@ impl<'a> Tag<'a> {
             open: Vec::new(alloc),
             nodes: Vec::new(alloc),
         };
-        let next = match dispatch(alloc, AROUND, &mut state, self, language) {
-            Ok(next) => next,
-            Err(error) => return Err(error),
-        };
-        match read_after_tag(alloc, block.source, block.rest, state, next, language) {
-            Ok((mut nodes, rest)) => {
-                block.rest = rest;
-                match nodes.pop() {
-                    Some(node) => Ok(node),
-                    None => Err(refused_at(alloc, block.source, "Invalid liquid", rest)),
-                }
-            }
-            Err(error) => Err(error),
+        let next = dispatch(alloc, AROUND, &mut state, self, language)?;
+        let (mut nodes, rest) =
+            read_after_tag(alloc, block.source, block.rest, state, next, language)?;
+        block.rest = rest;
+        match nodes.pop() {
+            Some(node) => Ok(node),
+            None => Err(refused_at(alloc, block.source, "Invalid liquid", rest)),
         }
     }
 }

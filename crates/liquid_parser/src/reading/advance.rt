@@ -1,14 +1,9 @@
 //! Reading one element, in the state that the elements before it have left.
 ghost use Rattle.std.specs.Prelude.{◌≡◌, ◌++◌, ℕ, List, IfOk};
-ghost use Rattle.liquid_error.specs.meaning.Told.{Gives};
-ghost use Rattle.liquid_grammar.specs.meaning.Cover.{Cover};
-ghost use Rattle.liquid_grammar.specs.meaning.Tokens.{Chain};
-ghost use Rattle.liquid_plugins.specs.meaning.NodesOf.{shapes_of};
-ghost use Rattle.liquid_parser.specs.meaning.Elements.{IsExpression, StandsFor};
+ghost use Rattle.liquid_parser.specs.meaning.Elements.{IfElement, IfExpression};
 ghost use Rattle.liquid_parser.specs.meaning.Plugins.{registry_of, language_of};
-ghost use Rattle.liquid_parser.specs.meaning.Reading.{expression_read, node_added, step};
-ghost use Rattle.liquid_parser.specs.steps.Views.{blocks_view, state_view, next_view, advanced, LeavesAt};
-ghost use Rattle.liquid_grammar.specs.meaning.Cover as cover;
+ghost use Rattle.liquid_parser.specs.meaning.Reading.{element_read, expression_read, node_added};
+ghost use Rattle.liquid_parser.specs.steps.Views.{advanced, Advances, Steps};
 
 use crate::cursor::element::{BlockElement, Exp};
 use crate::plugin::block::ParseBlock;
@@ -41,19 +36,13 @@ pub(crate) fn advance<
     behind: &'t str,
     language: &'a Language<F, T, B>,
 ) -> Result<&'t str, Error>
-    ensures value { (own after : List ℕ) (e : cover.Element) (es : List cover.Element)
-        → StandsFor element.entry own after e → Cover behind.now es
-        → LeavesAt (state_view F.Filter.shape T.Node.shape B.Node.shape B.Plan.shape B.block state.new) result
-        (advanced (language_of F.makes T.gives B.block language.now) source.now outside
-        (state_view F.Filter.shape T.Node.shape B.Node.shape B.Plan.shape B.block state.old) own after e es) }
+    ensures value { Advances F.Filter.shape T.Node.shape B.Node.shape B.Plan.shape B.block element.entry state.old state.new behind.now
+        result (advanced (language_of F.makes T.gives B.block language.now) source.now outside) }
     ensures within { IfOk result (λ rest. (front : List ℕ) × (behind.now ≡ front ++ rest.now)) }
 {
-    match read_element(alloc, outside, state, element, language) {
-        Ok(step) => match step {
-            Next::Among => Ok(behind),
-            Next::Escaped(block) => read_escaped::<F, T, B>(alloc, source, behind, block, state),
-        },
-        Err(error) => Err(error),
+    match read_element(alloc, outside, state, element, language)? {
+        Next::Among => Ok(behind),
+        Next::Escaped(block) => read_escaped::<F, T, B>(alloc, source, behind, block, state),
     }
 }
 
@@ -66,10 +55,8 @@ fn read_element<'a, F: ParseFilter + Drop, T: ParseTag<F> + Drop, B: ParseBlock<
     element: BlockElement<'a>,
     language: &'a Language<F, T, B>,
 ) -> Result<Next<'a, B, B::Plan, Node<F::Filter, T::Node, B::Node>>, Error>
-    ensures { (source behind : List ℕ) (e : cover.Element) → StandsFor element.entry source behind e
-        → Gives (λ n. next_view F.Filter.shape T.Node.shape B.Node.shape B.Plan.shape B.block n state.new) result
-        (step (language_of F.makes T.gives B.block language.now) source outside
-        (state_view F.Filter.shape T.Node.shape B.Node.shape B.Plan.shape B.block state.old) e behind) }
+    ensures { IfElement element.entry (λ own after e. Steps F.Filter.shape T.Node.shape B.Node.shape B.Plan.shape B.block
+        state.old state.new result (λ bs ns. element_read (language_of F.makes T.gives B.block language.now) own outside bs ns e after)) }
 {
     match element {
         BlockElement::Raw(raw) => {
@@ -90,17 +77,10 @@ fn read_expression<'a, F: ParseFilter + Drop, T: ParseTag<F> + Drop, B: ParseBlo
     exp: Exp<'_>,
     language: &Language<F, T, B>,
 ) -> Result<Next<'a, B, B::Plan, Node<F::Filter, T::Node, B::Node>>, Error>
-    ensures { (source : List ℕ) (chain : Chain) → IsExpression exp.entry source chain
-        → Gives (λ n. next_view F.Filter.shape T.Node.shape B.Node.shape B.Plan.shape B.block n state.new) result
-        (node_added (blocks_view F.Filter.shape T.Node.shape B.Node.shape B.Plan.shape B.block state.old.open.items)
-        (shapes_of F.Filter.shape T.Node.shape B.Node.shape state.old.nodes.items)
-        (expression_read (registry_of F.makes language.now.filters) source chain)) }
+    ensures { IfExpression exp.entry (λ source chain. Steps F.Filter.shape T.Node.shape B.Node.shape B.Plan.shape B.block
+        state.old state.new result (λ bs ns. node_added bs ns (expression_read (registry_of F.makes language.now.filters) source chain))) }
 {
-    match exp.parse(alloc, language) {
-        Ok(node) => {
-            state.nodes.push(node)?;
-            Ok(Next::Among)
-        }
-        Err(error) => Err(error),
-    }
+    let node = exp.parse(alloc, language)?;
+    state.nodes.push(node)?;
+    Ok(Next::Among)
 }

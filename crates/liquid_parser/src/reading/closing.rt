@@ -1,11 +1,9 @@
 //! Reading what follows a tag, until no block is open.
 ghost use Rattle.std.specs.Prelude.{◌≡◌, ◌++◌, ℕ, List, IfOk};
-ghost use Rattle.liquid_grammar.specs.meaning.Cover.{Cover};
-ghost use Rattle.liquid_plugins.specs.meaning.NodesOf.{shapes_of};
+ghost use Rattle.liquid_parser.specs.declared.reading.stack.Next.TheVariants.{Among};
 ghost use Rattle.liquid_parser.specs.meaning.ElementReading.{read_closed};
 ghost use Rattle.liquid_parser.specs.meaning.Plugins.{language_of};
-ghost use Rattle.liquid_parser.specs.steps.Views.{state_view, next_view, LeadsTo};
-ghost use Rattle.liquid_grammar.specs.meaning.Cover as cover;
+ghost use Rattle.liquid_parser.specs.steps.Views.{ReadsOn};
 
 use crate::cursor::element::hand_over;
 use crate::plugin::block::ParseBlock;
@@ -38,20 +36,16 @@ pub(crate) fn read_after_tag<
     next: Next<'a, B, B::Plan, Node<F::Filter, T::Node, B::Node>>,
     language: &'a Language<F, T, B>,
 ) -> Result<(Vec<Node<F::Filter, T::Node, B::Node>>, &'t str), Error>
-    ensures value { (es : List cover.Element) → Cover text.now es
-        → LeadsTo (λ v. shapes_of F.Filter.shape T.Node.shape B.Node.shape v.items) result
-        (read_closed (language_of F.makes T.gives B.block language.now) source.now 1
-        (next_view F.Filter.shape T.Node.shape B.Node.shape B.Plan.shape B.block next.entry state.entry) es) }
+    ensures value { ReadsOn F.Filter.shape T.Node.shape B.Node.shape B.Plan.shape B.block next.entry state.entry text.now result
+        (read_closed (language_of F.makes T.gives B.block language.now) source.now 1) }
     ensures within { IfOk result (λ p. (front : List ℕ) × (text.now ≡ front ++ p.1.now)) }
 {
     match next {
         Next::Among => read_until_closed(alloc, source, text, state, language),
         Next::Escaped(block) => {
             let mut state = state;
-            match read_escaped::<F, T, B>(alloc, source, text, block, &mut state) {
-                Ok(after) => read_until_closed(alloc, source, after, state, language),
-                Err(error) => Err(error),
-            }
+            let after = read_escaped::<F, T, B>(alloc, source, text, block, &mut state)?;
+            read_until_closed(alloc, source, after, state, language)
         }
     }
 }
@@ -70,10 +64,8 @@ fn read_until_closed<
     state: ParserState<'a, B, B::Plan, Node<F::Filter, T::Node, B::Node>>,
     language: &'a Language<F, T, B>,
 ) -> Result<(Vec<Node<F::Filter, T::Node, B::Node>>, &'t str), Error>
-    ensures value { (es : List cover.Element) → Cover text.now es
-        → LeadsTo (λ v. shapes_of F.Filter.shape T.Node.shape B.Node.shape v.items) result
-        (read_closed (language_of F.makes T.gives B.block language.now) source.now 1
-        (state_view F.Filter.shape T.Node.shape B.Node.shape B.Plan.shape B.block state.entry) es) }
+    ensures value { ReadsOn F.Filter.shape T.Node.shape B.Node.shape B.Plan.shape B.block Among state.entry text.now result
+        (read_closed (language_of F.makes T.gives B.block language.now) source.now 1) }
     ensures within { IfOk result (λ p. (front : List ℕ) × (text.now ≡ front ++ p.1.now)) }
 {
     let mut state = state;
@@ -81,20 +73,12 @@ fn read_until_closed<
     'elements: while !state.open.is_empty() {
         match next_element(rest) {
             Some((found, behind)) => {
-                let element = match hand_over(alloc, source, rest, found) {
-                    Ok(element) => element,
-                    Err(error) => return Err(error),
-                };
-                match advance(alloc, AROUND, source, &mut state, element, behind, language) {
-                    Ok(after) => rest = after,
-                    Err(error) => return Err(error),
-                }
+                let element = hand_over(alloc, source, rest, found)?;
+                rest = advance(alloc, AROUND, source, &mut state, element, behind, language)?;
             }
             None => {
-                return match end_reading::<F, T, B>(alloc, source, state) {
-                    Ok(nodes) => Ok((nodes, rest)),
-                    Err(error) => Err(error),
-                };
+                let nodes = end_reading::<F, T, B>(alloc, source, state)?;
+                return Ok((nodes, rest));
             }
         }
     }

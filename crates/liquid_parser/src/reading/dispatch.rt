@@ -1,13 +1,11 @@
 //! Classifies a tag: end, divider, tag or block.
-ghost use Rattle.std.specs.Prelude.{ℕ, List, [], ◌≡◌, ◌∷◌, Ok, IfSome};
+ghost use Rattle.std.specs.Prelude.{[], ◌≡◌, ◌∷◌, Ok, IfSome};
 ghost use Rattle.liquid_error.specs.meaning.Refusal.{ok_then};
-ghost use Rattle.liquid_error.specs.meaning.Told.{told, Gives};
-ghost use Rattle.liquid_plugins.specs.meaning.NodesOf.{shapes_of};
+ghost use Rattle.liquid_error.specs.meaning.Told.{told};
 ghost use Rattle.liquid_parser.specs.meaning.Plugins.{language_of};
-ghost use Rattle.liquid_parser.specs.meaning.Reading.{Open, among, block_begun, closed, outer_read, parted, tag_read, unknown_tag};
-ghost use Rattle.liquid_parser.specs.meaning.WholeTag.{IsTag};
-ghost use Rattle.liquid_parser.specs.steps.Views.{blocks_view, next_view};
-ghost use Rattle.liquid_grammar.specs.meaning.Tokens as token;
+ghost use Rattle.liquid_parser.specs.meaning.Reading.{among, block_begun, closed, outer_read, parted, tag_read, unknown_tag};
+ghost use Rattle.liquid_parser.specs.meaning.WholeTag.{IfTag};
+ghost use Rattle.liquid_parser.specs.steps.Views.{Steps, StepsInside};
 
 use crate::chain::names::{is_among, listed};
 use crate::cursor::tag::Tag;
@@ -36,35 +34,13 @@ pub(crate) fn dispatch<'a, F: ParseFilter + Drop, T: ParseTag<F> + Drop, B: Pars
     tag: Tag<'a>,
     language: &'a Language<F, T, B>,
 ) -> Result<Next<'a, B, B::Plan, Node<F::Filter, T::Node, B::Node>>, Error>
-    ensures { (source : List ℕ) (t : token.Tag) → IsTag tag.entry source t
-        → Gives (λ n. next_view F.Filter.shape T.Node.shape B.Node.shape B.Plan.shape B.block n state.new) result
-        (tag_read (language_of F.makes T.gives B.block language.now) source outside
-        (blocks_view F.Filter.shape T.Node.shape B.Node.shape B.Plan.shape B.block state.old.open.items)
-        (shapes_of F.Filter.shape T.Node.shape B.Node.shape state.old.nodes.items) t) }
+    ensures { IfTag tag.entry (λ source t. Steps F.Filter.shape T.Node.shape B.Node.shape B.Plan.shape B.block
+        state.old state.new result (λ bs ns. tag_read (language_of F.makes T.gives B.block language.now) source outside bs ns t)) }
 {
-    match state.open.last() {
-        None => dispatch_outside(alloc, outside, state, tag, language),
-        Some(block) => dispatch_inside(alloc, outside, block.kind, state, tag, language),
-    }
-}
-
-/// Does the same, where a block of this kind is the innermost.
-fn dispatch_inside<'a, F: ParseFilter + Drop, T: ParseTag<F> + Drop, B: ParseBlock<F> + Drop>(
-    alloc: Global,
-    outside: usize,
-    kind: &'a B,
-    state: &mut ParserState<'a, B, B::Plan, Node<F::Filter, T::Node, B::Node>>,
-    tag: Tag<'a>,
-    language: &'a Language<F, T, B>,
-) -> Result<Next<'a, B, B::Plan, Node<F::Filter, T::Node, B::Node>>, Error>
-    ensures { (source : List ℕ) (t : token.Tag) (b : Open F.Filter.Shape T.Node.Shape B.Plan.Shape B.Node.Shape)
-        (blocks : List (Open F.Filter.Shape T.Node.Shape B.Plan.Shape B.Node.Shape)) → IsTag tag.entry source t
-        → blocks_view F.Filter.shape T.Node.shape B.Node.shape B.Plan.shape B.block state.old.open.items ≡ b ∷ blocks
-        → b.kind ≡ B.block kind.now
-        → Gives (λ n. next_view F.Filter.shape T.Node.shape B.Node.shape B.Plan.shape B.block n state.new) result
-        (tag_read (language_of F.makes T.gives B.block language.now) source outside (b ∷ blocks)
-        (shapes_of F.Filter.shape T.Node.shape B.Node.shape state.old.nodes.items) t) }
-{
+    let kind = match state.open.last() {
+        Some(block) => block.kind,
+        None => return dispatch_outside(alloc, outside, state, tag, language),
+    };
     if tag.name == kind.end_tag() {
         end_block::<F, T, B>(alloc, state, tag)
     } else if is_among(kind.dividers(), tag.name) {
@@ -80,24 +56,15 @@ fn end_block<'a, F: ParseFilter + Drop, T: ParseTag<F> + Drop, B: ParseBlock<F> 
     state: &mut ParserState<'a, B, B::Plan, Node<F::Filter, T::Node, B::Node>>,
     tag: Tag<'a>,
 ) -> Result<Next<'a, B, B::Plan, Node<F::Filter, T::Node, B::Node>>, Error>
-    ensures { (source : List ℕ) (t : token.Tag) (b : Open F.Filter.Shape T.Node.Shape B.Plan.Shape B.Node.Shape)
-        (blocks : List (Open F.Filter.Shape T.Node.Shape B.Plan.Shape B.Node.Shape)) → IsTag tag.entry source t
-        → blocks_view F.Filter.shape T.Node.shape B.Node.shape B.Plan.shape B.block state.old.open.items ≡ b ∷ blocks
-        → Gives (λ n. next_view F.Filter.shape T.Node.shape B.Node.shape B.Plan.shape B.block n state.new) result
-        (ok_then (closed source t b (shapes_of F.Filter.shape T.Node.shape B.Node.shape state.old.nodes.items))
-        (λ after. Ok (among blocks after))) }
+    ensures { IfTag tag.entry (λ source t. StepsInside F.Filter.shape T.Node.shape B.Node.shape B.Plan.shape B.block
+        state.old state.new result (λ b bs ns. ok_then (closed source t b ns) (λ after. Ok (among bs after)))) }
 {
     match state.open.pop() {
         None => Ok(Next::Among),
         Some(block) => {
             let nodes = mem::replace(&mut state.nodes, Vec::new(alloc));
-            match close_block::<F, T, B>(alloc, block, nodes, tag) {
-                Ok(after) => {
-                    state.nodes = after;
-                    Ok(Next::Among)
-                }
-                Err(error) => Err(error),
-            }
+            state.nodes = close_block::<F, T, B>(alloc, block, nodes, tag)?;
+            Ok(Next::Among)
         }
     }
 }
@@ -108,21 +75,15 @@ fn end_part<'a, F: ParseFilter + Drop, T: ParseTag<F> + Drop, B: ParseBlock<F> +
     state: &mut ParserState<'a, B, B::Plan, Node<F::Filter, T::Node, B::Node>>,
     tag: Tag<'a>,
 ) -> Result<Next<'a, B, B::Plan, Node<F::Filter, T::Node, B::Node>>, Error>
-    ensures { (source : List ℕ) (t : token.Tag) (b : Open F.Filter.Shape T.Node.Shape B.Plan.Shape B.Node.Shape)
-        (blocks : List (Open F.Filter.Shape T.Node.Shape B.Plan.Shape B.Node.Shape)) → IsTag tag.entry source t
-        → blocks_view F.Filter.shape T.Node.shape B.Node.shape B.Plan.shape B.block state.old.open.items ≡ b ∷ blocks
-        → Gives (λ n. next_view F.Filter.shape T.Node.shape B.Node.shape B.Plan.shape B.block n state.new) result
-        (ok_then (parted source t b (shapes_of F.Filter.shape T.Node.shape B.Node.shape state.old.nodes.items))
-        (λ divided. Ok (among (divided ∷ blocks) []))) }
+    ensures { IfTag tag.entry (λ source t. StepsInside F.Filter.shape T.Node.shape B.Node.shape B.Plan.shape B.block
+        state.old state.new result (λ b bs ns. ok_then (parted source t b ns) (λ divided. Ok (among (divided ∷ bs) [])))) }
 {
     match state.open.last_mut() {
         None => Ok(Next::Among),
         Some(block) => {
             let nodes = mem::replace(&mut state.nodes, Vec::new(alloc));
-            match divide_block::<F, T, B>(alloc, block, nodes, tag) {
-                Ok(()) => Ok(Next::Among),
-                Err(error) => Err(error),
-            }
+            divide_block::<F, T, B>(alloc, block, nodes, tag)?;
+            Ok(Next::Among)
         }
     }
 }
@@ -135,20 +96,15 @@ fn dispatch_outside<'a, F: ParseFilter + Drop, T: ParseTag<F> + Drop, B: ParseBl
     tag: Tag<'a>,
     language: &'a Language<F, T, B>,
 ) -> Result<Next<'a, B, B::Plan, Node<F::Filter, T::Node, B::Node>>, Error>
-    ensures { (source : List ℕ) (t : token.Tag) → IsTag tag.entry source t
-        → Gives (λ n. next_view F.Filter.shape T.Node.shape B.Node.shape B.Plan.shape B.block n state.new) result
-        (outer_read (language_of F.makes T.gives B.block language.now) source outside t
-        (blocks_view F.Filter.shape T.Node.shape B.Node.shape B.Plan.shape B.block state.old.open.items)
-        (shapes_of F.Filter.shape T.Node.shape B.Node.shape state.old.nodes.items)) }
+    ensures { IfTag tag.entry (λ source t. Steps F.Filter.shape T.Node.shape B.Node.shape B.Plan.shape B.block
+        state.old state.new result (outer_read (language_of F.makes T.gives B.block language.now) source outside t)) }
 {
     match language.tags.get(tag.name) {
-        Some(plug_in) => match tag_node::<F, T, B>(alloc, plug_in, tag, &language.filters) {
-            Ok(node) => {
-                state.nodes.push(node)?;
-                Ok(Next::Among)
-            }
-            Err(error) => Err(error),
-        },
+        Some(plug_in) => {
+            let node = tag_node::<F, T, B>(alloc, plug_in, tag, &language.filters)?;
+            state.nodes.push(node)?;
+            Ok(Next::Among)
+        }
         None => match language.blocks.get(tag.name) {
             Some(kind) => open_block(alloc, outside, kind, state, tag, language),
             None => Err(unknown_tag(alloc, tag, language)),
@@ -165,26 +121,19 @@ fn open_block<'a, F: ParseFilter + Drop, T: ParseTag<F> + Drop, B: ParseBlock<F>
     tag: Tag<'a>,
     language: &'a Language<F, T, B>,
 ) -> Result<Next<'a, B, B::Plan, Node<F::Filter, T::Node, B::Node>>, Error>
-    ensures { (source : List ℕ) (t : token.Tag) → IsTag tag.entry source t
-        → Gives (λ n. next_view F.Filter.shape T.Node.shape B.Node.shape B.Plan.shape B.block n state.new) result
-        (block_begun (language_of F.makes T.gives B.block language.now) source outside t (B.block kind.now)
-        (blocks_view F.Filter.shape T.Node.shape B.Node.shape B.Plan.shape B.block state.old.open.items)
-        (shapes_of F.Filter.shape T.Node.shape B.Node.shape state.old.nodes.items)) }
+    ensures { IfTag tag.entry (λ source t. Steps F.Filter.shape T.Node.shape B.Node.shape B.Plan.shape B.block
+        state.old state.new result (block_begun (language_of F.makes T.gives B.block language.now) source outside t (B.block kind.now))) }
 {
     if state.open.len() >= BLOCK_LIMIT.saturating_sub(outside) {
         return Err(refused_at(alloc, tag.tokens.source, "Nested too deep", tag.from));
     }
     let nodes = mem::replace(&mut state.nodes, Vec::new(alloc));
-    match begin_block::<F, T, B>(alloc, kind, nodes, tag, &language.filters) {
-        Ok(block) => {
-            if kind.escapes() {
-                return Ok(Next::Escaped(block));
-            }
-            state.open.push(block)?;
-            Ok(Next::Among)
-        }
-        Err(error) => Err(error),
+    let block = begin_block::<F, T, B>(alloc, kind, nodes, tag, &language.filters)?;
+    if kind.escapes() {
+        return Ok(Next::Escaped(block));
     }
+    state.open.push(block)?;
+    Ok(Next::Among)
 }
 
 /// Returns the error for a tag that the language has neither as a tag nor as a block.
@@ -193,8 +142,8 @@ fn unknown_tag<F: ParseFilter + Drop, T: ParseTag<F> + Drop, B: ParseBlock<F> + 
     tag: Tag<'_>,
     language: &Language<F, T, B>,
 ) -> Error
-    ensures { (source : List ℕ) (t : token.Tag) → IsTag tag.entry source t
-        → IfSome (told result) (λ r. r ≡ unknown_tag (language_of F.makes T.gives B.block language.now) source t) }
+    ensures { IfTag tag.entry (λ source t. IfSome (told result)
+        (λ r. r ≡ unknown_tag (language_of F.makes T.gives B.block language.now) source t)) }
 {
     let tags = match listed(alloc, &language.tags) {
         Ok(names) => names,

@@ -4,8 +4,9 @@ ghost use Rattle.liquid_error.specs.meaning.Told.{told};
 ghost use Rattle.liquid_grammar.specs.meaning.Cover.{Cover, IsElement};
 ghost use Rattle.liquid_grammar.specs.meaning.Elements.{Means};
 ghost use Rattle.liquid_parser.specs.steps.Escaped.{EscapesTo};
-ghost use Rattle.liquid_parser.specs.meaning.Reading.{inside, unclosed_by};
-ghost use Rattle.liquid_parser.specs.steps.Views.{open_view, blocks_view, state_view, past_escaped, LeavesAt};
+ghost use Rattle.liquid_parser.specs.declared.reading.stack.Next.TheVariants.{Escaped};
+ghost use Rattle.liquid_parser.specs.meaning.Reading.{unclosed_by};
+ghost use Rattle.liquid_parser.specs.steps.Views.{past_escaped, Leaves};
 ghost use Rattle.liquid_grammar.specs.meaning.Cover as cover;
 ghost use Rattle.liquid_parser.specs.meaning.Reading as spec;
 
@@ -28,21 +29,16 @@ pub(crate) fn read_escaped<'a, 't, F: ParseFilter, T: ParseTag<F>, B: ParseBlock
     block: OpenBlock<'a, B, B::Plan, Node<F::Filter, T::Node, B::Node>>,
     state: &mut ParserState<'a, B, B::Plan, Node<F::Filter, T::Node, B::Node>>,
 ) -> Result<&'t str, Error>
-    ensures value { (es : List cover.Element) → Cover body.now es
-        → LeavesAt (state_view F.Filter.shape T.Node.shape B.Node.shape B.Plan.shape B.block state.new) result
-        (past_escaped source.now (inside (open_view F.Filter.shape T.Node.shape B.Node.shape B.Plan.shape B.block block.entry)
-        (blocks_view F.Filter.shape T.Node.shape B.Node.shape B.Plan.shape B.block state.old.open.items) 0 []) es) }
+    ensures value { Leaves F.Filter.shape T.Node.shape B.Node.shape B.Plan.shape B.block (Escaped block.entry) state.old state.new
+        body.now result (past_escaped source.now) }
     ensures within { IfOk result (λ rest. (front : List ℕ) × (body.now ≡ front ++ rest.now)) }
 {
     let kind = block.kind;
     match escape(body, kind.end_tag(), kind.start_tag(), kind.nests()) {
-        Some((text, after)) => match close_escaped::<F, T, B>(alloc, block, text) {
-            Ok(nodes) => {
-                state.nodes = nodes;
-                Ok(after)
-            }
-            Err(error) => Err(error),
-        },
+        Some((text, after)) => {
+            state.nodes = close_escaped::<F, T, B>(alloc, block, text)?;
+            Ok(after)
+        }
         None => Err(unclosed(alloc, source, kind.end_tag())),
     }
 }

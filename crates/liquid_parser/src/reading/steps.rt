@@ -1,13 +1,12 @@
 //! Beginning, dividing and ending a block, and the node of a tag.
-ghost use Rattle.std.specs.Prelude.{ℕ, List, []};
+ghost use Rattle.std.specs.Prelude.{[]};
 ghost use Rattle.liquid_error.specs.meaning.Told.{Gives};
 ghost use Rattle.liquid_parser.specs.meaning.Lang.{escaped};
 ghost use Rattle.liquid_plugins.specs.meaning.NodesOf.{node_of, shapes_of};
 ghost use Rattle.liquid_parser.specs.meaning.Plugins.{registry_of};
 ghost use Rattle.liquid_parser.specs.meaning.Reading.{begun, closed, finished, parted, tag_given};
-ghost use Rattle.liquid_parser.specs.meaning.WholeTag.{IsTag};
-ghost use Rattle.liquid_parser.specs.steps.Views.{open_view};
-ghost use Rattle.liquid_grammar.specs.meaning.Tokens as token;
+ghost use Rattle.liquid_parser.specs.meaning.WholeTag.{IfTag};
+ghost use Rattle.liquid_parser.specs.steps.Views.{open_view, Opens, Divides, Closes};
 
 use crate::cursor::tag::Tag;
 use crate::plugin::block::{BlockBody, ParseBlock};
@@ -25,9 +24,8 @@ pub(crate) fn tag_node<F: ParseFilter, T: ParseTag<F>, B: ParseBlock<F>>(
     tag: Tag<'_>,
     filters: &PluginRegistry<F>,
 ) -> Result<Node<F::Filter, T::Node, B::Node>, Error>
-    ensures { (source : List ℕ) (t : token.Tag) → IsTag tag.entry source t
-        → Gives (node_of F.Filter.shape T.Node.shape B.Node.shape) result
-        (tag_given source t (registry_of F.makes filters.now) (T.gives plug_in.now)) }
+    ensures { IfTag tag.entry (λ source t. Gives (node_of F.Filter.shape T.Node.shape B.Node.shape) result
+        (tag_given source t (registry_of F.makes filters.now) (T.gives plug_in.now))) }
 {
     match plug_in.parse(alloc, tag.tokens, filters) {
         Ok(made) => Ok(Node::Tag(made)),
@@ -43,10 +41,8 @@ pub(crate) fn begin_block<'a, F: ParseFilter, T: ParseTag<F>, B: ParseBlock<F>>(
     tag: Tag<'a>,
     filters: &PluginRegistry<F>,
 ) -> Result<OpenBlock<'a, B, B::Plan, Node<F::Filter, T::Node, B::Node>>, Error>
-    ensures { (source : List ℕ) (t : token.Tag) → IsTag tag.entry source t
-        → Gives (open_view F.Filter.shape T.Node.shape B.Node.shape B.Plan.shape B.block) result
-        (begun source t (registry_of F.makes filters.now) (B.block kind.now)
-        (shapes_of F.Filter.shape T.Node.shape B.Node.shape nodes.items)) }
+    ensures { IfTag tag.entry (λ source t. Opens F.Filter.shape T.Node.shape B.Node.shape B.Plan.shape B.block nodes.items result
+        (begun source t (registry_of F.makes filters.now) (B.block kind.now))) }
 {
     match kind.begin(alloc, tag.tokens, filters) {
         Ok(plan) => Ok(OpenBlock {
@@ -68,10 +64,8 @@ pub(crate) fn divide_block<'a, F: ParseFilter, T: ParseTag<F>, B: ParseBlock<F>>
     nodes: Vec<Node<F::Filter, T::Node, B::Node>>,
     tag: Tag<'_>,
 ) -> Result<(), Error>
-    ensures { (source : List ℕ) (t : token.Tag) → IsTag tag.entry source t
-        → Gives (λ _. open_view F.Filter.shape T.Node.shape B.Node.shape B.Plan.shape B.block block.new) result
-        (parted source t (open_view F.Filter.shape T.Node.shape B.Node.shape B.Plan.shape B.block block.old)
-        (shapes_of F.Filter.shape T.Node.shape B.Node.shape nodes.items)) }
+    ensures { IfTag tag.entry (λ source t. Divides F.Filter.shape T.Node.shape B.Node.shape B.Plan.shape B.block
+        block.old block.new nodes.items result (parted source t)) }
 {
     match block
         .kind
@@ -92,15 +86,10 @@ pub(crate) fn close_block<'a, F: ParseFilter, T: ParseTag<F>, B: ParseBlock<F>>(
     nodes: Vec<Node<F::Filter, T::Node, B::Node>>,
     tag: Tag<'_>,
 ) -> Result<Vec<Node<F::Filter, T::Node, B::Node>>, Error>
-    ensures { (source : List ℕ) (t : token.Tag) → IsTag tag.entry source t
-        → Gives (λ v. shapes_of F.Filter.shape T.Node.shape B.Node.shape v.items) result
-        (closed source t (open_view F.Filter.shape T.Node.shape B.Node.shape B.Plan.shape B.block block.entry)
-        (shapes_of F.Filter.shape T.Node.shape B.Node.shape nodes.items)) }
+    ensures { IfTag tag.entry (λ source t. Closes F.Filter.shape T.Node.shape B.Node.shape B.Plan.shape B.block
+        block.entry nodes.items result (closed source t)) }
 {
-    match tag.tokens.expect_nothing(alloc) {
-        Ok(()) => {}
-        Err(error) => return Err(error),
-    }
+    tag.tokens.expect_nothing(alloc)?;
     let OpenBlock {
         kind,
         source,

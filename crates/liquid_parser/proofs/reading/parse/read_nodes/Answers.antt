@@ -35,7 +35,7 @@ elements-preserved g c =
     let found = c.in-Some.ensures.found in
     let over = c.in-Ok.ensures c.in-Some.behind.now found.0 found.1 found.2 in (
       search rules,
-      Goes-on (language_of g.F.ParseFilter.makes g.T.ParseTag.gives g.B.ParseBlock.block c.args.language.now) c.args.text.now _ _ found.0 (blocks_view g.F.Filter.Meant.shape g.T.Node.Meant.shape g.B.Node.Meant.shape g.B.Plan.Meant.shape g.B.ParseBlock.block c.elements.state.open.items) (shapes_of g.F.Filter.Meant.shape g.T.Node.Meant.shape g.B.Node.Meant.shape c.elements.state.nodes.items) (state_view g.F.Filter.Meant.shape g.T.Node.Meant.shape g.B.Node.Meant.shape g.B.Plan.Meant.shape g.B.ParseBlock.block c.advance.new.state) c.in-Ok-advance.after.now goes found.1 (λ es cover. c.in-Ok-advance.ensures.value c.args.text.now c.in-Some.behind.now found.0 es over.1 cover),
+      Goes-on (language_of g.F.ParseFilter.makes g.T.ParseTag.gives g.B.ParseBlock.block c.args.language.now) c.args.text.now _ _ found.0 (blocks_view g.F.Filter.Meant.shape g.T.Node.Meant.shape g.B.Node.Meant.shape g.B.Plan.Meant.shape g.B.ParseBlock.block c.elements.state.open.items) (shapes_of g.F.Filter.Meant.shape g.T.Node.Meant.shape g.B.Node.Meant.shape c.elements.state.nodes.items) (state_view g.F.Filter.Meant.shape g.T.Node.Meant.shape g.B.Node.Meant.shape g.B.Plan.Meant.shape g.B.ParseBlock.block c.advance.new.state) c.in-Ok-advance.after.now goes found.1 (λ es cover. c.in-Ok-advance.ensures.value c.args.text.now c.in-Some.behind.now found.0 over.1 es cover),
     )
 
 pub elements-smaller : goal.elements-smaller
@@ -54,7 +54,7 @@ returns-in-Err-advance g c =
     let goes = c.elements.invariant.1 in
     let found = c.in-Some.ensures.found in
     let over = c.in-Ok.ensures c.in-Some.behind.now found.0 found.1 found.2 in
-    refused (language_of g.F.ParseFilter.makes g.T.ParseTag.gives g.B.ParseBlock.block c.args.language.now) c.args.text.now _ _ found.0 (blocks_view g.F.Filter.Meant.shape g.T.Node.Meant.shape g.B.Node.Meant.shape g.B.Plan.Meant.shape g.B.ParseBlock.block c.elements.state.open.items) (shapes_of g.F.Filter.Meant.shape g.T.Node.Meant.shape g.B.Node.Meant.shape c.elements.state.nodes.items) _ goes found.1 (λ es cover. c.in-Err-advance.ensures.value c.args.text.now c.in-Some.behind.now found.0 es over.1 cover)
+    refused (language_of g.F.ParseFilter.makes g.T.ParseTag.gives g.B.ParseBlock.block c.args.language.now) c.args.text.now _ _ found.0 (blocks_view g.F.Filter.Meant.shape g.T.Node.Meant.shape g.B.Node.Meant.shape g.B.Plan.Meant.shape g.B.ParseBlock.block c.elements.state.open.items) (shapes_of g.F.Filter.Meant.shape g.T.Node.Meant.shape g.B.Node.Meant.shape c.elements.state.nodes.items) _ goes found.1 (λ es cover. c.in-Err-advance.ensures.value c.args.text.now c.in-Some.behind.now found.0 over.1 es cover)
 
 pub returns-in-None : goal.returns-in-None
 returns-in-None g c =

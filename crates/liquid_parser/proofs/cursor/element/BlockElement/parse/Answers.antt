@@ -18,7 +18,7 @@ returns-in_ok-into_renderable-in-Raw-clause-value g c own behind e es m cover =
 pub returns-in-Tag-clause-value : goal.returns-in-Tag-clause-value
 returns-in-Tag-clause-value g c own behind e es m cover =
     let s = tag_step (language_of g.F.ParseFilter.makes g.T.ParseTag.gives g.B.ParseBlock.block c.args.language.now) own 1 [] [] c.in-Tag.tag behind e (rw c.in-Tag.is at m) in
-    subst (λ x. Parsed (node_of g.F.Filter.Meant.shape g.T.Node.Meant.shape g.B.Node.Meant.shape) c.parse.result c.parse.new.block x) (sym (ap (λ r. ok_then r (λ x. read_closed (language_of g.F.ParseFilter.makes g.T.ParseTag.gives g.B.ParseBlock.block c.args.language.now) c.args.block.now.source.now 1 x es)) s.2)) (c.parse.ensures.value own s.0 es s.1 cover)
+    subst (λ x. Parsed (node_of g.F.Filter.Meant.shape g.T.Node.Meant.shape g.B.Node.Meant.shape) c.parse.result c.parse.new.block x) (sym (ap (λ r. ok_then r (λ x. read_closed (language_of g.F.ParseFilter.makes g.T.ParseTag.gives g.B.ParseBlock.block c.args.language.now) c.args.block.now.source.now 1 x es)) s.2)) (c.parse.ensures.value own s.0 s.1 es cover)
 
 pub returns-in-Expression-clause-value : goal.returns-in-Expression-clause-value
 returns-in-Expression-clause-value g c own behind e es m cover =
