@@ -4,3 +4,4 @@ pub mod Keeping
 pub mod Kept
 pub mod Rendered
 pub mod Sources
+pub mod Stores

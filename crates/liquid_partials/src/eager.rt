@@ -7,6 +7,7 @@ ghost use Rattle.liquid_parser.specs.meaning.Plugins.{language_of};
 ghost use Rattle.liquid_partials.specs.meaning.Compiled.{Compiled};
 ghost use Rattle.liquid_partials.specs.contracts.eager.EagerCompiler.{the_row};
 ghost use Rattle.liquid_partials.specs.meaning.Kept.{kept_or_read, shared_nodes, HasAll};
+ghost use Rattle.liquid_partials.specs.meaning.Stores.{finds_in};
 ghost use Rattle.liquid_template.specs.meaning.Partials.{partial_in, tree_in};
 
 use crate::compiler::PartialCompiler;
@@ -79,10 +80,9 @@ where
         alloc: Global,
         language: Rc<Language<F, T, B>>,
     ) -> Result<EagerStore<S, F, T, B>, AllocError>
-        ensures compiled { IfOk result (λ store. Compiled (language_of F.makes T.gives B.block language.value) (S.texts self.source)
-            (kept_or_read (shared_nodes F.Filter.shape T.Node.shape B.Node.shape)
-            (language_of F.makes T.gives B.block store.lazy.texts.parser.language.value) store.lazy.kept
-            (S.texts store.lazy.texts.source))) }
+        ensures compiled { let meant = language_of F.makes T.gives B.block in
+            IfOk result (λ s. Compiled (meant language.value) (S.texts self.source)
+            (finds_in (shared_nodes F.Filter.shape T.Node.shape B.Node.shape) meant S.texts s.lazy.texts s.lazy.kept)) }
         ensures count { IfOk result (λ store. store.lazy.texts.readings.count ≡ len (S.texts self.source)) }
     {
         let mut lazy = LazyCompiler::new(self.source).compile(alloc, language)?;
@@ -150,17 +150,12 @@ where
         alloc: Global,
         name: &str,
     ) -> Result<Option<Rc<Template<F::Filter, T::Node, B::Node>>>, AllocError>
-        ensures gives { IfOk result
-            (λ found. option_map (shared_nodes F.Filter.shape T.Node.shape B.Node.shape) found
-            ≡ tree_in (kept_or_read (shared_nodes F.Filter.shape T.Node.shape B.Node.shape)
-            (language_of F.makes T.gives B.block self.old.lazy.texts.parser.language.value) self.old.lazy.kept
-            (S.texts self.old.lazy.texts.source)) name.now) }
-        ensures kept { (kept_or_read (shared_nodes F.Filter.shape T.Node.shape B.Node.shape)
-            (language_of F.makes T.gives B.block self.new.lazy.texts.parser.language.value) self.new.lazy.kept
-            (S.texts self.new.lazy.texts.source))
-            ≡ (kept_or_read (shared_nodes F.Filter.shape T.Node.shape B.Node.shape)
-            (language_of F.makes T.gives B.block self.old.lazy.texts.parser.language.value) self.old.lazy.kept
-            (S.texts self.old.lazy.texts.source)) }
+        ensures gives { let of = shared_nodes F.Filter.shape T.Node.shape B.Node.shape in
+            IfOk result (λ found. option_map of found ≡ tree_in
+            (finds_in of (language_of F.makes T.gives B.block) S.texts self.old.lazy.texts self.old.lazy.kept) name.now) }
+        ensures kept { let finds = finds_in (shared_nodes F.Filter.shape T.Node.shape B.Node.shape)
+            (language_of F.makes T.gives B.block) S.texts in
+            finds self.new.lazy.texts self.new.lazy.kept ≡ finds self.old.lazy.texts self.old.lazy.kept }
         ensures count { self.new.lazy.texts.readings.count ≡ self.old.lazy.texts.readings.count }
     {
         self.lazy.try_get(alloc, name)
@@ -171,16 +166,12 @@ where
         alloc: Global,
         name: &str,
     ) -> Result<Rc<Template<F::Filter, T::Node, B::Node>>, Error>
-        ensures gives { Gives (shared_nodes F.Filter.shape T.Node.shape B.Node.shape) result
-            (partial_in (kept_or_read (shared_nodes F.Filter.shape T.Node.shape B.Node.shape)
-            (language_of F.makes T.gives B.block self.old.lazy.texts.parser.language.value) self.old.lazy.kept
-            (S.texts self.old.lazy.texts.source)) name.now) }
-        ensures kept { (kept_or_read (shared_nodes F.Filter.shape T.Node.shape B.Node.shape)
-            (language_of F.makes T.gives B.block self.new.lazy.texts.parser.language.value) self.new.lazy.kept
-            (S.texts self.new.lazy.texts.source))
-            ≡ (kept_or_read (shared_nodes F.Filter.shape T.Node.shape B.Node.shape)
-            (language_of F.makes T.gives B.block self.old.lazy.texts.parser.language.value) self.old.lazy.kept
-            (S.texts self.old.lazy.texts.source)) }
+        ensures gives { let of = shared_nodes F.Filter.shape T.Node.shape B.Node.shape in
+            Gives of result (partial_in
+            (finds_in of (language_of F.makes T.gives B.block) S.texts self.old.lazy.texts self.old.lazy.kept) name.now) }
+        ensures kept { let finds = finds_in (shared_nodes F.Filter.shape T.Node.shape B.Node.shape)
+            (language_of F.makes T.gives B.block) S.texts in
+            finds self.new.lazy.texts self.new.lazy.kept ≡ finds self.old.lazy.texts self.old.lazy.kept }
         ensures count { self.new.lazy.texts.readings.count ≡ self.old.lazy.texts.readings.count }
     {
         self.lazy.get(alloc, name)

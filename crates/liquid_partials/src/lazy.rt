@@ -6,8 +6,9 @@ ghost use Rattle.liquid_error.specs.meaning.Told.{Gives};
 ghost use Rattle.liquid_parser.specs.meaning.Plugins.{language_of};
 ghost use Rattle.liquid_partials.specs.meaning.Compiled.{Compiled, once};
 ghost use Rattle.liquid_partials.specs.contracts.lazy.LazyCompiler.{the_row};
-ghost use Rattle.liquid_partials.specs.meaning.Keeping.{is_answer, is_read, kept_after};
+ghost use Rattle.liquid_partials.specs.meaning.Keeping.{is_answer};
 ghost use Rattle.liquid_partials.specs.meaning.Kept.{all_kept, kept_as, kept_or_read, readings, shared_nodes, Known};
+ghost use Rattle.liquid_partials.specs.meaning.Stores.{finds_in, kept_next, parsed_for};
 ghost use Rattle.liquid_template.specs.meaning.Partials.{partial_in, read_tree, tree_in};
 
 use crate::compiler::PartialCompiler;
@@ -80,10 +81,9 @@ where
         alloc: Global,
         language: Rc<Language<F, T, B>>,
     ) -> Result<LazyStore<S, F, T, B>, AllocError>
-        ensures compiled { IfOk result (λ store. Compiled (language_of F.makes T.gives B.block language.value) (S.texts self.source)
-            (kept_or_read (shared_nodes F.Filter.shape T.Node.shape B.Node.shape)
-            (language_of F.makes T.gives B.block store.texts.parser.language.value) store.kept
-            (S.texts store.texts.source))) }
+        ensures compiled { let meant = language_of F.makes T.gives B.block in
+            IfOk result (λ s. Compiled (meant language.value) (S.texts self.source)
+            (finds_in (shared_nodes F.Filter.shape T.Node.shape B.Node.shape) meant S.texts s.texts s.kept)) }
         ensures source { IfOk result (λ store. store.texts.source ≡ self.source) }
         ensures kept { IfOk result (λ store. (all_kept (shared_nodes F.Filter.shape T.Node.shape B.Node.shape) store.kept) ≡ empty) }
         ensures count { IfOk result (λ store. store.texts.readings.count ≡ 0) }
@@ -151,29 +151,20 @@ where
         name: &str,
     ) -> Result<Option<Kept<F::Filter, T::Node, B::Node>>, AllocError>
         requires { contains_key (all_kept (shared_nodes F.Filter.shape T.Node.shape B.Node.shape) self.old.kept) name.now ≡ false }
-        ensures gives { IfOk result
-            (λ answer. option_map (kept_as (shared_nodes F.Filter.shape T.Node.shape B.Node.shape)) answer
-            ≡ get (kept_or_read (shared_nodes F.Filter.shape T.Node.shape B.Node.shape)
-            (language_of F.makes T.gives B.block self.old.texts.parser.language.value) self.old.kept
-            (S.texts self.old.texts.source)) name.now) }
+        ensures gives { let of = shared_nodes F.Filter.shape T.Node.shape B.Node.shape in
+            IfOk result (λ answer. option_map (kept_as of) answer ≡ get
+            (finds_in of (language_of F.makes T.gives B.block) S.texts self.old.texts self.old.kept) name.now) }
         ensures told { IfOk result (λ answer. IfSome answer (λ kept. is_answer kept ≡ true)) }
-        ensures same { (kept_or_read (shared_nodes F.Filter.shape T.Node.shape B.Node.shape)
-            (language_of F.makes T.gives B.block self.new.texts.parser.language.value) self.new.kept
-            (S.texts self.new.texts.source))
-            ≡ (kept_or_read (shared_nodes F.Filter.shape T.Node.shape B.Node.shape)
-            (language_of F.makes T.gives B.block self.old.texts.parser.language.value) self.old.kept
-            (S.texts self.old.texts.source)) }
-        ensures keeps { (all_kept (shared_nodes F.Filter.shape T.Node.shape B.Node.shape) self.new.kept)
-            ≡ kept_after (is_ok result) (kept_or_read (shared_nodes F.Filter.shape T.Node.shape B.Node.shape)
-            (language_of F.makes T.gives B.block self.old.texts.parser.language.value) self.old.kept
-            (S.texts self.old.texts.source)) name.now
-            (all_kept (shared_nodes F.Filter.shape T.Node.shape B.Node.shape) self.old.kept) }
+        ensures same { let finds = finds_in (shared_nodes F.Filter.shape T.Node.shape B.Node.shape)
+            (language_of F.makes T.gives B.block) S.texts in
+            finds self.new.texts self.new.kept ≡ finds self.old.texts self.old.kept }
+        ensures keeps { let of = shared_nodes F.Filter.shape T.Node.shape B.Node.shape in
+            all_kept of self.new.kept ≡ kept_next of (language_of F.makes T.gives B.block)
+            S.texts self.old.texts self.old.kept (is_ok result) name.now }
         ensures source { self.new.texts.source ≡ self.old.texts.source }
         ensures count { self.new.texts.readings.count ≡ self.old.texts.readings.count
-            + once (is_read (kept_or_read (shared_nodes F.Filter.shape T.Node.shape B.Node.shape)
-            (language_of F.makes T.gives B.block self.old.texts.parser.language.value) self.old.kept
-            (S.texts self.old.texts.source))
-            (all_kept (shared_nodes F.Filter.shape T.Node.shape B.Node.shape) self.old.kept) name.now) }
+            + parsed_for (shared_nodes F.Filter.shape T.Node.shape B.Node.shape)
+            (language_of F.makes T.gives B.block) S.texts self.old.texts self.old.kept name.now }
     {
         match kept_of(alloc, &mut self.texts, name)? {
             Some(answer) => {
@@ -210,28 +201,19 @@ where
         alloc: Global,
         name: &str,
     ) -> Result<Option<Rc<Template<F::Filter, T::Node, B::Node>>>, AllocError>
-        ensures gives { IfOk result
-            (λ found. option_map (shared_nodes F.Filter.shape T.Node.shape B.Node.shape) found
-            ≡ tree_in (kept_or_read (shared_nodes F.Filter.shape T.Node.shape B.Node.shape)
-            (language_of F.makes T.gives B.block self.old.texts.parser.language.value) self.old.kept
-            (S.texts self.old.texts.source)) name.now) }
-        ensures kept { (kept_or_read (shared_nodes F.Filter.shape T.Node.shape B.Node.shape)
-            (language_of F.makes T.gives B.block self.new.texts.parser.language.value) self.new.kept
-            (S.texts self.new.texts.source))
-            ≡ (kept_or_read (shared_nodes F.Filter.shape T.Node.shape B.Node.shape)
-            (language_of F.makes T.gives B.block self.old.texts.parser.language.value) self.old.kept
-            (S.texts self.old.texts.source)) }
-        ensures keeps { (all_kept (shared_nodes F.Filter.shape T.Node.shape B.Node.shape) self.new.kept)
-            ≡ kept_after (is_ok result) (kept_or_read (shared_nodes F.Filter.shape T.Node.shape B.Node.shape)
-            (language_of F.makes T.gives B.block self.old.texts.parser.language.value) self.old.kept
-            (S.texts self.old.texts.source)) name.now
-            (all_kept (shared_nodes F.Filter.shape T.Node.shape B.Node.shape) self.old.kept) }
+        ensures gives { let of = shared_nodes F.Filter.shape T.Node.shape B.Node.shape in
+            IfOk result (λ found. option_map of found ≡ tree_in
+            (finds_in of (language_of F.makes T.gives B.block) S.texts self.old.texts self.old.kept) name.now) }
+        ensures kept { let finds = finds_in (shared_nodes F.Filter.shape T.Node.shape B.Node.shape)
+            (language_of F.makes T.gives B.block) S.texts in
+            finds self.new.texts self.new.kept ≡ finds self.old.texts self.old.kept }
+        ensures keeps { let of = shared_nodes F.Filter.shape T.Node.shape B.Node.shape in
+            all_kept of self.new.kept ≡ kept_next of (language_of F.makes T.gives B.block)
+            S.texts self.old.texts self.old.kept (is_ok result) name.now }
         ensures source { self.new.texts.source ≡ self.old.texts.source }
         ensures count { self.new.texts.readings.count ≡ self.old.texts.readings.count
-            + once (is_read (kept_or_read (shared_nodes F.Filter.shape T.Node.shape B.Node.shape)
-            (language_of F.makes T.gives B.block self.old.texts.parser.language.value) self.old.kept
-            (S.texts self.old.texts.source))
-            (all_kept (shared_nodes F.Filter.shape T.Node.shape B.Node.shape) self.old.kept) name.now) }
+            + parsed_for (shared_nodes F.Filter.shape T.Node.shape B.Node.shape)
+            (language_of F.makes T.gives B.block) S.texts self.old.texts self.old.kept name.now }
     {
         match self.under(name) {
             Some(answer) => kept_tree(answer),
@@ -249,28 +231,19 @@ where
         alloc: Global,
         name: &str,
     ) -> Result<Rc<Template<F::Filter, T::Node, B::Node>>, Error>
-        ensures gives { Gives (shared_nodes F.Filter.shape T.Node.shape B.Node.shape) result
-            (partial_in (kept_or_read (shared_nodes F.Filter.shape T.Node.shape B.Node.shape)
-            (language_of F.makes T.gives B.block self.old.texts.parser.language.value) self.old.kept
-            (S.texts self.old.texts.source)) name.now) }
-        ensures kept { (kept_or_read (shared_nodes F.Filter.shape T.Node.shape B.Node.shape)
-            (language_of F.makes T.gives B.block self.new.texts.parser.language.value) self.new.kept
-            (S.texts self.new.texts.source))
-            ≡ (kept_or_read (shared_nodes F.Filter.shape T.Node.shape B.Node.shape)
-            (language_of F.makes T.gives B.block self.old.texts.parser.language.value) self.old.kept
-            (S.texts self.old.texts.source)) }
-        ensures keeps { (all_kept (shared_nodes F.Filter.shape T.Node.shape B.Node.shape) self.new.kept)
-            ≡ kept_after (is_answer result)
-            (kept_or_read (shared_nodes F.Filter.shape T.Node.shape B.Node.shape)
-            (language_of F.makes T.gives B.block self.old.texts.parser.language.value) self.old.kept
-            (S.texts self.old.texts.source)) name.now
-            (all_kept (shared_nodes F.Filter.shape T.Node.shape B.Node.shape) self.old.kept) }
+        ensures gives { let of = shared_nodes F.Filter.shape T.Node.shape B.Node.shape in
+            Gives of result (partial_in
+            (finds_in of (language_of F.makes T.gives B.block) S.texts self.old.texts self.old.kept) name.now) }
+        ensures kept { let finds = finds_in (shared_nodes F.Filter.shape T.Node.shape B.Node.shape)
+            (language_of F.makes T.gives B.block) S.texts in
+            finds self.new.texts self.new.kept ≡ finds self.old.texts self.old.kept }
+        ensures keeps { let of = shared_nodes F.Filter.shape T.Node.shape B.Node.shape in
+            all_kept of self.new.kept ≡ kept_next of (language_of F.makes T.gives B.block)
+            S.texts self.old.texts self.old.kept (is_answer result) name.now }
         ensures source { self.new.texts.source ≡ self.old.texts.source }
         ensures count { self.new.texts.readings.count ≡ self.old.texts.readings.count
-            + once (is_read (kept_or_read (shared_nodes F.Filter.shape T.Node.shape B.Node.shape)
-            (language_of F.makes T.gives B.block self.old.texts.parser.language.value) self.old.kept
-            (S.texts self.old.texts.source))
-            (all_kept (shared_nodes F.Filter.shape T.Node.shape B.Node.shape) self.old.kept) name.now) }
+            + parsed_for (shared_nodes F.Filter.shape T.Node.shape B.Node.shape)
+            (language_of F.makes T.gives B.block) S.texts self.old.texts self.old.kept name.now }
     {
         match self.under(name) {
             Some(answer) => kept_answer(answer),

@@ -1,13 +1,11 @@
 //! Rendering a text in one call.
-ghost use Rattle.std.specs.Prelude.{◌≡◌, Err, List, Result};
+ghost use Rattle.std.specs.Prelude.{◌≡◌, Err};
 ghost use Rattle.liquid_error.specs.meaning.Refusal.{Refusal};
 ghost use Rattle.liquid_parser.specs.meaning.Plugins.{language_of};
 ghost use Rattle.liquid_parser.specs.meaning.Reading.{Reads};
-ghost use Rattle.liquid_partials.specs.meaning.Rendered.{Rendered};
+ghost use Rattle.liquid_partials.specs.meaning.Rendered.{Writes, setting_by};
 ghost use Rattle.liquid_template.specs.meaning.Partials.{partials_of};
 ghost use Rattle.liquid_template.specs.meaning.Pours.{Pours};
-ghost use Rattle.liquid_template.specs.meaning.Runs.{setting};
-ghost use Rattle.liquid_plugins.specs.meaning.Nodes.{NodeShape};
 
 use liquid_error::Error;
 use liquid_parser::{Language, ParseBlock, ParseTag, parse};
@@ -36,11 +34,9 @@ where
     B::Node: Renderable<R::Register>,
     R::Store: PartialStore<F::Filter, T::Node, B::Node>,
     K: Sink,
-    ensures rendered { (answer : Result (List (NodeShape F.Filter.Shape T.Node.Shape B.Node.Shape)) Refusal)
-        → Reads (language_of F.makes T.gives B.block language.now) text.now answer
-        → Rendered (setting R.Register.fresh F.Filter.means T.Node.means B.Node.means (partials_of R.Store.finds (R.store runtime.old)))
-        answer (R.view runtime.old)
-        (K.sunk sink.old) (K.sunk sink.new) (R.view runtime.new) result }
+    ensures rendered { Writes R.view K.sunk (language_of F.makes T.gives B.block language.now) text.now
+        (setting_by R.Register.fresh F.Filter.means T.Node.means B.Node.means R.Store.finds R.store)
+        runtime.old runtime.new sink.old sink.new result }
     ensures untouched { (refusal : Refusal) → Reads (language_of F.makes T.gives B.block language.now) text.now (Err refusal)
         → runtime.new ≡ runtime.old }
     ensures pours { Pours (K.sunk sink.old) (K.sunk sink.new) result }

@@ -1,8 +1,10 @@
 pub mod Actions
+pub mod Calls
 pub mod FaultText
 pub mod Grows
 pub mod Isolated
 pub mod Nodes
+pub mod OfTypes
 pub mod Opens
 pub mod Outcome
 pub mod Output

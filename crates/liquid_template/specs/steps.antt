@@ -2,6 +2,8 @@ pub mod Bound
 pub mod Going
 pub mod Keeps
 pub mod NodeTurns
+pub mod OfNodes
+pub mod Outs
 pub mod PartsOf
 pub mod PieceOut
 pub mod PiecePut

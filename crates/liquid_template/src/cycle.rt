@@ -2,19 +2,12 @@
 //!
 //! It keeps no more across a call than the next turn needs. A value of a turn, an error or a frame is made, used and
 //! dropped in functions that return before the cycle continues, so that a level of nesting takes little native stack.
-ghost use Rattle.std.specs.Prelude.{◌≡◌, ◌-◌, ◌<◌, [], IsOk};
-ghost use Rattle.liquid_plugins.specs.meaning.NodesOf.{node_of, nodes_of};
-ghost use Rattle.liquid_template.specs.meaning.Nodes.{run_parts};
-ghost use Rattle.liquid_template.specs.meaning.Partials.{partials_at, partials_of};
-ghost use Rattle.liquid_template.specs.meaning.Rendering.{nodes_run};
-ghost use Rattle.liquid_template.specs.meaning.Outcome.{RendersWithin};
+ghost use Rattle.std.specs.Prelude.{◌≡◌, ◌<◌, IsOk};
 ghost use Rattle.liquid_template.specs.meaning.Opens.{OpenNone};
-ghost use Rattle.liquid_template.specs.meaning.Runs.{setting, node_run, tag_run, block_run, part_run};
-ghost use Rattle.liquid_template.specs.meaning.TemplateOf.{template_nodes};
-ghost use Rattle.liquid_template.specs.steps.PartsOf.{parts_of};
-ghost use Rattle.liquid_template.specs.steps.Going.{Takes};
 ghost use Rattle.liquid_template.specs.steps.Keeps.{Keeps};
-ghost use Rattle.liquid_template.specs.steps.Place.{target, around};
+ghost use Rattle.liquid_template.specs.steps.OfNodes.{BlockTakes, TagTakes, block_of, list_of, one_of, part_of, partial_of, tag_of};
+ghost use Rattle.liquid_template.specs.steps.Outs.{RendersOut};
+ghost use Rattle.liquid_template.specs.steps.Place.{around};
 
 use crate::end::{drop_partial, end_captured, end_turn, open_text};
 use crate::outlet::Out;
@@ -47,11 +40,9 @@ where
     S::Store: PartialStore<X, T, B>,
     O: Out,
     requires { IsOk answer.old }
-    ensures renders { RendersWithin (nodes_run
-        (setting S.Register.fresh X.means T.means B.means (partials_of S.Store.finds (S.store scopes.old)))
-        depth (nodes_of X.shape T.shape B.shape nodes.now)
-        (S.view scopes.old))
-        (S.view scopes.old) (target (O.place out.old)) (target (O.place out.new)) (S.view scopes.new) answer.new }
+    ensures renders { RendersOut S.view O.place
+        (list_of S.Register.fresh X.Filter T.Renderable B.Renderable S.Store.finds (S.store scopes.old) depth nodes.now)
+        scopes.old scopes.new out.old out.new answer.new }
     ensures owes { S.restores scopes.new ≡ S.restores scopes.old }
     ensures keeps { Keeps (OpenNone T.means B.means) S.store S.lent S.Store.finds depth scopes.old scopes.new }
     ensures around { around (O.place out.new) ≡ around (O.place out.old) }
@@ -86,11 +77,9 @@ where
     S::Store: PartialStore<X, T, B>,
     O: Out,
     requires { IsOk answer.old }
-    ensures renders { RendersWithin (node_run
-        (setting S.Register.fresh X.means T.means B.means (partials_of S.Store.finds (S.store scopes.old)))
-        depth (node_of X.shape T.shape B.shape node.now)
-        (S.view scopes.old))
-        (S.view scopes.old) (target (O.place out.old)) (target (O.place out.new)) (S.view scopes.new) answer.new }
+    ensures renders { RendersOut S.view O.place
+        (one_of S.Register.fresh X.Filter T.Renderable B.Renderable S.Store.finds (S.store scopes.old) depth node.now)
+        scopes.old scopes.new out.old out.new answer.new }
     ensures owes { S.restores scopes.new ≡ S.restores scopes.old }
     ensures keeps { Keeps (OpenNone T.means B.means) S.store S.lent S.Store.finds depth scopes.old scopes.new }
     ensures around { around (O.place out.new) ≡ around (O.place out.old) }
@@ -124,11 +113,9 @@ where
     S::Store: PartialStore<X, T, B>,
     O: Out,
     requires { IsOk answer.old }
-    ensures renders { RendersWithin (tag_run
-        (setting S.Register.fresh X.means T.means B.means (partials_of S.Store.finds (S.store scopes.old)))
-        depth (T.shape tag.now)
-        (S.view scopes.old))
-        (S.view scopes.old) (target (O.place out.old)) (target (O.place out.new)) (S.view scopes.new) answer.new }
+    ensures renders { RendersOut S.view O.place
+        (tag_of S.Register.fresh X.Filter T.Renderable B.Renderable S.Store.finds (S.store scopes.old) depth tag.now)
+        scopes.old scopes.new out.old out.new answer.new }
     ensures owes { S.restores scopes.new ≡ S.restores scopes.old }
     ensures keeps { Keeps (OpenNone T.means B.means) S.store S.lent S.Store.finds depth scopes.old scopes.new }
     ensures around { around (O.place out.new) ≡ around (O.place out.old) }
@@ -163,10 +150,8 @@ where
     S::Store: PartialStore<X, T, B>,
     O: Out,
     requires { IsOk answer.old }
-    ensures takes { Takes (setting S.Register.fresh X.means T.means B.means (partials_of S.Store.finds (S.store scopes.old)))
-        depth T.means (T.shape tag.now) []
-        (T.Progress.shape going.old.progress) (T.Progress.shape going.new.progress)
-        (S.view scopes.old) (S.view scopes.new) (target (O.place out.old)) (target (O.place out.new)) answer.new result }
+    ensures takes { TagTakes S.Register.fresh X.Filter T.Renderable B.Renderable S.Store.finds (S.store scopes.old) depth
+        S.view O.place T.Progress.shape tag.now going.old going.new scopes.old scopes.new out.old out.new answer.new result }
     ensures owes { S.restores scopes.new ≡ S.restores scopes.old }
     ensures keeps { Keeps (OpenNone T.means B.means) S.store S.lent S.Store.finds depth scopes.old scopes.new }
     ensures around { around (O.place out.new) ≡ around (O.place out.old) }
@@ -208,11 +193,9 @@ where
     S::Store: PartialStore<X, T, B>,
     O: Out,
     requires { IsOk answer.old }
-    ensures renders { RendersWithin (block_run
-        (setting S.Register.fresh X.means T.means B.means (partials_of S.Store.finds (S.store scopes.old)))
-        depth (B.shape block.now) (parts_of X.shape T.shape B.shape parts.now)
-        (S.view scopes.old))
-        (S.view scopes.old) (target (O.place out.old)) (target (O.place out.new)) (S.view scopes.new) answer.new }
+    ensures renders { RendersOut S.view O.place
+        (block_of S.Register.fresh X.Filter T.Renderable B.Renderable S.Store.finds (S.store scopes.old) depth block.now parts.now)
+        scopes.old scopes.new out.old out.new answer.new }
     ensures owes { S.restores scopes.new ≡ S.restores scopes.old }
     ensures keeps { Keeps (OpenNone T.means B.means) S.store S.lent S.Store.finds depth scopes.old scopes.new }
     ensures around { around (O.place out.new) ≡ around (O.place out.old) }
@@ -250,10 +233,9 @@ where
     S::Store: PartialStore<X, T, B>,
     O: Out,
     requires { IsOk answer.old }
-    ensures takes { let s = setting S.Register.fresh X.means T.means B.means (partials_of S.Store.finds (S.store scopes.old)) in
-        Takes s depth B.means (B.shape block.now) (run_parts s (partials_at s depth) (parts_of X.shape T.shape B.shape parts.now))
-        (B.Progress.shape going.old.progress) (B.Progress.shape going.new.progress)
-        (S.view scopes.old) (S.view scopes.new) (target (O.place out.old)) (target (O.place out.new)) answer.new result }
+    ensures takes { BlockTakes S.Register.fresh X.Filter T.Renderable B.Renderable S.Store.finds (S.store scopes.old) depth
+        S.view O.place B.Progress.shape block.now parts.now going.old going.new
+        scopes.old scopes.new out.old out.new answer.new result }
     ensures owes { S.restores scopes.new ≡ S.restores scopes.old }
     ensures keeps { Keeps (OpenNone T.means B.means) S.store S.lent S.Store.finds depth scopes.old scopes.new }
     ensures around { around (O.place out.new) ≡ around (O.place out.old) }
@@ -296,11 +278,9 @@ where
     S::Store: PartialStore<X, T, B>,
     O: Out,
     requires { IsOk answer.old }
-    ensures renders { RendersWithin (part_run
-        (setting S.Register.fresh X.means T.means B.means (partials_of S.Store.finds (S.store scopes.old)))
-        depth (parts_of X.shape T.shape B.shape parts.now) place
-        (S.view scopes.old))
-        (S.view scopes.old) (target (O.place out.old)) (target (O.place out.new)) (S.view scopes.new) answer.new }
+    ensures renders { RendersOut S.view O.place
+        (part_of S.Register.fresh X.Filter T.Renderable B.Renderable S.Store.finds (S.store scopes.old) depth parts.now place)
+        scopes.old scopes.new out.old out.new answer.new }
     ensures owes { S.restores scopes.new ≡ S.restores scopes.old }
     ensures keeps { Keeps (OpenNone T.means B.means) S.store S.lent S.Store.finds depth scopes.old scopes.new }
     ensures around { around (O.place out.new) ≡ around (O.place out.old) }
@@ -330,11 +310,9 @@ where
     O: Out,
     requires more { 0 < depth }
     requires no_error { IsOk answer.old }
-    ensures renders { RendersWithin (nodes_run
-        (setting S.Register.fresh X.means T.means B.means (partials_of S.Store.finds (S.store scopes.old)))
-        (depth - 1) (template_nodes X.shape T.shape B.shape template.value)
-        (S.view scopes.old))
-        (S.view scopes.old) (target (O.place out.old)) (target (O.place out.new)) (S.view scopes.new) answer.new }
+    ensures renders { RendersOut S.view O.place
+        (partial_of S.Register.fresh X.Filter T.Renderable B.Renderable S.Store.finds (S.store scopes.old) depth template.value)
+        scopes.old scopes.new out.old out.new answer.new }
     ensures owes { S.restores scopes.new ≡ S.restores scopes.old }
     ensures keeps { Keeps (OpenNone T.means B.means) S.store S.lent S.Store.finds depth scopes.old scopes.new }
     ensures around { around (O.place out.new) ≡ around (O.place out.old) }

@@ -1,15 +1,12 @@
 //! Rendering templates in isolation.
-ghost use Rattle.std.specs.Prelude.{◌≡◌, option_map};
-ghost use Rattle.liquid_runtime.specs.meaning.Emptied.{emptied};
-ghost use Rattle.liquid_runtime.specs.meaning.Maps.{names_of};
+ghost use Rattle.std.specs.Prelude.{◌≡◌};
+ghost use Rattle.liquid_template.specs.meaning.Calls.{IsolatedTo};
+ghost use Rattle.liquid_template.specs.meaning.OfTypes.{isolated_of};
 ghost use Rattle.liquid_template.specs.meaning.Opens.{OpenNone};
-ghost use Rattle.liquid_template.specs.meaning.Outcome.{RendersWithin};
 ghost use Rattle.liquid_template.specs.meaning.Partials.{partials_of};
-ghost use Rattle.liquid_template.specs.meaning.Rendering.{isolated_run};
-ghost use Rattle.liquid_template.specs.meaning.Runs.{setting};
-ghost use Rattle.liquid_template.specs.meaning.Isolated.{RendersIsolated, run_given_back, OnlyIndexChanges};
-ghost use Rattle.liquid_template.specs.meaning.TemplateOf.{template_nodes};
-ghost use Rattle.liquid_template.specs.steps.Place.{target, around};
+ghost use Rattle.liquid_template.specs.meaning.Isolated.{OnlyIndexChanges};
+ghost use Rattle.liquid_template.specs.steps.Outs.{IsolatedOut, RendersOut};
+ghost use Rattle.liquid_template.specs.steps.Place.{around};
 
 use crate::outlet::{NoGate, Out, Outlet};
 use crate::sandbox::name_text;
@@ -45,12 +42,9 @@ impl<X: Filter, T, B> Template<X, T, B> {
         B: Renderable<S::Register>,
         S::Store: PartialStore<X, T, B>,
         K: Sink,
-        ensures isolated { RendersIsolated S.Register.fresh
-            (isolated_run
-            (setting S.Register.fresh X.means T.means B.means (partials_of S.Store.finds (S.store scopes.old)))
-            (names_of «data») (option_map (λ r. r.now) name.entry) (template_nodes X.shape T.shape B.shape self.now))
-            (S.view scopes.old)
-            (K.sunk sink.old) (K.sunk sink.new) (S.view scopes.new) result }
+        ensures isolated { IsolatedTo S.view K.sunk S.Register.fresh
+            (isolated_of S.Register.fresh X.Filter T.Renderable B.Renderable S.Store.finds (S.store scopes.old) self.now «data» name.entry)
+            scopes.old scopes.new sink.old sink.new result }
         ensures kept { OnlyIndexChanges (S.view scopes.old) (S.view scopes.new) }
         ensures owes { S.restores scopes.new ≡ S.restores scopes.old }
         ensures store { partials_of S.Store.finds (S.store scopes.new) ≡ partials_of S.Store.finds (S.store scopes.old) }
@@ -79,17 +73,12 @@ impl<X: Filter, T, B> Template<X, T, B> {
         B: Renderable<S::Register>,
         S::Store: PartialStore<X, T, B>,
         O: Out,
-        ensures renders { RendersWithin (isolated_run
-            (setting S.Register.fresh X.means T.means B.means (partials_of S.Store.finds (S.store scopes.old)))
-            (names_of «data») (option_map (λ r. r.now) name.entry) (template_nodes X.shape T.shape B.shape self.now)
-            (S.view scopes.old))
-            (S.view scopes.old) (target (O.place out.old)) (target (O.place out.new)) (S.view scopes.new) result }
-        ensures isolated { RendersWithin (run_given_back (S.view scopes.old)
-            (isolated_run
-            (setting S.Register.fresh X.means T.means B.means (partials_of S.Store.finds (S.store scopes.old)))
-            (names_of «data») (option_map (λ r. r.now) name.entry) (template_nodes X.shape T.shape B.shape self.now)
-            (emptied S.Register.fresh (S.view scopes.old))))
-            (S.view scopes.old) (target (O.place out.old)) (target (O.place out.new)) (S.view scopes.new) result }
+        ensures renders { RendersOut S.view O.place
+            (isolated_of S.Register.fresh X.Filter T.Renderable B.Renderable S.Store.finds (S.store scopes.old) self.now «data» name.entry)
+            scopes.old scopes.new out.old out.new result }
+        ensures isolated { IsolatedOut S.view O.place S.Register.fresh
+            (isolated_of S.Register.fresh X.Filter T.Renderable B.Renderable S.Store.finds (S.store scopes.old) self.now «data» name.entry)
+            scopes.old scopes.new out.old out.new result }
         ensures kept { OnlyIndexChanges (S.view scopes.old) (S.view scopes.new) }
         ensures owes { S.restores scopes.new ≡ S.restores scopes.old }
         ensures store { partials_of S.Store.finds (S.store scopes.new) ≡ partials_of S.Store.finds (S.store scopes.old) }
@@ -127,12 +116,9 @@ impl<X: Filter, T, B> Template<X, T, B> {
         B: Renderable<R::Register>,
         R::Store: PartialStore<X, T, B>,
         K: Sink,
-        ensures isolated { RendersIsolated R.Register.fresh
-            (isolated_run
-            (setting R.Register.fresh X.means T.means B.means (partials_of R.Store.finds (R.store parent.old)))
-            (names_of «data») (option_map (λ r. r.now) name.entry) (template_nodes X.shape T.shape B.shape self.now))
-            (R.view parent.old)
-            (K.sunk sink.old) (K.sunk sink.new) (R.view parent.new) result }
+        ensures isolated { IsolatedTo R.view K.sunk R.Register.fresh
+            (isolated_of R.Register.fresh X.Filter T.Renderable B.Renderable R.Store.finds (R.store parent.old) self.now «data» name.entry)
+            parent.old parent.new sink.old sink.new result }
         ensures kept { OnlyIndexChanges (R.view parent.old) (R.view parent.new) }
         ensures owes { R.restores parent.new ≡ R.restores parent.old }
         ensures store { partials_of R.Store.finds (R.store parent.new) ≡ partials_of R.Store.finds (R.store parent.old) }

@@ -2,14 +2,13 @@
 ghost use Rattle.std.specs.Prelude.{◌≡◌, string_bytes};
 ghost use Rattle.liquid_error.specs.meaning.Told.{Gives};
 ghost use Rattle.liquid_runtime.specs.meaning.Written.{SameFrames};
+ghost use Rattle.liquid_template.specs.meaning.OfTypes.{template_of};
 ghost use Rattle.liquid_template.specs.meaning.Opens.{OpenNone};
-ghost use Rattle.liquid_template.specs.meaning.Outcome.{Left, Renders, RendersWithin};
+ghost use Rattle.liquid_template.specs.meaning.Outcome.{Left, Renders};
 ghost use Rattle.liquid_template.specs.meaning.Partials.{partials_of};
-ghost use Rattle.liquid_template.specs.meaning.Rendering.{template_run};
 ghost use Rattle.liquid_template.specs.meaning.Run.{whole_text};
-ghost use Rattle.liquid_template.specs.meaning.Runs.{setting};
-ghost use Rattle.liquid_template.specs.meaning.TemplateOf.{template_nodes};
-ghost use Rattle.liquid_template.specs.steps.Place.{target, around};
+ghost use Rattle.liquid_template.specs.steps.Outs.{RendersOut};
+ghost use Rattle.liquid_template.specs.steps.Place.{around};
 
 use crate::cycle::render_list;
 use crate::outlet::{NoGate, Out, Outlet};
@@ -36,9 +35,9 @@ impl<X: Filter, T, B> Template<X, T, B> {
         B: Renderable<S::Register>,
         S::Store: PartialStore<X, T, B>,
         K: Sink,
-        ensures renders { Renders (template_run
-            (setting S.Register.fresh X.means T.means B.means (partials_of S.Store.finds (S.store scopes.old)))
-            (template_nodes X.shape T.shape B.shape self.now) (S.view scopes.old))
+        ensures renders { Renders (template_of
+            S.Register.fresh X.Filter T.Renderable B.Renderable S.Store.finds (S.store scopes.old) self.now
+            (S.view scopes.old))
             (S.view scopes.old)
             (K.sunk sink.old) (K.sunk sink.new) (S.view scopes.new) result }
         ensures owes { S.restores scopes.new ≡ S.restores scopes.old }
@@ -66,10 +65,9 @@ impl<X: Filter, T, B> Template<X, T, B> {
         B: Renderable<S::Register>,
         S::Store: PartialStore<X, T, B>,
         O: Out,
-        ensures renders { RendersWithin (template_run
-            (setting S.Register.fresh X.means T.means B.means (partials_of S.Store.finds (S.store scopes.old)))
-            (template_nodes X.shape T.shape B.shape self.now) (S.view scopes.old))
-            (S.view scopes.old) (target (O.place out.old)) (target (O.place out.new)) (S.view scopes.new) result }
+        ensures renders { RendersOut S.view O.place
+            (template_of S.Register.fresh X.Filter T.Renderable B.Renderable S.Store.finds (S.store scopes.old) self.now)
+            scopes.old scopes.new out.old out.new result }
         ensures owes { S.restores scopes.new ≡ S.restores scopes.old }
         ensures store { partials_of S.Store.finds (S.store scopes.new) ≡ partials_of S.Store.finds (S.store scopes.old) }
         ensures unasked { (S.view scopes.old).depth ≡ 0 → S.store scopes.new ≡ S.store scopes.old }
@@ -92,9 +90,9 @@ impl<X: Filter, T, B> Template<X, T, B> {
         B: Renderable<R::Register>,
         R::Store: PartialStore<X, T, B>,
         K: Sink,
-        ensures renders { Renders (template_run
-            (setting R.Register.fresh X.means T.means B.means (partials_of R.Store.finds (R.store runtime.old)))
-            (template_nodes X.shape T.shape B.shape self.now) (R.view runtime.old))
+        ensures renders { Renders (template_of
+            R.Register.fresh X.Filter T.Renderable B.Renderable R.Store.finds (R.store runtime.old) self.now
+            (R.view runtime.old))
             (R.view runtime.old)
             (K.sunk sink.old) (K.sunk sink.new) (R.view runtime.new) result }
         ensures owes { R.restores runtime.new ≡ R.restores runtime.old }
@@ -116,12 +114,12 @@ impl<X: Filter, T, B> Template<X, T, B> {
         T: Renderable<R::Register>,
         B: Renderable<R::Register>,
         R::Store: PartialStore<X, T, B>,
-        ensures value { Gives string_bytes result (whole_text (template_run
-            (setting R.Register.fresh X.means T.means B.means (partials_of R.Store.finds (R.store runtime.old)))
-            (template_nodes X.shape T.shape B.shape self.now) (R.view runtime.old))) }
-        ensures left { Left (template_run
-            (setting R.Register.fresh X.means T.means B.means (partials_of R.Store.finds (R.store runtime.old)))
-            (template_nodes X.shape T.shape B.shape self.now) (R.view runtime.old))
+        ensures value { Gives string_bytes result (whole_text (template_of
+            R.Register.fresh X.Filter T.Renderable B.Renderable R.Store.finds (R.store runtime.old) self.now
+            (R.view runtime.old))) }
+        ensures left { Left (template_of
+            R.Register.fresh X.Filter T.Renderable B.Renderable R.Store.finds (R.store runtime.old) self.now
+            (R.view runtime.old))
             (R.view runtime.new) result }
         ensures frames { SameFrames (R.view runtime.old) (R.view runtime.new) }
         ensures owes { R.restores runtime.new ≡ R.restores runtime.old }

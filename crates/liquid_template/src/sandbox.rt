@@ -1,15 +1,12 @@
 //! Rendering templates in a sandbox.
 ghost use Rattle.std.specs.Prelude.{◌≡◌, IfOk, option_map, string_bytes};
-ghost use Rattle.liquid_runtime.specs.meaning.Emptied.{emptied};
-ghost use Rattle.liquid_runtime.specs.meaning.Maps.{names_of};
+ghost use Rattle.liquid_template.specs.meaning.Calls.{SandboxedTo};
+ghost use Rattle.liquid_template.specs.meaning.OfTypes.{sandboxed_of};
 ghost use Rattle.liquid_template.specs.meaning.Opens.{OpenNone};
-ghost use Rattle.liquid_template.specs.meaning.Outcome.{RendersWithin};
 ghost use Rattle.liquid_template.specs.meaning.Partials.{partials_of};
-ghost use Rattle.liquid_template.specs.meaning.Rendering.{sandboxed_run};
-ghost use Rattle.liquid_template.specs.meaning.Runs.{setting};
-ghost use Rattle.liquid_template.specs.meaning.Sandboxed.{HasGlobals, RendersSandboxed, run_over_outside, Untouched};
-ghost use Rattle.liquid_template.specs.meaning.TemplateOf.{template_nodes};
-ghost use Rattle.liquid_template.specs.steps.Place.{target, around};
+ghost use Rattle.liquid_template.specs.meaning.Sandboxed.{Untouched};
+ghost use Rattle.liquid_template.specs.steps.Outs.{SandboxedOut, RendersOut};
+ghost use Rattle.liquid_template.specs.steps.Place.{around};
 
 use crate::outlet::{NoGate, Out, Outlet};
 use crate::sink::Sink;
@@ -45,12 +42,9 @@ impl<X: Filter, T, B> Template<X, T, B> {
         B: Discreet<S::Register>,
         S::Store: PartialStore<X, T, B>,
         K: Sink,
-        ensures sandboxed { RendersSandboxed S.Register.fresh
-            (sandboxed_run
-            (setting S.Register.fresh X.means T.means B.means (partials_of S.Store.finds (S.store scopes.old)))
-            (names_of «data») (option_map (λ r. r.now) name.entry) (template_nodes X.shape T.shape B.shape self.now))
-            (S.view scopes.old)
-            (K.sunk sink.old) (K.sunk sink.new) (S.view scopes.new) result }
+        ensures sandboxed { SandboxedTo S.view K.sunk S.Register.fresh
+            (sandboxed_of S.Register.fresh X.Filter T.Discreet B.Discreet S.Store.finds (S.store scopes.old) self.now «data» name.entry)
+            scopes.old scopes.new sink.old sink.new result }
         ensures untouched { Untouched (S.view scopes.old) (S.view scopes.new) }
         ensures owes { S.restores scopes.new ≡ S.restores scopes.old }
         ensures store { partials_of S.Store.finds (S.store scopes.new) ≡ partials_of S.Store.finds (S.store scopes.old) }
@@ -79,17 +73,12 @@ impl<X: Filter, T, B> Template<X, T, B> {
         B: Discreet<S::Register>,
         S::Store: PartialStore<X, T, B>,
         O: Out,
-        ensures renders { RendersWithin (sandboxed_run
-            (setting S.Register.fresh X.means T.means B.means (partials_of S.Store.finds (S.store scopes.old)))
-            (names_of «data») (option_map (λ r. r.now) name.entry) (template_nodes X.shape T.shape B.shape self.now)
-            (S.view scopes.old))
-            (S.view scopes.old) (target (O.place out.old)) (target (O.place out.new)) (S.view scopes.new) result }
-        ensures isolated { HasGlobals (S.view scopes.old) → RendersWithin (run_over_outside (S.view scopes.old)
-            (sandboxed_run
-            (setting S.Register.fresh X.means T.means B.means (partials_of S.Store.finds (S.store scopes.old)))
-            (names_of «data») (option_map (λ r. r.now) name.entry) (template_nodes X.shape T.shape B.shape self.now)
-            (emptied S.Register.fresh (S.view scopes.old))))
-            (S.view scopes.old) (target (O.place out.old)) (target (O.place out.new)) (S.view scopes.new) result }
+        ensures renders { RendersOut S.view O.place
+            (sandboxed_of S.Register.fresh X.Filter T.Discreet B.Discreet S.Store.finds (S.store scopes.old) self.now «data» name.entry)
+            scopes.old scopes.new out.old out.new result }
+        ensures isolated { SandboxedOut S.view O.place S.Register.fresh
+            (sandboxed_of S.Register.fresh X.Filter T.Discreet B.Discreet S.Store.finds (S.store scopes.old) self.now «data» name.entry)
+            scopes.old scopes.new out.old out.new result }
         ensures untouched { Untouched (S.view scopes.old) (S.view scopes.new) }
         ensures owes { S.restores scopes.new ≡ S.restores scopes.old }
         ensures store { partials_of S.Store.finds (S.store scopes.new) ≡ partials_of S.Store.finds (S.store scopes.old) }
@@ -127,12 +116,9 @@ impl<X: Filter, T, B> Template<X, T, B> {
         B: Discreet<R::Register>,
         R::Store: PartialStore<X, T, B>,
         K: Sink,
-        ensures sandboxed { RendersSandboxed R.Register.fresh
-            (sandboxed_run
-            (setting R.Register.fresh X.means T.means B.means (partials_of R.Store.finds (R.store parent.old)))
-            (names_of «data») (option_map (λ r. r.now) name.entry) (template_nodes X.shape T.shape B.shape self.now))
-            (R.view parent.old)
-            (K.sunk sink.old) (K.sunk sink.new) (R.view parent.new) result }
+        ensures sandboxed { SandboxedTo R.view K.sunk R.Register.fresh
+            (sandboxed_of R.Register.fresh X.Filter T.Discreet B.Discreet R.Store.finds (R.store parent.old) self.now «data» name.entry)
+            parent.old parent.new sink.old sink.new result }
         ensures untouched { Untouched (R.view parent.old) (R.view parent.new) }
         ensures owes { R.restores parent.new ≡ R.restores parent.old }
         ensures store { partials_of R.Store.finds (R.store parent.new) ≡ partials_of R.Store.finds (R.store parent.old) }

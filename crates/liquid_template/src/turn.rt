@@ -1,15 +1,16 @@
 //! Taking a turn, and opening what it renders.
-ghost use Rattle.std.specs.Prelude.{◌≡◌, ◌<◌, ◌≤◌, IsOk, IfOk, IfSome, option_map, string_bytes};
+ghost use Rattle.std.specs.Prelude.{◌≡◌, ◌<◌, ◌≤◌, IsOk, IfOk, IfSome};
 ghost use Rattle.liquid_runtime.specs.meaning.Calls.{frame_of};
 ghost use Rattle.liquid_plugins.specs.meaning.Size.{size_nodes};
+ghost use Rattle.liquid_template.specs.meaning.OfTypes.{setting_of};
 ghost use Rattle.liquid_template.specs.meaning.Opens.{OpensNone};
 ghost use Rattle.liquid_template.specs.meaning.Partials.{partials_of};
-ghost use Rattle.liquid_template.specs.meaning.Runs.{setting};
 ghost use Rattle.liquid_template.specs.meaning.TemplateOf.{template_nodes};
 ghost use Rattle.liquid_template.specs.steps.Bound.{partials_size};
-ghost use Rattle.liquid_template.specs.steps.Going.{Turned, Small, Finds, FrameBegins, PartialOpens};
+ghost use Rattle.liquid_template.specs.steps.Going.{Small, Finds, FrameBegins};
 ghost use Rattle.liquid_template.specs.steps.Keeps.{Keeps};
-ghost use Rattle.liquid_template.specs.steps.Place.{target, around};
+ghost use Rattle.liquid_template.specs.steps.OfNodes.{PartialOut, TurnOut};
+ghost use Rattle.liquid_template.specs.steps.Place.{around, text_of};
 
 use crate::outlet::{Out, stopped_error};
 use crate::partial::{find, too_deep_error};
@@ -57,10 +58,9 @@ where
     S::Store: PartialStore<X, T, B>,
     O: Out,
     requires { IsOk answer.old }
-    ensures turned { Turned (setting S.Register.fresh X.means T.means B.means (partials_of S.Store.finds (S.store scopes.old)))
-        depth N.means (N.shape node.now) (N.Progress.shape going.old.progress) (N.Progress.shape going.new.progress)
-        (S.view scopes.old) (S.view scopes.new) (target (O.place out.old)) (target (O.place out.new)) X.shape T.shape B.shape
-        (option_map (λ s. string_bytes s) going.new.trace) (S.restores scopes.old) (S.restores scopes.new) answer.new result }
+    ensures turned { TurnOut S.Register.fresh X.Filter T.Renderable B.Renderable S.Store.finds
+        S.store S.view S.restores O.place N.Renderable N.Progress.shape depth node.now going.old going.new
+        scopes.old scopes.new out.old out.new answer.new result }
     ensures around { around (O.place out.new) ≡ around (O.place out.old) }
     ensures small { Small X.shape T.shape B.shape depth (partials_size (partials_of S.Store.finds (S.store scopes.old))) result }
     ensures keeps { Keeps (OpensNone N.means) S.store S.lent S.Store.finds depth scopes.old scopes.new }
@@ -113,9 +113,9 @@ fn begin<S>(
 where
     S: Scopes,
     requires { IsOk answer.old }
-    ensures begins { FrameBegins S.Register.fresh (frame_of frame) (option_map (λ s. string_bytes s) trace)
+    ensures begins { FrameBegins S.Register.fresh (frame_of frame) (text_of trace)
         (S.view scopes.old) (S.view scopes.new) (S.restores scopes.old) (S.restores scopes.new)
-        answer.new (option_map (λ s. string_bytes s) kept.new) result }
+        answer.new (text_of kept.new) result }
     ensures store { S.store scopes.new ≡ S.store scopes.old }
     ensures borrows { S.lent scopes.new ≡ S.lent scopes.old }
 {
@@ -150,10 +150,8 @@ where
     B: Renderable<S::Register>,
     S::Store: PartialStore<X, T, B>,
     requires { IsOk answer.old }
-    ensures opens { PartialOpens (setting S.Register.fresh X.means T.means B.means (partials_of S.Store.finds (S.store scopes.old)))
-        depth (λ template. template_nodes X.shape T.shape B.shape template.value) name.now (frame_of frame)
-        (option_map (λ s. string_bytes s) trace) (S.view scopes.old) (S.view scopes.new) (S.restores scopes.old) (S.restores scopes.new)
-        answer.new (option_map (λ s. string_bytes s) kept.new) result }
+    ensures opens { PartialOut S.Register.fresh X.Filter T.Renderable B.Renderable S.Store.finds (S.store scopes.old) depth
+        S.view S.restores name.now (frame_of frame) trace scopes.old scopes.new answer.new kept.new result }
     ensures small { IfSome result (λ template. (0 < depth) × (size_nodes (template_nodes X.shape T.shape B.shape template.value)
         ≤ partials_size (partials_of S.Store.finds (S.store scopes.old)))) }
     ensures keeps { Keeps ⊥ S.store S.lent S.Store.finds depth scopes.old scopes.new }
@@ -191,7 +189,8 @@ where
     T: Renderable<S::Register>,
     B: Renderable<S::Register>,
     S::Store: PartialStore<X, T, B>,
-    ensures finds { Finds (setting S.Register.fresh X.means T.means B.means (partials_of S.Store.finds (S.store scopes.old)))
+    ensures finds { Finds
+        (setting_of S.Register.fresh X.Filter T.Renderable B.Renderable S.Store.finds (S.store scopes.old))
         depth (λ template. template_nodes X.shape T.shape B.shape template.value) name.now result }
     ensures small { IfOk result (λ template. size_nodes (template_nodes X.shape T.shape B.shape template.value)
         ≤ partials_size (partials_of S.Store.finds (S.store scopes.old))) }

@@ -1,16 +1,11 @@
 //! Rendering templates as long as a gate lets it continue.
-ghost use Rattle.std.specs.Prelude.{◌≡◌, option_map};
-ghost use Rattle.liquid_runtime.specs.meaning.Emptied.{emptied};
-ghost use Rattle.liquid_runtime.specs.meaning.Maps.{names_of};
-ghost use Rattle.liquid_template.specs.meaning.Isolated.{run_given_back, OnlyIndexChanges};
+ghost use Rattle.std.specs.Prelude.{◌≡◌};
+ghost use Rattle.liquid_template.specs.meaning.Calls.{IsolatedGated, RendersGated, SandboxedGated};
+ghost use Rattle.liquid_template.specs.meaning.Isolated.{OnlyIndexChanges};
+ghost use Rattle.liquid_template.specs.meaning.OfTypes.{isolated_of, sandboxed_of, template_of};
 ghost use Rattle.liquid_template.specs.meaning.Opens.{OpenNone};
-ghost use Rattle.liquid_template.specs.meaning.Outcome.{RendersWithin};
-ghost use Rattle.liquid_template.specs.meaning.Output.{gated};
 ghost use Rattle.liquid_template.specs.meaning.Partials.{partials_of};
-ghost use Rattle.liquid_template.specs.meaning.Rendering.{isolated_run, sandboxed_run, template_run};
-ghost use Rattle.liquid_template.specs.meaning.Runs.{setting};
-ghost use Rattle.liquid_template.specs.meaning.Sandboxed.{HasGlobals, run_over_outside, Untouched};
-ghost use Rattle.liquid_template.specs.meaning.TemplateOf.{template_nodes};
+ghost use Rattle.liquid_template.specs.meaning.Sandboxed.{Untouched};
 
 use crate::gate::{Gate, GatedSink};
 use crate::outlet::{Outlet, WithGate};
@@ -40,12 +35,9 @@ impl<X: Filter, T, B> Template<X, T, B> {
         R::Store: PartialStore<X, T, B>,
         K: Sink,
         G: Gate,
-        ensures renders { RendersWithin (template_run
-            (setting R.Register.fresh X.means T.means B.means (partials_of R.Store.finds (R.store runtime.old)))
-            (template_nodes X.shape T.shape B.shape self.now) (R.view runtime.old))
-            (R.view runtime.old)
-            (gated (K.sunk page.old.sink) (G.gated page.old.gate)) (gated (K.sunk page.new.sink) (G.gated page.new.gate))
-            (R.view runtime.new) result }
+        ensures renders { RendersGated R.view K.sunk G.gated
+            (template_of R.Register.fresh X.Filter T.Renderable B.Renderable R.Store.finds (R.store runtime.old) self.now)
+            runtime.old runtime.new page.old page.new result }
         ensures owes { R.restores runtime.new ≡ R.restores runtime.old }
         ensures store { partials_of R.Store.finds (R.store runtime.new) ≡ partials_of R.Store.finds (R.store runtime.old) }
         ensures unasked { (R.view runtime.old).depth ≡ 0 → R.store runtime.new ≡ R.store runtime.old }
@@ -72,12 +64,9 @@ impl<X: Filter, T, B> Template<X, T, B> {
         S::Store: PartialStore<X, T, B>,
         K: Sink,
         G: Gate,
-        ensures renders { RendersWithin (template_run
-            (setting S.Register.fresh X.means T.means B.means (partials_of S.Store.finds (S.store scopes.old)))
-            (template_nodes X.shape T.shape B.shape self.now) (S.view scopes.old))
-            (S.view scopes.old)
-            (gated (K.sunk page.old.sink) (G.gated page.old.gate)) (gated (K.sunk page.new.sink) (G.gated page.new.gate))
-            (S.view scopes.new) result }
+        ensures renders { RendersGated S.view K.sunk G.gated
+            (template_of S.Register.fresh X.Filter T.Renderable B.Renderable S.Store.finds (S.store scopes.old) self.now)
+            scopes.old scopes.new page.old page.new result }
         ensures owes { S.restores scopes.new ≡ S.restores scopes.old }
         ensures store { partials_of S.Store.finds (S.store scopes.new) ≡ partials_of S.Store.finds (S.store scopes.old) }
         ensures unasked { (S.view scopes.old).depth ≡ 0 → S.store scopes.new ≡ S.store scopes.old }
@@ -107,21 +96,12 @@ impl<X: Filter, T, B> Template<X, T, B> {
         R::Store: PartialStore<X, T, B>,
         K: Sink,
         G: Gate,
-        ensures renders { RendersWithin (sandboxed_run
-            (setting R.Register.fresh X.means T.means B.means (partials_of R.Store.finds (R.store parent.old)))
-            (names_of «data») (option_map (λ r. r.now) name.entry) (template_nodes X.shape T.shape B.shape self.now)
-            (R.view parent.old))
-            (R.view parent.old)
-            (gated (K.sunk page.old.sink) (G.gated page.old.gate)) (gated (K.sunk page.new.sink) (G.gated page.new.gate))
-            (R.view parent.new) result }
-        ensures isolated { HasGlobals (R.view parent.old) → RendersWithin (run_over_outside (R.view parent.old)
-            (sandboxed_run
-            (setting R.Register.fresh X.means T.means B.means (partials_of R.Store.finds (R.store parent.old)))
-            (names_of «data») (option_map (λ r. r.now) name.entry) (template_nodes X.shape T.shape B.shape self.now)
-            (emptied R.Register.fresh (R.view parent.old))))
-            (R.view parent.old)
-            (gated (K.sunk page.old.sink) (G.gated page.old.gate)) (gated (K.sunk page.new.sink) (G.gated page.new.gate))
-            (R.view parent.new) result }
+        ensures renders { RendersGated R.view K.sunk G.gated
+            (sandboxed_of R.Register.fresh X.Filter T.Discreet B.Discreet R.Store.finds (R.store parent.old) self.now «data» name.entry)
+            parent.old parent.new page.old page.new result }
+        ensures isolated { SandboxedGated R.view K.sunk G.gated R.Register.fresh
+            (sandboxed_of R.Register.fresh X.Filter T.Discreet B.Discreet R.Store.finds (R.store parent.old) self.now «data» name.entry)
+            parent.old parent.new page.old page.new result }
         ensures untouched { Untouched (R.view parent.old) (R.view parent.new) }
         ensures owes { R.restores parent.new ≡ R.restores parent.old }
         ensures store { partials_of R.Store.finds (R.store parent.new) ≡ partials_of R.Store.finds (R.store parent.old) }
@@ -151,21 +131,12 @@ impl<X: Filter, T, B> Template<X, T, B> {
         S::Store: PartialStore<X, T, B>,
         K: Sink,
         G: Gate,
-        ensures renders { RendersWithin (sandboxed_run
-            (setting S.Register.fresh X.means T.means B.means (partials_of S.Store.finds (S.store scopes.old)))
-            (names_of «data») (option_map (λ r. r.now) name.entry) (template_nodes X.shape T.shape B.shape self.now)
-            (S.view scopes.old))
-            (S.view scopes.old)
-            (gated (K.sunk page.old.sink) (G.gated page.old.gate)) (gated (K.sunk page.new.sink) (G.gated page.new.gate))
-            (S.view scopes.new) result }
-        ensures isolated { HasGlobals (S.view scopes.old) → RendersWithin (run_over_outside (S.view scopes.old)
-            (sandboxed_run
-            (setting S.Register.fresh X.means T.means B.means (partials_of S.Store.finds (S.store scopes.old)))
-            (names_of «data») (option_map (λ r. r.now) name.entry) (template_nodes X.shape T.shape B.shape self.now)
-            (emptied S.Register.fresh (S.view scopes.old))))
-            (S.view scopes.old)
-            (gated (K.sunk page.old.sink) (G.gated page.old.gate)) (gated (K.sunk page.new.sink) (G.gated page.new.gate))
-            (S.view scopes.new) result }
+        ensures renders { RendersGated S.view K.sunk G.gated
+            (sandboxed_of S.Register.fresh X.Filter T.Discreet B.Discreet S.Store.finds (S.store scopes.old) self.now «data» name.entry)
+            scopes.old scopes.new page.old page.new result }
+        ensures isolated { SandboxedGated S.view K.sunk G.gated S.Register.fresh
+            (sandboxed_of S.Register.fresh X.Filter T.Discreet B.Discreet S.Store.finds (S.store scopes.old) self.now «data» name.entry)
+            scopes.old scopes.new page.old page.new result }
         ensures untouched { Untouched (S.view scopes.old) (S.view scopes.new) }
         ensures owes { S.restores scopes.new ≡ S.restores scopes.old }
         ensures store { partials_of S.Store.finds (S.store scopes.new) ≡ partials_of S.Store.finds (S.store scopes.old) }
@@ -196,21 +167,12 @@ impl<X: Filter, T, B> Template<X, T, B> {
         R::Store: PartialStore<X, T, B>,
         K: Sink,
         G: Gate,
-        ensures renders { RendersWithin (isolated_run
-            (setting R.Register.fresh X.means T.means B.means (partials_of R.Store.finds (R.store parent.old)))
-            (names_of «data») (option_map (λ r. r.now) name.entry) (template_nodes X.shape T.shape B.shape self.now)
-            (R.view parent.old))
-            (R.view parent.old)
-            (gated (K.sunk page.old.sink) (G.gated page.old.gate)) (gated (K.sunk page.new.sink) (G.gated page.new.gate))
-            (R.view parent.new) result }
-        ensures isolated { RendersWithin (run_given_back (R.view parent.old)
-            (isolated_run
-            (setting R.Register.fresh X.means T.means B.means (partials_of R.Store.finds (R.store parent.old)))
-            (names_of «data») (option_map (λ r. r.now) name.entry) (template_nodes X.shape T.shape B.shape self.now)
-            (emptied R.Register.fresh (R.view parent.old))))
-            (R.view parent.old)
-            (gated (K.sunk page.old.sink) (G.gated page.old.gate)) (gated (K.sunk page.new.sink) (G.gated page.new.gate))
-            (R.view parent.new) result }
+        ensures renders { RendersGated R.view K.sunk G.gated
+            (isolated_of R.Register.fresh X.Filter T.Renderable B.Renderable R.Store.finds (R.store parent.old) self.now «data» name.entry)
+            parent.old parent.new page.old page.new result }
+        ensures isolated { IsolatedGated R.view K.sunk G.gated R.Register.fresh
+            (isolated_of R.Register.fresh X.Filter T.Renderable B.Renderable R.Store.finds (R.store parent.old) self.now «data» name.entry)
+            parent.old parent.new page.old page.new result }
         ensures kept { OnlyIndexChanges (R.view parent.old) (R.view parent.new) }
         ensures owes { R.restores parent.new ≡ R.restores parent.old }
         ensures store { partials_of R.Store.finds (R.store parent.new) ≡ partials_of R.Store.finds (R.store parent.old) }
@@ -240,21 +202,12 @@ impl<X: Filter, T, B> Template<X, T, B> {
         S::Store: PartialStore<X, T, B>,
         K: Sink,
         G: Gate,
-        ensures renders { RendersWithin (isolated_run
-            (setting S.Register.fresh X.means T.means B.means (partials_of S.Store.finds (S.store scopes.old)))
-            (names_of «data») (option_map (λ r. r.now) name.entry) (template_nodes X.shape T.shape B.shape self.now)
-            (S.view scopes.old))
-            (S.view scopes.old)
-            (gated (K.sunk page.old.sink) (G.gated page.old.gate)) (gated (K.sunk page.new.sink) (G.gated page.new.gate))
-            (S.view scopes.new) result }
-        ensures isolated { RendersWithin (run_given_back (S.view scopes.old)
-            (isolated_run
-            (setting S.Register.fresh X.means T.means B.means (partials_of S.Store.finds (S.store scopes.old)))
-            (names_of «data») (option_map (λ r. r.now) name.entry) (template_nodes X.shape T.shape B.shape self.now)
-            (emptied S.Register.fresh (S.view scopes.old))))
-            (S.view scopes.old)
-            (gated (K.sunk page.old.sink) (G.gated page.old.gate)) (gated (K.sunk page.new.sink) (G.gated page.new.gate))
-            (S.view scopes.new) result }
+        ensures renders { RendersGated S.view K.sunk G.gated
+            (isolated_of S.Register.fresh X.Filter T.Renderable B.Renderable S.Store.finds (S.store scopes.old) self.now «data» name.entry)
+            scopes.old scopes.new page.old page.new result }
+        ensures isolated { IsolatedGated S.view K.sunk G.gated S.Register.fresh
+            (isolated_of S.Register.fresh X.Filter T.Renderable B.Renderable S.Store.finds (S.store scopes.old) self.now «data» name.entry)
+            scopes.old scopes.new page.old page.new result }
         ensures kept { OnlyIndexChanges (S.view scopes.old) (S.view scopes.new) }
         ensures owes { S.restores scopes.new ≡ S.restores scopes.old }
         ensures store { partials_of S.Store.finds (S.store scopes.new) ≡ partials_of S.Store.finds (S.store scopes.old) }

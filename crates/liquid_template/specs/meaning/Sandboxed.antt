@@ -7,7 +7,8 @@ use Rattle.liquid_runtime.specs.meaning.View.{View}
 use Rattle.liquid_runtime.specs.meaning.Emptied.{emptied}
 use Rattle.liquid_template.specs.meaning.Run.{Step, Run, Action}
 use Rattle.liquid_template.specs.meaning.Sunk.{Sunk}
-use Rattle.liquid_template.specs.meaning.Outcome.{Renders}
+use Rattle.liquid_template.specs.meaning.Output.{Output}
+use Rattle.liquid_template.specs.meaning.Outcome.{Renders, RendersWithin}
 
 -- there is a global frame
 abbrev pub HasGlobals : {Reg : Type 0} → View Reg → Type 0
@@ -42,6 +43,12 @@ run_over_outside outside r = record {
 pub record RendersSandboxed {Reg : Type 0} (fresh : Reg) (action : Action Reg) (outside : View Reg) (before after : Sunk) (left : View Reg) (answer : Result (Unit {0}) Error) : Type 0 where
   pub renders : Renders (action outside) outside before after left answer
   pub isolated : HasGlobals outside → Renders (run_over_outside outside (action (emptied fresh outside))) outside before after left answer
+
+-- the same for a call that asks a gate, beside what it renders: if the outside has globals, the outcome is also that of
+-- the run over the emptied outside
+abbrev pub SandboxedApart : {Reg : Type 0} → Reg → Action Reg → View Reg → Output → Output → View Reg → Result (Unit {0}) Error → Type 0
+SandboxedApart fresh action outside before after left answer =
+    HasGlobals outside → RendersWithin (run_over_outside outside (action (emptied fresh outside))) outside before after left answer
 
 -- interrupt and register are as they were before
 pub record Untouched {Reg : Type 0} (before after : View Reg) : Type 0 where
