@@ -109,8 +109,14 @@ impl<'a> Tag<'a> {
             nodes: Vec::new(alloc),
         };
         let next = dispatch(alloc, AROUND, &mut state, self, language)?;
-        let (mut nodes, rest) =
-            read_after_tag(alloc, block.source, block.rest, state, next, language)?;
+        let (mut nodes, rest) = read_after_tag(
+            alloc,
+            block.source,
+            block.rest,
+            state,
+            next,
+            language,
+        )?;
         block.rest = rest;
         match nodes.pop() {
             Some(node) => Ok(node),
