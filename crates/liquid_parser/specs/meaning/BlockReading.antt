@@ -35,10 +35,6 @@ abbrev pub end_or : Element → Bool → Option Element
 end_or e true = None
 end_or e false = Some e
 
--- if the block is open, this holds of the elements that are left of it
-abbrev pub IfOpen : TagBlock → (List Element → Type 0) → Type 0
-IfOpen block holds = block.is_closed ≡ false → (es : List Element) → Cover block.rest.now es → holds es
-
 -- the elements after the first, which is passed whatever it is
 abbrev pub behind_first : List Element → List Element
 behind_first [] = []
@@ -111,8 +107,3 @@ FindsAll of l outside (Err error) block es = IfSome (told error) (λ r. AllRead 
 abbrev pub IsAll : {A N : Type 0} → (A → List N) → Result A Error → TagBlock → Result (List N × List Element) Refusal → Type 0
 IsAll of (Ok nodes) block meant = (left : List Element) × Cover block.rest.now left × (meant ≡ Ok (of nodes, left))
 IsAll of (Err error) block meant = IfSome (told error) (λ r. meant ≡ Err r)
-
--- whatever is read as all nodes up to the end tag, the call returns that
-abbrev pub FindsOnly : {F T P B A : Type 0} → (A → List (NodeShape F T B)) → Lang F T P B → ℕ → Result A Error → (old new : TagBlock) → List Element → Type 0
-FindsOnly {F} {T} {P} {B} of l outside result old new es =
-    (a : Result (List (NodeShape F T B) × List Element) Refusal) → AllRead l old.source.now old.end_name.now outside es a → IsAll of result new a
