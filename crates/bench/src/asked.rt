@@ -22,10 +22,8 @@ pub(crate) fn alone<N: Meant + Drop>(
 ) -> Result<N, Error>
     ensures { (ts : Tokens) → AreTokens tokens.entry ts → Gives N.shape result (nothing_for (N.shape node) ts) }
 {
-    match tokens.expect_nothing(alloc) {
-        Ok(()) => Ok(node),
-        Err(error) => Err(error),
-    }
+    tokens.expect_nothing(alloc)?;
+    Ok(node)
 }
 
 /// Reads a name, and no token after it.
@@ -33,13 +31,9 @@ pub(crate) fn name_alone(alloc: Global, tokens: TagTokenIter<'_>) -> Result<Stri
     ensures { (ts : Tokens) → AreTokens tokens.entry ts → Gives (λ name. string_bytes name) result (name_alone ts) }
 {
     let mut tokens = tokens;
-    match tokens.next_identifier(alloc, TOKEN_EXPECTED) {
-        Ok(name) => match tokens.expect_nothing(alloc) {
-            Ok(()) => Ok(String::from_str(alloc, name)?),
-            Err(error) => Err(error),
-        },
-        Err(error) => Err(error),
-    }
+    let name = tokens.next_identifier(alloc, TOKEN_EXPECTED)?;
+    tokens.expect_nothing(alloc)?;
+    Ok(String::from_str(alloc, name)?)
 }
 
 /// Reads a name and a value, and no token after them. The value is in a box, since every node has room for the largest
@@ -52,14 +46,8 @@ pub(crate) fn name_and_value(
         → Gives (λ given. (string_bytes given.0, expression_of given.1.value)) result (name_and_value ts) }
 {
     let mut tokens = tokens;
-    match tokens.next_identifier(alloc, TOKEN_EXPECTED) {
-        Ok(name) => match tokens.next_value(alloc, TOKEN_EXPECTED) {
-            Ok(value) => match tokens.expect_nothing(alloc) {
-                Ok(()) => Ok((String::from_str(alloc, name)?, Box::new(alloc, value)?)),
-                Err(error) => Err(error),
-            },
-            Err(error) => Err(error),
-        },
-        Err(error) => Err(error),
-    }
+    let name = tokens.next_identifier(alloc, TOKEN_EXPECTED)?;
+    let value = tokens.next_value(alloc, TOKEN_EXPECTED)?;
+    tokens.expect_nothing(alloc)?;
+    Ok((String::from_str(alloc, name)?, Box::new(alloc, value)?))
 }

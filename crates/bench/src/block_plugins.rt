@@ -147,10 +147,10 @@ fn plain_block(alloc: Global, block: Blocks, tokens: TagTokenIter<'_>) -> Result
     ensures { (ts : Tokens) → AreTokens tokens.entry ts → Gives block_of result (begun block ts) }
 {
     match block {
-        Blocks::With => match name_and_value(alloc, tokens) {
-            Ok((name, value)) => Ok(BlockNode::With(name, value)),
-            Err(error) => Err(error),
-        },
+        Blocks::With => {
+            let (name, value) = name_and_value(alloc, tokens)?;
+            Ok(BlockNode::With(name, value))
+        }
         Blocks::Box => alone(alloc, tokens, BlockNode::Box),
         Blocks::Sbox => alone(alloc, tokens, BlockNode::Sbox),
         Blocks::Swap => alone(alloc, tokens, BlockNode::Swap),
@@ -236,10 +236,9 @@ impl<F: ParseFilter> ParseBlock<F> for HostileBlocks {
         _filters: &PluginRegistry<F>,
     ) -> Result<HostileBlockNode, Error> {
         match self {
-            HostileBlocks::Plain(block) => match plain_block(alloc, *block, tokens) {
-                Ok(plan) => Ok(HostileBlockNode::Plain(plan)),
-                Err(error) => Err(error),
-            },
+            HostileBlocks::Plain(block) => {
+                Ok(HostileBlockNode::Plain(plain_block(alloc, *block, tokens)?))
+            }
             HostileBlocks::Far => alone(alloc, tokens, HostileBlockNode::Far),
             HostileBlocks::Odd => alone(alloc, tokens, HostileBlockNode::Plain(BlockNode::Box)),
             HostileBlocks::Early => alone(alloc, tokens, HostileBlockNode::Plain(BlockNode::Swap)),
@@ -263,10 +262,9 @@ impl<F: ParseFilter> ParseBlock<F> for HostileBlocks {
         body: BlockBody<'_>,
     ) -> Result<HostileBlockNode, Error> {
         match plan {
-            HostileBlockNode::Plain(plan) => match finished(alloc, plan, body) {
-                Ok(node) => Ok(HostileBlockNode::Plain(node)),
-                Err(error) => Err(error),
-            },
+            HostileBlockNode::Plain(plan) => {
+                Ok(HostileBlockNode::Plain(finished(alloc, plan, body)?))
+            }
             HostileBlockNode::Far => Ok(HostileBlockNode::Far),
         }
     }

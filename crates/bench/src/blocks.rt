@@ -100,10 +100,8 @@ impl<V: Fresh> Renderable<V> for BlockNode {
             (BlockNode::Swap, Stage::Second) => Ok(Turn::Body(0, Frame::None, None)),
             (BlockNode::Raw(text), Stage::First) => Ok(Turn::Text(text.clone()?)),
             (BlockNode::With(name, expression), Stage::First) => {
-                match bound(alloc, name, &**expression, &*runtime) {
-                    Ok(frame) => Ok(Turn::Body(0, frame, None)),
-                    Err(error) => Err(error),
-                }
+                let frame = bound(alloc, name, &**expression, &*runtime)?;
+                Ok(Turn::Body(0, frame, None))
             }
             (BlockNode::Glob, Stage::First) => Ok(Turn::Body(0, Frame::Global, None)),
             _ => Ok(Turn::End),
@@ -139,13 +137,9 @@ fn bound<R: Runtime>(
 ) -> Result<Frame, Error>
     ensures { Gives frame_of result (bound (string_bytes name.now) (evaluate (R.view runtime.now) (expression_of expression.now))) }
 {
-    match expression.evaluate(alloc, runtime) {
-        Ok(value) => {
-            let names = one_name(alloc, name, value.into_owned()?)?;
-            Ok(Frame::Stack(names, None))
-        }
-        Err(error) => Err(error),
-    }
+    let value = expression.evaluate(alloc, runtime)?;
+    let names = one_name(alloc, name, value.into_owned()?)?;
+    Ok(Frame::Stack(names, None))
 }
 
 /// Returns an object of one name, which has this value.

@@ -79,10 +79,8 @@ impl FilterParameters for AppendParameters {
 
     #[tactic(auto, using(liquid_plugins::proofs::ErasedLemmas::evaluate_erased))]
     fn evaluate<'s, R: Runtime>(&'s self, alloc: Global, runtime: &'s R) -> Result<Value, Error> {
-        match self.value.evaluate(alloc, runtime) {
-            Ok(value) => Ok(value.into_owned()?),
-            Err(error) => Err(error),
-        }
+        let value = self.value.evaluate(alloc, runtime)?;
+        Ok(value.into_owned()?)
     }
 }
 
@@ -109,13 +107,9 @@ impl Filter for Append {
         runtime: &'s R,
     ) -> Result<Value, Error> {
         // evaluated here, so that the value is not copied
-        match self.parameters.value.evaluate(alloc, runtime) {
-            Ok(value) => {
-                let joined = joined(alloc, input.as_view(), value.as_view())?;
-                Ok(joined)
-            }
-            Err(error) => Err(error),
-        }
+        let value = self.parameters.value.evaluate(alloc, runtime)?;
+        let joined = joined(alloc, input.as_view(), value.as_view())?;
+        Ok(joined)
     }
 
     fn label(&self) -> &str {
@@ -242,10 +236,10 @@ impl ParseFilter for Filters {
 
     fn parse(&self, alloc: Global, arguments: FilterArguments<'_>) -> Result<AnyFilter, Error> {
         match self {
-            Filters::Append => match AppendParameters::from_args(alloc, arguments) {
-                Ok(parameters) => Ok(AnyFilter::Append(Append { parameters })),
-                Err(error) => Err(error),
-            },
+            Filters::Append => {
+                let parameters = AppendParameters::from_args(alloc, arguments)?;
+                Ok(AnyFilter::Append(Append { parameters }))
+            }
             Filters::Fail => {
                 if arguments.positional.len() == 0 && arguments.keyword.len() == 0 {
                     Ok(AnyFilter::Fail)

@@ -76,14 +76,11 @@ fn plain_tag(alloc: Global, tag: Tags, tokens: TagTokenIter<'_>) -> Result<TagNo
     ensures { (ts : Tokens) → AreTokens tokens.entry ts → Gives tag_of result (tag_given tag ts) }
 {
     match tag {
-        Tags::Set => match name_and_value(alloc, tokens) {
-            Ok((name, value)) => Ok(TagNode::Set(name, value)),
-            Err(error) => Err(error),
-        },
-        Tags::Inc => match name_alone(alloc, tokens) {
-            Ok(name) => Ok(TagNode::Inc(name)),
-            Err(error) => Err(error),
-        },
+        Tags::Set => {
+            let (name, value) = name_and_value(alloc, tokens)?;
+            Ok(TagNode::Set(name, value))
+        }
+        Tags::Inc => Ok(TagNode::Inc(name_alone(alloc, tokens)?)),
         Tags::Brk => alone(alloc, tokens, TagNode::Brk),
     }
 }
@@ -118,14 +115,11 @@ impl<F: ParseFilter> ParseTag<F> for LeakyTags {
         _filters: &PluginRegistry<F>,
     ) -> Result<LeakyTagNode, Error> {
         match self {
-            LeakyTags::Plain(tag) => match plain_tag(alloc, *tag, tokens) {
-                Ok(node) => Ok(LeakyTagNode::Plain(node)),
-                Err(error) => Err(error),
-            },
-            LeakyTags::Leak => match name_and_value(alloc, tokens) {
-                Ok((name, value)) => Ok(LeakyTagNode::Leak(name, value)),
-                Err(error) => Err(error),
-            },
+            LeakyTags::Plain(tag) => Ok(LeakyTagNode::Plain(plain_tag(alloc, *tag, tokens)?)),
+            LeakyTags::Leak => {
+                let (name, value) = name_and_value(alloc, tokens)?;
+                Ok(LeakyTagNode::Leak(name, value))
+            }
         }
     }
 }
@@ -162,10 +156,7 @@ impl<F: ParseFilter> ParseTag<F> for HostileTags {
         _filters: &PluginRegistry<F>,
     ) -> Result<HostileTagNode, Error> {
         match self {
-            HostileTags::Plain(tag) => match plain_tag(alloc, *tag, tokens) {
-                Ok(node) => Ok(HostileTagNode::Plain(node)),
-                Err(error) => Err(error),
-            },
+            HostileTags::Plain(tag) => Ok(HostileTagNode::Plain(plain_tag(alloc, *tag, tokens)?)),
             HostileTags::Spin => alone(alloc, tokens, HostileTagNode::Spin),
             HostileTags::Mute => alone(alloc, tokens, HostileTagNode::Mute),
         }

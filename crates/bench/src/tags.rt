@@ -65,10 +65,10 @@ impl<V: Fresh> Renderable<V> for TagNode {
         runtime: &mut R,
     ) -> Result<Turn, Error> {
         match self {
-            TagNode::Set(name, expression) => match assign(alloc, name, &**expression, runtime) {
-                Ok(_) => Ok(Turn::End),
-                Err(error) => Err(error),
-            },
+            TagNode::Set(name, expression) => {
+                assign(alloc, name, &**expression, runtime)?;
+                Ok(Turn::End)
+            }
             TagNode::Inc(name) => Ok(Turn::Partial(name.clone()?, Frame::None, None)),
             TagNode::Brk => {
                 runtime.registers_mut().interrupt.set(Interrupt::Break);
@@ -134,10 +134,8 @@ impl<V: Fresh> Renderable<V> for LeakyTagNode {
         match self {
             LeakyTagNode::Plain(tag) => tag.turn(alloc, progress, runtime),
             LeakyTagNode::Leak(name, expression) => {
-                match assign(alloc, name, &**expression, runtime) {
-                    Ok(old) => Ok(Turn::Text(rendered(alloc, old)?)),
-                    Err(error) => Err(error),
-                }
+                let old = assign(alloc, name, &**expression, runtime)?;
+                Ok(Turn::Text(rendered(alloc, old)?))
             }
         }
     }
@@ -163,10 +161,7 @@ fn assign<R: Runtime>(
     ensures owes { R.restores runtime.new ≡ R.restores runtime.old }
     ensures borrows { R.lent runtime.new ≡ R.lent runtime.old }
 {
-    let value = match expression.evaluate(alloc, &*runtime) {
-        Ok(value) => value.into_owned()?,
-        Err(error) => return Err(error),
-    };
+    let value = expression.evaluate(alloc, &*runtime)?.into_owned()?;
     runtime.set_global(name.clone()?, value)
 }
 

@@ -37,10 +37,7 @@ pub fn text_of(bytes: &[u8], which: PageText) -> Result<&str, PageFault>
 pub fn globals_in(alloc: Global, bytes: &[u8]) -> Result<Object, PageFault>
     ensures { Returns names_of result (names_read bytes.now) }
 {
-    match text_of(bytes, PageText::Globals) {
-        Ok(text) => globals_of(alloc, text),
-        Err(fault) => Err(fault),
-    }
+    globals_of(alloc, text_of(bytes, PageText::Globals)?)
 }
 
 /// Returns a source of these partials. Of two with one name the later is kept.
@@ -52,14 +49,8 @@ pub fn partials_in(
 {
     let mut source = InMemorySource::new(alloc);
     for (place, partial) in partials.iter().enumerate() {
-        let name = match text_of(partial.name, PageText::PartialName(place)) {
-            Ok(name) => name,
-            Err(fault) => return Err(fault),
-        };
-        let text = match text_of(partial.text, PageText::PartialText(place)) {
-            Ok(text) => text,
-            Err(fault) => return Err(fault),
-        };
+        let name = text_of(partial.name, PageText::PartialName(place))?;
+        let text = text_of(partial.text, PageText::PartialText(place))?;
         if put(alloc, &mut source, name, text).is_err() {
             return Err(PageFault::Refused(Error::Memory));
         }

@@ -6,7 +6,20 @@ ghost use Rattle.liquid_value.specs.meaning.Cow.{cow_view};
 ghost use Rattle.liquid_value.specs.meaning.View.{view as tree_of};
 ghost use Rattle.liquid_runtime.specs.meaning.Calls.{frame_of};
 ghost use Rattle.liquid_runtime.specs.meaning.OpenFrames.{opened};
-ghost use Rattle.liquid_scopes.specs.meaning.Histories.{Makes, push as pushing, pop as popping, set_global as setting_global, set_index as setting_index, try_get as trying, get as getting, get_index as getting_index, nothing, old as old_value, value as value_found, found_or_refused};
+ghost use Rattle.liquid_scopes.specs.meaning.Histories.{
+  push as pushing,
+  pop as popping,
+  set_global as setting_global,
+  set_index as setting_index,
+  try_get as trying,
+  get as getting,
+  get_index as getting_index,
+  nothing,
+  old as old_value,
+  value as value_found,
+  found_or_refused,
+};
+ghost use Rattle.tests_names.specs.steps.ScopeCalls.{Leaves};
 
 use liquid_error::Error;
 use liquid_runtime::{Frame, Scopes};
@@ -15,7 +28,7 @@ use liquid_value::{Value, ValueCow};
 use std::alloc::{AllocError, Global};
 
 pub(crate) fn push<S: Scopes>(scopes: &mut S, frame: Frame) -> Result<(), Error>
-    ensures ok { OnOk result (Makes S.Register.fresh (pushing (frame_of frame)) (S.view scopes.old) (S.restores scopes.old) nothing (S.view scopes.new) (S.restores scopes.new)) }
+    ensures ok { OnOk result (Leaves S.view S.restores S.Register.fresh (pushing (frame_of frame)) scopes.old nothing scopes.new) }
     ensures unchanged { OnErr result (S.view scopes.new ≡ S.view scopes.old) }
     ensures owes { OnErr result (S.restores scopes.new ≡ S.restores scopes.old) }
 {
@@ -24,7 +37,7 @@ pub(crate) fn push<S: Scopes>(scopes: &mut S, frame: Frame) -> Result<(), Error>
 
 pub(crate) fn pop<S: Scopes>(scopes: &mut S)
     requires { 0 < length (opened (S.restores scopes.old)) }
-    ensures { Makes S.Register.fresh popping (S.view scopes.old) (S.restores scopes.old) nothing (S.view scopes.new) (S.restores scopes.new) }
+    ensures { Leaves S.view S.restores S.Register.fresh popping scopes.old nothing scopes.new }
 {
     scopes.pop();
 }
@@ -34,15 +47,14 @@ pub(crate) fn set_global<S: Scopes>(
     name: String,
     value: Value,
 ) -> Result<Option<Value>, Error>
-    ensures ok { IfOk result (λ given. Makes S.Register.fresh (setting_global (string_bytes name) (tree_of value)) (S.view scopes.old) (S.restores scopes.old) (old_value (Ok (option_map tree_of given))) (S.view scopes.new) (S.restores scopes.new)) }
-    ensures err { IfErr result (λ e. IfSome (told e) (λ refusal. Makes S.Register.fresh (setting_global (string_bytes name) (tree_of value)) (S.view scopes.old) (S.restores scopes.old) (old_value (Err refusal)) (S.view scopes.new) (S.restores scopes.new))) }
+    ensures ok { IfOk result (λ given. Leaves S.view S.restores S.Register.fresh
+        (setting_global (string_bytes name) (tree_of value)) scopes.old (old_value (Ok (option_map tree_of given))) scopes.new) }
+    ensures err { IfErr result (λ e. IfSome (told e) (λ refusal. Leaves S.view S.restores S.Register.fresh
+        (setting_global (string_bytes name) (tree_of value)) scopes.old (old_value (Err refusal)) scopes.new)) }
     ensures unchanged { OnErr result (S.view scopes.new ≡ S.view scopes.old) }
     ensures owes { OnErr result (S.restores scopes.new ≡ S.restores scopes.old) }
 {
-    match scopes.set_global(name, value) {
-        Ok(old) => Ok(old),
-        Err(error) => Err(error),
-    }
+    Ok(scopes.set_global(name, value)?)
 }
 
 pub(crate) fn set_index<S: Scopes>(
@@ -50,15 +62,14 @@ pub(crate) fn set_index<S: Scopes>(
     name: String,
     value: Value,
 ) -> Result<Option<Value>, Error>
-    ensures ok { IfOk result (λ given. Makes S.Register.fresh (setting_index (string_bytes name) (tree_of value)) (S.view scopes.old) (S.restores scopes.old) (old_value (Ok (option_map tree_of given))) (S.view scopes.new) (S.restores scopes.new)) }
-    ensures err { IfErr result (λ e. IfSome (told e) (λ refusal. Makes S.Register.fresh (setting_index (string_bytes name) (tree_of value)) (S.view scopes.old) (S.restores scopes.old) (old_value (Err refusal)) (S.view scopes.new) (S.restores scopes.new))) }
+    ensures ok { IfOk result (λ given. Leaves S.view S.restores S.Register.fresh
+        (setting_index (string_bytes name) (tree_of value)) scopes.old (old_value (Ok (option_map tree_of given))) scopes.new) }
+    ensures err { IfErr result (λ e. IfSome (told e) (λ refusal. Leaves S.view S.restores S.Register.fresh
+        (setting_index (string_bytes name) (tree_of value)) scopes.old (old_value (Err refusal)) scopes.new)) }
     ensures unchanged { OnErr result (S.view scopes.new ≡ S.view scopes.old) }
     ensures owes { OnErr result (S.restores scopes.new ≡ S.restores scopes.old) }
 {
-    match scopes.set_index(name, value) {
-        Ok(old) => Ok(old),
-        Err(error) => Err(error),
-    }
+    Ok(scopes.set_index(name, value)?)
 }
 
 pub(crate) fn try_get<'s, S: Scopes>(
@@ -66,12 +77,10 @@ pub(crate) fn try_get<'s, S: Scopes>(
     scopes: &'s S,
     path: &[ScalarCow<'_>],
 ) -> Result<Option<ValueCow<'s>>, AllocError>
-    ensures { IfOk result (λ found. Makes S.Register.fresh (trying (indexes_of path.now)) (S.view scopes.now) (S.restores scopes.now) (value_found (option_map cow_view found)) (S.view scopes.now) (S.restores scopes.now)) }
+    ensures { IfOk result (λ found. Leaves S.view S.restores S.Register.fresh
+        (trying (indexes_of path.now)) scopes.now (value_found (option_map cow_view found)) scopes.now) }
 {
-    match scopes.try_get(alloc, path) {
-        Ok(found) => Ok(found),
-        Err(error) => Err(error),
-    }
+    Ok(scopes.try_get(alloc, path)?)
 }
 
 pub(crate) fn get<'s, S: Scopes>(
@@ -79,17 +88,17 @@ pub(crate) fn get<'s, S: Scopes>(
     scopes: &'s S,
     path: &[ScalarCow<'_>],
 ) -> Result<ValueCow<'s>, Error>
-    ensures ok { IfOk result (λ found. Makes S.Register.fresh (getting (indexes_of path.now)) (S.view scopes.now) (S.restores scopes.now) (found_or_refused (Ok (cow_view found))) (S.view scopes.now) (S.restores scopes.now)) }
-    ensures err { IfErr result (λ e. IfSome (told e) (λ refusal. Makes S.Register.fresh (getting (indexes_of path.now)) (S.view scopes.now) (S.restores scopes.now) (found_or_refused (Err refusal)) (S.view scopes.now) (S.restores scopes.now))) }
+    ensures ok { IfOk result (λ found. Leaves S.view S.restores S.Register.fresh
+        (getting (indexes_of path.now)) scopes.now (found_or_refused (Ok (cow_view found))) scopes.now) }
+    ensures err { IfErr result (λ e. IfSome (told e) (λ refusal. Leaves S.view S.restores S.Register.fresh
+        (getting (indexes_of path.now)) scopes.now (found_or_refused (Err refusal)) scopes.now)) }
 {
-    match scopes.get(alloc, path) {
-        Ok(found) => Ok(found),
-        Err(error) => Err(error),
-    }
+    Ok(scopes.get(alloc, path)?)
 }
 
 pub(crate) fn get_index<'s, S: Scopes>(scopes: &'s S, name: &str) -> Option<&'s Value>
-    ensures { Makes S.Register.fresh (getting_index name.now) (S.view scopes.now) (S.restores scopes.now) (value_found (option_map (λ r. tree_of r.now) result)) (S.view scopes.now) (S.restores scopes.now) }
+    ensures { Leaves S.view S.restores S.Register.fresh (getting_index name.now) scopes.now
+        (value_found (option_map (λ r. tree_of r.now) result)) scopes.now }
 {
     scopes.get_index(name)
 }
