@@ -24,14 +24,14 @@ elements-preserved g c =
     let found = c.in-Some.ensures.found in
     let over = c.in_ok-element-in-Some.ensures c.in-Some.behind.now found.0 found.1 found.2 in (
       search rules,
-      further c.args.text.now c.elements.rest.now c.in-Some.behind.now c.in_ok-rest-in-Some.field-0.now _ c.elements.invariant.1 found.1.joined c.in_ok-rest-in-Some.ensures.within,
-      Closing-on (language_of g.F.ParseFilter.makes g.T.ParseTag.gives g.B.ParseBlock.block c.args.language.now) c.args.source.now 1 c.args.text.now c.elements.rest.now c.in-Some.behind.now (state_view g.F.Filter.Meant.shape g.T.Node.Meant.shape g.B.Node.Meant.shape g.B.Plan.Meant.shape g.B.ParseBlock.block c.args.state) found.0 (blocks_view g.F.Filter.Meant.shape g.T.Node.Meant.shape g.B.Node.Meant.shape g.B.Plan.Meant.shape g.B.ParseBlock.block c.elements.state.open.items) (shapes_of g.F.Filter.Meant.shape g.T.Node.Meant.shape g.B.Node.Meant.shape c.elements.state.nodes.items) (state_view g.F.Filter.Meant.shape g.T.Node.Meant.shape g.B.Node.Meant.shape g.B.Plan.Meant.shape g.B.ParseBlock.block c.advance.new.state) c.in_ok-rest-in-Some.field-0.now c.elements.invariant.2 some found.1 (λ es cover. c.in_ok-rest-in-Some.ensures.value c.args.source.now c.in-Some.behind.now found.0 over.1 es cover),
+      further c.args.text.now c.elements.rest.now c.in-Some.behind.now c.in_ok-rest-in-Some.rest.now _ c.elements.invariant.1 found.1.joined c.in_ok-rest-in-Some.ensures.within,
+      Closing-on (language_of g.F.ParseFilter.makes g.T.ParseTag.gives g.B.ParseBlock.block c.args.language.now) c.args.source.now 1 c.args.text.now c.elements.rest.now c.in-Some.behind.now (state_view g.F.Filter.Meant.shape g.T.Node.Meant.shape g.B.Node.Meant.shape g.B.Plan.Meant.shape g.B.ParseBlock.block c.args.state) found.0 (blocks_view g.F.Filter.Meant.shape g.T.Node.Meant.shape g.B.Node.Meant.shape g.B.Plan.Meant.shape g.B.ParseBlock.block c.elements.state.open.items) (shapes_of g.F.Filter.Meant.shape g.T.Node.Meant.shape g.B.Node.Meant.shape c.elements.state.nodes.items) (state_view g.F.Filter.Meant.shape g.T.Node.Meant.shape g.B.Node.Meant.shape g.B.Plan.Meant.shape g.B.ParseBlock.block c.advance.new.state) c.in_ok-rest-in-Some.rest.now c.elements.invariant.2 some found.1 (λ es cover. c.in_ok-rest-in-Some.ensures.value c.args.source.now c.in-Some.behind.now found.0 over.1 es cover),
     )
 
 pub elements-smaller : goal.elements-smaller
 elements-smaller g c =
     let front = c.in_ok-rest-in-Some.ensures.within in
-    omega (arith, c.in-Some.ensures.shorter, ap length front.1, length-append front.0 c.in_ok-rest-in-Some.field-0.now)
+    omega (arith, c.in-Some.ensures.shorter, ap length front.1, length-append front.0 c.in_ok-rest-in-Some.rest.now)
 
 pub returns-in_err-rest-in-Some-clause-value : goal.returns-in_err-rest-in-Some-clause-value
 returns-in_err-rest-in-Some-clause-value g c =
