@@ -88,14 +88,8 @@ impl<F: ParseFilter, L: ParseBlock<F>, O: ParseBlock<F>> ParseBlock<F> for Besid
         filters: &PluginRegistry<F>,
     ) -> Result<Beside<L::Plan, O::Plan>, Error> {
         match self {
-            Beside::Library(block) => match block.begin(alloc, tokens, filters) {
-                Ok(plan) => Ok(Beside::Library(plan)),
-                Err(error) => Err(error),
-            },
-            Beside::Own(block) => match block.begin(alloc, tokens, filters) {
-                Ok(plan) => Ok(Beside::Own(plan)),
-                Err(error) => Err(error),
-            },
+            Beside::Library(block) => Ok(Beside::Library(block.begin(alloc, tokens, filters)?)),
+            Beside::Own(block) => Ok(Beside::Own(block.begin(alloc, tokens, filters)?)),
         }
     }
 
@@ -109,17 +103,9 @@ impl<F: ParseFilter, L: ParseBlock<F>, O: ParseBlock<F>> ParseBlock<F> for Besid
     ) -> Result<(), Error> {
         match (self, plan) {
             (Beside::Library(block), Beside::Library(plan)) => {
-                match block.divide(alloc, plan, name, tokens) {
-                    Ok(()) => Ok(()),
-                    Err(error) => Err(error),
-                }
+                block.divide(alloc, plan, name, tokens)
             }
-            (Beside::Own(block), Beside::Own(plan)) => {
-                match block.divide(alloc, plan, name, tokens) {
-                    Ok(()) => Ok(()),
-                    Err(error) => Err(error),
-                }
-            }
+            (Beside::Own(block), Beside::Own(plan)) => block.divide(alloc, plan, name, tokens),
             (Beside::Library(_), Beside::Own(_)) => Err(other_plan(alloc)),
             (Beside::Own(_), Beside::Library(_)) => Err(other_plan(alloc)),
         }
@@ -133,15 +119,11 @@ impl<F: ParseFilter, L: ParseBlock<F>, O: ParseBlock<F>> ParseBlock<F> for Besid
     ) -> Result<Beside<L::Node, O::Node>, Error> {
         match (self, plan) {
             (Beside::Library(block), Beside::Library(plan)) => {
-                match block.finish(alloc, plan, body) {
-                    Ok(node) => Ok(Beside::Library(node)),
-                    Err(error) => Err(error),
-                }
+                Ok(Beside::Library(block.finish(alloc, plan, body)?))
             }
-            (Beside::Own(block), Beside::Own(plan)) => match block.finish(alloc, plan, body) {
-                Ok(node) => Ok(Beside::Own(node)),
-                Err(error) => Err(error),
-            },
+            (Beside::Own(block), Beside::Own(plan)) => {
+                Ok(Beside::Own(block.finish(alloc, plan, body)?))
+            }
             (Beside::Library(_), Beside::Own(_)) => Err(other_plan(alloc)),
             (Beside::Own(_), Beside::Library(_)) => Err(other_plan(alloc)),
         }

@@ -20,14 +20,8 @@ impl<V: Fresh, L: Renderable<V>, O: Renderable<V>> Renderable<V> for Beside<L, O
         runtime: &mut R,
     ) -> Result<Beside<L::Progress, O::Progress>, Error> {
         match self {
-            Beside::Library(node) => match node.start(alloc, runtime) {
-                Ok(progress) => Ok(Beside::Library(progress)),
-                Err(error) => Err(error),
-            },
-            Beside::Own(node) => match node.start(alloc, runtime) {
-                Ok(progress) => Ok(Beside::Own(progress)),
-                Err(error) => Err(error),
-            },
+            Beside::Library(node) => Ok(Beside::Library(node.start(alloc, runtime)?)),
+            Beside::Own(node) => Ok(Beside::Own(node.start(alloc, runtime)?)),
         }
     }
 

@@ -54,14 +54,8 @@ impl<F: ParseFilter, L: ParseTag<F>, O: ParseTag<F>> ParseTag<F> for Beside<L, O
         filters: &PluginRegistry<F>,
     ) -> Result<Beside<L::Node, O::Node>, Error> {
         match self {
-            Beside::Library(tag) => match tag.parse(alloc, tokens, filters) {
-                Ok(node) => Ok(Beside::Library(node)),
-                Err(error) => Err(error),
-            },
-            Beside::Own(tag) => match tag.parse(alloc, tokens, filters) {
-                Ok(node) => Ok(Beside::Own(node)),
-                Err(error) => Err(error),
-            },
+            Beside::Library(tag) => Ok(Beside::Library(tag.parse(alloc, tokens, filters)?)),
+            Beside::Own(tag) => Ok(Beside::Own(tag.parse(alloc, tokens, filters)?)),
         }
     }
 }

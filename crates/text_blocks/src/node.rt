@@ -47,10 +47,7 @@ impl<K: TextBlock, V: Fresh> Renderable<V> for TextBlockNode<K> {
     ) -> Result<Turn, Error> {
         match progress {
             None => Ok(Turn::Capture(0, Frame::None, None)),
-            Some(body) => match self.kind.transform(alloc, body.as_str()) {
-                Ok(text) => Ok(Turn::Text(text)),
-                Err(error) => Err(error),
-            },
+            Some(body) => Ok(Turn::Text(self.kind.transform(alloc, body.as_str())?)),
         }
     }
 

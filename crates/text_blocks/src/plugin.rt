@@ -60,10 +60,8 @@ impl<K: TextBlock, F: ParseFilter> ParseBlock<F> for TextBlockPlugin<K> {
         tokens: TagTokenIter<'_>,
         _filters: &PluginRegistry<F>,
     ) -> Result<TextBlockNode<K>, Error> {
-        match tokens.expect_nothing(alloc) {
-            Ok(()) => Ok(TextBlockNode { kind: self.kind }),
-            Err(error) => Err(error),
-        }
+        tokens.expect_nothing(alloc)?;
+        Ok(TextBlockNode { kind: self.kind })
     }
 
     fn divide(

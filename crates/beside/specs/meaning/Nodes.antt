@@ -1,5 +1,5 @@
 -- What nodes of two types render: each what it would render alone.
-use Rattle.std.specs.Prelude.{ℕ, List, Result, Ok}
+use Rattle.std.specs.Prelude.{ℕ, List, Ok}
 use Rattle.liquid_error.specs.meaning.Refusal.{ok_then}
 use Rattle.liquid_runtime.specs.meaning.View.{View}
 use Rattle.liquid_plugins.specs.meaning.Turning.{answers}

@@ -1,5 +1,5 @@
 -- Text blocks do not depend on hidden globals.
-use Rattle.std.proofs.Common.{ℕ, List, Option, None, Ok, refl}
+use Rattle.std.proofs.Common.{None, Ok, refl}
 use Rattle.liquid_plugins.specs.meaning.Discreet.{Discreet}
 use Rattle.liquid_plugins.proofs.Hiding.{answers_hide}
 use Rattle.text_blocks.specs.meaning.Nodes.{text_nodes, turn_at}
