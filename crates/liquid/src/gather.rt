@@ -35,6 +35,7 @@ ghost use Rattle.liquid.specs.steps.Steps.{
   Requested,
   Stops,
   StopsUnread,
+  given,
 };
 
 use crate::fault::Fault;
@@ -119,11 +120,11 @@ fn names_in<'w, F: Folder>(
     ending: Option<&str>,
     folder: &'w str,
 ) -> Result<BTreeMap<String, ()>, Fault<'w>>
-    ensures names { WithNames (F.listed files.old (is_some (option_map (λ e. e.now) ending.entry)) folder.now) (Stops result)
-        (λ names. Brings by_name (names_into (option_map (λ e. e.now) ending.entry) empty names) result) }
+    ensures names { WithNames (F.listed files.old (is_some (given ending.entry)) folder.now) (Stops result)
+        (λ names. Brings by_name (names_into (given ending.entry) empty names) result) }
     ensures reports { Reports (unreadable folder.now) result }
     ensures requests { F.requests files.new ≡ also (F.requests files.old)
-        (listing (is_some (option_map (λ e. e.now) ending.entry)) folder.now ∷ []) }
+        (listing (is_some (given ending.entry)) folder.now ∷ []) }
     ensures command { IfErr result (λ fault. fault_status fault ≢ 2) }
     ensures same { F.known files.new ≡ F.known files.old }
     ensures listed { F.listed files.new ≡ F.listed files.old }
@@ -146,11 +147,11 @@ fn list_folder<F: Folder>(
     folder: &str,
 ) -> Result<Vec<String>, Unread>
     ensures lists { Reads (λ names. map string_bytes names.items)
-        (F.listed files.old (is_some (option_map (λ e. e.now) ending.entry)) folder.now) result }
+        (F.listed files.old (is_some (given ending.entry)) folder.now) result }
     ensures same { F.known files.new ≡ F.known files.old }
     ensures listed { F.listed files.new ≡ F.listed files.old }
     ensures requests { F.requests files.new ≡ also (F.requests files.old)
-        (listing (is_some (option_map (λ e. e.now) ending.entry)) folder.now ∷ []) }
+        (listing (is_some (given ending.entry)) folder.now ∷ []) }
 {
     match ending {
         Some(_) => files.list_tree(alloc, folder),
@@ -161,7 +162,7 @@ fn list_folder<F: Folder>(
 /// Returns the name of the partial in the file of this name, if it is one.
 #[tactic(auto, using(crate::proofs::EndingLemmas::stem_stripped))]
 fn stem_of<'n>(ending: Option<&str>, name: &'n str) -> Option<&'n str>
-    ensures { option_map (λ stem. stem.now) result ≡ stem_of (option_map (λ e. e.now) ending.entry) name.now }
+    ensures { option_map (λ stem. stem.now) result ≡ stem_of (given ending.entry) name.now }
 {
     match ending {
         None => Some(name),
@@ -175,7 +176,7 @@ fn in_order(
     names: Vec<String>,
 ) -> Result<BTreeMap<String, ()>, AllocError>
     ensures { IfOk result (λ set. by_name set
-        ≡ names_into (option_map (λ e. e.now) ending.entry) empty (map string_bytes names.items)) }
+        ≡ names_into (given ending.entry) empty (map string_bytes names.items)) }
 {
     let mut set = BTreeMap::new(alloc);
     for name in names {
@@ -193,12 +194,12 @@ pub(crate) fn partials_of<'w, F: Folder>(
     ending: Option<&str>,
     folder: Option<&'w str>,
 ) -> Result<Option<InMemorySource>, Fault<'w>>
-    ensures partials { WithPartials (F.known files.old) (F.listed files.old) (option_map (λ e. e.now) ending.entry)
-        (option_words (option_map (λ f. f.now) folder.entry))
+    ensures partials { WithPartials (F.known files.old) (F.listed files.old) (given ending.entry)
+        (option_words (given folder.entry))
         (Stops result) (λ partials. Brings (λ source. source) partials result) }
     ensures requests { WhereKnown (F.known files.old) (F.listed files.old) (λ all folders.
-        Collects (partials_steps all folders (option_words (option_map (λ f. f.now) folder.entry))
-        (option_map (λ e. e.now) ending.entry)) (F.requests files.old) (F.requests files.new) result) }
+        Collects (partials_steps all folders (option_words (given folder.entry))
+        (given ending.entry)) (F.requests files.old) (F.requests files.new) result) }
     ensures command { IfErr result (λ fault. fault_status fault ≢ 2) }
     ensures same { F.known files.new ≡ F.known files.old }
 {
@@ -215,12 +216,12 @@ fn partials_in<'w, F: Folder>(
     ending: Option<&str>,
     folder: &'w str,
 ) -> Result<InMemorySource, Fault<'w>>
-    ensures partials { WithFolder (F.known files.old) folder.now (option_map (λ e. e.now) ending.entry)
-        (F.listed files.old (is_some (option_map (λ e. e.now) ending.entry)) folder.now)
+    ensures partials { WithFolder (F.known files.old) folder.now (given ending.entry)
+        (F.listed files.old (is_some (given ending.entry)) folder.now)
         (Stops result) (λ texts. Brings (λ source. source) texts result) }
     ensures requests { WhereKnown (F.known files.old) (F.listed files.old) (λ all folders.
-        Collects (folder_steps all folder.now (option_map (λ e. e.now) ending.entry)
-        (folders (is_some (option_map (λ e. e.now) ending.entry)) folder.now)) (F.requests files.old) (F.requests files.new) result) }
+        Collects (folder_steps all folder.now (given ending.entry)
+        (folders (is_some (given ending.entry)) folder.now)) (F.requests files.old) (F.requests files.new) result) }
     ensures command { IfErr result (λ fault. fault_status fault ≢ 2) }
     ensures same { F.known files.new ≡ F.known files.old }
 {

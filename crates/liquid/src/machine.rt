@@ -91,6 +91,12 @@ fn write_file<R: Files>(rt: &R, path: &str, bytes: &[u8]) -> io::Result<()> {
     file.write_all(bytes)
 }
 
+// Writes the file beside, and puts it in the place of the one at the path.
+fn put_over<R: Files>(rt: &R, beside: &str, path: &str, bytes: &[u8]) -> io::Result<()> {
+    write_file(rt, beside, bytes)?;
+    fs::rename(rt, beside, path)
+}
+
 impl<R: Files + AllocGlobal + Eprint + Clone + Drop> Folder for Machine<'_, R> {
     fn read(&mut self, alloc: Global, path: &str) -> Result<Vec<u8>, Unread> {
         let mut file = File::open(self.rt, path).map_err(unread)?;
@@ -114,11 +120,7 @@ impl<R: Files + AllocGlobal + Eprint + Clone + Drop> Folder for Machine<'_, R> {
         let Ok(beside) = format!(in alloc; "{path}.tmp") else {
             return Err(Unread::Memory);
         };
-        let written = match write_file(self.rt, beside.as_str(), bytes) {
-            Ok(()) => fs::rename(self.rt, beside.as_str(), path),
-            Err(error) => Err(error),
-        };
-        match written {
+        match put_over(self.rt, beside.as_str(), path, bytes) {
             Ok(()) => Ok(()),
             Err(error) => {
                 let _ = fs::remove_file(self.rt, beside.as_str());

@@ -8,13 +8,7 @@ ghost use Rattle.liquid.specs.meaning.PagesCommand.{asked_pages};
 ghost use Rattle.liquid.specs.meaning.Program.{ExecutesOne, Printed};
 ghost use Rattle.liquid.specs.meaning.Requests.{Follows, FollowsTo, WhereKnown, pages_steps};
 ghost use Rattle.liquid.specs.meaning.Status.{all_status, exit_status};
-ghost use Rattle.liquid.specs.meaning.Written.{
-  file_in,
-  pages_folder,
-  WritesEach,
-  WritesFile,
-  WritesPages,
-};
+ghost use Rattle.liquid.specs.meaning.Written.{WritesEach, WritesOne, WritesPages};
 
 use crate::command::Paths;
 use crate::fault::Fault;
@@ -124,19 +118,15 @@ fn write_one<'w, F: Folder>(
     files: &mut F,
 ) -> Result<(), Fault<'w>>
     ensures command { exit_status result ≢ 2 }
-    ensures writes { WithGlobals (object_read json.now) ⊤ (λ globals. WritesFile
-        (ExecutesOne pages.entry.options template.now globals partials.now (F.known files.old))
-        (file_in (pages_folder pages.entry.output.now) template.now) (F.known files.old) (F.known files.new) (exit_status result)) }
+    ensures writes { WithGlobals (object_read json.now) ⊤ (λ globals. WritesOne (asked_pages pages.entry) globals partials.now
+        template.now (F.known files.old) (F.known files.new) (exit_status result)) }
     ensures requests { F.requests files.new ≡ also (F.requests files.old) (reading template.now ∷ []) }
 {
     let mut page = Vec::new(alloc);
     let answer = print_one(alloc, pages, json, partials, template, files, &mut page);
     match file_of_pages(alloc, pages.output, template) {
         Ok(file) => land(alloc, files, file, page.as_slice(), answer),
-        Err(_) => match answer {
-            Ok(()) => Err(Fault::Refused(Error::Memory)),
-            Err(fault) => Err(fault),
-        },
+        Err(_) => answer.and(Err(Fault::Refused(Error::Memory))),
     }
 }
 

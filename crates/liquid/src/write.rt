@@ -104,9 +104,6 @@ pub(crate) fn write_page<'w, F: Folder>(
     let answer = print(alloc, command, files, &mut page);
     match page_file(alloc, place, command.paths.template) {
         Ok(file) => land(alloc, files, file, page.as_slice(), answer),
-        Err(_) => match answer {
-            Ok(()) => Err(Fault::Refused(Error::Memory)),
-            Err(fault) => Err(fault),
-        },
+        Err(_) => answer.and(Err(Fault::Refused(Error::Memory))),
     }
 }

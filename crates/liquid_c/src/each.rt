@@ -1,20 +1,19 @@
 //! Many pages of one template, rendered one after another into the caller's memory.
-ghost use Rattle.std.specs.Prelude.{◌≡◌, ◌≤◌, ◌+◌, ℕ, List, length, map, min, take, drop};
+ghost use Rattle.std.specs.Prelude.{◌≡◌, ◌≤◌, ◌+◌, ℕ, List, length, min, take, drop};
 ghost use Rattle.liquid_parser.specs.meaning.Plugins.{language_of};
 ghost use Rattle.liquid_template.specs.meaning.Runs.{setting};
-ghost use Rattle.liquid_pages.specs.meaning.Shown.{Page as Shown, ComesTo, Shows, bytes_of_partial};
-ghost use Rattle.liquid_c.specs.meaning.Options.{page_options};
+ghost use Rattle.liquid_pages.specs.meaning.Shown.{Page as Shown, IsShown};
 ghost use Rattle.liquid_c.specs.meaning.Outcomes.{Leaves, LeavesOver};
-ghost use Rattle.liquid_c.specs.meaning.Turns.{AllTurns, one_if_whole};
+ghost use Rattle.liquid_c.specs.meaning.Turns.{TurnsOver, one_if_whole};
 ghost use Rattle.liquid_c.specs.steps.Chosen.{IsRefused};
-ghost use Rattle.liquid_c.specs.steps.Prepared.{LeavesOf};
+ghost use Rattle.liquid_c.specs.steps.Prepared.{AskedComesTo, LeavesOf};
 
 use crate::languages::{Chosen, choose_language, page_options};
 use crate::page::{Outcome, Page};
 use crate::rendering::{NO_MEMORY, NO_OPTIONS, finish, refused};
 use crate::repeated::RenderOver;
+use liquid_core::Fresh;
 use liquid_core::parser::{Discreet, Language, ParseBlock, ParseFilter, ParseTag};
-use liquid_core::{Fresh, Sink, TextSink};
 use liquid_pages::{PageOptions, Rendered, prepare_page};
 use std::alloc::Global;
 use std::rc::Rc;
@@ -32,8 +31,7 @@ pub fn render_each(
     message: &mut [u8],
     outcomes: &mut [Outcome],
 ) -> usize
-    ensures { AllTurns (LeavesOver page.now) (map (λ g. g.now) globals.now) out.old out.new outcomes.old outcomes.new
-        (min (length globals.now) (length outcomes.old)) result }
+    ensures { TurnsOver (LeavesOver page.now) globals.now out.old out.new outcomes.old outcomes.new result }
 {
     match choose_language(alloc, page.options) {
         Chosen::NoOptions => refuse_each(NO_OPTIONS, globals, outcomes),
@@ -64,12 +62,10 @@ where
     B: ParseBlock<F> + Drop,
     T::Node: Discreet<V>,
     B::Node: Discreet<V>,
-    ensures { AllTurns (LeavesOf (λ g. ComesTo
+    ensures { TurnsOver (LeavesOf (AskedComesTo
         (setting V.fresh F.Filter.means T.Node.means B.Node.means)
-        (language_of F.makes T.gives B.block language.now.value) (page_options page.now) page.now.text.now g
-        (map bytes_of_partial page.now.partials.now)))
-        (map (λ g. g.now) globals.now) out.old out.new outcomes.old outcomes.new
-        (min (length globals.now) (length outcomes.old)) result }
+        (language_of F.makes T.gives B.block language.now.value) page.now))
+        globals.now out.old out.new outcomes.old outcomes.new result }
 {
     let options = page_options(page);
     let mut prepared = prepare_page(alloc, language, page.text, page.partials);
@@ -94,8 +90,7 @@ fn render_turns<V, R: RenderOver<V>>(
     message: &mut [u8],
     outcomes: &mut [Outcome],
 ) -> usize
-    ensures { AllTurns (LeavesOf (R.comes page.old options)) (map (λ g. g.now) globals.now) out.old out.new
-        outcomes.old outcomes.new (min (length globals.now) (length outcomes.old)) result }
+    ensures { TurnsOver (LeavesOf (R.comes page.old options)) globals.now out.old out.new outcomes.old outcomes.new result }
 {
     let count = fewer(globals.len(), outcomes.len());
     let mut used: usize = 0;
@@ -119,8 +114,7 @@ fn finish_turn(
     message: &mut [u8],
 ) -> Outcome
     requires { used ≤ length out.old }
-    ensures leaves { (page : Shown) → Shows page (⟦<TextSink as Sink>⟧.sunk rendered.now.output).taken rendered.now.end
-        → Leaves page (drop used out.old) (drop used out.new) result }
+    ensures leaves { (page : Shown) → IsShown page rendered.now → Leaves page (drop used out.old) (drop used out.new) result }
     ensures front { take used out.new ≡ take used out.old }
     ensures room { used + result.written ≤ length out.old }
     ensures size { length out.new ≡ length out.old }
@@ -132,8 +126,7 @@ fn finish_turn(
 /// Writes an outcome of this kind for each of these globals, as far as there are outcomes. No page is whole.
 fn refuse_each(kind: u32, globals: &[&[u8]], outcomes: &mut [Outcome]) -> usize
     requires { 1 ≤ kind }
-    ensures { (out : List ℕ) → AllTurns (IsRefused kind) (map (λ g. g.now) globals.now) out out outcomes.old outcomes.new
-        (min (length globals.now) (length outcomes.old)) result }
+    ensures { (out : List ℕ) → TurnsOver (IsRefused kind) globals.now out out outcomes.old outcomes.new result }
 {
     for place in 0..fewer(globals.len(), outcomes.len()) {
         outcomes[place] = refused(kind);

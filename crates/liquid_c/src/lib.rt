@@ -5,9 +5,9 @@
 //! answer; `c/liquid.h` says what is left to the caller.
 #![tactic(auto)]
 
-ghost use Rattle.std.specs.Prelude.{◌≡◌, length, map, min};
+ghost use Rattle.std.specs.Prelude.{◌≡◌};
 ghost use Rattle.liquid_c.specs.meaning.Outcomes.{LeavesAsked, LeavesOver};
-ghost use Rattle.liquid_c.specs.meaning.Turns.{AllTurns};
+ghost use Rattle.liquid_c.specs.meaning.Turns.{TurnsOver};
 
 pub mod each;
 pub mod languages;
@@ -56,8 +56,7 @@ pub extern "C" fn liquid_render_each(
     message: &mut [u8],
     outcomes: &mut [Outcome],
 ) -> usize
-    ensures { AllTurns (LeavesOver page.now) (map (λ g. g.now) globals.now) out.old out.new outcomes.old outcomes.new
-        (min (length globals.now) (length outcomes.old)) result }
+    ensures { TurnsOver (LeavesOver page.now) globals.now out.old out.new outcomes.old outcomes.new result }
 {
     render_each(alloc, page, globals, out, message, outcomes)
 }

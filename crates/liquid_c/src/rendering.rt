@@ -1,17 +1,17 @@
 //! Rendering pages into the caller's memory.
-ghost use Rattle.std.specs.Prelude.{◌≡◌, ◌≤◌, ◌++◌, if◌then◌else◌, length, map, min, nat_le, take, drop, MatchOption, None};
+ghost use Rattle.std.specs.Prelude.{◌≡◌, ◌≤◌, ◌++◌, if◌then◌else◌, length, min, nat_le, take, drop, MatchOption, None};
 ghost use Rattle.liquid_error.specs.meaning.Told.{told};
 ghost use Rattle.liquid_parser.specs.meaning.Plugins.{language_of};
 ghost use Rattle.liquid_template.specs.meaning.Runs.{setting};
 ghost use Rattle.liquid_pages.specs.meaning.Faults.{fault_told};
-ghost use Rattle.liquid_pages.specs.meaning.Shown.{Page as Shown, ComesTo, Shows, bytes_of_partial};
-ghost use Rattle.liquid_c.specs.meaning.Options.{page_options};
+ghost use Rattle.liquid_pages.specs.meaning.Shown.{Page as Shown, IsShown};
 ghost use Rattle.liquid_c.specs.meaning.Outcomes.{IsPlaced, IsWhere, IsWhich, Leaves, LeavesAsked, kind_of};
+ghost use Rattle.liquid_c.specs.steps.Prepared.{AskedComesTo};
 
 use crate::languages::{Chosen, choose_language, page_options};
 use crate::page::{EMPTY, Outcome, Page};
 use liquid_core::parser::{Discreet, Language, ParseBlock, ParseFilter, ParseTag};
-use liquid_core::{Error, Fresh, Place, Sink, TextSink};
+use liquid_core::{Error, Fresh, Place};
 use liquid_pages::{PageFault, PageText, Rendered, render_page};
 use std::alloc::Global;
 use std::rc::Rc;
@@ -62,10 +62,9 @@ where
     B: ParseBlock<F> + Drop,
     T::Node: Discreet<V>,
     B::Node: Discreet<V>,
-    ensures { (shown : Shown) → ComesTo
+    ensures { (shown : Shown) → AskedComesTo
         (setting V.fresh F.Filter.means T.Node.means B.Node.means)
-        (language_of F.makes T.gives B.block language.now.value) (page_options page.now) page.now.text.now page.now.globals.now
-        (map bytes_of_partial page.now.partials.now) shown
+        (language_of F.makes T.gives B.block language.now.value) page.now page.now.globals.now shown
         → Leaves shown out.old out.new result }
 {
     let options = page_options(page);
@@ -87,8 +86,7 @@ pub(crate) fn finish(
     out: &mut [u8],
     message: &mut [u8],
 ) -> Outcome
-    ensures leaves { (page : Shown) → Shows page (⟦<TextSink as Sink>⟧.sunk rendered.now.output).taken rendered.now.end
-        → Leaves page out.old out.new result }
+    ensures leaves { (page : Shown) → IsShown page rendered.now → Leaves page out.old out.new result }
     ensures room { result.written ≤ length out.old }
     ensures size { length out.new ≡ length out.old }
 {

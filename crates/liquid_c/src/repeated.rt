@@ -1,15 +1,14 @@
 //! A page that is rendered over globals, as often as they come.
 ghost use Rattle.std.specs.Prelude.{ℕ, List};
-ghost use Rattle.liquid_plugins.specs.meaning.NodesOf.{shapes_of};
 ghost use Rattle.liquid_template.specs.meaning.Runs.{setting};
-ghost use Rattle.liquid_template.specs.meaning.TemplateOf.{own_nodes};
 ghost use Rattle.liquid_pages.specs.declared.options.PageOptions.{PageOptions};
-ghost use Rattle.liquid_pages.specs.meaning.Shown.{Page as Shown, Shows};
+ghost use Rattle.liquid_pages.specs.meaning.Pages.{nodes_in};
+ghost use Rattle.liquid_pages.specs.meaning.Shown.{Page as Shown, IsShown};
 ghost use Rattle.liquid_c.specs.steps.Prepared.{PreparedComesTo};
 
 use liquid_core::parser::{Discreet, ParseBlock, ParseFilter, ParseTag};
 use liquid_core::partials::{InMemorySource, LazyStore};
-use liquid_core::{Fresh, PartialStore, Sink, TextSink};
+use liquid_core::{Fresh, PartialStore};
 use liquid_pages::{PageOptions, PreparedPage, Rendered, render_prepared};
 use std::alloc::Global;
 
@@ -20,7 +19,7 @@ pub(crate) trait RenderOver<V> {
     /// Renders the page over these globals.
     fn render_over(&mut self, alloc: Global, options: PageOptions, globals: &[u8]) -> Rendered
         ensures shows { (shown : Shown) → comes self.old options globals.now shown
-            → Shows shown (⟦<TextSink as Sink>⟧.sunk result.output).taken result.end }
+            → IsShown shown result }
         ensures again { (options : PageOptions) (globals : List ℕ) (shown : Shown)
             → comes self.old options globals shown → comes self.new options globals shown };
 }
@@ -36,7 +35,7 @@ where
 {
     ghost comes = { λ page options globals shown. PreparedComesTo B.Plan.Shape
         (setting V.fresh F.Filter.means T.Node.means B.Node.means)
-        (λ t. shapes_of F.Filter.shape T.Node.shape B.Node.shape (own_nodes t))
+        (nodes_in F.Filter.shape T.Node.shape B.Node.shape)
         ⟦<LazyStore<InMemorySource, F, T, B> as PartialStore<F::Filter, T::Node, B::Node>>⟧.finds
         page.texts options globals shown };
 

@@ -176,7 +176,7 @@ pub use liquid_parser::{
     BlockBody, BlockReflection, Language, NoPlugin, Node, ParseBlock, ParseTag, TagBlock,
     TagReflection, TagTokenIter,
 };
-pub use liquid_partials::{EagerStore, LazyStore, OnDemandStore, render_source};
+pub use liquid_partials::{EagerStore, LazyStore, OnDemandStore, render_page_in, render_source};
 pub use liquid_plugins::{
     Discreet, Expression, Filter, FilterParameters, FilterReflection, ParseFilter, Plugins,
     Renderable, Turn, call_filter,

@@ -13,7 +13,8 @@ ghost use Rattle.jiff_core.specs.Timestamp.{IsOffsetSeconds, nanos_of_seconds};
 ghost use Rattle.std.specs.String.{string_bytes};
 ghost use Rattle.liquid_dates.specs.meaning.IsoWeek.{iso_week};
 ghost use Rattle.liquid_dates.specs.meaning.Printed.{rfc2822_text, HasRfc2822Form, IsRfc2822Refusal};
-ghost use Rattle.liquid_dates.specs.meaning.Instant.{civil_date, civil_time, offset_seconds, nanosecond, unix_seconds, instant, IsClockTime, HasParts, IsInstant, IsOffsetRefusal};
+ghost use Rattle.liquid_dates.specs.meaning.Instant.{civil_date, civil_time, offset_seconds, nanosecond, unix_seconds, instant};
+ghost use Rattle.liquid_dates.specs.meaning.Instant.{IsClockTime, HasParts, IsInstant, IsOffsetRefusal};
 
 use crate::printed::Rfc2822;
 use crate::{Date, DateError};

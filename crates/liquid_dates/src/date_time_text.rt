@@ -5,7 +5,8 @@ ghost use Rattle.jiff_core.specs.Timestamp.{nanos_of_seconds};
 ghost use Rattle.liquid_dates.specs.declared.date_time.DateTime.{DateTime};
 ghost use Rattle.liquid_dates.specs.steps.DateReader.{offset_end, HasStamp, IsStamped, whole_of, without_weekday};
 ghost use Rattle.liquid_dates.specs.steps.DateReader as Reader;
-ghost use Rattle.liquid_dates.specs.meaning.DateText.{IsNow, IsDateTimeText, IsUnixTime, SameDateTime, date_time_forms, day_forms, ends_in_offset, with_given_offset};
+ghost use Rattle.liquid_dates.specs.meaning.DateText.{IsNow, IsDateTimeText, IsUnixTime, SameDateTime, date_time_forms};
+ghost use Rattle.liquid_dates.specs.meaning.DateText.{day_forms, ends_in_offset, with_given_offset};
 ghost use Rattle.liquid_dates.specs.meaning.DateText as Form;
 ghost use Rattle.liquid_dates.specs.meaning.Instant as Instant;
 

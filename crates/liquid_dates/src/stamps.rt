@@ -2,7 +2,8 @@
 ghost use Rattle.std.specs.Prelude.{◌≡◌, ◌-◌, ◌*◌, ◌^◌, ◌<◌, pos, neg_ℤ, option_map, IfSome};
 ghost use Rattle.std.specs.Int.{IsInRange};
 ghost use Rattle.liquid_dates.specs.steps.DateReader as Reader;
-ghost use Rattle.liquid_dates.specs.steps.DateReader.{read_of, by_clock, stamp_by_year, stamp_by_fraction, stamp_by_day, stamp_by_month, stamp_by_weekday};
+ghost use Rattle.liquid_dates.specs.steps.DateReader.{read_of, by_clock, stamp_by_year, stamp_by_fraction};
+ghost use Rattle.liquid_dates.specs.steps.DateReader.{stamp_by_day, stamp_by_month, stamp_by_weekday};
 
 use crate::flags::is_digit;
 use crate::reading::{

@@ -1,6 +1,7 @@
 //! The error type of the engine, and what can be added to an error.
 ghost use Rattle.std.specs.Prelude.{◌≡◌, ◌↔◌, IsTrue, IsNone, None, Some, IfSome, option_map, option_and_then, string_bytes};
-ghost use Rattle.liquid_error.specs.meaning.Refusal.{plain, located, or_placed, with_trace, with_context, with_cause, cause_of_told, chained};
+ghost use Rattle.liquid_error.specs.meaning.Refusal.{plain, located, or_placed, with_trace, with_context};
+ghost use Rattle.liquid_error.specs.meaning.Refusal.{with_cause, cause_of_told, chained};
 ghost use Rattle.liquid_error.specs.meaning.ErrorText.{lossy_chained};
 ghost use Rattle.liquid_error.specs.meaning.Told.{told, reason_of, source_reason, Becomes};
 

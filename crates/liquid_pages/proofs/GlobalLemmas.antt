@@ -1,5 +1,5 @@
 -- An object's names, from its members.
-use Rattle.std.proofs.Common.{◌≡◌, List, [], ◌∷◌, Some, Result, Ok, Err, String, Global, BTreeMap, map, string_bytes, refl, sym, ap, ◌∙◌}
+use Rattle.std.proofs.Common.{◌≡◌, List, [], ◌∷◌, Some, Result, Ok, String, Global, BTreeMap, map, string_bytes, refl, ap, ◌∙◌}
 use Rattle.std.specs.FinMap.{from_entries}
 use Rattle.liquid_error.specs.meaning.Refusal.{Refusal}
 use Rattle.liquid_value.specs.meaning.Tree.{Members}

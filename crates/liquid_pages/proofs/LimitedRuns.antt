@@ -1,5 +1,5 @@
 -- A rendering that asks limits is that of the run under limits.
-use Rattle.std.proofs.Common.{◌≡◌, ℕ, ◌+◌, ◌-◌, ◌≤◌, ◌<◌, Bool, true, false, ◌&&◌, ◌⊎◌, inl, inr, List, [], ◌∷◌, ◌++◌, length, Option, None, Some, Result, Ok, Err, arith, refl, sym, ap, subst, ◌∙◌, append_assoc, min, option_map}
+use Rattle.std.proofs.Common.{◌≡◌, ℕ, ◌+◌, ◌-◌, ◌≤◌, ◌<◌, Bool, true, false, ◌&&◌, ◌⊎◌, inl, inr, List, [], ◌∷◌, ◌++◌, length, Option, None, Some, Result, Ok, Err, arith, refl, sym, ap, subst, ◌∙◌, append_assoc, min}
 use Rattle.std.specs.Prelude.{MatchOption, nat_le, if◌then◌else◌, IfSome}
 use Rattle.std.proofs.Math.Nat.{min-le_right}
 use Rattle.std.proofs.lemmas.Bool.{le-leb, lt-leb}
@@ -8,8 +8,8 @@ use Rattle.liquid_error.specs.declared.error.Error.{Error}
 use Rattle.liquid_error.specs.meaning.Refusal.{Refusal}
 use Rattle.liquid_error.specs.meaning.Told.{told}
 use Rattle.liquid_runtime.specs.meaning.View.{View}
-use Rattle.liquid_template.specs.meaning.Outcome.{BrokenOff, Cut, GateRefuses, Outcome, Renders, RendersWithin, SinkFails, Stopped, Whole, was_stopped}
-use Rattle.liquid_template.specs.meaning.Output.{Gated, IsPast, Output, Passed, Passes, PassesUpTo, Refuses, asked, gated, gated_by, passed, ungated}
+use Rattle.liquid_template.specs.meaning.Outcome.{BrokenOff, Cut, GateRefuses, Outcome, Renders, RendersWithin, SinkFails, Stopped, Whole}
+use Rattle.liquid_template.specs.meaning.Output.{Gated, Output, Passed, Passes, PassesUpTo, Refuses, gated, gated_by, passed, ungated}
 use Rattle.liquid_template.specs.meaning.Run.{Run, Step, checkpoints, one_if, pieces, written}
 use Rattle.liquid_template.specs.meaning.Pours.{Pours}
 use Rattle.liquid_template.specs.meaning.Sunk.{Sunk, borrowed}

@@ -1,5 +1,5 @@
 -- From what was read of a page to what it shows.
-use Rattle.std.proofs.Common.{◌≡◌, ℕ, Bool, true, false, List, [], Option, None, Some, Result, Ok, Err, true≢false, sym, ap, subst}
+use Rattle.std.proofs.Common.{◌≡◌, ℕ, Bool, true, false, List, Option, None, Some, Result, Ok, Err, true≢false, sym, ap, subst}
 use Rattle.std.specs.Prelude.{IfSome, option_map, if◌then◌else◌}
 use Rattle.std.specs.FinMap.{empty}
 use Rattle.std.specs.Str.{is_utf8}

@@ -10,8 +10,6 @@ pub mod page;
 pub mod prepared;
 pub mod rendered;
 pub mod rendering;
-#[cfg(test)]
-mod tests;
 mod within;
 
 pub use fault::{PageFault, PageText};

@@ -2,7 +2,7 @@
 ghost use Rattle.std.specs.Prelude.{map};
 ghost use Rattle.liquid_parser.specs.meaning.Plugins.{language_of};
 ghost use Rattle.liquid_template.specs.meaning.Runs.{setting};
-ghost use Rattle.liquid_pages.specs.meaning.Shown.{bytes_of_partial, ComesTo, Page, Shows};
+ghost use Rattle.liquid_pages.specs.meaning.Shown.{bytes_of_partial, ComesTo, IsShown, Page};
 
 use crate::gather::PartialBytes;
 use crate::options::PageOptions;
@@ -11,7 +11,6 @@ use crate::rendered::Rendered;
 use liquid_parser::{Language, ParseBlock, ParseTag};
 use liquid_plugins::{Discreet, ParseFilter};
 use liquid_runtime::Fresh;
-use liquid_template::{Sink, TextSink};
 use std::alloc::Global;
 use std::rc::Rc;
 
@@ -39,7 +38,7 @@ where
         (setting V.fresh F.Filter.means T.Node.means B.Node.means)
         (language_of F.makes T.gives B.block language.now.value) options text.now globals.now
         (map bytes_of_partial partials.now) page
-        → Shows page (⟦<TextSink as Sink>⟧.sunk result.output).taken result.end }
+        → IsShown page result }
 {
     let mut page = prepare_page(alloc, language, text, partials);
     render_prepared::<V, F, T, B>(alloc, &mut page, options, globals)

@@ -1,26 +1,13 @@
 //! Pages of one template over many globals: the template and the partials are read once.
-ghost use Rattle.std.specs.Prelude.{◌≡◌, ℕ, List, Some, map, option_map, IfSome};
+ghost use Rattle.std.specs.Prelude.{◌≡◌, Some, map, option_map, IfSome};
 ghost use Rattle.liquid_error.specs.meaning.Told.{told};
 ghost use Rattle.liquid_runtime.specs.meaning.Maps.{names_of};
-ghost use Rattle.liquid_parser.specs.meaning.Lang.{Lang};
 ghost use Rattle.liquid_parser.specs.meaning.Plugins.{language_of};
-ghost use Rattle.liquid_partials.specs.meaning.Sources.{Texts};
-ghost use Rattle.liquid_plugins.specs.meaning.NodesOf.{shapes_of};
-ghost use Rattle.liquid_template.specs.meaning.Runs.{setting};
-ghost use Rattle.liquid_template.specs.meaning.TemplateOf.{own_nodes};
 ghost use Rattle.liquid_pages.specs.meaning.Faults.{fault_told, unparsed};
-ghost use Rattle.liquid_pages.specs.meaning.Pages.{IsFoundIn};
-ghost use Rattle.liquid_pages.specs.meaning.Prepared.{IsPrepared, IsReadAs, IsReadOver};
-ghost use Rattle.liquid_pages.specs.meaning.Shown.{
-  bytes_of_partial,
-  partials_over,
-  ComesTo,
-  NameAndText,
-  NodesComeTo,
-  Page,
-  ReadComesTo,
-  Shows,
-};
+ghost use Rattle.liquid_pages.specs.meaning.Pages.{nodes_in};
+ghost use Rattle.liquid_pages.specs.meaning.Prepared.{IsPrepared, IsReadAs, IsReadOver, PreparedShows, StaysPrepared};
+ghost use Rattle.liquid_pages.specs.meaning.Shown.{bytes_of_partial};
+ghost use Rattle.liquid_pages.specs.steps.ReadShows.{ReadShows, StaysRead, TemplateShows};
 
 use crate::fault::{PageFault, PageText};
 use crate::gather::{PartialBytes, globals_in, partials_in, text_of};
@@ -32,7 +19,7 @@ use liquid_parser::{Language, ParseBlock, ParseTag};
 use liquid_partials::{InMemorySource, LazyStore};
 use liquid_plugins::{Discreet, ParseFilter};
 use liquid_runtime::Fresh;
-use liquid_template::{PartialStore, Sink, TextSink};
+use liquid_template::{PartialStore, TextSink};
 use liquid_value::Object;
 use std::alloc::Global;
 use std::mem;
@@ -58,14 +45,14 @@ pub struct Prepared<X, S> {
     texts: Option<ReadTexts<X, S>>,
 }
 
+/// The store of a page's partials.
+pub type Partials<F, T, B> = LazyStore<InMemorySource, F, T, B>;
+
 /// A page of a language.
-pub type PreparedPage<F, T, B> = Prepared<
-    PageTemplate<F, T, B>,
-    LazyStore<InMemorySource, F, T, B>,
->;
+pub type PreparedPage<F, T, B> = Prepared<PageTemplate<F, T, B>, Partials<F, T, B>>;
 
 /// What was read of a page of a language.
-type PageTexts<F, T, B> = ReadTexts<PageTemplate<F, T, B>, LazyStore<InMemorySource, F, T, B>>;
+type PageTexts<F, T, B> = ReadTexts<PageTemplate<F, T, B>, Partials<F, T, B>>;
 
 /// Reads a page's template in this language and its partials.
 ///
@@ -81,8 +68,8 @@ where
     F: ParseFilter + Drop,
     T: ParseTag<F> + Drop,
     B: ParseBlock<F> + Drop,
-    ensures { IsPrepared (λ t. shapes_of F.Filter.shape T.Node.shape B.Node.shape (own_nodes t))
-        ⟦<LazyStore<InMemorySource, F, T, B> as PartialStore<F::Filter, T::Node, B::Node>>⟧.finds
+    ensures { IsPrepared (nodes_in F.Filter.shape T.Node.shape B.Node.shape)
+        ⟦<Partials<F, T, B> as PartialStore<F::Filter, T::Node, B::Node>>⟧.finds
         (language_of F.makes T.gives B.block language.now.value) text.now (map bytes_of_partial partials.now) result.texts }
 {
     match text_of(text, PageText::Template) {
@@ -104,8 +91,8 @@ where
     F: ParseFilter + Drop,
     T: ParseTag<F> + Drop,
     B: ParseBlock<F> + Drop,
-    ensures { IsReadOver (λ t. shapes_of F.Filter.shape T.Node.shape B.Node.shape (own_nodes t))
-        ⟦<LazyStore<InMemorySource, F, T, B> as PartialStore<F::Filter, T::Node, B::Node>>⟧.finds
+    ensures { IsReadOver (nodes_in F.Filter.shape T.Node.shape B.Node.shape)
+        ⟦<Partials<F, T, B> as PartialStore<F::Filter, T::Node, B::Node>>⟧.finds
         (language_of F.makes T.gives B.block language.now.value) text.now (map bytes_of_partial partials.now) result }
 {
     match partials_in(alloc, partials) {
@@ -126,8 +113,8 @@ where
     F: ParseFilter + Drop,
     T: ParseTag<F> + Drop,
     B: ParseBlock<F> + Drop,
-    ensures { IsReadAs (λ t. shapes_of F.Filter.shape T.Node.shape B.Node.shape (own_nodes t))
-        ⟦<LazyStore<InMemorySource, F, T, B> as PartialStore<F::Filter, T::Node, B::Node>>⟧.finds
+    ensures { IsReadAs (nodes_in F.Filter.shape T.Node.shape B.Node.shape)
+        ⟦<Partials<F, T, B> as PartialStore<F::Filter, T::Node, B::Node>>⟧.finds
         (language_of F.makes T.gives B.block language.now.value) text.now partials result }
 {
     match read_template(alloc, text, language) {
@@ -153,16 +140,11 @@ where
     B: ParseBlock<F> + Drop,
     T::Node: Discreet<V>,
     B::Node: Discreet<V>,
-    ensures shows { (l : Lang F.Filter.Shape T.Node.Shape B.Plan.Shape B.Node.Shape) (text : List ℕ) (partials : List NameAndText)
-        → IsPrepared (λ t. shapes_of F.Filter.shape T.Node.shape B.Node.shape (own_nodes t))
-        ⟦<LazyStore<InMemorySource, F, T, B> as PartialStore<F::Filter, T::Node, B::Node>>⟧.finds l text partials page.old.texts
-        → (shown : Page) → ComesTo (setting V.fresh F.Filter.means T.Node.means B.Node.means) l options text globals.now partials shown
-        → Shows shown (⟦<TextSink as Sink>⟧.sunk result.output).taken result.end }
-    ensures prepared { (l : Lang F.Filter.Shape T.Node.Shape B.Plan.Shape B.Node.Shape) (text : List ℕ) (partials : List NameAndText)
-        → IsPrepared (λ t. shapes_of F.Filter.shape T.Node.shape B.Node.shape (own_nodes t))
-        ⟦<LazyStore<InMemorySource, F, T, B> as PartialStore<F::Filter, T::Node, B::Node>>⟧.finds l text partials page.old.texts
-        → IsPrepared (λ t. shapes_of F.Filter.shape T.Node.shape B.Node.shape (own_nodes t))
-        ⟦<LazyStore<InMemorySource, F, T, B> as PartialStore<F::Filter, T::Node, B::Node>>⟧.finds l text partials page.new.texts }
+    ensures shows { PreparedShows B.Plan.Shape V.fresh F.Filter.Filter T.Node.Discreet B.Node.Discreet
+        ⟦<Partials<F, T, B> as PartialStore<F::Filter, T::Node, B::Node>>⟧.finds
+        options globals.now page.old.texts result }
+    ensures prepared { StaysPrepared B.Plan.Shape (nodes_in F.Filter.shape T.Node.shape B.Node.shape)
+        ⟦<Partials<F, T, B> as PartialStore<F::Filter, T::Node, B::Node>>⟧.finds page.old.texts page.new.texts }
 {
     match &mut page.texts {
         Some(texts) => match globals_in(alloc, globals) {
@@ -187,17 +169,11 @@ where
     B: ParseBlock<F> + Drop,
     T::Node: Discreet<V>,
     B::Node: Discreet<V>,
-    ensures shows { (l : Lang F.Filter.Shape T.Node.Shape B.Plan.Shape B.Node.Shape) (text : List ℕ) (partials : List NameAndText)
-        → IsReadOver (λ t. shapes_of F.Filter.shape T.Node.shape B.Node.shape (own_nodes t))
-        ⟦<LazyStore<InMemorySource, F, T, B> as PartialStore<F::Filter, T::Node, B::Node>>⟧.finds l text partials texts.old
-        → (shown : Page) → ReadComesTo (setting V.fresh F.Filter.means T.Node.means B.Node.means) l options
-        (partials_over text (names_of globals) partials) shown
-        → Shows shown (⟦<TextSink as Sink>⟧.sunk result.output).taken result.end }
-    ensures prepared { (l : Lang F.Filter.Shape T.Node.Shape B.Plan.Shape B.Node.Shape) (text : List ℕ) (partials : List NameAndText)
-        → IsReadOver (λ t. shapes_of F.Filter.shape T.Node.shape B.Node.shape (own_nodes t))
-        ⟦<LazyStore<InMemorySource, F, T, B> as PartialStore<F::Filter, T::Node, B::Node>>⟧.finds l text partials texts.old
-        → IsReadOver (λ t. shapes_of F.Filter.shape T.Node.shape B.Node.shape (own_nodes t))
-        ⟦<LazyStore<InMemorySource, F, T, B> as PartialStore<F::Filter, T::Node, B::Node>>⟧.finds l text partials texts.new }
+    ensures shows { ReadShows B.Plan.Shape V.fresh F.Filter.Filter T.Node.Discreet B.Node.Discreet
+        ⟦<Partials<F, T, B> as PartialStore<F::Filter, T::Node, B::Node>>⟧.finds
+        options (names_of globals) texts.old result }
+    ensures prepared { StaysRead B.Plan.Shape (nodes_in F.Filter.shape T.Node.shape B.Node.shape)
+        ⟦<Partials<F, T, B> as PartialStore<F::Filter, T::Node, B::Node>>⟧.finds texts.old texts.new }
 {
     match texts {
         ReadTexts::NoPartial(which) => nothing(alloc, PageFault::NoText(*which)),
@@ -223,7 +199,7 @@ fn fault_of(error: &Error) -> PageFault
 fn render_read<V, F, T, B>(
     alloc: Global,
     template: &PageTemplate<F, T, B>,
-    store: &mut Option<LazyStore<InMemorySource, F, T, B>>,
+    store: &mut Option<Partials<F, T, B>>,
     options: PageOptions,
     globals: Object,
 ) -> Rendered
@@ -234,14 +210,11 @@ where
     B: ParseBlock<F> + Drop,
     T::Node: Discreet<V>,
     B::Node: Discreet<V>,
-    ensures shows { (l : Lang F.Filter.Shape T.Node.Shape B.Plan.Shape B.Node.Shape) (texts : Texts)
-        → IsFoundIn l (Some texts)
-        (option_map ⟦<LazyStore<InMemorySource, F, T, B> as PartialStore<F::Filter, T::Node, B::Node>>⟧.finds store.old)
-        → (shown : Page) → NodesComeTo (setting V.fresh F.Filter.means T.Node.means B.Node.means) l options
-        (shapes_of F.Filter.shape T.Node.shape B.Node.shape (own_nodes template.now)) (names_of globals) texts shown
-        → Shows shown (⟦<TextSink as Sink>⟧.sunk result.output).taken result.end }
-    ensures kept { option_map ⟦<LazyStore<InMemorySource, F, T, B> as PartialStore<F::Filter, T::Node, B::Node>>⟧.finds store.new
-        ≡ option_map ⟦<LazyStore<InMemorySource, F, T, B> as PartialStore<F::Filter, T::Node, B::Node>>⟧.finds store.old }
+    ensures shows { TemplateShows B.Plan.Shape V.fresh F.Filter.Filter T.Node.Discreet B.Node.Discreet
+        ⟦<Partials<F, T, B> as PartialStore<F::Filter, T::Node, B::Node>>⟧.finds
+        options (names_of globals) template.now store.old result }
+    ensures kept { option_map ⟦<Partials<F, T, B> as PartialStore<F::Filter, T::Node, B::Node>>⟧.finds store.new
+        ≡ option_map ⟦<Partials<F, T, B> as PartialStore<F::Filter, T::Node, B::Node>>⟧.finds store.old }
 {
     let mut output = TextSink::new(alloc);
     let used = mem::replace(store, None);

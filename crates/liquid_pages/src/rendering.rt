@@ -1,16 +1,20 @@
 //! Rendering a template over globals and partials.
-ghost use Rattle.std.specs.Prelude.{◌≡◌, IfOk, Ok, Option, option_map};
+ghost use Rattle.std.specs.Prelude.{◌≡◌, IfOk, option_map};
 ghost use Rattle.liquid_error.specs.meaning.Told.{Gives};
 ghost use Rattle.liquid_runtime.specs.meaning.Maps.{names_of};
-ghost use Rattle.liquid_parser.specs.meaning.Lang.{Lang};
 ghost use Rattle.liquid_parser.specs.meaning.Plugins.{language_of};
-ghost use Rattle.liquid_partials.specs.meaning.Sources.{Texts};
 ghost use Rattle.liquid_parser.specs.meaning.Reading.{Reads};
-ghost use Rattle.liquid_plugins.specs.meaning.NodesOf.{shapes_of};
 ghost use Rattle.liquid_template.specs.meaning.Grows.{Grows};
 ghost use Rattle.liquid_template.specs.meaning.Runs.{setting};
-ghost use Rattle.liquid_template.specs.meaning.TemplateOf.{own_nodes};
-ghost use Rattle.liquid_pages.specs.meaning.Pages.{built_over, IsFoundIn, PageAnswer, Renders, RendersAnswer};
+ghost use Rattle.liquid_pages.specs.meaning.Pages.{
+  built_over,
+  nodes_in,
+  IsFoundIn,
+  PageAnswer,
+  Renders,
+  RendersOver,
+  RendersTemplate,
+};
 
 use crate::options::{PageFrame, PageOptions, room_of};
 use crate::within::{render_in_room, render_isolated_in_room, render_sandboxed_in_room};
@@ -47,12 +51,9 @@ where
     B: ParseBlock<F> + Drop,
     ensures { (answer : PageAnswer F.Filter.Shape T.Node.Shape B.Node.Shape) → Reads
         (language_of F.makes T.gives B.block language.now) text.now answer
-        → Gives (λ t. shapes_of F.Filter.shape T.Node.shape B.Node.shape (own_nodes t)) result answer }
+        → Gives (nodes_in F.Filter.shape T.Node.shape B.Node.shape) result answer }
 {
-    match parse(alloc, text, language) {
-        Ok(nodes) => Ok(Template::new(nodes)),
-        Err(fault) => Err(fault),
-    }
+    Ok(Template::new(parse(alloc, text, language)?))
 }
 
 /// Renders a text in this language, over these globals and these partials, with these options, and writes the result.
@@ -85,12 +86,10 @@ where
     ensures after { Grows (K.sunk sink.old) (K.sunk sink.new) }
     ensures borrows { (K.sunk sink.new).lent ≡ (K.sunk sink.old).lent }
 {
-    match read_template(alloc, text, language) {
-        Ok(template) => render_template::<V, F, T, B, S, K>(
-            alloc, options, &template, language, globals, partials, sink,
-        ),
-        Err(error) => Err(error),
-    }
+    let template = read_template(alloc, text, language)?;
+    render_template::<V, F, T, B, S, K>(
+        alloc, options, &template, language, globals, partials, sink,
+    )
 }
 
 /// Renders a template of this language and writes the result, as `render_text` does for a text.
@@ -113,10 +112,8 @@ where
     B::Node: Discreet<V>,
     S: PartialSource + Drop,
     K: Sink,
-    ensures renders { RendersAnswer
-        (setting V.fresh F.Filter.means T.Node.means B.Node.means)
-        (language_of F.makes T.gives B.block language.now.value) options
-        (Ok (shapes_of F.Filter.shape T.Node.shape B.Node.shape (own_nodes template.now))) (names_of globals)
+    ensures renders { RendersTemplate V.fresh F.Filter.Filter T.Node.Discreet B.Node.Discreet
+        (language_of F.makes T.gives B.block language.now.value) options template.now (names_of globals)
         (option_map S.texts partials) (K.sunk sink.old) (K.sunk sink.new) result }
     ensures after { Grows (K.sunk sink.old) (K.sunk sink.new) }
     ensures borrows { (K.sunk sink.new).lent ≡ (K.sunk sink.old).lent }
@@ -151,11 +148,9 @@ where
     B::Node: Discreet<V>,
     S: PartialSource + Drop,
     K: Sink,
-    ensures renders { (l : Lang F.Filter.Shape T.Node.Shape B.Plan.Shape B.Node.Shape) (partials : Option Texts)
-        → IsFoundIn l partials (option_map ⟦<LazyStore<S, F, T, B> as PartialStore<F::Filter, T::Node, B::Node>>⟧.finds store)
-        → RendersAnswer (setting V.fresh F.Filter.means T.Node.means B.Node.means) l options
-        (Ok (shapes_of F.Filter.shape T.Node.shape B.Node.shape (own_nodes template.now))) (names_of globals)
-        partials (K.sunk sink.old) (K.sunk sink.new) result.0 }
+    ensures renders { RendersOver V.fresh F.Filter.Filter T.Node.Discreet B.Node.Discreet B.Plan.Shape
+        ⟦<LazyStore<S, F, T, B> as PartialStore<F::Filter, T::Node, B::Node>>⟧.finds
+        options template.now (names_of globals) store (K.sunk sink.old) (K.sunk sink.new) result.0 }
     ensures store { option_map ⟦<LazyStore<S, F, T, B> as PartialStore<F::Filter, T::Node, B::Node>>⟧.finds result.1
         ≡ option_map ⟦<LazyStore<S, F, T, B> as PartialStore<F::Filter, T::Node, B::Node>>⟧.finds store }
     ensures after { Grows (K.sunk sink.old) (K.sunk sink.new) }

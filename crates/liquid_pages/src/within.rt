@@ -1,12 +1,9 @@
 //! Rendering as far as limits leave room.
-ghost use Rattle.std.specs.Prelude.{◌≡◌, None};
-ghost use Rattle.liquid_runtime.specs.meaning.Maps.{names_of};
-ghost use Rattle.liquid_template.specs.meaning.Outcome.{Renders};
+ghost use Rattle.std.specs.Prelude.{◌≡◌, None, Some};
+ghost use Rattle.liquid_template.specs.meaning.OfTypes.{isolated_of, sandboxed_of, template_of};
 ghost use Rattle.liquid_template.specs.meaning.Partials.{partials_of};
-ghost use Rattle.liquid_template.specs.meaning.Rendering.{isolated_run, sandboxed_run, template_run};
-ghost use Rattle.liquid_template.specs.meaning.Runs.{setting};
-ghost use Rattle.liquid_template.specs.meaning.TemplateOf.{template_nodes};
-ghost use Rattle.liquid_pages.specs.meaning.Limited.{fresh_gate, limited, run_within};
+ghost use Rattle.liquid_pages.specs.meaning.Limited.{fresh_gate, limited};
+ghost use Rattle.liquid_pages.specs.steps.RoomRuns.{RendersOn};
 
 use crate::options::Room;
 use liquid_error::Error;
@@ -31,11 +28,9 @@ where
     R: Runtime,
     R::Store: PartialStore<X, T, B>,
     K: Sink,
-    ensures renders { Renders (limited room (template_run
-        (setting R.Register.fresh X.means T.means B.means (partials_of R.Store.finds (R.store runtime.old)))
-        (template_nodes X.shape T.shape B.shape template.now)) (R.view runtime.old))
-        (R.view runtime.old)
-        (K.sunk sink.old) (K.sunk sink.new) (R.view runtime.new) result }
+    ensures renders { RendersOn R.view K.sunk (limited room
+        (template_of R.Register.fresh X.Filter T.Renderable B.Renderable R.Store.finds (R.store runtime.old) template.now))
+        runtime.old runtime.new sink.old sink.new result }
     ensures store { partials_of R.Store.finds (R.store runtime.new) ≡ partials_of R.Store.finds (R.store runtime.old) }
 {
     match room {
@@ -65,11 +60,9 @@ where
     R::Store: PartialStore<X, T, B>,
     K: Sink,
     requires { ⟦<Limits as Gate>⟧.gated page.old.gate ≡ fresh_gate room }
-    ensures renders { Renders (run_within room (template_run
-        (setting R.Register.fresh X.means T.means B.means (partials_of R.Store.finds (R.store runtime.old)))
-        (template_nodes X.shape T.shape B.shape template.now) (R.view runtime.old)))
-        (R.view runtime.old)
-        (K.sunk page.old.sink.now) (K.sunk page.new.sink.now) (R.view runtime.new) result }
+    ensures renders { RendersOn R.view K.sunk (limited (Some room)
+        (template_of R.Register.fresh X.Filter T.Renderable B.Renderable R.Store.finds (R.store runtime.old) template.now))
+        runtime.old runtime.new page.old.sink.now page.new.sink.now result }
     ensures store { partials_of R.Store.finds (R.store runtime.new) ≡ partials_of R.Store.finds (R.store runtime.old) }
     ensures same { page.new.sink.ghost_name ≡ page.old.sink.ghost_name }
 {
@@ -92,11 +85,9 @@ where
     R: Runtime,
     R::Store: PartialStore<X, T, B>,
     K: Sink,
-    ensures renders { Renders (limited room (sandboxed_run
-        (setting R.Register.fresh X.means T.means B.means (partials_of R.Store.finds (R.store runtime.old)))
-        (names_of «data») None (template_nodes X.shape T.shape B.shape template.now)) (R.view runtime.old))
-        (R.view runtime.old)
-        (K.sunk sink.old) (K.sunk sink.new) (R.view runtime.new) result }
+    ensures renders { RendersOn R.view K.sunk (limited room
+        (sandboxed_of R.Register.fresh X.Filter T.Discreet B.Discreet R.Store.finds (R.store runtime.old) template.now «data» None))
+        runtime.old runtime.new sink.old sink.new result }
     ensures store { partials_of R.Store.finds (R.store runtime.new) ≡ partials_of R.Store.finds (R.store runtime.old) }
 {
     match room {
@@ -127,11 +118,9 @@ where
     R::Store: PartialStore<X, T, B>,
     K: Sink,
     requires { ⟦<Limits as Gate>⟧.gated page.old.gate ≡ fresh_gate room }
-    ensures renders { Renders (run_within room (sandboxed_run
-        (setting R.Register.fresh X.means T.means B.means (partials_of R.Store.finds (R.store runtime.old)))
-        (names_of «data») None (template_nodes X.shape T.shape B.shape template.now) (R.view runtime.old)))
-        (R.view runtime.old)
-        (K.sunk page.old.sink.now) (K.sunk page.new.sink.now) (R.view runtime.new) result }
+    ensures renders { RendersOn R.view K.sunk (limited (Some room)
+        (sandboxed_of R.Register.fresh X.Filter T.Discreet B.Discreet R.Store.finds (R.store runtime.old) template.now «data» None))
+        runtime.old runtime.new page.old.sink.now page.new.sink.now result }
     ensures store { partials_of R.Store.finds (R.store runtime.new) ≡ partials_of R.Store.finds (R.store runtime.old) }
     ensures same { page.new.sink.ghost_name ≡ page.old.sink.ghost_name }
 {
@@ -154,11 +143,9 @@ where
     R: Runtime,
     R::Store: PartialStore<X, T, B>,
     K: Sink,
-    ensures renders { Renders (limited room (isolated_run
-        (setting R.Register.fresh X.means T.means B.means (partials_of R.Store.finds (R.store runtime.old)))
-        (names_of «data») None (template_nodes X.shape T.shape B.shape template.now)) (R.view runtime.old))
-        (R.view runtime.old)
-        (K.sunk sink.old) (K.sunk sink.new) (R.view runtime.new) result }
+    ensures renders { RendersOn R.view K.sunk (limited room
+        (isolated_of R.Register.fresh X.Filter T.Renderable B.Renderable R.Store.finds (R.store runtime.old) template.now «data» None))
+        runtime.old runtime.new sink.old sink.new result }
     ensures store { partials_of R.Store.finds (R.store runtime.new) ≡ partials_of R.Store.finds (R.store runtime.old) }
 {
     match room {
@@ -189,11 +176,9 @@ where
     R::Store: PartialStore<X, T, B>,
     K: Sink,
     requires { ⟦<Limits as Gate>⟧.gated page.old.gate ≡ fresh_gate room }
-    ensures renders { Renders (run_within room (isolated_run
-        (setting R.Register.fresh X.means T.means B.means (partials_of R.Store.finds (R.store runtime.old)))
-        (names_of «data») None (template_nodes X.shape T.shape B.shape template.now) (R.view runtime.old)))
-        (R.view runtime.old)
-        (K.sunk page.old.sink.now) (K.sunk page.new.sink.now) (R.view runtime.new) result }
+    ensures renders { RendersOn R.view K.sunk (limited (Some room)
+        (isolated_of R.Register.fresh X.Filter T.Renderable B.Renderable R.Store.finds (R.store runtime.old) template.now «data» None))
+        runtime.old runtime.new page.old.sink.now page.new.sink.now result }
     ensures store { partials_of R.Store.finds (R.store runtime.new) ≡ partials_of R.Store.finds (R.store runtime.old) }
     ensures same { page.new.sink.ghost_name ≡ page.old.sink.ghost_name }
 {

@@ -102,7 +102,8 @@ where
     T: ParseTag<F> + Drop,
     B: ParseBlock<F> + Drop,
 {
-    ghost finds = { λ store. readings (language_of F.makes T.gives B.block store.texts.parser.language.value) (S.texts store.texts.source) };
+    ghost finds = { λ store. readings (language_of F.makes T.gives B.block store.texts.parser.language.value)
+        (S.texts store.texts.source) };
 
     fn contains(&self, name: &str) -> bool {
         self.texts.contains(name)
@@ -159,10 +160,9 @@ where
         ensures lost { contains_key (S.texts self.old.texts.source) name.now ≡ true
             → self.new.texts.readings.lost ≡ self.old.texts.readings.lost + once (not (is_answer result)) }
     {
-        match self.texts.read(alloc, name) {
-            Ok(Some(template)) => Ok(template),
-            Ok(None) => Err(self.texts.unknown(alloc, name)),
-            Err(error) => Err(error),
+        match self.texts.read(alloc, name)? {
+            Some(template) => Ok(template),
+            None => Err(self.texts.unknown(alloc, name)),
         }
     }
 }

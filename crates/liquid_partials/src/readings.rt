@@ -172,10 +172,8 @@ fn parse_shared<F: ParseFilter + Drop, T: ParseTag<F> + Drop, B: ParseBlock<F> +
     ensures { Gives (shared_nodes F.Filter.shape T.Node.shape B.Node.shape) result
         (as_tree (reading (language_of F.makes T.gives B.block language.now) text.now)) }
 {
-    match parsed(alloc, text, language) {
-        Ok(template) => Ok(Rc::new(alloc, template)?),
-        Err(error) => Err(error),
-    }
+    let template = parsed(alloc, text, language)?;
+    Ok(Rc::new(alloc, template)?)
 }
 
 /// Returns the template of a text, or the text's fault.
@@ -187,10 +185,7 @@ fn parsed<F: ParseFilter + Drop, T: ParseTag<F> + Drop, B: ParseBlock<F> + Drop>
     ensures { Gives (template_nodes F.Filter.shape T.Node.shape B.Node.shape) result
         (as_tree (reading (language_of F.makes T.gives B.block language.now) text.now)) }
 {
-    match parse(alloc, text, language) {
-        Ok(nodes) => Ok(Template::new(nodes)),
-        Err(error) => Err(error),
-    }
+    Ok(Template::new(parse(alloc, text, language)?))
 }
 
 /// Returns `true` if an answer is out of memory.

@@ -44,8 +44,6 @@ where
     ensures store { partials_of R.Store.finds (R.store runtime.new) ≡ partials_of R.Store.finds (R.store runtime.old) }
     ensures borrows { R.lent runtime.new ≡ R.lent runtime.old }
 {
-    match parse(alloc, text, language) {
-        Ok(nodes) => Template::new(nodes).render_to(alloc, sink, runtime),
-        Err(error) => Err(error),
-    }
+    let nodes = parse(alloc, text, language)?;
+    Template::new(nodes).render_to(alloc, sink, runtime)
 }

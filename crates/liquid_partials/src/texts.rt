@@ -91,13 +91,9 @@ where
         if !self.source.contains(name) {
             return Ok(None);
         }
-        match self.source.try_get(alloc, name, &mut self.readings) {
-            Ok(Some(text)) => match self.parser.parse(alloc, text, &mut self.readings) {
-                Ok(template) => Ok(Some(template)),
-                Err(error) => Err(error),
-            },
-            Ok(None) => Ok(None),
-            Err(_) => Err(Error::Memory),
+        match self.source.try_get(alloc, name, &mut self.readings)? {
+            Some(text) => Ok(Some(self.parser.parse(alloc, text, &mut self.readings)?)),
+            None => Ok(None),
         }
     }
 

@@ -25,7 +25,8 @@ use std::alloc::Global;
 #[tactic(auto, using(crate::proofs::BorrowedValues::borrowed_name))]
 pub fn named_value<'c, R: Runtime>(name: &str, runtime: &'c R) -> Option<&'c Value>
     ensures value { option_map (λ value. tree_of value.now) result ≡ lookup (R.view runtime.now) name.now }
-    ensures evaluates { IfSome result (λ value. evaluate (R.view runtime.now) (variable (text name.now) no_indexes) ≡ Ok (tree_of value.now)) }
+    ensures evaluates { IfSome result (λ value. evaluate (R.view runtime.now) (variable (text name.now) no_indexes)
+        ≡ Ok (tree_of value.now)) }
 {
     runtime.try_get_name(name)
 }

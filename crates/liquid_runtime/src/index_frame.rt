@@ -49,7 +49,8 @@ impl<V: Fresh, S: Drop> Runtime for IndexFrame<V, S> {
 
     type Store = S;
 
-    ghost view = { λ f. indexed_view (names_of f.variables) (core_with (shaped V.shape f.parent.registers) f.parent.depth f.parent.lenient) };
+    ghost view = { λ f. indexed_view (names_of f.variables)
+        (core_with (shaped V.shape f.parent.registers) f.parent.depth f.parent.lenient) };
 
     ghost store = { λ f. f.parent.store };
 

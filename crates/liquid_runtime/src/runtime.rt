@@ -161,7 +161,8 @@ pub trait Runtime {
     /// Returns the same registers, to be changed.
     fn registers_mut(&mut self) -> &mut Registers<Self::Register>
         ensures* lends { sem 𝓛 (LendsRegisters Self.row Self.Register.row self.entry result (relent self.old)) }
-        ensures after { (w : Registers Self.Register) → view (relent self.old w) ≡ with_registers (shaped Self.Register.shape w) (view self.old) }
+        ensures after { (w : Registers Self.Register) → view (relent self.old w)
+            ≡ with_registers (shaped Self.Register.shape w) (view self.old) }
         ensures store { (w : Registers Self.Register) → store (relent self.old w) ≡ store self.old }
         ensures owes { (w : Registers Self.Register) → restores (relent self.old w) ≡ restores self.old }
         ensures borrows { (w : Registers Self.Register) → lent (relent self.old w) ≡ lent self.old }

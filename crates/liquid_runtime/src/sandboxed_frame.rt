@@ -58,7 +58,8 @@ impl<P: Runtime> Runtime for SandboxedStackFrame<P> {
 
     type Store = P::Store;
 
-    ghost view = { λ f. sandboxed_with (shaped P.Register.shape f.registers) (names_of f.names) (option_map (λ s. string_bytes s) f.name) (P.view f.parent) };
+    ghost view = { λ f. sandboxed_with (shaped P.Register.shape f.registers) (names_of f.names)
+        (option_map (λ s. string_bytes s) f.name) (P.view f.parent) };
 
     ghost store = { λ f. P.store f.parent };
 

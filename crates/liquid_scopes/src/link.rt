@@ -166,7 +166,8 @@ impl<V> Link<V> {
 
     // Removes this place from the name's places in the index, unless the frame gives the name a value.
     pub(crate) fn forget_absent(&self, index: &mut Index, name: &str, place: usize)
-        ensures { Forgotten (λ q. bytes_eq name.now q && is_none (own (layer_of self.now) name.now)) place index.old.places index.new.places }
+        ensures { Forgotten (λ q. bytes_eq name.now q && is_none (own (layer_of self.now) name.now))
+            place index.old.places index.new.places }
     {
         if !self.gives(name) {
             index.forget(name, place);
@@ -286,7 +287,8 @@ pub(crate) fn opening<R: Runtime>(alloc: Global, base: &mut R, frame: Frame) -> 
     ensures begins { (v : View R.Register.Shape) → registers_of v ≡ registers_of (R.view base.old)
         → layer_view (layer_of result) (with_registers (registers_of (R.view base.new)) v) ≡ beginning R.Register.fresh (frame_of frame) v }
     ensures restores { (v : View R.Register.Shape) → registers_of v ≡ registers_of (R.view base.old)
-        → layer_restores R.Register.shape (layer_of result) (with_registers (registers_of (R.view base.new)) v) ≡ restored_by (frame_of frame) v }
+        → layer_restores R.Register.shape (layer_of result) (with_registers (registers_of (R.view base.new)) v)
+        ≡ restored_by (frame_of frame) v }
     ensures store { R.store base.new ≡ R.store base.old }
     ensures owes { R.restores base.new ≡ R.restores base.old }
     ensures borrows { R.lent base.new ≡ R.lent base.old }
@@ -311,7 +313,8 @@ pub(crate) fn opening<R: Runtime>(alloc: Global, base: &mut R, frame: Frame) -> 
 pub(crate) fn closing<R: Runtime>(base: &mut R, link: Link<R::Register>) -> Option<Object>
     ensures registers { R.view base.new ≡ with_registers (registers_of (R.view base.new)) (R.view base.old) }
     ensures ends { (v : View R.Register.Shape) → registers_of v ≡ registers_of (R.view base.old)
-        → with_registers (registers_of (R.view base.new)) v ≡ ending (layer_restores R.Register.shape (layer_of link) v) (layer_view (layer_of link) v) }
+        → with_registers (registers_of (R.view base.new)) v ≡ ending (layer_restores R.Register.shape (layer_of link) v)
+        (layer_view (layer_of link) v) }
     ensures store { R.store base.new ≡ R.store base.old }
     ensures owes { R.restores base.new ≡ R.restores base.old }
     ensures borrows { R.lent base.new ≡ R.lent base.old }

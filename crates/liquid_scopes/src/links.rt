@@ -1,5 +1,6 @@
 //! What links over one another show, the oldest first, given what is shown below them, and a value set in one of them.
-ghost use Rattle.std.specs.Prelude.{◌≡◌, ◌&&◌, ◌||◌, ℕ, List, false, nat_eq, bytes_eq, is_none, map, IfOk, OnOk, OnErr, option_map, string_bytes};
+ghost use Rattle.std.specs.Prelude.{◌≡◌, ◌&&◌, ◌||◌, ℕ, List, false, nat_eq, bytes_eq, is_none, map};
+ghost use Rattle.std.specs.Prelude.{IfOk, OnOk, OnErr, option_map, string_bytes};
 ghost use Rattle.liquid_error.specs.meaning.Told.{Gives};
 ghost use Rattle.liquid_value.specs.meaning.View.{view as tree_of};
 ghost use Rattle.liquid_runtime.specs.meaning.Frames.{Restore};
@@ -24,7 +25,8 @@ pub(crate) fn name_over<'a, V: Fresh>(
     links: &'a [Link<V>],
     below: Option<&'a str>,
 ) -> Option<&'a str>
-    ensures { (v : View V.Shape) → option_map (λ r. r.now) below.entry ≡ v.name → option_map (λ r. r.now) result ≡ (view_over v links.now).name }
+    ensures { (v : View V.Shape) → option_map (λ r. r.now) below.entry ≡ v.name → option_map (λ r. r.now) result
+        ≡ (view_over v links.now).name }
 {
     let mut name = below;
     for link in links {
@@ -39,7 +41,8 @@ pub(crate) fn roots_over<V: Fresh>(
     links: &[Link<V>],
     below: BTreeSet<String>,
 ) -> Result<BTreeSet<String>, AllocError>
-    ensures { (v : View V.Shape) → NamesOf (names_seen v) below → IfOk result (λ names. NamesOf (names_seen (view_over v links.now)) names) }
+    ensures { (v : View V.Shape) → NamesOf (names_seen v) below
+        → IfOk result (λ names. NamesOf (names_seen (view_over v links.now)) names) }
 {
     let mut names = below;
     for link in links {

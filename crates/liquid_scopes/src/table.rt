@@ -206,6 +206,7 @@ impl<V: Fresh> Table<V> {
     }
 
     // Makes the next frame the unlisted one, if it can hold names, and lists the one before it.
+    #[inline(always)]
     fn next_unlisted(&mut self, alloc: Global, next: &Link<V>) -> Result<(), Error>
         ensures links { self.new.links ≡ self.old.links }
         ensures seals { self.new.seals ≡ self.old.seals }
@@ -252,6 +253,7 @@ impl<V: Fresh> Table<V> {
     }
 
     // Makes room for one more frame, and returns whether there is room.
+    #[inline(always)]
     fn make_room(&mut self, next: &Link<V>) -> bool
         ensures links { self.new.links.items ≡ self.old.links.items }
         ensures room { result ≡ true → vec_len self.new.links < vec_capacity self.new.links }

@@ -1,4 +1,4 @@
+pub mod CycleLemmas
+pub mod DivideLemmas
 pub mod PageLemmas
 pub mod SandboxLemmas
-pub mod DivideLemmas
-pub mod CycleLemmas

@@ -8,8 +8,6 @@ mod case;
 mod conditionals;
 mod cycle;
 mod decrement;
-#[cfg(test)]
-mod desk_tests;
 mod echo;
 mod isolated;
 mod languages;
@@ -18,8 +16,6 @@ mod loops;
 mod pages;
 pub mod tag_plugins;
 pub mod tags;
-#[cfg(test)]
-mod tests;
 
 pub use block_plugins::{StdBlocks, StdPlan};
 pub use blocks::{StdBlock, StdProgress};

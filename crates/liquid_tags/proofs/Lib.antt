@@ -1,11 +1,11 @@
-pub mod PairLemmas
+pub mod ConditionLemmas
 pub mod DivideLemmas
 pub mod ItemLemmas
+pub mod LoopRunLemmas
+pub mod PageLemmas
+pub mod PairLemmas
+pub mod ReuseLemmas
+pub mod SandboxLemmas
 pub mod SeriesLemmas
 pub mod SeriesTokens
-pub mod ConditionLemmas
-pub mod SandboxLemmas
-pub mod PageLemmas
 pub mod Writes
-pub mod ReuseLemmas
-pub mod LoopRunLemmas

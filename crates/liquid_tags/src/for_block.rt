@@ -2,6 +2,7 @@
 
 pub mod items;
 pub mod kept;
+pub(crate) mod reuse;
 pub mod rounds;
 pub mod series;
 pub mod turns;

@@ -1,28 +1,15 @@
 //! Rendering a page of the library.
-ghost use Rattle.std.specs.Prelude.{◌≡◌, Some, IfOk};
-ghost use Rattle.liquid_runtime.specs.meaning.Frames.{built_view};
 ghost use Rattle.liquid_runtime.specs.meaning.Maps.{names_of};
 ghost use Rattle.liquid_parser.specs.meaning.Plugins.{registry_of};
-ghost use Rattle.liquid_partials.specs.meaning.Compiled.{Compiled};
-ghost use Rattle.liquid_tags.specs.meaning.Languages.{meaning_of, tags_and_blocks};
-ghost use Rattle.liquid_tags.specs.meaning.Pages.{RendersPage, page_depth};
+ghost use Rattle.liquid_tags.specs.meaning.Pages.{RendersPage};
 
 use crate::block_plugins::Blocks;
-use crate::blocks::BlockNode;
 use crate::languages::language;
 use crate::tag_plugins::Tags;
-use crate::tags::TagNode;
 use liquid_core::parser::PluginRegistry;
-use liquid_core::partials::{LazyCompiler, PartialCompiler, PartialSource};
-use liquid_core::{
-    BuiltRuntime, Error, Language, LazyStore, Object, ParseFilter, PartialStore, Runtime,
-    RuntimeBuilder, Sink, render_source,
-};
-use std::alloc::{AllocError, Global};
-use std::rc::Rc;
-
-/// A runtime of a page: names are strict, and 32 partials may be nested.
-type PageRuntime<S, F> = BuiltRuntime<(), LazyStore<S, F, Tags, Blocks>>;
+use liquid_core::partials::PartialSource;
+use liquid_core::{Error, Object, ParseFilter, Sink, render_page_in};
+use std::alloc::Global;
 
 /// Renders a page and writes the result: this text in the library's language with these filters, over these globals,
 /// with the partials of this source.
@@ -44,50 +31,6 @@ where
     ensures { RendersPage F.Filter.means (registry_of F.makes filters) text.now (names_of globals) (S.texts partials)
         (K.sunk sink.old) (K.sunk sink.new) result }
 {
-    match shared_language(alloc, filters) {
-        Ok(language) => match store_of(alloc, &language, partials) {
-            Ok(store) => {
-                let mut runtime = runtime_of(alloc, globals, store);
-                render_source(alloc, text, &language, &mut runtime, sink)
-            }
-            Err(_) => Err(Error::Memory),
-        },
-        Err(_) => Err(Error::Memory),
-    }
-}
-
-fn shared_language<F: ParseFilter>(
-    alloc: Global,
-    filters: PluginRegistry<F>,
-) -> Result<Rc<Language<F, Tags, Blocks>>, AllocError>
-    ensures { IfOk result (λ l. meaning_of F.makes l.value ≡ tags_and_blocks (registry_of F.makes filters)) }
-{
-    Ok(Rc::new(alloc, language(alloc, filters)?)?)
-}
-
-/// Returns a store of the partials in this language.
-fn store_of<F: ParseFilter, S: PartialSource + Drop>(
-    alloc: Global,
-    language: &Rc<Language<F, Tags, Blocks>>,
-    partials: S,
-) -> Result<LazyStore<S, F, Tags, Blocks>, AllocError>
-    ensures { IfOk result (λ store. Compiled (meaning_of F.makes language.now.value) (S.texts partials)
-        (⟦<LazyStore<S, F, Tags, Blocks> as PartialStore<F::Filter, TagNode<F::Filter>, BlockNode>>⟧.finds store)) }
-{
-    Ok(LazyCompiler::new(partials).compile(alloc, language.clone()?)?)
-}
-
-/// Returns the runtime over these globals and this store.
-fn runtime_of<F: ParseFilter, S: PartialSource + Drop>(
-    alloc: Global,
-    globals: Object,
-    store: LazyStore<S, F, Tags, Blocks>,
-) -> PageRuntime<S, F>
-    ensures view { ⟦<PageRuntime<S, F> as Runtime>⟧.view result ≡ built_view tt page_depth (names_of globals) }
-    ensures store { ⟦<PageRuntime<S, F> as Runtime>⟧.store result ≡ Some store }
-{
-    RuntimeBuilder::new(alloc)
-        .set_globals(globals)
-        .set_partials(store)
-        .build()
+    let language = language(alloc, filters)?;
+    render_page_in::<(), F, Tags, Blocks, S, K>(alloc, text, language, globals, partials, sink)
 }

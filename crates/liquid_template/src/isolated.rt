@@ -87,14 +87,8 @@ impl<X: Filter, T, B> Template<X, T, B> {
         ensures borrows { S.lent scopes.new ≡ S.lent scopes.old }
         ensures around { around (O.place out.new) ≡ around (O.place out.old) }
     {
-        let name = match name_text(alloc, name) {
-            Ok(name) => name,
-            Err(_) => return Err(Error::Memory),
-        };
-        match scopes.push(Frame::Isolated(data, name)) {
-            Ok(()) => {}
-            Err(error) => return Err(error),
-        }
+        let name = name_text(alloc, name)?;
+        scopes.push(Frame::Isolated(data, name))?;
         let answer = self.render_out(alloc, out, scopes);
         scopes.pop();
         answer

@@ -87,7 +87,8 @@ where
     R: Runtime,
     O: Out,
     requires { IsOk answer.old }
-    ensures renders { RendersWithin (writes_value (chain_value X.means (chain_of X.shape chain.now) (R.view runtime.now)) (R.view runtime.now))
+    ensures renders { RendersWithin (writes_value (chain_value X.means (chain_of X.shape chain.now) (R.view runtime.now))
+        (R.view runtime.now))
         (R.view runtime.now) (target (O.place out.old)) (target (O.place out.new)) (R.view runtime.now) answer.new }
     ensures around { around (O.place out.new) ≡ around (O.place out.old) }
 {

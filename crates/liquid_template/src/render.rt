@@ -129,9 +129,7 @@ impl<X: Filter, T, B> Template<X, T, B> {
         ensures borrows { R.lent runtime.new ≡ R.lent runtime.old }
     {
         let mut sink = TextSink::new(alloc);
-        match self.render_to(alloc, &mut sink, runtime) {
-            Ok(()) => Ok(sink.into_string().unwrap()),
-            Err(error) => Err(error),
-        }
+        self.render_to(alloc, &mut sink, runtime)?;
+        Ok(sink.into_string().unwrap())
     }
 }

@@ -44,13 +44,9 @@ impl<F: ParseFilter> ParseTag<F> for Badge {
         _filters: &PluginRegistry<F>,
     ) -> Result<BadgeNode, Error> {
         let mut tokens = tokens;
-        match tokens.next_value(alloc, "Value expected") {
-            Ok(value) => match tokens.expect_nothing(alloc) {
-                Ok(()) => Ok(BadgeNode { value }),
-                Err(error) => Err(error),
-            },
-            Err(error) => Err(error),
-        }
+        let value = tokens.next_value(alloc, "Value expected")?;
+        tokens.expect_nothing(alloc)?;
+        Ok(BadgeNode { value })
     }
 }
 
@@ -107,10 +103,8 @@ impl<V: Fresh> Discreet<V> for BadgeNode {
 fn badge_turn<R: Runtime>(alloc: Global, value: &Expression, runtime: &R) -> Result<Turn, Error>
     ensures { Gives turn_of result (badge_turn (evaluate (R.view runtime.now) (expression_of value.now))) }
 {
-    match value.evaluate(alloc, runtime) {
-        Ok(value) => Ok(Turn::Text(badged(alloc, value.as_view())?)),
-        Err(error) => Err(error),
-    }
+    let value = value.evaluate(alloc, runtime)?;
+    Ok(Turn::Text(badged(alloc, value.as_view())?))
 }
 
 /// Returns the text of a value in brackets.

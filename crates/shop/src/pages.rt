@@ -1,9 +1,10 @@
 //! The shop's page, and what its customers write.
-ghost use Rattle.std.specs.Prelude.{◌≡◌, Some, Ok, IfOk, string_bytes};
+ghost use Rattle.std.specs.Prelude.{◌≡◌, Option, Some, Ok, IfOk, string_bytes};
 ghost use Rattle.std.specs.FinMap.{insert};
 ghost use Rattle.liquid_json.specs.meaning.Given.{object_read};
 ghost use Rattle.liquid_runtime.specs.meaning.Frames.{built_view};
 ghost use Rattle.liquid_runtime.specs.meaning.Maps.{names_of};
+ghost use Rattle.liquid_runtime.specs.meaning.View.{View};
 ghost use Rattle.liquid_partials.specs.meaning.Compiled.{Compiled};
 ghost use Rattle.liquid_template.specs.meaning.Partials.{partials_of};
 ghost use Rattle.liquid_scalar.specs.meaning.Scalar.{text};
@@ -11,7 +12,7 @@ ghost use Rattle.liquid_value.specs.meaning.Tree.{scalar};
 ghost use Rattle.liquid_value.specs.meaning.View.{view as tree_of, members_view};
 ghost use Rattle.shop.specs.meaning.Languages.{meaning_of, the_language};
 ghost use Rattle.shop.specs.meaning.Pages.{refusal_names, the_partials, visit_names};
-ghost use Rattle.shop.specs.meaning.Pages.{FindsPartials, PageShown, ReviewShown, SandboxShown, SeesGoods};
+ghost use Rattle.shop.specs.meaning.Pages.{FindsPartials, PageShown, ReviewShown, SandboxShown, SeesGoods, ShopFound};
 
 use crate::filters::ShopFilters;
 use crate::languages::{ShopBlocks, ShopLanguage, ShopTags, language};
@@ -64,42 +65,40 @@ pub struct Shop {
     runtime: ShopRuntime,
 }
 
+/// What contracts see of a shop: the view of its runtime, and what its store finds.
+pub trait Seen {
+    ghost view: { Self → View (Unit {0}) };
+
+    ghost found: { Self → Option ShopFound };
+}
+
+impl Seen for Shop {
+    ghost view = { λ shop. ⟦<ShopRuntime as Runtime>⟧.view shop.runtime };
+
+    ghost found = { λ shop. partials_of ⟦<ShopStore as PartialStore<ShopFilter, ShopTag, ShopBlock>>⟧.finds
+        (⟦<ShopRuntime as Runtime>⟧.store shop.runtime) };
+}
+
 impl Shop {
     /// Opens a shop with its goods and its partials.
     pub fn open(alloc: Global) -> Result<Shop, Error>
         ensures language { IfOk result (λ shop. meaning_of shop.language.value ≡ the_language) }
-        ensures goods { IfOk result (λ shop. SeesGoods (⟦<ShopRuntime as Runtime>⟧.view shop.runtime)) }
-        ensures partials { IfOk result (λ shop. FindsPartials
-            (partials_of ⟦<ShopStore as PartialStore<ShopFilter, ShopTag, ShopBlock>>⟧.finds
-            (⟦<ShopRuntime as Runtime>⟧.store shop.runtime))) }
+        ensures goods { IfOk result (λ shop. SeesGoods (⟦<Shop as Seen>⟧.view shop)) }
+        ensures partials { IfOk result (λ shop. FindsPartials (⟦<Shop as Seen>⟧.found shop)) }
     {
-        match goods(alloc) {
-            Ok(goods) => match shared_language(alloc) {
-                Ok(language) => match store_of(alloc, &language) {
-                    Ok(store) => {
-                        let runtime = runtime_of(alloc, goods, store);
-                        Ok(Shop { language, runtime })
-                    }
-                    Err(_) => Err(Error::Memory),
-                },
-                Err(_) => Err(Error::Memory),
-            },
-            Err(error) => Err(error),
-        }
+        let goods = goods(alloc)?;
+        let language = shared_language(alloc)?;
+        let store = store_of(alloc, &language)?;
+        let runtime = runtime_of(alloc, goods, store);
+        Ok(Shop { language, runtime })
     }
 
     /// Writes the shop's page.
     pub fn write_page<K: Sink>(&mut self, alloc: Global, sink: &mut K) -> Result<(), Error>
-        ensures shown { PageShown (meaning_of self.old.language.value)
-            (partials_of ⟦<ShopStore as PartialStore<ShopFilter, ShopTag, ShopBlock>>⟧.finds
-            (⟦<ShopRuntime as Runtime>⟧.store self.old.runtime))
-            (⟦<ShopRuntime as Runtime>⟧.view self.old.runtime)
-            (K.sunk sink.old) (K.sunk sink.new) (⟦<ShopRuntime as Runtime>⟧.view self.new.runtime) result }
+        ensures shown { PageShown (meaning_of self.old.language.value) (⟦<Shop as Seen>⟧.found self.old)
+            (⟦<Shop as Seen>⟧.view self.old) (K.sunk sink.old) (K.sunk sink.new) (⟦<Shop as Seen>⟧.view self.new) result }
         ensures language { self.new.language ≡ self.old.language }
-        ensures partials { partials_of ⟦<ShopStore as PartialStore<ShopFilter, ShopTag, ShopBlock>>⟧.finds
-            (⟦<ShopRuntime as Runtime>⟧.store self.new.runtime)
-            ≡ partials_of ⟦<ShopStore as PartialStore<ShopFilter, ShopTag, ShopBlock>>⟧.finds
-            (⟦<ShopRuntime as Runtime>⟧.store self.old.runtime) }
+        ensures partials { ⟦<Shop as Seen>⟧.found self.new ≡ ⟦<Shop as Seen>⟧.found self.old }
     {
         render_source(alloc, PAGE, &self.language, &mut self.runtime, sink)
     }
@@ -112,24 +111,13 @@ impl Shop {
         names: Object,
         sink: &mut K,
     ) -> Result<(), Error>
-        ensures shown { SandboxShown (meaning_of self.old.language.value)
-            (partials_of ⟦<ShopStore as PartialStore<ShopFilter, ShopTag, ShopBlock>>⟧.finds
-            (⟦<ShopRuntime as Runtime>⟧.store self.old.runtime)) (names_of names) text.now
-            (⟦<ShopRuntime as Runtime>⟧.view self.old.runtime)
-            (K.sunk sink.old) (K.sunk sink.new) (⟦<ShopRuntime as Runtime>⟧.view self.new.runtime) result }
+        ensures shown { SandboxShown (meaning_of self.old.language.value) (⟦<Shop as Seen>⟧.found self.old) (names_of names) text.now
+            (⟦<Shop as Seen>⟧.view self.old) (K.sunk sink.old) (K.sunk sink.new) (⟦<Shop as Seen>⟧.view self.new) result }
         ensures language { self.new.language ≡ self.old.language }
-        ensures partials { partials_of ⟦<ShopStore as PartialStore<ShopFilter, ShopTag, ShopBlock>>⟧.finds
-            (⟦<ShopRuntime as Runtime>⟧.store self.new.runtime)
-            ≡ partials_of ⟦<ShopStore as PartialStore<ShopFilter, ShopTag, ShopBlock>>⟧.finds
-            (⟦<ShopRuntime as Runtime>⟧.store self.old.runtime) }
+        ensures partials { ⟦<Shop as Seen>⟧.found self.new ≡ ⟦<Shop as Seen>⟧.found self.old }
     {
-        match parse(alloc, text, &self.language) {
-            Ok(nodes) => {
-                let page = Template::new(nodes);
-                page.render_sandboxed(alloc, sink, &mut self.runtime, names, None)
-            }
-            Err(error) => Err(error),
-        }
+        let page = Template::new(parse(alloc, text, &self.language)?);
+        page.render_sandboxed(alloc, sink, &mut self.runtime, names, None)
     }
 }
 
@@ -140,16 +128,10 @@ pub fn write_review<K: Sink>(
     review: &str,
     sink: &mut K,
 ) -> Result<(), Error>
-    ensures shown { ReviewShown (meaning_of shop.old.language.value)
-        (partials_of ⟦<ShopStore as PartialStore<ShopFilter, ShopTag, ShopBlock>>⟧.finds
-        (⟦<ShopRuntime as Runtime>⟧.store shop.old.runtime)) review.now
-        (⟦<ShopRuntime as Runtime>⟧.view shop.old.runtime)
-        (K.sunk sink.old) (K.sunk sink.new) (⟦<ShopRuntime as Runtime>⟧.view shop.new.runtime) result }
+    ensures shown { ReviewShown (meaning_of shop.old.language.value) (⟦<Shop as Seen>⟧.found shop.old) review.now
+        (⟦<Shop as Seen>⟧.view shop.old) (K.sunk sink.old) (K.sunk sink.new) (⟦<Shop as Seen>⟧.view shop.new) result }
     ensures language { shop.new.language ≡ shop.old.language }
-    ensures partials { partials_of ⟦<ShopStore as PartialStore<ShopFilter, ShopTag, ShopBlock>>⟧.finds
-        (⟦<ShopRuntime as Runtime>⟧.store shop.new.runtime)
-        ≡ partials_of ⟦<ShopStore as PartialStore<ShopFilter, ShopTag, ShopBlock>>⟧.finds
-        (⟦<ShopRuntime as Runtime>⟧.store shop.old.runtime) }
+    ensures partials { ⟦<Shop as Seen>⟧.found shop.new ≡ ⟦<Shop as Seen>⟧.found shop.old }
 {
     match visit(alloc) {
         Ok(names) => match shop.write_sandboxed(alloc, review, names, sink) {
@@ -167,16 +149,10 @@ fn write_refusal<K: Sink>(
     refusal: &Error,
     sink: &mut K,
 ) -> Result<(), Error>
-    ensures shown { SandboxShown (meaning_of shop.old.language.value)
-        (partials_of ⟦<ShopStore as PartialStore<ShopFilter, ShopTag, ShopBlock>>⟧.finds
-        (⟦<ShopRuntime as Runtime>⟧.store shop.old.runtime)) (refusal_names refusal.now) REFUSED.now
-        (⟦<ShopRuntime as Runtime>⟧.view shop.old.runtime)
-        (K.sunk sink.old) (K.sunk sink.new) (⟦<ShopRuntime as Runtime>⟧.view shop.new.runtime) result }
+    ensures shown { SandboxShown (meaning_of shop.old.language.value) (⟦<Shop as Seen>⟧.found shop.old) (refusal_names refusal.now) REFUSED.now
+        (⟦<Shop as Seen>⟧.view shop.old) (K.sunk sink.old) (K.sunk sink.new) (⟦<Shop as Seen>⟧.view shop.new) result }
     ensures language { shop.new.language ≡ shop.old.language }
-    ensures partials { partials_of ⟦<ShopStore as PartialStore<ShopFilter, ShopTag, ShopBlock>>⟧.finds
-        (⟦<ShopRuntime as Runtime>⟧.store shop.new.runtime)
-        ≡ partials_of ⟦<ShopStore as PartialStore<ShopFilter, ShopTag, ShopBlock>>⟧.finds
-        (⟦<ShopRuntime as Runtime>⟧.store shop.old.runtime) }
+    ensures partials { ⟦<Shop as Seen>⟧.found shop.new ≡ ⟦<Shop as Seen>⟧.found shop.old }
 {
     match refusal_names(alloc, refusal) {
         Ok(names) => shop.write_sandboxed(alloc, REFUSED, names, sink),

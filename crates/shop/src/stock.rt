@@ -68,13 +68,9 @@ impl<F: ParseFilter> ParseBlock<F> for Stock {
         _filters: &PluginRegistry<F>,
     ) -> Result<StockNode, Error> {
         let mut tokens = tokens;
-        match tokens.next_value(alloc, "Value expected") {
-            Ok(left) => match tokens.expect_nothing(alloc) {
-                Ok(()) => Ok(StockNode { left }),
-                Err(error) => Err(error),
-            },
-            Err(error) => Err(error),
-        }
+        let left = tokens.next_value(alloc, "Value expected")?;
+        tokens.expect_nothing(alloc)?;
+        Ok(StockNode { left })
     }
 
     fn divide(
@@ -120,10 +116,8 @@ impl<V: Fresh> Renderable<V> for StockNode {
         alloc: Global,
         runtime: &mut R,
     ) -> Result<u64, Error> {
-        match self.left.evaluate(alloc, &*runtime) {
-            Ok(value) => Ok(part_for(value.as_view())),
-            Err(error) => Err(error),
-        }
+        let value = self.left.evaluate(alloc, &*runtime)?;
+        Ok(part_for(value.as_view()))
     }
 
     fn turns(_progress: &u64) -> u64 {

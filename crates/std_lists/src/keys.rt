@@ -41,7 +41,8 @@ pub fn keyed<'v>(
     items: &[&'v Value],
     name: Option<&CowStr<'_>>,
 ) -> Result<Vec<Entry<'v>>, Error>
-    ensures { Gives (λ v. map entry_view v.items) result (keyed (option_map (λ n. cow_str_bytes n.now) name.entry) (map (λ r. tree_of r.now) items.now)) }
+    ensures { Gives (λ v. map entry_view v.items) result (keyed (option_map (λ n. cow_str_bytes n.now) name.entry)
+        (map (λ r. tree_of r.now) items.now)) }
 {
     let mut entries = Vec::with_capacity(alloc, items.len())?;
     for item in items {

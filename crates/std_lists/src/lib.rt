@@ -5,5 +5,3 @@ pub mod choices;
 pub mod keys;
 pub mod lists;
 pub mod sums;
-#[cfg(test)]
-mod tests;

@@ -134,7 +134,8 @@ fn reverse_items(items: &mut Vec<&Value>)
 }
 
 fn push_own_items<'v>(all: &mut Vec<&'v Value>, others: &'v Array) -> Result<(), AllocError>
-    ensures { OnOk result (map (λ r. tree_of r.now) all.new.items ≡ map (λ r. tree_of r.now) all.old.items ++ own_items (items_view others.now.items)) }
+    ensures { OnOk result (map (λ r. tree_of r.now) all.new.items
+        ≡ map (λ r. tree_of r.now) all.old.items ++ own_items (items_view others.now.items)) }
 {
     for other in others {
         all.push(other)?;

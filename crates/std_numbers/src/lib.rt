@@ -6,5 +6,3 @@ mod division;
 pub mod laws;
 mod rounding;
 pub mod single;
-#[cfg(test)]
-mod tests;

@@ -3,5 +3,3 @@
 
 pub mod laws;
 pub mod order;
-#[cfg(test)]
-mod tests;

@@ -11,8 +11,6 @@ mod letters;
 mod lines;
 mod replacing;
 mod splitting;
-#[cfg(test)]
-mod tests;
 
 pub use cutting::{slice, truncate, truncatewords};
 pub use encoding::{base64_decode, base64_encode, url_decode, url_encode};

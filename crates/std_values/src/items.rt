@@ -21,7 +21,8 @@ pub fn items<'v>(alloc: Global, value: &'v Value) -> Result<Vec<&'v Value>, Allo
 /// Appends the item, or, in place of an array, its own items.
 #[cycle(flat)]
 fn push_item<'v>(value: &'v Value, items: &mut Vec<&'v Value>) -> Result<(), AllocError>
-    ensures { OnOk result (map (λ r. tree_of r.now) items.new.items ≡ map (λ r. tree_of r.now) items.old.items ++ flat_item (tree_of value.now)) }
+    ensures { OnOk result (map (λ r. tree_of r.now) items.new.items
+        ≡ map (λ r. tree_of r.now) items.old.items ++ flat_item (tree_of value.now)) }
 {
     match value {
         Value::Array(array) => push_items(array.as_array(), items),
@@ -31,7 +32,8 @@ fn push_item<'v>(value: &'v Value, items: &mut Vec<&'v Value>) -> Result<(), All
 
 #[cycle(flat)]
 fn push_items<'v>(array: &'v Array, items: &mut Vec<&'v Value>) -> Result<(), AllocError>
-    ensures { OnOk result (map (λ r. tree_of r.now) items.new.items ≡ map (λ r. tree_of r.now) items.old.items ++ flat_items (items_view array.now.items)) }
+    ensures { OnOk result (map (λ r. tree_of r.now) items.new.items
+        ≡ map (λ r. tree_of r.now) items.old.items ++ flat_items (items_view array.now.items)) }
 {
     for value in array {
         push_item(value, items)?;

@@ -5,5 +5,3 @@ pub mod errors;
 pub mod items;
 pub mod numbers;
 pub mod parts;
-#[cfg(test)]
-mod tests;

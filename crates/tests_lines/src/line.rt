@@ -78,8 +78,10 @@ impl Line {
 
     /// Returns the whole number at a place. Fails for a row without such a number there.
     pub fn number(&self, place: usize) -> Result<i64, Fail>
-        ensures ok { IfOk result (λ n. option_and_then (λ v. option_and_then as_i64 (as_number v)) (at place (view self.now.json)) ≡ Some n) }
-        ensures err { IfErr result (λ _. option_and_then (λ v. option_and_then as_i64 (as_number v)) (at place (view self.now.json)) ≡ None) }
+        ensures ok { IfOk result (λ n. option_and_then (λ v. option_and_then as_i64 (as_number v)) (at place (view self.now.json))
+            ≡ Some n) }
+        ensures err { IfErr result (λ _. option_and_then (λ v. option_and_then as_i64 (as_number v)) (at place (view self.now.json))
+            ≡ None) }
     {
         match self.found(place) {
             Some(member) => match member.as_i64() {

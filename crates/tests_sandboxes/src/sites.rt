@@ -1,4 +1,6 @@
 //! Rows in sandboxes over each parent and both forms of scopes, in any language over any store.
+ghost use Rattle.std.specs.Prelude.{◌≡◌};
+
 use crate::kinds::{Eager, Kind, Lazy, OnDemand, Plain};
 use crate::parents::{Over, Visits, is_left, over};
 use liquid_core::model::{Object, Value, to_object};
@@ -83,6 +85,34 @@ where
     place.holds(alloc, &sink, &answer, &after)
 }
 
+/// Renders a page in a sandbox or in isolation over a frame that is opened for it.
+fn render_over_a_frame<S, X, T, B>(
+    alloc: Global,
+    page: &Template<X, T, B>,
+    is_isolated: bool,
+    data: Object,
+    outer: Object,
+    sink: &mut TextSink,
+    scopes: &mut S,
+) -> Result<(), Error>
+where
+    S: Scopes<Register = Visits>,
+    X: Filter,
+    T: Discreet<Visits>,
+    B: Discreet<Visits>,
+    S::Store: PartialStore<X, T, B>,
+    ensures { S.restores scopes.new ≡ S.restores scopes.old }
+{
+    scopes.push(Frame::Stack(outer, None))?;
+    let answer = if is_isolated {
+        page.render_isolated_in(alloc, sink, scopes, data, Some("page"))
+    } else {
+        page.render_sandboxed_in(alloc, sink, scopes, data, Some("page"))
+    };
+    scopes.pop();
+    answer
+}
+
 /// Renders a page in a sandbox or in isolation over a frame that is open, and returns the base again.
 fn rendered_over_a_frame<S, X, T, B>(
     alloc: Global,
@@ -101,18 +131,7 @@ where
     S::Store: PartialStore<X, T, B>,
 {
     let mut scopes = S::new(alloc, base);
-    let answer = match scopes.push(Frame::Stack(outer, None)) {
-        Ok(()) => {
-            let answer = if is_isolated {
-                page.render_isolated_in(alloc, sink, &mut scopes, data, Some("page"))
-            } else {
-                page.render_sandboxed_in(alloc, sink, &mut scopes, data, Some("page"))
-            };
-            scopes.pop();
-            answer
-        }
-        Err(error) => Err(error),
-    };
+    let answer = render_over_a_frame(alloc, page, is_isolated, data, outer, sink, &mut scopes);
     (answer, scopes.into_base())
 }
 

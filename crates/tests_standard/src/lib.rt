@@ -5,6 +5,10 @@
 #[cfg(test)]
 mod both_languages;
 #[cfg(test)]
+mod byte_pages;
+#[cfg(test)]
+mod desks;
+#[cfg(test)]
 mod isolated_rows;
 #[cfg(test)]
 mod library_rows;
@@ -14,3 +18,5 @@ mod parents;
 mod sites;
 #[cfg(test)]
 mod sources;
+#[cfg(test)]
+mod tag_rows;

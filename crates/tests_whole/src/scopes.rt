@@ -62,10 +62,7 @@ fn enter<S: Scopes>(
 {
     if let Some(number) = sets {
         let name = text(alloc, "a")?;
-        match scopes.set_global(name, Value::scalar(number)) {
-            Ok(_) => {}
-            Err(error) => return Err(error),
-        }
+        scopes.set_global(name, Value::scalar(number))?;
     }
     look(alloc, &*scopes, seen)
 }
@@ -83,19 +80,14 @@ fn look_under<S: Scopes>(
         [] => Ok(()),
         [(pushed, sets), rest @ ..] => {
             let frame = frame_of(alloc, *pushed)?;
-            match scopes.push(frame) {
-                Ok(()) => {}
-                Err(error) => return Err(error),
+            scopes.push(frame)?;
+            let mut answer = enter(alloc, scopes, *sets, seen);
+            if answer.is_ok() {
+                answer = look_under(alloc, scopes, rest, seen);
             }
-            let answer = match enter(alloc, scopes, *sets, seen) {
-                Ok(()) => look_under(alloc, scopes, rest, seen),
-                Err(error) => Err(error),
-            };
             scopes.pop();
-            match answer {
-                Ok(()) => look(alloc, &*scopes, seen),
-                Err(error) => Err(error),
-            }
+            answer?;
+            look(alloc, &*scopes, seen)
         }
     }
 }

@@ -64,6 +64,7 @@ const LOOPS: &str = r#"{"template": "{% for i in (1..3) %}{{ i }}{% endfor %}", 
 {"template": "{% for p in o %}{{ p[0] }}={{ p[1] }};{% endfor %}", "globals": {"o": {"b": 2, "a": "x"}}, "written": "a=x;b=2;"}
 {"template": "{% for x in a %}{{ forloop.index }}{{ forloop.index0 }}{{ forloop.rindex }}{{ forloop.rindex0 }}{{ forloop.first }}{{ forloop.last }}{{ forloop.length }} {% endfor %}", "globals": {"a": [7, 8, 9]}, "written": "1032truefalse3 2121falsefalse3 3210falsetrue3 "}
 {"template": "{% for forloop in (1..2) %}{{ forloop }}{% endfor %}", "written": "12"}
+{"template": "{% for a in (1..3) %}{{ a }}{{ forloop.index0 }}{{ forloop.last }} {% endfor %}", "written": "10false 21false 32true "}
 {"template": "{% for i in (1..3) %}{% if i == 2 %}{% assign f = forloop %}{% endif %}{% endfor %}{{ f.index }}{{ f.first }}{{ f.last }}", "written": "2falsefalse"}
 {"template": "{% for i in (1..3) %}{% assign g = f %}{% assign f = forloop %}{{ g.index }}{{ f.index }} {% endfor %}", "globals": {"f": {"index": 0}}, "written": "01 12 23 "}
 {"template": "{% for x in a %}{% if forloop.first %}{% assign y = x %}{% endif %}{% endfor %}{{ y.n }}", "globals": {"a": [{"n": 1}, {"n": 2}, {"n": 3}]}, "written": "1"}
@@ -159,7 +160,7 @@ fn templates_of_the_library_come_to_what_they_mean(rt: HostRuntime) -> Result<()
     let language = library_language(alloc)?;
     all_hold::<_, _, _, OnDemand>(alloc, PLAIN, &language, 18)?;
     all_hold::<_, _, _, OnDemand>(alloc, CONDITIONS, &language, 18)?;
-    all_hold::<_, _, _, OnDemand>(alloc, LOOPS, &language, 52)?;
+    all_hold::<_, _, _, OnDemand>(alloc, LOOPS, &language, 53)?;
     all_hold::<_, _, _, OnDemand>(alloc, PARTIALS, &language, 21)
 }
 

@@ -49,12 +49,17 @@ WritesAsked asked place known listed left status =
 abbrev pub first_fault : ℕ → ℕ → ℕ
 first_fault status other = if status == 0 then other else status
 
+-- the page of one template, over globals and partials, goes to its file
+abbrev pub WritesOne : AskedPages → Names → Option Texts → List ℕ → (List ℕ → Option (Option (List ℕ))) → (List ℕ → Option (Option (List ℕ))) → ℕ → Type 0
+WritesOne pages globals partials template known =
+    WritesFile (ExecutesOne pages.options template globals partials known) (file_in (pages_folder pages.output) template) known
+
 -- the pages of these templates, one after another, over the same globals and partials; the status is the first that isn't 0
 abbrev pub WritesEach : AskedPages → Names → Option Texts → List (List ℕ) → (List ℕ → Option (Option (List ℕ))) → (List ℕ → Option (Option (List ℕ))) → ℕ → ℕ → Type 0
 WritesEach pages globals partials [] known left status result = Same known left × (result ≡ status)
 WritesEach pages globals partials (template ∷ templates) known left status result =
     (between : List ℕ → Option (Option (List ℕ))) × (one : ℕ)
-    × WritesFile (ExecutesOne pages.options template globals partials known) (file_in (pages_folder pages.output) template) known between one
+    × WritesOne pages globals partials template known between one
     × WritesEach pages globals partials templates between left (first_fault status one) result
 
 -- no page is written: a file can't be read as what it should be, or memory ran out

@@ -1,5 +1,6 @@
 -- What each step of reading returns: what was requested, or the status of a fault.
-use Rattle.std.specs.Prelude.{◌≡◌, ℕ, ◌⊎◌, List, [], ◌∷◌, Option, None, Some, Result, Ok, Err, String, string_bytes, ⊤}
+use Rattle.std.specs.Prelude.{◌≡◌, ℕ, ◌⊎◌, List, [], ◌∷◌, Option, None, Some, Result, Ok, Err, String, option_map, string_bytes, ⊤}
+use Rattle.std.specs.Borrow.{Bor}
 use Rattle.std.specs.declared.alloc.Global.{Global}
 use Rattle.liquid.specs.declared.fault.Fault.{Fault}
 use Rattle.liquid.specs.declared.folder.Unread.{Unread}
@@ -7,6 +8,10 @@ use Rattle.liquid.specs.declared.folder.Unread.TheVariants.{Fault as Absent, Mem
 use Rattle.liquid.specs.meaning.Files.{Request, Requests, also}
 use Rattle.liquid.specs.meaning.Requests.{Begins, IsMemory, OutOfMemory, Step, Trouble, first_trouble, reported, up_to_trouble}
 use Rattle.liquid.specs.meaning.Status.{fault_status}
+
+-- the text that is given, if one is
+abbrev pub given : Option (Bor (List ℕ)) → Option (List ℕ)
+given = option_map (λ text. text.now)
 
 -- what was requested can't be read, or memory ran out
 abbrev pub Stops : {A : Type 0} → Result A Fault → Type 0

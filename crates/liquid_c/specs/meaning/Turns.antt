@@ -1,5 +1,6 @@
 -- Pages that are rendered one after another into the same memory.
-use Rattle.std.specs.Prelude.{◌≡◌, ℕ, ◌+◌, List, [], ◌∷◌, ◌++◌, take, drop, nat_eq, if◌then◌else◌}
+use Rattle.std.specs.Prelude.{◌≡◌, ℕ, ◌+◌, List, [], ◌∷◌, ◌++◌, length, map, min, take, drop, nat_eq, if◌then◌else◌}
+use Rattle.std.specs.Borrow.{Bor}
 use Rattle.liquid_c.specs.declared.page.Outcome.{Outcome}
 
 -- one where the page is whole and in the memory
@@ -19,3 +20,8 @@ pub record AllTurns (P : List ℕ → List ℕ → List ℕ → Outcome → Type
   pub used : ℕ
   pub turns : InTurn P old (take count globals) (take count left) new used whole
   pub later : drop count left ≡ drop count outcomes
+
+-- the turns of pages over these globals, as far as there are outcomes
+abbrev pub TurnsOver : (List ℕ → List ℕ → List ℕ → Outcome → Type 0) → List (Bor (List ℕ)) → List ℕ → List ℕ → List Outcome → List Outcome → ℕ → Type 0
+TurnsOver P globals old new outcomes left whole =
+    AllTurns P (map (λ g. g.now) globals) old new outcomes left (min (length globals) (length outcomes)) whole

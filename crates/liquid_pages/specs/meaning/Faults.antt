@@ -1,5 +1,5 @@
 -- Why a page is not rendered, or not to its end.
-use Rattle.std.specs.Prelude.{◌≡◌, ℕ, List, Option, None, Some, Result, Ok, Err, option_map, IfSome, if◌then◌else◌}
+use Rattle.std.specs.Prelude.{◌≡◌, ℕ, List, Option, Some, Result, Ok, Err, option_map, IfSome, if◌then◌else◌}
 use Rattle.std.specs.Str.{is_utf8}
 use Rattle.liquid_error.specs.meaning.Refusal.{Refusal}
 use Rattle.liquid_error.specs.meaning.Told.{told}

@@ -1,5 +1,5 @@
 -- The result of rendering a page: a text in a language, over globals, with or without partials.
-use Rattle.std.specs.Prelude.{◌≡◌, ℕ, Bool, List, Option, None, Some, Result, Ok, Err}
+use Rattle.std.specs.Prelude.{◌≡◌, ℕ, Bool, List, Option, None, Some, Result, Ok, option_map}
 use Rattle.std.specs.FinMap.{empty}
 use Rattle.liquid_error.specs.declared.error.Error.{Error}
 use Rattle.liquid_error.specs.meaning.Refusal.{Refusal}
@@ -7,13 +7,18 @@ use Rattle.liquid_runtime.specs.meaning.Maps.{Names}
 use Rattle.liquid_runtime.specs.meaning.Frames.{built_view, leniently}
 use Rattle.liquid_runtime.specs.meaning.View.{View}
 use Rattle.liquid_plugins.specs.meaning.Nodes.{NodeShape, nodes_from}
+use Rattle.liquid_plugins.specs.meaning.NodesOf.{shapes_of}
 use Rattle.liquid_parser.specs.meaning.Lang.{Lang}
 use Rattle.liquid_parser.specs.meaning.Reading.{Reads}
+use Rattle.liquid_template.specs.declared.template.Template.{Template}
 use Rattle.liquid_template.specs.meaning.Nodes.{Setting}
+use Rattle.liquid_template.specs.meaning.OfTypes.{FilterType, NodeType}
 use Rattle.liquid_template.specs.meaning.Partials.{Found}
 use Rattle.liquid_template.specs.meaning.Sunk.{Sunk}
 use Rattle.liquid_template.specs.meaning.Rendering.{isolated_run, sandboxed_run, template_run}
 use Rattle.liquid_template.specs.meaning.Run.{Action}
+use Rattle.liquid_template.specs.meaning.Runs.{setting}
+use Rattle.liquid_template.specs.meaning.TemplateOf.{own_nodes}
 use Rattle.liquid_partials.specs.meaning.Compiled.{Compiled}
 use Rattle.liquid_partials.specs.meaning.Rendered.{RenderedBy}
 use Rattle.liquid_partials.specs.meaning.Sources.{Texts}
@@ -35,6 +40,10 @@ runtime_names Isolated globals = empty
 -- the view that rendering with these options begins with
 abbrev pub first_view : {Reg : Type 0} → Reg → PageOptions → Names → View Reg
 first_view fresh options globals = built_over fresh options.lenient (runtime_names options.frame globals)
+
+-- the nodes in a template, from the shapes of what plug-ins made
+abbrev pub nodes_in : {X N K F T B : Type 0} → (X → F) → (N → T) → (K → B) → Template X N K → List (NodeShape F T B)
+nodes_in filter tag block template = shapes_of filter tag block (own_nodes template)
 
 -- what a text is read as
 abbrev pub PageAnswer : Type 0 → Type 0 → Type 0 → Type 0
@@ -76,3 +85,17 @@ module _ {Reg F T P L B Q : Type 0} (s : Settings Reg F T P B Q) (l : Lang F T L
   abbrev pub Renders : List ℕ → Names → Option Texts → Sunk → Sunk → Result (Unit {0}) Error → Type 0
   Renders text globals partials before after result =
       (answer : PageAnswer F T B) → Reads l text answer → RendersAnswer answer globals partials before after result
+
+module _ {X N K Reg F T P B Q : Type 0} (fresh : Reg) (filter : FilterType X F) (tag : NodeType N T P Reg) (block : NodeType K B Q Reg) where
+  -- a template of these types was rendered in the same way
+  abbrev pub RendersTemplate : {L : Type 0} → Lang F T L B → PageOptions → Template X N K → Names → Option Texts → Sunk → Sunk → Result (Unit {0}) Error → Type 0
+  RendersTemplate l options template globals partials before after result =
+      RendersAnswer (setting fresh filter.means tag.means block.means) l options
+      (Ok (nodes_in filter.shape tag.shape block.shape template)) globals partials before after result
+
+  -- it was rendered over a store, whatever the language is, and the partials that the store finds; `L` is what blocks plan
+  abbrev pub RendersOver : {S : Type 0} → (L : Type 0) → (S → Found F T B) → PageOptions → Template X N K → Names → Option S
+      → Sunk → Sunk → Result (Unit {0}) Error → Type 0
+  RendersOver L finds options template globals store before after result =
+      (l : Lang F T L B) (partials : Option Texts) → IsFoundIn l partials (option_map finds store)
+      → RendersTemplate l options template globals partials before after result

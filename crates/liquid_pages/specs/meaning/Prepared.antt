@@ -6,13 +6,18 @@ use Rattle.liquid_plugins.specs.meaning.Nodes.{NodeShape}
 use Rattle.liquid_parser.specs.meaning.Lang.{Lang}
 use Rattle.liquid_parser.specs.meaning.Reading.{Reads}
 use Rattle.liquid_partials.specs.meaning.Sources.{Texts}
+use Rattle.liquid_template.specs.declared.template.Template.{Template as TemplateOf}
+use Rattle.liquid_template.specs.meaning.OfTypes.{FilterType, NodeType}
 use Rattle.liquid_template.specs.meaning.Partials.{Found}
+use Rattle.liquid_template.specs.meaning.Runs.{setting}
 use Rattle.liquid_pages.specs.declared.fault.PageText.TheVariants.{Template}
+use Rattle.liquid_pages.specs.declared.options.PageOptions.{PageOptions}
 use Rattle.liquid_pages.specs.declared.prepared.ReadTexts.{ReadTexts}
 use Rattle.liquid_pages.specs.declared.prepared.ReadTexts.TheVariants as read
 use Rattle.liquid_pages.specs.meaning.Faults.{no_text, text_read}
-use Rattle.liquid_pages.specs.meaning.Pages.{IsFoundIn, PageAnswer}
-use Rattle.liquid_pages.specs.meaning.Shown.{NameAndText, partials_read}
+use Rattle.liquid_pages.specs.declared.rendered.Rendered.{Rendered}
+use Rattle.liquid_pages.specs.meaning.Pages.{IsFoundIn, PageAnswer, nodes_in}
+use Rattle.liquid_pages.specs.meaning.Shown.{ComesTo, IsShown, NameAndText, Page, partials_read}
 
 -- by the nodes of a template and what a store finds, for a language and the bytes of a template
 module _ {X S F T L B : Type 0} (nodes : X → List (NodeShape F T B)) (finds : S → Found F T B) (l : Lang F T L B) (text : List ℕ) where
@@ -38,3 +43,20 @@ module _ {X S F T L B : Type 0} (nodes : X → List (NodeShape F T B)) (finds : 
   abbrev pub IsPrepared : List NameAndText → Option (ReadTexts X S) → Type 0
   IsPrepared partials None = text_read Template text ≡ Err (no_text Template)
   IsPrepared partials (Some texts) = (text_read Template text ≡ Ok text) × IsReadOver partials texts
+
+-- of whatever bytes, in whatever language, a page was prepared, it still is afterwards; `L` is what blocks plan
+abbrev pub StaysPrepared : {X S F T B : Type 0} → (L : Type 0) → (X → List (NodeShape F T B)) → (S → Found F T B)
+    → Option (ReadTexts X S) → Option (ReadTexts X S) → Type 0
+StaysPrepared {F = F} {T = T} {B = B} L nodes finds before after =
+    (l : Lang F T L B) (text : List ℕ) (partials : List NameAndText)
+    → IsPrepared nodes finds l text partials before → IsPrepared nodes finds l text partials after
+
+-- of whatever bytes, in whatever language, a page was prepared, what they come to over these globals is shown
+abbrev pub PreparedShows : {X N K S Reg F T P B Q : Type 0} → (L : Type 0)
+    → Reg → FilterType X F → NodeType N T P Reg → NodeType K B Q Reg → (S → Found F T B)
+    → PageOptions → List ℕ → Option (ReadTexts (TemplateOf X N K) S) → Rendered → Type 0
+PreparedShows {F = F} {T = T} {B = B} L fresh filter tag block finds options globals prepared rendered =
+    (l : Lang F T L B) (text : List ℕ) (partials : List NameAndText)
+    → IsPrepared (nodes_in filter.shape tag.shape block.shape) finds l text partials prepared
+    → (shown : Page) → ComesTo (setting fresh filter.means tag.means block.means) l options text globals partials shown
+    → IsShown shown rendered

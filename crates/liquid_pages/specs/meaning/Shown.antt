@@ -1,10 +1,9 @@
 -- What a page shows, by the bytes of its texts. They are read in this order: the template, the globals, each partial's
 -- name and then its text. Each of them must be UTF-8, and the globals must be an object of JSON. Then the template is
 -- parsed, and rendered.
-use Rattle.std.specs.Prelude.{◌≡◌, ℕ, suc, Bool, List, [], ◌∷◌, ◌++◌, Option, None, Some, Result, Ok, Err, MatchOption, option_map}
+use Rattle.std.specs.Prelude.{◌≡◌, ℕ, suc, List, [], ◌∷◌, ◌++◌, Option, None, Some, Result, Ok, Err, MatchOption, option_map}
 use Rattle.std.specs.FinMap.{empty, insert}
 use Rattle.liquid_error.specs.declared.error.Error.{Error}
-use Rattle.liquid_error.specs.meaning.Refusal.{Refusal}
 use Rattle.liquid_runtime.specs.meaning.Maps.{Names}
 use Rattle.liquid_plugins.specs.meaning.Nodes.{NodeShape}
 use Rattle.liquid_parser.specs.meaning.Lang.{Lang}
@@ -17,6 +16,7 @@ use Rattle.liquid_pages.specs.declared.fault.PageFault.TheVariants.{Refused}
 use Rattle.liquid_pages.specs.declared.gather.PartialBytes.{PartialBytes}
 use Rattle.liquid_pages.specs.declared.fault.PageText.TheVariants.{Template, Globals, PartialName, PartialText}
 use Rattle.liquid_pages.specs.declared.options.PageOptions.{PageOptions}
+use Rattle.liquid_pages.specs.declared.rendered.Rendered.{Rendered}
 use Rattle.liquid_pages.specs.meaning.Faults.{Fault, unparsed, refused, fault_told, and_then, text_read}
 use Rattle.liquid_pages.specs.meaning.Globals.{globals_read}
 use Rattle.liquid_pages.specs.meaning.Pages.{PageAnswer, Settings, IsFoundIn, first_register, first_view, page_action}
@@ -98,3 +98,7 @@ Begins output page = (left : List ℕ) × (page.output ≡ output ++ left)
 abbrev pub Shows : Page → List ℕ → Result (Unit {0}) PageFault → Type 0
 Shows page output (Ok _) = (output ≡ page.output) × (page.fault ≡ None)
 Shows page output (Err fault) = MatchOption (fault_told fault) (Begins output page) (λ f. (output ≡ page.output) × (page.fault ≡ Some f))
+
+-- what was rendered to memory shows the page
+abbrev pub IsShown : Page → Rendered → Type 0
+IsShown page rendered = Shows page rendered.output.bytes.items rendered.end

@@ -107,3 +107,12 @@ FindsAll of l outside (Err error) block es = IfSome (told error) (λ r. AllRead 
 abbrev pub IsAll : {A N : Type 0} → (A → List N) → Result A Error → TagBlock → Result (List N × List Element) Refusal → Type 0
 IsAll of (Ok nodes) block meant = (left : List Element) × Cover block.rest.now left × (meant ≡ Ok (of nodes, left))
 IsAll of (Err error) block meant = IfSome (told error) (λ r. meant ≡ Err r)
+
+-- the next node, by what is meant of the elements that were left before
+abbrev pub ParsedNextFrom : {A N : Type 0} → (A → N) → Result (Option A) Error → (old new : TagBlock) → (List Element → Result (Option (List N) × List Element) Refusal) → Type 0
+ParsedNextFrom of result old new meant = (es : List Element) → Cover old.rest.now es → ParsedNext of result new (meant es)
+
+-- all nodes: whatever the elements that were left before are read as, the call returns it, or is out of memory
+abbrev pub IsEachReading : {F T P B A : Type 0} → (A → List (NodeShape F T B)) → Lang F T P B → ℕ → Result A Error → (old new : TagBlock) → Type 0
+IsEachReading {F} {T} {P} {B} of l outside result old new = (es : List Element) (a : Result (List (NodeShape F T B) × List Element) Refusal)
+    → Cover old.rest.now es → AllRead l old.source.now old.end_name.now outside es a → IsAll of result new a

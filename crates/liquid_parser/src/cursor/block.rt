@@ -1,13 +1,11 @@
 //! The cursor over the elements of a block.
-ghost use Rattle.std.specs.Prelude.{◌≡◌, ◌<◌, ℕ, false, true, List, [], Ok, None, IfOk, is_none, Result};
+ghost use Rattle.std.specs.Prelude.{◌≡◌, ◌<◌, ℕ, false, true, List, [], Ok, None, IfOk, is_none};
 ghost use Rattle.liquid_error.specs.meaning.Told.{Gives};
 ghost use Rattle.liquid_grammar.specs.meaning.Cover.{Cover};
 ghost use Rattle.liquid_parser.specs.meaning.BlockReading.{or_end, handed_out, behind_first, bytes_left, end_or, next_read};
-ghost use Rattle.liquid_parser.specs.meaning.BlockReading.{HandsOut, Passes, Escapes, AllRead, FindsAll, IsAll, ParsedNext};
+ghost use Rattle.liquid_parser.specs.meaning.BlockReading.{HandsOut, Passes, Escapes, FindsAll, IsEachReading, ParsedNextFrom};
 ghost use Rattle.liquid_parser.specs.meaning.Elements.{StandsFor};
 ghost use Rattle.liquid_plugins.specs.meaning.NodesOf.{node_of, shapes_of};
-ghost use Rattle.liquid_plugins.specs.meaning.Nodes.{NodeShape};
-ghost use Rattle.liquid_error.specs.meaning.Refusal.{Refusal};
 ghost use Rattle.liquid_parser.specs.meaning.Plugins.{language_of};
 ghost use Rattle.liquid_grammar.specs.meaning.Cover as cover;
 ghost use Rattle.liquid_parser.specs.meaning.Reading as spec;
@@ -131,23 +129,17 @@ impl<'a, 'n> TagBlock<'a, 'n> {
         alloc: Global,
         language: &Language<F, T, B>,
     ) -> std::result::Result<Option<Node<F::Filter, T::Node, B::Node>>, Error>
-        ensures open { self.old.is_closed ≡ false → (es : List cover.Element) → Cover self.old.rest.now es
-            → ParsedNext (node_of F.Filter.shape T.Node.shape B.Node.shape) result self.new
-            (next_read (language_of F.makes T.gives B.block language.now) self.old.source.now self.old.end_name.now 1 es) }
+        ensures open { self.old.is_closed ≡ false
+            → ParsedNextFrom (node_of F.Filter.shape T.Node.shape B.Node.shape) result self.old self.new
+            (next_read (language_of F.makes T.gives B.block language.now) self.old.source.now self.old.end_name.now 1) }
         ensures closed { self.old.is_closed ≡ true → (result ≡ Ok None) × (self.new ≡ self.old) }
         ensures ends { IfOk result (λ found. self.new.is_closed ≡ is_none found) }
         ensures passes { Passes self.old self.new }
         ensures shorter { self.old.is_closed ≡ false → IfOk result (λ _. bytes_left self.new < bytes_left self.old) }
     {
-        match self.next(alloc) {
-            Ok(found) => match found {
-                Some(element) => match element.parse(alloc, self, language) {
-                    Ok(node) => Ok(Some(node)),
-                    Err(error) => Err(error),
-                },
-                None => Ok(None),
-            },
-            Err(error) => Err(error),
+        match self.next(alloc)? {
+            Some(element) => Ok(Some(element.parse(alloc, self, language)?)),
+            None => Ok(None),
         }
     }
 
@@ -162,23 +154,18 @@ impl<'a, 'n> TagBlock<'a, 'n> {
         ensures found { self.old.is_closed ≡ false → (es : List cover.Element) → Cover self.old.rest.now es
             → FindsAll (λ v. shapes_of F.Filter.shape T.Node.shape B.Node.shape v.items)
             (language_of F.makes T.gives B.block language.now) 1 result self.new es }
-        ensures only { self.old.is_closed ≡ false → (es : List cover.Element)
-            (a : Result (List (NodeShape F.Filter.Shape T.Node.Shape B.Node.Shape) × List cover.Element) Refusal)
-            → Cover self.old.rest.now es
-            → AllRead (language_of F.makes T.gives B.block language.now) self.old.source.now self.old.end_name.now 1 es a
-            → IsAll (λ v. shapes_of F.Filter.shape T.Node.shape B.Node.shape v.items) result self.new a }
+        ensures only { self.old.is_closed ≡ false
+            → IsEachReading (λ v. shapes_of F.Filter.shape T.Node.shape B.Node.shape v.items)
+            (language_of F.makes T.gives B.block language.now) 1 result self.old self.new }
         ensures closed { self.old.is_closed ≡ true → IfOk result (λ v. v.items ≡ []) × (self.new ≡ self.old) }
         ensures ends { IfOk result (λ _. self.new.is_closed ≡ true) }
         ensures passes { Passes self.old self.new }
     {
         let mut nodes = Vec::new(alloc);
         'nodes: while !self.is_closed {
-            match self.parse_next(alloc, language) {
-                Ok(found) => match found {
-                    Some(node) => nodes.push(node)?,
-                    None => {}
-                },
-                Err(error) => return Err(error),
+            match self.parse_next(alloc, language)? {
+                Some(node) => nodes.push(node)?,
+                None => {}
             }
         }
         Ok(nodes)

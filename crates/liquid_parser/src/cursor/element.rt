@@ -1,7 +1,7 @@
 //! The elements of a source, one by one: their texts, and their nodes.
 ghost use Rattle.std.specs.Prelude.{◌≡◌, ◌∷◌, ℕ, List, IfOk, IfSome, codes};
 ghost use Rattle.liquid_error.specs.meaning.Told.{told, Gives};
-ghost use Rattle.liquid_grammar.specs.meaning.Cover.{IsElement, text_of, Cover};
+ghost use Rattle.liquid_grammar.specs.meaning.Cover.{IsElement, text_of};
 ghost use Rattle.liquid_grammar.specs.meaning.Elements.{Means};
 ghost use Rattle.liquid_plugins.specs.meaning.NodesOf.{node_of, IsText};
 ghost use Rattle.liquid_parser.specs.meaning.Elements.{IfElement, IfExpression, IsInvalid, StandsFor};
@@ -9,7 +9,7 @@ ghost use Rattle.liquid_parser.specs.meaning.ElementReading.{HandsOver, node_rea
 ghost use Rattle.liquid_parser.specs.meaning.Plugins.{registry_of, language_of};
 ghost use Rattle.liquid_parser.specs.meaning.Reading.{expression_read, refused_at};
 ghost use Rattle.liquid_parser.specs.meaning.WholeTag.{Refuses};
-ghost use Rattle.liquid_parser.specs.meaning.BlockReading.{Parsed, Passes};
+ghost use Rattle.liquid_parser.specs.meaning.BlockReading.{ParsedFrom, Passes};
 ghost use Rattle.liquid_grammar.specs.meaning.Cover as cover;
 
 use crate::chain::fast_path::{name_node, no_expression};
@@ -167,10 +167,9 @@ impl<'a> BlockElement<'a> {
         block: &mut TagBlock<'_, '_>,
         language: &Language<F, T, B>,
     ) -> std::result::Result<Node<F::Filter, T::Node, B::Node>, Error>
-        ensures value { (own behind : List ℕ) (e : cover.Element) (es : List cover.Element)
-            → StandsFor self.entry own behind e → Cover block.old.rest.now es
-            → Parsed (node_of F.Filter.shape T.Node.shape B.Node.shape) result block.new
-            (node_read (language_of F.makes T.gives B.block language.now) block.old.source.now 1 own behind e es) }
+        ensures value { IfElement self.entry (λ own behind e.
+            ParsedFrom (node_of F.Filter.shape T.Node.shape B.Node.shape) result block.old block.new
+            (node_read (language_of F.makes T.gives B.block language.now) block.old.source.now 1 own behind e)) }
         ensures passes { Passes block.old block.new }
         ensures closed { block.new.is_closed ≡ block.old.is_closed }
     {

@@ -70,14 +70,8 @@ fn read_nodes<'a, F: ParseFilter + Drop, T: ParseTag<F> + Drop, B: ParseBlock<F>
             Walked::NoExpression => return Err(no_expression(alloc, text, match_white(rest).1)),
             Walked::Undecided => match next_element(rest) {
                 Some((found, behind)) => {
-                    let element = match hand_over(alloc, text, rest, found) {
-                        Ok(element) => element,
-                        Err(error) => return Err(error),
-                    };
-                    match advance(alloc, 0, text, &mut state, element, behind, language) {
-                        Ok(after) => rest = after,
-                        Err(error) => return Err(error),
-                    }
+                    let element = hand_over(alloc, text, rest, found)?;
+                    rest = advance(alloc, 0, text, &mut state, element, behind, language)?;
                 }
                 None => return end_reading::<F, T, B>(alloc, text, state),
             },

@@ -1,5 +1,7 @@
 //! The laws of the comparisons of scalars. Each function only states its law.
-ghost use Rattle.liquid_scalar.specs.laws.ScalarLaws.{LooseEqualityIsReflexive, LooseEqualityIsSymmetric, OrderSwappedIsReversed, EqualInOrderIsLooselyEqual, StrictEqualityIsEquivalence, StrictlyEqualIsLooselyEqual, HashAgreesWithEquality};
+ghost use Rattle.liquid_scalar.specs.laws.ScalarLaws.{LooseEqualityIsReflexive, LooseEqualityIsSymmetric, OrderSwappedIsReversed};
+ghost use Rattle.liquid_scalar.specs.laws.ScalarLaws.{EqualInOrderIsLooselyEqual, StrictEqualityIsEquivalence};
+ghost use Rattle.liquid_scalar.specs.laws.ScalarLaws.{StrictlyEqualIsLooselyEqual, HashAgreesWithEquality};
 
 /// Each scalar loosely equals itself.
 #[tactic(auto, using(crate::specs::steps::ScalarLawProofs::loose_refl))]

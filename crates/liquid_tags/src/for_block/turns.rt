@@ -1,14 +1,14 @@
 //! The turns of a loop.
-ghost use Rattle.std.specs.Prelude.{◌≡◌, codes, drop, option_map, slice_get, string_bytes, true, None, IfOk, IfSome, OnOk};
+ghost use Rattle.std.specs.Prelude.{◌≡◌, drop, option_map, slice_get, string_bytes, IfOk, OnOk};
 ghost use Rattle.liquid_error.specs.meaning.Told.{Gives};
 ghost use Rattle.liquid_value.specs.meaning.View.{view as tree_of};
 ghost use Rattle.liquid_runtime.specs.meaning.Maps.{names_of};
 ghost use Rattle.liquid_runtime.specs.meaning.Written.{SameFrames};
 ghost use Rattle.liquid_plugins.specs.meaning.TurnOf.{turn_of, Leaves, LeavesProgress};
 ghost use Rattle.liquid_tags.specs.meaning.Loops.{behind, forloop, item_turn, loop_takes, names_of_item, rounds_of};
-ghost use Rattle.liquid_tags.specs.steps.Reuse.{IsWritten, Writes};
 
 use crate::for_block::kept::Kept;
+use crate::for_block::reuse::{Written, write_over};
 use crate::for_block::rounds::Rounds;
 use crate::names::bind;
 use liquid_core::runtime::Interrupt;
@@ -86,7 +86,7 @@ pub fn item_turn(
 
 /// Returns the object `forloop` of the item at a place: that of the item before, written over.
 #[inline(always)]
-fn forloop(
+pub(crate) fn forloop(
     alloc: Global,
     kept: &mut Option<Kept>,
     place: u64,
@@ -144,73 +144,4 @@ fn new_names(
     bind(alloc, &mut names, "forloop", loop_object)?;
     bind(alloc, &mut names, name.as_str(), item)?;
     Ok(names)
-}
-
-/// Names that were written over, or the item for which others must be made.
-pub(crate) enum Written {
-    Names(Object),
-    Item(Value),
-}
-
-/// Writes the object `forloop` and an item over those of the turn before, if the names are just these two.
-#[inline(always)]
-fn write_over(
-    alloc: Global,
-    name: &String,
-    kept: &mut Option<Kept>,
-    names: Object,
-    place: u64,
-    size: u64,
-    item: Value,
-) -> Result<Written, AllocError>
-    ensures { IfOk result (λ written.
-        IsWritten (names_of_item (string_bytes name.now) (forloop place size) (tree_of item)) (tree_of item) written) }
-{
-    let mut names = names;
-    if names.len() != 2 || name.as_str() == "forloop" {
-        return Ok(Written::Item(item));
-    }
-    if !write_loop(alloc, &mut names, kept, place, size)? {
-        return Ok(Written::Item(item));
-    }
-    match write_name(&mut names, name.as_str(), item) {
-        Some(item) => Ok(Written::Item(item)),
-        None => Ok(Written::Names(names)),
-    }
-}
-
-/// Writes the object `forloop` of an item over that of the turn before, if the names have one. The frame's share of the
-/// object is dropped first, so that only the loop has a share and can change the object in place.
-fn write_loop(
-    alloc: Global,
-    names: &mut Object,
-    kept: &mut Option<Kept>,
-    place: u64,
-    size: u64,
-) -> Result<bool, AllocError>
-    ensures { IfOk result (λ is_written.
-        is_written ≡ true → Writes (codes "forloop") (forloop place size) names.old.entries names.new.entries) }
-{
-    match names.get_mut("forloop") {
-        Some(slot) => {
-            *slot = Value::Nil;
-            *slot = forloop(alloc, kept, place, size)?;
-            Ok(true)
-        }
-        None => Ok(false),
-    }
-}
-
-/// Writes a value over that of a name, and returns it if there is no such name.
-fn write_name(names: &mut Object, name: &str, value: Value) -> Option<Value>
-    ensures written { result ≡ None → Writes name.now (tree_of value) names.old.entries names.new.entries }
-    ensures back { IfSome result (λ back. back ≡ value) }
-{
-    match names.get_mut(name) {
-        Some(slot) => {
-            *slot = value;
-            None
-        }
-        None => Some(value),
-    }
 }

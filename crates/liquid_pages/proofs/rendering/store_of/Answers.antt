@@ -1,4 +1,4 @@
-use Rattle.std.proofs.Common.{ap, option_map, rules, ◌∙◌}
+use Rattle.std.proofs.Common.{ap, option_map, rules}
 use Rattle.liquid_pages.proofs.PageLemmas.{found_in}
 use Rattle.liquid_pages.proofs.rendering.store_of.Goals as goal
 

@@ -1,4 +1,5 @@
 use Rattle.std.proofs.Common.{Ok, sym, ap, ◌∙◌}
+use Rattle.std.proofs.lemmas.Result.{err_from_is_err_and}
 use Rattle.liquid_error.specs.meaning.Told.{told}
 use Rattle.liquid_plugins.specs.meaning.NodesOf.{nodes_of}
 use Rattle.liquid_parser.specs.meaning.Plugins.{language_of}
@@ -7,13 +8,14 @@ use Rattle.liquid_partials.specs.meaning.Kept.{reading}
 use Rattle.liquid_partials.proofs.StoreLemmas.{if_some, reading_reads}
 use Rattle.liquid_partials.proofs.readings.parsed.Goals as goal
 
-pub returns-in-Ok : goal.returns-in-Ok
-returns-in-Ok g c =
+pub returns : goal.returns
+returns g c =
     let l = (language_of g.F.ParseFilter.makes g.T.ParseTag.gives g.B.ParseBlock.block c.args.language.now) in
-    ap as_tree (c.in-Ok.ensures.only (reading l c.args.text.now) (reading_reads l c.args.text.now))
+    ap as_tree (c.in_ok-parse.ensures.only (reading l c.args.text.now) (reading_reads l c.args.text.now))
     ∙ ap (λ nodes. Ok (nodes_of g.F.Filter.Meant.shape g.T.Node.Meant.shape g.B.Node.Meant.shape nodes)) (sym c.new.ensures)
 
-pub returns-in-Err : goal.returns-in-Err
-returns-in-Err g c =
+pub returns-in_err-parse : goal.returns-in_err-parse
+returns-in_err-parse g c =
     let l = (language_of g.F.ParseFilter.makes g.T.ParseTag.gives g.B.ParseBlock.block c.args.language.now) in
-    if_some (told c.in-Err.error) (λ r e. ap as_tree e) (c.in-Err.ensures.only (reading l c.args.text.now) (reading_reads l c.args.text.now))
+    let p = err_from_is_err_and c.from_residual.result c.from_residual.ensures.1 in
+    rw (p.1, p.2) (if_some (told c.in_err-parse.field-0.0) (λ r e. ap as_tree e) (c.in_err-parse.ensures.only (reading l c.args.text.now) (reading_reads l c.args.text.now)))

@@ -1,17 +1,13 @@
-use Rattle.std.proofs.Common.{rules, refl, ap, ◌∙◌}
-use Rattle.std.specs.Prelude.{option_map}
-use Rattle.liquid_error.specs.declared.error.Error.{the_lemmas}
-use Rattle.liquid_tags.specs.meaning.Languages.{meaning_of}
-use Rattle.liquid_tags.proofs.PageLemmas.{compiled_alike, no_page, page_over}
+use Rattle.std.proofs.lemmas.Result.{err_from_is_err_and}
+use Rattle.liquid_parser.specs.meaning.Plugins.{registry_of}
+use Rattle.liquid_partials.proofs.PageLemmas.{no_page}
+use Rattle.liquid_tags.proofs.PageLemmas.{page_in}
 use Rattle.liquid_tags.proofs.pages.render_page.Goals as goal
 
-pub returns-in-Ok-store_of : goal.returns-in-Ok-store_of
-returns-in-Ok-store_of g c =
-    page_over _ _ c.args.text.now _ _ _ _ _ _ _ _ _ _ c.render_source.ensures.rendered (ap (meaning_of _) c.deref.ensures ∙ c.in-Ok.ensures) (ap (option_map _) c.runtime_of-runtime.ensures.store) c.runtime_of-runtime.ensures.view
-    (compiled_alike _ _ _ _ _ c.in-Ok.ensures refl c.in-Ok-store_of.ensures)
+pub returns-in_err-language : goal.returns-in_err-language
+returns-in_err-language g c =
+    let p = err_from_is_err_and c.from_residual.result c.from_residual.ensures.1 in
+    rw p.1 (no_page _ _ _ c.args.text.now _ _ _ _ p.2)
 
-pub returns-in-Err-store_of : goal.returns-in-Err-store_of
-returns-in-Err-store_of g c = no_page _ _ c.args.text.now _ _ _ _ (search (rules, the_lemmas))
-
-pub returns-in-Err : goal.returns-in-Err
-returns-in-Err g c = no_page _ _ c.args.text.now _ _ _ _ (search (rules, the_lemmas))
+pub returns : goal.returns
+returns g c = page_in g.F.Filter.Filter.means (registry_of g.F.ParseFilter.makes c.args.filters) _ c.args.text.now _ _ _ _ _ c.in_ok-language.ensures.means c.render_page_in.ensures

@@ -1,5 +1,6 @@
 use Rattle.std.proofs.Common.{[], Ok, refl, sym, ap, ◌∙◌, subst, rules, arith, length}
 use Rattle.std.proofs.lemmas.List.{length-append}
+use Rattle.std.proofs.lemmas.Result.{err_from_is_err_and}
 use Rattle.liquid_grammar.specs.meaning.Cover.{expression, invalid}
 use Rattle.liquid_plugins.specs.meaning.NodesOf.{node_of, shapes_of}
 use Rattle.liquid_parser.specs.meaning.Plugins.{language_of}
@@ -33,28 +34,30 @@ pub elements-preserved : goal.elements-preserved
 elements-preserved g c =
     let goes = c.elements.invariant.1 in
     let found = c.in-Some.ensures.found in
-    let over = c.in-Ok.ensures c.in-Some.behind.now found.0 found.1 found.2 in (
+    let over = c.in_ok-element-in-Some.ensures c.in-Some.behind.now found.0 found.1 found.2 in (
       search rules,
-      Goes-on (language_of g.F.ParseFilter.makes g.T.ParseTag.gives g.B.ParseBlock.block c.args.language.now) c.args.text.now _ _ found.0 (blocks_view g.F.Filter.Meant.shape g.T.Node.Meant.shape g.B.Node.Meant.shape g.B.Plan.Meant.shape g.B.ParseBlock.block c.elements.state.open.items) (shapes_of g.F.Filter.Meant.shape g.T.Node.Meant.shape g.B.Node.Meant.shape c.elements.state.nodes.items) (state_view g.F.Filter.Meant.shape g.T.Node.Meant.shape g.B.Node.Meant.shape g.B.Plan.Meant.shape g.B.ParseBlock.block c.advance.new.state) c.in-Ok-advance.after.now goes found.1 (λ es cover. c.in-Ok-advance.ensures.value c.args.text.now c.in-Some.behind.now found.0 over.1 es cover),
+      Goes-on (language_of g.F.ParseFilter.makes g.T.ParseTag.gives g.B.ParseBlock.block c.args.language.now) c.args.text.now _ _ found.0 (blocks_view g.F.Filter.Meant.shape g.T.Node.Meant.shape g.B.Node.Meant.shape g.B.Plan.Meant.shape g.B.ParseBlock.block c.elements.state.open.items) (shapes_of g.F.Filter.Meant.shape g.T.Node.Meant.shape g.B.Node.Meant.shape c.elements.state.nodes.items) (state_view g.F.Filter.Meant.shape g.T.Node.Meant.shape g.B.Node.Meant.shape g.B.Plan.Meant.shape g.B.ParseBlock.block c.advance.new.state) c.in_ok-rest-in-Some.rest.now goes found.1 (λ es cover. c.in_ok-rest-in-Some.ensures.value c.args.text.now c.in-Some.behind.now found.0 over.1 es cover),
     )
 
 pub elements-smaller : goal.elements-smaller
 elements-smaller g c =
-    let front = c.in-Ok-advance.ensures.within in
-    omega (arith, c.in-Some.ensures.shorter, ap length front.1, length-append front.0 c.in-Ok-advance.after.now)
+    let front = c.in_ok-rest-in-Some.ensures.within in
+    omega (arith, c.in-Some.ensures.shorter, ap length front.1, length-append front.0 c.in_ok-rest-in-Some.rest.now)
 
-pub returns-in-Err : goal.returns-in-Err
-returns-in-Err g c =
+pub returns-in_err-element-in-Some : goal.returns-in_err-element-in-Some
+returns-in_err-element-in-Some g c =
     let goes = c.elements.invariant.1 in
     let found = c.in-Some.ensures.found in
-    unchecked (language_of g.F.ParseFilter.makes g.T.ParseTag.gives g.B.ParseBlock.block c.args.language.now) c.args.text.now _ _ found.0 (blocks_view g.F.Filter.Meant.shape g.T.Node.Meant.shape g.B.Node.Meant.shape g.B.Plan.Meant.shape g.B.ParseBlock.block c.elements.state.open.items) (shapes_of g.F.Filter.Meant.shape g.T.Node.Meant.shape g.B.Node.Meant.shape c.elements.state.nodes.items) _ goes found.1 (c.in-Err.ensures c.in-Some.behind.now found.0 found.1 found.2)
+    let p = err_from_is_err_and c.from_residual-in_err-element-in-Some.result c.from_residual-in_err-element-in-Some.ensures.1 in
+    rw (p.1, p.2) (unchecked (language_of g.F.ParseFilter.makes g.T.ParseTag.gives g.B.ParseBlock.block c.args.language.now) c.args.text.now _ _ found.0 (blocks_view g.F.Filter.Meant.shape g.T.Node.Meant.shape g.B.Node.Meant.shape g.B.Plan.Meant.shape g.B.ParseBlock.block c.elements.state.open.items) (shapes_of g.F.Filter.Meant.shape g.T.Node.Meant.shape g.B.Node.Meant.shape c.elements.state.nodes.items) _ goes found.1 (c.in_err-element-in-Some.ensures c.in-Some.behind.now found.0 found.1 found.2))
 
-pub returns-in-Err-advance : goal.returns-in-Err-advance
-returns-in-Err-advance g c =
+pub returns-in_err-rest-in-Some : goal.returns-in_err-rest-in-Some
+returns-in_err-rest-in-Some g c =
     let goes = c.elements.invariant.1 in
     let found = c.in-Some.ensures.found in
-    let over = c.in-Ok.ensures c.in-Some.behind.now found.0 found.1 found.2 in
-    refused (language_of g.F.ParseFilter.makes g.T.ParseTag.gives g.B.ParseBlock.block c.args.language.now) c.args.text.now _ _ found.0 (blocks_view g.F.Filter.Meant.shape g.T.Node.Meant.shape g.B.Node.Meant.shape g.B.Plan.Meant.shape g.B.ParseBlock.block c.elements.state.open.items) (shapes_of g.F.Filter.Meant.shape g.T.Node.Meant.shape g.B.Node.Meant.shape c.elements.state.nodes.items) _ goes found.1 (λ es cover. c.in-Err-advance.ensures.value c.args.text.now c.in-Some.behind.now found.0 over.1 es cover)
+    let over = c.in_ok-element-in-Some.ensures c.in-Some.behind.now found.0 found.1 found.2 in
+    let p = err_from_is_err_and c.from_residual-in_err-rest-in-Some.result c.from_residual-in_err-rest-in-Some.ensures.1 in
+    rw (p.1, p.2) (refused (language_of g.F.ParseFilter.makes g.T.ParseTag.gives g.B.ParseBlock.block c.args.language.now) c.args.text.now _ _ found.0 (blocks_view g.F.Filter.Meant.shape g.T.Node.Meant.shape g.B.Node.Meant.shape g.B.Plan.Meant.shape g.B.ParseBlock.block c.elements.state.open.items) (shapes_of g.F.Filter.Meant.shape g.T.Node.Meant.shape g.B.Node.Meant.shape c.elements.state.nodes.items) _ goes found.1 (λ es cover. c.in_err-rest-in-Some.ensures.value c.args.text.now c.in-Some.behind.now found.0 over.1 es cover))
 
 pub returns-in-None : goal.returns-in-None
 returns-in-None g c =

@@ -1,4 +1,5 @@
 use Rattle.std.proofs.Common.{◌≡◌, false, true, ap, refl}
+use Rattle.std.proofs.lemmas.Result.{err_from_is_err_and}
 use Rattle.liquid_error.specs.meaning.Told.{told}
 use Rattle.liquid_plugins.specs.meaning.NodesOf.{node_of, shapes_of}
 use Rattle.liquid_parser.specs.meaning.Plugins.{language_of}
@@ -7,12 +8,12 @@ use Rattle.liquid_parser.proofs.ParsedLemmas.{passes_on}
 use Rattle.liquid_parser.proofs.StepLemmas.{last_node}
 use Rattle.liquid_parser.proofs.cursor.block.TagBlock.parse_all.Goals as goal
 
-pub nodes-preserved-in-Continue-1 : goal.nodes-preserved-in-Continue-1
-nodes-preserved-in-Continue-1 g c =
+pub nodes-preserved-in-Continue-branch-3 : goal.nodes-preserved-in-Continue-branch-3
+nodes-preserved-in-Continue-branch-3 g c =
     let is_open : c.nodes.self.is_closed ≡ false = c.nodes-test.true in (
       passes_on c.args.self.now c.nodes.self c.parse_next.new.self c.nodes.invariant.0 c.parse_next.ensures.passes,
       λ was_open. goes_node (language_of g.F.ParseFilter.makes g.T.ParseTag.gives g.B.ParseBlock.block c.args.language.now) 1 (node_of g.F.Filter.Meant.shape g.T.Node.Meant.shape g.B.Node.Meant.shape) c.args.self.now c.nodes.self c.nodes.invariant.0 c.parse_next.new.self c.in-Some.node _ _ is_open (c.nodes.invariant.1 was_open)
-          (last_node (node_of g.F.Filter.Meant.shape g.T.Node.Meant.shape g.B.Node.Meant.shape) c.nodes.nodes.items c.in-Some.node _ c.in_ok-push-in-Some.ensures.items refl) (λ es cover. rw c.in-Some.is at c.in-Ok.ensures.open is_open es cover),
+          (last_node (node_of g.F.Filter.Meant.shape g.T.Node.Meant.shape g.B.Node.Meant.shape) c.nodes.nodes.items c.in-Some.node _ c.in_ok-push-in-Some.ensures.items refl) (λ es cover. rw c.in-Some.is at c.in_ok-node.ensures.open is_open es cover),
       λ shut. still_closed c.args.self.now c.nodes.self is_open (c.nodes.invariant.2 shut).1 shut,
     )
 
@@ -20,28 +21,30 @@ pub nodes-preserved : goal.nodes-preserved
 nodes-preserved g c =
     let is_open : c.nodes.self.is_closed ≡ false = c.nodes-test.true in (
       passes_on c.args.self.now c.nodes.self c.parse_next.new.self c.nodes.invariant.0 c.parse_next.ensures.passes,
-      λ was_open. goes_end (language_of g.F.ParseFilter.makes g.T.ParseTag.gives g.B.ParseBlock.block c.args.language.now) 1 (node_of g.F.Filter.Meant.shape g.T.Node.Meant.shape g.B.Node.Meant.shape) c.args.self.now c.nodes.self c.nodes.invariant.0 c.parse_next.new.self _ is_open (c.nodes.invariant.1 was_open) (λ es cover. rw c.in-None.is at c.in-Ok.ensures.open is_open es cover),
+      λ was_open. goes_end (language_of g.F.ParseFilter.makes g.T.ParseTag.gives g.B.ParseBlock.block c.args.language.now) 1 (node_of g.F.Filter.Meant.shape g.T.Node.Meant.shape g.B.Node.Meant.shape) c.args.self.now c.nodes.self c.nodes.invariant.0 c.parse_next.new.self _ is_open (c.nodes.invariant.1 was_open) (λ es cover. rw c.in-None.is at c.in_ok-node.ensures.open is_open es cover),
       λ shut. still_closed c.args.self.now c.nodes.self is_open (c.nodes.invariant.2 shut).1 shut,
     )
 
 pub returns-in_err-push-in-Some-clause-passes : goal.returns-in_err-push-in-Some-clause-passes
 returns-in_err-push-in-Some-clause-passes g c = passes_on c.args.self.now c.nodes.self c.parse_next.new.self c.nodes.invariant.0 c.parse_next.ensures.passes
 
-pub returns-in-Err-clause-passes : goal.returns-in-Err-clause-passes
-returns-in-Err-clause-passes g c = passes_on c.args.self.now c.nodes.self c.parse_next.new.self c.nodes.invariant.0 c.parse_next.ensures.passes
+pub returns-in_err-node-clause-passes : goal.returns-in_err-node-clause-passes
+returns-in_err-node-clause-passes g c = passes_on c.args.self.now c.nodes.self c.parse_next.new.self c.nodes.invariant.0 c.parse_next.ensures.passes
 
-pub returns-in-Err-clause-found : goal.returns-in-Err-clause-found
-returns-in-Err-clause-found g c was_open es cover =
+pub returns-in_err-node-clause-found : goal.returns-in_err-node-clause-found
+returns-in_err-node-clause-found g c was_open es cover =
     let is_open : c.nodes.self.is_closed ≡ false = c.nodes-test.true in
     let passes = passes_on c.args.self.now c.nodes.self c.parse_next.new.self c.nodes.invariant.0 c.parse_next.ensures.passes in
-    found_err (language_of g.F.ParseFilter.makes g.T.ParseTag.gives g.B.ParseBlock.block c.args.language.now) 1 (node_of g.F.Filter.Meant.shape g.T.Node.Meant.shape g.B.Node.Meant.shape) c.args.self.now c.parse_next.new.self passes (told c.in-Err.error) es
-    (goes_refused (language_of g.F.ParseFilter.makes g.T.ParseTag.gives g.B.ParseBlock.block c.args.language.now) 1 (node_of g.F.Filter.Meant.shape g.T.Node.Meant.shape g.B.Node.Meant.shape) c.args.self.now c.nodes.self c.nodes.invariant.0 (told c.in-Err.error) _ is_open (c.nodes.invariant.1 was_open) (λ es cover. c.in-Err.ensures.open is_open es cover) es cover)
+    let p = err_from_is_err_and c.from_residual.result c.from_residual.ensures.1 in
+    rw (p.1, p.2) (found_err (language_of g.F.ParseFilter.makes g.T.ParseTag.gives g.B.ParseBlock.block c.args.language.now) 1 (node_of g.F.Filter.Meant.shape g.T.Node.Meant.shape g.B.Node.Meant.shape) c.args.self.now c.parse_next.new.self passes (told c.in_err-node.field-0.0) es
+    (goes_refused (language_of g.F.ParseFilter.makes g.T.ParseTag.gives g.B.ParseBlock.block c.args.language.now) 1 (node_of g.F.Filter.Meant.shape g.T.Node.Meant.shape g.B.Node.Meant.shape) c.args.self.now c.nodes.self c.nodes.invariant.0 (told c.in_err-node.field-0.0) _ is_open (c.nodes.invariant.1 was_open) (λ es cover. c.in_err-node.ensures.open is_open es cover) es cover))
 
-pub returns-in-Err-clause-only : goal.returns-in-Err-clause-only
-returns-in-Err-clause-only g c was_open es a cover all =
+pub returns-in_err-node-clause-only : goal.returns-in_err-node-clause-only
+returns-in_err-node-clause-only g c was_open es a cover all =
     let is_open : c.nodes.self.is_closed ≡ false = c.nodes-test.true in
-    only_err (language_of g.F.ParseFilter.makes g.T.ParseTag.gives g.B.ParseBlock.block c.args.language.now) 1 (told c.in-Err.error) es c.args.self.now.source.now c.args.self.now.end_name.now a
-    (goes_refused (language_of g.F.ParseFilter.makes g.T.ParseTag.gives g.B.ParseBlock.block c.args.language.now) 1 (node_of g.F.Filter.Meant.shape g.T.Node.Meant.shape g.B.Node.Meant.shape) c.args.self.now c.nodes.self c.nodes.invariant.0 (told c.in-Err.error) _ is_open (c.nodes.invariant.1 was_open) (λ es cover. c.in-Err.ensures.open is_open es cover) es cover) all
+    let p = err_from_is_err_and c.from_residual.result c.from_residual.ensures.1 in
+    rw (p.1, p.2) (only_err (language_of g.F.ParseFilter.makes g.T.ParseTag.gives g.B.ParseBlock.block c.args.language.now) 1 (told c.in_err-node.field-0.0) es c.args.self.now.source.now c.args.self.now.end_name.now a
+    (goes_refused (language_of g.F.ParseFilter.makes g.T.ParseTag.gives g.B.ParseBlock.block c.args.language.now) 1 (node_of g.F.Filter.Meant.shape g.T.Node.Meant.shape g.B.Node.Meant.shape) c.args.self.now c.nodes.self c.nodes.invariant.0 (told c.in_err-node.field-0.0) _ is_open (c.nodes.invariant.1 was_open) (λ es cover. c.in_err-node.ensures.open is_open es cover) es cover) all)
 
 pub returns-clause-found : goal.returns-clause-found
 returns-clause-found g c was_open es cover =

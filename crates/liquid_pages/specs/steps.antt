@@ -1,0 +1,2 @@
+pub mod ReadShows
+pub mod RoomRuns
