@@ -78,7 +78,7 @@ impl BlockReflection for Blocks {
         match self {
             Blocks::Box => "Writes its body in brackets.",
             Blocks::Sbox => "Renders its body where no name is seen.",
-            Blocks::Swap => "Renders what stands behind `mid`, and then what stands before it.",
+            Blocks::Swap => "Renders what comes after `mid`, and then what comes before it.",
             Blocks::Raw => "Writes its body as it stands.",
             Blocks::With => "Renders its body with one name.",
             Blocks::Glob => "Renders its body with globals of its own.",

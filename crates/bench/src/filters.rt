@@ -31,7 +31,7 @@ use std::alloc::{AllocError, Global};
 /// What `append` takes.
 static APPEND_POSITIONAL: [ParameterReflection; 1] = [ParameterReflection {
     name: "value",
-    description: "What is put behind the input.",
+    description: "What is put after the input.",
     is_optional: false,
 }];
 
@@ -212,7 +212,7 @@ impl FilterReflection for Filters {
 
     fn description(&self) -> &str {
         match self {
-            Filters::Append => "The input's text with the text of a value behind it.",
+            Filters::Append => "The input's text with the text of a value after it.",
             Filters::Fail => "Refuses each input.",
         }
     }

@@ -53,11 +53,11 @@ module _ (options : Options) (ending : Option (List ℕ)) (template globals : Li
       text_follows (known template) _ Stop _ _ (stopped (String Global) fault at status is) (λ text memory. any_json text (is ∙ memory)) step
 
   module _ (text : String Global) (there : WithText (known template) (Stops (Ok text)) (λ bytes. Brings string_bytes bytes (Ok text))) where
-    abbrev Behind : List ℕ → Type 0
-    Behind bytes = WithText (known globals) Stop (λ json. WithGlobals (object_read json) Stop (λ names. WithPartials known listed ending (option_words folder) Stop (λ partials. Finishes options bytes names partials at at status)))
+    abbrev Following : List ℕ → Type 0
+    Following bytes = WithText (known globals) Stop (λ json. WithGlobals (object_read json) Stop (λ names. WithPartials known listed ending (option_words folder) Stop (λ partials. Finishes options bytes names partials at at status)))
 
-    with_template : Behind (string_bytes text) → Execution
-    with_template behind = text_follows (known template) _ Stop _ _ (λ never. absurd never) (λ bytes same. subst Behind same behind) there
+    with_template : Following (string_bytes text) → Execution
+    with_template following = text_follows (known template) _ Stop _ _ (λ never. absurd never) (λ bytes same. subst Following same following) there
 
     pub no_json : (fault : Fault) → status ≡ fault_status fault → WithText (known globals) (Stops {A = String Global} (Err fault)) (λ bytes. Brings (string_bytes {Z = Global}) bytes (Err fault)) → Execution
     no_json fault is step =

@@ -48,13 +48,13 @@ shown_whole r output true is done = inl (refl, (is, done))
 shown_whole r output false is done = inr (refl, whole_begins r output is)
 
 -- the content of a sink's destination before and after the call, and what the sink borrows
-module _ (behind behind_after : Option (List ℕ)) (lent : List ℕ) where
+module _ (following after_after : Option (List ℕ)) (lent : List ℕ) where
   -- a sink that has taken nothing yet
   abbrev fresh : Sunk
-  fresh = sunk [] 0 behind lent
+  fresh = sunk [] 0 following lent
 
   abbrev filled : List ℕ → ℕ → Sunk
-  filled output failures = sunk output failures behind_after lent
+  filled output failures = sunk output failures after_after lent
 
   broken_begins : {Reg : Type 0} (r : Run Reg) (output : List ℕ) (failures : ℕ) (left : View Reg) (refusal : Refusal) → BrokenOff r (ungated fresh) (ungated (filled output failures)) left refusal → IsBeginning r output
   broken_begins r output failures left refusal b =
@@ -118,7 +118,7 @@ module _ (files left : List ℕ → Option (List ℕ)) (folders : Bool → List 
       let same : p.taken ≡ output = sym p.appended in
       subst (λ s. ShowsCommand options ending paths files folders output s) (sym p.status_is)
       (subst (λ o. ShowsCommand options ending paths files folders o (settled p.answered p.flushed)) same
-      (shown_command (Some []) p.behind p.lent options ending paths files folders p.taken p.failures p.answered p.flushed p.done))
+      (shown_command (Some []) p.following p.lent options ending paths files folders p.taken p.failures p.answered p.flushed p.done))
 
   printed_output : (after : Option (List ℕ)) → Some output ≡ after → after ≡ Some [] → output ≡ []
   printed_output after same is = ap (λ o. unwrap_or o output) (same ∙ is)

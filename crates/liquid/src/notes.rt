@@ -111,20 +111,20 @@ fn note_at(
     message: &str,
     place: Place,
 ) -> Result<String, AllocError> {
-    let Some(behind) = text_at(text, place) else {
+    let Some(following) = text_at(text, place) else {
         return Ok(String::new(alloc));
     };
     if message.starts_with("Unexpected token") {
-        note_of_token(alloc, behind)
+        note_of_token(alloc, following)
     } else if message.starts_with("Unclosed block.")
-        || message.starts_with("Unknown tag.") && behind.starts_with("end")
+        || message.starts_with("Unknown tag.") && following.starts_with("end")
     {
         if options.standard {
             let language = standard_language(alloc)?;
-            note_of_block(alloc, text, innermost(alloc, text, behind, &language)?)
+            note_of_block(alloc, text, innermost(alloc, text, following, &language)?)
         } else {
             let language = plain_language(alloc)?;
-            note_of_block(alloc, text, innermost(alloc, text, behind, &language)?)
+            note_of_block(alloc, text, innermost(alloc, text, following, &language)?)
         }
     } else {
         Ok(String::new(alloc))
@@ -153,8 +153,8 @@ fn text_at(text: &str, place: Place) -> Option<&str> {
     }
 }
 
-fn note_of_token(alloc: Global, behind: &str) -> Result<String, AllocError> {
-    match next_token(behind) {
+fn note_of_token(alloc: Global, following: &str) -> Result<String, AllocError> {
+    match next_token(following) {
         Some(token) => {
             let first = token.text.lines().next().unwrap_or("");
             format!(in alloc; "the token is {first}")

@@ -12,17 +12,17 @@ pub(crate) struct OpenBlock<'a, B> {
     pub(crate) from: &'a str,
 }
 
-/// Returns the innermost block that is open in a text where `behind` follows, if the text has no error before that.
+/// Returns the innermost block that is open in a text where `following` follows, if the text has no error before that.
 pub(crate) fn innermost<'a, F: ParseFilter, T: TagReflection + Drop, B: ParseBlock<F> + Drop>(
     alloc: Global,
     text: &'a str,
-    behind: &str,
+    following: &str,
     language: &'a Language<F, T, B>,
 ) -> Result<Option<OpenBlock<'a, B>>, AllocError> {
     let mut open = Vec::new(alloc);
     let mut rest = text;
     'elements: while let Some((element, after)) = next_element(rest) {
-        if after.len() < behind.len() {
+        if after.len() < following.len() {
             break;
         }
         rest = after;

@@ -21,7 +21,7 @@ pub mod model {
     pub use liquid_json::{
         from_value, into_object, into_value, object_from_str, to_object, to_scalar, to_value,
     };
-    pub use liquid_paths::{Path, PathIter, PathText, find, find_behind, step, try_find};
+    pub use liquid_paths::{Path, PathIter, PathText, find, find_after, step, try_find};
     pub use liquid_scalar::{Scalar, ScalarCow, ScalarOf, ScalarRender, ScalarSource, ScalarText};
     pub use liquid_value::contents::{is_empty_array, is_empty_object};
     pub use liquid_value::render::{ValueRender, ValueSource};

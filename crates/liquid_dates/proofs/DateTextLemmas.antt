@@ -11,7 +11,7 @@ use Rattle.liquid_dates.specs.meaning.Names.{month_name, short_month_name, weekd
 use Rattle.liquid_dates.specs.meaning.Printed.{two_digits, four_digits}
 use Rattle.liquid_dates.specs.meaning.Pattern.{begins}
 use Rattle.liquid_dates.proofs.PairForms.{joined, two_below, year_form, month_form, weekday_form, dashed, day_month, slashed, clock}
-use Rattle.liquid_dates.specs.steps.DateReader.{Read, after_byte, two_at, four_at, year_behind, year_at, joined_at, whole_of, find_name, short_name_at, behind_text, month_at, short_month_at, weekday_at, dashed_at, long_at, short_at, slashed_at, clock_at}
+use Rattle.liquid_dates.specs.steps.DateReader.{Read, after_byte, two_at, four_at, year_after, year_at, joined_at, whole_of, find_name, short_name_at, following_text, month_at, short_month_at, weekday_at, dashed_at, long_at, short_at, slashed_at, clock_at}
 
 -- a reader reads a form: what it reads has that form, and a text of that form is read before a rest that does not begin
 -- with a digit
@@ -178,17 +178,17 @@ four_at_digits n rest h =
     let value : 100 * (n / 100) + n % 100 ≡ n = omega arith in
     rw (text, two_at_digits 100 (n / 100) (two_digits (n % 100) ++ rest) (omega arith) century, two_at_digits 100 (n % 100) rest (omega arith) year, value) refl
 
-year_sound : (text : List ℕ) (o : Option (List ℕ)) → after_byte 45 text ≡ o → (y : ℤ) (rest : List ℕ) → year_behind o text ≡ Some (y, rest) → (front : List ℕ) × (text ≡ front ++ rest) × year_form front y
+year_sound : (text : List ℕ) (o : Option (List ℕ)) → after_byte 45 text ≡ o → (y : ℤ) (rest : List ℕ) → year_after o text ≡ Some (y, rest) → (front : List ℕ) × (text ≡ front ++ rest) × year_form front y
 year_sound text None t y rest e =
     let (x, ex, e1) = map_some (four_at text) _ _ e in
     let (s, is, f) = four_sound text x.0 x.1 ex in
     let pair = some_pair (pos x.0) y x.1 rest (Some (pos x.0, x.1)) (Some (y, rest)) refl refl (ap Some e1) in
     (s, is ∙ ap (λ t. s ++ t) pair.1, (x.0, f.0, inl (f.1, sym pair.0)))
-year_sound text (Some behind) t y rest e =
-    let (x, ex, e1) = map_some (four_at behind) _ _ e in
-    let (s, is, f) = four_sound behind x.0 x.1 ex in
+year_sound text (Some following) t y rest e =
+    let (x, ex, e1) = map_some (four_at following) _ _ e in
+    let (s, is, f) = four_sound following x.0 x.1 ex in
     let pair = some_pair (neg_ℤ (pos x.0)) y x.1 rest (Some (neg_ℤ (pos x.0), x.1)) (Some (y, rest)) refl refl (ap Some e1) in
-    (45 ∷ s, after_byte_is 45 text behind t ∙ ap (λ t. 45 ∷ t) (is ∙ ap (λ t. s ++ t) pair.1), (x.0, f.0, inr (ap (λ t. 45 ∷ t) f.1, sym pair.0)))
+    (45 ∷ s, after_byte_is 45 text following t ∙ ap (λ t. 45 ∷ t) (is ∙ ap (λ t. s ++ t) pair.1), (x.0, f.0, inr (ap (λ t. 45 ∷ t) f.1, sym pair.0)))
 
 pub year_reads : Reads year_form year_at
 unfolding year_at
@@ -244,7 +244,7 @@ short_month_here (suc (suc (suc (suc (suc (suc (suc (suc (suc (suc (suc (suc zer
 short_month_here (suc (suc (suc (suc (suc (suc (suc (suc (suc (suc (suc (suc (suc m))))))))))))) rest l h = absurd (omega arith)
 
 month_here : (m : ℕ) (rest : List ℕ) → 1 ≤ m → m ≤ 12 → month_at (month_name m ++ rest) ≡ Some (m, rest)
-unfolding month_at behind_text short_name_at find_name short_month_name month_name
+unfolding month_at following_text short_name_at find_name short_month_name month_name
 month_here zero rest l h = absurd (omega arith)
 month_here (suc zero) rest l h = refl
 month_here (suc (suc zero)) rest l h = refl
@@ -283,9 +283,9 @@ weekday_reads = record {
   complete = λ front w rest f ends. rw f.1 (weekday_here w rest f.0);
 }
 
-behind_text_is : (text all rest : List ℕ) → behind_text text all ≡ Some rest → all ≡ text ++ rest
-unfolding behind_text
-behind_text_is text all rest e = by_test (bytes_eq (take (length text) all) text) refl e
+after_text_is : (text all rest : List ℕ) → following_text text all ≡ Some rest → all ≡ text ++ rest
+unfolding following_text
+after_text_is text all rest e = by_test (bytes_eq (take (length text) all) text) refl e
   where
     by_test : (b : Bool) → bytes_eq (take (length text) all) text ≡ b → cond b (Some (drop (length text) all)) None ≡ Some rest → all ≡ text ++ rest
     by_test false t e = cc
@@ -297,10 +297,10 @@ month_sound : (text : List ℕ) (m : ℕ) (rest : List ℕ) → month_at text �
 unfolding month_at short_month_name
 month_sound text m rest e =
     let (x, ex, e1) = bind_some (short_month_at text) _ _ e in
-    let (more, em, e2) = bind_some (behind_text (drop 3 (month_name x.0)) x.1) _ _ e1 in
+    let (more, em, e2) = bind_some (following_text (drop 3 (month_name x.0)) x.1) _ _ e1 in
     let pair = some_pair x.0 m more rest (Some (x.0, more)) (Some (m, rest)) refl refl e2 in
     let s = short_name_sound short_month_name 12 1 text x.0 x.1 ex in
-    let tail = behind_text_is (drop 3 (month_name x.0)) x.1 more em in
+    let tail = after_text_is (drop 3 (month_name x.0)) x.1 more em in
     let name : take 3 (month_name x.0) ++ drop 3 (month_name x.0) ≡ month_name x.0 = take-append-drop 3 (month_name x.0) in (
       s.0 ∙ ap (λ t. take 3 (month_name x.0) ++ t) tail ∙ sym (append_assoc (take 3 (month_name x.0)) (drop 3 (month_name x.0)) more)
           ∙ ap (λ t. t ++ more) name ∙ ap (λ i. month_name i ++ more) pair.0 ∙ ap (λ t. month_name m ++ t) pair.1,

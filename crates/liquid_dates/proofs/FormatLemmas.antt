@@ -130,11 +130,11 @@ chars_pass : (p : ℕ → Bool) (bs : List ℕ) → IsUtf8 bs → NoCharPasses p
 chars_pass p bs u (cs, e, none) = subst (NonePass p) (chars_from_encodes cs bs u e) none
 
 -- a text, cut at its first per cent
-pub record Cut (text copied behind : List ℕ) : Type 0 where
-  pub joined : chars text ≡ chars copied ++ (37 ∷ chars behind)
+pub record Cut (text copied following : List ℕ) : Type 0 where
+  pub joined : chars text ≡ chars copied ++ (37 ∷ chars following)
   pub none : NonePass (λ c. c == 37) (chars copied)
   pub bytes : encode_utf8_all (chars copied) ≡ copied
-  pub utf8 : IsUtf8 behind
+  pub utf8 : IsUtf8 following
 
 pub cut_at : (text : List ℕ) (r : Option (Bor (List ℕ) × Bor (List ℕ))) → IsUtf8 text → IsSplitOnceResult 37 text r → MatchOption r (NonePass (λ c. c == 37) (chars text)) (λ x. Cut text x.0.now x.1.now)
 unfolding lib.Utf8.encode
@@ -142,26 +142,26 @@ cut_at text None u h = chars_pass _ text u h
 cut_at text (Some x) u h =
     let parts : text ≡ x.0.now ++ (37 ∷ x.1.now) = (split_parts 37 text (Some x) h (omega arith)).0 in
     let end : IsCharBoundary text h.1 = subst (IsCharBoundary text) (sym h.2.1.ends) h.2.1.after in
-    let behind : IsUtf8 x.1.now = subst IsUtf8 (sym h.4) (IsUtf8-drop text h.1 u end) in
-    let rest : IsUtf8 (37 ∷ x.1.now) = IsUtf8-append (37 ∷ []) x.1.now (IsUtf8-encode 37 (search rules)) behind in
+    let following : IsUtf8 x.1.now = subst IsUtf8 (sym h.4) (IsUtf8-drop text h.1 u end) in
+    let rest : IsUtf8 (37 ∷ x.1.now) = IsUtf8-append (37 ∷ []) x.1.now (IsUtf8-encode 37 (search rules)) following in
     let start : IsCharBoundary text h.0 = subst (IsCharBoundary text) h.6 (IsCharBoundary-at_seam text x.0.now (37 ∷ x.1.now) parts rest) in
     let copied : IsUtf8 x.0.now = subst IsUtf8 (sym h.3) (IsUtf8-take text h.0 u start) in
     record {
       joined = ap chars parts ∙ chars-append x.0.now (37 ∷ x.1.now) copied ∙ ap (λ t. chars x.0.now ++ t) (chars_past_char (37 ∷ x.1.now) x.1.now 37 rest refl);
       none = chars_pass (λ c. c == 37) x.0.now copied (subst (NoCharPasses (λ c. c == 37)) (sym h.3) h.2.0);
       bytes = encodes-chars x.0.now copied;
-      utf8 = behind;
+      utf8 = following;
     }
 
 -- the text before the per cent, copied
-pub cut_front : (dt : DateTime) (text rest copied behind old : List ℕ) (items : List Item) → IsFront text items (chars rest) → old ≡ print dt items → Cut rest copied behind → IsPrintedFront dt text (37 ∷ chars behind) (old ++ copied)
-cut_front dt text rest copied behind old items front bytes cut =
-    let p = copied_front dt text (chars copied) (37 ∷ chars behind) old items (subst (IsFront text items) cut.joined front) cut.none bytes in
+pub cut_front : (dt : DateTime) (text rest copied following old : List ℕ) (items : List Item) → IsFront text items (chars rest) → old ≡ print dt items → Cut rest copied following → IsPrintedFront dt text (37 ∷ chars following) (old ++ copied)
+cut_front dt text rest copied following old items front bytes cut =
+    let p = copied_front dt text (chars copied) (37 ∷ chars following) old items (subst (IsFront text items) cut.joined front) cut.none bytes in
     (p.0, p.1, ap (λ t. old ++ t) (sym cut.bytes) ∙ p.2)
 
-pub cut_shorter : (rest copied behind next : List ℕ) → Cut rest copied behind → length next < length (37 ∷ chars behind) → length next < length (chars rest)
-cut_shorter rest copied behind next cut h =
-    omega (arith, ap length cut.joined, length-append (chars copied) (37 ∷ chars behind))
+pub cut_shorter : (rest copied following next : List ℕ) → Cut rest copied following → length next < length (37 ∷ chars following) → length next < length (chars rest)
+cut_shorter rest copied following next cut h =
+    omega (arith, ap length cut.joined, length-append (chars copied) (37 ∷ chars following))
 
 pub prints : (dt : DateTime) (text rest out : List ℕ) (items : List Item) → IsFront text items rest → out ≡ print dt items → rest ≡ [] → FormatsTo dt text (Ok out)
 prints dt text rest out items front bytes ends = (items, None, (rest, front, ends), ap Ok bytes)

@@ -7,23 +7,23 @@ use Rattle.liquid_dates.specs.declared.error.DateFormatError.{DateFormatError}
 use Rattle.liquid_dates.specs.declared.error.DateFormatError.TheVariants.{NoFormatSpecifier, NoFormatSpecifierAfterModifier, InvalidWidth, Memory}
 use Rattle.liquid_dates.specs.meaning.Flags.{is_flag, is_digit, digits_number, is_modifier}
 use Rattle.liquid_dates.specs.meaning.Pattern.{Item, literal, directive, spelling, begins, IsRun, IsModifier, IsLetter, IsDirective, IsItem, IsRefused, IsFront, IsReading}
-use Rattle.liquid_dates.specs.steps.PatternReader.{front, behind, after_second_colon, behind_second_colon, after_colon, behind_colon, letter_front, letter_behind, ItemRead, letter_at, behind_modifier, modifier_at, behind_width, directive_at, item_at}
-use Rattle.liquid_dates.proofs.PatternReaderLemmas.{behind_width_fits, behind_width_great}
+use Rattle.liquid_dates.specs.steps.PatternReader.{front, following, after_second_colon, following_second_colon, after_colon, following_colon, letter_front, letter_after, ItemRead, letter_at, after_modifier, modifier_at, after_width, directive_at, item_at}
+use Rattle.liquid_dates.proofs.PatternReaderLemmas.{after_width_fits, after_width_great}
 
 -- the front and the rest after it are the text
-front_join_test : (p : ℕ → Bool) (c : ℕ) (cs : List ℕ) (b : Bool) → front p cs ++ behind p cs ≡ cs → cond b (c ∷ front p cs) [] ++ cond b (behind p cs) (c ∷ cs) ≡ c ∷ cs
+front_join_test : (p : ℕ → Bool) (c : ℕ) (cs : List ℕ) (b : Bool) → front p cs ++ following p cs ≡ cs → cond b (c ∷ front p cs) [] ++ cond b (following p cs) (c ∷ cs) ≡ c ∷ cs
 front_join_test p c cs true e = ap (λ t. c ∷ t) e
 front_join_test p c cs false e = refl
 
-pub front_join : (p : ℕ → Bool) (cs : List ℕ) → front p cs ++ behind p cs ≡ cs
+pub front_join : (p : ℕ → Bool) (cs : List ℕ) → front p cs ++ following p cs ≡ cs
 front_join p [] = refl
 front_join p (c ∷ cs) = front_join_test p c cs (p c) (front_join p cs)
 
-run_test : (p : ℕ → Bool) (c : ℕ) (cs : List ℕ) (b : Bool) → p c ≡ b → IsRun p (front p cs) (behind p cs) → IsRun p (cond b (c ∷ front p cs) []) (cond b (behind p cs) (c ∷ cs))
+run_test : (p : ℕ → Bool) (c : ℕ) (cs : List ℕ) (b : Bool) → p c ≡ b → IsRun p (front p cs) (following p cs) → IsRun p (cond b (c ∷ front p cs) []) (cond b (following p cs) (c ∷ cs))
 run_test p c cs true e run = record { passes = rw e run.passes; ends = run.ends }
 run_test p c cs false e run = record { passes = refl; ends = e }
 
-pub front_run : (p : ℕ → Bool) (cs : List ℕ) → IsRun p (front p cs) (behind p cs)
+pub front_run : (p : ℕ → Bool) (cs : List ℕ) → IsRun p (front p cs) (following p cs)
 front_run p [] = record { passes = refl; ends = refl }
 front_run p (c ∷ cs) = run_test p c cs _ refl (front_run p cs)
 
@@ -36,11 +36,11 @@ and_second : (a b : Bool) → (a && b) ≡ true → b ≡ true
 and_second true b e = e
 and_second false b e = cc
 
-none_first : (p : ℕ → Bool) (rest : List ℕ) → begins p rest ≡ false → (front p rest ≡ []) × (behind p rest ≡ rest)
+none_first : (p : ℕ → Bool) (rest : List ℕ) → begins p rest ≡ false → (front p rest ≡ []) × (following p rest ≡ rest)
 none_first p [] e = (refl, refl)
 none_first p (c ∷ cs) e = (rw e refl, rw e refl)
 
-pub run_front : (p : ℕ → Bool) (run rest : List ℕ) → list_all p run ≡ true → begins p rest ≡ false → (front p (run ++ rest) ≡ run) × (behind p (run ++ rest) ≡ rest)
+pub run_front : (p : ℕ → Bool) (run rest : List ℕ) → list_all p run ≡ true → begins p rest ≡ false → (front p (run ++ rest) ≡ run) × (following p (run ++ rest) ≡ rest)
 run_front p [] rest passes ends = none_first p rest ends
 run_front p (c ∷ cs) rest passes ends =
     let first : p c ≡ true = and_first _ _ passes in
@@ -51,17 +51,17 @@ run_front p (c ∷ cs) rest passes ends =
 abbrev IsSplit : List ℕ → List ℕ → List ℕ → Type 0
 IsSplit letter rest text = (letter ++ rest ≡ text) × IsLetter letter rest
 
-second_letter : (c d : ℕ) (ds : List ℕ) → c ≡ 58 → (b : Bool) → eqb d 58 ≡ b → IsSplit (58 ∷ cond b (58 ∷ after_second_colon ds) (d ∷ [])) (cond b (behind_second_colon ds) ds) (c ∷ d ∷ ds)
+second_letter : (c d : ℕ) (ds : List ℕ) → c ≡ 58 → (b : Bool) → eqb d 58 ≡ b → IsSplit (58 ∷ cond b (58 ∷ after_second_colon ds) (d ∷ [])) (cond b (following_second_colon ds) ds) (c ∷ d ∷ ds)
 second_letter c d [] e true t = let s = eqb-true d 58 t in (rw (e, s) refl, (refl, inr refl))
 second_letter c d (x ∷ xs) e true t = let s = eqb-true d 58 t in (rw (e, s) refl, (refl, refl))
 second_letter c d ds e false t = (rw e refl, (refl, inl (λ s. grind (arith, nat_tests))))
 
-first_letter : (c : ℕ) (cs : List ℕ) (b : Bool) → eqb c 58 ≡ b → IsSplit (cond b (58 ∷ after_colon cs) (c ∷ [])) (cond b (behind_colon cs) cs) (c ∷ cs)
+first_letter : (c : ℕ) (cs : List ℕ) (b : Bool) → eqb c 58 ≡ b → IsSplit (cond b (58 ∷ after_colon cs) (c ∷ [])) (cond b (following_colon cs) cs) (c ∷ cs)
 first_letter c [] true t = let s = eqb-true c 58 t in (rw s refl, inr refl)
 first_letter c (d ∷ ds) true t = second_letter c d ds (eqb-true c 58 t) _ refl
 first_letter c cs false t = (refl, inl (λ s. grind (arith, nat_tests)))
 
-pub letter_split : (c : ℕ) (cs : List ℕ) → IsSplit (letter_front c cs) (letter_behind c cs) (c ∷ cs)
+pub letter_split : (c : ℕ) (cs : List ℕ) → IsSplit (letter_front c cs) (letter_after c cs) (c ∷ cs)
 letter_split c cs = first_letter c cs _ refl
 
 -- the other way: a letter before a rest is read as that letter
@@ -70,14 +70,14 @@ pub record IsLetterRead (letter rest : List ℕ) : Type 0 where
   pub more : List ℕ
   pub is : letter ++ rest ≡ first ∷ more
   pub front_is : letter_front first more ≡ letter
-  pub behind_is : letter_behind first more ≡ rest
+  pub after_is : letter_after first more ≡ rest
 
-one_letter : (c : ℕ) (rest : List ℕ) (b : Bool) → eqb c 58 ≡ b → (c ≢ 58) ⊎ (rest ≡ []) → (cond b (58 ∷ after_colon rest) (c ∷ []) ≡ c ∷ []) × (cond b (behind_colon rest) rest ≡ rest)
+one_letter : (c : ℕ) (rest : List ℕ) (b : Bool) → eqb c 58 ≡ b → (c ≢ 58) ⊎ (rest ≡ []) → (cond b (58 ∷ after_colon rest) (c ∷ []) ≡ c ∷ []) × (cond b (following_colon rest) rest ≡ rest)
 one_letter c rest false t h = (refl, refl)
 one_letter c rest true t (inl apart) = absurd (apart (eqb-true c 58 t))
 one_letter c rest true t (inr empty) = (rw (empty, eqb-true c 58 t) refl, rw empty refl)
 
-two_letters : (b : ℕ) (rest : List ℕ) (t : Bool) → eqb b 58 ≡ t → (b ≢ 58) ⊎ (rest ≡ []) → (cond t (58 ∷ after_second_colon rest) (b ∷ []) ≡ b ∷ []) × (cond t (behind_second_colon rest) rest ≡ rest)
+two_letters : (b : ℕ) (rest : List ℕ) (t : Bool) → eqb b 58 ≡ t → (b ≢ 58) ⊎ (rest ≡ []) → (cond t (58 ∷ after_second_colon rest) (b ∷ []) ≡ b ∷ []) × (cond t (following_second_colon rest) rest ≡ rest)
 two_letters b rest false t h = (refl, refl)
 two_letters b rest true t (inl apart) = absurd (apart (eqb-true b 58 t))
 two_letters b rest true t (inr empty) = (rw (empty, eqb-true b 58 t) refl, rw empty refl)
@@ -86,12 +86,12 @@ pub letter_read : (letter rest : List ℕ) → IsLetter letter rest → IsLetter
 letter_read [] rest h = absurd h
 letter_read (c ∷ []) rest h =
     let is = one_letter c rest _ refl h in
-    record { first = c; more = rest; is = refl; front_is = is.0; behind_is = is.1 }
+    record { first = c; more = rest; is = refl; front_is = is.0; after_is = is.1 }
 letter_read (a ∷ b ∷ []) rest h =
     let is = two_letters b rest _ refl h.1 in
-    record { first = a; more = b ∷ rest; is = refl; front_is = rw h.0 (ap (λ t. 58 ∷ t) is.0); behind_is = rw h.0 is.1 }
+    record { first = a; more = b ∷ rest; is = refl; front_is = rw h.0 (ap (λ t. 58 ∷ t) is.0); after_is = rw h.0 is.1 }
 letter_read (a ∷ b ∷ c ∷ []) rest h =
-    record { first = a; more = b ∷ c ∷ rest; is = refl; front_is = rw (h.0, h.1) refl; behind_is = rw (h.0, h.1) refl }
+    record { first = a; more = b ∷ c ∷ rest; is = refl; front_is = rw (h.0, h.1) refl; after_is = rw (h.0, h.1) refl }
 letter_read (a ∷ b ∷ c ∷ d ∷ ds) rest h = absurd h
 
 -- what the reader says about a text is true
@@ -107,17 +107,17 @@ spelling_join f w m t rest = ap (λ u. 37 ∷ u) (simp append_assoc)
 letter_describes : (f w m : List ℕ) (c : ℕ) (cs : List ℕ) → IsRun is_flag f (w ++ (m ++ (c ∷ cs))) → IsRun is_digit w (m ++ (c ∷ cs)) → digits_number w < 2 ^ 64 → IsModifier m (c ∷ cs) → Describes (37 ∷ (f ++ (w ++ (m ++ (c ∷ cs))))) (letter_at f w m c cs)
 letter_describes f w m c cs flags digits fits modifier =
     let (join, letter) = letter_split c cs in (
-      rw (spelling_join f w m (letter_front c cs) (letter_behind c cs), join) refl,
+      rw (spelling_join f w m (letter_front c cs) (letter_after c cs), join) refl,
       record { of_flags = rw join flags; of_digits = rw join digits; of_width = fits; of_modifier = rw join modifier; of_letter = letter },
     )
 
-behind_modifier_describes : (f w : List ℕ) (m : ℕ) (cs : List ℕ) → IsRun is_flag f (w ++ (m ∷ cs)) → IsRun is_digit w (m ∷ cs) → digits_number w < 2 ^ 64 → is_modifier m ≡ true → Describes (37 ∷ (f ++ (w ++ (m ∷ cs)))) (behind_modifier f w m cs)
-behind_modifier_describes f w m [] flags digits fits is =
+after_modifier_describes : (f w : List ℕ) (m : ℕ) (cs : List ℕ) → IsRun is_flag f (w ++ (m ∷ cs)) → IsRun is_digit w (m ∷ cs) → digits_number w < 2 ^ 64 → is_modifier m ≡ true → Describes (37 ∷ (f ++ (w ++ (m ∷ cs)))) (after_modifier f w m cs)
+after_modifier_describes f w m [] flags digits fits is =
     record { flags = f; digits = w; modifier = m; is = refl; of_flags = flags; of_digits = digits; of_width = fits; of_modifier = is }
-behind_modifier_describes f w m (c ∷ cs) flags digits fits is = letter_describes f w (m ∷ []) c cs flags digits fits is
+after_modifier_describes f w m (c ∷ cs) flags digits fits is = letter_describes f w (m ∷ []) c cs flags digits fits is
 
-modifier_describes : (f w : List ℕ) (c : ℕ) (cs : List ℕ) (b : Bool) → is_modifier c ≡ b → IsRun is_flag f (w ++ (c ∷ cs)) → IsRun is_digit w (c ∷ cs) → digits_number w < 2 ^ 64 → Describes (37 ∷ (f ++ (w ++ (c ∷ cs)))) (cond b (behind_modifier f w c cs) (letter_at f w [] c cs))
-modifier_describes f w c cs true is flags digits fits = behind_modifier_describes f w c cs flags digits fits is
+modifier_describes : (f w : List ℕ) (c : ℕ) (cs : List ℕ) (b : Bool) → is_modifier c ≡ b → IsRun is_flag f (w ++ (c ∷ cs)) → IsRun is_digit w (c ∷ cs) → digits_number w < 2 ^ 64 → Describes (37 ∷ (f ++ (w ++ (c ∷ cs)))) (cond b (after_modifier f w c cs) (letter_at f w [] c cs))
+modifier_describes f w c cs true is flags digits fits = after_modifier_describes f w c cs flags digits fits is
 modifier_describes f w c cs false is flags digits fits = letter_describes f w [] c cs flags digits fits is
 
 width_describes : (f w : List ℕ) (c : ℕ) (cs : List ℕ) (b : Bool) → nat_lt (digits_number w) (2 ^ 64) ≡ b → IsRun is_flag f (w ++ (c ∷ cs)) → IsRun is_digit w (c ∷ cs) → Describes (37 ∷ (f ++ (w ++ (c ∷ cs)))) (cond b (modifier_at f w c cs) (Err InvalidWidth))
@@ -127,23 +127,23 @@ width_describes f w c cs false t flags digits =
     let great : 2 ^ 64 ≤ digits_number w = grind (arith, nat_tests) in
     record { flags = f; digits = w; next = c; rest = cs; is = refl; of_flags = flags; of_digits = digits; of_width = great }
 
-behind_width_describes : (f w rest : List ℕ) → IsRun is_flag f (w ++ rest) → IsRun is_digit w rest → Describes (37 ∷ (f ++ (w ++ rest))) (behind_width f w rest)
-behind_width_describes f w [] flags digits =
+after_width_describes : (f w rest : List ℕ) → IsRun is_flag f (w ++ rest) → IsRun is_digit w rest → Describes (37 ∷ (f ++ (w ++ rest))) (after_width f w rest)
+after_width_describes f w [] flags digits =
     let ends = append-nil w in
     record { flags = f; digits = w; is = rw ends refl; of_flags = rw ends at flags; of_digits = digits }
-behind_width_describes f w (c ∷ cs) flags digits = width_describes f w c cs _ refl flags digits
+after_width_describes f w (c ∷ cs) flags digits = width_describes f w c cs _ refl flags digits
 
 pub directive_describes : (cs : List ℕ) → Describes (37 ∷ cs) (directive_at cs)
 unfolding directive_at
 directive_describes cs =
     let f = front is_flag cs in
-    let a = behind is_flag cs in
+    let a = following is_flag cs in
     let w = front is_digit a in
-    let b = behind is_digit a in
+    let b = following is_digit a in
     let join_a : w ++ b ≡ a = front_join is_digit a in
     let join : f ++ a ≡ cs = front_join is_flag cs in
-    let d : Describes (37 ∷ (f ++ (w ++ b))) (behind_width f w b) = behind_width_describes f w b (rw join_a (front_run is_flag cs)) (front_run is_digit a) in
-    subst (λ (t : List ℕ). Describes (37 ∷ t) (behind_width f w b)) (ap (λ u. f ++ u) join_a ∙ join) d
+    let d : Describes (37 ∷ (f ++ (w ++ b))) (after_width f w b) = after_width_describes f w b (rw join_a (front_run is_flag cs)) (front_run is_digit a) in
+    subst (λ (t : List ℕ). Describes (37 ∷ t) (after_width f w b)) (ap (λ u. f ++ u) join_a ∙ join) d
 
 item_describes_test : (c : ℕ) (cs : List ℕ) (b : Bool) → eqb c 37 ≡ b → Describes (c ∷ cs) (cond b (directive_at cs) (Ok (literal c, cs)))
 unfolding spelling
@@ -160,12 +160,12 @@ abbrev pub read_at : List ℕ → Option ItemRead
 read_at [] = None
 read_at (c ∷ cs) = Some (item_at c cs)
 
-modifier_read : (f w m t rest : List ℕ) → IsModifier m (t ++ rest) → IsLetterRead t rest → digits_number w < 2 ^ 64 → behind_width f w (m ++ (t ++ rest)) ≡ Ok (directive f w m t, rest)
+modifier_read : (f w m t rest : List ℕ) → IsModifier m (t ++ rest) → IsLetterRead t rest → digits_number w < 2 ^ 64 → after_width f w (m ++ (t ++ rest)) ≡ Ok (directive f w m t, rest)
 modifier_read f w [] t rest h letter fits =
     let none : is_modifier letter.first ≡ false = rw letter.is at h in
-    rw (letter.is, behind_width_fits f w letter.first letter.more fits, none, letter.front_is, letter.behind_is) refl
+    rw (letter.is, after_width_fits f w letter.first letter.more fits, none, letter.front_is, letter.after_is) refl
 modifier_read f w (a ∷ []) t rest h letter fits =
-    rw (behind_width_fits f w a (t ++ rest) fits, h, letter.is, letter.front_is, letter.behind_is) refl
+    rw (after_width_fits f w a (t ++ rest) fits, h, letter.is, letter.front_is, letter.after_is) refl
 modifier_read f w (a ∷ b ∷ m) t rest h letter fits = absurd h
 
 pub directive_read : (f w m t rest : List ℕ) → IsDirective f w m t rest → directive_at (f ++ (w ++ (m ++ (t ++ rest)))) ≡ Ok (directive f w m t, rest)
@@ -191,16 +191,16 @@ refused_read NoFormatSpecifier text h =
     let digits = run_front is_digit h.digits [] h.of_digits.passes h.of_digits.ends in
     let none = append-nil h.digits in
     let front_is : front is_digit h.digits ≡ h.digits = ap (front is_digit) (sym none) ∙ digits.0 in
-    let behind_is : behind is_digit h.digits ≡ [] = ap (behind is_digit) (sym none) ∙ digits.1 in
-    rw h.is (ap Some (rw (flags.0, flags.1, front_is, behind_is) refl))
+    let after_is : following is_digit h.digits ≡ [] = ap (following is_digit) (sym none) ∙ digits.1 in
+    rw h.is (ap Some (rw (flags.0, flags.1, front_is, after_is) refl))
 refused_read NoFormatSpecifierAfterModifier text h =
     let flags = run_front is_flag h.flags (h.digits ++ (h.modifier ∷ [])) h.of_flags.passes h.of_flags.ends in
     let digits = run_front is_digit h.digits (h.modifier ∷ []) h.of_digits.passes h.of_digits.ends in
-    rw h.is (ap Some (rw (flags.0, flags.1, digits.0, digits.1, behind_width_fits h.flags h.digits h.modifier [] h.of_width, h.of_modifier) refl))
+    rw h.is (ap Some (rw (flags.0, flags.1, digits.0, digits.1, after_width_fits h.flags h.digits h.modifier [] h.of_width, h.of_modifier) refl))
 refused_read InvalidWidth text h =
     let flags = run_front is_flag h.flags (h.digits ++ (h.next ∷ h.rest)) h.of_flags.passes h.of_flags.ends in
     let digits = run_front is_digit h.digits (h.next ∷ h.rest) h.of_digits.passes h.of_digits.ends in
-    rw h.is (ap Some (rw (flags.0, flags.1, digits.0, digits.1, behind_width_great h.flags h.digits h.next h.rest h.of_width) refl))
+    rw h.is (ap Some (rw (flags.0, flags.1, digits.0, digits.1, after_width_great h.flags h.digits h.next h.rest h.of_width) refl))
 refused_read Memory text h = absurd h
 
 -- a reading's first step, as the reader gives it

@@ -7,7 +7,7 @@ use Rattle.liquid_dates.specs.declared.flags.Flags.{Flags}
 use Rattle.liquid_dates.specs.declared.pattern.Width.{Width}
 use Rattle.liquid_dates.specs.declared.pattern.Width.TheVariants.{Unset, Given, TooGreat}
 use Rattle.liquid_dates.specs.meaning.Flags.{is_flag, with_flag, flags_of, no_flags, is_digit, digits_number, width_of}
-use Rattle.liquid_dates.specs.steps.PatternReader.{front, behind, flags_from, width_from, with_digit, bounded_width, directive_at, behind_width, modifier_at}
+use Rattle.liquid_dates.specs.steps.PatternReader.{front, following, flags_from, width_from, with_digit, bounded_width, directive_at, after_width, modifier_at}
 
 flags_from_test : (flags : Flags) (c : ℕ) (cs : List ℕ) (b : Bool) → flags_from (with_flag flags c) cs ≡ fold with_flag (with_flag flags c) (front is_flag cs) → cond b (flags_from (with_flag flags c) cs) flags ≡ fold with_flag flags (cond b (c ∷ front is_flag cs) [])
 flags_from_test flags c cs true e = e
@@ -95,12 +95,12 @@ read_great [] e = cc
 read_great (d ∷ ds) e = bounded_great _ e
 
 -- the parts of a directive, one after another
-pub directive_at_is : (cs b d : List ℕ) → b ≡ behind is_flag cs → d ≡ behind is_digit b → directive_at cs ≡ behind_width (front is_flag cs) (front is_digit b) d
+pub directive_at_is : (cs b d : List ℕ) → b ≡ following is_flag cs → d ≡ following is_digit b → directive_at cs ≡ after_width (front is_flag cs) (front is_digit b) d
 unfolding directive_at
 directive_at_is cs b d e f = rw (f, e) refl
 
-pub behind_width_fits : (fs ds : List ℕ) (c : ℕ) (cs : List ℕ) → digits_number ds < 2 ^ 64 → behind_width fs ds (c ∷ cs) ≡ modifier_at fs ds c cs
-behind_width_fits fs ds c cs h = rw (lt-ltb _ _ h)
+pub after_width_fits : (fs ds : List ℕ) (c : ℕ) (cs : List ℕ) → digits_number ds < 2 ^ 64 → after_width fs ds (c ∷ cs) ≡ modifier_at fs ds c cs
+after_width_fits fs ds c cs h = rw (lt-ltb _ _ h)
 
-pub behind_width_great : (fs ds : List ℕ) (c : ℕ) (cs : List ℕ) → 2 ^ 64 ≤ digits_number ds → behind_width fs ds (c ∷ cs) ≡ Err InvalidWidth
-behind_width_great fs ds c cs h = let e : nat_lt (digits_number ds) (2 ^ 64) ≡ false = grind (arith, nat_tests) in rw e
+pub after_width_great : (fs ds : List ℕ) (c : ℕ) (cs : List ℕ) → 2 ^ 64 ≤ digits_number ds → after_width fs ds (c ∷ cs) ≡ Err InvalidWidth
+after_width_great fs ds c cs h = let e : nat_lt (digits_number ds) (2 ^ 64) ≡ false = grind (arith, nat_tests) in rw e

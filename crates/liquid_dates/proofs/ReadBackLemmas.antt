@@ -59,10 +59,10 @@ printed_no_word (negsuc n) rest y h = omega arith
 pub date_read_back : (d : CivilDate) (moment : DateTime) → IsDateText (date_text d) moment d
 unfolding date_text dashed_date long_date short_date
 date_read_back d moment =
-    let behind = 45 ∷ (two_digits d.month ++ (45 ∷ two_digits d.day)) in
-    let no_day : (name : ℕ → List ℕ) (v : ℕ × (ℕ × ℤ)) → day_month name (date_text d) v → ⊥ = λ name v f. let s = day_first name (date_text d) v f in printed_no_day d.year behind s.0 s.1 in (
+    let following = 45 ∷ (two_digits d.month ++ (45 ∷ two_digits d.day)) in
+    let no_day : (name : ℕ → List ℕ) (v : ℕ × (ℕ × ℤ)) → day_month name (date_text d) v → ⊥ = λ name v f. let s = day_first name (date_text d) v f in printed_no_day d.year following s.0 s.1 in (
     inr (
-      λ today. printed_no_word d.year behind d.year_in (ap (λ (t : List ℕ). get_or t 0 0) today),
+      λ today. printed_no_word d.year following d.year_in (ap (λ (t : List ℕ). get_or t 0 0) today),
       inr (λ b f. no_day month_name (b.day, (b.month, b.year)) f, inr (λ b f. no_day short_month_name (b.day, (b.month, b.year)) f, dashed_printed d)),
     )
     )
@@ -289,9 +289,9 @@ not_dashed dt b some (form, none) =
     let s = stamped_whole timed_dashed timed_dashed_at timed_dashed_reads true (date_time_text dt) (((civil_date b).year, ((civil_date b).month, (civil_date b).day)), ((civil_time b).hour, ((civil_time b).minute, (civil_time b).second))) (offset_seconds b) form in
     let d = civil_date dt in
     let t = civil_time dt in
-    let behind = 46 ∷ (fraction_digits 9 (nanosecond dt) ++ (32 ∷ offset_text (offset_seconds dt))) in
+    let following = 46 ∷ (fraction_digits 9 (nanosecond dt) ++ (32 ∷ offset_text (offset_seconds dt))) in
     let v : (ℤ × (ℕ × ℕ)) × (ℕ × (ℕ × ℕ)) = ((d.year, (d.month, d.day)), (t.hour, (t.minute, t.second))) in
-    let read : timed_dashed_at (date_time_text dt) ≡ Some (v, behind) = ap timed_dashed_at (with_fraction dt some) ∙ timed_dashed_reads.complete (date_text d ++ (32 ∷ clock_text t)) v behind (stamp_printed d t) refl in
+    let read : timed_dashed_at (date_time_text dt) ≡ Some (v, following) = ap timed_dashed_at (with_fraction dt some) ∙ timed_dashed_reads.complete (date_text d ++ (32 ∷ clock_text t)) v following (stamp_printed d t) refl in
     let same = some_pair _ _ _ _ _ _ read s.read refl in
     no_offset (fraction_digits 9 (nanosecond dt) ++ (32 ∷ offset_text (offset_seconds dt))) _ (ap (offset_end true) same.1 ∙ s.ends)
   where
@@ -321,9 +321,9 @@ text_begins : (dt : DateTime) → (more : List ℕ) × (date_time_text dt ≡ ye
 unfolding date_text
 text_begins dt =
     let d = civil_date dt in
-    let behind = 45 ∷ (two_digits d.month ++ (45 ∷ two_digits d.day)) in
+    let following = 45 ∷ (two_digits d.month ++ (45 ∷ two_digits d.day)) in
     let more = 32 ∷ (clock_text (civil_time dt) ++ (fraction_text (nanosecond dt) ++ (32 ∷ offset_text (offset_seconds dt)))) in
-    (two_digits d.month ++ (45 ∷ (two_digits d.day ++ more)), append_assoc (year_text d.year) behind more)
+    (two_digits d.month ++ (45 ∷ (two_digits d.day ++ more)), append_assoc (year_text d.year) following more)
 
 read_as : (text more : List ℕ) (moment dt : DateTime) → text ≡ year_text (civil_date dt).year ++ (45 ∷ more) → ends_in_offset text ≡ true → date_time_forms text dt → IsDateTimeText text moment dt
 read_as text more moment dt e given forms =

@@ -10,7 +10,7 @@ use Rattle.liquid_dates.specs.meaning.Printed.{two_digits}
 use Rattle.liquid_dates.specs.meaning.Pattern.{begins}
 use Rattle.liquid_dates.specs.meaning.DateText.{with_given_offset}
 use Rattle.liquid_dates.proofs.PairForms.{joined, year_form, month_form, weekday_form, short_day, fraction_form, dashed, day_month, slashed, clock, offset_form, timed_dashed, timed_fraction, timed_day_month, timed_slashed, timed_weekday}
-use Rattle.liquid_dates.specs.steps.DateReader.{Read, after_byte, two_at, year_at, joined_at, whole_of, short_month_at, weekday_at, dashed_at, long_at, short_at, slashed_at, clock_at, hours_at, sign_behind, offset_at, or_one_digit, short_day_at, digits_from, fraction_at, timed_dashed_at, timed_fraction_at, timed_long_at, timed_short_at, timed_slashed_at, timed_weekday_at, offset_end}
+use Rattle.liquid_dates.specs.steps.DateReader.{Read, after_byte, two_at, year_at, joined_at, whole_of, short_month_at, weekday_at, dashed_at, long_at, short_at, slashed_at, clock_at, hours_at, sign_after, offset_at, or_one_digit, short_day_at, digits_from, fraction_at, timed_dashed_at, timed_fraction_at, timed_long_at, timed_short_at, timed_slashed_at, timed_weekday_at, offset_end}
 use Rattle.liquid_dates.proofs.DateTextLemmas.{Reads, some_pair, bind_some, map_some, after_byte_is, two_sound, two_at_digits, joined_reads, whole_sound, whole_complete, year_reads, weekday_reads, short_month_reads, dashed_reads, long_reads, short_reads, slashed_reads, clock_reads}
 
 -- an offset
@@ -38,20 +38,20 @@ unfolding hours_at
 hours_digits h m rest a b =
     rw (append_assoc (two_digits h) (two_digits m) rest, two_at_digits 100 h (two_digits m ++ rest) (omega arith) a, two_at_digits 60 m rest (omega arith) b) refl
 
-offset_sound : (text : List ℕ) (plus minus : Option (List ℕ)) → after_byte 43 text ≡ plus → after_byte 45 text ≡ minus → (z : ℤ) (rest : List ℕ) → sign_behind plus minus ≡ Some (z, rest) → (front : List ℕ) × (text ≡ front ++ rest) × offset_form front z
+offset_sound : (text : List ℕ) (plus minus : Option (List ℕ)) → after_byte 43 text ≡ plus → after_byte 45 text ≡ minus → (z : ℤ) (rest : List ℕ) → sign_after plus minus ≡ Some (z, rest) → (front : List ℕ) × (text ≡ front ++ rest) × offset_form front z
 offset_sound text None None p q z rest e = cc
-offset_sound text (Some behind) minus p q z rest e =
-    let (x, ex, e1) = map_some (hours_at behind) _ _ e in
+offset_sound text (Some following) minus p q z rest e =
+    let (x, ex, e1) = map_some (hours_at following) _ _ e in
     let pair = some_pair (pos x.0) z x.1 rest (Some (pos x.0, x.1)) (Some (z, rest)) refl refl (ap Some e1) in
-    let s = hours_sound behind x.0 x.1 ex in
+    let s = hours_sound following x.0 x.1 ex in
     let digits = two_digits s.h ++ two_digits s.m in
-    (43 ∷ digits, after_byte_is 43 text behind p ∙ ap (λ t. 43 ∷ t) (s.is ∙ ap (λ t. digits ++ t) pair.1), (s.h, s.m, s.hours, s.minutes, inl (refl, sym pair.0 ∙ ap pos s.value)))
-offset_sound text None (Some behind) p q z rest e =
-    let (x, ex, e1) = map_some (hours_at behind) _ _ e in
+    (43 ∷ digits, after_byte_is 43 text following p ∙ ap (λ t. 43 ∷ t) (s.is ∙ ap (λ t. digits ++ t) pair.1), (s.h, s.m, s.hours, s.minutes, inl (refl, sym pair.0 ∙ ap pos s.value)))
+offset_sound text None (Some following) p q z rest e =
+    let (x, ex, e1) = map_some (hours_at following) _ _ e in
     let pair = some_pair (neg_ℤ (pos x.0)) z x.1 rest (Some (neg_ℤ (pos x.0), x.1)) (Some (z, rest)) refl refl (ap Some e1) in
-    let s = hours_sound behind x.0 x.1 ex in
+    let s = hours_sound following x.0 x.1 ex in
     let digits = two_digits s.h ++ two_digits s.m in
-    (45 ∷ digits, after_byte_is 45 text behind q ∙ ap (λ t. 45 ∷ t) (s.is ∙ ap (λ t. digits ++ t) pair.1), (s.h, s.m, s.hours, s.minutes, inr (refl, sym pair.0 ∙ ap (λ n. neg_ℤ (pos n)) s.value)))
+    (45 ∷ digits, after_byte_is 45 text following q ∙ ap (λ t. 45 ∷ t) (s.is ∙ ap (λ t. digits ++ t) pair.1), (s.h, s.m, s.hours, s.minutes, inr (refl, sym pair.0 ∙ ap (λ n. neg_ℤ (pos n)) s.value)))
 
 offset_complete : (front : List ℕ) (z : ℤ) (rest : List ℕ) (h m : ℕ) → h < 100 → m < 60 → ((front ≡ 43 ∷ (two_digits h ++ two_digits m)) × (z ≡ pos (h * 3600 + m * 60))) ⊎ ((front ≡ 45 ∷ (two_digits h ++ two_digits m)) × (z ≡ neg_ℤ (pos (h * 3600 + m * 60)))) → offset_at (front ++ rest) ≡ Some (z, rest)
 unfolding offset_at

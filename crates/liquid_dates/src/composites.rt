@@ -71,7 +71,7 @@ fn composite_of(
 pub(crate) fn write_two(out: &mut String, number: u8) -> Result<(), AllocError>
     ensures { OnOk result (string_bytes out.new ≡ string_bytes out.old ++ Spec.two number) }
 {
-    write_number(out, NumberFilling::ZerosBehindSign, 2, i64::from(number))
+    write_number(out, NumberFilling::ZerosAfterSign, 2, i64::from(number))
 }
 
 fn write_year(out: &mut String, date_time: &DateTime) -> Result<(), AllocError>
@@ -80,7 +80,7 @@ fn write_year(out: &mut String, date_time: &DateTime) -> Result<(), AllocError>
 {
     write_number(
         out,
-        NumberFilling::ZerosBehindSign,
+        NumberFilling::ZerosAfterSign,
         4,
         i64::from(date_time.year()),
     )
@@ -94,7 +94,7 @@ fn write_short_year(out: &mut String, date_time: &DateTime) -> Result<(), AllocE
 {
     write_number(
         out,
-        NumberFilling::ZerosBehindSign,
+        NumberFilling::ZerosAfterSign,
         2,
         i64::from(date_time.year()) % 100,
     )

@@ -44,8 +44,8 @@ fn offset_end(given: bool, rest: &[u8]) -> Option<i32>
     ensures { result ≡ offset_end given rest.now }
 {
     if given {
-        let behind = after_byte(b' ', rest)?;
-        return whole_offset(behind);
+        let following = after_byte(b' ', rest)?;
+        return whole_offset(following);
     }
     if rest.is_empty() { Some(0) } else { None }
 }

@@ -108,7 +108,7 @@ fn letter_filling(letter: char) -> NumberFilling
 {
     match letter {
         'e' | 'k' | 'l' => NumberFilling::SpacesBeforeSign,
-        _ => NumberFilling::ZerosBehindSign,
+        _ => NumberFilling::ZerosAfterSign,
     }
 }
 

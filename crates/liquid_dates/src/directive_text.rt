@@ -76,7 +76,7 @@ fn number_filling(filling: Filling, default: NumberFilling) -> NumberFilling
 {
     match filling {
         Filling::Unset => default,
-        Filling::Zeros => NumberFilling::ZerosBehindSign,
+        Filling::Zeros => NumberFilling::ZerosAfterSign,
         Filling::Spaces => NumberFilling::SpacesBeforeSign,
     }
 }
@@ -180,7 +180,7 @@ fn fraction_of(out: &mut String, digits: usize, nanosecond: u32) -> Result<(), A
 {
     write_number(
         out,
-        NumberFilling::ZerosBehindSign,
+        NumberFilling::ZerosAfterSign,
         digits.min(9),
         i64::from(nanosecond / unit_of(digits)),
     )?;

@@ -15,7 +15,7 @@ pub(crate) enum Filling {
 #[derive(Clone, Copy)]
 pub(crate) enum NumberFilling {
     SpacesBeforeSign,
-    ZerosBehindSign,
+    ZerosAfterSign,
 }
 
 /// The case in which a directive prints letters: the last of its flags `^` and `#`.

@@ -35,9 +35,9 @@ impl DateTime {
     {
         let mut out = String::with_capacity(alloc, pattern.len().saturating_add(ROOM))?;
         let mut rest = pattern;
-        'directives: while let Some((copied, behind)) = rest.split_once('%') {
+        'directives: while let Some((copied, following)) = rest.split_once('%') {
             write_copied(&mut out, copied)?;
-            rest = write_directive_at(&mut out, self, behind)?;
+            rest = write_directive_at(&mut out, self, following)?;
         }
         write_copied(&mut out, rest)?;
         Ok(out)

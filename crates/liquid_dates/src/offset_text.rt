@@ -4,7 +4,7 @@ ghost use Rattle.std.specs.String.{string_bytes};
 ghost use Rattle.jiff_core.specs.Timestamp.{IsOffsetSeconds};
 ghost use Rattle.liquid_dates.specs.meaning.DirectiveText as Spec;
 ghost use Rattle.liquid_dates.specs.meaning.Filling.{filled_number};
-ghost use Rattle.liquid_dates.specs.declared.flags.NumberFilling.TheVariants.{ZerosBehindSign};
+ghost use Rattle.liquid_dates.specs.declared.flags.NumberFilling.TheVariants.{ZerosAfterSign};
 ghost use Rattle.liquid_dates.specs.meaning.Printed.{sign_of};
 
 use crate::DateTime;
@@ -70,12 +70,12 @@ fn signed_hours(
 fn zero_filled_hours(out: &mut String, width: usize, seconds: i32) -> Result<(), AllocError>
     requires { IsOffsetSeconds seconds }
     ensures { OnOk result (string_bytes out.new ≡ string_bytes out.old
-        ++ (sign_of seconds ∷ filled_number ZerosBehindSign width (pos (unsigned_abs seconds / 3600)))) }
+        ++ (sign_of seconds ∷ filled_number ZerosAfterSign width (pos (unsigned_abs seconds / 3600)))) }
 {
     write_offset_sign(out, seconds)?;
     write_number(
         out,
-        NumberFilling::ZerosBehindSign,
+        NumberFilling::ZerosAfterSign,
         width,
         i64::from(seconds.unsigned_abs() / 3600),
     )

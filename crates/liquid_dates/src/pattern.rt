@@ -45,7 +45,7 @@ pub(crate) fn split_first(text: &str) -> Option<(char, &str)>
 // Returns the flags at the front, and the rest after them.
 fn read_flags(text: &str) -> (Flags, &str)
     ensures flags { result.0 ≡ Reader.flags_from no_flags (chars text.now) }
-    ensures rest { chars result.1.now ≡ Reader.behind is_flag (chars text.now) }
+    ensures rest { chars result.1.now ≡ Reader.following is_flag (chars text.now) }
     ensures utf8 { IsUtf8 result.1.now }
 {
     let mut flags = Flags::NONE;
@@ -91,7 +91,7 @@ fn with_value(number: usize, value: usize) -> Width
 // Returns the width that the digits at the front write, and the rest after them.
 fn read_width(text: &str) -> (Width, &str)
     ensures width { result.0 ≡ Reader.width_from Width.Unset (chars text.now) }
-    ensures rest { chars result.1.now ≡ Reader.behind is_digit (chars text.now) }
+    ensures rest { chars result.1.now ≡ Reader.following is_digit (chars text.now) }
     ensures utf8 { IsUtf8 result.1.now }
 {
     let mut width = Width::Unset;
@@ -112,7 +112,7 @@ fn read_width(text: &str) -> (Width, &str)
 #[inline(always)]
 fn read_letter(first: char, text: &str) -> (Option<Directive>, &str)
     ensures directive { result.0 ≡ directive_of (Reader.letter_front first (chars text.now)) }
-    ensures rest { chars result.1.now ≡ Reader.letter_behind first (chars text.now) }
+    ensures rest { chars result.1.now ≡ Reader.letter_after first (chars text.now) }
     ensures utf8 { IsUtf8 result.1.now }
 {
     if first != ':' {
@@ -152,7 +152,7 @@ fn with_letter(flags: Flags, width: Option<usize>, letter: char, text: &str) -> 
     ensures width { result.0.width ≡ width }
     ensures directive { result.0.directive
         ≡ directive_of (Reader.letter_front letter (chars text.now)) }
-    ensures rest { chars result.1.now ≡ Reader.letter_behind letter (chars text.now) }
+    ensures rest { chars result.1.now ≡ Reader.letter_after letter (chars text.now) }
     ensures utf8 { IsUtf8 result.1.now }
 {
     let (directive, rest) = read_letter(letter, text);
@@ -188,9 +188,9 @@ fn from_modifier(
 pub(crate) fn read_conversion(text: &str) -> Result<(Conversion, &str), DateFormatError>
     ensures { IsReadAs result (Reader.directive_at (chars text.now)) }
 {
-    let (flags, behind_flags) = read_flags(text);
-    let (width, behind_width) = read_width(behind_flags);
-    let Some((first, after)) = split_first(behind_width) else {
+    let (flags, after_flags) = read_flags(text);
+    let (width, after_width) = read_width(after_flags);
+    let Some((first, after)) = split_first(after_width) else {
         return Err(DateFormatError::NoFormatSpecifier);
     };
     match width {

@@ -64,8 +64,8 @@ pub(crate) fn year_at(text: &[u8]) -> Option<(i16, &[u8])>
     ensures value { read_of result ≡ Reader.year_at text.now }
 {
     match after_byte(b'-', text) {
-        Some(behind) => {
-            let (number, rest) = four_at(behind)?;
+        Some(following) => {
+            let (number, rest) = four_at(following)?;
             Some((negative(number), rest))
         }
         None => {
@@ -147,9 +147,9 @@ pub(crate) fn weekday_at(text: &[u8]) -> Option<(u8, &[u8])>
 }
 
 // Returns the rest after a text at the front.
-#[tactic(auto, unfolding(crate::specs::steps::DateReader::behind_text))]
-fn behind_text<'a>(front: &[u8], text: &'a [u8]) -> Option<&'a [u8]>
-    ensures { option_copied result ≡ Reader.behind_text front.now text.now }
+#[tactic(auto, unfolding(crate::specs::steps::DateReader::following_text))]
+fn following_text<'a>(front: &[u8], text: &'a [u8]) -> Option<&'a [u8]>
+    ensures { option_copied result ≡ Reader.following_text front.now text.now }
 {
     if text.len() < front.len() || &text[..front.len()] != front {
         return None;
@@ -164,8 +164,8 @@ fn month_at(text: &[u8]) -> Option<(u8, &[u8])>
 {
     let (month, rest) = short_month_at(text)?;
     let name = month_name(month).as_bytes();
-    let behind = behind_text(&name[3..], rest)?;
-    Some((month, behind))
+    let following = following_text(&name[3..], rest)?;
+    Some((month, following))
 }
 
 /// Reads `YYYY-MM-DD`.

@@ -64,14 +64,14 @@ pub(crate) fn offset_at(text: &[u8]) -> Option<(i32, &[u8])>
     ensures value { read_of result ≡ Reader.offset_at text.now }
 {
     match after_byte(b'+', text) {
-        Some(behind) => {
-            let (seconds, rest) = hours_at(behind)?;
+        Some(following) => {
+            let (seconds, rest) = hours_at(following)?;
             Some((ahead(seconds), rest))
         }
         None => {
-            let behind = after_byte(b'-', text)?;
-            let (seconds, rest) = hours_at(behind)?;
-            Some((behind_utc(seconds), rest))
+            let following = after_byte(b'-', text)?;
+            let (seconds, rest) = hours_at(following)?;
+            Some((after_utc(seconds), rest))
         }
     }
 }
@@ -83,7 +83,7 @@ fn ahead(seconds: u32) -> i32
     seconds as i32
 }
 
-fn behind_utc(seconds: u32) -> i32
+fn after_utc(seconds: u32) -> i32
     requires { seconds < 400000 }
     ensures { result ≡ neg_ℤ (pos seconds) }
 {
@@ -222,13 +222,13 @@ fn digits_from(text: &[u8]) -> (usize, u64, &[u8])
     let mut count = 0;
     let mut number = 0u64;
     let mut rest = text;
-    'digits: while let [first, behind @ ..] = rest {
+    'digits: while let [first, following @ ..] = rest {
         if !is_digit(char::from(*first)) || count >= 10 {
             break;
         }
         number = number * 10 + u64::from(*first - b'0');
         count += 1;
-        rest = behind;
+        rest = following;
     }
     (count, number, rest)
 }

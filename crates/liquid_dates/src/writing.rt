@@ -40,7 +40,7 @@ pub(crate) fn write_number(
             fill(out, missing, ' ')?;
             write_minus(out, value)?;
         }
-        NumberFilling::ZerosBehindSign => {
+        NumberFilling::ZerosAfterSign => {
             write_minus(out, value)?;
             fill(out, missing, '0')?;
         }

@@ -5,7 +5,7 @@ use Rattle.liquid_grammar.specs.declared.parts.FilterStart.{FilterStart}
 use Rattle.liquid_grammar.specs.meaning.Cover.{IsElement, invalid}
 use Rattle.liquid_grammar.specs.meaning.Grammar.{White, Closer, Opens}
 use Rattle.liquid_grammar.specs.meaning.Rules.{Rule, Begins, Repeated, Byte, ◌▷◌, here}
-use Rattle.liquid_grammar.specs.meaning.Tokens.{Chain, Filter, Behind, FilterRule, ChainRule, ExpressionRule}
+use Rattle.liquid_grammar.specs.meaning.Tokens.{Chain, Filter, Following, FilterRule, ChainRule, ExpressionRule}
 use Rattle.liquid_grammar.specs.meaning.Values.{ValueRule}
 use Rattle.liquid_grammar.specs.meaning.Parts.{First, IsFilter, OpensExpression, Unclosed}
 use Rattle.liquid_grammar.specs.steps.Steps.{Reader, byte, white, identifier, closer}
@@ -13,7 +13,7 @@ use Rattle.liquid_grammar.specs.steps.TokenSteps.{separated}
 use Rattle.liquid_grammar.proofs.CoverLemmas.{brace_begins}
 use Rattle.liquid_grammar.proofs.Exact.{Exact, same_match, none_begins, exact-right, exact-byte}
 use Rattle.liquid_grammar.proofs.ExpressionPartLemmas.{first_of, same_white}
-use Rattle.liquid_grammar.proofs.FilterPartLemmas.{filter_first, none_behind, no_filter_name}
+use Rattle.liquid_grammar.proofs.FilterPartLemmas.{filter_first, none_following, no_filter_name}
 use Rattle.liquid_grammar.proofs.FlatBrackets.{left_some, left_none}
 use Rattle.liquid_grammar.proofs.GrammarExact.{exact-white, exact-opener, exact-closer}
 use Rattle.liquid_grammar.proofs.PartLemmas.{none_left, none_after}
@@ -26,31 +26,31 @@ found {f = f} {R = R} F s rest e =
     (x.0.0, subst (λ t. R s t x.0.0) x.2 (F.sound s x.0.1 x.0.0 x.1))
 
 -- white space, a bar and white space
-bar_between : (s at behind place : List ℕ) → Some at ≡ option_map (λ p. p.1) (white s) → Some behind ≡ option_map (λ p. p.1) (byte 124 at) → Some place ≡ option_map (λ p. p.1) (white behind)
+bar_between : (s at following place : List ℕ) → Some at ≡ option_map (λ p. p.1) (white s) → Some following ≡ option_map (λ p. p.1) (byte 124 at) → Some place ≡ option_map (λ p. p.1) (white following)
     → Some place ≡ option_map (λ p. p.1) (separated 124 s)
-bar_between s at behind place w b v =
+bar_between s at following place w b v =
     let before = found exact-white s at w in
-    let bar = found (exact-byte 124) at behind b in
-    let after = found exact-white behind place v in
-    let front : (White ▷ Byte 124) s behind bar.0 = record { from = (before.0, bar.0); match = record { middle = at; before = before.1; after = bar.1 }; is = refl } in
-    let whole : (White ▷ Byte 124 ▷ White) s place after.0 = record { from = (bar.0, after.0); match = record { middle = behind; before = front; after = after.1 }; is = refl } in
+    let bar = found (exact-byte 124) at following b in
+    let after = found exact-white following place v in
+    let front : (White ▷ Byte 124) s following bar.0 = record { from = (before.0, bar.0); match = record { middle = at; before = before.1; after = bar.1 }; is = refl } in
+    let whole : (White ▷ Byte 124 ▷ White) s place after.0 = record { from = (bar.0, after.0); match = record { middle = following; before = front; after = after.1 }; is = refl } in
     sym (ap (option_map (λ p. p.1)) ((exact-right (exact-right exact-white (exact-byte 124)) exact-white).complete s place after.0 whole))
 
 -- no expression ends where a bar is next
-barred : (s at behind : List ℕ) → Some at ≡ option_map (λ p. p.1) (white s) → Some behind ≡ option_map (λ p. p.1) (byte 124 at) → ¬ (Begins (White ▷ Closer 125) s)
-barred s at behind w b c =
+barred : (s at following : List ℕ) → Some at ≡ option_map (λ p. p.1) (white s) → Some following ≡ option_map (λ p. p.1) (byte 124 at) → ¬ (Begins (White ▷ Closer 125) s)
+barred s at following w b c =
     let before = found exact-white s at w in
-    let bar = found (exact-byte 124) at behind b in
+    let bar = found (exact-byte 124) at following b in
     let same = same_white s c.match.match.middle at _ _ c.match.match.before before.1 in
-    first_of c.match.match.middle c.rest _ 124 behind (same ∙ (bar.1.front ∙ ap (λ x. x ∷ behind) (eqb-true _ 124 bar.1.passes))) refl refl c.match.match.after
+    first_of c.match.match.middle c.rest _ 124 following (same ∙ (bar.1.front ∙ ap (λ x. x ∷ following) (eqb-true _ 124 bar.1.passes))) refl refl c.match.match.after
 
-pub nameless : (s at behind place rest : List ℕ) (filters : List Filter) → Some at ≡ option_map (λ p. p.1) (white s) → Some behind ≡ option_map (λ p. p.1) (byte 124 at) → Some place ≡ option_map (λ p. p.1) (white behind)
-    → None ≡ identifier place → Repeated (Behind 124 FilterRule) s rest filters → Unclosed s rest filters
-nameless s at behind place rest filters w b v i m =
-    record { none = none_left s rest filters m (none_behind 124 s place (bar_between s at behind place w b v) (no_filter_name place i)); endless = barred s at behind w b }
+pub nameless : (s at following place rest : List ℕ) (filters : List Filter) → Some at ≡ option_map (λ p. p.1) (white s) → Some following ≡ option_map (λ p. p.1) (byte 124 at) → Some place ≡ option_map (λ p. p.1) (white following)
+    → None ≡ identifier place → Repeated (Following 124 FilterRule) s rest filters → Unclosed s rest filters
+nameless s at following place rest filters w b v i m =
+    record { none = none_left s rest filters m (none_following 124 s place (bar_between s at following place w b v) (no_filter_name place i)); endless = barred s at following w b }
 
 -- no filter begins where no bar is next
-pub barless : (s at : List ℕ) → Some at ≡ option_map (λ p. p.1) (white s) → None ≡ option_map (λ p. p.1) (byte 124 at) → ¬ (Begins (Behind 124 FilterRule) s)
+pub barless : (s at : List ℕ) → Some at ≡ option_map (λ p. p.1) (white s) → None ≡ option_map (λ p. p.1) (byte 124 at) → ¬ (Begins (Following 124 FilterRule) s)
 barless s at w b f =
     let before = found exact-white s at w in
     let separated = f.match.match.before.match.before in
@@ -59,13 +59,13 @@ barless s at w b f =
     none_begins (exact-byte 124) at (left_none (byte 124 at) b) (record { rest = f.match.match.before.match.middle; shape = separated.from.1; match = bar })
 
 pub unclosed : (s at rest : List ℕ) (filters : List Filter) → Some at ≡ option_map (λ p. p.1) (white s) → None ≡ option_map (λ p. p.1) (byte 124 at) → None ≡ option_map (λ p. p.1) (closer 125 at)
-    → Repeated (Behind 124 FilterRule) s rest filters → Unclosed s rest filters
+    → Repeated (Following 124 FilterRule) s rest filters → Unclosed s rest filters
 unclosed s at rest filters w b c m =
     record { none = none_left s rest filters m (barless s at w b); endless = none_after exact-white s at w (none_begins (exact-closer 125) at (left_none (closer 125 at) c)) }
 
-pub filter_next : (f : FilterStart) (s at behind rest : List ℕ) (filters : List Filter) → Some at ≡ option_map (λ p. p.1) (white s) → Some behind ≡ option_map (λ p. p.1) (byte 124 at) → Some f.place.now ≡ option_map (λ p. p.1) (white behind)
-    → Some (f.name.now, f.rest.now) ≡ identifier f.place.now → Repeated (Behind 124 FilterRule) s rest filters → First (IsFilter f) (Repeated (Behind 124 FilterRule)) rest filters
-filter_next f s at behind rest filters w b v i m = filter_first f s rest filters (bar_between s at behind f.place.now w b v) i m
+pub filter_next : (f : FilterStart) (s at following rest : List ℕ) (filters : List Filter) → Some at ≡ option_map (λ p. p.1) (white s) → Some following ≡ option_map (λ p. p.1) (byte 124 at) → Some f.place.now ≡ option_map (λ p. p.1) (white following)
+    → Some (f.name.now, f.rest.now) ≡ identifier f.place.now → Repeated (Following 124 FilterRule) s rest filters → First (IsFilter f) (Repeated (Following 124 FilterRule)) rest filters
+filter_next f s at following rest filters w b v i m = filter_first f s rest filters (bar_between s at following f.place.now w b v) i m
 
 -- where an expression opens, its parts
 start_of : (s start : List ℕ) → OpensExpression s start → (b : Begins ExpressionRule s) → b.match.match.before.match.before.match.middle ≡ start
@@ -89,7 +89,7 @@ endless s start end c o m none b =
     none (subst (λ t. Begins (White ▷ Closer 125) t) same (record { rest = b.rest; shape = b.match.from.1; match = record { from = (inside.from.1, b.match.from.1); match = record { middle = b.match.match.middle; before = inside.match.after; after = b.match.match.after }; is = refl } }))
 
 -- where an expression opens but there is none, the element is the white space and one brace
-pub opens_invalid : (s start : List ℕ) → OpensExpression s start → ¬ (Begins ExpressionRule s) → (behind text : List ℕ) × IsElement s behind (invalid text)
+pub opens_invalid : (s start : List ℕ) → OpensExpression s start → ¬ (Begins ExpressionRule s) → (following text : List ℕ) × IsElement s following (invalid text)
 opens_invalid s start o none =
     let opens : Opens s = record { rest = o.match.match.middle; shape = o.match.from.0; match = here o.match.match.before } in
     let brace = brace_begins s opens in

@@ -66,8 +66,8 @@ brace_begins s o = go o.match
 -- a tag and an expression begin with an opener
 pub expression_opens : (s rest : List ℕ) (chain : Chain) → ExpressionRule s rest chain → Opens s
 expression_opens s rest chain m =
-    let behind = m.match.before.match.before.match.before.match in
-    record { rest = behind.middle; shape = m.match.before.match.before.match.before.from.0; match = here behind.before }
+    let following = m.match.before.match.before.match.before.match in
+    record { rest = following.middle; shape = m.match.before.match.before.match.before.from.0; match = here following.before }
 
 or_some : {A : Type 0} (o p : Option A) (x : A) → p ≡ Some x → is_some (option_or o p) ≡ true
 or_some (Some y) p x e = refl
@@ -77,8 +77,8 @@ pub tag_opens : (s rest : List ℕ) (tag : Tag) → TagRule s rest tag → Opens
 unfolding read.any_opener
 tag_opens s rest tag m =
     let start = m.match.before.match.before.before in
-    let behind = start.match.before.match in
-    let found = (exact-opener 37).complete s behind.middle start.match.before.from.0 behind.before in
+    let following = start.match.before.match in
+    let found = (exact-opener 37).complete s following.middle start.match.before.from.0 following.before in
     opens_from s (or_some (read.opener 123 s) (read.opener 37 s) _ found)
 
 -- two ends of one text leave the same
@@ -89,8 +89,8 @@ same_front s t₁ t₂ rest e f = append_cancel_right t₁ t₂ rest (sym e ∙ 
 raw_not_shorter : (s r₁ r₂ t₁ t₂ : List ℕ) → s ≡ t₁ ++ r₁ → s ≡ t₂ ++ r₂ → Raw s r₁ t₁ → Raw s r₂ t₂ → length t₁ < length t₂ → ⊥
 raw_not_shorter s r₁ r₂ t₁ t₂ e f a b h =
     let some : 0 < length r₁ = omega (arith, ap length e, ap length f, length-append t₁ r₁, length-append t₂ r₂) in
-    let behind : drop (length t₁) s ≡ r₁ = ap (drop (length t₁)) e ∙ drop_at t₁ r₁ (length t₁) refl in
-    b.closed (length t₁) h (subst Opens (sym behind) (a.stops some))
+    let following : drop (length t₁) s ≡ r₁ = ap (drop (length t₁)) e ∙ drop_at t₁ r₁ (length t₁) refl in
+    b.closed (length t₁) h (subst Opens (sym following) (a.stops some))
 
 same_raw : (s r₁ r₂ t₁ t₂ : List ℕ) → s ≡ t₁ ++ r₁ → s ≡ t₂ ++ r₂ → Raw s r₁ t₁ → Raw s r₂ t₂ → (t₁ ≡ t₂) × (r₁ ≡ r₂)
 same_raw s r₁ r₂ t₁ t₂ e f a b =
@@ -250,14 +250,14 @@ raw_ends (b ∷ s) = go (opens (b ∷ s)) refl (raw_ends s)
           suc more_of.0,
           record {
             within = omega (arith, m.within);
-            closed = λ k h. closed_behind k h e m.closed;
+            closed = λ k h. closed_after k h e m.closed;
             stops = λ h. m.stops (omega arith);
           },
         )
       where
-        closed_behind : (k : ℕ) → k < suc more_of.0 → opens (b ∷ s) ≡ false → ((j : ℕ) → j < more_of.0 → ¬ (Opens (drop j s))) → ¬ (Opens (drop k (b ∷ s)))
-        closed_behind zero h e c = closed_from (b ∷ s) e
-        closed_behind (suc k) h e c = c k (omega arith)
+        closed_after : (k : ℕ) → k < suc more_of.0 → opens (b ∷ s) ≡ false → ((j : ℕ) → j < more_of.0 → ¬ (Opens (drop j s))) → ¬ (Opens (drop k (b ∷ s)))
+        closed_after zero h e c = closed_from (b ∷ s) e
+        closed_after (suc k) h e c = c k (omega arith)
 
 -- an element takes something
 pub element_some : (s rest : List ℕ) (e : Element) → IsElement s rest e → length rest < length s

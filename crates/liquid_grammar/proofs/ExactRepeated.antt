@@ -35,12 +35,12 @@ exact-optional F = exact-either (exact-seen Some F) (exact-nothing None)
 at_sound : {A : Type 0} {f : Reader A} {R : Rule A} → Exact f R → (s rest : List ℕ) (a : Placed A) → at f s ≡ Some (a, rest) → At R s rest a
 at_sound {A} {f = f} {R = R} F s rest a e =
     option_map_some (placed s) (f s) (a, rest) e (λ x fx q.
-    let t : At R s x.1 (record { place = s; behind = x.1; what = x.0 }) = record { begins = refl; ends = refl; match = F.sound s x.1 x.0 fx } in
+    let t : At R s x.1 (record { place = s; following = x.1; what = x.0 }) = record { begins = refl; ends = refl; match = F.sound s x.1 x.0 fx } in
     subst (λ (z : Placed A × List ℕ). At R s z.1 z.0) q t)
 
 at_complete : {A : Type 0} {f : Reader A} {R : Rule A} → Exact f R → (s rest : List ℕ) (a : Placed A) → At R s rest a → at f s ≡ Some (a, rest)
 at_complete {A} F s rest a m =
-    let w : List ℕ → List ℕ → Option (Placed A × List ℕ) = λ x y. Some (record { place = x; behind = y; what = a.what }, rest) in
+    let w : List ℕ → List ℕ → Option (Placed A × List ℕ) = λ x y. Some (record { place = x; following = y; what = a.what }, rest) in
     ap (option_map (placed s)) (F.complete s rest a.what m.match) ∙ ap₂ w (sym m.begins) (sym m.ends)
 
 pub exact-at : {A : Type 0} {f : Reader A} {R : Rule A} → Exact f R → Exact (at f) (At R)

@@ -7,7 +7,7 @@ use Rattle.liquid_grammar.specs.meaning.Cover.{IsElement, expression}
 use Rattle.liquid_grammar.specs.meaning.Grammar.{White, Closer}
 use Rattle.liquid_grammar.specs.meaning.Rules.{Begins, ◌▷◌, ◌◁◌, here, instead, ends, more}
 use Rattle.liquid_grammar.specs.meaning.Values.{IndexRule}
-use Rattle.liquid_grammar.specs.meaning.Tokens.{Chain, Behind, FilterRule, ChainRule, ExpressionStart, ExpressionRule, TagRule}
+use Rattle.liquid_grammar.specs.meaning.Tokens.{Chain, Following, FilterRule, ChainRule, ExpressionStart, ExpressionRule, TagRule}
 use Rattle.liquid_grammar.specs.meaning.Parts.{OpensExpression, ClosesExpression}
 use Rattle.liquid_grammar.specs.steps.Steps.{byte, white, braces, dashed_opener, opener, closer}
 use Rattle.liquid_grammar.proofs.Exact.{none_begins, same_match}
@@ -51,32 +51,32 @@ no_tag_here t b =
     let opened = b.match.match.before.match.before.before.match.before.match.before in
     none_begins (exact-opener 37) (123 ∷ 123 ∷ t) (no_tag_opener t) (record { rest = _; shape = _; match = opened })
 
-opens_behind : (t start : List ℕ) (b : ℕ) (behind : List ℕ) → opener 123 (123 ∷ 123 ∷ t) ≡ Some (b, behind) → Some start ≡ option_map (λ p. p.1) (white behind) → OpensExpression (123 ∷ 123 ∷ t) start
-opens_behind t start b behind e w =
-    let x = left_some (white behind) start w in
-    let after : White behind start x.0.0 = subst (λ r. White behind r x.0.0) x.2 (exact-white.sound behind x.0.1 x.0.0 x.1) in
+opens_after : (t start : List ℕ) (b : ℕ) (following : List ℕ) → opener 123 (123 ∷ 123 ∷ t) ≡ Some (b, following) → Some start ≡ option_map (λ p. p.1) (white following) → OpensExpression (123 ∷ 123 ∷ t) start
+opens_after t start b following e w =
+    let x = left_some (white following) start w in
+    let after : White following start x.0.0 = subst (λ r. White following r x.0.0) x.2 (exact-white.sound following x.0.1 x.0.0 x.1) in
     record {
       white = x.0.0;
-      match = record { from = (b, x.0.0); match = record { middle = behind; before = (exact-opener 123).sound (123 ∷ 123 ∷ t) behind b e; after = after }; is = refl };
+      match = record { from = (b, x.0.0); match = record { middle = following; before = (exact-opener 123).sound (123 ∷ 123 ∷ t) following b e; after = after }; is = refl };
       no_tag = no_tag_here t;
     }
 
-pub opens_dashed : (s inside behind start : List ℕ) → Some inside ≡ option_map (λ p. p.1) (braces 123 s) → Some behind ≡ option_map (λ p. p.1) (byte 45 inside) → Some start ≡ option_map (λ p. p.1) (white behind) → OpensExpression s start
-opens_dashed s inside behind start e d w =
-    let x = left_some (byte 45 inside) behind d in
+pub opens_dashed : (s inside following start : List ℕ) → Some inside ≡ option_map (λ p. p.1) (braces 123 s) → Some following ≡ option_map (λ p. p.1) (byte 45 inside) → Some start ≡ option_map (λ p. p.1) (white following) → OpensExpression s start
+opens_dashed s inside following start e d w =
+    let x = left_some (byte 45 inside) following d in
     subst (λ p. OpensExpression p start) (sym (two_braces s inside e))
-    (opens_behind inside start x.0.0 x.0.1 (dashed x.0.0 inside x.0.1 x.1) (subst (λ r. Some start ≡ option_map (λ p. p.1) (white r)) (sym x.2) w))
+    (opens_after inside start x.0.0 x.0.1 (dashed x.0.0 inside x.0.1 x.1) (subst (λ r. Some start ≡ option_map (λ p. p.1) (white r)) (sym x.2) w))
 
 pub opens_plain : (s inside start : List ℕ) → Some inside ≡ option_map (λ p. p.1) (braces 123 s) → None ≡ option_map (λ p. p.1) (byte 45 inside) → Some start ≡ option_map (λ p. p.1) (white inside) → OpensExpression s start
 opens_plain s inside start e d w =
-    subst (λ p. OpensExpression p start) (sym (two_braces s inside e)) (opens_behind inside start 123 inside (plain inside (left_none (byte 45 inside) d)) w)
+    subst (λ p. OpensExpression p start) (sym (two_braces s inside e)) (opens_after inside start 123 inside (plain inside (left_none (byte 45 inside) d)) w)
 
-pub closes : (s behind : List ℕ) (r : Option (Bor (List ℕ))) → Some behind ≡ option_map (λ p. p.1) (white s) → option_map (λ rest. rest.now) r ≡ option_map (λ p. p.1) (closer 125 behind) → IfSome r (λ rest. ClosesExpression s rest.now)
-closes s behind None w e = tt
-closes s behind (Some rest) w e =
-    let x = left_some (closer 125 behind) rest.now e in
-    let m : Closer 125 behind rest.now x.0.0 = subst (λ r. Closer 125 behind r x.0.0) x.2 ((exact-closer 125).sound behind x.0.1 x.0.0 x.1) in
-    record { byte = x.0.0; match = after_begins exact-white s behind rest.now x.0.0 w m }
+pub closes : (s following : List ℕ) (r : Option (Bor (List ℕ))) → Some following ≡ option_map (λ p. p.1) (white s) → option_map (λ rest. rest.now) r ≡ option_map (λ p. p.1) (closer 125 following) → IfSome r (λ rest. ClosesExpression s rest.now)
+closes s following None w e = tt
+closes s following (Some rest) w e =
+    let x = left_some (closer 125 following) rest.now e in
+    let m : Closer 125 following rest.now x.0.0 = subst (λ r. Closer 125 following r x.0.0) x.2 ((exact-closer 125).sound following x.0.1 x.0.0 x.1) in
+    record { byte = x.0.0; match = after_begins exact-white s following rest.now x.0.0 w m }
 
 -- a closer begins with a dash or a brace
 pub first_of : (s rest : List ℕ) (byte : ℕ) (b : ℕ) (t : List ℕ) → s ≡ b ∷ t → (b == 45) ≡ false → (b == 125) ≡ false → Closer 125 s rest byte → ⊥
@@ -113,7 +113,7 @@ no_index_here s rest c b = go b.match
 pub same_white : (s a b v w : List ℕ) → White s a v → White s b w → a ≡ b
 same_white s a b v w m n = ap (λ (x : List ℕ × List ℕ). x.1) (same_match exact-white s a b v w m n)
 
-pub no_filter_here : (s rest : List ℕ) → ClosesExpression s rest → ¬ (Begins (Behind 124 FilterRule) s)
+pub no_filter_here : (s rest : List ℕ) → ClosesExpression s rest → ¬ (Begins (Following 124 FilterRule) s)
 no_filter_here s rest c b =
     let separated = b.match.match.before.match.before in
     let bar = separated.match.after in
@@ -124,7 +124,7 @@ pub element_stands : (s start end rest : List ℕ) (chain : Chain) → OpensExpr
 element_stands s start end rest chain o m c =
     let closed = c.match.match in
     let opened : (ExpressionStart ▷ ChainRule) s end chain = record { from = (o.white, chain); match = record { middle = start; before = o.match; after = m }; is = refl } in
-    let behind : (ExpressionStart ▷ ChainRule ◁ White) s closed.middle chain = record { from = (chain, c.match.from.0); match = record { middle = end; before = opened; after = closed.before }; is = refl } in
-    let whole : ExpressionRule s rest chain = record { from = (chain, c.match.from.1); match = record { middle = closed.middle; before = behind; after = closed.after }; is = refl } in
+    let following : (ExpressionStart ▷ ChainRule ◁ White) s closed.middle chain = record { from = (chain, c.match.from.0); match = record { middle = end; before = opened; after = closed.before }; is = refl } in
+    let whole : ExpressionRule s rest chain = record { from = (chain, c.match.from.1); match = record { middle = closed.middle; before = following; after = closed.after }; is = refl } in
     let cut = exact-full_expression.cuts s rest chain whole in
     (cut.0, record { joined = cut.1; kind = record { no_tag = o.no_tag; match = whole } })

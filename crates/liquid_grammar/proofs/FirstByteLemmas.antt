@@ -13,10 +13,10 @@ use Rattle.liquid_grammar.specs.meaning.Tokens.{is_single, is_double}
 use Rattle.liquid_grammar.specs.meaning.Faults.{index_fault, filter_fault, range_fault, chain_fault}
 use Rattle.liquid_grammar.specs.meaning.Meanings.{scan}
 use Rattle.liquid_grammar.specs.steps.Steps.{byte, one, both, seen, only, text, right, white, name_bytes, identifier}
-use Rattle.liquid_grammar.specs.steps.TokenSteps.{placed, at, any, begins_value, begins_index, begins_filter, separated, behind, filter, quoted, digits, sign, whole, fractional, number, literal, text_of_quotes, text_or_number, open_bracket, close_bracket, bracketed_over, named, value, chain_of, range_start, ranged, symbol_of}
+use Rattle.liquid_grammar.specs.steps.TokenSteps.{placed, at, any, begins_value, begins_index, begins_filter, separated, following, filter, quoted, digits, sign, whole, fractional, number, literal, text_of_quotes, text_or_number, open_bracket, close_bracket, bracketed_over, named, value, chain_of, range_start, ranged, symbol_of}
 use Rattle.liquid_grammar.specs.steps.BracketSteps.{index}
 use Rattle.liquid_grammar.proofs.HeadLemmas.{one_none, seen_none, right_none, left_none, either_none, text_none, quoted_none, whole_none, number_none, literal_without_word, no_name}
-use Rattle.liquid_grammar.proofs.Scanning.{both_none, both_none_behind, range_no_start, no_chain_scan}
+use Rattle.liquid_grammar.proofs.Scanning.{both_none, both_none_after, range_no_start, no_chain_scan}
 use Rattle.liquid_grammar.proofs.Exact.{none_begins}
 use Rattle.liquid_grammar.proofs.TokenExact.{exact-value, exact-index}
 use Rattle.liquid_grammar.proofs.ValueScan.{scan_none, no_value_scan}
@@ -192,15 +192,15 @@ pub no_rest : (s : List ℕ) → symbol_of s ≡ None → None ≡ option_map (�
 no_rest s e = sym (ap (option_map (λ p. p.1)) e)
 
 -- a filter begins with `|` after white space
-pub bar_behind : (s place : List ℕ) → Some place ≡ option_map (λ p. p.1) (white s) → (slice_index place 0 == 124) ≡ begins_filter s
+pub bar_after : (s place : List ℕ) → Some place ≡ option_map (λ p. p.1) (white s) → (slice_index place 0 == 124) ≡ begins_filter s
 unfolding white
-bar_behind s place e = ap (λ t. slice_index t 0 == 124) (same_Some _ _ e)
+bar_after s place e = ap (λ t. slice_index t 0 == 124) (same_Some _ _ e)
 
 no_bar : (s : List ℕ) → begins_filter s ≡ false → right white (byte 124) s ≡ None
 unfolding white
 no_bar s e =
     let n = prefix_len is_white s in
-    seen_none (λ p. p.1) (both white (byte 124)) s (both_none_behind white (byte 124) s (take n s, drop n s) refl (other_byte 124 (drop n s) e))
+    seen_none (λ p. p.1) (both white (byte 124)) s (both_none_after white (byte 124) s (take n s, drop n s) refl (other_byte 124 (drop n s) e))
 
-pub no_filter_here : (s : List ℕ) → begins_filter s ≡ false → None ≡ scan filter_fault (behind 124 filter s)
+pub no_filter_here : (s : List ℕ) → begins_filter s ≡ false → None ≡ scan filter_fault (following 124 filter s)
 no_filter_here s e = sym (ap (scan filter_fault) (right_none (separated 124) filter s (right_none (right white (byte 124)) white s (no_bar s e))))

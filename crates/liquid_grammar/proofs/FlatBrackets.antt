@@ -41,8 +41,8 @@ inside t = option_and_then (λ v. option_map (λ c. (v.0, c.1)) (close_bracket v
 close_shape : (v : Value × List ℕ) (o : Option (ℕ × List ℕ))
     → let pair : ℕ × List ℕ → (Value × ℕ) × List ℕ = λ b. ((v.0, b.0), b.1) in
     let keep : (Value × ℕ) × List ℕ → Value × List ℕ = λ a. (a.0.0, a.1) in
-    let behind : ℕ × List ℕ → Value × List ℕ = λ c. (v.0, c.1) in
-    option_map keep (option_map pair o) ≡ option_map behind o
+    let following : ℕ × List ℕ → Value × List ℕ = λ c. (v.0, c.1) in
+    option_map keep (option_map pair o) ≡ option_map following o
 close_shape v (Some c) = refl
 close_shape v None = refl
 
@@ -51,8 +51,8 @@ inside_shape : (w : List ℕ) (o : Option (Value × List ℕ))
     let second : (List ℕ × Value) × List ℕ → Value × List ℕ = λ a. (a.0.1, a.1) in
     let close : Value × List ℕ → Option ((Value × ℕ) × List ℕ) = λ a. option_map (λ b. ((a.0, b.0), b.1)) (close_bracket a.1) in
     let keep : (Value × ℕ) × List ℕ → Value × List ℕ = λ a. (a.0.0, a.1) in
-    let behind : Value × List ℕ → Option (Value × List ℕ) = λ v. option_map (λ c. (v.0, c.1)) (close_bracket v.1) in
-    option_map keep (option_and_then close (option_map second (option_map pair o))) ≡ option_and_then behind o
+    let following : Value × List ℕ → Option (Value × List ℕ) = λ v. option_map (λ c. (v.0, c.1)) (close_bracket v.1) in
+    option_map keep (option_and_then close (option_map second (option_map pair o))) ≡ option_and_then following o
 inside_shape w (Some v) = close_shape v (close_bracket v.1)
 inside_shape w None = refl
 
@@ -75,17 +75,17 @@ bracketed_none s e =
 -- what the brackets' index leaves to be scanned
 start_shape : (s : List ℕ) (o : Option (Value × List ℕ))
     → let make : Placed Value × List ℕ → Index × List ℕ = λ a. (placed_bracket a.0, a.1) in
-    let behind : Value × List ℕ → Option (Value × List ℕ) = λ v. option_map (λ c. (v.0, c.1)) (close_bracket v.1) in
+    let following : Value × List ℕ → Option (Value × List ℕ) = λ v. option_map (λ c. (v.0, c.1)) (close_bracket v.1) in
     let more_of : Value × List ℕ → Option Scanned = λ v. adds (fault_within 1 v.0) (closing (resume 0) v.1) in
-    scan (index_fault 0) (option_map make (option_map (placed s) (option_and_then behind o))) ≡ option_and_then more_of o
+    scan (index_fault 0) (option_map make (option_map (placed s) (option_and_then following o))) ≡ option_and_then more_of o
 unfolding resume
 start_shape s (Some v) = go (close_bracket v.1)
   where
     go : (o : Option (ℕ × List ℕ))
         → let make : Placed Value × List ℕ → Index × List ℕ = λ a. (placed_bracket a.0, a.1) in
-        let behind : ℕ × List ℕ → Value × List ℕ = λ c. (v.0, c.1) in
+        let following : ℕ × List ℕ → Value × List ℕ = λ c. (v.0, c.1) in
         let next : ℕ × List ℕ → Option Scanned = λ a. resume 0 a.1 in
-        scan (index_fault 0) (option_map make (option_map (placed s) (option_map behind o))) ≡ adds (fault_within 1 v.0) (option_and_then next o)
+        scan (index_fault 0) (option_map make (option_map (placed s) (option_map following o))) ≡ adds (fault_within 1 v.0) (option_and_then next o)
     go (Some c) = let w : Option Fault → Option Scanned = λ y. Some (y, c.1) in ap w (sym (or_none (fault_within 1 v.0)))
     go None = refl
 start_shape s None = refl
@@ -231,11 +231,11 @@ resume_open depth s x none e = by_value (value x.1) refl
     ended : bracketed_over value s ≡ None → resume (suc depth) s ≡ None
     ended h = resume_end depth s (index_none s none h) ∙ no_close
 
-    behind : Value × List ℕ → Option (Value × List ℕ)
-    behind v = option_map (λ c. (v.0, c.1)) (close_bracket v.1)
+    following : Value × List ℕ → Option (Value × List ℕ)
+    following v = option_map (λ c. (v.0, c.1)) (close_bracket v.1)
 
     found : (v : Value × List ℕ) → value x.1 ≡ Some v → bracketed_over value s ≡ option_map (λ c. (v.0, c.1)) (close_bracket v.1)
-    found v h = bracketed_is s x e ∙ ap (option_and_then behind) h
+    found v h = bracketed_is s x e ∙ ap (option_and_then following) h
 
     deep : Option Scanned → Option Scanned
     deep = adds (deep_fault (suc depth) s)
@@ -254,7 +254,7 @@ resume_open depth s x none e = by_value (value x.1) refl
         ∙ sym (ap (λ o. deep (adds (fault_within (suc (suc depth)) v.0) (option_and_then go o))) k)
 
     by_value : (o : Option (Value × List ℕ)) → value x.1 ≡ o → resume (suc depth) s ≡ adds (deep_fault (suc depth) s) (starts (suc (suc depth)) x.1)
-    by_value None h = ended (bracketed_is s x e ∙ ap (option_and_then behind) h) ∙ sym (ap (λ o. deep (option_and_then next o)) h)
+    by_value None h = ended (bracketed_is s x e ∙ ap (option_and_then following) h) ∙ sym (ap (λ o. deep (option_and_then next o)) h)
     by_value (Some v) h = by_close v h (close_bracket v.1) refl ∙ sym (ap (λ o. deep (option_and_then next o)) h)
 
 -- a close bracket: one fewer is open

@@ -15,7 +15,7 @@ use Rattle.liquid_grammar.specs.declared.head.Head.TheVariants as head
 use Rattle.liquid_grammar.specs.steps.Heads.{literal_in, name_in, IsHeadOf}
 use Rattle.liquid_grammar.specs.steps.Steps.{Reader, one, byte, both, either, seen, text, right, left, run, name_bytes, identifier, name}
 use Rattle.liquid_grammar.specs.steps.TokenSteps.{quoted, text_of_quotes, digits, sign, whole, fractional, number, not_ahead, word, literal, text_or_number}
-use Rattle.liquid_grammar.proofs.Scanning.{both_none, both_none_behind}
+use Rattle.liquid_grammar.proofs.Scanning.{both_none, both_none_after}
 
 not_39 : (b : ℕ) → starts_name b ≡ true → (b == 39) ≡ false
 not_39 b e = grind (arith, nat_tests)
@@ -61,7 +61,7 @@ sign_none b t e = ap (λ c. option_or (option_map (λ (a : ℕ × List ℕ). (So
 
 pub whole_none : (b : ℕ) (t : List ℕ) → (b == 43 || b == 45) ≡ false → is_ascii_digit b ≡ false → whole (b ∷ t) ≡ None
 unfolding whole
-whole_none b t e f = text_none (both sign digits) (b ∷ t) (both_none_behind sign digits (b ∷ t) (None, b ∷ t) (sign_none b t e) (digits_none b t f))
+whole_none b t e f = text_none (both sign digits) (b ∷ t) (both_none_after sign digits (b ∷ t) (None, b ∷ t) (sign_none b t e) (digits_none b t f))
 
 pub fractional_none : (s : List ℕ) → whole s ≡ None → fractional s ≡ None
 unfolding fractional

@@ -70,9 +70,9 @@ bracket_parts s rest inner i none e (instead unmatched m) =
     let what : m.from.what ≡ whole.match.before.from.1 = whole.is ∙ whole.match.before.is in
     record {
       value = whole.match.before.from.1;
-      behind = whole.match.middle;
+      following = whole.match.middle;
       byte = whole.from.1;
-      is = m.is ∙ bracket_is m.from.place m.from.behind s rest m.from.what whole.match.before.from.1 m.match.begins m.match.ends what;
+      is = m.is ∙ bracket_is m.from.place m.from.following s rest m.from.what whole.match.before.from.1 m.match.begins m.match.ends what;
       match = subst (λ t. ValueRule t whole.match.middle whole.match.before.from.1) (ap (λ (p : List ℕ × List ℕ). p.1) same ∙ x.2) opened.after;
       closes = whole.match.after;
     }

@@ -15,10 +15,10 @@ use Rattle.liquid_grammar.specs.declared.fault.Fault.{Fault as CodeFault}
 use Rattle.liquid_grammar.specs.meaning.KindMeanings.{token_kind_of, HasKind, HasChainKind, FindsKind, FindsValueKind}
 use Rattle.liquid_grammar.specs.meaning.Meanings.{scan, Scanned, scanned_of, Scans}
 use Rattle.liquid_grammar.specs.steps.Steps.{Reader, name}
-use Rattle.liquid_grammar.specs.steps.TokenSteps.{placed, repeated, behind, literal, value, variable_over, filter, chain_of, ranged, symbol_of, token}
+use Rattle.liquid_grammar.specs.steps.TokenSteps.{placed, repeated, following, literal, value, variable_over, filter, chain_of, ranged, symbol_of, token}
 use Rattle.liquid_grammar.specs.steps.BracketSteps.{index, indexes}
 use Rattle.liquid_grammar.proofs.ExactRepeated.{repeated_more, repeated_end, repeated_total}
-use Rattle.liquid_grammar.proofs.TokenExact.{exact-value, exact-index, shrinks-index, exact-behind, shrinks-behind, exact-filter, exact-chain, exact-token}
+use Rattle.liquid_grammar.proofs.TokenExact.{exact-value, exact-index, shrinks-index, exact-following, shrinks-following, exact-filter, exact-chain, exact-token}
 use Rattle.liquid_grammar.proofs.ValueLaw.{value_reads}
 use Rattle.liquid_grammar.proofs.ValueScan.{scan_some, scan_none, list_fault}
 use Rattle.liquid_grammar.proofs.FlatBrackets.{left_some, left_none}
@@ -46,7 +46,7 @@ literal_is s rest l e =
     ap (λ o. kind_in (option_or (option_map make (option_map (placed s) o)) (variable_over value s))) e ∙ sym (ap kind_in (value_reads s))
 
 abbrev variable_in : List ℕ → Option (List Index × List ℕ) → Option KindFound
-variable_in n o = option_map (λ b. (value_kind (placed_variable (record { place = n; behind = n; what = (n, b.0) })), b.1)) o
+variable_in n o = option_map (λ b. (value_kind (placed_variable (record { place = n; following = n; what = (n, b.0) })), b.1)) o
 
 variable_shape : (s n : List ℕ) (o : Option (List Index × List ℕ))
     → let pair : List Index × List ℕ → (List ℕ × List Index) × List ℕ = λ b. ((n, b.0), b.1) in
@@ -96,7 +96,7 @@ abbrev chain_kind_in : Option (Chain × List ℕ) → Option Kind
 chain_kind_in o = option_map (λ a. chain_kind a.0.what.0 a.0.what.1) o
 
 abbrev next_filter : Reader Filter
-next_filter = behind 124 filter
+next_filter = following 124 filter
 
 chain_shape : (s : List ℕ) (x : Value × List ℕ) (y : List Filter × List ℕ) → value s ≡ Some x → repeated next_filter x.1 ≡ Some y → chain_kind_in (chain_of s) ≡ Some (chain_kind x.0 y.0)
 unfolding chain_of
@@ -117,7 +117,7 @@ filtered_is s rest after k h e f =
     let y = scan_some filter_fault (next_filter rest) h after f in
     let t = repeated_total next_filter y.0.1 in
     let cons : List Filter × List ℕ → List Filter × List ℕ = λ b. (y.0.0 ∷ b.0, b.1) in
-    let all = repeated_more (exact-behind 124 exact-filter) (shrinks-behind 124 exact-filter) rest y.0 y.1 ∙ ap (option_map cons) t.1 in
+    let all = repeated_more (exact-following 124 exact-filter) (shrinks-following 124 exact-filter) rest y.0 y.1 ∙ ap (option_map cons) t.1 in
     sym (chain_shape s x.0 (y.0.0 ∷ t.0.0, t.0.1) x.1 (ap (repeated next_filter) x.3 ∙ all))
 
 pub unfiltered_is : (s rest : List ℕ) (k : Kind) → ◌≡◌ {A = Option KindFound} (Some (k, rest)) (kind_in (value s)) → None ≡ scan filter_fault (next_filter rest) → Some k ≡ chain_kind_in (chain_of s)
@@ -149,7 +149,7 @@ range_has_kind s rest g e =
     let x = scan_some range_fault (ranged s) g rest e in
     let others = option_or (option_map as_chain (chain_of s)) (option_map as_symbol (option_map (placed s) (symbol_of s))) in
     let t = token_parts s ∙ ap (λ o. option_or (option_map as_range (option_map (placed s) o)) others) x.1 in
-    record { rest = x.0.1; shape = range (record { place = s; behind = x.0.1; what = x.0.0 }); match = exact-token.sound s x.0.1 _ t; is = refl }
+    record { rest = x.0.1; shape = range (record { place = s; following = x.0.1; what = x.0.0 }); match = exact-token.sound s x.0.1 _ t; is = refl }
 
 kind_some : (o : Option (Chain × List ℕ)) (k : Kind) → Some k ≡ chain_kind_in o → (x : Chain × List ℕ) × (o ≡ Some x) × (k ≡ chain_kind x.0.what.0 x.0.what.1)
 kind_some (Some x) k e = (x, refl, same_Some _ _ e)
@@ -179,7 +179,7 @@ pub symbol_has_kind : (s rest : List ℕ) → None ≡ scan range_fault (ranged 
 symbol_has_kind s rest none e h =
     let x = left_some (symbol_of s) rest h in
     let t = neither s none e ∙ ap (λ o. option_map as_symbol (option_map (placed s) o)) x.1 in
-    record { rest = x.0.1; shape = symbol (record { place = s; behind = x.0.1; what = x.0.0 }); match = exact-token.sound s x.0.1 _ t; is = refl }
+    record { rest = x.0.1; shape = symbol (record { place = s; following = x.0.1; what = x.0.0 }); match = exact-token.sound s x.0.1 _ t; is = refl }
 
 pub no_token : (s : List ℕ) → None ≡ scan range_fault (ranged s) → None ≡ chain_kind_in (chain_of s) → None ≡ option_map (λ p. p.1) (symbol_of s) → ¬ (Begins TokenRule s)
 no_token s none e h = none_begins exact-token s (neither s none e ∙ ap (λ o. option_map as_symbol (option_map (placed s) o)) (left_none (symbol_of s) h))

@@ -38,7 +38,7 @@ first_part {A} F Part s middle rest part parts m found (more {middle = t} {shape
 has_head : (s : List ℕ) (h : Head) (after : Bor (List ℕ)) → literal_in (h, after) ≡ literal s → name_in (h, after) ≡ name s → HasHead s h after.now
 has_head s (head.Literal l) after e f =
     let m : ValueOver ValueRule s after.now (literal_value s after.now (literal_of l)) = here (record {
-      from = record { place = s; behind = after.now; what = literal_of l };
+      from = record { place = s; following = after.now; what = literal_of l };
       match = record { begins = refl; ends = refl; match = exact-literal.sound s after.now (literal_of l) (sym e) };
       is = refl;
     }) in
@@ -52,7 +52,7 @@ has_head s (head.Name n) after e f =
     let v : Value = variable_value s rest n.now (gather indexes) in
     let over : ValueOver ValueRule s rest v =
     instead (λ (b : Begins (Seen placed_literal (At LiteralRule)) s). none (record { rest = b.rest; shape = b.match.from.what; match = b.match.match.match })) (record {
-      from = record { place = s; behind = rest; what = (n.now, indexes) };
+      from = record { place = s; following = rest; what = (n.now, indexes) };
       match = record { begins = refl; ends = refl; match = record { middle = after.now; before = exact-name.sound s after.now n.now (sym f); after = m } };
       is = refl;
     })
@@ -112,23 +112,23 @@ identifier_joined s rest word e = let m = exact-identifier.sound s rest word (sy
 pub chain_parts : (s rest : List ℕ) (chain : Chain) → ChainRule s rest chain → IsChain s rest chain
 chain_parts s rest chain m = record { begins = m.begins; ends = m.ends; middle = m.match.middle; value = m.match.before; filters = m.match.after }
 
-pub expression_chain : (s rest : List ℕ) (chain : Chain) → ExpressionRule s rest chain → ChainRule chain.place chain.behind chain
+pub expression_chain : (s rest : List ℕ) (chain : Chain) → ExpressionRule s rest chain → ChainRule chain.place chain.following chain
 expression_chain s rest chain m =
     let inside = m.match.before.match.before in
     let chain_match = inside.match.after in
     let what : chain ≡ inside.from.1 = m.is ∙ m.match.before.is ∙ inside.is in
     let at_place = subst (λ t. ChainRule t inside_end inside.from.1) (sym chain_match.begins) chain_match in
-    subst (λ (c : Chain). ChainRule c.place c.behind c) (sym what) (subst (λ t. ChainRule inside.from.1.place t inside.from.1) (sym chain_match.ends) at_place)
+    subst (λ (c : Chain). ChainRule c.place c.following c) (sym what) (subst (λ t. ChainRule inside.from.1.place t inside.from.1) (sym chain_match.ends) at_place)
   where
     inside_end : List ℕ
     inside_end = m.match.before.match.middle
 
-pub tag_tokens : (s rest : List ℕ) (tag : Tag) → TagRule s rest tag → Repeated (White ▷ TokenRule) tag.1.place tag.1.behind tag.1.what
+pub tag_tokens : (s rest : List ℕ) (tag : Tag) → TagRule s rest tag → Repeated (White ▷ TokenRule) tag.1.place tag.1.following tag.1.what
 tag_tokens s rest tag m =
     let inside = m.match.before.match.before in
     let tokens = inside.after in
     let what : tag ≡ m.match.before.from.0 = m.is ∙ m.match.before.is in
-    let moved = subst (λ t. Repeated (White ▷ TokenRule) t m.match.before.from.0.1.behind m.match.before.from.0.1.what) (sym tokens.begins)
+    let moved = subst (λ t. Repeated (White ▷ TokenRule) t m.match.before.from.0.1.following m.match.before.from.0.1.what) (sym tokens.begins)
     (subst (λ t. Repeated (White ▷ TokenRule) inside.middle t m.match.before.from.0.1.what) (sym tokens.ends) tokens.match)
     in
-    subst (λ (t : Tag). Repeated (White ▷ TokenRule) t.1.place t.1.behind t.1.what) (sym what) moved
+    subst (λ (t : Tag). Repeated (White ▷ TokenRule) t.1.place t.1.following t.1.what) (sym what) moved

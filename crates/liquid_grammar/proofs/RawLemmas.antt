@@ -47,26 +47,26 @@ dashed_shape before (Some x) = refl
 dashed_shape before None = refl
 
 -- a dashed opener begins where its braces follow white space
-dashed_behind : (kind : ℕ) (s : List ℕ) → is_some (dashed_opener kind s) ≡ marked kind (drop (prefix_len is_white s) s)
+dashed_after : (kind : ℕ) (s : List ℕ) → is_some (dashed_opener kind s) ≡ marked kind (drop (prefix_len is_white s) s)
 unfolding dashed_opener white
-dashed_behind kind s = dashed_shape (take (prefix_len is_white s) s) (braces kind (drop (prefix_len is_white s) s))
+dashed_after kind s = dashed_shape (take (prefix_len is_white s) s) (braces kind (drop (prefix_len is_white s) s))
 
-behind_more : (b : ℕ) (s : List ℕ) → is_white b ≡ true → drop (prefix_len is_white (b ∷ s)) (b ∷ s) ≡ drop (prefix_len is_white s) s
-behind_more b s e =
+after_more : (b : ℕ) (s : List ℕ) → is_white b ≡ true → drop (prefix_len is_white (b ∷ s)) (b ∷ s) ≡ drop (prefix_len is_white s) s
+after_more b s e =
     let len : prefix_len is_white (b ∷ s) ≡ suc (prefix_len is_white s) = omega (arith, ap (λ t. cond t (1 + prefix_len is_white s) 0) e) in
     ap (λ n. drop n (b ∷ s)) len
 
-behind_none : (b : ℕ) (s : List ℕ) → is_white b ≡ false → drop (prefix_len is_white (b ∷ s)) (b ∷ s) ≡ b ∷ s
-behind_none b s e = ap (λ t. drop (cond t (1 + prefix_len is_white s) 0) (b ∷ s)) e
+after_none : (b : ℕ) (s : List ℕ) → is_white b ≡ false → drop (prefix_len is_white (b ∷ s)) (b ∷ s) ≡ b ∷ s
+after_none b s e = ap (λ t. drop (cond t (1 + prefix_len is_white s) 0) (b ∷ s)) e
 
 dashed_white : (b : ℕ) (s : List ℕ) → is_white b ≡ true → dashed (b ∷ s) ≡ dashed s
 dashed_white b s e =
-    let one_kind = λ (kind : ℕ). dashed_behind kind (b ∷ s) ∙ ap (marked kind) (behind_more b s e) ∙ sym (dashed_behind kind s) in
+    let one_kind = λ (kind : ℕ). dashed_after kind (b ∷ s) ∙ ap (marked kind) (after_more b s e) ∙ sym (dashed_after kind s) in
     ap₂ (λ x y. x || y) (one_kind 123) (one_kind 37)
 
 dashed_other : (b : ℕ) (s : List ℕ) → is_white b ≡ false → dashed (b ∷ s) ≡ marked 123 (b ∷ s) || marked 37 (b ∷ s)
 dashed_other b s e =
-    let one_kind = λ (kind : ℕ). dashed_behind kind (b ∷ s) ∙ ap (marked kind) (behind_none b s e) in
+    let one_kind = λ (kind : ℕ). dashed_after kind (b ∷ s) ∙ ap (marked kind) (after_none b s e) in
     ap₂ (λ x y. x || y) (one_kind 123) (one_kind 37)
 
 opens_parts : (s : List ℕ) → opens s ≡ (is_some (dashed_opener 123 s) || is_some (braces 123 s)) || (is_some (dashed_opener 37 s) || is_some (braces 37 s))
@@ -169,7 +169,7 @@ turn_other : (b : ℕ) (s : List ℕ) → is_white b ≡ false
     (opens (b ∷ s) ≡ t) × (dashed (b ∷ s) ≡ (t && (slice_index s 1 == 45)))
 turn_other b s e =
     let m = λ (kind : ℕ). marked_flag kind b s in
-    let f = λ (kind : ℕ). dashed_behind kind (b ∷ s) ∙ ap (marked kind) (behind_none b s e) ∙ m kind in
+    let f = λ (kind : ℕ). dashed_after kind (b ∷ s) ∙ ap (marked kind) (after_none b s e) ∙ m kind in
     let at = b == 123 in
     let x = slice_index s 0 == 123 in
     let y = slice_index s 0 == 37 in

@@ -8,13 +8,13 @@ use Rattle.liquid_grammar.specs.declared.fault.Fault.{Fault as CodeFault}
 use Rattle.liquid_grammar.specs.meaning.Faults.{Fault, first_fault, value_fault, argument_fault, filter_fault, chain_fault, range_fault}
 use Rattle.liquid_grammar.specs.meaning.Meanings.{Scanned, Scans, scan, scanned_of, faults_of}
 use Rattle.liquid_grammar.specs.steps.Steps.{Reader, both, right, left}
-use Rattle.liquid_grammar.specs.steps.TokenSteps.{placed, repeated, separated, behind, argument, arguments, value, filter, chain_of, range_start, dots, range_end, ranged}
+use Rattle.liquid_grammar.specs.steps.TokenSteps.{placed, repeated, separated, following, argument, arguments, value, filter, chain_of, range_start, dots, range_end, ranged}
 use Rattle.liquid_grammar.specs.steps.BracketSteps.{adds}
 use Rattle.liquid_grammar.proofs.Exact.{Exact, Shrinks}
 use Rattle.liquid_grammar.proofs.ExactRepeated.{repeated_more, repeated_end}
 use Rattle.liquid_grammar.proofs.ValueScan.{scan_some, scan_none}
 use Rattle.liquid_grammar.proofs.FlatBrackets.{left_some, left_none, faults_or, or_none}
-use Rattle.liquid_grammar.proofs.TokenExact.{exact-behind, shrinks-behind, exact-filter}
+use Rattle.liquid_grammar.proofs.TokenExact.{exact-following, shrinks-following, exact-filter}
 
 more_shape : {A : Type 0} (fault : A → Option Fault) (x : A) (o : Option (List A × List ℕ))
     → let cons : List A × List ℕ → List A × List ℕ = λ b. (x ∷ b.0, b.1) in
@@ -51,14 +51,14 @@ left_found {A} {B} f g s a b e h =
 
 -- an argument, and those after commas
 pub arguments_scan : (s r₀ r₁ r₂ : List ℕ) (g h : Option Fault) → Some r₀ ≡ option_map (λ p. p.1) (separated 58 s) → Some (g, r₁) ≡ scan argument_fault (argument r₀)
-    → Some (h, r₂) ≡ scan (first_fault argument_fault) (repeated (behind 44 argument) r₁) → Some (option_or g h, r₂) ≡ scan (first_fault argument_fault) (arguments s)
+    → Some (h, r₂) ≡ scan (first_fault argument_fault) (repeated (following 44 argument) r₁) → Some (option_or g h, r₂) ≡ scan (first_fault argument_fault) (arguments s)
 unfolding arguments
 arguments_scan s r₀ r₁ r₂ g h e₀ e₁ e₂ =
     let x₀ = left_some (separated 58 s) r₀ e₀ in
     let x₁ = scan_some argument_fault (argument r₀) g r₁ e₁ in
-    let x₂ = scan_some (first_fault argument_fault) (repeated (behind 44 argument) r₁) h r₂ e₂ in
+    let x₂ = scan_some (first_fault argument_fault) (repeated (following 44 argument) r₁) h r₂ e₂ in
     let first = right_some (separated 58) argument s x₀.0 x₁.0 x₀.1 (ap argument x₀.2 ∙ x₁.1) in
-    let both_found = both_some (behind 58 argument) (repeated (behind 44 argument)) s x₁.0 x₂.0 first (ap (repeated (behind 44 argument)) x₁.3 ∙ x₂.1) in
+    let both_found = both_some (following 58 argument) (repeated (following 44 argument)) s x₁.0 x₂.0 first (ap (repeated (following 44 argument)) x₁.3 ∙ x₂.1) in
     let make : (Argument × List Argument) × List ℕ → List Argument × List ℕ = λ a. (a.0.0 ∷ a.0.1, a.1) in
     let w : Option Fault → Option Fault → List ℕ → Option Scanned = λ a b t. Some (option_or a b, t) in
     sym (ap (λ o. scan (first_fault argument_fault) (option_map make o)) both_found ∙ ap (λ t. w (argument_fault x₁.0.0) (first_fault argument_fault x₂.0.0) t) x₂.3
@@ -66,12 +66,12 @@ arguments_scan s r₀ r₁ r₂ g h e₀ e₁ e₂ =
 
 -- a value, and filters after it
 pub chain_scan : (s r₁ r₂ : List ℕ) (g h : Option Fault) → Some (g, r₁) ≡ scan value_fault (value s)
-    → Some (h, r₂) ≡ scan (first_fault filter_fault) (repeated (behind 124 filter) r₁) → Some (option_or g h, r₂) ≡ scan chain_fault (chain_of s)
+    → Some (h, r₂) ≡ scan (first_fault filter_fault) (repeated (following 124 filter) r₁) → Some (option_or g h, r₂) ≡ scan chain_fault (chain_of s)
 unfolding chain_of
 chain_scan s r₁ r₂ g h e₁ e₂ =
     let x₁ = scan_some value_fault (value s) g r₁ e₁ in
-    let x₂ = scan_some (first_fault filter_fault) (repeated (behind 124 filter) r₁) h r₂ e₂ in
-    let both_found = both_some value (repeated (behind 124 filter)) s x₁.0 x₂.0 x₁.1 (ap (repeated (behind 124 filter)) x₁.3 ∙ x₂.1) in
+    let x₂ = scan_some (first_fault filter_fault) (repeated (following 124 filter) r₁) h r₂ e₂ in
+    let both_found = both_some value (repeated (following 124 filter)) s x₁.0 x₂.0 x₁.1 (ap (repeated (following 124 filter)) x₁.3 ∙ x₂.1) in
     let w : Option Fault → Option Fault → List ℕ → Option Scanned = λ a b t. Some (option_or a b, t) in
     sym (ap (λ o. scan chain_fault (option_map (placed s) o)) both_found ∙ ap (λ t. w (value_fault x₁.0.0) (first_fault filter_fault x₂.0.0) t) x₂.3 ∙ ap₂ (λ a b. w a b r₂) x₁.2 x₂.2)
 
@@ -103,8 +103,8 @@ both_none {A} {B} f g s e =
     let next : A × List ℕ → Option ((A × B) × List ℕ) = λ x. option_map (λ y. ((x.0, y.0), y.1)) (g x.1) in
     ap (option_and_then next) e
 
-pub both_none_behind : {A B : Type 0} (f : Reader A) (g : Reader B) (s : List ℕ) (a : A × List ℕ) → f s ≡ Some a → g a.1 ≡ None → both f g s ≡ None
-both_none_behind {A} {B} f g s a e h =
+pub both_none_after : {A B : Type 0} (f : Reader A) (g : Reader B) (s : List ℕ) (a : A × List ℕ) → f s ≡ Some a → g a.1 ≡ None → both f g s ≡ None
+both_none_after {A} {B} f g s a e h =
     let next : A × List ℕ → Option ((A × B) × List ℕ) = λ x. option_map (λ y. ((x.0, y.0), y.1)) (g x.1) in
     ap (option_and_then next) e ∙ ap (option_map (λ y. ((a.0, y.0), y.1))) h
 
@@ -128,7 +128,7 @@ range_no_start s e = not_ranged s (right_of_none range_start range_values s (bot
 no_values : (s r₀ : List ℕ) → Some r₀ ≡ option_map (λ p. p.1) (range_start s) → range_values r₀ ≡ None → None ≡ scan range_fault (ranged s)
 no_values s r₀ e h =
     let x = left_some (range_start s) r₀ e in
-    not_ranged s (right_of_none range_start range_values s (both_none_behind range_start range_values s x.0 x.1 (ap range_values x.2 ∙ h)))
+    not_ranged s (right_of_none range_start range_values s (both_none_after range_start range_values s x.0 x.1 (ap range_values x.2 ∙ h)))
 
 pub range_no_first : (s r₀ : List ℕ) → Some r₀ ≡ option_map (λ p. p.1) (range_start s) → None ≡ scan value_fault (value r₀) → None ≡ scan range_fault (ranged s)
 range_no_first s r₀ e h =
@@ -138,7 +138,7 @@ range_no_first s r₀ e h =
 pub range_no_dots : (s r₀ r₁ : List ℕ) (g : Option Fault) → Some r₀ ≡ option_map (λ p. p.1) (range_start s) → Some (g, r₁) ≡ scan value_fault (value r₀) → None ≡ option_map (λ p. p.1) (dots r₁) → None ≡ scan range_fault (ranged s)
 range_no_dots s r₀ r₁ g e f h =
     let x = scan_some value_fault (value r₀) g r₁ f in
-    let none = left_of_none value dots r₀ (both_none_behind value dots r₀ x.0 x.1 (ap dots x.3 ∙ left_none (dots r₁) h)) in
+    let none = left_of_none value dots r₀ (both_none_after value dots r₀ x.0 x.1 (ap dots x.3 ∙ left_none (dots r₁) h)) in
     no_values s r₀ e (both_none (left value dots) value r₀ none)
 
 first_value : (r₀ r₁ r₂ : List ℕ) (g : Option Fault) → Some (g, r₁) ≡ scan value_fault (value r₀) → Some r₂ ≡ option_map (λ p. p.1) (dots r₁) → (v : Value × List ℕ) × (left value dots r₀ ≡ Some v) × (v.1 ≡ r₂)
@@ -151,7 +151,7 @@ pub range_no_second : (s r₀ r₁ r₂ : List ℕ) (g : Option Fault) → Some 
     → None ≡ scan value_fault (value r₂) → None ≡ scan range_fault (ranged s)
 range_no_second s r₀ r₁ r₂ g e f h k =
     let v = first_value r₀ r₁ r₂ g f h in
-    no_values s r₀ e (both_none_behind (left value dots) value r₀ v.0 v.1 (ap value v.2 ∙ scan_none value_fault (value r₂) k))
+    no_values s r₀ e (both_none_after (left value dots) value r₀ v.0 v.1 (ap value v.2 ∙ scan_none value_fault (value r₂) k))
 
 pub range_no_end : (s r₀ r₁ r₂ r₃ : List ℕ) (g h : Option Fault) → Some r₀ ≡ option_map (λ p. p.1) (range_start s) → Some (g, r₁) ≡ scan value_fault (value r₀) → Some r₂ ≡ option_map (λ p. p.1) (dots r₁)
     → Some (h, r₃) ≡ scan value_fault (value r₂) → None ≡ option_map (λ p. p.1) (range_end r₃) → None ≡ scan range_fault (ranged s)
@@ -162,7 +162,7 @@ range_no_end s r₀ r₁ r₂ r₃ g h e₀ e₁ e₂ e₃ e₄ =
     let x₃ = scan_some value_fault (value r₂) h r₃ e₃ in
     let values = both_some (left value dots) value r₀ v.0 x₃.0 v.1 (ap value v.2 ∙ x₃.1) in
     let inner = right_some range_start range_values s x₀.0 ((v.0.0, x₃.0.0), x₃.0.1) x₀.1 (ap range_values x₀.2 ∙ values) in
-    sym (ap (scan range_fault) (left_of_none (right range_start range_values) range_end s (both_none_behind (right range_start range_values) range_end s ((v.0.0, x₃.0.0), x₃.0.1) inner (ap range_end x₃.3 ∙ left_none (range_end r₃) e₄))))
+    sym (ap (scan range_fault) (left_of_none (right range_start range_values) range_end s (both_none_after (right range_start range_values) range_end s ((v.0.0, x₃.0.0), x₃.0.1) inner (ap range_end x₃.3 ∙ left_none (range_end r₃) e₄))))
 
 -- what an early return of None says about a range
 pub no_range : (s : List ℕ) (r : Option (Bor (List ℕ) × Bor (List ℕ) × Option CodeFault × Bor (List ℕ))) → r ≡ None → None ≡ scan range_fault (ranged s) → Scans range_fault (option_map (λ p. (p.2, p.3)) r) (ranged s)
@@ -171,7 +171,7 @@ no_range s r e h =
     ap seen e ∙ h
 
 abbrev next_filter : Reader Filter
-next_filter = behind 124 filter
+next_filter = following 124 filter
 
 -- a value without filters, one with filters, and none
 pub chain_end : (s rest : List ℕ) (g : Option Fault) → Some (g, rest) ≡ scan value_fault (value s) → None ≡ scan filter_fault (next_filter rest) → ◌≡◌ {A = Option Scanned} (Some (g, rest)) (scan chain_fault (chain_of s))
@@ -182,7 +182,7 @@ chain_end s rest g e f =
 pub chain_more : (s rest after end : List ℕ) (a b c t r : Option CodeFault) → t ≡ option_or b c → r ≡ option_or a t → Some (faults_of a, rest) ≡ scan value_fault (value s)
     → Some (faults_of b, after) ≡ scan filter_fault (next_filter rest) → Some (faults_of c, end) ≡ scan (first_fault filter_fault) (repeated next_filter after) → ◌≡◌ {A = Option Scanned} (Some (faults_of r, end)) (scan chain_fault (chain_of s))
 chain_more s rest after end a b c t r inner outer e f g =
-    let filters = repeated_scan_more (exact-behind 124 exact-filter) (shrinks-behind 124 exact-filter) filter_fault rest after (faults_of b) f in
+    let filters = repeated_scan_more (exact-following 124 exact-filter) (shrinks-following 124 exact-filter) filter_fault rest after (faults_of b) f in
     joined_fault a t r end outer ∙ chain_scan s rest end (faults_of a) (faults_of t) e (joined_fault b c t end inner ∙ ap (adds (faults_of b)) g ∙ sym filters)
 
 pub no_chain_scan : (s : List ℕ) → None ≡ scan value_fault (value s) → None ≡ scan chain_fault (chain_of s)

@@ -28,17 +28,17 @@ pub after_ascii : (b : ℕ) (rest : List ℕ) → b < 128 → IsUtf8 (b ∷ rest
 after_ascii b rest low u = IsUtf8-drop (b ∷ rest) 1 u (IsCharBoundary-after_ascii (b ∷ rest) 0 u (omega arith) low)
 
 -- a place and a place after it make a slice
-pub slice_of : (s place behind : List ℕ) → Reaches s place → Reaches place behind → IsSlice s (place, behind)
-slice_of s place behind a b =
+pub slice_of : (s place following : List ℕ) → Reaches s place → Reaches place following → IsSlice s (place, following)
+slice_of s place following a b =
     let joined = a.is ∙ ap (λ x. a.front ++ x) b.is in
-    let whole = joined ∙ sym (append_assoc a.front b.front behind) in
+    let whole = joined ∙ sym (append_assoc a.front b.front following) in
     record {
       before = a.front;
       taken = b.front;
       joined = whole;
       place = b.is;
       begins = IsCharBoundary-at_seam s a.front place a.is a.text;
-      ends = subst (λ n. IsCharBoundary s n) (length-append a.front b.front) (IsCharBoundary-at_seam s (a.front ++ b.front) behind whole b.text);
+      ends = subst (λ n. IsCharBoundary s n) (length-append a.front b.front) (IsCharBoundary-at_seam s (a.front ++ b.front) following whole b.text);
     }
 
 -- the place is an end of the text, and the place after it an end of that
@@ -129,15 +129,15 @@ pub spans-nothing : {A : Type 0} {f : A → List Span} (a : A) → [] ≡ f a �
 spans-nothing {f = f} a same = record { of = λ s rest b m u. (subst (Reaches s) (sym m.stays) (reach_self s u), subst (AllInside s) (same ∙ ap f (sym m.is)) tt) }
 
 abbrev pub placed_spans : {A : Type 0} → (A → List Span) → Placed A → List Span
-placed_spans f p = (p.place, p.behind) ∷ f p.what
+placed_spans f p = (p.place, p.following) ∷ f p.what
 
 pub spans-at : {A : Type 0} {R : Rule A} {f : A → List Span} → Spans R f → Spans (At R) (placed_spans f)
 spans-at R = record {
   of = λ s rest p m u.
       let r = R.of s rest p.what m.match u in
       let place = subst (Reaches s) (sym m.begins) (reach_self s u) in
-      let behind = subst (λ x. Reaches x p.behind) (sym m.begins) (subst (Reaches s) (sym m.ends) r.0) in
-      (r.0, ((place, behind), r.1));
+      let following = subst (λ x. Reaches x p.following) (sym m.begins) (subst (Reaches s) (sym m.ends) r.0) in
+      (r.0, ((place, following), r.1));
 }
 
 -- two rules, one of whose shapes is kept, where the other has no spans

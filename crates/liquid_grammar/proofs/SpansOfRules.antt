@@ -10,7 +10,7 @@ use Rattle.liquid_grammar.specs.meaning.Rules.{Rule, One, Then, Repeated, ends, 
 use Rattle.liquid_grammar.specs.meaning.Grammar.{White, Braces, Opener, Closer, NameByte, Identifier, Name, is_literal_word}
 use Rattle.liquid_grammar.specs.meaning.Literals.{decimal, integer, text_literal, word_literal, Word, Quoted, Digits, Whole, Fractional, Number, LiteralRule}
 use Rattle.liquid_grammar.specs.meaning.Values.{Value, Index, named_index, gather, placed_literal, placed_variable, placed_bracket, Bracketed, IndexOver, VariableOver, ValueOver, Nested, ValueRule, IndexRule, VariableRule}
-use Rattle.liquid_grammar.specs.meaning.Tokens.{positional, keyword, range, chain, symbol, arguments_of, is_double, is_single, ArgumentRule, Behind, Arguments, FilterRule, ChainRule, Dots, RangeRule, SymbolRule, TokenRule, ExpressionRule, TagRule}
+use Rattle.liquid_grammar.specs.meaning.Tokens.{positional, keyword, range, chain, symbol, arguments_of, is_double, is_single, ArgumentRule, Following, Arguments, FilterRule, ChainRule, Dots, RangeRule, SymbolRule, TokenRule, ExpressionRule, TagRule}
 use Rattle.liquid_grammar.specs.laws.Spans.{Span, spans_of_all, value_spans, index_spans, indexes_spans, argument_spans, filter_spans, chain_spans, token_spans, tag_spans}
 use Rattle.liquid_grammar.proofs.TextLemmas.{is_white_ascii}
 use Rattle.liquid_grammar.proofs.SpanLemmas.{Spans, Reaches, no_spans, after_ascii, spans-run, spans-one, spans-byte, spans-then, spans-else, spans-repeated, spans-seen, spans-where, spans-text, spans-not, spans-ahead, spans-at, spans-right, spans-left, spans-optional}
@@ -57,13 +57,13 @@ spans-name : Spans Name no_spans
 spans-name = spans-where (λ word. not (is_literal_word word)) spans-identifier
 
 -- what follows an ASCII byte anywhere in a text is text
-text_behind : (s front rest : List ℕ) (b : ℕ) → s ≡ front ++ b ∷ rest → b < 128 → IsUtf8 s → IsUtf8 rest
-text_behind s front rest b e low u =
+text_after : (s front rest : List ℕ) (b : ℕ) → s ≡ front ++ b ∷ rest → b < 128 → IsUtf8 s → IsUtf8 rest
+text_after s front rest b e low u =
     let within : length front < length s = omega (arith, ap length e, length-append front (b ∷ rest)) in
     let byte : get_or s (length front) 0 ≡ b = ap (λ x. get_or x (length front) 0) e ∙ get_or-append_seam front b rest 0 in
     let cut = IsCharBoundary-before_ascii s (length front) within (subst (λ (x : ℕ). x < 128) (sym byte) low) in
-    let behind : drop (length front) s ≡ b ∷ rest = ap (drop (length front)) e ∙ drop_at front (b ∷ rest) (length front) refl in
-    after_ascii b rest low (subst IsUtf8 behind (IsUtf8-drop s (length front) u cut))
+    let following : drop (length front) s ≡ b ∷ rest = ap (drop (length front)) e ∙ drop_at front (b ∷ rest) (length front) refl in
+    after_ascii b rest low (subst IsUtf8 following (IsUtf8-drop s (length front) u cut))
 
 run_is_front : (p : ℕ → Bool) {s rest run : List ℕ} → Repeated (One p) s rest run → s ≡ run ++ rest
 run_is_front p (ends none) = refl
@@ -83,7 +83,7 @@ spans-quoted quote low = record { of = λ s rest a m u. (go s rest a m u, tt) }
         record {
           front = front ++ m.from.1 ∷ [];
           is = whole ∙ sym (append_assoc front (m.from.1 ∷ []) rest);
-          text = text_behind s front rest m.from.1 whole closes u;
+          text = text_after s front rest m.from.1 whole closes u;
         }
 
 spans-word : Spans Word no_spans
@@ -120,7 +120,7 @@ module _ {Inner : Rule Value} (I : Spans Inner value_spans) where
 
   spans-variable_over : Spans (VariableOver Inner) value_spans
   spans-variable_over =
-      spans-seen placed_variable (λ p. ap (λ x. (p.place, p.behind) ∷ x) (gathered p.what.1)) (spans-at (spans-then spans-name (spans-repeated spans-index_over)))
+      spans-seen placed_variable (λ p. ap (λ x. (p.place, p.following) ∷ x) (gathered p.what.1)) (spans-at (spans-then spans-name (spans-repeated spans-index_over)))
 
   spans-value_over : Spans (ValueOver Inner) value_spans
   spans-value_over = spans-else (spans-seen placed_literal (λ p. refl) (spans-at spans-literal)) spans-variable_over
@@ -145,12 +145,12 @@ spans-argument =
     (spans-seen (λ p. keyword p.0 p.1) (λ a. refl) (spans-then (spans-left (spans-left (spans-left spans-identifier spans-white) (spans-byte 58 (omega arith))) spans-white) spans-value))
     (spans-seen positional (λ a. refl) spans-value)
 
-spans-behind : {A : Type 0} {R : Rule A} {f : A → List Span} (separator : ℕ) → separator < 128 → Spans R f → Spans (Behind separator R) f
-spans-behind separator low R = spans-right (spans-right (spans-right spans-white (spans-byte separator low)) spans-white) R
+spans-following : {A : Type 0} {R : Rule A} {f : A → List Span} (separator : ℕ) → separator < 128 → Spans R f → Spans (Following separator R) f
+spans-following separator low R = spans-right (spans-right (spans-right spans-white (spans-byte separator low)) spans-white) R
 
 spans-arguments : Spans Arguments (spans_of_all argument_spans)
 spans-arguments =
-    spans-seen (λ p. p.0 ∷ p.1) (λ a. refl) (spans-then (spans-behind 58 (omega arith) spans-argument) (spans-repeated (spans-behind 44 (omega arith) spans-argument)))
+    spans-seen (λ p. p.0 ∷ p.1) (λ a. refl) (spans-then (spans-following 58 (omega arith) spans-argument) (spans-repeated (spans-following 44 (omega arith) spans-argument)))
 
 pub spans-filter : Spans FilterRule filter_spans
 spans-filter =
@@ -158,7 +158,7 @@ spans-filter =
     spans-at (spans-seen {g = λ q. spans_of_all argument_spans q.1} (λ p. (p.0, arguments_of p.1)) (λ a. refl) (spans-then spans-identifier some))
 
 pub spans-chain : Spans ChainRule chain_spans
-spans-chain = spans-at (spans-then spans-value (spans-repeated (spans-behind 124 (omega arith) spans-filter)))
+spans-chain = spans-at (spans-then spans-value (spans-repeated (spans-following 124 (omega arith) spans-filter)))
 
 spans-dots : Spans Dots no_spans
 spans-dots = let dot = spans-byte 46 (omega arith) in spans-left (spans-right (spans-right spans-white dot) dot) spans-white
@@ -174,11 +174,11 @@ spans-double = record {
   of = λ s rest a m u.
       let pair = m.match.match in
       let low = double_low m.shape.0 m.shape.1 m.match.passes in
-      let behind = after_ascii m.shape.0 pair.middle low.0 (subst IsUtf8 pair.before.front u) in (
+      let following = after_ascii m.shape.0 pair.middle low.0 (subst IsUtf8 pair.before.front u) in (
         record {
           front = m.shape.0 ∷ m.shape.1 ∷ [];
           is = pair.before.front ∙ ap (λ x. m.shape.0 ∷ x) pair.after.front;
-          text = after_ascii m.shape.1 rest low.1 (subst IsUtf8 pair.after.front behind);
+          text = after_ascii m.shape.1 rest low.1 (subst IsUtf8 pair.after.front following);
         },
         tt,
       );

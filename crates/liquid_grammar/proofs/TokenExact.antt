@@ -7,7 +7,7 @@ use Rattle.liquid_grammar.specs.meaning.Rules.{Rule, One, Then, Repeated, Byte, 
 use Rattle.liquid_grammar.specs.meaning.Grammar.{White, Identifier, Name, is_literal_word}
 use Rattle.liquid_grammar.specs.meaning.Literals.{word_literal, text_literal, integer, decimal, Word, Quoted, Digits, Whole, Fractional, Number, LiteralRule}
 use Rattle.liquid_grammar.specs.meaning.Values.{Value, named_index, placed_literal, placed_variable, placed_bracket, OpenBracket, CloseBracket, Bracketed, IndexOver, VariableOver, ValueOver, Nested, ValueRule}
-use Rattle.liquid_grammar.specs.meaning.Tokens.{positional, keyword, range, chain, symbol, arguments_of, is_double, is_single, ArgumentRule, Behind, Arguments, FilterRule, ChainRule, Dots, RangeStart, RangeEnd, RangeRule, SymbolRule, TokenRule, ExpressionStart, ExpressionRule, TagStart, TagRule}
+use Rattle.liquid_grammar.specs.meaning.Tokens.{positional, keyword, range, chain, symbol, arguments_of, is_double, is_single, ArgumentRule, Following, Arguments, FilterRule, ChainRule, Dots, RangeStart, RangeEnd, RangeRule, SymbolRule, TokenRule, ExpressionStart, ExpressionRule, TagStart, TagRule}
 use Rattle.liquid_grammar.specs.steps.Steps.{Reader, right, white}
 use Rattle.liquid_grammar.specs.steps.TokenSteps as read
 use Rattle.liquid_grammar.proofs.Exact.{Exact, Shrinks, exact-one, exact-byte, exact-both, exact-either, exact-seen, exact-right, exact-left, exact-only, exact-text, shrinks-one, shrinks-first, shrinks-second, shrinks-seen, shrinks-else, shrinks-text}
@@ -114,19 +114,19 @@ pub exact-argument : Exact read.argument ArgumentRule
 unfolding read.argument
 exact-argument = exact-either (exact-seen (λ p. keyword p.0 p.1) (exact-both exact-keyword_start exact-value)) (exact-seen positional exact-value)
 
-pub exact-behind : {A : Type 0} {f : Reader A} {R : Rule A} (separator : ℕ) → Exact f R → Exact (read.behind separator f) (Behind separator R)
-exact-behind separator F = exact-right (exact-right (exact-right exact-white (exact-byte separator)) exact-white) F
+pub exact-following : {A : Type 0} {f : Reader A} {R : Rule A} (separator : ℕ) → Exact f R → Exact (read.following separator f) (Following separator R)
+exact-following separator F = exact-right (exact-right (exact-right exact-white (exact-byte separator)) exact-white) F
 
-pub shrinks-behind : {A : Type 0} {f : Reader A} {R : Rule A} (separator : ℕ) → Exact f R → Shrinks (Behind separator R)
-shrinks-behind separator F =
+pub shrinks-following : {A : Type 0} {f : Reader A} {R : Rule A} (separator : ℕ) → Exact f R → Shrinks (Following separator R)
+shrinks-following separator F =
     shrinks-seen (λ p. p.1) (shrinks-first (shrinks-seen (λ p. p.1) (shrinks-first (shrinks-seen (λ p. p.1) (shrinks-second exact-white.cuts (shrinks-one (λ c. c == separator)))) exact-white.cuts)) F.cuts)
 
-pub exact-more_arguments : Exact (read.repeated (read.behind 44 read.argument)) (Repeated (Behind 44 ArgumentRule))
-exact-more_arguments = exact-repeated (exact-behind 44 exact-argument) (shrinks-behind 44 exact-argument)
+pub exact-more_arguments : Exact (read.repeated (read.following 44 read.argument)) (Repeated (Following 44 ArgumentRule))
+exact-more_arguments = exact-repeated (exact-following 44 exact-argument) (shrinks-following 44 exact-argument)
 
 pub exact-arguments : Exact read.arguments Arguments
 unfolding read.arguments
-exact-arguments = exact-seen (λ p. p.0 ∷ p.1) (exact-both (exact-behind 58 exact-argument) exact-more_arguments)
+exact-arguments = exact-seen (λ p. p.0 ∷ p.1) (exact-both (exact-following 58 exact-argument) exact-more_arguments)
 
 pub exact-filter : Exact read.filter FilterRule
 unfolding read.filter
@@ -135,8 +135,8 @@ exact-filter = exact-at (exact-seen (λ p. (p.0, arguments_of p.1)) (exact-both 
 pub shrinks-filter : Shrinks FilterRule
 shrinks-filter s rest a m = shrinks-seen (λ p. (p.0, arguments_of p.1)) (shrinks-first shrinks-identifier (exact-optional exact-arguments).cuts) s rest a.what m.match
 
-pub exact-filters : Exact (read.repeated (read.behind 124 read.filter)) (Repeated (Behind 124 FilterRule))
-exact-filters = exact-repeated (exact-behind 124 exact-filter) (shrinks-behind 124 exact-filter)
+pub exact-filters : Exact (read.repeated (read.following 124 read.filter)) (Repeated (Following 124 FilterRule))
+exact-filters = exact-repeated (exact-following 124 exact-filter) (shrinks-following 124 exact-filter)
 
 pub exact-chain : Exact read.chain_of ChainRule
 unfolding read.chain_of

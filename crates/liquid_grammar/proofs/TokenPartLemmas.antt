@@ -43,8 +43,8 @@ range_ends s r₀ r₁ r₂ r₃ r₄ g h e₀ e₁ e₂ e₃ e₄ =
 -- a token that is a range
 pub range_token : (s rest start stop : List ℕ) → HasEnds s rest start stop → (token : Token) × TokenRule s rest token × IsRangeToken s rest start stop token
 range_token s rest start stop has =
-    let token = range (record { place = s; behind = rest; what = has.values }) in
-    let m : TokenRule s rest token = here (record { from = record { place = s; behind = rest; what = has.values }; match = record { begins = refl; ends = refl; match = has.match }; is = refl }) in
+    let token = range (record { place = s; following = rest; what = has.values }) in
+    let m : TokenRule s rest token = here (record { from = record { place = s; following = rest; what = has.values }; match = record { begins = refl; ends = refl; match = has.match }; is = refl }) in
     (token, m, record { values = has.values; is = refl; match = has.match; first = has.first; second = has.second })
 
 no_range_token : (s : List ℕ) → None ≡ scan range_fault (ranged s) → ¬ (Begins (Seen range (At RangeRule)) s)
@@ -73,14 +73,14 @@ symbol_text s rest text (here m) = front_of s text rest m.front
 symbol_text s rest text (instead none m) = front_of s text rest m.front
 
 pub symbol_token : (s rest text : List ℕ) → None ≡ scan range_fault (ranged s) → None ≡ scan chain_fault (chain_of s) → Some rest ≡ option_map (λ p. p.1) (symbol_of s) → text ≡ take (length s - length rest) s
-    → (token : Token) × TokenRule s rest token × (token ≡ symbol (record { place = s; behind = rest; what = text }))
+    → (token : Token) × TokenRule s rest token × (token ≡ symbol (record { place = s; following = rest; what = text }))
 symbol_token s rest text none chainless e is =
     let x = left_some (symbol_of s) rest e in
     let found : SymbolRule s rest x.0.0 = subst (λ t. SymbolRule s t x.0.0) x.2 (exact-symbol.sound s x.0.1 x.0.0 x.1) in
     let stands : SymbolRule s rest text = subst (λ t. SymbolRule s rest t) (sym (symbol_text s rest x.0.0 found) ∙ sym is) found in
-    let token = symbol (record { place = s; behind = rest; what = text }) in
+    let token = symbol (record { place = s; following = rest; what = text }) in
     let m : TokenRule s rest token =
-    instead (no_range_token s none) (instead (no_chain_token s chainless) (record { from = record { place = s; behind = rest; what = text }; match = record { begins = refl; ends = refl; match = stands }; is = refl }))
+    instead (no_range_token s none) (instead (no_chain_token s chainless) (record { from = record { place = s; following = rest; what = text }; match = record { begins = refl; ends = refl; match = stands }; is = refl }))
     in
     (token, m, refl)
 

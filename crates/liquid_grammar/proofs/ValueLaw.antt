@@ -14,13 +14,13 @@ abbrev Agree : {A : Type 0} → ℕ → Reader A → Reader A → Type 0
 Agree m f g = (t : List ℕ) → length t < m → f t ≡ g t
 
 -- a shape, and what f finds after it
-abbrev pub and_behind : {A B : Type 0} → Reader A → B × List ℕ → Option ((B × A) × List ℕ)
-and_behind f a = option_map (λ b. ((a.0, b.0), b.1)) (f a.1)
+abbrev pub and_after : {A B : Type 0} → Reader A → B × List ℕ → Option ((B × A) × List ℕ)
+and_after f a = option_map (λ b. ((a.0, b.0), b.1)) (f a.1)
 
-agree_behind : {A B : Type 0} {h : Reader B} {R : Rule B} (m : ℕ) (f g : Reader A) → Exact h R → Shrinks R → Agree m f g → (s : List ℕ) → length s ≤ m → both h f s ≡ both h g s
-agree_behind {A} {B} {h = h} m f g F less agree s within = go (h s) refl
+agree_after : {A B : Type 0} {h : Reader B} {R : Rule B} (m : ℕ) (f g : Reader A) → Exact h R → Shrinks R → Agree m f g → (s : List ℕ) → length s ≤ m → both h f s ≡ both h g s
+agree_after {A} {B} {h = h} m f g F less agree s within = go (h s) refl
   where
-    go : (o : Option (B × List ℕ)) → h s ≡ o → option_and_then (and_behind f) o ≡ option_and_then (and_behind g) o
+    go : (o : Option (B × List ℕ)) → h s ≡ o → option_and_then (and_after f) o ≡ option_and_then (and_after g) o
     go None e = refl
     go (Some x) e =
         let k : A × List ℕ → (B × A) × List ℕ = λ b. ((x.0, b.0), b.1) in
@@ -41,12 +41,12 @@ agree_repeated {A} m f g G agree (suc n) s h =
 
 -- what closes brackets after what was found in them
 abbrev closed : Option (Value × List ℕ) → Option (Value × List ℕ)
-closed o = option_map (λ a. (a.0.0, a.1)) (option_and_then (and_behind close_bracket) o)
+closed o = option_map (λ a. (a.0.0, a.1)) (option_and_then (and_after close_bracket) o)
 
 agree_bracketed : (m : ℕ) (f g : Reader Value) → Agree m f g → (s : List ℕ) → length s ≤ m → bracketed_over f s ≡ bracketed_over g s
 agree_bracketed m f g agree s h =
     let inner : (List ℕ × Value) × List ℕ → Value × List ℕ = λ a. (a.0.1, a.1) in
-    ap (λ o. closed (option_map inner o)) (agree_behind m f g exact-open_bracket shrinks-open_bracket agree s h)
+    ap (λ o. closed (option_map inner o)) (agree_after m f g exact-open_bracket shrinks-open_bracket agree s h)
 
 agree_index : (m : ℕ) (f g : Reader Value) → Agree m f g → (s : List ℕ) → length s ≤ m → index_over f s ≡ index_over g s
 agree_index m f g agree s h =
@@ -61,7 +61,7 @@ agree_value m f g G agree s h =
     λ t l. agree_repeated m (index_over f) (index_over g) (exact-index G) (λ u k. agree_index m f g agree u (omega arith)) (suc (length t)) t l
     in
     ap (λ o. option_or (seen placed_literal (at literal) s) (option_map make (option_map (placed s) o)))
-    (agree_behind m (repeated (index_over f)) (repeated (index_over g)) exact-name shrinks-name indexes s h)
+    (agree_after m (repeated (index_over f)) (repeated (index_over g)) exact-name shrinks-name indexes s h)
 
 value_by_enough : (n m : ℕ) (s : List ℕ) → length s < n → length s < m → value_by n s ≡ value_by m s
 unfolding value_by

@@ -54,8 +54,8 @@ fn filtered<'a>(
     ensures shorter { length result.2.now ≤ length rest.now }
 {
     match next_filter(rest) {
-        Some((second, behind)) => {
-            let (others, end) = filters(behind);
+        Some((second, following)) => {
+            let (others, end) = filters(following);
             (TokenKind::Filtered, first.or(second.or(others)), end)
         }
         None => (kind, first, rest),
@@ -72,7 +72,7 @@ fn begins_filter(s: &str) -> bool
 
 /// Matches all filters, each after `|`. Returns their first fault and what follows them.
 fn filters<'a>(s: &'a str) -> (Option<Fault<'a>>, &'a str)
-    ensures value { Scans (first_fault filter_fault) (Some result) (read.repeated (read.behind 124 read.filter) s.now) }
+    ensures value { Scans (first_fault filter_fault) (Some result) (read.repeated (read.following 124 read.filter) s.now) }
     ensures shorter { length result.1.now ≤ length s.now }
 {
     let mut fault = None;
@@ -85,10 +85,10 @@ fn filters<'a>(s: &'a str) -> (Option<Fault<'a>>, &'a str)
 }
 
 fn next_filter<'a>(s: &'a str) -> Option<(Option<Fault<'a>>, &'a str)>
-    ensures value { Scans filter_fault result (read.behind 124 read.filter s.now) }
+    ensures value { Scans filter_fault result (read.following 124 read.filter s.now) }
     ensures shorter { IfSome result (λ x. length x.1.now < length s.now) }
 {
-    filter(behind(s, b'|')?)
+    filter(following(s, b'|')?)
 }
 
 #[tactic(auto, unfolding(crate::specs::steps::TokenSteps::filter))]
@@ -108,14 +108,14 @@ fn arguments<'a>(s: &'a str) -> Option<(Option<Fault<'a>>, &'a str)>
     ensures value { Scans (first_fault argument_fault) result (read.arguments s.now) }
     ensures shorter { IfSome result (λ x. length x.1.now < length s.now) }
 {
-    let (first, rest) = argument(behind(s, b':')?)?;
+    let (first, rest) = argument(following(s, b':')?)?;
     let (others, rest) = more_arguments(rest);
     Some((first.or(others), rest))
 }
 
 /// Matches all further arguments, each after a comma. Returns their first fault and what follows them.
 fn more_arguments<'a>(s: &'a str) -> (Option<Fault<'a>>, &'a str)
-    ensures value { Scans (first_fault argument_fault) (Some result) (read.repeated (read.behind 44 read.argument) s.now) }
+    ensures value { Scans (first_fault argument_fault) (Some result) (read.repeated (read.following 44 read.argument) s.now) }
     ensures shorter { length result.1.now ≤ length s.now }
 {
     let mut fault = None;
@@ -128,10 +128,10 @@ fn more_arguments<'a>(s: &'a str) -> (Option<Fault<'a>>, &'a str)
 }
 
 fn next_argument<'a>(s: &'a str) -> Option<(Option<Fault<'a>>, &'a str)>
-    ensures value { Scans argument_fault result (read.behind 44 read.argument s.now) }
+    ensures value { Scans argument_fault result (read.following 44 read.argument s.now) }
     ensures shorter { IfSome result (λ x. length x.1.now < length s.now) }
 {
-    argument(behind(s, b',')?)
+    argument(following(s, b',')?)
 }
 
 #[tactic(auto, unfolding(crate::specs::steps::TokenSteps::argument))]
@@ -163,7 +163,7 @@ fn keyword_start(s: &str) -> Option<(&str, &str)>
 }
 
 /// Returns what follows a separator between white space.
-pub(crate) fn behind(s: &str, separator: u8) -> Option<&str>
+pub(crate) fn following(s: &str, separator: u8) -> Option<&str>
     requires { separator < 128 }
     ensures value { Leaves result (read.separated separator s.now) }
     ensures shorter { IfSome result (λ rest. length rest.now < length s.now) }

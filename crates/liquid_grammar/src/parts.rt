@@ -3,7 +3,7 @@ ghost use Rattle.std.specs.Prelude.{◌≡◌, ℕ, false, List, ◌<◌, ◌++�
 ghost use Rattle.liquid_grammar.specs.meaning.Rules.{Begins, Repeated, ◌▷◌};
 ghost use Rattle.liquid_grammar.specs.meaning.Grammar.{White};
 ghost use Rattle.liquid_grammar.specs.meaning.Values.{Value, Index, CloseBracket, ValueRule, IndexRule};
-ghost use Rattle.liquid_grammar.specs.meaning.Tokens.{Argument, Filter, Token, Behind, FilterRule, TokenRule};
+ghost use Rattle.liquid_grammar.specs.meaning.Tokens.{Argument, Filter, Token, Following, FilterRule, TokenRule};
 ghost use Rattle.liquid_grammar.specs.meaning.Parts as part;
 ghost use Rattle.liquid_grammar.specs.meaning.Parts.{NoneLeft, First, IsHead, HasHead, IsIndex, IsFilter, ArgumentsFrom, IsArgument};
 ghost use Rattle.liquid_grammar.specs.meaning.Parts.{HasParts, IsToken, OpensExpression, ClosesExpression};
@@ -12,7 +12,7 @@ ghost use Rattle.liquid_grammar.specs.steps.Heads.{HasColon};
 
 use crate::bracket::{self, bracketed};
 use crate::bytes::{begins_index, begins_value, byte_at};
-use crate::filter::{behind, chain_and_kind};
+use crate::filter::{following, chain_and_kind};
 use crate::head::{Head, head_of_word, read_head};
 use crate::kind::TokenKind;
 use crate::literal::text_or_number;
@@ -92,7 +92,7 @@ pub fn expression_start(s: &str) -> Option<&str>
 {
     let inside = braces(s, b'{')?;
     match eat(inside, b'-') {
-        Some(behind) => Some(skip_white(behind)),
+        Some(following) => Some(skip_white(following)),
         None => Some(skip_white(inside)),
     }
 }
@@ -150,12 +150,12 @@ pub fn close_bracket(s: &str) -> Option<&str>
 
 /// Returns the beginning of the next filter of a chain. Returns `None` if no filter is left.
 pub fn next_filter(s: &str) -> Option<FilterStart<'_>>
-    ensures only { (rest : List ℕ) (filters : List Filter) → Repeated (Behind 124 FilterRule) s.now rest filters
+    ensures only { (rest : List ℕ) (filters : List Filter) → Repeated (Following 124 FilterRule) s.now rest filters
         → MatchOption result (NoneLeft s.now rest filters)
-        (λ f. First (IsFilter f) (Repeated (Behind 124 FilterRule)) rest filters) }
+        (λ f. First (IsFilter f) (Repeated (Following 124 FilterRule)) rest filters) }
     ensures shorter { IfSome result (λ f. length f.rest.now < length s.now) }
 {
-    let place = behind(s, b'|')?;
+    let place = following(s, b'|')?;
     let (name, rest) = identifier(place)?;
     Some(FilterStart { place, name, rest })
 }
@@ -165,14 +165,14 @@ pub fn next_filter(s: &str) -> Option<FilterStart<'_>>
 ///
 /// The white space before both is walked once.
 pub fn chain_step(s: &str) -> Option<ChainStep<'_>>
-    ensures only { (rest : List ℕ) (filters : List Filter) → Repeated (Behind 124 FilterRule) s.now rest filters
+    ensures only { (rest : List ℕ) (filters : List Filter) → Repeated (Following 124 FilterRule) s.now rest filters
         → MatchOption result (Unclosed s.now rest filters) (λ step. IsStep s.now step rest filters) }
     ensures shorter { IfSome result (λ step. length (step_rest step) < length s.now) }
 {
     let here = skip_white(s);
     match eat(here, b'|') {
-        Some(behind) => {
-            let place = skip_white(behind);
+        Some(following) => {
+            let place = skip_white(following);
             let (name, rest) = identifier(place)?;
             Some(ChainStep::Filter(FilterStart { place, name, rest }))
         }
@@ -191,9 +191,9 @@ pub fn next_argument(s: &str, is_first: bool) -> Option<ArgumentStart<'_>>
         (λ a. First (IsArgument a) (ArgumentsFrom false) rest arguments) }
     ensures shorter { IfSome result (λ a. length a.rest.now < length s.now) }
 {
-    let place = behind(s, separator(is_first))?;
+    let place = following(s, separator(is_first))?;
     match identifier(place) {
-        Some((word, rest)) => match head_behind_colon(rest) {
+        Some((word, rest)) => match head_after_colon(rest) {
             Some((head, rest)) => Some(ArgumentStart {
                 name: Some(word),
                 head,
@@ -224,11 +224,11 @@ fn separator(is_first: bool) -> u8
 }
 
 /// Returns how the value after a colon begins, and what follows that.
-fn head_behind_colon(s: &str) -> Option<(Head<'_>, &str)>
-    ensures value { MatchOption result (¬ (Begins (Behind 58 ValueRule) s.now)) (λ p. HasColon s.now p.0 p.1.now) }
+fn head_after_colon(s: &str) -> Option<(Head<'_>, &str)>
+    ensures value { MatchOption result (¬ (Begins (Following 58 ValueRule) s.now)) (λ p. HasColon s.now p.0 p.1.now) }
     ensures shorter { IfSome result (λ p. length p.1.now < length s.now) }
 {
-    value_head(behind(s, b':')?)
+    value_head(following(s, b':')?)
 }
 
 /// Returns the next token of a tag. Returns `None` if no token is left.

@@ -62,8 +62,8 @@ fn indexed<'a>(name: &'a str, rest: &'a str) -> (TokenKind<'a>, Option<Fault<'a>
     ensures shorter { length result.2.now ≤ length rest.now }
 {
     match index(rest) {
-        Some((first, behind)) => {
-            let (others, end) = indexes(behind);
+        Some((first, following)) => {
+            let (others, end) = indexes(following);
             (TokenKind::Variable, first.or(others), end)
         }
         None => (TokenKind::Identifier(name), None, rest),

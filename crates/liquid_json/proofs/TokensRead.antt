@@ -25,25 +25,25 @@ use Rattle.liquid_json.proofs.Given.{joined, joined_none, joined_last, joined_al
 -- ---- the items of an array
 
 -- items after others
-abbrev pub behind : List json.Json → json.Items → json.Items
-behind [] rest = rest
-behind (j ∷ js) rest = json.item j (behind js rest)
+abbrev pub following : List json.Json → json.Items → json.Items
+following [] rest = rest
+following (j ∷ js) rest = json.item j (following js rest)
 
-behind_one_more : (js : List json.Json) (j : json.Json) (rest : json.Items) → behind js (json.item j rest) ≡ behind (js ++ j ∷ []) rest
-behind_one_more [] j rest = refl
-behind_one_more (k ∷ js) j rest = ap (json.item k) (behind_one_more js j rest)
+after_one_more : (js : List json.Json) (j : json.Json) (rest : json.Items) → following js (json.item j rest) ≡ following (js ++ j ∷ []) rest
+after_one_more [] j rest = refl
+after_one_more (k ∷ js) j rest = ap (json.item k) (after_one_more js j rest)
 
-pub behind_none : (r : Option (json.Items × List Token)) → r ≡ parse_map (behind []) r
-behind_none None = refl
-behind_none (Some p) = refl
+pub after_none : (r : Option (json.Items × List Token)) → r ≡ parse_map (following []) r
+after_none None = refl
+after_none (Some p) = refl
 
-pub behind_more : (js : List json.Json) (j : json.Json) (r : Option (json.Items × List Token)) → parse_map (behind js) (parse_map (json.item j) r) ≡ parse_map (behind (js ++ j ∷ [])) r
-behind_more js j None = refl
-behind_more js j (Some p) = ap (λ more. Some (more, p.1)) (behind_one_more js j p.0)
+pub after_more : (js : List json.Json) (j : json.Json) (r : Option (json.Items × List Token)) → parse_map (following js) (parse_map (json.item j) r) ≡ parse_map (following (js ++ j ∷ [])) r
+after_more js j None = refl
+after_more js j (Some p) = ap (λ more. Some (more, p.1)) (after_one_more js j p.0)
 
 -- whatever follows them, the items read are these values
 abbrev pub AreMade : List json.Json → List Value → Type 0
-AreMade js vs = (rest : json.Items) (ts : Items) → AreGiven rest ts → AreGiven (behind js rest) (joined (map view vs) ts)
+AreMade js vs = (rest : json.Items) (ts : Items) → AreGiven rest ts → AreGiven (following js rest) (joined (map view vs) ts)
 
 pub none_made : AreMade [] []
 none_made rest ts given = rw (joined_none ts) given
@@ -53,43 +53,43 @@ one_given j t rest ts first more = (read.item first.0 more.0, rw (first.1, more.
 
 pub one_more_made : (js : List json.Json) (vs : List Value) (j : json.Json) (v : Value) → AreMade js vs → IsGiven j (view v) → AreMade (js ++ j ∷ []) (vs ++ v ∷ [])
 one_more_made js vs j v made given rest ts more =
-    rw (← behind_one_more js j rest, map-append view vs (v ∷ []), ← joined_last (map view vs) (view v) ts) (made (json.item j rest) (item (view v) ts) (one_given j (view v) rest ts given more))
+    rw (← after_one_more js j rest, map-append view vs (v ∷ []), ← joined_last (map view vs) (view v) ts) (made (json.item j rest) (item (view v) ts) (one_given j (view v) rest ts given more))
 
-pub all_made : (js : List json.Json) (vs : List Value) → AreMade js vs → AreGiven (behind js json.no_items) (items_view vs)
+pub all_made : (js : List json.Json) (vs : List Value) → AreMade js vs → AreGiven (following js json.no_items) (items_view vs)
 all_made js vs made = rw (← joined_all (map view vs)) (made json.no_items no_items (read.no_items, refl, refl))
 
 -- ---- the members of an object
 
 -- members after others
-abbrev pub put_behind : List (List ℕ × json.Json) → json.Members → json.Members
-put_behind [] rest = rest
-put_behind (e ∷ es) rest = json.member e.0 e.1 (put_behind es rest)
+abbrev pub put_after : List (List ℕ × json.Json) → json.Members → json.Members
+put_after [] rest = rest
+put_after (e ∷ es) rest = json.member e.0 e.1 (put_after es rest)
 
-put_behind_one_more : (es : List (List ℕ × json.Json)) (k : List ℕ) (j : json.Json) (rest : json.Members) → put_behind es (json.member k j rest) ≡ put_behind (es ++ (k, j) ∷ []) rest
-put_behind_one_more [] k j rest = refl
-put_behind_one_more (e ∷ es) k j rest = ap (json.member e.0 e.1) (put_behind_one_more es k j rest)
+put_after_one_more : (es : List (List ℕ × json.Json)) (k : List ℕ) (j : json.Json) (rest : json.Members) → put_after es (json.member k j rest) ≡ put_after (es ++ (k, j) ∷ []) rest
+put_after_one_more [] k j rest = refl
+put_after_one_more (e ∷ es) k j rest = ap (json.member e.0 e.1) (put_after_one_more es k j rest)
 
-pub put_behind_none : (r : Option (json.Members × List Token)) → r ≡ parse_map (put_behind []) r
-put_behind_none None = refl
-put_behind_none (Some p) = refl
+pub put_after_none : (r : Option (json.Members × List Token)) → r ≡ parse_map (put_after []) r
+put_after_none None = refl
+put_after_none (Some p) = refl
 
-pub put_behind_more : (es : List (List ℕ × json.Json)) (k : List ℕ) (j : json.Json) (r : Option (json.Members × List Token))
-    → parse_map (put_behind es) (parse_map (json.member k j) r) ≡ parse_map (put_behind (es ++ (k, j) ∷ [])) r
-put_behind_more es k j None = refl
-put_behind_more es k j (Some p) = ap (λ more. Some (more, p.1)) (put_behind_one_more es k j p.0)
+pub put_after_more : (es : List (List ℕ × json.Json)) (k : List ℕ) (j : json.Json) (r : Option (json.Members × List Token))
+    → parse_map (put_after es) (parse_map (json.member k j) r) ≡ parse_map (put_after (es ++ (k, j) ∷ [])) r
+put_after_more es k j None = refl
+put_after_more es k j (Some p) = ap (λ more. Some (more, p.1)) (put_after_one_more es k j p.0)
 
 -- whatever follows them, the members that were read are put in as these
 abbrev pub ArePut : List (List ℕ × json.Json) → read.Members → Type 0
-ArePut es ds = (rest : json.Members) → of_members (put_behind es rest) read.no_members ≡ of_members rest ds
+ArePut es ds = (rest : json.Members) → of_members (put_after es rest) read.no_members ≡ of_members rest ds
 
 pub none_put : ArePut [] read.no_members
 none_put rest = refl
 
 pub one_more_put : (es : List (List ℕ × json.Json)) (ds : read.Members) (k : List ℕ) (j : json.Json) (d : read.Data) → ArePut es ds → of_json j ≡ Some d → ArePut (es ++ (k, j) ∷ []) (put k d ds)
 one_more_put es ds k j d so_far is rest =
-    ap (λ ms. of_members ms read.no_members) (sym (put_behind_one_more es k j rest)) ∙ so_far (json.member k j rest) ∙ ap (option_and_then (λ e. of_members rest (put k e ds))) is
+    ap (λ ms. of_members ms read.no_members) (sym (put_after_one_more es k j rest)) ∙ so_far (json.member k j rest) ∙ ap (option_and_then (λ e. of_members rest (put k e ds))) is
 
-pub all_put : (es : List (List ℕ × json.Json)) (ds : read.Members) (ts : Members) → ArePut es ds → members_given ds ≡ Ok ts → MembersGiven (put_behind es json.no_members) ts
+pub all_put : (es : List (List ℕ × json.Json)) (ds : read.Members) (ts : Members) → ArePut es ds → members_given ds ≡ Ok ts → MembersGiven (put_after es json.no_members) ts
 all_put es ds ts so_far given = (ds, so_far json.no_members, given)
 
 members_or : Members → Result Members Refusal → Members

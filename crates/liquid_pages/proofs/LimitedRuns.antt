@@ -239,7 +239,7 @@ module _ {Reg : Type 0} (room : Room) (r : Run Reg) (entry left : View Reg) (bef
 
   pours_limited : (answer : Result (Unit {0}) Error) → Pours (borrowed name before) (borrowed later_name after) answer → Pours before after answer
   pours_limited answer p = record {
-    grows = record { more = p.grows.more; taken_is = p.grows.taken_is; behind_is = p.grows.behind_is };
+    grows = record { more = p.grows.more; taken_is = p.grows.taken_is; destination_is = p.grows.destination_is };
     lent = later_are later_name name after.lent before.lent p.lent;
     text = p.text;
   }
@@ -247,7 +247,7 @@ module _ {Reg : Type 0} (room : Room) (r : Run Reg) (entry left : View Reg) (bef
   pub renders_limited : (answer : Result (Unit {0}) Error) → RendersWithin r entry At Then left answer → Renders (run_within room r) entry before after left answer
   renders_limited answer h = record { outcome = outcome_limited answer h.outcome; frames = h.frames; pours = pours_limited answer h.pours }
 
--- the limits that a gate leaves behind hold, whatever it was asked
+-- the limits that a gate leaves destination hold, whatever it was asked
 pub limits_render : {Reg : Type 0} (room : Room) (r : Run Reg) (entry left : View Reg) (before after : Sunk) (name later_name : ℕ) (first : Gated) (limits : Limits) (answer : Result (Unit {0}) Error)
     → first ≡ fresh_gate room → RendersWithin r entry (gated (borrowed name before) first) (gated (borrowed later_name after) (gated_of limits)) left answer
     → Renders (run_within room r) entry before after left answer

@@ -92,14 +92,14 @@ key_of k = (k.0.now, expression_of k.1)
 
 pub keyword_then : (rest middle end : List ℕ) (built meant : Arguments) (whole : Option Fault) (o : Option (List ℕ)) (name : List ℕ) (e e' : ExpressionShape) (ks : List (List ℕ × ExpressionShape))
     → Left false middle end (with_last o e built) meant whole → o ≡ Some name → e' ≡ e → rest ≡ middle → ks ≡ built.keyword ++ (name, e') ∷ [] → Left false rest end (record built { keyword = ks }) meant whole
-keyword_then rest middle end built meant whole o name e e' ks left named same behind is =
-    subst (λ r. Left false r end (record built { keyword = ks }) meant whole) (sym behind)
+keyword_then rest middle end built meant whole o name e e' ks left named same following is =
+    subst (λ r. Left false r end (record built { keyword = ks }) meant whole) (sym following)
     (subst (λ k. Left false middle end (record built { keyword = k }) meant whole) (sym (is ∙ ap (λ x. built.keyword ++ (name, x) ∷ []) same))
     (subst (λ o'. Left false middle end (with_last o' e built) meant whole) named left))
 
 pub positional_then : (rest middle end : List ℕ) (built meant : Arguments) (whole : Option Fault) (o : Option (List ℕ)) (e e' : ExpressionShape) (es : List ExpressionShape)
     → Left false middle end (with_last o e built) meant whole → o ≡ None → e' ≡ e → rest ≡ middle → es ≡ built.positional ++ e' ∷ [] → Left false rest end (record built { positional = es }) meant whole
-positional_then rest middle end built meant whole o e e' es left named same behind is =
-    subst (λ r. Left false r end (record built { positional = es }) meant whole) (sym behind)
+positional_then rest middle end built meant whole o e e' es left named same following is =
+    subst (λ r. Left false r end (record built { positional = es }) meant whole) (sym following)
     (subst (λ k. Left false middle end (record built { positional = k }) meant whole) (sym (is ∙ ap (λ x. built.positional ++ x ∷ []) same))
     (subst (λ o'. Left false middle end (with_last o' e built) meant whole) named left))

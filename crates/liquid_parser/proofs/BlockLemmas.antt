@@ -7,7 +7,7 @@ use Rattle.liquid_grammar.proofs.CoverLemmas.{cover_of}
 use Rattle.liquid_grammar.specs.meaning.Tokens as token
 use Rattle.liquid_parser.specs.declared.cursor.element.BlockElement.TheVariants as cursor
 use Rattle.liquid_parser.specs.declared.cursor.tag.Tag.{Tag}
-use Rattle.liquid_parser.specs.meaning.BlockReading.{or_end, handed_out, behind_first}
+use Rattle.liquid_parser.specs.meaning.BlockReading.{or_end, handed_out, following_first}
 use Rattle.liquid_parser.specs.meaning.ElementReading.{element_checked}
 use Rattle.liquid_parser.specs.meaning.Elements.{StandsFor}
 use Rattle.liquid_parser.specs.meaning.Handed.{handed, expect_nothing}
@@ -16,8 +16,8 @@ use Rattle.liquid_parser.specs.meaning.Reading.{unclosed_by}
 use Rattle.liquid_parser.proofs.EscapeLemmas.{taken}
 
 -- an element that is an end tag, or is not
-module _ (source end_name behind : List ℕ) where
-  pub end_tag : (x : Tag) (e : Element) → StandsFor (cursor.Tag x) source behind e → bytes_eq x.name.now end_name ≡ true
+module _ (source end_name following : List ℕ) where
+  pub end_tag : (x : Tag) (e : Element) → StandsFor (cursor.Tag x) source following e → bytes_eq x.name.now end_name ≡ true
       → (t : token.Tag) × AreTokens x.tokens (handed source t) × (or_end source end_name e ≡ ok_then (expect_nothing (handed source t)) (λ _. Ok None))
   end_tag x (tag_element t text) m is = (
     t,
@@ -29,18 +29,18 @@ module _ (source end_name behind : List ℕ) where
   end_tag x (invalid text) m is = absurd m
 
 -- the first element of those that are left
-module _ (source end_name place behind : List ℕ) (e : Element) (es : List Element) where
-  pub first_out : IsElement place behind e → Cover place es → element_checked source e ≡ Ok tt → (handed_out source end_name es ≡ or_end source end_name e) × Cover behind (behind_first es)
+module _ (source end_name place following : List ℕ) (e : Element) (es : List Element) where
+  pub first_out : IsElement place following e → Cover place es → element_checked source e ≡ Ok tt → (handed_out source end_name es ≡ or_end source end_name e) × Cover following (following_first es)
   first_out is c fine =
-      let t = taken place behind e es is c in (
+      let t = taken place following e es is c in (
         ap (handed_out source end_name) t.is ∙ ap (λ r. ok_then r (λ _. or_end source end_name e)) fine,
-        subst (λ xs. Cover behind (behind_first xs)) (sym t.is) t.cover,
+        subst (λ xs. Cover following (following_first xs)) (sym t.is) t.cover,
       )
 
-  pub first_fault : (o : Option Refusal) → IsElement place behind e → Cover place es → IfSome o (λ r. element_checked source e ≡ Err r)
-      → IfSome o (λ r. handed_out source end_name es ≡ Err r) × Cover behind (behind_first es)
+  pub first_fault : (o : Option Refusal) → IsElement place following e → Cover place es → IfSome o (λ r. element_checked source e ≡ Err r)
+      → IfSome o (λ r. handed_out source end_name es ≡ Err r) × Cover following (following_first es)
   first_fault o is c fault =
-      let t = taken place behind e es is c in (go o t.is fault, subst (λ xs. Cover behind (behind_first xs)) (sym t.is) t.cover)
+      let t = taken place following e es is c in (go o t.is fault, subst (λ xs. Cover following (following_first xs)) (sym t.is) t.cover)
     where
       go : (o : Option Refusal) {others : List Element} → es ≡ e ∷ others → IfSome o (λ r. element_checked source e ≡ Err r) → IfSome o (λ r. handed_out source end_name es ≡ Err r)
       go None is h = tt
@@ -48,11 +48,11 @@ module _ (source end_name place behind : List ℕ) (e : Element) (es : List Elem
 
 -- no element is left
 pub none_out : (source end_name place : List ℕ) (es : List Element) (o : Option Refusal) → place ≡ [] → Cover place es → IfSome o (λ r. r ≡ unclosed_by source end_name)
-    → IfSome o (λ r. handed_out source end_name es ≡ Err r) × Cover place (behind_first es)
+    → IfSome o (λ r. handed_out source end_name es ≡ Err r) × Cover place (following_first es)
 none_out source end_name place es o empty c h =
     let only = cover_of [] in
     let none : es ≡ [] = only.only es (subst (λ x. Cover x es) empty c) ∙ sym (only.only [] done) in
-    (go o none h, subst (λ xs. Cover place (behind_first xs)) (sym none) (subst (λ x. Cover x []) (sym empty) done))
+    (go o none h, subst (λ xs. Cover place (following_first xs)) (sym none) (subst (λ x. Cover x []) (sym empty) done))
   where
     go : (o : Option Refusal) → es ≡ [] → IfSome o (λ r. r ≡ unclosed_by source end_name) → IfSome o (λ r. handed_out source end_name es ≡ Err r)
     go None is h = tt

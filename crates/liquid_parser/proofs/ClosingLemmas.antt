@@ -16,45 +16,45 @@ use Rattle.liquid_parser.proofs.EscapeLemmas.{past_then, taken}
 
 module _ {F T P B : Type 0} (l : Lang F T P B) (s : List ℕ) (outside : ℕ) where
   -- the first element, if a block is open
-  closed_first : (behind : List ℕ) (e : Element) (blocks : List (Open F T P B)) (nodes : List (NodeShape F T B)) (es : List Element) → 0 < length blocks → Cover behind es
-      → read_closed l s outside (among blocks nodes) (e ∷ es) ≡ ok_then (advanced l s outside (among blocks nodes) s behind e es) (λ p. read_closed l s outside p.0 p.1)
-  closed_first behind e [] nodes es some c = absurd (omega (arith, some))
-  closed_first behind e (b ∷ blocks) nodes es some c =
-      ap (λ x. ok_then (step l s outside (among (b ∷ blocks) nodes) e x) (λ n. read_closed l s outside n es)) (joined_cover behind es c)
-      ∙ past_then l s outside (read_closed l s outside) (λ c bs level so_far. refl) (λ c bs level so_far e' es'. refl) (step l s outside (among (b ∷ blocks) nodes) e behind) es
+  closed_first : (following : List ℕ) (e : Element) (blocks : List (Open F T P B)) (nodes : List (NodeShape F T B)) (es : List Element) → 0 < length blocks → Cover following es
+      → read_closed l s outside (among blocks nodes) (e ∷ es) ≡ ok_then (advanced l s outside (among blocks nodes) s following e es) (λ p. read_closed l s outside p.0 p.1)
+  closed_first following e [] nodes es some c = absurd (omega (arith, some))
+  closed_first following e (b ∷ blocks) nodes es some c =
+      ap (λ x. ok_then (step l s outside (among (b ∷ blocks) nodes) e x) (λ n. read_closed l s outside n es)) (joined_cover following es c)
+      ∙ past_then l s outside (read_closed l s outside) (λ c bs level so_far. refl) (λ c bs level so_far e' es'. refl) (step l s outside (among (b ∷ blocks) nodes) e following) es
 
   -- what is left of the text is read from this state on as the text is from the first
   abbrev pub Closing : List ℕ → State F T P B → List ℕ → State F T P B → Type 0
   Closing text first rest st = (es : List Element) → Cover text es → (left : List Element) × Cover rest left × (read_closed l s outside first es ≡ read_closed l s outside st left)
 
-  pub Closing-on : (text rest behind : List ℕ) (first : State F T P B) (e : Element) (blocks : List (Open F T P B)) (nodes : List (NodeShape F T B)) (st : State F T P B) (after : List ℕ)
-      → Closing text first rest (among blocks nodes) → 0 < length blocks → IsElement rest behind e
-      → ((es : List Element) → Cover behind es → (left : List Element) × Cover after left × (advanced l s outside (among blocks nodes) s behind e es ≡ Ok (st, left))) → Closing text first after st
-  Closing-on text rest behind first e blocks nodes st after goes some is leads es c =
+  pub Closing-on : (text rest following : List ℕ) (first : State F T P B) (e : Element) (blocks : List (Open F T P B)) (nodes : List (NodeShape F T B)) (st : State F T P B) (after : List ℕ)
+      → Closing text first rest (among blocks nodes) → 0 < length blocks → IsElement rest following e
+      → ((es : List Element) → Cover following es → (left : List Element) × Cover after left × (advanced l s outside (among blocks nodes) s following e es ≡ Ok (st, left))) → Closing text first after st
+  Closing-on text rest following first e blocks nodes st after goes some is leads es c =
       let w = goes es c in
-      let t = taken rest behind e w.0 is w.1 in
+      let t = taken rest following e w.0 is w.1 in
       let here = leads t.others t.cover in (
         here.0,
         here.1,
-        w.2 ∙ (ap (read_closed l s outside (among blocks nodes)) t.is ∙ (closed_first behind e blocks nodes t.others some t.cover ∙ ap (λ r. ok_then r (λ p. read_closed l s outside p.0 p.1)) here.2)),
+        w.2 ∙ (ap (read_closed l s outside (among blocks nodes)) t.is ∙ (closed_first following e blocks nodes t.others some t.cover ∙ ap (λ r. ok_then r (λ p. read_closed l s outside p.0 p.1)) here.2)),
       )
 
-  pub Closing-refused : (text rest behind : List ℕ) (first : State F T P B) (e : Element) (blocks : List (Open F T P B)) (nodes : List (NodeShape F T B)) (o : Option Refusal)
-      → Closing text first rest (among blocks nodes) → 0 < length blocks → IsElement rest behind e
-      → ((es : List Element) → Cover behind es → IfSome o (λ r. advanced l s outside (among blocks nodes) s behind e es ≡ Err r))
+  pub Closing-refused : (text rest following : List ℕ) (first : State F T P B) (e : Element) (blocks : List (Open F T P B)) (nodes : List (NodeShape F T B)) (o : Option Refusal)
+      → Closing text first rest (among blocks nodes) → 0 < length blocks → IsElement rest following e
+      → ((es : List Element) → Cover following es → IfSome o (λ r. advanced l s outside (among blocks nodes) s following e es ≡ Err r))
       → (es : List Element) → Cover text es → IfSome o (λ r. read_closed l s outside first es ≡ Err r)
-  Closing-refused text rest behind first e blocks nodes None goes some is fails es c = tt
-  Closing-refused text rest behind first e blocks nodes (Some r) goes some is fails es c =
+  Closing-refused text rest following first e blocks nodes None goes some is fails es c = tt
+  Closing-refused text rest following first e blocks nodes (Some r) goes some is fails es c =
       let w = goes es c in
-      let t = taken rest behind e w.0 is w.1 in
-      w.2 ∙ (ap (read_closed l s outside (among blocks nodes)) t.is ∙ (closed_first behind e blocks nodes t.others some t.cover ∙ ap (λ q. ok_then q (λ p. read_closed l s outside p.0 p.1)) (fails t.others t.cover)))
+      let t = taken rest following e w.0 is w.1 in
+      w.2 ∙ (ap (read_closed l s outside (among blocks nodes)) t.is ∙ (closed_first following e blocks nodes t.others some t.cover ∙ ap (λ q. ok_then q (λ p. read_closed l s outside p.0 p.1)) (fails t.others t.cover)))
 
-  pub Closing-unchecked : (text rest behind : List ℕ) (first : State F T P B) (e : Element) (blocks : List (Open F T P B)) (nodes : List (NodeShape F T B)) (o : Option Refusal)
-      → Closing text first rest (among blocks nodes) → 0 < length blocks → IsElement rest behind e → IfSome o (λ r. element_checked s e ≡ Err r)
+  pub Closing-unchecked : (text rest following : List ℕ) (first : State F T P B) (e : Element) (blocks : List (Open F T P B)) (nodes : List (NodeShape F T B)) (o : Option Refusal)
+      → Closing text first rest (among blocks nodes) → 0 < length blocks → IsElement rest following e → IfSome o (λ r. element_checked s e ≡ Err r)
       → (es : List Element) → Cover text es → IfSome o (λ r. read_closed l s outside first es ≡ Err r)
-  Closing-unchecked text rest behind first e blocks nodes None goes some is fault es c = tt
-  Closing-unchecked text rest behind first e blocks nodes (Some r) goes some is fault es c =
-      Closing-refused text rest behind first e blocks nodes (Some r) goes some is (λ es c. unchecked_step l s outside blocks nodes e behind es r fault) es c
+  Closing-unchecked text rest following first e blocks nodes None goes some is fault es c = tt
+  Closing-unchecked text rest following first e blocks nodes (Some r) goes some is fault es c =
+      Closing-refused text rest following first e blocks nodes (Some r) goes some is (λ es c. unchecked_step l s outside blocks nodes e following es r fault) es c
 
   -- the text ends
   ended_then : (blocks : List (Open F T P B)) (nodes : List (NodeShape F T B)) → read_closed l s outside (among blocks nodes) [] ≡ ok_then (ended s (among blocks nodes)) (λ ns. Ok (ns, []))
@@ -103,9 +103,9 @@ module _ {F T P B : Type 0} (l : Lang F T P B) (s : List ℕ) (outside : ℕ) wh
   past_err b blocks es (Some r) h = closed_past b blocks es ∙ ap (λ q. ok_then q (λ p. read_closed l s outside p.0 p.1)) h
 
 -- further on in a text
-pub further : (text rest behind after t : List ℕ) → ((front : List ℕ) × (text ≡ front ++ rest)) → rest ≡ t ++ behind → ((front : List ℕ) × (behind ≡ front ++ after)) → (front : List ℕ) × (text ≡ front ++ after)
-further text rest behind after t f is g =
-    ((f.0 ++ t) ++ g.0, f.1 ∙ (ap (λ x. f.0 ++ x) is ∙ (sym (append_assoc f.0 t behind) ∙ (ap (λ x. (f.0 ++ t) ++ x) g.1 ∙ sym (append_assoc (f.0 ++ t) g.0 after)))))
+pub further : (text rest following after t : List ℕ) → ((front : List ℕ) × (text ≡ front ++ rest)) → rest ≡ t ++ following → ((front : List ℕ) × (following ≡ front ++ after)) → (front : List ℕ) × (text ≡ front ++ after)
+further text rest following after t f is g =
+    ((f.0 ++ t) ++ g.0, f.1 ∙ (ap (λ x. f.0 ++ x) is ∙ (sym (append_assoc f.0 t following) ∙ (ap (λ x. (f.0 ++ t) ++ x) g.1 ∙ sym (append_assoc (f.0 ++ t) g.0 after)))))
 
 pub within_further : {A : Type 0} (r : Result (A × Bor (List ℕ)) Error) (text after : List ℕ) → ((front : List ℕ) × (text ≡ front ++ after)) → IfOk r (λ p. (front : List ℕ) × (after ≡ front ++ p.1.now))
     → IfOk r (λ p. (front : List ℕ) × (text ≡ front ++ p.1.now))

@@ -7,7 +7,7 @@ use Rattle.liquid_grammar.specs.meaning.Cover.{Element, text_of, IsElement, Cove
 use Rattle.liquid_grammar.proofs.CoverLemmas.{cover_of}
 use Rattle.liquid_plugins.specs.meaning.Nodes.{NodeShape}
 use Rattle.liquid_parser.specs.meaning.Lang.{Lang, escaped}
-use Rattle.liquid_parser.specs.meaning.Reading.{State, Open, among, inside, step, escape, level_behind, escape_read, finished, unclosed_by}
+use Rattle.liquid_parser.specs.meaning.Reading.{State, Open, among, inside, step, escape, level_after, escape_read, finished, unclosed_by}
 use Rattle.liquid_parser.specs.steps.Views.{escaped_body, past_escaped}
 
 -- `rest` is left of the body, after this text, and this many starts are without their ends
@@ -17,14 +17,14 @@ pub record Going (body end_name start_name : List ℕ) (nests : Bool) (rest : Li
   pub onward : (es : List Element) → Cover body es → (left : List Element) × Cover rest left × (escape end_name start_name nests 0 [] es ≡ escape end_name start_name nests level so_far left)
 
 -- the first element of what is left, and those after it
-pub record Taken (rest behind : List ℕ) (e : Element) (left : List Element) : Type 0 where
+pub record Taken (rest following : List ℕ) (e : Element) (left : List Element) : Type 0 where
   pub others : List Element
   pub is : left ≡ e ∷ others
-  pub cover : Cover behind others
+  pub cover : Cover following others
 
-pub taken : (rest behind : List ℕ) (e : Element) (left : List Element) → IsElement rest behind e → Cover rest left → Taken rest behind e left
-taken rest behind e left is c =
-    let o = cover_of behind in
+pub taken : (rest following : List ℕ) (e : Element) (left : List Element) → IsElement rest following e → Cover rest left → Taken rest following e left
+taken rest following e left is c =
+    let o = cover_of following in
     let r = cover_of rest in
     record { others = o.elements; is = r.only left c ∙ sym (r.only (e ∷ o.elements) (next is o.cover)); cover = o.cover }
 
@@ -32,14 +32,14 @@ module _ (body end_name start_name : List ℕ) (nests : Bool) where
   pub going_first : Going body end_name start_name nests body 0
   going_first = record { so_far = []; whole = refl; onward = λ es c. (es, c, refl) }
 
-  pub going_next : (rest behind : List ℕ) (e : Element) (level level' : ℕ) → Going body end_name start_name nests rest level → IsElement rest behind e
-      → level_behind end_name start_name nests level e ≡ Some level' → Going body end_name start_name nests behind level'
-  going_next rest behind e level level' g is at = record {
+  pub going_next : (rest following : List ℕ) (e : Element) (level level' : ℕ) → Going body end_name start_name nests rest level → IsElement rest following e
+      → level_after end_name start_name nests level e ≡ Some level' → Going body end_name start_name nests following level'
+  going_next rest following e level level' g is at = record {
     so_far = g.so_far ++ text_of e;
-    whole = g.whole ∙ (ap (λ r. g.so_far ++ r) is.joined ∙ sym (append_assoc g.so_far (text_of e) behind));
+    whole = g.whole ∙ (ap (λ r. g.so_far ++ r) is.joined ∙ sym (append_assoc g.so_far (text_of e) following));
     onward = λ es c.
         let w = g.onward es c in
-        let t = taken rest behind e w.0 is w.1 in (
+        let t = taken rest following e w.0 is w.1 in (
           t.others,
           t.cover,
           w.2 ∙ (ap (escape end_name start_name nests level g.so_far) t.is
@@ -48,12 +48,12 @@ module _ (body end_name start_name : List ℕ) (nests : Bool) where
   }
 
   -- the end of the body
-  pub going_end : (rest behind text : List ℕ) (e : Element) (level : ℕ) → (g : Going body end_name start_name nests rest level) → IsElement rest behind e
-      → level_behind end_name start_name nests level e ≡ None → g.so_far ≡ text
-      → (es : List Element) → Cover body es → (left : List Element) × Cover behind left × (escape end_name start_name nests 0 [] es ≡ Some (text, left))
-  going_end rest behind text e level g is at same es c =
+  pub going_end : (rest following text : List ℕ) (e : Element) (level : ℕ) → (g : Going body end_name start_name nests rest level) → IsElement rest following e
+      → level_after end_name start_name nests level e ≡ None → g.so_far ≡ text
+      → (es : List Element) → Cover body es → (left : List Element) × Cover following left × (escape end_name start_name nests 0 [] es ≡ Some (text, left))
+  going_end rest following text e level g is at same es c =
       let w = g.onward es c in
-      let t = taken rest behind e w.0 is w.1 in (
+      let t = taken rest following e w.0 is w.1 in (
         t.others,
         t.cover,
         w.2 ∙ (ap (escape end_name start_name nests level g.so_far) t.is
@@ -61,8 +61,8 @@ module _ (body end_name start_name : List ℕ) (nests : Bool) where
             ∙ ap (λ x. Some (x, t.others)) same)),
       )
 
-  pub going_behind : (rest behind : List ℕ) (e : Element) (level : ℕ) → Going body end_name start_name nests rest level → IsElement rest behind e → (front : List ℕ) × (body ≡ front ++ behind)
-  going_behind rest behind e level g is = (g.so_far ++ text_of e, g.whole ∙ (ap (λ r. g.so_far ++ r) is.joined ∙ sym (append_assoc g.so_far (text_of e) behind)))
+  pub going_after : (rest following : List ℕ) (e : Element) (level : ℕ) → Going body end_name start_name nests rest level → IsElement rest following e → (front : List ℕ) × (body ≡ front ++ following)
+  going_after rest following e level g is = (g.so_far ++ text_of e, g.whole ∙ (ap (λ r. g.so_far ++ r) is.joined ∙ sym (append_assoc g.so_far (text_of e) following)))
 
   -- no end
   pub going_none : (rest : List ℕ) (level : ℕ) → Going body end_name start_name nests rest level → rest ≡ [] → (es : List Element) → Cover body es → escape end_name start_name nests 0 [] es ≡ None
@@ -79,7 +79,7 @@ module _ {F T P B A : Type 0} (l : Lang F T P B) (source : List ℕ) (outside : 
   past_read : (b : Open F T P B) (blocks : List (Open F T P B)) (level : ℕ) (so_far : List ℕ) (es : List Element) → k (inside b blocks level so_far) es ≡ ok_then (past_escaped source (inside b blocks level so_far) es) (λ p. k p.0 p.1)
   past_read b blocks level so_far [] = ends b blocks level so_far
   past_read b blocks level so_far (e ∷ es) =
-      steps b blocks level so_far e es ∙ go (level_behind b.kind.names.end_name b.kind.names.start_name b.kind.means.nests level e) (λ n. past_read b blocks n (so_far ++ text_of e) es)
+      steps b blocks level so_far e es ∙ go (level_after b.kind.names.end_name b.kind.names.start_name b.kind.means.nests level e) (λ n. past_read b blocks n (so_far ++ text_of e) es)
     where
       finish_then : (m : Result (List (NodeShape F T B)) Refusal)
           → ok_then {A = State F T P B} (ok_then m (λ nodes. Ok (among blocks nodes))) (λ n. k n es) ≡ ok_then {A = State F T P B × List Element} (ok_then m (λ nodes. Ok (among blocks nodes, es))) (λ p. k p.0 p.1)

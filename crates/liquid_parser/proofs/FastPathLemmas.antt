@@ -10,9 +10,9 @@ use Rattle.liquid_grammar.specs.meaning.Faults.{chain_fault, filter_fault, first
 use Rattle.liquid_grammar.specs.meaning.Kinds.{chain_kind, identifier_of}
 use Rattle.liquid_grammar.specs.meaning.Parts.{IsHead, HasHead, OpensExpression, ClosesExpression}
 use Rattle.liquid_grammar.specs.meaning.Rules.{Repeated}
-use Rattle.liquid_grammar.specs.meaning.Tokens.{Chain, Behind, FilterRule, ChainRule}
+use Rattle.liquid_grammar.specs.meaning.Tokens.{Chain, Following, FilterRule, ChainRule}
 use Rattle.liquid_grammar.specs.meaning.Values.{variable_value, no_index, gather}
-use Rattle.liquid_grammar.specs.steps.TokenSteps.{behind, filter}
+use Rattle.liquid_grammar.specs.steps.TokenSteps.{following, filter}
 use Rattle.liquid_grammar.proofs.ExactRepeated.{repeated_total}
 use Rattle.liquid_grammar.proofs.ExpressionPartLemmas.{element_stands, no_index_here, no_filter_here}
 use Rattle.liquid_grammar.proofs.PartLemmas.{none_left}
@@ -33,16 +33,16 @@ pub record IsHeaded (start : List ℕ) (h : Head) (after : List ℕ) : Type 0 wh
   pub chain : Chain
   pub match : ChainRule start end chain
   pub begun : IsHead start middle h after chain.what.0
-  pub filters : Repeated (Behind 124 FilterRule) middle end chain.what.1
+  pub filters : Repeated (Following 124 FilterRule) middle end chain.what.1
 
 pub headed : (start after : List ℕ) (h : Head) → HasHead start h after → IsHeaded start h after
 headed start after h has =
-    let all = repeated_total (behind 124 filter) has.rest in
+    let all = repeated_total (following 124 filter) has.rest in
     let filters = exact-filters.sound has.rest all.0.1 all.0.0 all.1 in
     record {
       middle = has.rest;
       end = all.0.1;
-      chain = record { place = start; behind = all.0.1; what = (has.value, all.0.0) };
+      chain = record { place = start; following = all.0.1; what = (has.value, all.0.0) };
       match = record { begins = refl; ends = refl; match = record { middle = has.rest; before = has.match; after = filters } };
       begun = has.head;
       filters = filters;
@@ -62,7 +62,7 @@ module _ {F T B : Type 0} (filters : Filters F) (source : List ℕ) where
   name_makes s start after rest name opens has closes =
       let h = headed start after (head.Name name) has in
       let unindexed = none_left after h.middle h.begun.indexes h.begun.match (no_index_here after rest closes) in
-      let others : Repeated (Behind 124 FilterRule) after h.end h.chain.what.1 = subst (λ m. Repeated (Behind 124 FilterRule) m h.end h.chain.what.1) unindexed.ends h.filters in
+      let others : Repeated (Following 124 FilterRule) after h.end h.chain.what.1 = subst (λ m. Repeated (Following 124 FilterRule) m h.end h.chain.what.1) unindexed.ends h.filters in
       let unfiltered = none_left after h.end h.chain.what.1 others (no_filter_here after rest closes) in
       let value : h.chain.what.0 ≡ variable_value start h.middle name.now no_index = h.begun.is ∙ ap (λ is. variable_value start h.middle name.now (gather is)) unindexed.none in
       let fine : chain_fault h.chain ≡ None =
@@ -74,15 +74,15 @@ module _ {F T B : Type 0} (filters : Filters F) (source : List ℕ) where
       chain_makes s start after after rest (head.Name name) _ h opens (fine, name_read filters source name.now h.chain kind, sym unfiltered.ends) closes
 
 -- such an expression is one more node
-pub node_advanced : {F T P B : Type 0} (l : Lang F T P B) (source : List ℕ) (outside : ℕ) (blocks : List (Open F T P B)) (nodes : List (NodeShape F T B)) (s behind : List ℕ) (node : NodeShape F T B)
-    → (made : MakesNode l.filters source s behind node) → (es : List Element)
-    → advanced l source outside (among blocks nodes) source behind (expression made.chain made.text) es ≡ Ok (among blocks (nodes ++ node ∷ []), es)
-node_advanced l source outside blocks nodes s behind node made es =
+pub node_advanced : {F T P B : Type 0} (l : Lang F T P B) (source : List ℕ) (outside : ℕ) (blocks : List (Open F T P B)) (nodes : List (NodeShape F T B)) (s following : List ℕ) (node : NodeShape F T B)
+    → (made : MakesNode l.filters source s following node) → (es : List Element)
+    → advanced l source outside (among blocks nodes) source following (expression made.chain made.text) es ≡ Ok (among blocks (nodes ++ node ∷ []), es)
+node_advanced l source outside blocks nodes s following node made es =
     ap (λ o. ok_then (ok_then (checked source o) (λ _. node_added blocks nodes (expression_read l.filters source made.chain))) (λ next. past_escaped source next es)) made.fine
     ∙ ap (λ r. ok_then (node_added blocks nodes r) (λ next. past_escaped source next es)) made.read
 
 -- what is neither a tag nor an expression is refused at its brace
-pub invalid_advanced : {F T P B : Type 0} (l : Lang F T P B) (source : List ℕ) (outside : ℕ) (blocks : List (Open F T P B)) (nodes : List (NodeShape F T B)) (behind text : List ℕ) (es : List Element) (o : Option Refusal)
-    → IfSome o (λ r. r ≡ refused_at source (codes "Invalid liquid") (123 ∷ behind)) → IfSome o (λ r. advanced l source outside (among blocks nodes) source behind (invalid text) es ≡ Err r)
-invalid_advanced l source outside blocks nodes behind text es None is = tt
-invalid_advanced l source outside blocks nodes behind text es (Some r) is = ap (λ x. Err x) (sym is)
+pub invalid_advanced : {F T P B : Type 0} (l : Lang F T P B) (source : List ℕ) (outside : ℕ) (blocks : List (Open F T P B)) (nodes : List (NodeShape F T B)) (following text : List ℕ) (es : List Element) (o : Option Refusal)
+    → IfSome o (λ r. r ≡ refused_at source (codes "Invalid liquid") (123 ∷ following)) → IfSome o (λ r. advanced l source outside (among blocks nodes) source following (invalid text) es ≡ Err r)
+invalid_advanced l source outside blocks nodes following text es None is = tt
+invalid_advanced l source outside blocks nodes following text es (Some r) is = ap (λ x. Err x) (sym is)

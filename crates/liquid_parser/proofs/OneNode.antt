@@ -11,13 +11,13 @@ use Rattle.liquid_plugins.specs.meaning.Nodes.{NodeShape}
 use Rattle.liquid_parser.specs.meaning.ElementReading.{read_closed, tag_node_read}
 use Rattle.liquid_parser.specs.meaning.Handed.{handed, expect_nothing, place_in}
 use Rattle.liquid_parser.specs.meaning.Lang.{Lang, Body, parts, escaped}
-use Rattle.liquid_parser.specs.meaning.Reading.{Open, State, among, inside, step, checked, expression_read, node_added, tag_given, begun, block_begun, parted, closed, finished, escape_read, level_behind, as_end, as_divider, as_tag, as_block, outer_read, tag_read, unknown_tag, entered, block_with, placed_at, name_place, refused_at, block_limit}
+use Rattle.liquid_parser.specs.meaning.Reading.{Open, State, among, inside, step, checked, expression_read, node_added, tag_given, begun, block_begun, parted, closed, finished, escape_read, level_after, as_end, as_divider, as_tag, as_block, outer_read, tag_read, unknown_tag, entered, block_with, placed_at, name_place, refused_at, block_limit}
 
 abbrev pub IsOne : {N : Type 0} → List N → Type 0
 IsOne {N} ns = (n : N) × (ns ≡ n ∷ [])
 
-one_behind : {N : Type 0} (before : List N) (n : N) → before ≡ [] → IsOne (before ++ n ∷ [])
-one_behind before n e = (n, ap (λ ns. ns ++ n ∷ []) e)
+one_following : {N : Type 0} (before : List N) (n : N) → before ≡ [] → IsOne (before ++ n ∷ [])
+one_following before n e = (n, ap (λ ns. ns ++ n ∷ []) e)
 
 module _ {F T P B : Type 0} where
   -- the outermost of these blocks has no nodes before it
@@ -64,7 +64,7 @@ module _ {F T P B : Type 0} where
   one_room false r e h = tt
 
   one_closed : (b : Open F T P B) (blocks : List (Open F T P B)) (n : NodeShape F T B) → Alone b blocks → OneIn (among blocks (b.before ++ n ∷ []))
-  one_closed b [] n h = one_behind b.before n h
+  one_closed b [] n h = one_following b.before n h
   one_closed b (c ∷ blocks) n h = h
 
   one_after : {A C : Type 0} (m : Result A Refusal) (f : A → Result C Refusal) (k : C → Result (State F T P B) Refusal) → ((x : A) → OneOf (ok_then (f x) k)) → OneOf (ok_then (ok_then m f) k)
@@ -124,13 +124,13 @@ module _ {F T P B : Type 0} (l : Lang F T P B) (source : List ℕ) (outside : �
   one_first_tag : (t : token.Tag) → OneOf (tag_read l source outside [] [] t)
   one_first_tag t = one_outer [] [] t (λ n. (n, refl)) (λ c e. e)
 
-  one_step : (b : Open F T P B) (blocks : List (Open F T P B)) (nodes : List (NodeShape F T B)) (e : Element) (behind : List ℕ) → Alone b blocks → OneOf (step l source outside (among (b ∷ blocks) nodes) e behind)
-  one_step b blocks nodes (raw text) behind h = h
-  one_step b blocks nodes (expression c text) behind h =
+  one_step : (b : Open F T P B) (blocks : List (Open F T P B)) (nodes : List (NodeShape F T B)) (e : Element) (following : List ℕ) → Alone b blocks → OneOf (step l source outside (among (b ∷ blocks) nodes) e following)
+  one_step b blocks nodes (raw text) following h = h
+  one_step b blocks nodes (expression c text) following h =
       one_then (checked source (chain_fault c)) (λ _. node_added (b ∷ blocks) nodes (expression_read l.filters source c))
       (λ u. one_then (expression_read l.filters source c) (λ n. Ok (among (b ∷ blocks) (nodes ++ n ∷ []))) (λ n. h))
-  one_step b blocks nodes (tag_element t text) behind h = one_then (checked source (tag_fault t)) (λ _. tag_read l source outside (b ∷ blocks) nodes t) (λ u. one_tag b blocks nodes t h)
-  one_step b blocks nodes (invalid text) behind h = tt
+  one_step b blocks nodes (tag_element t text) following h = one_then (checked source (tag_fault t)) (λ _. tag_read l source outside (b ∷ blocks) nodes t) (λ u. one_tag b blocks nodes t h)
+  one_step b blocks nodes (invalid text) following h = tt
 
   one_escaped : (b : Open F T P B) (blocks : List (Open F T P B)) (so_far content : List ℕ) (o : Option ℕ) → Alone b blocks → OneOf (escape_read b blocks so_far content o)
   one_escaped b blocks so_far content None h = one_finished b blocks (escaped so_far) [] h
@@ -151,7 +151,7 @@ module _ {F T P B : Type 0} (l : Lang F T P B) (source : List ℕ) (outside : �
   closed_one [] (inside b blocks level so_far) h = tt
   closed_one (e ∷ es) (inside b blocks level so_far) h =
       then_one (step l source outside (inside b blocks level so_far) e (joined es)) es (closed_one es)
-      (one_escaped b blocks so_far (text_of e) (level_behind b.kind.names.end_name b.kind.names.start_name b.kind.means.nests level e) h)
+      (one_escaped b blocks so_far (text_of e) (level_after b.kind.names.end_name b.kind.names.start_name b.kind.means.nests level e) h)
 
 module _ {F T P B : Type 0} (l : Lang F T P B) (source : List ℕ) (outside : ℕ) where
   -- a tag gives one node, whatever text it is in

@@ -24,45 +24,45 @@ module _ {F T P B : Type 0} (l : Lang F T P B) (s : List ℕ) where
   Goes-begin st e es c = (es, c, ap (λ x. read l s 0 x es) (sym e))
 
   -- what the reading of the rest gives if its first element is read
-  read_first : (behind : List ℕ) (e : Element) (blocks : List (Open F T P B)) (nodes : List (NodeShape F T B)) (es : List Element) → Cover behind es
-      → read l s 0 (among blocks nodes) (e ∷ es) ≡ ok_then (advanced l s 0 (among blocks nodes) s behind e es) (λ p. read l s 0 p.0 p.1)
-  read_first behind e blocks nodes es c =
-      ap (λ b. ok_then (step l s 0 (among blocks nodes) e b) (λ n. read l s 0 n es)) (joined_cover behind es c)
-      ∙ past_then l s 0 (read l s 0) (λ b bs level so_far. refl) (λ b bs level so_far e' es'. refl) (step l s 0 (among blocks nodes) e behind) es
+  read_first : (following : List ℕ) (e : Element) (blocks : List (Open F T P B)) (nodes : List (NodeShape F T B)) (es : List Element) → Cover following es
+      → read l s 0 (among blocks nodes) (e ∷ es) ≡ ok_then (advanced l s 0 (among blocks nodes) s following e es) (λ p. read l s 0 p.0 p.1)
+  read_first following e blocks nodes es c =
+      ap (λ b. ok_then (step l s 0 (among blocks nodes) e b) (λ n. read l s 0 n es)) (joined_cover following es c)
+      ∙ past_then l s 0 (read l s 0) (λ b bs level so_far. refl) (λ b bs level so_far e' es'. refl) (step l s 0 (among blocks nodes) e following) es
 
   -- one more element
-  pub Goes-on : (rest behind : List ℕ) (e : Element) (blocks : List (Open F T P B)) (nodes : List (NodeShape F T B)) (st : State F T P B) (after : List ℕ)
-      → Goes rest (among blocks nodes) → IsElement rest behind e
-      → ((es : List Element) → Cover behind es → (left : List Element) × Cover after left × (advanced l s 0 (among blocks nodes) s behind e es ≡ Ok (st, left))) → Goes after st
-  Goes-on rest behind e blocks nodes st after goes is leads es c =
-      let o = cover_of behind in
+  pub Goes-on : (rest following : List ℕ) (e : Element) (blocks : List (Open F T P B)) (nodes : List (NodeShape F T B)) (st : State F T P B) (after : List ℕ)
+      → Goes rest (among blocks nodes) → IsElement rest following e
+      → ((es : List Element) → Cover following es → (left : List Element) × Cover after left × (advanced l s 0 (among blocks nodes) s following e es ≡ Ok (st, left))) → Goes after st
+  Goes-on rest following e blocks nodes st after goes is leads es c =
+      let o = cover_of following in
       let w = goes (e ∷ o.elements) (next is o.cover) in
       let here = leads o.elements o.cover in
       let same = cover_of after in (
         w.0,
         w.1,
-        w.2 ∙ (read_first behind e blocks nodes o.elements o.cover
+        w.2 ∙ (read_first following e blocks nodes o.elements o.cover
             ∙ (ap (λ r. ok_then r (λ p. read l s 0 p.0 p.1)) here.2 ∙ ap (read l s 0 st) (same.only here.0 here.1 ∙ sym (same.only es c)))),
       )
 
-  refused_one : (rest behind : List ℕ) (e : Element) (blocks : List (Open F T P B)) (nodes : List (NodeShape F T B)) (r : Refusal) → Goes rest (among blocks nodes) → IsElement rest behind e
-      → ((es : List Element) → Cover behind es → advanced l s 0 (among blocks nodes) s behind e es ≡ Err r) → Reads l s (Err r)
-  refused_one rest behind e blocks nodes r goes is gives =
-      let o = cover_of behind in
+  refused_one : (rest following : List ℕ) (e : Element) (blocks : List (Open F T P B)) (nodes : List (NodeShape F T B)) (r : Refusal) → Goes rest (among blocks nodes) → IsElement rest following e
+      → ((es : List Element) → Cover following es → advanced l s 0 (among blocks nodes) s following e es ≡ Err r) → Reads l s (Err r)
+  refused_one rest following e blocks nodes r goes is gives =
+      let o = cover_of following in
       let w = goes (e ∷ o.elements) (next is o.cover) in
-      record { elements = w.0; cover = w.1; is = sym (w.2 ∙ (read_first behind e blocks nodes o.elements o.cover ∙ ap (λ q. ok_then q (λ p. read l s 0 p.0 p.1)) (gives o.elements o.cover))) }
+      record { elements = w.0; cover = w.1; is = sym (w.2 ∙ (read_first following e blocks nodes o.elements o.cover ∙ ap (λ q. ok_then q (λ p. read l s 0 p.0 p.1)) (gives o.elements o.cover))) }
 
-  pub refused : (rest behind : List ℕ) (e : Element) (blocks : List (Open F T P B)) (nodes : List (NodeShape F T B)) (o : Option Refusal) → Goes rest (among blocks nodes) → IsElement rest behind e
-      → ((es : List Element) → Cover behind es → IfSome o (λ r. advanced l s 0 (among blocks nodes) s behind e es ≡ Err r)) → IfSome o (λ r. Reads l s (Err r))
-  refused rest behind e blocks nodes None goes is gives = tt
-  refused rest behind e blocks nodes (Some r) goes is gives = refused_one rest behind e blocks nodes r goes is gives
+  pub refused : (rest following : List ℕ) (e : Element) (blocks : List (Open F T P B)) (nodes : List (NodeShape F T B)) (o : Option Refusal) → Goes rest (among blocks nodes) → IsElement rest following e
+      → ((es : List Element) → Cover following es → IfSome o (λ r. advanced l s 0 (among blocks nodes) s following e es ≡ Err r)) → IfSome o (λ r. Reads l s (Err r))
+  refused rest following e blocks nodes None goes is gives = tt
+  refused rest following e blocks nodes (Some r) goes is gives = refused_one rest following e blocks nodes r goes is gives
 
   -- an element with a fault
-  pub unchecked : (rest behind : List ℕ) (e : Element) (blocks : List (Open F T P B)) (nodes : List (NodeShape F T B)) (o : Option Refusal) → Goes rest (among blocks nodes) → IsElement rest behind e
+  pub unchecked : (rest following : List ℕ) (e : Element) (blocks : List (Open F T P B)) (nodes : List (NodeShape F T B)) (o : Option Refusal) → Goes rest (among blocks nodes) → IsElement rest following e
       → IfSome o (λ r. element_checked s e ≡ Err r) → IfSome o (λ r. Reads l s (Err r))
-  unchecked rest behind e blocks nodes None goes is fault = tt
-  unchecked rest behind e blocks nodes (Some r) goes is fault =
-      refused_one rest behind e blocks nodes r goes is (λ es c. unchecked_step l s 0 blocks nodes e behind es r fault)
+  unchecked rest following e blocks nodes None goes is fault = tt
+  unchecked rest following e blocks nodes (Some r) goes is fault =
+      refused_one rest following e blocks nodes r goes is (λ es c. unchecked_step l s 0 blocks nodes e following es r fault)
 
   pub Reads-end : (st : State F T P B) (a : Result (List (NodeShape F T B)) Refusal) → Goes [] st → ended s st ≡ a → Reads l s a
   Reads-end st a g e = let w = g [] done in record { elements = w.0; cover = w.1; is = sym (w.2 ∙ e) }

@@ -21,10 +21,10 @@ place_of (range r) = r.place
 place_of (chain c) = c.place
 place_of (symbol s) = s.place
 
-unfoldable pub behind_of : Token → List ℕ
-behind_of (range r) = r.behind
-behind_of (chain c) = c.behind
-behind_of (symbol s) = s.behind
+unfoldable pub after_of : Token → List ℕ
+after_of (range r) = r.following
+after_of (chain c) = c.following
+after_of (symbol s) = s.following
 
 pub handed_place : (source : List ℕ) (t : Token) → (handed_token source t).place ≡ place_in source (place_of t)
 unfolding place_of
@@ -32,14 +32,14 @@ handed_place source (range r) = refl
 handed_place source (chain c) = refl
 handed_place source (symbol s) = refl
 
-pub handed_behind : (source : List ℕ) (t : Token) → (handed_token source t).behind ≡ place_in source (behind_of t)
-unfolding behind_of
-handed_behind source (range r) = refl
-handed_behind source (chain c) = refl
-handed_behind source (symbol s) = refl
+pub handed_after : (source : List ℕ) (t : Token) → (handed_token source t).following ≡ place_in source (after_of t)
+unfolding after_of
+handed_after source (range r) = refl
+handed_after source (chain c) = refl
+handed_after source (symbol s) = refl
 
-pub handed_text : (source : List ℕ) (t : Token) → (handed_token source t).text ≡ slice_between (place_of t) (behind_of t)
-unfolding place_of behind_of
+pub handed_text : (source : List ℕ) (t : Token) → (handed_token source t).text ≡ slice_between (place_of t) (after_of t)
+unfolding place_of after_of
 handed_text source (range r) = refl
 handed_text source (chain c) = refl
 handed_text source (symbol s) = refl
@@ -51,21 +51,21 @@ rule_place (here m) = ap place_of m.is ∙ m.match.begins
 rule_place (instead none (here m)) = ap place_of m.is ∙ m.match.begins
 rule_place (instead none (instead none' m)) = ap place_of m.is ∙ m.match.begins
 
-pub rule_behind : {s rest : List ℕ} {t : Token} → TokenRule s rest t → behind_of t ≡ rest
-unfolding behind_of
-rule_behind (here m) = ap behind_of m.is ∙ m.match.ends
-rule_behind (instead none (here m)) = ap behind_of m.is ∙ m.match.ends
-rule_behind (instead none (instead none' m)) = ap behind_of m.is ∙ m.match.ends
+pub rule_after : {s rest : List ℕ} {t : Token} → TokenRule s rest t → after_of t ≡ rest
+unfolding after_of
+rule_after (here m) = ap after_of m.is ∙ m.match.ends
+rule_after (instead none (here m)) = ap after_of m.is ∙ m.match.ends
+rule_after (instead none (instead none' m)) = ap after_of m.is ∙ m.match.ends
 
 -- if no token begins after the white space, there are none
-pub no_tokens : {s behind rest white : List ℕ} {ts : List Token} → White s rest white → ¬ (Begins TokenRule rest) → Repeated (White ▷ TokenRule) s behind ts → ts ≡ []
+pub no_tokens : {s following rest white : List ℕ} {ts : List Token} → White s rest white → ¬ (Begins TokenRule rest) → Repeated (White ▷ TokenRule) s following ts → ts ≡ []
 no_tokens w none (ends n) = refl
 no_tokens {s = s} {rest = rest} {white = white} w none (more {middle = middle} {shape = shape} m ms) =
     let first : TokenRule m.match.middle middle m.from.1 = m.match.after in
     absurd (none (record { rest = middle; shape = m.from.1; match = subst (λ p. TokenRule p middle m.from.1) (same_rest s m.match.middle rest _ _ m.match.before w) first }))
 
 -- if one does, it is the first, and is refused if none is expected
-pub some_token : {s behind rest left white : List ℕ} {shape : Token} (ts : List Token) (source : List ℕ) → White s rest white → TokenRule rest left shape → Repeated (White ▷ TokenRule) s behind ts
+pub some_token : {s following rest left white : List ℕ} {shape : Token} (ts : List Token) (source : List ℕ) → White s rest white → TokenRule rest left shape → Repeated (White ▷ TokenRule) s following ts
     → none_left (map (handed_token source) ts) ≡ Err (located (codes "Unexpected token") (place_in source rest))
 some_token [] source w t (ends n) = absurd (n (record { rest = _; shape = _; match = record { from = (_, _); match = record { middle = _; before = w; after = t }; is = refl } }))
 some_token {s = s} {rest = rest} (x ∷ ts) source w t (more {middle = middle} m ms) =
@@ -76,13 +76,13 @@ some_token {s = s} {rest = rest} (x ∷ ts) source w t (more {middle = middle} m
 -- the same for a cursor
 pub none_expected : (t : TagTokenIter) (ts : Tokens) (rest white : List ℕ) → AreTokens t ts → White t.rest.now rest white → ¬ (Begins TokenRule rest) → expect_nothing ts ≡ Ok tt
 none_expected t ts rest white a w none =
-    let tokens : Repeated (White ▷ TokenRule) t.rest.now a.tag.1.behind a.tag.1.what = subst (λ p. Repeated (White ▷ TokenRule) p a.tag.1.behind a.tag.1.what) a.begins a.match in
+    let tokens : Repeated (White ▷ TokenRule) t.rest.now a.tag.1.following a.tag.1.what = subst (λ p. Repeated (White ▷ TokenRule) p a.tag.1.following a.tag.1.what) a.begins a.match in
     ap (λ x. none_left (Tokens.left x)) a.is ∙ ap (λ ys. none_left (map (handed_token t.source.now) ys)) (no_tokens w none tokens)
 
 pub one_expected : (t : TagTokenIter) (ts : Tokens) (rest left white : List ℕ) (shape : Token) → AreTokens t ts → White t.rest.now rest white → TokenRule rest left shape
     → expect_nothing ts ≡ Err (located (codes "Unexpected token") (place_in t.source.now rest))
 one_expected t ts rest left white shape a w found =
-    let tokens : Repeated (White ▷ TokenRule) t.rest.now a.tag.1.behind a.tag.1.what = subst (λ p. Repeated (White ▷ TokenRule) p a.tag.1.behind a.tag.1.what) a.begins a.match in
+    let tokens : Repeated (White ▷ TokenRule) t.rest.now a.tag.1.following a.tag.1.what = subst (λ p. Repeated (White ▷ TokenRule) p a.tag.1.following a.tag.1.what) a.begins a.match in
     ap (λ x. none_left (Tokens.left x)) a.is ∙ some_token a.tag.1.what t.source.now w found tokens
 
 pub if_some_weaker : {A : Type 0} {P Q : A → Type 0} (o : Option A) → ((x : A) → P x → Q x) → IfSome o P → IfSome o Q

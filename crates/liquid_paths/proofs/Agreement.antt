@@ -5,7 +5,7 @@ use Rattle.std.specs.Result.{result_ok}
 use Rattle.liquid_error.specs.meaning.Refusal.{Refusal, ok_then}
 use Rattle.liquid_value.specs.meaning.Tree.{Tree}
 use Rattle.liquid_paths.specs.meaning.Step.{step}
-use Rattle.liquid_paths.specs.meaning.Walk.{Path, walk, find_behind, unknown_index}
+use Rattle.liquid_paths.specs.meaning.Walk.{Path, walk, find_after, unknown_index}
 use Rattle.liquid_paths.specs.laws.Laws.{FindAgrees}
 
 -- a result and what follows from it
@@ -17,11 +17,11 @@ pub ok_or-agrees : {A : Type 0} (o : Option A) (refusal : Refusal) → result_ok
 ok_or-agrees (Some x) refusal = refl
 ok_or-agrees None refusal = refl
 
-pub find_behind-agrees : (front : Path) (t : Tree) (path : Path) → result_ok (find_behind front t path) ≡ walk t path
-find_behind-agrees front t [] = refl
-find_behind-agrees front t (i ∷ path) =
-    ok_then-agrees (ok_or (step t i) (unknown_index front t i)) (λ next. find_behind (front ++ i ∷ []) next path) (step t i) (λ next. walk next path)
-    (ok_or-agrees (step t i) (unknown_index front t i)) (λ next. find_behind-agrees (front ++ i ∷ []) next path)
+pub find_after-agrees : (front : Path) (t : Tree) (path : Path) → result_ok (find_after front t path) ≡ walk t path
+find_after-agrees front t [] = refl
+find_after-agrees front t (i ∷ path) =
+    ok_then-agrees (ok_or (step t i) (unknown_index front t i)) (λ next. find_after (front ++ i ∷ []) next path) (step t i) (λ next. walk next path)
+    (ok_or-agrees (step t i) (unknown_index front t i)) (λ next. find_after-agrees (front ++ i ∷ []) next path)
 
 pub find_agrees : FindAgrees
-find_agrees t path = find_behind-agrees [] t path
+find_agrees t path = find_after-agrees [] t path

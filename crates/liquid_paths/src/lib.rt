@@ -9,4 +9,4 @@ mod walks;
 pub use laws::find_agrees_with_try_find;
 pub use path::{Path, PathIter, PathText};
 pub use steps::{own_part, step};
-pub use walks::{find, find_behind, try_find};
+pub use walks::{find, find_after, try_find};

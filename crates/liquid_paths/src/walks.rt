@@ -6,7 +6,7 @@ ghost use Rattle.liquid_value.specs.meaning.Members.{item_count};
 ghost use Rattle.liquid_error.specs.meaning.Told.{told, Gives, Becomes};
 ghost use Rattle.liquid_value.specs.meaning.Names.{names};
 ghost use Rattle.liquid_paths.specs.meaning.Step.{step};
-ghost use Rattle.liquid_paths.specs.meaning.Walk.{walk, find, find_behind, unknown_index, with_front, indexes, count_indexes, listed};
+ghost use Rattle.liquid_paths.specs.meaning.Walk.{walk, find, find_after, unknown_index, with_front, indexes, count_indexes, listed};
 ghost use Rattle.liquid_paths.specs.meaning.PathOf.{index_of, indexes_of};
 ghost use Rattle.liquid_paths.specs.meaning.InPlace.{InPlace, IsNumber};
 
@@ -82,18 +82,18 @@ pub fn find<'v>(
     ensures gives { Gives cow_view result (find (view value.now) (indexes_of path.now)) }
     ensures in_place { IfOk result InPlace }
 {
-    find_behind(alloc, 0, value, path)
+    find_after(alloc, 0, value, path)
 }
 
 /// Does the same for a path whose first `front` indexes have led to `value`. The walk begins after them, and an error
 /// shows them in `variable`. If the path has no index after them, the result is `value`.
-pub fn find_behind<'v>(
+pub fn find_after<'v>(
     alloc: Global,
     front: usize,
     value: &'v Value,
     path: &[ScalarCow<'_>],
 ) -> Result<ValueCow<'v>, Error>
-    ensures gives { Gives cow_view result (find_behind (indexes_of (take front path.now)) (view value.now)
+    ensures gives { Gives cow_view result (find_after (indexes_of (take front path.now)) (view value.now)
         (indexes_of (drop front path.now))) }
     ensures in_place { IfOk result InPlace }
 {

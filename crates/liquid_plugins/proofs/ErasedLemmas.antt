@@ -11,7 +11,7 @@ use Rattle.liquid_runtime.specs.meaning.Erased.{erase, without_names}
 use Rattle.liquid_runtime.specs.meaning.View.{View}
 use Rattle.liquid_runtime.specs.meaning.NamesSeen.{upper_names, floor_names, is_sealed}
 use Rattle.liquid_runtime.specs.meaning.Lookup.{try_path, found, or_nil, sealed_answer, unknown_variable}
-use Rattle.liquid_paths.specs.meaning.Walk.{Path, walk, find_behind}
+use Rattle.liquid_paths.specs.meaning.Walk.{Path, walk, find_after}
 use Rattle.liquid_plugins.specs.meaning.Expression.{ExpressionShape, literal, variable, Indexes, no_indexes, index}
 use Rattle.liquid_plugins.specs.meaning.Evaluation.{evaluate, path_of, expected_scalar, try_evaluate, try_path_of}
 
@@ -35,7 +35,7 @@ module _ {Reg : Type 0} where
   found_erased v [] = refl
   found_erased v (name ∷ path) =
       ap (λ (upper : Names). or_nil v.lenient (ok_then (ok_or (get (over upper (floor_names v)) (render_scalar name)) (unknown_variable (render_scalar name)))
-      (λ t. sealed_answer (is_sealed v.floor && is_none (get upper (render_scalar name))) (render_scalar name) (find_behind (name ∷ []) t path))))
+      (λ t. sealed_answer (is_sealed v.floor && is_none (get upper (render_scalar name))) (render_scalar name) (find_after (name ∷ []) t path))))
       (upper_erased v)
 
   mutual

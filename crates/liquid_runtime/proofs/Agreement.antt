@@ -5,8 +5,8 @@ use Rattle.std.specs.Result.{result_ok}
 use Rattle.liquid_error.specs.meaning.Refusal.{Refusal}
 use Rattle.liquid_scalar.specs.meaning.Scalar.{render_scalar}
 use Rattle.liquid_value.specs.meaning.Tree.{Tree, nil}
-use Rattle.liquid_paths.specs.meaning.Walk.{Path, walk, find_behind}
-use Rattle.liquid_paths.proofs.Agreement.{ok_then-agrees, ok_or-agrees, find_behind-agrees}
+use Rattle.liquid_paths.specs.meaning.Walk.{Path, walk, find_after}
+use Rattle.liquid_paths.proofs.Agreement.{ok_then-agrees, ok_or-agrees, find_after-agrees}
 use Rattle.liquid_value.specs.declared.cow.ValueCow.{ValueCow}
 use Rattle.liquid_value.specs.declared.cow.ValueCow.TheVariants.{Owned, Borrowed}
 use Rattle.liquid_paths.specs.meaning.InPlace.{InPlace}
@@ -36,10 +36,10 @@ module _ {Reg : Type 0} where
   value_agrees v [] = refl
   value_agrees v (name ∷ path) =
       ok_then-agrees (ok_or (lookup v (render_scalar name)) (unknown_variable (render_scalar name)))
-      (λ t. sealed_answer (comes_from_seal v (render_scalar name)) (render_scalar name) (find_behind (name ∷ []) t path))
+      (λ t. sealed_answer (comes_from_seal v (render_scalar name)) (render_scalar name) (find_after (name ∷ []) t path))
       (lookup v (render_scalar name)) (λ t. walk t path)
       (ok_or-agrees (lookup v (render_scalar name)) (unknown_variable (render_scalar name)))
-      (λ t. sealed_answer-agrees (comes_from_seal v (render_scalar name)) (render_scalar name) (find_behind (name ∷ []) t path) ∙ find_behind-agrees (name ∷ []) t path)
+      (λ t. sealed_answer-agrees (comes_from_seal v (render_scalar name)) (render_scalar name) (find_after (name ∷ []) t path) ∙ find_after-agrees (name ∷ []) t path)
 
   -- in a strict view a path gives its value or its refusal
   pub found_strict : (v : View Reg) (path : Path) → v.lenient ≡ false → found v path ≡ strictly_found v path

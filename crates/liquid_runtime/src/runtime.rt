@@ -18,7 +18,7 @@ ghost use Rattle.liquid_runtime.specs.meaning.View.{View};
 
 use crate::registers::{Fresh, Registers};
 use liquid_error::Error;
-use liquid_paths::{find_behind, try_find};
+use liquid_paths::{find_after, try_find};
 use liquid_scalar::ScalarCow;
 use liquid_value::{Value, ValueCow};
 use std::alloc::{AllocError, Global};
@@ -115,7 +115,7 @@ pub trait Runtime {
                 Err(_) => Err(Error::Memory),
                 Ok(name) => match self.try_get_name(name.as_str()) {
                     None => Err(unknown_variable(alloc, name.as_str())),
-                    Some(value) => match find_behind(alloc, 1, value, path) {
+                    Some(value) => match find_after(alloc, 1, value, path) {
                         Ok(found) => Ok(found),
                         Err(error) => {
                             if !error.is_memory() && self.seals(name.as_str()) {

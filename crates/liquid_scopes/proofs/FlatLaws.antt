@@ -18,7 +18,7 @@ use Rattle.std.proofs.lemmas.Map.Text.{is_eq-slice_cmp}
 use Rattle.std.proofs.Math.ListN.{set}
 use Rattle.liquid_runtime.specs.meaning.Maps.{Names}
 use Rattle.liquid_scopes.proofs.LayerLaws.{set_put}
-use Rattle.liquid_scopes.proofs.TwoLooks.{suc_eq, suc_not_zero, zero_not_suc, has_at-push, nothing_behind}
+use Rattle.liquid_scopes.proofs.TwoLooks.{suc_eq, suc_not_zero, zero_not_suc, has_at-push, nothing_after}
 use Rattle.liquid_scopes.proofs.IndexLaws.{undone, same_text}
 
 pub or_nothing : (b : Bool) → b ≡ (b || false)
@@ -150,7 +150,7 @@ kept_or_dropped o false w false true h k = refl
 module _ {Reg : Type 0} where
   -- no frame is at the place of the next one yet
   nothing_there : (ls : List (Layer Reg)) (q : List ℕ) (j n : ℕ) → n ≡ length ls → (has_at ls q j && nat_eq j n) ≡ false
-  nothing_there ls q j n e = same_place (nat_eq j n) j n refl (has_at ls q) (ap (has_at ls q) e ∙ nothing_behind ls q)
+  nothing_there ls q j n e = same_place (nat_eq j n) j n refl (has_at ls q) (ap (has_at ls q) e ∙ nothing_after ls q)
 
   -- the places when the next frame is the unlisted one
   pub fits_push : (ls : List (Layer Reg)) (l : Layer Reg) (U : Option ℕ) (q : List ℕ) (j n : ℕ) (S : Bool) → n ≡ length ls → U ≡ None → S ≡ listed_at ls U q j → S ≡ listed_at (ls ++ l ∷ []) (Some n) q j
@@ -163,7 +163,7 @@ module _ {Reg : Type 0} where
   -- the next frame is the unlisted one, and isn't there yet
   pub fits_next : (ls : List (Layer Reg)) (U : Option ℕ) (q : List ℕ) (j n : ℕ) (S : Bool) → n ≡ length ls → U ≡ None → S ≡ listed_at ls U q j → S ≡ listed_at ls (Some n) q j
   fits_next ls U q j n S e none fit =
-      fit ∙ ap (λ u. has_at ls q j && not (is_at u j)) none ∙ sym (and_all (has_at ls q j)) ∙ sym (absent (has_at ls q) n j (nat_eq j n) refl (ap (has_at ls q) e ∙ nothing_behind ls q))
+      fit ∙ ap (λ u. has_at ls q j && not (is_at u j)) none ∙ sym (and_all (has_at ls q j)) ∙ sym (absent (has_at ls q) n j (nat_eq j n) refl (ap (has_at ls q) e ∙ nothing_after ls q))
 
   -- the places when the next frame is one without names
   pub fits_nameless : (ls : List (Layer Reg)) (l : Layer Reg) (U : Option ℕ) (q : List ℕ) (j : ℕ) (S : Bool) → own l q ≡ None → S ≡ listed_at ls U q j → S ≡ listed_at (ls ++ l ∷ []) U q j

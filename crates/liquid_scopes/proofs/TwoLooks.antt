@@ -135,9 +135,9 @@ module _ {V : Type 0} where
   has_at-push (m ∷ ls) l q zero = sym (ap (λ b. is_some (own m q) || (is_some (own l q) && b)) (zero_not_suc (length ls)) ∙ ap (λ b. is_some (own m q) || b) (and_false (is_some (own l q))) ∙ or_false (is_some (own m q)))
   has_at-push (m ∷ ls) l q (suc j) = has_at-push ls l q j ∙ ap (λ b. has_at ls q j || (is_some (own l q) && b)) (sym (suc_eq j (length ls)))
 
-  pub nothing_behind : (ls : List (Layer V)) (q : List ℕ) → has_at ls q (length ls) ≡ false
-  nothing_behind [] q = refl
-  nothing_behind (l ∷ ls) q = nothing_behind ls q
+  pub nothing_after : (ls : List (Layer V)) (q : List ℕ) → has_at ls q (length ls) ≡ false
+  nothing_after [] q = refl
+  nothing_after (l ∷ ls) q = nothing_after ls q
 
 module _ {V Reg : Type 0} where
   -- what the layers show is what they find

@@ -62,17 +62,17 @@ module _ (values : List Value) (items : Items) (place : ℕ) (e : items_view val
   none_left none = none_after (trees items) place (at_item ∙ ap (option_map view) none)
 
 -- the first of that many numbers, and those after it
-counted_first : (from : ℤ) (size behind : ℕ) → size ≡ behind + 1 → counted from size ≡ scalar (integer from) ∷ counted (from +ℤ pos 1) behind
-counted_first from size behind e = ap (counted from) (e ∙ add-one behind)
+counted_first : (from : ℤ) (size following : ℕ) → size ≡ following + 1 → counted from size ≡ scalar (integer from) ∷ counted (from +ℤ pos 1) following
+counted_first from size following e = ap (counted from) (e ∙ add-one following)
 
-pub number_taken : (from : ℤ) (size behind : ℕ) → size ≡ behind + 1 → Some (scalar (integer from)) ≡ slice_get (counted from size) 0
-number_taken from size behind e = sym (ap (λ xs. slice_get xs 0) (counted_first from size behind e))
+pub number_taken : (from : ℤ) (size following : ℕ) → size ≡ following + 1 → Some (scalar (integer from)) ≡ slice_get (counted from size) 0
+number_taken from size following e = sym (ap (λ xs. slice_get xs 0) (counted_first from size following e))
 
-pub numbers_behind : (from next : ℤ) (size behind : ℕ) → size ≡ behind + 1 → next ≡ from +ℤ pos 1 → counted next behind ≡ drop 1 (counted from size)
-numbers_behind from next size behind e n = ap (λ m. counted m behind) n ∙ sym (ap (drop 1) (counted_first from size behind e))
+pub numbers_after : (from next : ℤ) (size following : ℕ) → size ≡ following + 1 → next ≡ from +ℤ pos 1 → counted next following ≡ drop 1 (counted from size)
+numbers_after from next size following e n = ap (λ m. counted m following) n ∙ sym (ap (drop 1) (counted_first from size following e))
 
-pub no_number_behind : (from next : ℤ) (size : ℕ) → size ≡ 1 → [] ≡ drop 1 (counted from size)
-no_number_behind from next size e = sym (ap (λ n. drop 1 (counted from n)) e)
+pub no_number_after : (from next : ℤ) (size : ℕ) → size ≡ 1 → [] ≡ drop 1 (counted from size)
+no_number_after from next size e = sym (ap (λ n. drop 1 (counted from n)) e)
 
 pub no_number : (from : ℤ) (size : ℕ) → size < 1 → counted from size ≡ []
 no_number from size below = let none : size ≡ 0 = omega arith in ap (counted from) none

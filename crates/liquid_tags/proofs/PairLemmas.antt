@@ -13,11 +13,11 @@ use Rattle.liquid_error.specs.meaning.Refusal.{Refusal, ok_then}
 use Rattle.liquid_plugins.specs.meaning.Expression.{ExpressionShape}
 use Rattle.liquid_parser.specs.meaning.Handed.{Token, Tokens, first_of, expect_identifier, expect_value, or_unexpected}
 use Rattle.liquid_tags.specs.meaning.Asked.{next_as}
-use Rattle.liquid_tags.specs.meaning.CallsGiven.{colon, comma, expect_colon, expect_comma, missing_behind, pair_given, pairs_given}
+use Rattle.liquid_tags.specs.meaning.CallsGiven.{colon, comma, expect_colon, expect_comma, missing_after, pair_given, pairs_given}
 use Rattle.liquid_tags.specs.meaning.Partials.{Pair}
 
-abbrev behind : Token → List Token → Tokens
-behind t more = record { behind = t.behind; left = more }
+abbrev following : Token → List Token → Tokens
+following t more = record { following = t.following; left = more }
 
 abbrev on : {A : Type 0} → Tokens → A → Result (A × Tokens) Refusal
 on ts x = Ok (x, ts)
@@ -33,19 +33,19 @@ going_on g = ok_then (pairs_given g.1.left) (λ qs. Ok (g.0 ∷ qs))
 
 valued : (name : List ℕ) (e : Token) (more : List Token) (r : Result ExpressionShape Refusal)
     → ok_then r (λ value. ok_then (pairs_given more) (with_pair name value))
-    ≡ ok_then (ok_then (ok_then r (on (behind e more))) (with_name name)) going_on
+    ≡ ok_then (ok_then (ok_then r (on (following e more))) (with_name name)) going_on
 valued name e more (Ok x) = refl
 valued name e more (Err refusal) = refl
 
 coloned : (name : List ℕ) (d e : Token) (more : List Token) (r : Result (Unit {0}) Refusal)
     → ok_then r (λ w. ok_then (or_unexpected e (expect_value e)) (λ value. ok_then (pairs_given more) (with_pair name value)))
-    ≡ ok_then (ok_then (ok_then r (on (behind d (e ∷ more)))) (λ (sign : Unit {0} × Tokens). ok_then (next_as expect_value sign.1) (with_name name))) going_on
+    ≡ ok_then (ok_then (ok_then r (on (following d (e ∷ more)))) (λ (sign : Unit {0} × Tokens). ok_then (next_as expect_value sign.1) (with_name name))) going_on
 coloned name d e more (Ok x) = valued name e more (or_unexpected e (expect_value e))
 coloned name d e more (Err refusal) = refl
 
 coloned_last : (name : List ℕ) (d : Token) (r : Result (Unit {0}) Refusal)
-    → ok_then r (λ w. missing_behind d)
-    ≡ ok_then (ok_then (ok_then r (on (behind d []))) (λ (sign : Unit {0} × Tokens). ok_then (next_as expect_value sign.1) (with_name name))) going_on
+    → ok_then r (λ w. missing_after d)
+    ≡ ok_then (ok_then (ok_then r (on (following d []))) (λ (sign : Unit {0} × Tokens). ok_then (next_as expect_value sign.1) (with_name name))) going_on
 coloned_last name d (Ok x) = refl
 coloned_last name d (Err refusal) = refl
 
@@ -54,15 +54,15 @@ named r = ok_then (ok_then r (λ name. ok_then (next_as expect_colon name.1) (λ
 
 named_on : (n d e : Token) (more : List Token) (r : Result (List ℕ) Refusal)
     → ok_then r (λ name. ok_then (colon d) (λ w. ok_then (or_unexpected e (expect_value e)) (λ value. ok_then (pairs_given more) (with_pair name value))))
-    ≡ named (ok_then r (on (behind n (d ∷ e ∷ more))))
+    ≡ named (ok_then r (on (following n (d ∷ e ∷ more))))
 named_on n d e more (Ok name) = coloned name d e more (colon d)
 named_on n d e more (Err refusal) = refl
 
-named_two : (n d : Token) (r : Result (List ℕ) Refusal) → ok_then r (λ name. ok_then (colon d) (λ w. missing_behind d)) ≡ named (ok_then r (on (behind n (d ∷ []))))
+named_two : (n d : Token) (r : Result (List ℕ) Refusal) → ok_then r (λ name. ok_then (colon d) (λ w. missing_after d)) ≡ named (ok_then r (on (following n (d ∷ []))))
 named_two n d (Ok name) = coloned_last name d (colon d)
 named_two n d (Err refusal) = refl
 
-named_last : (n : Token) (r : Result (List ℕ) Refusal) → ok_then r (λ name. missing_behind n) ≡ named (ok_then r (on (behind n [])))
+named_last : (n : Token) (r : Result (List ℕ) Refusal) → ok_then r (λ name. missing_after n) ≡ named (ok_then r (on (following n [])))
 named_last n (Ok name) = refl
 named_last n (Err refusal) = refl
 
@@ -71,7 +71,7 @@ on_comma (Ok u) x y e = e
 on_comma (Err refusal) x y e = refl
 
 -- after a comma there is one pair, and the pairs after it
-pub pairs_step : (c : Token) (more : List Token) → pairs_given (c ∷ more) ≡ ok_then (comma c) (λ u. ok_then (pair_given (behind c more)) going_on)
+pub pairs_step : (c : Token) (more : List Token) → pairs_given (c ∷ more) ≡ ok_then (comma c) (λ u. ok_then (pair_given (following c more)) going_on)
 pairs_step c [] = refl
 pairs_step c (n ∷ []) = on_comma (comma c) _ _ (named_last n (or_unexpected n (expect_identifier n)))
 pairs_step c (n ∷ d ∷ []) = on_comma (comma c) _ _ (named_two n d (or_unexpected n (expect_identifier n)))
@@ -82,9 +82,9 @@ first_is : (ts : List Token) (given : Token × Tokens) → first_of ts ≡ Some 
 first_is [] given e = cc
 first_is (t ∷ more) given e = ap (λ o. elim o [ None ↦ t ∷ more | Some g ↦ g.0 ∷ g.1.left ]) e
 
-first_stands : (ts : List Token) (given : Token × Tokens) → first_of ts ≡ Some given → behind given.0 given.1.left ≡ given.1
+first_stands : (ts : List Token) (given : Token × Tokens) → first_of ts ≡ Some given → following given.0 given.1.left ≡ given.1
 first_stands [] given e = cc
-first_stands (t ∷ more) given e = sym (ap (λ o. elim o [ None ↦ behind t more | Some g ↦ behind g.0 g.1.left ]) e) ∙ ap (λ o. elim o [ None ↦ behind t more | Some g ↦ g.1 ]) e
+first_stands (t ∷ more) given e = sym (ap (λ o. elim o [ None ↦ following t more | Some g ↦ following g.0 g.1.left ]) e) ∙ ap (λ o. elim o [ None ↦ following t more | Some g ↦ g.1 ]) e
 
 -- what a returned token makes of the pairs
 pub pairs_of_first : (ts : List Token) (given : Token × Tokens) → first_of ts ≡ Some given → pairs_given ts ≡ ok_then (comma given.0) (λ u. ok_then (pair_given given.1) going_on)

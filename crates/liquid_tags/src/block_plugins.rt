@@ -76,7 +76,7 @@ impl BlockReflection for Blocks {
 
     fn description(&self) -> &str {
         match self {
-            Blocks::If => "Renders the part behind the first condition that holds.",
+            Blocks::If => "Renders the part after the first condition that holds.",
             Blocks::For => "Renders its body for each item of an array, an object or a range.",
             Blocks::Raw => "Writes its body as it stands.",
         }

@@ -189,7 +189,7 @@ text_caught P p b a e h i = subst (λ t. IfSome t P) (ap (λ x. x.text) (stood p
 
 -- a tag has no part, so its text is empty
 abbrev pub nothing_open : Output → Output
-nothing_open b = record { sunk = record { taken = []; failures = 0; behind = None; lent = [] }; turns = b.turns; bytes = None }
+nothing_open b = record { sunk = record { taken = []; failures = 0; destination = None; lent = [] }; turns = b.turns; bytes = None }
 
 pub nothing_aside : (b : Output) → Aside b (nothing_open b) (nothing_open b) b
 nothing_aside b = record { empty = refl; no_bytes = refl; turns = refl; failures = refl; back = refl }

@@ -5,7 +5,7 @@ use Rattle.std.proofs.lemmas.List.{append-nil}
 use Rattle.liquid_template.specs.meaning.Grows.{Grows}
 use Rattle.liquid_template.specs.meaning.Sunk.{Sunk}
 
-appends_nothing : (behind : Option (List ℕ)) → Appends behind behind []
+appends_nothing : (destination : Option (List ℕ)) → Appends destination destination []
 appends_nothing None = tt
 appends_nothing (Some bytes) = sym (append-nil bytes)
 
@@ -17,12 +17,12 @@ appends_both (Some ws) None c xs ys p q = absurd p
 
 -- before the first put nothing has grown
 pub Grows-start : (b : Sunk) → Grows b b
-Grows-start b = record { more = []; taken_is = sym (append-nil b.taken); behind_is = appends_nothing b.behind }
+Grows-start b = record { more = []; taken_is = sym (append-nil b.taken); destination_is = appends_nothing b.destination }
 
 -- one growth after another
 pub Grows-both : (b m a : Sunk) → Grows b m → Grows m a → Grows b a
 Grows-both b m a p q = record {
   more = p.more ++ q.more;
   taken_is = q.taken_is ∙ rw (p.taken_is, append_assoc);
-  behind_is = appends_both b.behind m.behind a.behind p.more q.more p.behind_is q.behind_is;
+  destination_is = appends_both b.destination m.destination a.destination p.more q.more p.destination_is q.destination_is;
 }

@@ -27,7 +27,7 @@ text_taken : (o : Output) (text piece new : List ℕ) (u : Unit {0}) → IsUtf8 
 text_taken o text piece new u t e = record {
   taken = record { taken = e; failures = refl; bytes = refl };
   turns = refl;
-  pours = record { grows = record { more = piece; taken_is = e; behind_is = tt }; lent = refl; text = record { more = piece; taken_is = e; text = t } };
+  pours = record { grows = record { more = piece; taken_is = e; destination_is = tt }; lent = refl; text = record { more = piece; taken_is = e; text = t } };
 }
 
 pub text_put : (o : Output) (open_text : Option (List ℕ)) (text piece new : List ℕ) (u : Unit {0}) → IsUtf8 piece → open_text ≡ Some text → new ≡ text ++ piece → PieceOut piece (target_of o open_text) (target_of o (Some new)) (Ok u)
@@ -47,7 +47,7 @@ text_left o text piece new e t i = record {
     cause = lost_cause piece (target_of o (Some text)) (target_of o (Some new)) (told e) t (record { failures = inl refl; bytes = inl refl });
   };
   turns = refl;
-  pours = record { grows = record { more = []; taken_is = i ∙ sym (append-nil text); behind_is = tt }; lent = refl; text = tt };
+  pours = record { grows = record { more = []; taken_is = i ∙ sym (append-nil text); destination_is = tt }; lent = refl; text = tt };
 }
 
 pub text_lost : (o : Output) (open_text : Option (List ℕ)) (text piece new : List ℕ) (e : Error) → told e ≡ None → open_text ≡ Some text → new ≡ text → PieceOut piece (target_of o open_text) (target_of o (Some new)) (Err e)

@@ -28,14 +28,14 @@ pub record SoFar (piece rest : List ℕ) (before now : Sunk) : Type 0 where
 pub record PutTook (taken : List ℕ) (count : ℕ) (before after : Sunk) : Type 0 where
   pub bytes : after.taken ≡ before.taken ++ taken
   pub failures : after.failures ≡ before.failures + count
-  pub behind : Appends before.behind after.behind taken
+  pub destination : Appends before.destination after.destination taken
   pub lent : after.lent ≡ before.lent
 
 pub so_far_begins : (piece : List ℕ) (b : Sunk) → SoFar piece piece b b
 so_far_begins piece b = record { part = []; is = refl; taken = sym (append-nil b.taken); failures = refl; grows = Grows-start b; lent = refl }
 
 put_grows : (taken : List ℕ) (count : ℕ) (b m a : Sunk) → Grows b m → PutTook taken count m a → Grows b a
-put_grows taken count b m a g p = Grows-both b m a g (record { more = taken; taken_is = p.bytes; behind_is = p.behind })
+put_grows taken count b m a g p = Grows-both b m a g (record { more = taken; taken_is = p.bytes; destination_is = p.destination })
 
 -- a put that took some of the rest leaves what is after it
 pub so_far_put : (piece rest : List ℕ) (b m a : Sunk) (count : ℕ) → SoFar piece rest b m → PutTook (take count rest) 0 m a → SoFar piece (take (length rest - count) (drop count rest)) b a

@@ -42,7 +42,7 @@ pub trait Sink {
         ensures bound { IfOk result (λ count. count ≤ length piece.now) }
         ensures bytes { (sunk self.new).taken ≡ (sunk self.old).taken ++ taken_part result piece.now }
         ensures count { (sunk self.new).failures ≡ (sunk self.old).failures + failure_count result }
-        ensures behind { Appends (sunk self.old).behind (sunk self.new).behind (taken_part result piece.now) }
+        ensures destination { Appends (sunk self.old).destination (sunk self.new).destination (taken_part result piece.now) }
         ensures borrows { (sunk self.new).lent ≡ (sunk self.old).lent };
 }
 

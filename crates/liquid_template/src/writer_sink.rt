@@ -23,7 +23,7 @@ impl<'w, W: Write> WriterSink<'w, W> {
     pub fn new(writer: &'w mut W) -> WriterSink<'w, W>
         ensures taken { (⟦<WriterSink<'w, W> as Sink>⟧.sunk result).taken ≡ [] }
         ensures failures { (⟦<WriterSink<'w, W> as Sink>⟧.sunk result).failures ≡ 0 }
-        ensures behind { (⟦<WriterSink<'w, W> as Sink>⟧.sunk result).behind ≡ W.contents writer.entry.now }
+        ensures destination { (⟦<WriterSink<'w, W> as Sink>⟧.sunk result).destination ≡ W.contents writer.entry.now }
         ensures borrows { (⟦<WriterSink<'w, W> as Sink>⟧.sunk result).lent ≡ writer.entry.ghost_name ∷ [] }
     {
         WriterSink {
@@ -34,7 +34,7 @@ impl<'w, W: Write> WriterSink<'w, W> {
 
     /// Returns the writer, with what was written to it.
     pub fn into_inner(self) -> &'w mut W
-        ensures behind { W.contents result.now ≡ (⟦<WriterSink<'w, W> as Sink>⟧.sunk self.entry).behind }
+        ensures destination { W.contents result.now ≡ (⟦<WriterSink<'w, W> as Sink>⟧.sunk self.entry).destination }
         ensures borrows { result.ghost_name ∷ [] ≡ (⟦<WriterSink<'w, W> as Sink>⟧.sunk self.entry).lent }
     {
         let WriterSink { writer, history } = self;
@@ -53,7 +53,7 @@ impl<'w, W: Write> Sink for WriterSink<'w, W> {
         ensures bound { IfOk result (λ count. count ≤ length piece.now) }
         ensures bytes { self.new.history.taken ≡ self.old.history.taken ++ taken_part result piece.now }
         ensures count { self.new.history.failures ≡ self.old.history.failures + failure_count result }
-        ensures behind { Appends (W.contents self.old.writer.now) (W.contents self.new.writer.now)
+        ensures destination { Appends (W.contents self.old.writer.now) (W.contents self.new.writer.now)
             (taken_part result piece.now) }
         ensures borrows { self.new.writer.ghost_name ∷ [] ≡ self.old.writer.ghost_name ∷ [] }
         ensures fault { IfErr result (λ fault. fault ≡ SinkFault.Failed) }

@@ -35,9 +35,9 @@ none_before k (member q t ms) h =
 skip_first : (q : List ℕ) (r : Tree) (rs ls : Members) → comes_before q ls ≡ true → each_is_in ls (member q r rs) ≡ each_is_in ls rs
 skip_first q r rs no_members h = refl
 skip_first q r rs (member k l ls) h =
-    let behind : slice_cmp nat_cmp k q ≡ Greater =
+    let following : slice_cmp nat_cmp k q ≡ Greater =
     nat_list_cmp_total.antisymm k q ∙ ap ordering_reverse (less _ (first_true (is_lt (slice_cmp nat_cmp q k)) (comes_before q ls) h)) in
-    ap (λ found. equal_back l found && each_is_in ls (member q r rs)) (ap (λ o. match_ordering o (get_member k rs) (Some r) (get_member k rs)) behind)
+    ap (λ found. equal_back l found && each_is_in ls (member q r rs)) (ap (λ o. match_ordering o (get_member k rs) (Some r) (get_member k rs)) following)
     ∙ ap (λ b. equal_back l (get_member k rs) && b) (skip_first q r rs ls (second_true (is_lt (slice_cmp nat_cmp q k)) (comes_before q ls) h))
 
 same_name : (k q : List ℕ) → slice_cmp nat_cmp k q ≡ Equal → k ≡ q
@@ -50,14 +50,14 @@ and_false false = refl
 -- if a name is before those of the right, it is not among them
 not_found : (p q : List ℕ) (l r : Tree) (rs : Members) (rest : Bool) → slice_cmp nat_cmp p q ≡ Less → in_name_order (member q r rs) ≡ true → equal_back l (get_member p (member q r rs)) && rest ≡ false
 not_found p q l r rs rest before ordered =
-    let behind : comes_before q rs ≡ true = first_true (comes_before q rs) (in_name_order rs) ordered in
-    let nothing : get_member p (member q r rs) ≡ None = none_before p (member q r rs) (both_true (ap is_lt before) (before_later p q rs before behind)) in
+    let following : comes_before q rs ≡ true = first_true (comes_before q rs) (in_name_order rs) ordered in
+    let nothing : get_member p (member q r rs) ≡ None = none_before p (member q r rs) (both_true (ap is_lt before) (before_later p q rs before following)) in
     ap (λ found. equal_back l found && rest) nothing
 
 -- if a name is after the first of the right, that first one is never looked up
 first_unasked : (p q : List ℕ) (l r : Tree) (ls rs : Members) → slice_cmp nat_cmp p q ≡ Greater → in_name_order (member p l ls) ≡ true → each_is_in (member p l ls) (member q r rs) ≡ each_is_in (member p l ls) rs
-first_unasked p q l r ls rs behind ordered =
-    let before : slice_cmp nat_cmp q p ≡ Less = nat_list_cmp_total.antisymm q p ∙ ap ordering_reverse behind in
+first_unasked p q l r ls rs following ordered =
+    let before : slice_cmp nat_cmp q p ≡ Less = nat_list_cmp_total.antisymm q p ∙ ap ordering_reverse following in
     skip_first q r rs (member p l ls) (both_true (ap is_lt before) (before_later q p ls before (first_true (comes_before p ls) (in_name_order ls) ordered)))
 
 -- if the two first names are the same, none of the others looks up the first of the right
@@ -99,11 +99,11 @@ suc_eq m n = search rules
 
 uneven_or_not_in : (p q : List ℕ) (l r : Tree) (ls rs : Members) → slice_cmp nat_cmp p q ≡ Greater → in_name_order (member p l ls) ≡ true → in_name_order (member q r rs) ≡ true
     → (b : Bool) → objects_equal_by_name (member p l ls) (member q r rs) ≡ b → b ≡ false
-uneven_or_not_in p q l r ls rs behind h k false e = refl
-uneven_or_not_in p q l r ls rs behind h k true e =
+uneven_or_not_in p q l r ls rs following h k false e = refl
+uneven_or_not_in p q l r ls rs following h k true e =
     let sizes : member_count (member p l ls) ≡ member_count (member q r rs) = eqb-true _ _ (first_true (member_count (member p l ls) == member_count (member q r rs)) (each_is_in (member p l ls) (member q r rs)) e) in
     let found : each_is_in (member p l ls) (member q r rs) ≡ true = second_true (member_count (member p l ls) == member_count (member q r rs)) (each_is_in (member p l ls) (member q r rs)) e in
-    let le : member_count (member p l ls) ≤ member_count rs = no_more rs (member p l ls) h (second_true (comes_before q rs) (in_name_order rs) k) (sym (first_unasked p q l r ls rs behind h) ∙ found) in
+    let le : member_count (member p l ls) ≤ member_count rs = no_more rs (member p l ls) h (second_true (comes_before q rs) (in_name_order rs) k) (sym (first_unasked p q l r ls rs following h) ∙ found) in
     absurd (omega arith)
 
 move_test : (a b c : Bool) → a && (b && c) ≡ b && (a && c)

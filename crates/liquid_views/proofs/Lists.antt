@@ -57,14 +57,14 @@ within_count : (k n : ℕ) (b : Bool) → nat_lt k n ≡ b → (ts : Items) → 
 within_count k n true e ts size = let within : k < item_count ts = rw size (ltb-true k n e) in sym (there k ts within)
 within_count k n false e ts size = refl
 
-behind_end : (k n : ℕ) (b : Bool) → nat_lt k n ≡ b → (ts : Items) → item_count ts ≡ n → is_some (if b then Some (n - suc k) else None) ≡ is_some (option_and_then (λ place. nth place ts) (if b then Some (n - suc k) else None))
-behind_end k n true e ts size =
+after_end : (k n : ℕ) (b : Bool) → nat_lt k n ≡ b → (ts : Items) → item_count ts ≡ n → is_some (if b then Some (n - suc k) else None) ≡ is_some (option_and_then (λ place. nth place ts) (if b then Some (n - suc k) else None))
+after_end k n true e ts size =
     let low : k < n = ltb-true k n e in
     let within : n - suc k < item_count ts = rw size (omega arith) in
     sym (there (n - suc k) ts within)
-behind_end k n false e ts size = refl
+after_end k n false e ts size = refl
 
 -- an index is known exactly if there is an item at it
 pub contains_where_get : (index : ℤ) (ts : Items) → is_some (place_at index (item_count ts)) ≡ is_some (item_at index ts)
 contains_where_get (pos k) ts = within_count k (item_count ts) _ refl ts refl
-contains_where_get (negsuc k) ts = behind_end k (item_count ts) _ refl ts refl
+contains_where_get (negsuc k) ts = after_end k (item_count ts) _ refl ts refl

@@ -17,7 +17,7 @@ use Rattle.std_conditions.specs.meaning.ConditionsGiven.{after_test, after_value
 use Rattle.std_conditions.specs.steps.Tests.{operator_in, test_from, test_given}
 
 abbrev tokens : Token → List Token → Tokens
-tokens t more = record { behind = t.behind; left = more }
+tokens t more = record { following = t.following; left = more }
 
 -- the condition that a test and the tokens after it make
 abbrev pub going_on : TestShape × Tokens → Result ConditionShape Refusal
@@ -32,18 +32,18 @@ seconded e op u us (Ok x) = refl
 seconded e op u us (Err refusal) = refl
 
 second : (e : ExpressionShape) (op : Operator) (t : Token) (more : List Token)
-    → from_second e op t.behind more ≡ ok_then (ok_then (next_as expect_value (tokens t more)) (with_second e op)) going_on
+    → from_second e op t.following more ≡ ok_then (ok_then (next_as expect_value (tokens t more)) (with_second e op)) going_on
 second e op t [] = refl
 second e op t (u ∷ us) = seconded e op u us (or_unexpected u (expect_value u))
 
 operated : (e : ExpressionShape) (place : Place) (t : Token) (more : List Token) (o : Option Operator)
-    → elim o as (λ _. Result ConditionShape Refusal) [ None ↦ joined_by (Holds e) t (from_value t.behind more) | Some op ↦ from_second e op t.behind more ]
-    ≡ ok_then (test_from e (record { behind = place; left = t ∷ more }) (option_map (λ op. (op, tokens t more)) o)) going_on
+    → elim o as (λ _. Result ConditionShape Refusal) [ None ↦ joined_by (Holds e) t (from_value t.following more) | Some op ↦ from_second e op t.following more ]
+    ≡ ok_then (test_from e (record { following = place; left = t ∷ more }) (option_map (λ op. (op, tokens t more)) o)) going_on
 operated e place t more None = refl
 operated e place t more (Some op) = second e op t more
 
 valued : (e : ExpressionShape) (place : Place) (ts : List Token)
-    → after_value e ts ≡ ok_then (test_from e (record { behind = place; left = ts }) (operator_in (record { behind = place; left = ts }))) going_on
+    → after_value e ts ≡ ok_then (test_from e (record { following = place; left = ts }) (operator_in (record { following = place; left = ts }))) going_on
 valued e place [] = refl
 valued e place (t ∷ more) = operated e place t more (operator_of t.text)
 
@@ -52,16 +52,16 @@ with_first e = test_from e.0 e.1 (operator_in e.1)
 
 firsted : (t : Token) (more : List Token) (r : Result ExpressionShape Refusal)
     → ok_then r (λ e. after_value e more) ≡ ok_then (ok_then (ok_then r (λ x. Ok (x, tokens t more))) with_first) going_on
-firsted t more (Ok e) = valued e t.behind more
+firsted t more (Ok e) = valued e t.following more
 firsted t more (Err refusal) = refl
 
-from_place : (place : Place) (ts : List Token) → from_value place ts ≡ ok_then (test_given (record { behind = place; left = ts })) going_on
+from_place : (place : Place) (ts : List Token) → from_value place ts ≡ ok_then (test_given (record { following = place; left = ts })) going_on
 from_place place [] = refl
 from_place place (t ∷ more) = firsted t more (or_unexpected t (expect_value t))
 
 -- a condition is a test, and what follows it
 pub condition_is : (ts : Tokens) → condition_given ts ≡ ok_then (test_given ts) going_on
-condition_is ts = from_place ts.behind ts.left
+condition_is ts = from_place ts.following ts.left
 
 -- the condition after a test that is read, and the refusal of one
 pub condition_goes_on : (ts rest : Tokens) (test : TestShape) → test_given ts ≡ Ok (test, rest) → condition_given ts ≡ after_test test rest.left
@@ -75,7 +75,7 @@ after_first : (last : TestShape) (ts : List Token) (given : Token × Tokens) →
     → after_test last ts ≡ joined_by last given.0 (ok_then (test_given given.1) going_on)
 after_first last [] given e = cc
 after_first last (t ∷ more) given e =
-    ap (joined_by last t) (from_place t.behind more)
+    ap (joined_by last t) (from_place t.following more)
     ∙ ap (λ o. elim o as (λ _. Result ConditionShape Refusal) [ None ↦ after_test last (t ∷ more) | Some g ↦ joined_by last g.0 (ok_then (test_given g.1) going_on) ]) e
 
 -- a condition with tests before it

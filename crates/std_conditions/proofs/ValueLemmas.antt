@@ -16,11 +16,11 @@ module _ (separators : List (List ℕ)) where
   going_on g = ok_then (values_after separators g.1.left) (λ es. Ok (g.0 ∷ es))
 
   valued : (t : Token) (more : List Token) (r : Result ExpressionShape Refusal)
-      → ok_then r (λ e. ok_then (values_after separators more) (λ es. Ok (e ∷ es))) ≡ ok_then (ok_then r (λ e. Ok (e, record { behind = t.behind; left = more }))) going_on
+      → ok_then r (λ e. ok_then (values_after separators more) (λ es. Ok (e ∷ es))) ≡ ok_then (ok_then r (λ e. Ok (e, record { following = t.following; left = more }))) going_on
   valued t more (Ok e) = refl
   valued t more (Err refusal) = refl
 
-  from_place : (place : Place) (ts : List Token) → values_from separators place ts ≡ ok_then (next_as expect_value (record { behind = place; left = ts })) going_on
+  from_place : (place : Place) (ts : List Token) → values_from separators place ts ≡ ok_then (next_as expect_value (record { following = place; left = ts })) going_on
   from_place place [] = refl
   from_place place (t ∷ more) = valued t more (or_unexpected t (expect_value t))
 
@@ -31,16 +31,16 @@ module _ (separators : List (List ℕ)) where
   -- the first value is read
   pub first_value : (ts rest : Tokens) (e : ExpressionShape) (done : List ExpressionShape) → next_as expect_value ts ≡ Ok (e, rest) → done ≡ e ∷ [] → values_given separators ts ≡ read_on done rest.left
   first_value ts rest e done is pushed =
-      from_place ts.behind ts.left ∙ ap (λ r. ok_then r going_on) is ∙ ap (λ es. read_on es rest.left) (sym pushed)
+      from_place ts.following ts.left ∙ ap (λ r. ok_then r going_on) is ∙ ap (λ es. read_on es rest.left) (sym pushed)
 
   pub first_refused : (ts : Tokens) (o : Option Refusal) → IfSome o (λ r. next_as expect_value ts ≡ Err r) → IfSome o (λ r. values_given separators ts ≡ Err r)
-  first_refused ts o refused = subst (λ q. IfSome o (λ r. q ≡ Err r)) (sym (from_place ts.behind ts.left)) (then_refused o (next_as expect_value ts) going_on refused)
+  first_refused ts o refused = subst (λ q. IfSome o (λ r. q ≡ Err r)) (sym (from_place ts.following ts.left)) (then_refused o (next_as expect_value ts) going_on refused)
 
   after_first : (ts : List Token) (given : Token × Tokens) → first_of ts ≡ Some given
       → values_after separators ts ≡ ok_then (or_unexpected given.0 (expect_one_of separators given.0)) (λ u. ok_then (next_as expect_value given.1) going_on)
   after_first [] given e = cc
   after_first (t ∷ more) given e =
-      ap (λ x. ok_then (or_unexpected t (expect_one_of separators t)) (λ u. x)) (from_place t.behind more)
+      ap (λ x. ok_then (or_unexpected t (expect_one_of separators t)) (λ u. x)) (from_place t.following more)
       ∙ ap (λ o. elim o as (λ _. Result (List ExpressionShape) Refusal) [
         | None ↦ values_after separators (t ∷ more)
         | Some g ↦ ok_then (or_unexpected g.0 (expect_one_of separators g.0)) (λ u. ok_then (next_as expect_value g.1) going_on)

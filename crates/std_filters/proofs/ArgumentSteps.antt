@@ -12,8 +12,8 @@ use Rattle.std_filters.specs.declared.call.CallShape.{CallShape}
 use Rattle.liquid_value.specs.meaning.Tree.{Tree}
 
 -- what follows a front, if nothing fails
-abbrev pub behind : {A : Type 0} → List A → Result (List A) Refusal → Result (List A) Refusal
-behind front r = ok_then r (λ xs. Ok (front ++ xs))
+abbrev pub following : {A : Type 0} → List A → Result (List A) Refusal → Result (List A) Refusal
+following front r = ok_then r (λ xs. Ok (front ++ xs))
 
 -- what a filter sees of a view is all that its arguments need
 pub evaluate_all_erased : {Reg : Type 0} (v : View Reg) (es : List ExpressionShape) → evaluate_all (erase v) es ≡ evaluate_all v es

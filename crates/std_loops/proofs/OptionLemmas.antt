@@ -16,7 +16,7 @@ use Rattle.std_loops.specs.meaning.OptionsGiven.{expect_argument, from_argument,
 use Rattle.std_loops.specs.steps.Reading.{argument_given, option_given}
 
 abbrev tokens : Token → List Token → Tokens
-tokens t more = record { behind = t.behind; left = more }
+tokens t more = record { following = t.following; left = more }
 
 module _ (block : LoopBlock) where
   -- the options with an argument that is read, and those that the tokens after it make
@@ -29,18 +29,18 @@ module _ (block : LoopBlock) where
   argued option o t more (Err refusal) = refl
 
   from_place : (option : LoopOption) (o : OptionsShape) (place : Place) (ts : List Token)
-      → from_argument block option o place ts ≡ ok_then (next_as (expect_argument option) (record { behind = place; left = ts })) (with_argument option o)
+      → from_argument block option o place ts ≡ ok_then (next_as (expect_argument option) (record { following = place; left = ts })) (with_argument option o)
   from_place option o place [] = refl
   from_place option o place (t ∷ more) = argued option o t more (or_unexpected t (expect_argument option t))
 
   coloned : (option : LoopOption) (o : OptionsShape) (t : Token) (more : List Token) (r : Result (Unit {0}) Refusal)
-      → ok_then r (λ u. from_argument block option o t.behind more)
+      → ok_then r (λ u. from_argument block option o t.following more)
       ≡ ok_then (ok_then (ok_then {B = Unit {0} × Tokens} r (λ u. Ok (u, tokens t more))) (λ colon. next_as (expect_argument option) colon.1)) (with_argument option o)
-  coloned option o t more (Ok u) = from_place option o t.behind more
+  coloned option o t more (Ok u) = from_place option o t.following more
   coloned option o t more (Err refusal) = refl
 
   from_name : (option : LoopOption) (o : OptionsShape) (place : Place) (ts : List Token)
-      → from_colon block option o place ts ≡ ok_then (argument_given option (record { behind = place; left = ts })) (with_argument option o)
+      → from_colon block option o place ts ≡ ok_then (argument_given option (record { following = place; left = ts })) (with_argument option o)
   from_name option o place [] = refl
   from_name option o place (t ∷ more) = coloned option o t more (or_unexpected t (expect_str (codes ":") t))
 
@@ -49,9 +49,9 @@ module _ (block : LoopBlock) where
   after_name o given = elim (option_named block o given.0.text) as (λ _. Result OptionsShape Refusal) [
     | None ↦ Err (unexpected given.0)
     | Some option ↦ elim option as (λ _. Result OptionsShape Refusal) [
-      | Offset ↦ from_colon block Offset o given.0.behind given.1.left
-      | Limit ↦ from_colon block Limit o given.0.behind given.1.left
-      | Cols ↦ from_colon block Cols o given.0.behind given.1.left
+      | Offset ↦ from_colon block Offset o given.0.following given.1.left
+      | Limit ↦ from_colon block Limit o given.0.following given.1.left
+      | Cols ↦ from_colon block Cols o given.0.following given.1.left
       | Reversed ↦ options_from block (record o { is_reversed = true }) given.1.left
     ]
   ]
@@ -68,9 +68,9 @@ module _ (block : LoopBlock) where
   chosen o given named = elim named as (λ _. Result OptionsShape Refusal) [
     | None ↦ Err (unexpected given.0)
     | Some option ↦ elim option as (λ _. Result OptionsShape Refusal) [
-      | Offset ↦ from_colon block Offset o given.0.behind given.1.left
-      | Limit ↦ from_colon block Limit o given.0.behind given.1.left
-      | Cols ↦ from_colon block Cols o given.0.behind given.1.left
+      | Offset ↦ from_colon block Offset o given.0.following given.1.left
+      | Limit ↦ from_colon block Limit o given.0.following given.1.left
+      | Cols ↦ from_colon block Cols o given.0.following given.1.left
       | Reversed ↦ options_from block (record o { is_reversed = true }) given.1.left
     ]
   ]
@@ -91,13 +91,13 @@ module _ (block : LoopBlock) where
       → chosen o given (Some option) ≡ ok_then (option_given option o given.1) going_on
   chosen_on Reversed o ts given first = refl
   chosen_on Offset o ts given first =
-      from_name Offset o given.0.behind given.1.left ∙ ap (λ g. ok_then (argument_given Offset g) (with_argument Offset o)) (stands ts given first)
+      from_name Offset o given.0.following given.1.left ∙ ap (λ g. ok_then (argument_given Offset g) (with_argument Offset o)) (stands ts given first)
       ∙ argument_on Offset o (λ e. record o { offset = Some e }) (argument_given Offset given.1) (λ e. refl)
   chosen_on Cols o ts given first =
-      from_name Cols o given.0.behind given.1.left ∙ ap (λ g. ok_then (argument_given Cols g) (with_argument Cols o)) (stands ts given first)
+      from_name Cols o given.0.following given.1.left ∙ ap (λ g. ok_then (argument_given Cols g) (with_argument Cols o)) (stands ts given first)
       ∙ argument_on Cols o (λ e. record o { cols = Some e }) (argument_given Cols given.1) (λ e. refl)
   chosen_on Limit o ts given first =
-      from_name Limit o given.0.behind given.1.left ∙ ap (λ g. ok_then (argument_given Limit g) (with_argument Limit o)) (stands ts given first)
+      from_name Limit o given.0.following given.1.left ∙ ap (λ g. ok_then (argument_given Limit g) (with_argument Limit o)) (stands ts given first)
       ∙ argument_on Limit o (λ e. record o { limit = Some e }) (argument_given Limit given.1) (λ e. refl)
 
   option_on : (o : OptionsShape) (ts : List Token) (given : Token × Tokens) (option : LoopOption) → first_of ts ≡ Some given → option_named block o given.0.text ≡ Some option

@@ -90,9 +90,9 @@ ordered_none true xs none = ap reverse none
 pub none_first : {A : Type 0} (from to : ℕ) (rev : Bool) (xs : List A) → min to (length xs) ≤ from → None ≡ slice_get (in_order rev (drop from (take to xs))) 0
 none_first from to rev xs past = sym (ap (λ ys. slice_get ys 0) (ordered_none rev (drop from (take to xs)) (none_between xs from to past)))
 
-pub none_behind : {A : Type 0} (from to : ℕ) (rev : Bool) (xs : List A) → min to (length xs) ≤ from
+pub none_following : {A : Type 0} (from to : ℕ) (rev : Bool) (xs : List A) → min to (length xs) ≤ from
     → in_order rev (drop from (take to xs)) ≡ drop 1 (in_order rev (drop from (take to xs)))
-none_behind from to rev xs past =
+none_following from to rev xs past =
     let none = ordered_none rev (drop from (take to xs)) (none_between xs from to past) in
     none ∙ sym (ap (drop 1) none)
 
@@ -101,10 +101,10 @@ pub forward_first : {A : Type 0} (from to : ℕ) (rev : Bool) (xs : List A) (o :
 forward_first from to false xs o is below at = at ∙ sym (first_between xs from to below)
 forward_first from to true xs o is below at = cc
 
-pub forward_behind : {A : Type 0} (from to : ℕ) (rev : Bool) (xs : List A) → rev ≡ false
+pub forward_after : {A : Type 0} (from to : ℕ) (rev : Bool) (xs : List A) → rev ≡ false
     → in_order rev (drop (from + 1) (take to xs)) ≡ drop 1 (in_order rev (drop from (take to xs)))
-forward_behind from to false xs is = ap (λ n. drop n (take to xs)) (add-one from) ∙ rest_past (take to xs) from
-forward_behind from to true xs is = cc
+forward_after from to false xs is = ap (λ n. drop n (take to xs)) (add-one from) ∙ rest_past (take to xs) from
+forward_after from to true xs is = cc
 
 pub backward_first : {A : Type 0} (from to end last : ℕ) (rev : Bool) (xs : List A) (o : Option A) → rev ≡ true → end ≡ min to (length xs) → from < end → last ≡ end - 1
     → o ≡ slice_get xs last → o ≡ slice_get (in_order rev (drop from (take to xs))) 0
@@ -113,12 +113,12 @@ backward_first from to end last true xs o is ends below before at =
     let found = within xs last (omega arith) in
     at ∙ found.1 ∙ sym (ap (λ ys. slice_get ys 0) (reversed_first xs from to last found.0 (omega arith) (omega arith) found.1))
 
-pub backward_behind : {A : Type 0} (from to end last : ℕ) (rev : Bool) (xs : List A) → rev ≡ true → end ≡ min to (length xs) → from < end → last ≡ end - 1
+pub backward_after : {A : Type 0} (from to end last : ℕ) (rev : Bool) (xs : List A) → rev ≡ true → end ≡ min to (length xs) → from < end → last ≡ end - 1
     → in_order rev (drop from (take last xs)) ≡ drop 1 (in_order rev (drop from (take to xs)))
-backward_behind from to end last false xs is ends below before = cc
-backward_behind from to end last true xs is ends below before =
+backward_after from to end last false xs is ends below before = cc
+backward_after from to end last true xs is ends below before =
     let found = within xs last (omega arith) in
     sym (ap (drop 1) (reversed_first xs from to last found.0 (omega arith) (omega arith) found.1))
 
 -- the first item, and those after it
-pub ruleset taken = (none_first, none_behind, forward_first, forward_behind, backward_first, backward_behind)
+pub ruleset taken = (none_first, none_following, forward_first, forward_after, backward_first, backward_after)

@@ -56,7 +56,7 @@ impl Picked {
     #[tactic(auto, using(crate::proofs::PickedLemmas::taken))]
     pub fn take_first(&mut self) -> Result<Option<Value>, AllocError>
         ensures first { IfOk result (λ item. option_map tree_of item ≡ slice_get (picked_left self.old) 0) }
-        ensures behind { OnOk result (picked_left self.new ≡ drop 1 (picked_left self.old)) }
+        ensures following { OnOk result (picked_left self.new ≡ drop 1 (picked_left self.old)) }
     {
         let end = self.to.min(self.items.len());
         if end <= self.from {

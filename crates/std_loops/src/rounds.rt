@@ -4,7 +4,7 @@ ghost use Rattle.liquid_error.specs.meaning.Told.{Gives};
 ghost use Rattle.liquid_value.specs.meaning.View.{view as tree_of};
 ghost use Rattle.liquid_runtime.specs.meaning.Written.{SameFrames};
 ghost use Rattle.liquid_plugins.specs.meaning.TurnOf.{turn_of, Leaves, LeavesProgress};
-ghost use Rattle.liquid_tags.specs.meaning.Loops.{behind, loop_takes};
+ghost use Rattle.liquid_tags.specs.meaning.Loops.{following, loop_takes};
 ghost use Rattle.std_loops.specs.meaning.Loops.{rounds_of, rounds_over};
 ghost use Rattle.std_loops.specs.meaning.Picked.{picked_left};
 
@@ -114,7 +114,7 @@ pub fn loop_turn<R: Runtime>(
 /// Removes the next item and returns it, if there is one.
 fn next_item(rounds: &mut Rounds) -> Result<Option<Value>, AllocError>
     ensures item { IfOk result (λ item. option_map tree_of item ≡ slice_get (rounds_of rounds.old).left 0) }
-    ensures behind { OnOk result (rounds_of rounds.new ≡ behind (rounds_of rounds.old)) }
+    ensures following { OnOk result (rounds_of rounds.new ≡ following (rounds_of rounds.old)) }
 {
     match rounds.place.checked_add(1) {
         Some(place) => {

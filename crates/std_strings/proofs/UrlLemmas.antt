@@ -34,9 +34,9 @@ occurs_one c text i h =
     rw (fits, drop-cons text i 0 h) (and_true (eqb (get_or text i 0) c))
 
 -- what follows a piece
-behind_piece : (sep text : List ℕ) (len at : ℕ) (places : List ℕ) → flat_map (λ piece. sep ++ piece) (pieces_between len text at places) ≡ sep ++ join_by (λ piece. piece) sep (pieces_between len text at places)
-behind_piece sep text len at [] = append_assoc sep (drop at text) []
-behind_piece sep text len at (p ∷ places) = append_assoc sep (slice_range text at p) _
+after_piece : (sep text : List ℕ) (len at : ℕ) (places : List ℕ) → flat_map (λ piece. sep ++ piece) (pieces_between len text at places) ≡ sep ++ join_by (λ piece. piece) sep (pieces_between len text at places)
+after_piece sep text len at [] = append_assoc sep (drop at text) []
+after_piece sep text len at (p ∷ places) = append_assoc sep (slice_range text at p) _
 
 -- one more byte of a piece
 slice_more : (text : List ℕ) (from i : ℕ) → from ≤ i → i < length text → slice_range text from (i + 1) ≡ slice_range text from i ++ (get_or text i 0 ∷ [])
@@ -64,7 +64,7 @@ one_more : (c d : ℕ) (text : List ℕ) (n i from : ℕ) → from ≤ i → i <
 one_more c d text n i from h small again true t =
     let rest = again (i + 1) (omega arith) ∙ empty_slice text (i + 1) (map (swap c d) (drop (i + 1) text)) in
     let here : d ∷ map (swap c d) (drop (i + 1) text) ≡ map (swap c d) (drop i text) = rw t at (swap_at c d text i small) in
-    ap (λ t. slice_range text from i ++ t) (behind_piece (d ∷ []) text 1 (i + 1) (matches_from text (c ∷ []) 0 (i + 1) n) ∙ ap (λ t. d ∷ t) rest ∙ here)
+    ap (λ t. slice_range text from i ++ t) (after_piece (d ∷ []) text 1 (i + 1) (matches_from text (c ∷ []) 0 (i + 1) n) ∙ ap (λ t. d ∷ t) rest ∙ here)
 one_more c d text n i from h small again false t =
     let here : get_or text i 0 ∷ map (swap c d) (drop (i + 1) text) ≡ map (swap c d) (drop i text) = rw t at (swap_at c d text i small) in
     again from (omega arith)

@@ -26,13 +26,13 @@ white c e = by (is_whitespace c) e
     by true _ = refl
     by false e = sym e
 
-words_behind_white : (c : ℕ) (cs : List ℕ) → is_whitespace c ≡ true → words_of (c ∷ cs) ≡ words_of cs
-words_behind_white c cs e = ap (filter is_word) (slice_split-cons_yes is_whitespace c cs e)
+words_after_white : (c : ℕ) (cs : List ℕ) → is_whitespace c ≡ true → words_of (c ∷ cs) ≡ words_of cs
+words_after_white c cs e = ap (filter is_word) (slice_split-cons_yes is_whitespace c cs e)
 
 -- white space before words, and alone
-words_behind_gap : (gap cs : List ℕ) → NonePass is_not_whitespace gap → words_of (gap ++ cs) ≡ words_of cs
-words_behind_gap [] cs none = refl
-words_behind_gap (g ∷ gap) cs none = words_behind_white g (gap ++ cs) (white g none.0) ∙ words_behind_gap gap cs none.1
+words_after_gap : (gap cs : List ℕ) → NonePass is_not_whitespace gap → words_of (gap ++ cs) ≡ words_of cs
+words_after_gap [] cs none = refl
+words_after_gap (g ∷ gap) cs none = words_after_white g (gap ++ cs) (white g none.0) ∙ words_after_gap gap cs none.1
 
 none_in_all : (cs : List ℕ) → NonePass is_whitespace cs → All (λ c. is_whitespace c ≡ false) cs
 none_in_all [] none = All-nil (λ c. is_whitespace c ≡ false)
@@ -46,7 +46,7 @@ word_before_white : (w : List ℕ) (c : ℕ) (cs : List ℕ) → 0 < length w �
 word_before_white w c cs more none e =
     ap (filter is_word) (slice_split_at is_whitespace w c cs (none_in_all w none) e)
     ∙ kept w (slice_split is_whitespace cs) more
-    ∙ ap (λ ws. w ∷ ws) (sym (words_behind_white c cs e))
+    ∙ ap (λ ws. w ∷ ws) (sym (words_after_white c cs e))
 
 word_at_end : (w : List ℕ) → 0 < length w → NonePass is_whitespace w → words_of w ≡ w ∷ []
 word_at_end w more none = ap (filter is_word) (slice_split_none is_whitespace w (none_in_all w none)) ∙ kept w [] more
@@ -58,7 +58,7 @@ some_characters (c ∷ cs) bs e more = omega arith
 
 pub words_of_white : (bs : List ℕ) → IsUtf8 bs → NoCharPasses is_not_whitespace bs → words bs ≡ []
 words_of_white bs u none =
-    ap (map encode_utf8_all) (ap words_of (sym (chars_from_encodes none.0 bs u none.1)) ∙ ap words_of (sym (append-nil none.0)) ∙ words_behind_gap none.0 [] none.2)
+    ap (map encode_utf8_all) (ap words_of (sym (chars_from_encodes none.0 bs u none.1)) ∙ ap words_of (sym (append-nil none.0)) ∙ words_after_gap none.0 [] none.2)
 
 -- what a call of `next` says about a word
 pub words_step : (bs w rest : List ℕ) → IsUtf8 bs
@@ -86,7 +86,7 @@ words_step bs w rest u item =
     (cases_eq (length rest) 0) in (
       after,
       ap (λ cs. map encode_utf8_all (words_of cs)) whole
-          ∙ ap (map encode_utf8_all) (words_behind_gap gs (ws ++ chars rest) item.3.2 ∙ first)
+          ∙ ap (map encode_utf8_all) (words_after_gap gs (ws ++ chars rest) item.3.2 ∙ first)
           ∙ ap (λ v. v ∷ words rest) item.4.1,
     )
 

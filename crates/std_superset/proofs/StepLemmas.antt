@@ -12,7 +12,7 @@ use Rattle.liquid_grammar.specs.meaning.Tokens as token
 use Rattle.liquid_plugins.specs.meaning.Nodes.{NodeShape, text_node, chain_node, tag_node}
 use Rattle.liquid_parser.specs.meaning.Handed.{Tokens, expect_nothing, handed, place_in}
 use Rattle.liquid_parser.specs.meaning.Lang.{Block, Filters, Lang, parts}
-use Rattle.liquid_parser.specs.meaning.Reading.{Open, State, among, inside, begun, block_limit, block_with, chain_read, checked, closed, element_read, entered, escape_read, expression_read, finished, level_behind, name_place, node_added, outer_read, parted, placed_at, refused_at, step, tag_given, tag_read}
+use Rattle.liquid_parser.specs.meaning.Reading.{Open, State, among, inside, begun, block_limit, block_with, chain_read, checked, closed, element_read, entered, escape_read, expression_read, finished, level_after, name_place, node_added, outer_read, parted, placed_at, refused_at, step, tag_given, tag_read}
 use Rattle.liquid_parser.proofs.DispatchLemmas.{block_outer, divider_read, end_read, other_read, tag_outer, unknown_outer}
 use Rattle.liquid_tags.specs.declared.blocks.BlockShape.{BlockShape}
 use Rattle.liquid_tags.specs.declared.block_plugins.Blocks.{Blocks}
@@ -278,11 +278,11 @@ module _ {F : Type 0} (filters : Filters F) (source : List ℕ) (outside : ℕ) 
   reads_any [] ns t = reads_outer [] ns t
   reads_any (o ∷ os) ns t = reads_in o os ns t (bytes_eq t.0 (old_open o).kind.names.end_name) (list_any (bytes_eq t.0) (old_open o).kind.means.dividers) refl refl
 
-  reads_element : (os : List (Opened F)) (ns : List (NodeShape F (TagShape F) BlockShape)) (e : Element) (behind : List ℕ)
-      → Follows (element_read old source outside (map old_open os) ns e behind) (element_read new source outside (map new_open os) (map node_image ns) e behind)
-  reads_element os ns (raw text) behind s is =
+  reads_element : (os : List (Opened F)) (ns : List (NodeShape F (TagShape F) BlockShape)) (e : Element) (following : List ℕ)
+      → Follows (element_read old source outside (map old_open os) ns e following) (element_read new source outside (map new_open os) (map node_image ns) e following)
+  reads_element os ns (raw text) following s is =
       (among_nodes os (ns ++ text_node text ∷ []), sym (same_value (among (map old_open os) (ns ++ text_node text ∷ [])) s is), ap (λ l. Ok (among (map new_open os) l)) (added ns (text_node text)))
-  reads_element os ns (expression c text) behind s is =
+  reads_element os ns (expression c text) following s is =
       let fine = made_from (checked source (chain_fault c)) (λ u. node_added (map old_open os) ns (expression_read filters source c)) s is in
       let whole = made_from (expression_read filters source c) (λ n. Ok (among (map old_open os) (ns ++ n ∷ []))) s fine.2 in
       let made = made_from (chain_read filters source c) (λ chain. Ok (chain_node chain)) whole.0 whole.1 in (
@@ -292,11 +292,11 @@ module _ {F : Type 0} (filters : Filters F) (source : List ℕ) (outside : ℕ) 
             ∙ ap (λ r. ok_then (ok_then r (λ chain. Ok (chain_node chain))) (λ n. Ok (among (map new_open os) (map node_image ns ++ n ∷ [])))) made.1
             ∙ ap (λ l. Ok (among (map new_open os) l)) (added ns (chain_node made.0)),
       )
-  reads_element os ns (tag_element t text) behind s is =
+  reads_element os ns (tag_element t text) following s is =
       let fine = made_from (checked source (tag_fault t)) (λ u. tag_read old source outside (map old_open os) ns t) s is in
       let follows = reads_any os ns t s fine.2 in
       (follows.0, follows.1, ap (λ r. ok_then r (λ u. tag_read new source outside (map new_open os) (map node_image ns) t)) fine.1 ∙ follows.2)
-  reads_element os ns (invalid text) behind s is = cc is
+  reads_element os ns (invalid text) following s is = cc is
 
   reads_raw : (text : List ℕ) (is_closed : Bool) (place : Place) (before : List (NodeShape F (TagShape F) BlockShape)) (ps : List (List (NodeShape F (TagShape F) BlockShape))) (os : List (Opened F)) (so_far content : List ℕ) (level : Option ℕ)
       → Follows (escape_read (old_open (opened (raw_plan text) is_closed place before ps)) (map old_open os) so_far content level)
@@ -311,8 +311,8 @@ module _ {F : Type 0} (filters : Filters F) (source : List ℕ) (outside : ℕ) 
   )
 
   -- one element more is read
-  pub reads_step : (r : Reading F) (e : Element) (behind : List ℕ) → Follows (step old source outside (old_state r) e behind) (step new source outside (new_state r) e behind)
-  reads_step (among_nodes os ns) e behind = reads_element os ns e behind
-  reads_step (inside_raw text is_closed place before ps os level so_far) e behind =
+  pub reads_step : (r : Reading F) (e : Element) (following : List ℕ) → Follows (step old source outside (old_state r) e following) (step new source outside (new_state r) e following)
+  reads_step (among_nodes os ns) e following = reads_element os ns e following
+  reads_step (inside_raw text is_closed place before ps os level so_far) e following =
       let kind = (old_open (opened (raw_plan text) is_closed place before ps)).kind in
-      reads_raw text is_closed place before ps os so_far (text_of e) (level_behind kind.names.end_name kind.names.start_name false level e)
+      reads_raw text is_closed place before ps os so_far (text_of e) (level_after kind.names.end_name kind.names.start_name false level e)

@@ -62,7 +62,7 @@ same_operator text op is =
     ∙ ap (option_map (λ (comparison : Comparison). operator.Compares comparison)) is
 
 abbrev tokens : Token → List Token → Tokens
-tokens t more = record { behind = t.behind; left = more }
+tokens t more = record { following = t.following; left = more }
 
 -- a value that is read, and the tokens after it
 abbrev valued : Token → List Token → ExpressionShape → Result (ExpressionShape × Tokens) Refusal
@@ -70,24 +70,24 @@ valued t more x = Ok (x, tokens t more)
 
 -- what the library makes of the tokens after a value, and of those after a comparison
 abbrev after_value_asked : ExpressionShape × Tokens → Result ConditionShape Refusal
-after_value_asked value = asked.behind_value value.0 value.1.left
+after_value_asked value = asked.following_value value.0 value.1.left
 
 abbrev compared : ExpressionShape → Comparison → ExpressionShape × Tokens → Result ConditionShape Refusal
 compared e op value = alone (Compares e op value.0) value.1
 
 no_more : (e x : ExpressionShape) (op : Comparison) (ts : List Token) (place : Place) (c : ConditionShape)
-    → alone (Compares e op x) (record { behind = place; left = ts }) ≡ Ok c → after_test (test.Passes e (operator.Compares op) x) ts ≡ Ok (condition_image c)
+    → alone (Compares e op x) (record { following = place; left = ts }) ≡ Ok c → after_test (test.Passes e (operator.Compares op) x) ts ≡ Ok (condition_image c)
 no_more e x op [] place c is = ap (λ d. Ok (condition_image d)) (same_value (Compares e op x) c is)
 no_more e x op (t ∷ ts) place c is = cc is
 
 second_of : (e : ExpressionShape) (op : Comparison) (t : Token) (more : List Token) (r : Result ExpressionShape Refusal) (c : ConditionShape)
     → ok_then (ok_then r (valued t more)) (compared e op) ≡ Ok c
     → ok_then r (λ x. after_test (test.Passes e (operator.Compares op) x) more) ≡ Ok (condition_image c)
-second_of e op t more (Ok x) c is = no_more e x op more t.behind c is
+second_of e op t more (Ok x) c is = no_more e x op more t.following c is
 second_of e op t more (Err refusal) c is = cc is
 
 second : (e : ExpressionShape) (op : Comparison) (place : Place) (ts : List Token) (c : ConditionShape)
-    → ok_then (next_as expect_value (record { behind = place; left = ts })) (compared e op) ≡ Ok c
+    → ok_then (next_as expect_value (record { following = place; left = ts })) (compared e op) ≡ Ok c
     → from_second e (operator.Compares op) place ts ≡ Ok (condition_image c)
 second e op place [] c is = cc is
 second e op place (t ∷ more) c is = second_of e op t more (or_unexpected t (expect_value t)) c is
@@ -96,13 +96,13 @@ given_back : (t : Token) (o : Option Comparison) (op : Comparison) → or_unexpe
 given_back t None op is = cc is
 given_back t (Some p) op is = ap Some (same_value p op is)
 
-after_first : (e : ExpressionShape) (ts : List Token) (c : ConditionShape) → asked.behind_value e ts ≡ Ok c → after_value e ts ≡ Ok (condition_image c)
+after_first : (e : ExpressionShape) (ts : List Token) (c : ConditionShape) → asked.following_value e ts ≡ Ok c → after_value e ts ≡ Ok (condition_image c)
 after_first e [] c is = ap (λ d. Ok (condition_image d)) (same_value (Holds e) c is)
 after_first e (t ∷ more) c is =
     let read = made_from (or_unexpected t (comparison_of t.text)) (λ op. ok_then (next_as expect_value (tokens t more)) (compared e op)) c is in
-    ap (λ o. elim o as (λ _. Result standard.ConditionShape Refusal) [ None ↦ joined_by (test.Holds e) t (from_value t.behind more) | Some op ↦ from_second e op t.behind more ])
+    ap (λ o. elim o as (λ _. Result standard.ConditionShape Refusal) [ None ↦ joined_by (test.Holds e) t (from_value t.following more) | Some op ↦ from_second e op t.following more ])
     (same_operator t.text read.0 (given_back t (comparison_of t.text) read.0 read.1))
-    ∙ second e read.0 t.behind more c read.2
+    ∙ second e read.0 t.following more c read.2
 
 first_of : (t : Token) (more : List Token) (r : Result ExpressionShape Refusal) (c : ConditionShape)
     → ok_then (ok_then r (valued t more)) after_value_asked ≡ Ok c
@@ -111,13 +111,13 @@ first_of t more (Ok e) c is = after_first e more c is
 first_of t more (Err refusal) c is = cc is
 
 from_first : (place : Place) (ts : List Token) (c : ConditionShape)
-    → ok_then (next_as expect_value (record { behind = place; left = ts })) after_value_asked ≡ Ok c → from_value place ts ≡ Ok (condition_image c)
+    → ok_then (next_as expect_value (record { following = place; left = ts })) after_value_asked ≡ Ok c → from_value place ts ≡ Ok (condition_image c)
 from_first place [] c is = cc is
 from_first place (t ∷ more) c is = first_of t more (or_unexpected t (expect_value t)) c is
 
 -- the tokens of a condition of the library make its image
 pub condition_kept : (ts : Tokens) (c : ConditionShape) → asked.condition_given ts ≡ Ok c → condition_given ts ≡ Ok (condition_image c)
-condition_kept ts c is = from_first ts.behind ts.left c is
+condition_kept ts c is = from_first ts.following ts.left c is
 
 -- what the library plans of a block of each kind
 pub data Planned : Type 0 where
@@ -182,7 +182,7 @@ old_word name word = ok_then (next_as expect_series word.1) (old_series name)
 abbrev old_name : List ℕ × Tokens → Result PlanShape Refusal
 old_name name = ok_then (next_as (expect_str (codes "in")) name.1) (old_word name.0)
 
-options_none : (x p : PlanShape) (ts : List Token) (place : Place) → alone x (record { behind = place; left = ts }) ≡ Ok p → (options_from loop.For no_options ts ≡ Ok no_options) × (x ≡ p)
+options_none : (x p : PlanShape) (ts : List Token) (place : Place) → alone x (record { following = place; left = ts }) ≡ Ok p → (options_from loop.For no_options ts ≡ Ok no_options) × (x ≡ p)
 options_none x p [] place is = (refl, same_value x p is)
 options_none x p (t ∷ ts) place is = cc is
 
@@ -191,7 +191,7 @@ begins_for ts p is =
     let name = made_from (next_as expect_identifier ts) old_name p is in
     let word = made_from (next_as (expect_str (codes "in")) name.0.1) (old_word name.0.0) p name.2 in
     let series = made_from (next_as expect_series word.0.1) (old_series name.0.0) p word.2 in
-    let none = options_none (library.planned (node.For name.0.0 series.0.0)) p series.0.1.left series.0.1.behind series.2 in (
+    let none = options_none (library.planned (node.For name.0.0 series.0.0)) p series.0.1.left series.0.1.following series.2 in (
       for_plan name.0.0 series.0.0,
       refl,
       sym none.1,

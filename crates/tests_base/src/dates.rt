@@ -340,7 +340,7 @@ fn parts_out_of_range_are_refused(_rt: HostRuntime) -> Result<(), Fail> {
     let last = DateTime::from_ymd(9999, 12, 31)?.with_offset(86_400);
     holds(
         last.err() == Some(DateError::OutsideYears),
-        "behind the last year",
+        "after the last year",
     )?;
     let absent = Date::from_ymd(2022, 2, 29);
     holds(

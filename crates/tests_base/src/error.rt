@@ -77,7 +77,7 @@ fn caused(alloc: Global) -> Result<Error, AllocError> {
     Ok(Error::with_msg(alloc, "c").cause(CauseOf::Error(middle)))
 }
 
-fn behind(error: &Error) -> Option<&Error> {
+fn following(error: &Error) -> Option<&Error> {
     match error.source()? {
         CauseOf::Error(inner) => Some(inner),
         CauseOf::Cloneable(_) => None,
@@ -89,7 +89,7 @@ fn a_clone_has_the_same_causes(rt: HostRuntime) -> Result<(), Fail> {
     let alloc = rt.alloc();
     let copy = caused(alloc)?.clone()?;
     same(copy.to_string(alloc)?.as_str(), "liquid: c\n")?;
-    let Some(middle) = behind(&copy) else {
+    let Some(middle) = following(&copy) else {
         return Err(Fail::from("an error has no error as its cause"));
     };
     same(middle.to_string(alloc)?.as_str(), "liquid: b\n")?;

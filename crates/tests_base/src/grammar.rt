@@ -121,7 +121,7 @@ fn is_left(row: &Line) -> Result<bool, Fail> {
 }
 
 #[test]
-fn rules_leave_what_is_behind_them(rt: HostRuntime) -> Result<(), Fail> {
+fn rules_leave_what_is_after_them(rt: HostRuntime) -> Result<(), Fail> {
     for rows in [VALUES, FILTERS, TOKENS, ELEMENTS] {
         rows_hold(rt.alloc(), rows, |_, row| is_left(row))?;
     }

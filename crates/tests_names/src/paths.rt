@@ -1,7 +1,7 @@
 //! Paths into values.
 use crate::values::answer_text;
 use liquid_json::to_value;
-use liquid_paths::{Path, find, find_behind, own_part, try_find};
+use liquid_paths::{Path, find, find_after, own_part, try_find};
 use liquid_scalar::ScalarCow;
 use liquid_value::Value;
 use liquid_views::ArrayView;
@@ -98,21 +98,21 @@ fn leads_on_to(
     path: &[ScalarCow<'_>],
     answer: &str,
 ) -> Result<bool, AllocError> {
-    Ok(answer_text(alloc, find_behind(alloc, front, value, path))?.as_str() == answer)
+    Ok(answer_text(alloc, find_after(alloc, front, value, path))?.as_str() == answer)
 }
 
 #[test]
-fn a_walk_may_begin_behind_a_path(rt: HostRuntime) -> Result<(), Fail> {
+fn a_walk_may_begin_after_a_path(rt: HostRuntime) -> Result<(), Fail> {
     let alloc = rt.alloc();
     let value = to_value(alloc, &Json::from_str(alloc, r#"{"c": 1, "d": 2}"#)?)?;
     let known = [ScalarCow::from("a"), ScalarCow::from("d")];
     holds(
         leads_on_to(alloc, 1, &value, &known, "2")?,
-        "a walk may begin behind one index",
+        "a walk may begin after one index",
     )?;
     holds(
         leads_on_to(alloc, 2, &value, &known, "c1d2")?,
-        "a walk may begin behind all",
+        "a walk may begin after all",
     )?;
     let unknown = [ScalarCow::from("a"), ScalarCow::from("b")];
     let refusal =

@@ -77,7 +77,7 @@ fn refused_token(alloc: Global, text: &str) -> Result<String, Error> {
 }
 
 /// Returns the first line of an error about a tag's tokens after the first.
-fn refused_behind(alloc: Global, text: &str) -> Result<String, Error> {
+fn refused_after(alloc: Global, text: &str) -> Result<String, Error> {
     let mut tokens = tokens_of(alloc, text)?;
     let _ = tokens.next();
     Ok(told(alloc, &tokens.raise_error(alloc, "Nothing more"))?)
@@ -98,7 +98,7 @@ fn is_attempted(alloc: Global, row: &Line) -> Result<bool, Fail> {
         name_or_refusal(alloc, text)?.as_str() == row.text(1)?
             && name_or_message(alloc, text)?.as_str() == row.text(2)?
             && refused_token(alloc, text)?.as_str() == row.text(3)?
-            && refused_behind(alloc, text)?.as_str() == row.text(4)?,
+            && refused_after(alloc, text)?.as_str() == row.text(4)?,
     )
 }
 

@@ -290,6 +290,6 @@ fn a_tag_alone_takes_its_body_from_a_cursor(rt: HostRuntime) -> Result<(), Fail>
     let refusal = "liquid: Invalid liquid (line 1, column 14)";
     holds(
         brace_is_refused(alloc, &mut block, refusal)?,
-        "the brace behind the box is refused",
+        "the brace after the box is refused",
     )
 }

@@ -33,7 +33,7 @@ fn has_block(blocks: &PluginRegistry<Blocks>, row: &Line) -> Result<bool, Fail> 
 
 /// Start tag, end tag, description, example and spec.
 const BLOCKS: &str = r#"["box", "endbox", "Writes its body in brackets.", null, null]
-["swap", "endswap", "Renders what stands behind `mid`, and then what stands before it.", null, null]
+["swap", "endswap", "Renders what comes after `mid`, and then what comes before it.", null, null]
 ["raw", "endraw", "Writes its body as it stands.", null, null]"#;
 
 #[test]

@@ -13,7 +13,7 @@ const TAGS: &str = r#"["assign", "Assigns what a chain comes to, and writes noth
 ["render", "Renders a partial, which sees the names that it is given alone."]"#;
 
 /// The start and the end of each block, and its description.
-const BLOCKS: &str = r#"["if", "endif", "Renders the part behind the first condition that holds."]
+const BLOCKS: &str = r#"["if", "endif", "Renders the part after the first condition that holds."]
 ["for", "endfor", "Renders its body for each item of an array, an object or a range."]
 ["raw", "endraw", "Writes its body as it stands."]"#;
 

@@ -81,7 +81,7 @@ pub(crate) fn body_is_told<B: ParseBlock<Filters>>(
 
 /// Name, description, parameters by place, parameters by keyword.
 const FILTERS: &str =
-    r#"["append", "The input's text with the text of a value behind it.", "value (needed): What is put behind the input.", ""]
+    r#"["append", "The input's text with the text of a value after it.", "value (needed): What is put after the input.", ""]
 ["fail", "Refuses each input.", "", ""]"#;
 
 #[test]
@@ -94,7 +94,7 @@ fn filters_tell_what_they_are(rt: HostRuntime) -> Result<(), Fail> {
     let positional = listed(alloc, AppendParameters::positional_parameters())?;
     same(
         positional.as_str(),
-        "value (needed): What is put behind the input.",
+        "value (needed): What is put after the input.",
     )?;
     let keyword = AppendParameters::keyword_parameters();
     holds(keyword.is_empty(), "no parameter has a keyword")
@@ -123,14 +123,14 @@ fn tags_tell_what_they_are(rt: HostRuntime) -> Result<(), Fail> {
 /// Start tag, end tag, description, dividers, whether it escapes, and whether it nests.
 const BLOCKS: &str = r#"["box", "endbox", "Writes its body in brackets.", "", false, false]
 ["sbox", "endsbox", "Renders its body where no name is seen.", "", false, false]
-["swap", "endswap", "Renders what stands behind `mid`, and then what stands before it.", "mid", false, false]
+["swap", "endswap", "Renders what comes after `mid`, and then what comes before it.", "mid", false, false]
 ["raw", "endraw", "Writes its body as it stands.", "", true, false]
 ["with", "endwith", "Renders its body with one name.", "", false, false]
 ["glob", "endglob", "Renders its body with globals of its own.", "", false, false]"#;
 
 /// The same of the tag library.
 const LIBRARY: &str =
-    r#"["if", "endif", "Renders the part behind the first condition that holds.", "elsif else", false, false]
+    r#"["if", "endif", "Renders the part after the first condition that holds.", "elsif else", false, false]
 ["for", "endfor", "Renders its body for each item of an array, an object or a range.", "else", false, false]
 ["raw", "endraw", "Writes its body as it stands.", "", true, false]"#;
 

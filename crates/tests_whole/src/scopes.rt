@@ -147,7 +147,7 @@ fn frames_show_and_hide_names_in_turn(rt: HostRuntime) -> Result<(), Fail> {
 }
 
 #[test]
-fn an_interrupt_at_entry_ends_a_list_behind_its_first_element(rt: HostRuntime) -> Result<(), Fail> {
+fn an_interrupt_at_entry_ends_a_list_after_its_first_element(rt: HostRuntime) -> Result<(), Fail> {
     let alloc = rt.alloc();
     let template = Template::new(nodes_in(alloc, r#"[["text", "a"], ["text", "b"]]"#)?);
     let mut base: BuiltRuntime<(), ()> = RuntimeBuilder::new(alloc).build();

@@ -28,7 +28,7 @@ fn has_tokens(alloc: Global, tag: Tag<'_>, shown: &str, count: usize) -> Result<
 }
 
 /// Returns the number of tokens after those that were taken from a copy of a tag's cursor.
-fn left_behind(tag: &Tag<'_>, taken: i64, count: usize) -> usize {
+fn left_after(tag: &Tag<'_>, taken: i64, count: usize) -> usize {
     let mut tokens = tag.tokens();
     for _ in 0..taken {
         let _ = tokens.next();
@@ -47,7 +47,7 @@ fn holds(alloc: Global, row: &Line) -> Result<bool, Fail> {
     let text = row.text(0)?;
     let tag = Tag::new(alloc, text)?;
     let is_named = tag.name() == row.text(1)? && tag.as_str() == text;
-    let left = left_behind(&tag, row.number(3)?, text.len());
+    let left = left_after(&tag, row.number(3)?, text.len());
     let is_left = i64::try_from(left)? == row.number(4)?;
     Ok(is_named && is_left && has_tokens(alloc, tag, row.text(2)?, text.len())?)
 }

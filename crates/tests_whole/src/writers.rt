@@ -106,7 +106,7 @@ fn writers(alloc: Global, line: &str, fault: Fault) -> Result<Option<usize>, Fai
 }
 
 #[test]
-fn a_writer_is_not_asked_behind_its_fault(rt: HostRuntime) -> Result<(), Fail> {
+fn a_writer_is_not_asked_after_its_fault(rt: HostRuntime) -> Result<(), Fail> {
     let alloc = rt.alloc();
     let mut all = 0usize;
     for line in ROWS.lines() {

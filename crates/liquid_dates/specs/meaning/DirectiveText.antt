@@ -7,7 +7,7 @@ use Rattle.liquid_dates.specs.declared.flags.Flags.{Flags}
 use Rattle.liquid_dates.specs.declared.flags.Filling.{Filling}
 use Rattle.liquid_dates.specs.declared.flags.Filling.TheVariants.{Unset, Zeros, Spaces}
 use Rattle.liquid_dates.specs.declared.flags.NumberFilling.{NumberFilling}
-use Rattle.liquid_dates.specs.declared.flags.NumberFilling.TheVariants.{SpacesBeforeSign, ZerosBehindSign}
+use Rattle.liquid_dates.specs.declared.flags.NumberFilling.TheVariants.{SpacesBeforeSign, ZerosAfterSign}
 use Rattle.liquid_dates.specs.declared.flags.Case.{Case}
 use Rattle.liquid_dates.specs.declared.flags.Case.TheVariants.{Plain, Upper, Change}
 use Rattle.liquid_dates.specs.declared.directive.Number.{Number}
@@ -75,7 +75,7 @@ name_text flags width n dt =
 
 -- a number padded with zeros to two characters
 abbrev pub two : ℕ → List ℕ
-two n = filled_number ZerosBehindSign 2 (pos n)
+two n = filled_number ZerosAfterSign 2 (pos n)
 
 -- `HH:MM`
 unfoldable pub hour_minute_of : DateTime → List ℕ
@@ -93,7 +93,7 @@ clock_of_12 dt =
 
 -- the year, padded with zeros to four characters with its sign
 abbrev pub year_of_four : DateTime → List ℕ
-year_of_four dt = filled_number ZerosBehindSign 4 (civil_date dt).year
+year_of_four dt = filled_number ZerosAfterSign 4 (civil_date dt).year
 
 -- `YYYY-MM-DD`
 unfoldable pub dashed_date_text : DateTime → List ℕ
@@ -108,7 +108,7 @@ named_date_text dt =
 
 -- the remainder of the year by 100, padded with zeros to two characters with its sign
 unfoldable pub year_of_two : DateTime → List ℕ
-year_of_two dt = filled_number ZerosBehindSign 2 (int_rem (civil_date dt).year (pos 100))
+year_of_two dt = filled_number ZerosAfterSign 2 (int_rem (civil_date dt).year (pos 100))
 
 -- `MM/DD/YY`
 unfoldable pub slashed_date_text : DateTime → List ℕ
@@ -154,7 +154,7 @@ composite_text flags width c dt =
 -- the first of the nine digits of the fraction, and zeros past nine
 unfoldable pub fraction_of : ℕ → ℕ → List ℕ
 fraction_of digits nano =
-    filled_number ZerosBehindSign (min digits 9) (pos (nano / 10 ^ (9 - digits))) ++ replicate (digits - 9) 48
+    filled_number ZerosAfterSign (min digits 9) (pos (nano / 10 ^ (9 - digits))) ++ replicate (digits - 9) 48
 
 -- the length of an offset whose hours have two digits
 abbrev pub offset_length : Offset → ℕ
@@ -172,9 +172,9 @@ signed_hours Spaces width seconds =
     replicate (width - (1 + length (decimal (unsigned_abs seconds / 3600)))) 32
     ++ (sign_of seconds ∷ decimal (unsigned_abs seconds / 3600))
 signed_hours Unset width seconds =
-    sign_of seconds ∷ filled_number ZerosBehindSign width (pos (unsigned_abs seconds / 3600))
+    sign_of seconds ∷ filled_number ZerosAfterSign width (pos (unsigned_abs seconds / 3600))
 signed_hours Zeros width seconds =
-    sign_of seconds ∷ filled_number ZerosBehindSign width (pos (unsigned_abs seconds / 3600))
+    sign_of seconds ∷ filled_number ZerosAfterSign width (pos (unsigned_abs seconds / 3600))
 
 -- the minutes and seconds after them
 unfoldable pub offset_minutes : Offset → ℤ → List ℕ

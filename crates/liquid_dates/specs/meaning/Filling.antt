@@ -5,7 +5,7 @@ use Rattle.std.specs.Fmt.{decimal}
 use Rattle.liquid_dates.specs.declared.flags.Filling.{Filling}
 use Rattle.liquid_dates.specs.declared.flags.Filling.TheVariants.{Unset, Zeros, Spaces}
 use Rattle.liquid_dates.specs.declared.flags.NumberFilling.{NumberFilling}
-use Rattle.liquid_dates.specs.declared.flags.NumberFilling.TheVariants.{SpacesBeforeSign, ZerosBehindSign}
+use Rattle.liquid_dates.specs.declared.flags.NumberFilling.TheVariants.{SpacesBeforeSign, ZerosAfterSign}
 use Rattle.liquid_dates.specs.declared.flags.Case.{Case}
 use Rattle.liquid_dates.specs.declared.flags.Case.TheVariants.{Plain, Upper, Change}
 
@@ -21,7 +21,7 @@ missing width z = width - (length (minus z) + length (decimal (unsigned_abs z)))
 -- a number padded to a width: with spaces before the sign, or with zeros after it
 unfoldable pub filled_number : NumberFilling → ℕ → ℤ → List ℕ
 filled_number SpacesBeforeSign width z = replicate (missing width z) 32 ++ (minus z ++ decimal (unsigned_abs z))
-filled_number ZerosBehindSign width z = minus z ++ (replicate (missing width z) 48 ++ decimal (unsigned_abs z))
+filled_number ZerosAfterSign width z = minus z ++ (replicate (missing width z) 48 ++ decimal (unsigned_abs z))
 
 -- a text after the padding up to a width, where it counts as that many characters
 unfoldable pub filled_text : ℕ → ℕ → ℕ → List ℕ → List ℕ
@@ -30,7 +30,7 @@ filled_text filler width count text = replicate (width - count) filler ++ text
 -- what a number is padded with: the last of the flags `_` and `0`, or what its letter says if neither is given
 abbrev pub number_filling : Filling → NumberFilling → NumberFilling
 number_filling Unset default = default
-number_filling Zeros default = ZerosBehindSign
+number_filling Zeros default = ZerosAfterSign
 number_filling Spaces default = SpacesBeforeSign
 
 -- what a text is padded with

@@ -2,7 +2,7 @@
 use Rattle.std.specs.Prelude.{ℕ, ◌&&◌, if◌then◌else◌, List, [], ◌∷◌, Option, Some, None, option_map, codes}
 use Rattle.liquid_dates.specs.meaning.Flags.{is_one_of}
 use Rattle.liquid_dates.specs.declared.flags.NumberFilling.{NumberFilling}
-use Rattle.liquid_dates.specs.declared.flags.NumberFilling.TheVariants.{SpacesBeforeSign, ZerosBehindSign}
+use Rattle.liquid_dates.specs.declared.flags.NumberFilling.TheVariants.{SpacesBeforeSign, ZerosAfterSign}
 use Rattle.liquid_dates.specs.declared.directive.Number.{Number}
 use Rattle.liquid_dates.specs.declared.directive.Number.TheVariants.{Year, Century, YearOfCentury, Month, Day, Ordinal, Hour, HourOf12, Minute, Second, WeekdayFromMonday, WeekdayFromSunday, WeekFromSunday, WeekFromMonday, IsoYear, IsoYearOfCentury, IsoWeek, UnixSeconds}
 use Rattle.liquid_dates.specs.declared.directive.Name.{Name}
@@ -38,7 +38,7 @@ number_letter c =
 -- what pads a number if no flag says otherwise: spaces for `e`, `k` and `l`
 abbrev pub letter_filling : ℕ → NumberFilling
 letter_filling c =
-    if is_one_of (codes "ekl") c then SpacesBeforeSign else ZerosBehindSign
+    if is_one_of (codes "ekl") c then SpacesBeforeSign else ZerosAfterSign
 
 -- the letters of names and of characters
 unfoldable pub name_letter : ℕ → Option Name

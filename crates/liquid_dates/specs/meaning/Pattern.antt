@@ -57,7 +57,7 @@ IsItem (literal c) rest = c ≢ 37
 IsItem (directive flags digits modifier letter) rest = IsDirective flags digits modifier letter rest
 
 -- a per cent whose flags and digits end the text
-pub record EndsBehindWidth (text : List ℕ) : Type 0 where
+pub record EndsAfterWidth (text : List ℕ) : Type 0 where
   pub flags : List ℕ
   pub digits : List ℕ
   pub is : text ≡ 37 ∷ (flags ++ digits)
@@ -65,7 +65,7 @@ pub record EndsBehindWidth (text : List ℕ) : Type 0 where
   pub of_digits : IsRun is_digit digits []
 
 -- a per cent whose modifier ends the text, after a width that is not too great
-pub record EndsBehindModifier (text : List ℕ) : Type 0 where
+pub record EndsAfterModifier (text : List ℕ) : Type 0 where
   pub flags : List ℕ
   pub digits : List ℕ
   pub modifier : ℕ
@@ -88,8 +88,8 @@ pub record HasGreatWidth (text : List ℕ) : Type 0 where
 
 -- a rest that is refused
 abbrev pub IsRefused : DateFormatError → List ℕ → Type 0
-IsRefused NoFormatSpecifier text = EndsBehindWidth text
-IsRefused NoFormatSpecifierAfterModifier text = EndsBehindModifier text
+IsRefused NoFormatSpecifier text = EndsAfterWidth text
+IsRefused NoFormatSpecifierAfterModifier text = EndsAfterModifier text
 IsRefused InvalidWidth text = HasGreatWidth text
 IsRefused Memory text = ⊥
 

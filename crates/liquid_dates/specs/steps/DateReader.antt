@@ -43,12 +43,12 @@ four_at text = do
   Some (100 * century.0 + year.0, year.1)
 
 -- a year, which may follow a `-`
-abbrev pub year_behind : Option (List ℕ) → List ℕ → Read ℤ
-year_behind (Some behind) text = option_map (λ y. (neg_ℤ (pos y.0), y.1)) (four_at behind)
-year_behind None text = option_map (λ y. (pos y.0, y.1)) (four_at text)
+abbrev pub year_after : Option (List ℕ) → List ℕ → Read ℤ
+year_after (Some following) text = option_map (λ y. (neg_ℤ (pos y.0), y.1)) (four_at following)
+year_after None text = option_map (λ y. (pos y.0, y.1)) (four_at text)
 
 unfoldable pub year_at : List ℕ → Read ℤ
-year_at text = year_behind (after_byte 45 text) text
+year_at text = year_after (after_byte 45 text) text
 
 -- a reader, a byte after it, and a reader after that
 abbrev pub joined_at : {A B : Type 0} → (List ℕ → Read A) → ℕ → (List ℕ → Read B) → List ℕ → Read (A × B)
@@ -76,14 +76,14 @@ short_name_at name count m (a ∷ b ∷ c ∷ rest) =
 short_name_at name count m _ = None
 
 -- the rest after a text at the front
-unfoldable pub behind_text : List ℕ → List ℕ → Option (List ℕ)
-behind_text text all = if bytes_eq (take (length text) all) text then Some (drop (length text) all) else None
+unfoldable pub following_text : List ℕ → List ℕ → Option (List ℕ)
+following_text text all = if bytes_eq (take (length text) all) text then Some (drop (length text) all) else None
 
 -- the name of a month: its first three letters, then the others
 unfoldable pub month_at : List ℕ → Read ℕ
 month_at text = do
   month ← short_name_at short_month_name 12 1 text
-  rest ← behind_text (drop 3 (month_name month.0)) month.1
+  rest ← following_text (drop 3 (month_name month.0)) month.1
   Some (month.0, rest)
 
 abbrev pub short_month_at : List ℕ → Read ℕ
@@ -131,13 +131,13 @@ hours_at text = do
   minutes ← two_at 60 hours.1
   Some (hours.0 * 3600 + minutes.0 * 60, minutes.1)
 
-abbrev pub sign_behind : Option (List ℕ) → Option (List ℕ) → Read ℤ
-sign_behind (Some rest) minus = option_map (λ z. (pos z.0, z.1)) (hours_at rest)
-sign_behind None (Some rest) = option_map (λ z. (neg_ℤ (pos z.0), z.1)) (hours_at rest)
-sign_behind None None = None
+abbrev pub sign_after : Option (List ℕ) → Option (List ℕ) → Read ℤ
+sign_after (Some rest) minus = option_map (λ z. (pos z.0, z.1)) (hours_at rest)
+sign_after None (Some rest) = option_map (λ z. (neg_ℤ (pos z.0), z.1)) (hours_at rest)
+sign_after None None = None
 
 unfoldable pub offset_at : List ℕ → Read ℤ
-offset_at text = sign_behind (after_byte 43 text) (after_byte 45 text)
+offset_at text = sign_after (after_byte 43 text) (after_byte 45 text)
 
 -- one digit, or two
 abbrev pub one_digit_at : List ℕ → Read ℕ

@@ -22,9 +22,9 @@ abbrev pub front : (ℕ → Bool) → List ℕ → List ℕ
 front p [] = []
 front p (c ∷ cs) = if p c then c ∷ front p cs else []
 
-abbrev pub behind : (ℕ → Bool) → List ℕ → List ℕ
-behind p [] = []
-behind p (c ∷ cs) = if p c then behind p cs else c ∷ cs
+abbrev pub following : (ℕ → Bool) → List ℕ → List ℕ
+following p [] = []
+following p (c ∷ cs) = if p c then following p cs else c ∷ cs
 
 -- the flags at the front, added to those before
 abbrev pub flags_from : Flags → List ℕ → Flags
@@ -59,16 +59,16 @@ abbrev pub letter_front : ℕ → List ℕ → List ℕ
 letter_front c cs = if c == 58 then 58 ∷ after_colon cs else c ∷ []
 
 -- the rest after it
-abbrev pub behind_second_colon : List ℕ → List ℕ
-behind_second_colon [] = []
-behind_second_colon (c ∷ cs) = cs
+abbrev pub following_second_colon : List ℕ → List ℕ
+following_second_colon [] = []
+following_second_colon (c ∷ cs) = cs
 
-abbrev pub behind_colon : List ℕ → List ℕ
-behind_colon [] = []
-behind_colon (c ∷ cs) = if c == 58 then behind_second_colon cs else cs
+abbrev pub following_colon : List ℕ → List ℕ
+following_colon [] = []
+following_colon (c ∷ cs) = if c == 58 then following_second_colon cs else cs
 
-abbrev pub letter_behind : ℕ → List ℕ → List ℕ
-letter_behind c cs = if c == 58 then behind_colon cs else cs
+abbrev pub letter_after : ℕ → List ℕ → List ℕ
+letter_after c cs = if c == 58 then following_colon cs else cs
 
 -- an item and the rest after it, or an error
 abbrev pub ItemRead : Type 0
@@ -77,31 +77,31 @@ ItemRead = Result (Item × List ℕ) DateFormatError
 -- a directive from its letter on
 abbrev pub letter_at : List ℕ → List ℕ → List ℕ → ℕ → List ℕ → ItemRead
 letter_at flags digits modifier c cs =
-    Ok (directive flags digits modifier (letter_front c cs), letter_behind c cs)
+    Ok (directive flags digits modifier (letter_front c cs), letter_after c cs)
 
 -- from after its modifier on
-abbrev pub behind_modifier : List ℕ → List ℕ → ℕ → List ℕ → ItemRead
-behind_modifier flags digits modifier [] = Err NoFormatSpecifierAfterModifier
-behind_modifier flags digits modifier (c ∷ cs) = letter_at flags digits (modifier ∷ []) c cs
+abbrev pub after_modifier : List ℕ → List ℕ → ℕ → List ℕ → ItemRead
+after_modifier flags digits modifier [] = Err NoFormatSpecifierAfterModifier
+after_modifier flags digits modifier (c ∷ cs) = letter_at flags digits (modifier ∷ []) c cs
 
 -- from its modifier on
 abbrev pub modifier_at : List ℕ → List ℕ → ℕ → List ℕ → ItemRead
 modifier_at flags digits c cs =
-    if is_modifier c then behind_modifier flags digits c cs else letter_at flags digits [] c cs
+    if is_modifier c then after_modifier flags digits c cs else letter_at flags digits [] c cs
 
 -- from after its width on
-abbrev pub behind_width : List ℕ → List ℕ → List ℕ → ItemRead
-behind_width flags digits [] = Err NoFormatSpecifier
-behind_width flags digits (c ∷ cs) =
+abbrev pub after_width : List ℕ → List ℕ → List ℕ → ItemRead
+after_width flags digits [] = Err NoFormatSpecifier
+after_width flags digits (c ∷ cs) =
     if nat_lt (digits_number digits) (2 ^ 64) then modifier_at flags digits c cs else Err InvalidWidth
 
 -- from after its flags on
-abbrev pub behind_flags : List ℕ → List ℕ → ItemRead
-behind_flags flags text = behind_width flags (front is_digit text) (behind is_digit text)
+abbrev pub after_flags : List ℕ → List ℕ → ItemRead
+after_flags flags text = after_width flags (front is_digit text) (following is_digit text)
 
 -- from after its per cent on
 unfoldable pub directive_at : List ℕ → ItemRead
-directive_at text = behind_flags (front is_flag text) (behind is_flag text)
+directive_at text = after_flags (front is_flag text) (following is_flag text)
 
 -- the item at the front of a text that begins with the character
 unfoldable pub item_at : ℕ → List ℕ → ItemRead

@@ -15,12 +15,12 @@ spans_of_all f (x ∷ xs) = f x ++ spans_of_all f xs
 
 abbrev mutual
   pub value_spans : Value → List Span
-  value_spans (literal_value place behind literal) = (place, behind) ∷ []
-  value_spans (variable_value place behind name indexes) = (place, behind) ∷ indexes_spans indexes
+  value_spans (literal_value place following literal) = (place, following) ∷ []
+  value_spans (variable_value place following name indexes) = (place, following) ∷ indexes_spans indexes
 
   pub index_spans : Index → List Span
   index_spans (named_index name) = []
-  index_spans (bracketed_index place behind value) = (place, behind) ∷ value_spans value
+  index_spans (bracketed_index place following value) = (place, following) ∷ value_spans value
 
   pub indexes_spans : Indexes → List Span
   indexes_spans no_index = []
@@ -31,18 +31,18 @@ argument_spans (positional value) = value_spans value
 argument_spans (keyword name value) = value_spans value
 
 abbrev pub filter_spans : Filter → List Span
-filter_spans f = (f.place, f.behind) ∷ spans_of_all argument_spans f.what.1
+filter_spans f = (f.place, f.following) ∷ spans_of_all argument_spans f.what.1
 
 abbrev pub chain_spans : Chain → List Span
-chain_spans c = (c.place, c.behind) ∷ value_spans c.what.0 ++ spans_of_all filter_spans c.what.1
+chain_spans c = (c.place, c.following) ∷ value_spans c.what.0 ++ spans_of_all filter_spans c.what.1
 
 abbrev pub token_spans : Token → List Span
-token_spans (range r) = (r.place, r.behind) ∷ value_spans r.what.0 ++ value_spans r.what.1
+token_spans (range r) = (r.place, r.following) ∷ value_spans r.what.0 ++ value_spans r.what.1
 token_spans (chain c) = chain_spans c
-token_spans (symbol s) = (s.place, s.behind) ∷ []
+token_spans (symbol s) = (s.place, s.following) ∷ []
 
 abbrev pub tag_spans : Tag → List Span
-tag_spans tag = (tag.1.place, tag.1.behind) ∷ spans_of_all token_spans tag.1.what
+tag_spans tag = (tag.1.place, tag.1.following) ∷ spans_of_all token_spans tag.1.what
 
 -- the span is a slice of the text, and begins and ends between characters
 pub record IsSlice (s : List ℕ) (span : Span) : Type 0 where

@@ -50,12 +50,12 @@ deep_fault depth place = if nat_lt depth bracket_limit then None else Some (nest
 -- the first fault of a value inside this many open brackets
 abbrev mutual
   pub fault_within : ℕ → Value → Option Fault
-  fault_within depth (literal_value place behind literal) = literal_fault place literal
-  fault_within depth (variable_value place behind name indexes) = indexes_fault depth indexes
+  fault_within depth (literal_value place following literal) = literal_fault place literal
+  fault_within depth (variable_value place following name indexes) = indexes_fault depth indexes
 
   pub index_fault : ℕ → Index → Option Fault
   index_fault depth (named_index name) = None
-  index_fault depth (bracketed_index place behind value) =
+  index_fault depth (bracketed_index place following value) =
       option_or (deep_fault depth place) (fault_within (suc depth) value)
 
   pub indexes_fault : ℕ → Indexes → Option Fault

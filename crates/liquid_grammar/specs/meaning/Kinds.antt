@@ -18,8 +18,8 @@ variable_kind_of name no_index = identifier_kind name
 variable_kind_of name (more_indexes index indexes) = variable_kind
 
 abbrev pub value_kind : Value → Kind
-value_kind (literal_value place behind literal) = literal_kind literal
-value_kind (variable_value place behind name indexes) = variable_kind_of name indexes
+value_kind (literal_value place following literal) = literal_kind literal
+value_kind (variable_value place following name indexes) = variable_kind_of name indexes
 
 abbrev pub chain_kind : Value → List Filter → Kind
 chain_kind value [] = value_kind value

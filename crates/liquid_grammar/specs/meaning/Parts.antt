@@ -14,7 +14,7 @@ use Rattle.liquid_grammar.specs.declared.parts.TokenParts.TheVariants as parts
 use Rattle.liquid_grammar.specs.meaning.Rules.{Rule, Begins, Repeated, Seen, Optional, ◌▷◌}
 use Rattle.liquid_grammar.specs.meaning.Grammar.{White, Closer}
 use Rattle.liquid_grammar.specs.meaning.Values.{Value, literal_value, variable_value, Index, named_index, bracketed_index, gather, CloseBracket, ValueRule, IndexRule}
-use Rattle.liquid_grammar.specs.meaning.Tokens.{Argument, positional, keyword, Filter, Chain, Token, range, chain, symbol, Behind, ArgumentRule, Arguments, arguments_of, FilterRule, ChainRule, RangeRule, ExpressionStart, TagRule}
+use Rattle.liquid_grammar.specs.meaning.Tokens.{Argument, positional, keyword, Filter, Chain, Token, range, chain, symbol, Following, ArgumentRule, Arguments, arguments_of, FilterRule, ChainRule, RangeRule, ExpressionStart, TagRule}
 use Rattle.liquid_grammar.specs.meaning.Kinds.{Kind, chain_kind}
 use Rattle.liquid_grammar.specs.meaning.KindMeanings.{token_kind_of}
 use Rattle.liquid_grammar.specs.meaning.Literals.{Literal}
@@ -65,11 +65,11 @@ pub record IsNamed (rest name after : List ℕ) (i : Index) : Type 0 where
 -- an index in brackets: its value, and the close bracket after it
 pub record IsBracketed (s rest inner : List ℕ) (i : Index) : Type 0 where
   pub value : Value
-  pub behind : List ℕ
+  pub following : List ℕ
   pub byte : ℕ
   pub is : i ≡ bracketed_index s rest value
-  pub match : ValueRule inner behind value
-  pub closes : CloseBracket behind rest byte
+  pub match : ValueRule inner following value
+  pub closes : CloseBracket following rest byte
 
 -- the beginning of an index, and what follows it
 abbrev pub IsIndex : List ℕ → IndexStart → List ℕ → List ℕ → Index → Type 0
@@ -79,7 +79,7 @@ IsIndex s start.Bracket after rest i = IsBracketed s rest after i
 -- the arguments from here on: the first one of a filter is after `:`, each further one after a comma
 abbrev pub ArgumentsFrom : Bool → Rule (List Argument)
 ArgumentsFrom true = Seen arguments_of (Optional Arguments)
-ArgumentsFrom false = Repeated (Behind 44 ArgumentRule)
+ArgumentsFrom false = Repeated (Following 44 ArgumentRule)
 
 abbrev pub separator : Bool → ℕ
 separator true = 58
@@ -88,7 +88,7 @@ separator false = 44
 -- where a filter begins, its name, and its arguments after the name
 pub record IsFilter (f : FilterStart) (rest : List ℕ) (filter : Filter) : Type 0 where
   pub place_is : filter.place ≡ f.place.now
-  pub behind_is : filter.behind ≡ rest
+  pub after_is : filter.following ≡ rest
   pub name_is : filter.what.0 ≡ f.name.now
   pub arguments : ArgumentsFrom true f.rest.now rest filter.what.1
 
@@ -107,10 +107,10 @@ pub record IsArgument (a : ArgumentStart) (rest : List ℕ) (argument : Argument
 -- the places of a chain, and its value and filters between them
 pub record IsChain (s rest : List ℕ) (c : Chain) : Type 0 where
   pub begins : c.place ≡ s
-  pub ends : c.behind ≡ rest
+  pub ends : c.following ≡ rest
   pub middle : List ℕ
   pub value : ValueRule s middle c.what.0
-  pub filters : Repeated (Behind 124 FilterRule) middle rest c.what.1
+  pub filters : Repeated (Following 124 FilterRule) middle rest c.what.1
 
 -- a value begins here
 pub record BeginsValue (s : List ℕ) (v : Value) : Type 0 where
@@ -127,7 +127,7 @@ pub record HasEnds (s rest start stop : List ℕ) : Type 0 where
 -- a range, by the places where its two values begin
 pub record IsRangeToken (place rest start stop : List ℕ) (token : Token) : Type 0 where
   pub values : Value × Value
-  pub is : token ≡ range (record { place = place; behind = rest; what = values })
+  pub is : token ≡ range (record { place = place; following = rest; what = values })
   pub match : RangeRule place rest values
   pub first : BeginsValue start values.0
   pub second : BeginsValue stop values.1
@@ -143,7 +143,7 @@ pub record IsChainToken (kind : Kind) (place rest : List ℕ) (token : Token) : 
 abbrev pub HasParts : TokenParts → List ℕ → List ℕ → Token → Type 0
 HasParts (parts.Range start stop) place rest token = IsRangeToken place rest start.now stop.now token
 HasParts (parts.Chain kind) place rest token = IsChainToken (token_kind_of kind) place rest token
-HasParts (parts.Symbol text) place rest token = token ≡ symbol (record { place = place; behind = rest; what = text.now })
+HasParts (parts.Symbol text) place rest token = token ≡ symbol (record { place = place; following = rest; what = text.now })
 
 -- where a token begins, what it is made of, and what follows it
 pub record IsToken (t : TokenText) (rest : List ℕ) (token : Token) : Type 0 where
@@ -173,7 +173,7 @@ pub record Ended (s rest : List ℕ) (filters : List Filter) (after : List ℕ) 
 
 -- the next filter of an expression, or its end
 abbrev pub IsStep : List ℕ → ChainStep → List ℕ → List Filter → Type 0
-IsStep s (step.Filter f) rest filters = First (IsFilter f) (Repeated (Behind 124 FilterRule)) rest filters
+IsStep s (step.Filter f) rest filters = First (IsFilter f) (Repeated (Following 124 FilterRule)) rest filters
 IsStep s (step.End after) rest filters = Ended s rest filters after.now
 
 -- what follows the name of the filter, or the end

@@ -71,13 +71,13 @@ pub record Nothing {A : Type 0} (a : A) (s rest : List ℕ) (shape : A) : Type 0
 -- a shape with the place where its match begins and the place after it
 pub record Placed (A : Type 0) : Type 0 where
   pub place : List ℕ
-  pub behind : List ℕ
+  pub following : List ℕ
   pub what : A
 
 -- R, with the places of its match
 pub record At {A : Type 0} (R : Rule A) (s rest : List ℕ) (shape : Placed A) : Type 0 where
   pub begins : shape.place ≡ s
-  pub ends : shape.behind ≡ rest
+  pub ends : shape.following ≡ rest
   pub match : R s rest shape.what
 
 -- R, if a match of it begins here

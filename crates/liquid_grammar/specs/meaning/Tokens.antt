@@ -40,12 +40,12 @@ abbrev pub ArgumentRule : Rule Argument
 ArgumentRule = Else KeywordRule (Seen positional ValueRule)
 
 -- the separator between white space, and R after it
-abbrev pub Behind : {A : Type 0} → ℕ → Rule A → Rule A
-Behind separator R = White ▷ Byte separator ▷ White ▷ R
+abbrev pub Following : {A : Type 0} → ℕ → Rule A → Rule A
+Following separator R = White ▷ Byte separator ▷ White ▷ R
 
 -- `:` with an argument, and further ones after commas
 abbrev pub Arguments : Rule (List Argument)
-Arguments = Seen (λ p. p.0 ∷ p.1) (Then (Behind 58 ArgumentRule) (Repeated (Behind 44 ArgumentRule)))
+Arguments = Seen (λ p. p.0 ∷ p.1) (Then (Following 58 ArgumentRule) (Repeated (Following 44 ArgumentRule)))
 
 -- the arguments that were found, or none
 abbrev pub arguments_of : Option (List Argument) → List Argument
@@ -58,7 +58,7 @@ FilterRule = At (Seen (λ p. (p.0, arguments_of p.1)) (Then Identifier (Optional
 
 -- a value, and all filters after `|`
 abbrev pub ChainRule : Rule Chain
-ChainRule = At (Then ValueRule (Repeated (Behind 124 FilterRule)))
+ChainRule = At (Then ValueRule (Repeated (Following 124 FilterRule)))
 
 -- `..` between white space
 abbrev pub Dots : Rule ℕ

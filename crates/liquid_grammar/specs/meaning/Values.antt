@@ -7,12 +7,12 @@ use Rattle.liquid_grammar.specs.meaning.Literals.{Literal, LiteralRule}
 -- a value with the places where its parts begin and end
 mutual
   pub data Value : Type 0 where
-    literal_value : (place behind : List ℕ) → Literal → Value
-    variable_value : (place behind name : List ℕ) → Indexes → Value
+    literal_value : (place following : List ℕ) → Literal → Value
+    variable_value : (place following name : List ℕ) → Indexes → Value
 
   pub data Index : Type 0 where
     named_index : List ℕ → Index
-    bracketed_index : (place behind : List ℕ) → Value → Index
+    bracketed_index : (place following : List ℕ) → Value → Index
 
   pub data Indexes : Type 0 where
     no_index : Indexes
@@ -23,13 +23,13 @@ gather [] = no_index
 gather (i ∷ is) = more_indexes i (gather is)
 
 abbrev pub placed_literal : Placed Literal → Value
-placed_literal p = literal_value p.place p.behind p.what
+placed_literal p = literal_value p.place p.following p.what
 
 abbrev pub placed_variable : Placed (List ℕ × List Index) → Value
-placed_variable p = variable_value p.place p.behind p.what.0 (gather p.what.1)
+placed_variable p = variable_value p.place p.following p.what.0 (gather p.what.1)
 
 abbrev pub placed_bracket : Placed Value → Index
-placed_bracket p = bracketed_index p.place p.behind p.what
+placed_bracket p = bracketed_index p.place p.following p.what
 
 -- `[` and the white space after it
 abbrev pub OpenBracket : Rule (List ℕ)

@@ -20,7 +20,7 @@ abbrev pub optional : {A : Type 0} → Reader A → Reader (Option A)
 optional f = either (seen Some f) (nothing None)
 
 abbrev pub placed : {A : Type 0} → List ℕ → A × List ℕ → Placed A × List ℕ
-placed s a = (record { place = s; behind = a.1; what = a.0 }, a.1)
+placed s a = (record { place = s; following = a.1; what = a.0 }, a.1)
 
 abbrev pub at : {A : Type 0} → Reader A → Reader (Placed A)
 at f s = option_map (placed s) (f s)
@@ -123,11 +123,11 @@ abbrev pub separated : ℕ → Reader (List ℕ)
 separated separator = right (right white (byte separator)) white
 
 -- a separator between white space, and what is after it
-abbrev pub behind : {A : Type 0} → ℕ → Reader A → Reader A
-behind separator f = right (separated separator) f
+abbrev pub following : {A : Type 0} → ℕ → Reader A → Reader A
+following separator f = right (separated separator) f
 
 unfoldable pub arguments : Reader (List Argument)
-arguments = seen (λ p. p.0 ∷ p.1) (both (behind 58 argument) (repeated (behind 44 argument)))
+arguments = seen (λ p. p.0 ∷ p.1) (both (following 58 argument) (repeated (following 44 argument)))
 
 unfoldable pub filter : Reader Filter
 filter = at (seen (λ p. (p.0, arguments_of p.1)) (both identifier (optional arguments)))
@@ -137,7 +137,7 @@ abbrev pub begins_filter : List ℕ → Bool
 begins_filter s = slice_index (drop (prefix_len is_white s) s) 0 == 124
 
 unfoldable pub chain_of : Reader Chain
-chain_of = at (both value (repeated (behind 124 filter)))
+chain_of = at (both value (repeated (following 124 filter)))
 
 unfoldable pub dots : Reader ℕ
 dots = left (right (right white (byte 46)) (byte 46)) white

@@ -36,9 +36,9 @@ end_or e true = None
 end_or e false = Some e
 
 -- the elements after the first, which is passed whatever it is
-abbrev pub behind_first : List Element → List Element
-behind_first [] = []
-behind_first (e ∷ es) = es
+abbrev pub following_first : List Element → List Element
+following_first [] = []
+following_first (e ∷ es) = es
 
 -- the call returns what is meant; an out-of-memory error says nothing about the meaning. The block is closed exactly at
 -- its end tag
@@ -81,7 +81,7 @@ module _ {F T P B : Type 0} (l : Lang F T P B) (source end_name : List ℕ) (out
 
   -- the next node, or none at the end tag, with the elements that are left
   abbrev pub next_read : List Element → Result (Option (List (NodeShape F T B)) × List Element) Refusal
-  next_read es = ok_then (handed_out source end_name es) (λ found. element_or_end found (behind_first es))
+  next_read es = ok_then (handed_out source end_name es) (λ found. element_or_end found (following_first es))
 
 -- nodes in front of those that are read further on
 abbrev pub in_front : {N : Type 0} → List N → Result (List N × List Element) Refusal → Result (List N × List Element) Refusal

@@ -20,9 +20,9 @@ element_checked source (expression chain text) = checked source (chain_fault cha
 element_checked source (invalid text) = Ok tt
 
 -- an element is returned once it is checked; an out-of-memory error says nothing
-abbrev pub HandsOver : Result BlockElement Error → (source behind : List ℕ) → Element → Type 0
-HandsOver (Ok x) source behind e = (element_checked source e ≡ Ok tt) × StandsFor x source behind e
-HandsOver (Err error) source behind e = IfSome (told error) (λ r. element_checked source e ≡ Err r)
+abbrev pub HandsOver : Result BlockElement Error → (source following : List ℕ) → Element → Type 0
+HandsOver (Ok x) source following e = (element_checked source e ≡ Ok tt) × StandsFor x source following e
+HandsOver (Err error) source following e = IfSome (told error) (λ r. element_checked source e ≡ Err r)
 
 -- elements of the source are read in a language, inside this many blocks that are open around them all
 module _ {F T P B : Type 0} (l : Lang F T P B) (source : List ℕ) (outside : ℕ) where
@@ -36,8 +36,8 @@ module _ {F T P B : Type 0} (l : Lang F T P B) (source : List ℕ) (outside : �
 
   -- the node that an element of its own text gives, with this text after it there; a block takes its body and its end
   -- from the elements of the source
-  abbrev pub node_read : (own behind : List ℕ) → Element → List Element → Result (List (NodeShape F T B) × List Element) Refusal
-  node_read own behind e es = ok_then (step l own outside beginning e behind) (λ next. read_closed next es)
+  abbrev pub node_read : (own following : List ℕ) → Element → List Element → Result (List (NodeShape F T B) × List Element) Refusal
+  node_read own following e es = ok_then (step l own outside beginning e following) (λ next. read_closed next es)
 
   -- the same for a tag that was checked
   abbrev pub tag_node_read : (own : List ℕ) → token.Tag → List Element → Result (List (NodeShape F T B) × List Element) Refusal

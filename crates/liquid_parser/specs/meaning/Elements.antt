@@ -14,7 +14,7 @@ use Rattle.liquid_parser.specs.meaning.WholeTag.{IsTag}
 -- an expression of the source, with its name if it is one; its literals and brackets have no fault
 pub record IsExpression (x : ExpCursor) (source : List ℕ) (chain : Chain) : Type 0 where
   pub source_is : x.source.now ≡ source
-  pub match : ChainRule x.chain.now chain.behind chain
+  pub match : ChainRule x.chain.now chain.following chain
   pub name_is : option_map (λ name. name.now) x.name ≡ identifier_of (chain_kind chain.what.0 chain.what.1)
   pub fine : chain_fault chain ≡ None
 
@@ -23,18 +23,18 @@ abbrev pub IfExpression : ExpCursor → (List ℕ → Chain → Type 0) → Type
 IfExpression x holds = (source : List ℕ) (chain : Chain) → IsExpression x source chain → holds source chain
 
 -- what is neither a tag nor an expression, by its brace
-pub record IsInvalid (x : InvalidLiquidToken) (source behind : List ℕ) : Type 0 where
+pub record IsInvalid (x : InvalidLiquidToken) (source following : List ℕ) : Type 0 where
   pub source_is : x.source.now ≡ source
-  pub brace_is : x.brace.now ≡ 123 ∷ behind
+  pub brace_is : x.brace.now ≡ 123 ∷ following
 
 -- the cursor means this element of the source, which is followed by this text
-abbrev pub StandsFor : BlockElement → (source behind : List ℕ) → cover.Element → Type 0
-StandsFor (Raw x) source behind (raw text) = x.text.now ≡ text
-StandsFor (Tag x) source behind (tag_element tag text) = IsTag x source tag × (x.text.now ≡ text)
-StandsFor (Expression x) source behind (expression chain text) = IsExpression x source chain × (x.text.now ≡ text)
-StandsFor (Invalid x) source behind (invalid text) = IsInvalid x source behind × (x.text.now ≡ text)
-StandsFor _ source behind _ = ⊥
+abbrev pub StandsFor : BlockElement → (source following : List ℕ) → cover.Element → Type 0
+StandsFor (Raw x) source following (raw text) = x.text.now ≡ text
+StandsFor (Tag x) source following (tag_element tag text) = IsTag x source tag × (x.text.now ≡ text)
+StandsFor (Expression x) source following (expression chain text) = IsExpression x source chain × (x.text.now ≡ text)
+StandsFor (Invalid x) source following (invalid text) = IsInvalid x source following × (x.text.now ≡ text)
+StandsFor _ source following _ = ⊥
 
 -- this holds of each source, of the text that follows, and of the element that the cursor means there
 abbrev pub IfElement : BlockElement → (List ℕ → List ℕ → cover.Element → Type 0) → Type 0
-IfElement x holds = (source behind : List ℕ) (e : cover.Element) → StandsFor x source behind e → holds source behind e
+IfElement x holds = (source following : List ℕ) (e : cover.Element) → StandsFor x source following e → holds source following e

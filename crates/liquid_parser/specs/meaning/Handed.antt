@@ -28,8 +28,8 @@ literal_tree (matched.decimal t) = nil
 -- a value without its places: a literal, or a variable; `.name` is the index `["name"]`
 abbrev mutual
   pub expression_meant : shape.Value → ExpressionShape
-  expression_meant (literal_value place behind l) = literal (literal_tree l)
-  expression_meant (variable_value place behind name is) = variable (text name) (indexes_meant is)
+  expression_meant (literal_value place following l) = literal (literal_tree l)
+  expression_meant (variable_value place following name is) = variable (text name) (indexes_meant is)
 
   pub indexes_meant : shape.Indexes → Indexes
   indexes_meant no_index = no_indexes
@@ -37,7 +37,7 @@ abbrev mutual
 
   pub index_meant : shape.Index → ExpressionShape
   index_meant (named_index name) = literal (scalar (text name))
-  index_meant (bracketed_index place behind v) = expression_meant v
+  index_meant (bracketed_index place following v) = expression_meant v
 
 -- the arguments of a filter, each kind in its order
 abbrev pub no_arguments : Arguments
@@ -70,11 +70,11 @@ pub record Token : Type 0 where
   pub shape : TokenShape
   pub text : List ℕ
   pub place : Place
-  pub behind : Place
+  pub following : Place
 
 -- the tokens that are left, and the place just after what came before them
 pub record Tokens : Type 0 where
-  pub behind : Place
+  pub following : Place
   pub left : List Token
 
 -- line and column of a place in the source, given as the rest of the source there
@@ -85,20 +85,20 @@ place_in source place =
 
 -- the text between a place and a later place
 abbrev pub slice_between : List ℕ → List ℕ → List ℕ
-slice_between place behind = take (length place - length behind) place
+slice_between place following = take (length place - length following) place
 
 abbrev pub token_between : List ℕ → List ℕ → List ℕ → TokenShape → Token
-token_between source place behind shape =
-    record { shape = shape; text = slice_between place behind; place = place_in source place; behind = place_in source behind }
+token_between source place following shape =
+    record { shape = shape; text = slice_between place following; place = place_in source place; following = place_in source following }
 
 abbrev pub handed_token : List ℕ → token.Token → Token
-handed_token source (token.range r) = token_between source r.place r.behind (range (expression_meant r.what.0) (expression_meant r.what.1))
-handed_token source (token.chain c) = token_between source c.place c.behind (chain (expression_meant c.what.0) (map call_of c.what.1))
-handed_token source (token.symbol s) = token_between source s.place s.behind (symbol s.what)
+handed_token source (token.range r) = token_between source r.place r.following (range (expression_meant r.what.0) (expression_meant r.what.1))
+handed_token source (token.chain c) = token_between source c.place c.following (chain (expression_meant c.what.0) (map call_of c.what.1))
+handed_token source (token.symbol s) = token_between source s.place s.following (symbol s.what)
 
 -- the tokens of a tag, after its name
 abbrev pub handed : List ℕ → token.Tag → Tokens
-handed source tag = record { behind = place_in source tag.1.place; left = map (handed_token source) tag.1.what }
+handed source tag = record { following = place_in source tag.1.place; left = map (handed_token source) tag.1.what }
 
 -- the refusal of a token by a message of the plug-in's own
 abbrev pub token_error : List ℕ → Token → Refusal
@@ -114,7 +114,7 @@ or_unexpected t found = ok_or found (unexpected t)
 
 abbrev pub first_of : List Token → Option (Token × Tokens)
 first_of [] = None
-first_of (t ∷ more) = Some (t, record { behind = t.behind; left = more })
+first_of (t ∷ more) = Some (t, record { following = t.following; left = more })
 
 -- the next token and those after it
 abbrev pub next : Tokens → Option (Token × Tokens)
@@ -122,7 +122,7 @@ next ts = first_of ts.left
 
 -- the same; otherwise a refusal with this message just after the last token
 abbrev pub expect_next : List ℕ → Tokens → Result (Token × Tokens) Refusal
-expect_next message ts = ok_or (next ts) (located message ts.behind)
+expect_next message ts = ok_or (next ts) (located message ts.following)
 
 abbrev pub none_left : List Token → Result (Unit {0}) Refusal
 none_left [] = Ok tt

@@ -20,7 +20,7 @@ use Rattle.liquid_parser.specs.meaning.Lang.{Registry, Filters, Lang, Block, Bod
 pub record AreTokens (t : TagTokenIter) (ts : Tokens) : Type 0 where
   pub tag : token.Tag
   pub begins : tag.1.place ≡ t.rest.now
-  pub match : Repeated (White ▷ TokenRule) tag.1.place tag.1.behind tag.1.what
+  pub match : Repeated (White ▷ TokenRule) tag.1.place tag.1.following tag.1.what
   pub fine : tag_fault tag ≡ None
   pub is : ts ≡ handed t.source.now tag
 

@@ -63,7 +63,7 @@ module _ {F : Type 0} (filters : Filters F) (source : List ℕ) where
   -- the filter that the language has by this name, made from its arguments
   abbrev pub filter_or : Option (Arguments → Result F Refusal) → token.Filter → Result F Refusal
   filter_or None f = Err (unknown_filter f)
-  filter_or (Some make) f = filter_refused (place_in source f.place) (slice_between f.place f.behind) (make (arguments_meant f.what.1))
+  filter_or (Some make) f = filter_refused (place_in source f.place) (slice_between f.place f.following) (make (arguments_meant f.what.1))
 
   -- a filter of a chain, which the language has by its name
   abbrev pub filter_read : token.Filter → Result F Refusal
@@ -95,14 +95,14 @@ level_by true start (suc level) = Some level
 level_by false true level = Some (suc level)
 level_by false false level = Some level
 
-abbrev pub level_behind : (end_name start_name : List ℕ) → Bool → ℕ → Element → Option ℕ
-level_behind end_name start_name nests level e = level_by (is_end end_name e) (is_start start_name nests e) level
+abbrev pub level_after : (end_name start_name : List ℕ) → Bool → ℕ → Element → Option ℕ
+level_after end_name start_name nests level e = level_by (is_end end_name e) (is_start start_name nests e) level
 
 -- the text of a body up to its end, after what was read of it, and the elements after that end; none if there is no end
 abbrev pub escape : (end_name start_name : List ℕ) → Bool → ℕ → List ℕ → List Element → Option (List ℕ × List Element)
 escape end_name start_name nests level so_far [] = None
 escape end_name start_name nests level so_far (e ∷ es) =
-    option_map_or (λ next. escape end_name start_name nests next (so_far ++ text_of e) es) (level_behind end_name start_name nests level e) (Some (so_far, es))
+    option_map_or (λ next. escape end_name start_name nests next (so_far ++ text_of e) es) (level_after end_name start_name nests level e) (Some (so_far, es))
 
 -- a block that is open: its kind, the place of the name of its start tag, its plan, the nodes before it in the list
 -- that it is in, and its parts up to its last divider
@@ -232,16 +232,16 @@ module _ {F T P B : Type 0} (l : Lang F T P B) (source : List ℕ) (outside : �
 
   -- an element is read, with this text after it
   abbrev pub element_read : List (Open F T P B) → List (NodeShape F T B) → Element → List ℕ → Result (State F T P B) Refusal
-  element_read blocks nodes (raw t) behind = Ok (among blocks (nodes ++ text_node t ∷ []))
-  element_read blocks nodes (expression c t) behind =
+  element_read blocks nodes (raw t) following = Ok (among blocks (nodes ++ text_node t ∷ []))
+  element_read blocks nodes (expression c t) following =
       ok_then (checked source (chain_fault c)) (λ _. node_added blocks nodes (expression_read l.filters source c))
-  element_read blocks nodes (tag_element t _) behind = ok_then (checked source (tag_fault t)) (λ _. tag_read blocks nodes t)
-  element_read blocks nodes (invalid t) behind = Err (refused_at source (codes "Invalid liquid") (123 ∷ behind))
+  element_read blocks nodes (tag_element t _) following = ok_then (checked source (tag_fault t)) (λ _. tag_read blocks nodes t)
+  element_read blocks nodes (invalid t) following = Err (refused_at source (codes "Invalid liquid") (123 ∷ following))
 
   abbrev pub step : State F T P B → Element → List ℕ → Result (State F T P B) Refusal
-  step (among blocks nodes) e behind = element_read blocks nodes e behind
-  step (inside b blocks level so_far) e behind =
-      escape_read b blocks so_far (text_of e) (level_behind b.kind.names.end_name b.kind.names.start_name b.kind.means.nests level e)
+  step (among blocks nodes) e following = element_read blocks nodes e following
+  step (inside b blocks level so_far) e following =
+      escape_read b blocks so_far (text_of e) (level_after b.kind.names.end_name b.kind.names.start_name b.kind.means.nests level e)
 
   -- the elements are read from left to right, and the first refusal is the result
   abbrev pub read : State F T P B → List Element → Result (List (NodeShape F T B)) Refusal

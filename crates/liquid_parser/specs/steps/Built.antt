@@ -10,7 +10,7 @@ use Rattle.liquid_grammar.specs.meaning.Grammar.{White, Closer}
 use Rattle.liquid_grammar.specs.declared.head.Head.{Head}
 use Rattle.liquid_grammar.specs.meaning.Parts.{ClosesExpression, IsHead}
 use Rattle.liquid_grammar.specs.meaning.Rules.{Begins, Repeated, Rule, ◌▷◌}
-use Rattle.liquid_grammar.specs.meaning.Tokens.{Behind, Chain, Filter, FilterRule}
+use Rattle.liquid_grammar.specs.meaning.Tokens.{Following, Chain, Filter, FilterRule}
 use Rattle.liquid_grammar.specs.meaning.Values.{CloseBracket}
 use Rattle.liquid_plugins.specs.declared.tree.Node.{Node}
 use Rattle.liquid_plugins.specs.meaning.Nodes.{NodeShape}
@@ -53,7 +53,7 @@ Endless s = ¬ (Begins (White ▷ Closer 125) s)
 
 -- an opener is here, and neither a tag nor an expression
 abbrev pub StandsInvalid : List ℕ → Type 0
-StandsInvalid s = (behind text : List ℕ) × IsElement s behind (invalid text)
+StandsInvalid s = (following text : List ℕ) × IsElement s following (invalid text)
 
 -- an expression without a fault is here, and is read as this node
 pub record MakesNode {F T B : Type 0} (filters : Filters F) (source s rest : List ℕ) (node : NodeShape F T B) : Type 0 where
@@ -74,7 +74,7 @@ WalksToEnd fault of result read rest = IfOk result (λ walked. ComesTo walked (�
 
 -- all filters after `|`
 abbrev pub FiltersRule : Rule (List Filter)
-FiltersRule = Repeated (Behind 124 FilterRule)
+FiltersRule = Repeated (Following 124 FilterRule)
 
 -- this holds of each chain whose value has this beginning, with this text after the beginning
 abbrev pub IfHeaded : Head → List ℕ → (List ℕ → Chain → Type 0) → Type 0

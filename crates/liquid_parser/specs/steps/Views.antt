@@ -84,8 +84,8 @@ module _ {X N K L W F T B P : Type 0} (filter : X → F) (tag : N → T) (block 
 
   -- the same for an element, which this text follows
   abbrev pub Advances : BlockElement → (old new : ParserState W L (Node X N K)) → List ℕ → Result (Bor (List ℕ)) Error
-      → (State F T P B → (own behind : List ℕ) → Element → List Element → Result (State F T P B × List Element) Refusal) → Type 0
-  Advances element old new text result meant = IfElement element (λ own behind e. Leaves Among old new text result (λ st es. meant st own behind e es))
+      → (State F T P B → (own following : List ℕ) → Element → List Element → Result (State F T P B × List Element) Refusal) → Type 0
+  Advances element old new text result meant = IfElement element (λ own following e. Leaves Among old new text result (λ st es. meant st own following e es))
 
   -- a call reads some of the text from a state on, up to these nodes
   abbrev pub ReadsOn : Next W L (Node X N K) → ParserState W L (Node X N K) → List ℕ → Result (Vec (Node X N K) × Bor (List ℕ)) Error
@@ -106,6 +106,6 @@ past_escaped source (inside b blocks level so_far) es =
     escaped_body source b blocks (escape b.kind.names.end_name b.kind.names.start_name b.kind.means.nests level so_far es)
 
 -- an element of its own text is read, and the escaped body that it begins
-abbrev pub advanced : {F T P B : Type 0} → Lang F T P B → (source : List ℕ) → ℕ → State F T P B → (own behind : List ℕ) → Element
+abbrev pub advanced : {F T P B : Type 0} → Lang F T P B → (source : List ℕ) → ℕ → State F T P B → (own following : List ℕ) → Element
     → List Element → Result (State F T P B × List Element) Refusal
-advanced l source outside st own behind e es = ok_then (step l own outside st e behind) (λ next. past_escaped source next es)
+advanced l source outside st own following e es = ok_then (step l own outside st e following) (λ next. past_escaped source next es)

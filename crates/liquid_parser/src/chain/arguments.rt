@@ -29,12 +29,12 @@ pub(crate) fn build_arguments<'a>(
     let mut is_first = true;
     'arguments: while let Some(start) = next_argument(rest, is_first) {
         match build_from(alloc, start.head, start.rest, 0)? {
-            Some((value, behind)) => {
+            Some((value, following)) => {
                 match start.name {
                     Some(name) => keyword.push((name, value))?,
                     None => positional.push(value)?,
                 }
-                rest = behind;
+                rest = following;
                 is_first = false;
             }
             None => return Ok(None),

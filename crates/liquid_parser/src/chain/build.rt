@@ -36,7 +36,7 @@ pub(crate) fn build_value<'a>(
     ensures within { IfOk result (λ found. IfSome found (λ p. length p.1.now ≤ length s.now)) }
 {
     match value_head(s) {
-        Some((head, behind)) => build_from(alloc, head, behind, depth),
+        Some((head, following)) => build_from(alloc, head, following, depth),
         None => Ok(None),
     }
 }
@@ -80,9 +80,9 @@ pub(crate) fn build_variable<'a>(
     let mut rest = s;
     'indexes: while let Some((start, after)) = next_index(rest, depth) {
         match build_index(alloc, start, after, depth)? {
-            Some((index, behind)) => {
+            Some((index, following)) => {
                 indexes.push(index)?;
-                rest = behind;
+                rest = following;
             }
             None => return Ok(None),
         }
@@ -114,7 +114,7 @@ fn build_index<'a>(
                 return Ok(None);
             }
             match build_value(alloc, s, depth + 1)? {
-                Some((value, behind)) => match close_bracket(behind) {
+                Some((value, following)) => match close_bracket(following) {
                     Some(rest) => Ok(Some((value, rest))),
                     None => Ok(None),
                 },

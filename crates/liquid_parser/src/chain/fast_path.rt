@@ -71,17 +71,17 @@ fn fast_from_chain<'a, F: ParseFilter + Drop, T: ParseTag<F> + Drop, B: ParseBlo
         → WalksToNode F.Filter.shape T.Node.shape B.Node.shape (registry_of F.makes language.now.filters) source s result }
     ensures shorter { IfOk result (λ walked. ComesTo walked (λ p. length p.1.now < length start.now) Unit) }
 {
-    let (head, behind) = match value_head(start) {
+    let (head, following) = match value_head(start) {
         Some(begun) => begun,
         None => return Ok(Walked::NoExpression),
     };
     // Most expressions are names.
     if let Head::Name(name) = head {
-        if let Some(rest) = expression_end(behind) {
+        if let Some(rest) = expression_end(following) {
             return Ok(Walked::Whole((name_node::<F, T, B>(alloc, name)?, rest)));
         }
     }
-    match fast_chain(alloc, head, behind, &language.filters)? {
+    match fast_chain(alloc, head, following, &language.filters)? {
         Walked::Whole((chain, rest)) => Ok(Walked::Whole((Node::Chain(chain), rest))),
         Walked::NoExpression => Ok(Walked::NoExpression),
         Walked::Undecided => Ok(Walked::Undecided),
@@ -90,8 +90,8 @@ fn fast_from_chain<'a, F: ParseFilter + Drop, T: ParseTag<F> + Drop, B: ParseBlo
 
 /// Returns the error "Invalid liquid" at the first brace of an opener of neither a tag nor an expression.
 pub(crate) fn no_expression(alloc: Global, source: &str, brace: &str) -> Error
-    ensures { (behind : List ℕ) → brace.now ≡ 123 ∷ behind
-        → IfSome (told result) (λ r. r ≡ refused_at source.now (codes "Invalid liquid") (123 ∷ behind)) }
+    ensures { (following : List ℕ) → brace.now ≡ 123 ∷ following
+        → IfSome (told result) (λ r. r ≡ refused_at source.now (codes "Invalid liquid") (123 ∷ following)) }
 {
     refused_at(alloc, source, "Invalid liquid", brace)
 }
@@ -124,7 +124,7 @@ fn fast_chain<'a, F: ParseFilter + Drop>(
     ensures shorter { IfOk result (λ walked. ComesTo walked (λ p. length p.1.now < length s.now) Unit) }
 {
     match build_from(alloc, head, s, 0)? {
-        Some((entry, behind)) => match fast_filters(alloc, behind, registry)? {
+        Some((entry, following)) => match fast_filters(alloc, following, registry)? {
             Walked::Whole((filters, rest)) => {
                 Ok(Walked::Whole((FilterChain::new(entry, filters), rest)))
             }
@@ -151,13 +151,13 @@ fn fast_filters<'a, F: ParseFilter + Drop>(
     'filters: loop {
         match chain_step(rest) {
             Some(ChainStep::Filter(start)) => match fast_filter(alloc, start, registry)? {
-                Some((filter, behind)) => {
+                Some((filter, following)) => {
                     filters.push(filter)?;
-                    rest = behind;
+                    rest = following;
                 }
                 None => return Ok(Walked::Undecided),
             },
-            Some(ChainStep::End(behind)) => return Ok(Walked::Whole((filters, behind))),
+            Some(ChainStep::End(following)) => return Ok(Walked::Whole((filters, following))),
             None => return Ok(Walked::NoExpression),
         }
     }

@@ -55,9 +55,9 @@ fn parse_filters<F: ParseFilter + Drop>(
     let mut filters = Vec::new(alloc);
     let mut rest = s;
     'filters: while let Some(start) = next_filter(rest) {
-        let (filter, behind) = parse_filter(alloc, source, start, registry)?;
+        let (filter, following) = parse_filter(alloc, source, start, registry)?;
         filters.push(filter)?;
-        rest = behind;
+        rest = following;
     }
     Ok(filters)
 }
@@ -69,7 +69,7 @@ fn parse_filter<'a, F: ParseFilter + Drop>(
     start: FilterStart<'a>,
     registry: &PluginRegistry<F>,
 ) -> Result<(F::Filter, &'a str), Error>
-    ensures value { (rest : List ℕ) (f : token.Filter) → IsFilter start.entry rest f → FilterRule f.place f.behind f → filter_fault f ≡ None
+    ensures value { (rest : List ℕ) (f : token.Filter) → IsFilter start.entry rest f → FilterRule f.place f.following f → filter_fault f ≡ None
         → GivesUpTo F.Filter.shape result (filter_read (registry_of F.makes registry.now) source.now f) rest }
     ensures within { IfOk result (λ p. length p.1.now ≤ length start.entry.rest.now) }
 {

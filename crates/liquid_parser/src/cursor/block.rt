@@ -2,7 +2,7 @@
 ghost use Rattle.std.specs.Prelude.{◌≡◌, ◌<◌, ℕ, false, true, List, [], Ok, None, IfOk, is_none};
 ghost use Rattle.liquid_error.specs.meaning.Told.{Gives};
 ghost use Rattle.liquid_grammar.specs.meaning.Cover.{Cover};
-ghost use Rattle.liquid_parser.specs.meaning.BlockReading.{or_end, handed_out, behind_first, bytes_left, end_or, next_read};
+ghost use Rattle.liquid_parser.specs.meaning.BlockReading.{or_end, handed_out, following_first, bytes_left, end_or, next_read};
 ghost use Rattle.liquid_parser.specs.meaning.BlockReading.{HandsOut, Passes, Escapes, FindsAll, IsEachReading, ParsedNextFrom};
 ghost use Rattle.liquid_parser.specs.meaning.Elements.{StandsFor};
 ghost use Rattle.liquid_plugins.specs.meaning.NodesOf.{node_of, shapes_of};
@@ -59,7 +59,7 @@ impl<'a, 'n> TagBlock<'a, 'n> {
     pub fn next(&mut self, alloc: Global) -> std::result::Result<Option<BlockElement<'a>>, Error>
         ensures open { self.old.is_closed ≡ false → (es : List cover.Element) → Cover self.old.rest.now es
             → HandsOut result self.new (handed_out self.old.source.now self.old.end_name.now es)
-            × Cover self.new.rest.now (behind_first es) }
+            × Cover self.new.rest.now (following_first es) }
         ensures closed { self.old.is_closed ≡ true → (result ≡ Ok None) × (self.new ≡ self.old) }
         ensures ends { IfOk result (λ found. self.new.is_closed ≡ is_none found) }
         ensures passes { Passes self.old self.new }
@@ -70,8 +70,8 @@ impl<'a, 'n> TagBlock<'a, 'n> {
         }
         let place = self.rest;
         match next_element(place) {
-            Some((found, behind)) => {
-                self.rest = behind;
+            Some((found, following)) => {
+                self.rest = following;
                 let element = hand_over(alloc, self.source, place, found)?;
                 let is_end = is_end(alloc, element, self.end_name)?;
                 self.is_closed = is_end;
@@ -97,8 +97,8 @@ impl<'a, 'n> TagBlock<'a, 'n> {
         ensures passes { Passes self.old self.new }
     {
         match escape(self.rest, self.end_name, self.start_name, allow_nesting) {
-            Some((text, behind)) => {
-                self.rest = behind;
+            Some((text, following)) => {
+                self.rest = following;
                 self.is_closed = true;
                 Ok(text)
             }
@@ -178,7 +178,7 @@ fn is_end(
     element: BlockElement<'_>,
     end_name: &str,
 ) -> std::result::Result<bool, Error>
-    ensures { (source behind : List ℕ) (e : cover.Element) → StandsFor element.entry source behind e
+    ensures { (source following : List ℕ) (e : cover.Element) → StandsFor element.entry source following e
         → Gives (end_or e) result (or_end source end_name.now e) }
 {
     match element {

@@ -127,8 +127,8 @@ impl<'a> InvalidLiquidToken<'a> {
         alloc: Global,
         block: &mut TagBlock<'_, '_>,
     ) -> std::result::Result<Node<X, N, K>, Error>
-        ensures refused { (source behind : List ℕ) → IsInvalid self.entry source behind
-            → Refuses result (refused_at source (codes "Invalid liquid") (123 ∷ behind)) }
+        ensures refused { (source following : List ℕ) → IsInvalid self.entry source following
+            → Refuses result (refused_at source (codes "Invalid liquid") (123 ∷ following)) }
         ensures stays { block.new ≡ block.old }
     {
         let _ = block;
@@ -137,8 +137,8 @@ impl<'a> InvalidLiquidToken<'a> {
 
     /// Returns the same error.
     pub(crate) fn refusal(self, alloc: Global) -> Error
-        ensures { (source behind : List ℕ) → IsInvalid self.entry source behind
-            → IfSome (told result) (λ r. r ≡ refused_at source (codes "Invalid liquid") (123 ∷ behind)) }
+        ensures { (source following : List ℕ) → IsInvalid self.entry source following
+            → IfSome (told result) (λ r. r ≡ refused_at source (codes "Invalid liquid") (123 ∷ following)) }
     {
         no_expression(alloc, self.source, self.brace)
     }
@@ -147,7 +147,7 @@ impl<'a> InvalidLiquidToken<'a> {
 impl<'a> BlockElement<'a> {
     /// Returns the text of the element in the source.
     pub fn as_str(&self) -> &'a str
-        ensures { (source behind : List ℕ) (e : cover.Element) → StandsFor self.now source behind e → result.now ≡ text_of e }
+        ensures { (source following : List ℕ) (e : cover.Element) → StandsFor self.now source following e → result.now ≡ text_of e }
     {
         match *self {
             BlockElement::Raw(raw) => raw.as_str(),
@@ -167,9 +167,9 @@ impl<'a> BlockElement<'a> {
         block: &mut TagBlock<'_, '_>,
         language: &Language<F, T, B>,
     ) -> std::result::Result<Node<F::Filter, T::Node, B::Node>, Error>
-        ensures value { IfElement self.entry (λ own behind e.
+        ensures value { IfElement self.entry (λ own following e.
             ParsedFrom (node_of F.Filter.shape T.Node.shape B.Node.shape) result block.old block.new
-            (node_read (language_of F.makes T.gives B.block language.now) block.old.source.now 1 own behind e)) }
+            (node_read (language_of F.makes T.gives B.block language.now) block.old.source.now 1 own following e)) }
         ensures passes { Passes block.old block.new }
         ensures closed { block.new.is_closed ≡ block.old.is_closed }
     {
@@ -190,8 +190,8 @@ pub(crate) fn hand_over<'a>(
     place: &'a str,
     element: Element<'a>,
 ) -> std::result::Result<BlockElement<'a>, Error>
-    ensures { (behind : List ℕ) (e : cover.Element) → IsElement place.now behind e → Means element.entry e
-        → HandsOver result source.now behind e }
+    ensures { (following : List ℕ) (e : cover.Element) → IsElement place.now following e → Means element.entry e
+        → HandsOver result source.now following e }
 {
     parts_are_matches();
     match element {

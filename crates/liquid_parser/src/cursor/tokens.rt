@@ -61,7 +61,7 @@ impl<'a> TagTokenIter<'a> {
 
     /// Returns an error with this message, just after the last token that was returned, or after the tag's name.
     pub fn raise_error(&self, alloc: Global, message: &str) -> Error
-        ensures { (ts : Tokens) → AreTokens self.now ts → IfSome (told result) (λ r. r ≡ located message.now ts.behind) }
+        ensures { (ts : Tokens) → AreTokens self.now ts → IfSome (told result) (λ r. r ≡ located message.now ts.following) }
     {
         refused_at(alloc, self.source, message, self.rest)
     }
@@ -94,10 +94,10 @@ impl<'a> TagTokenIter<'a> {
         ensures shorter { IfOk result (λ name. bytes_left self.new < bytes_left self.old) }
         ensures stays { IfErr result (λ e. self.new ≡ self.old) }
     {
-        let mut behind = *self;
-        let token = behind.expect_next(alloc, message)?;
+        let mut following = *self;
+        let token = following.expect_next(alloc, message)?;
         let name = token.expect_identifier().into_result(alloc)?;
-        *self = behind;
+        *self = following;
         Ok(name)
     }
 
@@ -113,10 +113,10 @@ impl<'a> TagTokenIter<'a> {
         ensures shorter { IfOk result (λ u. bytes_left self.new < bytes_left self.old) }
         ensures stays { IfErr result (λ e. self.new ≡ self.old) }
     {
-        let mut behind = *self;
-        let token = behind.expect_next(alloc, message)?;
+        let mut following = *self;
+        let token = following.expect_next(alloc, message)?;
         token.expect_str(expected).into_result(alloc)?;
-        *self = behind;
+        *self = following;
         Ok(())
     }
 
@@ -131,10 +131,10 @@ impl<'a> TagTokenIter<'a> {
         ensures shorter { IfOk result (λ e. bytes_left self.new < bytes_left self.old) }
         ensures stays { IfErr result (λ e. self.new ≡ self.old) }
     {
-        let mut behind = *self;
-        let token = behind.expect_next(alloc, message)?;
+        let mut following = *self;
+        let token = following.expect_next(alloc, message)?;
         let value = token.expect_value(alloc)?.into_result(alloc)?;
-        *self = behind;
+        *self = following;
         Ok(value)
     }
 
@@ -153,12 +153,12 @@ impl<'a> TagTokenIter<'a> {
         ensures shorter { IfOk result (λ chain. bytes_left self.new < bytes_left self.old) }
         ensures stays { IfErr result (λ e. self.new ≡ self.old) }
     {
-        let mut behind = *self;
-        let token = behind.expect_next(alloc, message)?;
+        let mut following = *self;
+        let token = following.expect_next(alloc, message)?;
         let chain = token
             .expect_filter_chain(alloc, filters)?
             .into_result(alloc)?;
-        *self = behind;
+        *self = following;
         Ok(chain)
     }
 }

@@ -33,16 +33,16 @@ pub(crate) fn advance<
     source: &str,
     state: &mut ParserState<'a, B, B::Plan, Node<F::Filter, T::Node, B::Node>>,
     element: BlockElement<'a>,
-    behind: &'t str,
+    following: &'t str,
     language: &'a Language<F, T, B>,
 ) -> Result<&'t str, Error>
-    ensures value { Advances F.Filter.shape T.Node.shape B.Node.shape B.Plan.shape B.block element.entry state.old state.new behind.now
+    ensures value { Advances F.Filter.shape T.Node.shape B.Node.shape B.Plan.shape B.block element.entry state.old state.new following.now
         result (advanced (language_of F.makes T.gives B.block language.now) source.now outside) }
-    ensures within { IfOk result (λ rest. (front : List ℕ) × (behind.now ≡ front ++ rest.now)) }
+    ensures within { IfOk result (λ rest. (front : List ℕ) × (following.now ≡ front ++ rest.now)) }
 {
     match read_element(alloc, outside, state, element, language)? {
-        Next::Among => Ok(behind),
-        Next::Escaped(block) => read_escaped::<F, T, B>(alloc, source, behind, block, state),
+        Next::Among => Ok(following),
+        Next::Escaped(block) => read_escaped::<F, T, B>(alloc, source, following, block, state),
     }
 }
 

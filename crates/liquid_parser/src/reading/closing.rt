@@ -72,9 +72,9 @@ fn read_until_closed<
     let mut rest = text;
     'elements: while !state.open.is_empty() {
         match next_element(rest) {
-            Some((found, behind)) => {
+            Some((found, following)) => {
                 let element = hand_over(alloc, source, rest, found)?;
-                rest = advance(alloc, AROUND, source, &mut state, element, behind, language)?;
+                rest = advance(alloc, AROUND, source, &mut state, element, following, language)?;
             }
             None => {
                 let nodes = end_reading::<F, T, B>(alloc, source, state)?;

@@ -75,15 +75,15 @@ pub(crate) fn escape<'a>(
 {
     let mut level = 0;
     let mut rest = body;
-    'elements: while let Some((element, behind)) = next_element(rest) {
-        match level_behind(element, end_name, start_name, nests, level) {
+    'elements: while let Some((element, following)) = next_element(rest) {
+        match level_after(element, end_name, start_name, nests, level) {
             Some(next) => {
                 level = next;
-                rest = behind;
+                rest = following;
             }
             None => {
                 let (text, _) = body.split_at(body.len() - rest.len());
-                return Some((text, behind));
+                return Some((text, following));
             }
         }
     }
@@ -91,7 +91,7 @@ pub(crate) fn escape<'a>(
 }
 
 /// Returns how many starts are still without their ends after the element. Returns `None` at the end of the body.
-fn level_behind(
+fn level_after(
     element: Element<'_>,
     end_name: &str,
     start_name: &str,
@@ -100,7 +100,7 @@ fn level_behind(
 ) -> Option<usize>
     requires { level < 2 ^ 63 }
     ensures value { (s rest : List ℕ) (e : cover.Element) → IsElement s rest e → Means element.entry e
-        → result ≡ spec.level_behind end_name.now start_name.now nests level e }
+        → result ≡ spec.level_after end_name.now start_name.now nests level e }
     ensures within { IfSome result (λ next. next ≤ level + 1) }
 {
     parts_are_matches();

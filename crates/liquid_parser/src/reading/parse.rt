@@ -63,15 +63,15 @@ fn read_nodes<'a, F: ParseFilter + Drop, T: ParseTag<F> + Drop, B: ParseBlock<F>
     let mut rest = text;
     'elements: loop {
         match fast_expression(alloc, rest, language)? {
-            Walked::Whole((node, behind)) => {
+            Walked::Whole((node, following)) => {
                 state.nodes.push(node)?;
-                rest = behind;
+                rest = following;
             }
             Walked::NoExpression => return Err(no_expression(alloc, text, match_white(rest).1)),
             Walked::Undecided => match next_element(rest) {
-                Some((found, behind)) => {
+                Some((found, following)) => {
                     let element = hand_over(alloc, text, rest, found)?;
-                    rest = advance(alloc, 0, text, &mut state, element, behind, language)?;
+                    rest = advance(alloc, 0, text, &mut state, element, following, language)?;
                 }
                 None => return end_reading::<F, T, B>(alloc, text, state),
             },

@@ -10,10 +10,10 @@ use liquid_grammar::{Fault, FaultKind};
 use std::alloc::Global;
 
 /// Returns the line and column, both from 1, of the place in the source that is followed by this text.
-pub(crate) fn place_in(source: &str, behind: &str) -> Place
-    ensures { result ≡ spec.place_in source.now behind.now }
+pub(crate) fn place_in(source: &str, following: &str) -> Place
+    ensures { result ≡ spec.place_in source.now following.now }
 {
-    let before = source.len().saturating_sub(behind.len());
+    let before = source.len().saturating_sub(following.len());
     let mut line = 1;
     let mut column = 1;
     for byte in &source.as_bytes()[..before] {
@@ -28,20 +28,20 @@ pub(crate) fn place_in(source: &str, behind: &str) -> Place
 }
 
 /// Returns the text between a place and a later place.
-pub(crate) fn slice_between<'a>(place: &'a str, behind: &str) -> &'a str
-    ensures { (text : List ℕ) → place.now ≡ text ++ behind.now → result.now ≡ text }
+pub(crate) fn slice_between<'a>(place: &'a str, following: &str) -> &'a str
+    ensures { (text : List ℕ) → place.now ≡ text ++ following.now → result.now ≡ text }
 {
-    match place.split_at_checked(place.len().saturating_sub(behind.len())) {
+    match place.split_at_checked(place.len().saturating_sub(following.len())) {
         Some((text, _)) => text,
         None => place,
     }
 }
 
 /// Returns an error with this message about the place that is followed by this text.
-pub(crate) fn refused_at(alloc: Global, source: &str, message: &str, behind: &str) -> Error
-    ensures { IfSome (told result) (λ r. r ≡ refused_at source.now message.now behind.now) }
+pub(crate) fn refused_at(alloc: Global, source: &str, message: &str, following: &str) -> Error
+    ensures { IfSome (told result) (λ r. r ≡ refused_at source.now message.now following.now) }
 {
-    Error::at_place(alloc, message, place_in(source, behind))
+    Error::at_place(alloc, message, place_in(source, following))
 }
 
 /// Fails with the first fault of literals and brackets, if there is one.

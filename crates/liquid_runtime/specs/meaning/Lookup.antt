@@ -6,7 +6,7 @@ use Rattle.liquid_value.specs.meaning.Tree.{Tree, nil}
 use Rattle.liquid_error.specs.meaning.Refusal.{ok_then}
 use Rattle.liquid_runtime.specs.meaning.View.{View}
 use Rattle.liquid_runtime.specs.meaning.NamesSeen.{lookup, comes_from_seal}
-use Rattle.liquid_paths.specs.meaning.Walk.{Path, walk, find_behind}
+use Rattle.liquid_paths.specs.meaning.Walk.{Path, walk, find_after}
 
 -- the value of a path, if it has one
 abbrev pub try_path : {Reg : Type 0} → View Reg → Path → Option Tree
@@ -28,7 +28,7 @@ abbrev pub strictly_found : {Reg : Type 0} → View Reg → Path → Result Tree
 strictly_found v [] = Err (unknown_variable (codes "nil"))
 strictly_found v (name ∷ path) =
     ok_then (ok_or (lookup v (render_scalar name)) (unknown_variable (render_scalar name)))
-    (λ t. sealed_answer (comes_from_seal v (render_scalar name)) (render_scalar name) (find_behind (name ∷ []) t path))
+    (λ t. sealed_answer (comes_from_seal v (render_scalar name)) (render_scalar name) (find_after (name ∷ []) t path))
 
 -- if the view is lenient, nil in place of the refusal
 abbrev pub or_nil : Bool → Result Tree Refusal → Result Tree Refusal

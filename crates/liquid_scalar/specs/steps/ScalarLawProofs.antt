@@ -29,9 +29,9 @@ pub moved_before : (d : CivilDate) (dt : DateTime) → int_cmp (instant_on d dt)
 unfolding instant unix_seconds
 moved_before d dt = cmp_by_day (epoch_day d) (day_number dt) (pos (second_of_day dt)) (offset_seconds dt) (pos (nanosecond dt))
 
-pub moved_behind : (d : CivilDate) (dt : DateTime) → int_cmp (instant dt) (instant_on d dt) ≡ int_cmp (day_number dt) (epoch_day d)
+pub moved_after : (d : CivilDate) (dt : DateTime) → int_cmp (instant dt) (instant_on d dt) ≡ int_cmp (day_number dt) (epoch_day d)
 unfolding instant unix_seconds
-moved_behind d dt = cmp_by_day (day_number dt) (epoch_day d) (pos (second_of_day dt)) (offset_seconds dt) (pos (nanosecond dt))
+moved_after d dt = cmp_by_day (day_number dt) (epoch_day d) (pos (second_of_day dt)) (offset_seconds dt) (pos (nanosecond dt))
 
 pub same_refl : (a : Scal) → same_scalar a a ≡ true
 same_refl (integer a) = int_eq_equiv.refl a
@@ -245,7 +245,7 @@ equal_is_loose (date a) (date_time b) h = ap is_eq (sym (moved_before a b)) ∙ 
 equal_is_loose (date_time a) (integer b) h = cc
 equal_is_loose (date_time a) (boolean b) h = cc
 equal_is_loose (date_time a) (text b) h = cc
-equal_is_loose (date_time a) (date b) h = ap is_eq (sym (moved_behind b a)) ∙ cc
+equal_is_loose (date_time a) (date b) h = ap is_eq (sym (moved_after b a)) ∙ cc
 
 -- strictly equal scalars are loosely equal
 pub same_is_loose : (a b : Scal) → same_scalar a b ≡ true → scalar_eq a b ≡ true

@@ -38,7 +38,7 @@ impl<T: AsStr> ScalarOf<T> {
     /// Scalars of one kind are compared by their order: false is below true, texts are compared by bytes, and date
     /// times by their instant. A date is compared with a date time as if it were that date time, moved to the date.
     /// Other scalars have no order.
-    #[tactic(auto, using(crate::specs::steps::ScalarLawProofs::moved_before, crate::specs::steps::ScalarLawProofs::moved_behind))]
+    #[tactic(auto, using(crate::specs::steps::ScalarLawProofs::moved_before, crate::specs::steps::ScalarLawProofs::moved_after))]
     pub fn scalar_cmp<U: AsStr>(&self, other: &ScalarOf<U>) -> Option<Ordering>
         ensures { result ≡ scalar_cmp (scal T.text self.now) (scal U.text other.now) }
     {

@@ -132,7 +132,7 @@ divided_on p name ts =
 
 -- `else` is the last divider
 abbrev pub divided : StdPlanShape → List ℕ → Tokens → Result StdPlanShape Refusal
-divided p name ts = cond p.is_closed (Err (located (codes "Divider after else") ts.behind)) (divided_on p name ts)
+divided p name ts = cond p.is_closed (Err (located (codes "Divider after else") ts.following)) (divided_on p name ts)
 
 -- `raw` is the text of its body
 abbrev pub finished_escaped : StdBlockShape → List ℕ → Result StdBlockShape Refusal

@@ -20,7 +20,7 @@ use Rattle.liquid_tags.specs.declared.blocks.ProgressShape.TheVariants.{Once, Lo
 use Rattle.liquid_tags.specs.meaning.Blocks.{begins_as, block_nodes, block_starts, block_takes, in_loop, over_items}
 use Rattle.liquid_tags.specs.meaning.Conditions.{chosen, compares, holds, is_truthy}
 use Rattle.liquid_plugins.proofs.Hiding.{answers_hide, evaluate_hidden, try_hidden}
-use Rattle.liquid_tags.specs.meaning.Loops.{behind, is_left, item_turn, loop_takes, rested}
+use Rattle.liquid_tags.specs.meaning.Loops.{following, is_left, item_turn, loop_takes, rested}
 use Rattle.liquid_tags.specs.meaning.Series.{items_between, items_in, items_of, whole_number}
 use Rattle.liquid_plugins.specs.meaning.Turning.{answers}
 
@@ -57,7 +57,7 @@ module _ {Reg : Type 0} where
 
   loop_hides : (name : List ℕ) (r : RoundsShape) (g : Names) (v : View Reg) → loop_takes name r (hiding g v) ≡ overlaid g (loop_takes name r (hiding empty v))
   loop_hides name r g v =
-      answers_hide (Ok (cond (is_left r.place v.interrupt) end_turn (item_turn name r.place r.size (slice_get r.left 0)))) (behind r) (rested r.place) (rested_keeps r.place) g v
+      answers_hide (Ok (cond (is_left r.place v.interrupt) end_turn (item_turn name r.place r.size (slice_get r.left 0)))) (following r) (rested r.place) (rested_keeps r.place) g v
 
   block_turn_hides : (n : BlockShape) (p : ProgressShape) → HidesGlobals {Reg = Reg} (block_takes n p)
   block_turn_hides (shape.Raw slice) p g v = answers_hide (Ok (text_turn slice)) p (λ w. w) (λ h w. refl) g v

@@ -74,7 +74,7 @@ divided_on p name ts =
 
 -- `else` is the last divider
 abbrev pub divided : PlanShape → List ℕ → Tokens → Result PlanShape Refusal
-divided p name ts = cond p.is_closed (Err (located (codes "Divider after else") ts.behind)) (divided_on p name ts)
+divided p name ts = cond p.is_closed (Err (located (codes "Divider after else") ts.following)) (divided_on p name ts)
 
 -- `raw` is the text of its body, and the others are as planned
 abbrev pub finished : PlanShape → Body → Result BlockShape Refusal

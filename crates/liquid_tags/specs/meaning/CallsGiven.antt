@@ -19,16 +19,16 @@ expect_colon = expect_str (codes ":")
 abbrev pub colon : Token → Result (Unit {0}) Refusal
 colon t = or_unexpected t (expect_colon t)
 
-abbrev pub missing_behind : {A : Type 0} → Token → Result A Refusal
-missing_behind t = Err (located token_expected t.behind)
+abbrev pub missing_after : {A : Type 0} → Token → Result A Refusal
+missing_after t = Err (located token_expected t.following)
 
 -- the pairs that tokens make; the first one that doesn't fit, or is missing, is refused
 abbrev pub pairs_given : List Token → Result (List Pair) Refusal
 pairs_given [] = Ok []
-pairs_given (c ∷ []) = ok_then (comma c) (λ u. missing_behind c)
-pairs_given (c ∷ n ∷ []) = ok_then (comma c) (λ u. ok_then (or_unexpected n (expect_identifier n)) (λ name. missing_behind n))
+pairs_given (c ∷ []) = ok_then (comma c) (λ u. missing_after c)
+pairs_given (c ∷ n ∷ []) = ok_then (comma c) (λ u. ok_then (or_unexpected n (expect_identifier n)) (λ name. missing_after n))
 pairs_given (c ∷ n ∷ d ∷ []) =
-    ok_then (comma c) (λ u. ok_then (or_unexpected n (expect_identifier n)) (λ name. ok_then (colon d) (λ w. missing_behind d)))
+    ok_then (comma c) (λ u. ok_then (or_unexpected n (expect_identifier n)) (λ name. ok_then (colon d) (λ w. missing_after d)))
 pairs_given (c ∷ n ∷ d ∷ e ∷ more) =
     ok_then (comma c) (λ u. ok_then (or_unexpected n (expect_identifier n)) (λ name. ok_then (colon d) (λ w.
     ok_then (or_unexpected e (expect_value e)) (λ value. ok_then (pairs_given more) (λ pairs. Ok ((name, value) ∷ pairs))))))

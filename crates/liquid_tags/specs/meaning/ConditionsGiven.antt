@@ -21,12 +21,12 @@ comparison_of text =
     (cond (bytes_eq text (codes ">=")) (Some comparison.AtLeast) None))))))
 
 -- after the first value no token, or a comparison and a second value
-abbrev pub behind_value : ExpressionShape → List Token → Result ConditionShape Refusal
-behind_value e [] = Ok (Holds e)
-behind_value e (t ∷ more) =
+abbrev pub following_value : ExpressionShape → List Token → Result ConditionShape Refusal
+following_value e [] = Ok (Holds e)
+following_value e (t ∷ more) =
     ok_then (or_unexpected t (comparison_of t.text)) (λ op.
-    ok_then (next_as expect_value (record { behind = t.behind; left = more })) (λ value. alone (Compares e op value.0) value.1))
+    ok_then (next_as expect_value (record { following = t.following; left = more })) (λ value. alone (Compares e op value.0) value.1))
 
 -- the condition that tokens make
 abbrev pub condition_given : Tokens → Result ConditionShape Refusal
-condition_given ts = ok_then (next_as expect_value ts) (λ value. behind_value value.0 value.1.left)
+condition_given ts = ok_then (next_as expect_value ts) (λ value. following_value value.0 value.1.left)

@@ -76,7 +76,7 @@ impl Items {
     /// Removes the first one and returns it, if there is one.
     pub(crate) fn take_first(&mut self) -> Result<Option<Value>, AllocError>
         ensures first { IfOk result (λ item. option_map tree_of item ≡ slice_get (items_left self.old) 0) }
-        ensures behind { OnOk result (items_left self.new ≡ drop 1 (items_left self.old)) }
+        ensures rest { OnOk result (items_left self.new ≡ drop 1 (items_left self.old)) }
     {
         match self {
             Items::Listed(listed) => listed.take_first(),
@@ -117,7 +117,7 @@ impl Listed {
     fn take_first(&mut self) -> Result<Option<Value>, AllocError>
         ensures first { IfOk result (λ item. option_map tree_of item
             ≡ slice_get (drop self.old.place (trees (array_view self.old.array))) 0) }
-        ensures behind { OnOk result (drop self.new.place (trees (array_view self.new.array))
+        ensures rest { OnOk result (drop self.new.place (trees (array_view self.new.array))
             ≡ drop 1 (drop self.old.place (trees (array_view self.old.array)))) }
     {
         match self.array.as_array().get(self.place) {
@@ -152,7 +152,7 @@ impl Numbers {
     fn take_first(&mut self) -> Result<Option<i64>, AllocError>
         ensures first { IfOk result (λ number. option_map (λ n. scalar (integer n)) number
             ≡ slice_get (counted self.old.next self.old.size) 0) }
-        ensures behind { OnOk result (counted self.new.next self.new.size ≡ drop 1 (counted self.old.next self.old.size)) }
+        ensures rest { OnOk result (counted self.new.next self.new.size ≡ drop 1 (counted self.old.next self.old.size)) }
     {
         let number = self.next;
         match self.size.checked_sub(1) {
@@ -161,10 +161,10 @@ impl Numbers {
                 self.size = 0;
                 Ok(Some(number))
             }
-            Some(behind) => match number.checked_add(1) {
+            Some(rest) => match number.checked_add(1) {
                 Some(following) => {
                     self.next = following;
-                    self.size = behind;
+                    self.size = rest;
                     Ok(Some(number))
                 }
                 None => Err(AllocError),

@@ -5,7 +5,7 @@ ghost use Rattle.liquid_value.specs.meaning.View.{view as tree_of};
 ghost use Rattle.liquid_runtime.specs.meaning.Maps.{names_of};
 ghost use Rattle.liquid_runtime.specs.meaning.Written.{SameFrames};
 ghost use Rattle.liquid_plugins.specs.meaning.TurnOf.{turn_of, Leaves, LeavesProgress};
-ghost use Rattle.liquid_tags.specs.meaning.Loops.{behind, forloop, item_turn, loop_takes, names_of_item, rounds_of};
+ghost use Rattle.liquid_tags.specs.meaning.Loops.{following, forloop, item_turn, loop_takes, names_of_item, rounds_of};
 
 use crate::for_block::kept::Kept;
 use crate::for_block::reuse::{Written, write_over};
@@ -48,7 +48,7 @@ pub(crate) fn loop_turn<R: Runtime>(
 /// Removes the next item and returns it, if there is one.
 fn next_item(rounds: &mut Rounds) -> Result<Option<Value>, AllocError>
     ensures item { IfOk result (λ item. option_map tree_of item ≡ slice_get (rounds_of rounds.old).left 0) }
-    ensures behind { OnOk result (rounds_of rounds.new ≡ behind (rounds_of rounds.old)) }
+    ensures following { OnOk result (rounds_of rounds.new ≡ following (rounds_of rounds.old)) }
 {
     match rounds.place.checked_add(1) {
         Some(place) => {

@@ -5,7 +5,7 @@ ghost use Rattle.liquid_plugins.specs.meaning.ExpressionOf.{expression_of};
 ghost use Rattle.liquid_parser.specs.meaning.Handed.{Tokens};
 ghost use Rattle.liquid_parser.specs.meaning.Plugins.{AreTokens};
 ghost use Rattle.liquid_tags.specs.meaning.Conditions.{condition_of};
-ghost use Rattle.liquid_tags.specs.meaning.ConditionsGiven.{behind_value, comparison_of, condition_given};
+ghost use Rattle.liquid_tags.specs.meaning.ConditionsGiven.{following_value, comparison_of, condition_given};
 
 use crate::asked::{TOKEN_EXPECTED, alone};
 use crate::if_block::condition::{Comparison, Condition};
@@ -18,16 +18,16 @@ pub(crate) fn read_condition(alloc: Global, tokens: TagTokenIter<'_>) -> Result<
 {
     let mut tokens = tokens;
     let left = tokens.next_value(alloc, TOKEN_EXPECTED)?;
-    behind_value(alloc, left, tokens)
+    following_value(alloc, left, tokens)
 }
 
 /// Returns the condition that begins with this value.
-fn behind_value(
+fn following_value(
     alloc: Global,
     left: Expression,
     tokens: TagTokenIter<'_>,
 ) -> Result<Condition, Error>
-    ensures { (ts : Tokens) → AreTokens tokens.entry ts → Gives condition_of result (behind_value (expression_of left) ts.left) }
+    ensures { (ts : Tokens) → AreTokens tokens.entry ts → Gives condition_of result (following_value (expression_of left) ts.left) }
 {
     let mut tokens = tokens;
     match tokens.next() {

@@ -7,4 +7,4 @@ use Rattle.liquid_template.specs.meaning.Sunk.{Sunk}
 pub record Grows (before after : Sunk) : Type 0 where
   pub more : List ℕ
   pub taken_is : after.taken ≡ before.taken ++ more
-  pub behind_is : Appends before.behind after.behind more
+  pub destination_is : Appends before.destination after.destination more

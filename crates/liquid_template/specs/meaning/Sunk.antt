@@ -6,11 +6,11 @@ use Rattle.std.specs.Prelude.{ℕ, List, [], ◌∷◌, Option, None}
 pub record Sunk : Type 0 where
   pub taken : List ℕ
   pub failures : ℕ
-  pub behind : Option (List ℕ)
+  pub destination : Option (List ℕ)
   pub lent : List ℕ
 
 abbrev pub sunk : List ℕ → ℕ → Option (List ℕ) → List ℕ → Sunk
-sunk taken failures behind lent = record { taken = taken; failures = failures; behind = behind; lent = lent }
+sunk taken failures destination lent = record { taken = taken; failures = failures; destination = destination; lent = lent }
 
 -- a sink for which the bytes in its destination aren't known, and which borrows nothing
 abbrev pub alone : List ℕ → ℕ → Sunk

@@ -31,7 +31,7 @@ pub record TurnAsked (before after : Output) (answer : Bool) : Type 0 where
 abbrev pub target_of : Output → Option (List ℕ) → Output
 target_of output None = output
 target_of output (Some text) = record {
-  sunk = record { taken = text; failures = output.sunk.failures; behind = None; lent = output.sunk.lent };
+  sunk = record { taken = text; failures = output.sunk.failures; destination = None; lent = output.sunk.lent };
   turns = output.turns;
   bytes = None;
 }

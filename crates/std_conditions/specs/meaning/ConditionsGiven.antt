@@ -42,7 +42,7 @@ abbrev mutual
   pub after_value : ExpressionShape → List Token → Result ConditionShape Refusal
   after_value e [] = Ok (of_test (Holds e))
   after_value e (t ∷ ts) =
-      elim (operator_of t.text) [ None ↦ joined_by (Holds e) t (from_value t.behind ts) | Some op ↦ from_second e op t.behind ts ]
+      elim (operator_of t.text) [ None ↦ joined_by (Holds e) t (from_value t.following ts) | Some op ↦ from_second e op t.following ts ]
 
   pub from_second : ExpressionShape → Operator → Place → List Token → Result ConditionShape Refusal
   from_second e op place [] = Err (located token_expected place)
@@ -50,8 +50,8 @@ abbrev mutual
 
   pub after_test : TestShape → List Token → Result ConditionShape Refusal
   after_test test [] = Ok (of_test test)
-  after_test test (t ∷ ts) = joined_by test t (from_value t.behind ts)
+  after_test test (t ∷ ts) = joined_by test t (from_value t.following ts)
 
 -- the condition that all tokens make
 abbrev pub condition_given : Tokens → Result ConditionShape Refusal
-condition_given ts = from_value ts.behind ts.left
+condition_given ts = from_value ts.following ts.left

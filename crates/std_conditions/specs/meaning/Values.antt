@@ -27,8 +27,8 @@ abbrev mutual
 
   pub values_after : List (List ℕ) → List Token → Result (List ExpressionShape) Refusal
   values_after separators [] = Ok []
-  values_after separators (t ∷ ts) = ok_then (or_unexpected t (expect_one_of separators t)) (λ u. values_from separators t.behind ts)
+  values_after separators (t ∷ ts) = ok_then (or_unexpected t (expect_one_of separators t)) (λ u. values_from separators t.following ts)
 
 -- the values that all tokens make
 abbrev pub values_given : List (List ℕ) → Tokens → Result (List ExpressionShape) Refusal
-values_given separators ts = values_from separators ts.behind ts.left
+values_given separators ts = values_from separators ts.following ts.left

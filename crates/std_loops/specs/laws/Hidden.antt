@@ -14,7 +14,7 @@ use Rattle.liquid_plugins.proofs.Hiding.{answers_hide, evaluate_hidden}
 use Rattle.liquid_tags.specs.declared.for_block.rounds.RoundsShape.{RoundsShape}
 use Rattle.liquid_tags.specs.declared.for_block.series.SeriesShape.{SeriesShape}
 use Rattle.liquid_tags.specs.declared.for_block.series.SeriesShape.TheVariants.{Of, Between}
-use Rattle.liquid_tags.specs.meaning.Loops.{behind, is_left, item_turn, loop_takes, rested}
+use Rattle.liquid_tags.specs.meaning.Loops.{following, is_left, item_turn, loop_takes, rested}
 use Rattle.liquid_tags.specs.meaning.Series.{items_between, items_in, items_of, whole_number}
 use Rattle.std_loops.specs.declared.loops.LoopShape.{LoopShape}
 use Rattle.std_loops.specs.meaning.Loops.{picked_items}
@@ -69,7 +69,7 @@ module _ {Reg : Type 0} where
 
   pub loop_hides : (name : List ℕ) (r : RoundsShape) (g : Names) (v : View Reg) → loop_takes name r (hiding g v) ≡ overlaid g (loop_takes name r (hiding empty v))
   loop_hides name r g v =
-      answers_hide (Ok (cond (is_left r.place v.interrupt) end_turn (item_turn name r.place r.size (slice_get r.left 0)))) (behind r) (rested r.place) (rested_keeps r.place) g v
+      answers_hide (Ok (cond (is_left r.place v.interrupt) end_turn (item_turn name r.place r.size (slice_get r.left 0)))) (following r) (rested r.place) (rested_keeps r.place) g v
 
   stage_hides : (s : Stage) (name : List ℕ) (t : TableShape) (g : Names) (v : View Reg) → stage_takes s name t (hiding g v) ≡ overlaid g (stage_takes s name t (hiding empty v))
   stage_hides Text name t g v =

@@ -43,9 +43,9 @@ abbrev mutual
   options_from block o (t ∷ ts) = elim (option_named block o t.text) as (λ _. Result OptionsShape Refusal) [
     | None ↦ Err (unexpected t)
     | Some option ↦ elim option as (λ _. Result OptionsShape Refusal) [
-      | Offset ↦ from_colon block Offset o t.behind ts
-      | Limit ↦ from_colon block Limit o t.behind ts
-      | Cols ↦ from_colon block Cols o t.behind ts
+      | Offset ↦ from_colon block Offset o t.following ts
+      | Limit ↦ from_colon block Limit o t.following ts
+      | Cols ↦ from_colon block Cols o t.following ts
       | Reversed ↦ options_from block (record o { is_reversed = true }) ts
     ]
   ]
@@ -53,7 +53,7 @@ abbrev mutual
   pub from_colon : LoopBlock → LoopOption → OptionsShape → Place → List Token → Result OptionsShape Refusal
   from_colon block option o place [] = Err (located token_expected place)
   from_colon block option o place (t ∷ ts) =
-      ok_then (or_unexpected t (expect_str (codes ":") t)) (λ u. from_argument block option o t.behind ts)
+      ok_then (or_unexpected t (expect_str (codes ":") t)) (λ u. from_argument block option o t.following ts)
 
   pub from_argument : LoopBlock → LoopOption → OptionsShape → Place → List Token → Result OptionsShape Refusal
   from_argument block option o place [] = Err (located token_expected place)

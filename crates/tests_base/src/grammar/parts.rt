@@ -139,7 +139,7 @@ fn chains_go_on_or_end(_rt: HostRuntime) -> Result<(), Fail> {
 }
 
 #[test]
-fn tokens_stand_behind_white_space(_rt: HostRuntime) -> Result<(), Fail> {
+fn tokens_stand_after_white_space(_rt: HostRuntime) -> Result<(), Fail> {
     let Some(range) = next_token(" (1..a) b") else {
         return Err(Fail::from("no token"));
     };

@@ -20,7 +20,7 @@ const LONG_FIRST: &str = r#"["<=", ["<=", ">=", "==", "!=", "<>", "<", ">", "=",
 [",", ["<=", ">=", "==", "!=", "<>", "<", ">", "=", ",", ":"]]
 [":", ["<=", ">=", "==", "!=", "<>", "<", ">", "=", ",", ":"]]"#;
 
-fn is_behind_symbol(alloc: Global, first: &str, second: &str, rest: &str) -> Result<bool, Fail> {
+fn is_after_symbol(alloc: Global, first: &str, second: &str, rest: &str) -> Result<bool, Fail> {
     let mut text = String::from_str(alloc, first)?;
     text.push_str(second)?;
     leaves("token", text.as_str(), Some(rest))
@@ -43,7 +43,7 @@ fn is_short(alloc: Global, row: &Line) -> Result<bool, Fail> {
     let first = row.text(0)?;
     for pair in row.list(1)? {
         let (second, rest) = (text_at(pair, 0)?, text_at(pair, 1)?);
-        if !is_behind_symbol(alloc, first, second, rest)? {
+        if !is_after_symbol(alloc, first, second, rest)? {
             return Ok(false);
         }
     }
@@ -57,7 +57,7 @@ fn is_whole(alloc: Global, row: &Line) -> Result<bool, Fail> {
         let Some(second) = symbol.as_str() else {
             return Err(Fail::from("a symbol is no text"));
         };
-        if !is_behind_symbol(alloc, first, second, second)? {
+        if !is_after_symbol(alloc, first, second, second)? {
             return Ok(false);
         }
     }

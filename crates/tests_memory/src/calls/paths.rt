@@ -1,7 +1,7 @@
 //! Calls of paths.
 use crate::calls::answers::{Answer, Answered};
 use crate::calls::given::Given;
-use liquid_core::model::{Path, ScalarCow, find, find_behind, step, try_find};
+use liquid_core::model::{Path, ScalarCow, find, find_after, step, try_find};
 use std::alloc::Global;
 
 /// Returns the result of each call of paths.
@@ -13,7 +13,7 @@ pub fn wanted(word: &str) -> &'static str {
         "step" | "try_find" => "3",
         "find" =>
             "liquid: Unknown index\n  with:\n    variable=2\n    requested index=x\n    available indexes=k\n",
-        "find_behind" =>
+        "find_after" =>
             "liquid: Unknown index\n  with:\n    variable=l\n    requested index=x\n    available indexes=0..2, first, last\n",
         _ => "",
     }
@@ -48,7 +48,7 @@ fn of_walks<'g>(alloc: Global, word: &str, given: &'g Given) -> Answered<'g> {
         "step" => step(alloc, &given.value, &size)?,
         "try_find" => try_find(alloc, &given.value, &[size])?,
         "find" => Some(find(alloc, &given.value, &[ScalarCow::from(2i64), x])?),
-        _ => Some(find_behind(alloc, 1, &given.value, &[ScalarCow::from("l"), x])?),
+        _ => Some(find_after(alloc, 1, &given.value, &[ScalarCow::from("l"), x])?),
     };
     match found {
         Some(value) => Ok(Answer::Found(value)),
@@ -59,7 +59,7 @@ fn of_walks<'g>(alloc: Global, word: &str, given: &'g Given) -> Answered<'g> {
 /// Makes a call of paths.
 pub fn call<'g>(alloc: Global, word: &str, given: &'g mut Given) -> Answered<'g> {
     match word {
-        "step" | "try_find" | "find" | "find_behind" => of_walks(alloc, word, given),
+        "step" | "try_find" | "find" | "find_after" => of_walks(alloc, word, given),
         _ => of_paths(alloc, word, given),
     }
 }

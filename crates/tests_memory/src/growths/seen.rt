@@ -58,8 +58,8 @@ impl fmt::Display for Seen {
             write!(f, "WRONG: {:?}, and then {:?}; ", self.first, self.next)?;
         }
         match (self.before, self.after) {
-            (Some(count), _) => write!(f, "refused in front of it, behind {count} boxes"),
-            (None, Some(count)) => write!(f, "refused behind it, behind {count} boxes"),
+            (Some(count), _) => write!(f, "refused in front of it, after {count} boxes"),
+            (None, Some(count)) => write!(f, "refused after it, after {count} boxes"),
             (None, None) if self.first == Told::Memory => write!(
                 f,
                 "refused in it, want of memory"

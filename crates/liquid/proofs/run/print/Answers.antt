@@ -7,8 +7,8 @@ use Rattle.liquid.proofs.run.print.Goals as goal
 
 pub returns-clause-prints : goal.returns-clause-prints
 returns-clause-prints g c =
-    Printed-settled _ _ _ _ _ _ _ _ _ c.execute-answer.ensures.executes c.new-sink.ensures.taken c.new-sink.ensures.failures c.new-sink.ensures.behind
-    c.execute-answer.ensures.borrows c.execute-answer.ensures.behind c.into_inner.ensures.behind (search rules) c.settle.ensures.status
+    Printed-settled _ _ _ _ _ _ _ _ _ c.execute-answer.ensures.executes c.new-sink.ensures.taken c.new-sink.ensures.failures c.new-sink.ensures.following
+    c.execute-answer.ensures.borrows c.execute-answer.ensures.following c.into_inner.ensures.following (search rules) c.settle.ensures.status
 
 pub returns-clause-requests : goal.returns-clause-requests
 returns-clause-requests g c = λ all folders known listed.

@@ -1,22 +1,22 @@
 use Rattle.std.proofs.Common.{Option, ap, sym, ◌∙◌, arith, rules, refl}
 use Rattle.liquid_grammar.specs.meaning.Faults.{Fault, first_fault, filter_fault}
 use Rattle.liquid_grammar.specs.meaning.Meanings.{scan, faults_of, Scanned}
-use Rattle.liquid_grammar.specs.steps.TokenSteps.{repeated, behind, filter}
+use Rattle.liquid_grammar.specs.steps.TokenSteps.{repeated, following, filter}
 use Rattle.liquid_grammar.specs.steps.BracketSteps.{adds}
 use Rattle.liquid_grammar.proofs.FlatBrackets.{adds_adds, fault_added, adds_found}
 use Rattle.liquid_grammar.proofs.Scanning.{repeated_scan_more, repeated_scan_end}
-use Rattle.liquid_grammar.proofs.TokenExact.{exact-behind, shrinks-behind, exact-filter}
+use Rattle.liquid_grammar.proofs.TokenExact.{exact-following, shrinks-following, exact-filter}
 use Rattle.liquid_grammar.proofs.filter.filters.Goals as goal
 
 pub filters-preserved : goal.filters-preserved
 filters-preserved c =
     let kept = c.filters.invariant.1 in
     let shorter = c.in-Some.ensures.shorter in
-    let after : Option Scanned = scan (first_fault filter_fault) (repeated (behind 124 filter) c.in-Some.after.now) in (
+    let after : Option Scanned = scan (first_fault filter_fault) (repeated (following 124 filter) c.in-Some.after.now) in (
       search rules,
       record {
         same = kept.same
-            ∙ ap (adds (faults_of c.filters.fault)) (repeated_scan_more (exact-behind 124 exact-filter) (shrinks-behind 124 exact-filter) filter_fault _ _ (faults_of c.in-Some.found) c.in-Some.ensures.value)
+            ∙ ap (adds (faults_of c.filters.fault)) (repeated_scan_more (exact-following 124 exact-filter) (shrinks-following 124 exact-filter) filter_fault _ _ (faults_of c.in-Some.found) c.in-Some.ensures.value)
             ∙ adds_adds (faults_of c.filters.fault) (faults_of c.in-Some.found) after
             ∙ ap (λ (f : Option Fault). adds f after) (fault_added c.filters.fault c.in-Some.found _ _ c.or-fault.ensures refl);
         within = omega (arith, shorter, kept.within);
@@ -26,4 +26,4 @@ filters-preserved c =
 pub returns-clause-value : goal.returns-clause-value
 returns-clause-value c =
     let kept = c.filters.invariant.1 in
-    sym (kept.same ∙ ap (adds (faults_of c.filters.fault)) (repeated_scan_end (behind 124 filter) filter_fault c.filters.rest.now c.in_default.ensures.value) ∙ adds_found _ _)
+    sym (kept.same ∙ ap (adds (faults_of c.filters.fault)) (repeated_scan_end (following 124 filter) filter_fault c.filters.rest.now c.in_default.ensures.value) ∙ adds_found _ _)

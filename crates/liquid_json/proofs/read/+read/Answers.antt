@@ -12,7 +12,7 @@ use Rattle.liquid_value.specs.meaning.View.{view, members_view}
 use Rattle.liquid_value.specs.declared.value.Value.{the_lemmas}
 use Rattle.liquid_value.proofs.Entries.{members_view-insert_entry}
 use Rattle.liquid_value.proofs.Listed.{view-Array}
-use Rattle.liquid_json.proofs.TokensRead.{behind, behind_none, behind_more, none_made, one_more_made, all_made, put_behind, put_behind_none, put_behind_more, none_put, one_more_put, all_put, put_made, whole_given, view_nil, view_scalar, view_object}
+use Rattle.liquid_json.proofs.TokensRead.{following, after_none, after_more, none_made, one_more_made, all_made, put_after, put_after_none, put_after_more, none_put, one_more_put, all_put, put_made, whole_given, view_nil, view_scalar, view_object}
 use Rattle.liquid_json.proofs.read.+read.Goals as goal
 
 pub read_value-returns-in_ok-from_str-in-String-clause-read : goal.read_value-returns-in_ok-from_str-in-String-clause-read
@@ -60,7 +60,7 @@ read_value-returns-in_ok-shared-in-BeginObject-clause-read t c =
 pub read_items-items-init : goal.read_items-items-init
 read_items-items-init t c =
     let all = json.items (value c.args.depth) (length c.args.reader.now) c.args.reader.now in
-    (length c.args.reader.now, omega arith, omega arith, [], rw c.new-values.ensures.items (λ rest ts given. none_made rest ts given), behind_none all)
+    (length c.args.reader.now, omega arith, omega arith, [], rw c.new-values.ensures.items (λ rest ts given. none_made rest ts given), after_none all)
 
 pub read_items-items-preserved : goal.read_items-items-preserved
 read_items-items-preserved t c =
@@ -79,7 +79,7 @@ read_items-items-preserved t c =
       omega (arith, l.invariant.2),
       done ++ found.0 ∷ [],
       rw c.in_ok-push_item.ensures (one_more_made done l.values.items found.0 c.in_ok-value.value l.invariant.4 found.2),
-      l.invariant.5 ∙ ap (parse_map (behind done)) turn ∙ behind_more done found.0 _,
+      l.invariant.5 ∙ ap (parse_map (following done)) turn ∙ after_more done found.0 _,
     )
 
 pub read_items-returns-clause-read : goal.read_items-returns-clause-read
@@ -87,12 +87,12 @@ read_items-returns-clause-read t c =
     let l = c.items in
     let done = l.invariant.3 in
     let over = items_end (value c.args.depth) l.invariant.0 l.reader c.take_end_array.new.self l.invariant.1 (grind arith) in
-    (behind done json.no_items, l.invariant.5 ∙ ap (parse_map (behind done)) over, all_made done l.values.items l.invariant.4)
+    (following done json.no_items, l.invariant.5 ∙ ap (parse_map (following done)) over, all_made done l.values.items l.invariant.4)
 
 pub read_members-members-init : goal.read_members-members-init
 read_members-members-init t c =
     let all = json.members (value c.args.depth) (length c.args.reader.now) c.args.reader.now in
-    (length c.args.reader.now, omega arith, omega arith, [], read.no_members, none_put, rw c.new-object.ensures.empty refl, put_behind_none all)
+    (length c.args.reader.now, omega arith, omega arith, [], read.no_members, none_put, rw c.new-object.ensures.empty refl, put_after_none all)
 
 pub read_members-members-preserved : goal.read_members-members-preserved
 read_members-members-preserved t c =
@@ -120,7 +120,7 @@ read_members-members-preserved t c =
       read.put k d l.invariant.4,
       one_more_put done l.invariant.4 k found.0 d l.invariant.5 found.2.1,
       rw (inserted, copied) (put_made k d (view v) l.invariant.4 (members_view l.object.entries) found.2.2 l.invariant.6),
-      l.invariant.7 ∙ ap (parse_map (put_behind done)) turn ∙ put_behind_more done k found.0 _,
+      l.invariant.7 ∙ ap (parse_map (put_after done)) turn ∙ put_after_more done k found.0 _,
     )
 
 pub read_members-returns-clause-read : goal.read_members-returns-clause-read
@@ -128,4 +128,4 @@ read_members-returns-clause-read t c =
     let l = c.members in
     let done = l.invariant.3 in
     let over = members_end (value c.args.depth) l.invariant.0 l.reader c.next_key.new.self l.invariant.1 (grind arith) in
-    (put_behind done json.no_members, l.invariant.7 ∙ ap (parse_map (put_behind done)) over, all_put done l.invariant.4 (members_view l.object.entries) l.invariant.5 l.invariant.6)
+    (put_after done json.no_members, l.invariant.7 ∙ ap (parse_map (put_after done)) over, all_put done l.invariant.4 (members_view l.object.entries) l.invariant.5 l.invariant.6)

@@ -29,7 +29,7 @@ build_from-returns-in-None-clause-value t c place rest v is closes =
 pub build_index-returns-in-Some-close_bracket-clause-value : goal.build_index-returns-in-Some-close_bracket-clause-value
 build_index-returns-in-Some-close_bracket-clause-value t c place rest i m =
     let b = rw c.in-Bracket.is at m in
-    let h = rw c.in-Some.is at c.in_ok-value-in-Bracket.ensures.value b.behind b.value b.match (λ _. record { rest = rest; shape = b.byte; match = b.closes }) in
+    let h = rw c.in-Some.is at c.in_ok-value-in-Bracket.ensures.value b.following b.value b.match (λ _. record { rest = rest; shape = b.byte; match = b.closes }) in
     let shallow : deep_fault c.args.depth place ≡ None = not_deep c.args.depth place (omega (arith, c.if-depth-ge-BRACKET_LIMIT.false)) in (
       ap (index_fault c.args.depth) b.is ∙ (ap (λ o. option_or o (fault_within (suc c.args.depth) b.value)) shallow ∙ rw add-one at h.0),
       h.1 ∙ sym (ap index_meant b.is),

@@ -27,10 +27,10 @@ returns-in-Err-clause-value g c rest f is here fine =
     let has : option_map g.F.ParseFilter.makes (get c.args.registry.now f.what.0) ≡ Some (g.F.ParseFilter.makes c.in-Some.plug_in.now) =
     subst (λ n. option_map g.F.ParseFilter.makes (get c.args.registry.now n) ≡ Some (g.F.ParseFilter.makes c.in-Some.plug_in.now)) (sym is.name_is) (sym (ap (option_map g.F.ParseFilter.makes) c.in-Some.ensures)) in
     let h = rw c.in-Some-2.is at c.in_ok-arguments.ensures.value rest f.what.1 is.arguments in
-    let stands : c.args.start.place.now ≡ slice_between f.place f.behind ++ c.in-Some-2.rest.now =
-    sym is.place_is ∙ (cut_here f here ∙ ap (λ r. slice_between f.place f.behind ++ r) (is.behind_is ∙ sym h.2)) in
+    let stands : c.args.start.place.now ≡ slice_between f.place f.following ++ c.in-Some-2.rest.now =
+    sym is.place_is ∙ (cut_here f here ∙ ap (λ r. slice_between f.place f.following ++ r) (is.after_is ∙ sym h.2)) in
     made_err (registry_of g.F.ParseFilter.makes c.args.registry.now) c.args.source.now (g.F.ParseFilter.makes c.in-Some.plug_in.now) f _ (told c.in-Err.error) (told c.filter_refused.result) has h.1 c.in-Err.ensures
-    (subst (λ p. Becomes (refusal_of_filter (place_in c.args.source.now p) (slice_between f.place f.behind)) c.in-Err.error c.filter_refused.result) (sym is.place_is) (c.filter_refused.ensures (slice_between f.place f.behind) stands))
+    (subst (λ p. Becomes (refusal_of_filter (place_in c.args.source.now p) (slice_between f.place f.following)) c.in-Err.error c.filter_refused.result) (sym is.place_is) (c.filter_refused.ensures (slice_between f.place f.following) stands))
 
 pub returns-in-None-2-clause-value : goal.returns-in-None-2-clause-value
 returns-in-None-2-clause-value g c rest f is here fine = absurd ((rw c.in-None-2.is at c.in_ok-arguments.ensures.value rest f.what.1 is.arguments) fine)

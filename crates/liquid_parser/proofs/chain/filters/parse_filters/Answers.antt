@@ -24,7 +24,7 @@ filters-preserved g c = (
       let next = left_next (registry_of g.F.ParseFilter.makes c.args.registry.now) c.args.source.now c.filters.rest.now end (map g.F.Filter.Meant.shape c.filters.filters.items) (filters_read (registry_of g.F.ParseFilter.makes c.args.registry.now) c.args.source.now fs) (first_fault filter_fault fs) c.in-Some.start left (c.in-Some.ensures.only end left.filters_left left.match) in
       let h = c.in_ok-filter.ensures.value next.middle next.filter next.found next.here (next.fine fine) in
       let made = next.made_next (next.fine fine) _ h.0 in
-      subst (λ xs. Left (registry_of g.F.ParseFilter.makes c.args.registry.now) c.args.source.now c.in_ok-filter.behind.now end xs (filters_read (registry_of g.F.ParseFilter.makes c.args.registry.now) c.args.source.now fs) (first_fault filter_fault fs))
+      subst (λ xs. Left (registry_of g.F.ParseFilter.makes c.args.registry.now) c.args.source.now c.in_ok-filter.following.now end xs (filters_read (registry_of g.F.ParseFilter.makes c.args.registry.now) c.args.source.now fs) (first_fault filter_fault fs))
       (sym (ap (map g.F.Filter.Meant.shape) c.in_ok-push.ensures.items ∙ map_push g.F.Filter.Meant.shape c.filters.filters.items c.in_ok-filter.filter))
       (subst (λ p. Left (registry_of g.F.ParseFilter.makes c.args.registry.now) c.args.source.now p end (map g.F.Filter.Meant.shape c.filters.filters.items ++ g.F.Filter.Meant.shape c.in_ok-filter.filter ∷ []) (filters_read (registry_of g.F.ParseFilter.makes c.args.registry.now) c.args.source.now fs) (first_fault filter_fault fs)) (sym h.1) made),
 )

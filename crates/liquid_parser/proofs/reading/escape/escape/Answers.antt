@@ -1,6 +1,6 @@
 use Rattle.std.proofs.Common.{sym, ◌∙◌, arith, rules}
 use Rattle.liquid_grammar.proofs.TextLemmas.{IsCharBoundary-before_rest}
-use Rattle.liquid_parser.proofs.EscapeLemmas.{going_next, going_end, going_behind}
+use Rattle.liquid_parser.proofs.EscapeLemmas.{going_next, going_end, going_after}
 use Rattle.liquid_parser.proofs.Slices.{front_ends, front_is}
 use Rattle.liquid_parser.proofs.reading.escape.escape.Goals as goal
 
@@ -8,8 +8,8 @@ pub elements-preserved : goal.elements-preserved
 elements-preserved c =
     let found = c.in-Some.ensures.found in (
       search rules,
-      omega (arith, c.in-Some-level_behind.ensures.within, c.in-Some.ensures.shorter, c.elements.invariant.1),
-      going_next _ _ _ _ _ _ found.0 _ _ c.elements.invariant.2 found.1 (sym (c.in-Some-level_behind.ensures.value _ _ found.0 found.1 found.2)),
+      omega (arith, c.in-Some-level_after.ensures.within, c.in-Some.ensures.shorter, c.elements.invariant.1),
+      going_next _ _ _ _ _ _ found.0 _ _ c.elements.invariant.2 found.1 (sym (c.in-Some-level_after.ensures.value _ _ found.0 found.1 found.2)),
     )
 
 pub split_at-requires : goal.split_at-requires
@@ -23,4 +23,4 @@ returns-in-None-clause-value c es cover =
 pub returns-in-None-clause-within : goal.returns-in-None-clause-within
 returns-in-None-clause-within c =
     let found = c.in-Some.ensures.found in
-    going_behind _ _ _ _ _ _ found.0 _ c.elements.invariant.2 found.1
+    going_after _ _ _ _ _ _ found.0 _ c.elements.invariant.2 found.1

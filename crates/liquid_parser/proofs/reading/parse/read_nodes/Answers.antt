@@ -21,7 +21,7 @@ elements-preserved-in-Whole g c =
     let nodes = shapes_of g.F.Filter.Meant.shape g.T.Node.Meant.shape g.B.Node.Meant.shape c.elements.state.nodes.items in
     let made = rw c.in-Whole.is at c.in_ok-node.ensures.value c.args.text.now in (
       search rules,
-      Goes-on (language_of g.F.ParseFilter.makes g.T.ParseTag.gives g.B.ParseBlock.block c.args.language.now) c.args.text.now _ _ (expression made.chain made.text) blocks nodes (state_view g.F.Filter.Meant.shape g.T.Node.Meant.shape g.B.Node.Meant.shape g.B.Plan.Meant.shape g.B.ParseBlock.block (record c.elements.state { nodes = c.push.new.self })) c.in-Whole.behind.now c.elements.invariant.1 made.stands
+      Goes-on (language_of g.F.ParseFilter.makes g.T.ParseTag.gives g.B.ParseBlock.block c.args.language.now) c.args.text.now _ _ (expression made.chain made.text) blocks nodes (state_view g.F.Filter.Meant.shape g.T.Node.Meant.shape g.B.Node.Meant.shape g.B.Plan.Meant.shape g.B.ParseBlock.block (record c.elements.state { nodes = c.push.new.self })) c.in-Whole.following.now c.elements.invariant.1 made.stands
           (λ es cover. (
             es,
             cover,
@@ -34,9 +34,9 @@ pub elements-preserved : goal.elements-preserved
 elements-preserved g c =
     let goes = c.elements.invariant.1 in
     let found = c.in-Some.ensures.found in
-    let over = c.in_ok-element-in-Some.ensures c.in-Some.behind.now found.0 found.1 found.2 in (
+    let over = c.in_ok-element-in-Some.ensures c.in-Some.following.now found.0 found.1 found.2 in (
       search rules,
-      Goes-on (language_of g.F.ParseFilter.makes g.T.ParseTag.gives g.B.ParseBlock.block c.args.language.now) c.args.text.now _ _ found.0 (blocks_view g.F.Filter.Meant.shape g.T.Node.Meant.shape g.B.Node.Meant.shape g.B.Plan.Meant.shape g.B.ParseBlock.block c.elements.state.open.items) (shapes_of g.F.Filter.Meant.shape g.T.Node.Meant.shape g.B.Node.Meant.shape c.elements.state.nodes.items) (state_view g.F.Filter.Meant.shape g.T.Node.Meant.shape g.B.Node.Meant.shape g.B.Plan.Meant.shape g.B.ParseBlock.block c.advance.new.state) c.in_ok-rest-in-Some.rest.now goes found.1 (λ es cover. c.in_ok-rest-in-Some.ensures.value c.args.text.now c.in-Some.behind.now found.0 over.1 es cover),
+      Goes-on (language_of g.F.ParseFilter.makes g.T.ParseTag.gives g.B.ParseBlock.block c.args.language.now) c.args.text.now _ _ found.0 (blocks_view g.F.Filter.Meant.shape g.T.Node.Meant.shape g.B.Node.Meant.shape g.B.Plan.Meant.shape g.B.ParseBlock.block c.elements.state.open.items) (shapes_of g.F.Filter.Meant.shape g.T.Node.Meant.shape g.B.Node.Meant.shape c.elements.state.nodes.items) (state_view g.F.Filter.Meant.shape g.T.Node.Meant.shape g.B.Node.Meant.shape g.B.Plan.Meant.shape g.B.ParseBlock.block c.advance.new.state) c.in_ok-rest-in-Some.rest.now goes found.1 (λ es cover. c.in_ok-rest-in-Some.ensures.value c.args.text.now c.in-Some.following.now found.0 over.1 es cover),
     )
 
 pub elements-smaller : goal.elements-smaller
@@ -49,15 +49,15 @@ returns-in_err-element-in-Some g c =
     let goes = c.elements.invariant.1 in
     let found = c.in-Some.ensures.found in
     let p = err_from_is_err_and c.from_residual-in_err-element-in-Some.result c.from_residual-in_err-element-in-Some.ensures.1 in
-    rw (p.1, p.2) (unchecked (language_of g.F.ParseFilter.makes g.T.ParseTag.gives g.B.ParseBlock.block c.args.language.now) c.args.text.now _ _ found.0 (blocks_view g.F.Filter.Meant.shape g.T.Node.Meant.shape g.B.Node.Meant.shape g.B.Plan.Meant.shape g.B.ParseBlock.block c.elements.state.open.items) (shapes_of g.F.Filter.Meant.shape g.T.Node.Meant.shape g.B.Node.Meant.shape c.elements.state.nodes.items) _ goes found.1 (c.in_err-element-in-Some.ensures c.in-Some.behind.now found.0 found.1 found.2))
+    rw (p.1, p.2) (unchecked (language_of g.F.ParseFilter.makes g.T.ParseTag.gives g.B.ParseBlock.block c.args.language.now) c.args.text.now _ _ found.0 (blocks_view g.F.Filter.Meant.shape g.T.Node.Meant.shape g.B.Node.Meant.shape g.B.Plan.Meant.shape g.B.ParseBlock.block c.elements.state.open.items) (shapes_of g.F.Filter.Meant.shape g.T.Node.Meant.shape g.B.Node.Meant.shape c.elements.state.nodes.items) _ goes found.1 (c.in_err-element-in-Some.ensures c.in-Some.following.now found.0 found.1 found.2))
 
 pub returns-in_err-rest-in-Some : goal.returns-in_err-rest-in-Some
 returns-in_err-rest-in-Some g c =
     let goes = c.elements.invariant.1 in
     let found = c.in-Some.ensures.found in
-    let over = c.in_ok-element-in-Some.ensures c.in-Some.behind.now found.0 found.1 found.2 in
+    let over = c.in_ok-element-in-Some.ensures c.in-Some.following.now found.0 found.1 found.2 in
     let p = err_from_is_err_and c.from_residual-in_err-rest-in-Some.result c.from_residual-in_err-rest-in-Some.ensures.1 in
-    rw (p.1, p.2) (refused (language_of g.F.ParseFilter.makes g.T.ParseTag.gives g.B.ParseBlock.block c.args.language.now) c.args.text.now _ _ found.0 (blocks_view g.F.Filter.Meant.shape g.T.Node.Meant.shape g.B.Node.Meant.shape g.B.Plan.Meant.shape g.B.ParseBlock.block c.elements.state.open.items) (shapes_of g.F.Filter.Meant.shape g.T.Node.Meant.shape g.B.Node.Meant.shape c.elements.state.nodes.items) _ goes found.1 (λ es cover. c.in_err-rest-in-Some.ensures.value c.args.text.now c.in-Some.behind.now found.0 over.1 es cover))
+    rw (p.1, p.2) (refused (language_of g.F.ParseFilter.makes g.T.ParseTag.gives g.B.ParseBlock.block c.args.language.now) c.args.text.now _ _ found.0 (blocks_view g.F.Filter.Meant.shape g.T.Node.Meant.shape g.B.Node.Meant.shape g.B.Plan.Meant.shape g.B.ParseBlock.block c.elements.state.open.items) (shapes_of g.F.Filter.Meant.shape g.T.Node.Meant.shape g.B.Node.Meant.shape c.elements.state.nodes.items) _ goes found.1 (λ es cover. c.in_err-rest-in-Some.ensures.value c.args.text.now c.in-Some.following.now found.0 over.1 es cover))
 
 pub returns-in-None : goal.returns-in-None
 returns-in-None g c =

@@ -11,11 +11,11 @@ use Rattle.liquid_tags.specs.meaning.Conditions.{condition_of}
 use Rattle.liquid_tags.specs.meaning.ConditionsGiven.{comparison_of}
 use Rattle.liquid_tags.specs.declared.if_block.condition.ConditionShape.TheVariants.{Compares}
 use Rattle.liquid_parser.proofs.StepLemmas.{then_refused}
-use Rattle.liquid_tags.proofs.ConditionLemmas.{nothing_behind, compared, uncompared}
-use Rattle.liquid_tags.proofs.if_block.read_condition.behind_value.Goals as goal
+use Rattle.liquid_tags.proofs.ConditionLemmas.{nothing_after, compared, uncompared}
+use Rattle.liquid_tags.proofs.if_block.read_condition.following_value.Goals as goal
 
 pub returns-in-None : goal.returns-in-None
-returns-in-None c ts at = nothing_behind (expression_of c.args.left) ts.left (c.in-None.ensures.value ts at).0
+returns-in-None c ts at = nothing_after (expression_of c.args.left) ts.left (c.in-None.ensures.value ts at).0
 
 pub returns-in-None-comparison_of : goal.returns-in-None-comparison_of
 returns-in-None-comparison_of c ts at =
