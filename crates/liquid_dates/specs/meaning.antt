@@ -1,3 +1,4 @@
+pub mod Bytes
 pub mod DateText
 pub mod DirectiveText
 pub mod ErrorText

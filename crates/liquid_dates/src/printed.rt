@@ -1,6 +1,7 @@
 //! The texts that dates and date times print.
 ghost use Rattle.std.specs.Prelude.{◌+◌, ◌<◌, [], ◌∷◌, Some};
 ghost use Rattle.std.specs.Fmt.{WritesOnOk};
+ghost use Rattle.std.specs.Str.{byte};
 ghost use Rattle.jiff_core.specs.Calendar.{IsYear};
 ghost use Rattle.jiff_core.specs.Timestamp.{IsOffsetSeconds};
 ghost use Rattle.liquid_dates.specs.meaning.Printed as Spec;
@@ -177,7 +178,7 @@ fn two_digits<W: fmt::Write>(f: &mut fmt::Formatter<W>, number: u8) -> fmt::Resu
 
 fn digit<W: fmt::Write>(f: &mut fmt::Formatter<W>, digit: u32) -> fmt::Result
     requires { digit < 10 }
-    ensures { WritesOnOk W.write_str_gives f.old result ((48 + digit) ∷ []) f.new }
+    ensures { WritesOnOk W.write_str_gives f.old result ((byte "0" + digit) ∷ []) f.new }
 {
     f.write_char(char::from(b'0' + digit as u8))
 }

@@ -1,5 +1,6 @@
 //! Arguments, filters and chains.
 ghost use Rattle.std.specs.Prelude.{◌≡◌, ℕ, List, ◌<◌, ◌≤◌, length, Some, IfSome, option_map};
+ghost use Rattle.liquid_grammar.specs.meaning.Bytes.{bar, comma};
 ghost use Rattle.liquid_grammar.specs.meaning.Faults.{argument_fault, filter_fault, value_fault, chain_fault, first_fault};
 ghost use Rattle.liquid_grammar.specs.meaning.KindMeanings.{FindsKind, FindsValueKind};
 ghost use Rattle.liquid_grammar.specs.meaning.Meanings.{Scans};
@@ -72,7 +73,7 @@ fn begins_filter(s: &str) -> bool
 
 /// Matches all filters, each after `|`. Returns their first fault and what follows them.
 fn filters<'a>(s: &'a str) -> (Option<Fault<'a>>, &'a str)
-    ensures value { Scans (first_fault filter_fault) (Some result) (read.repeated (read.following 124 read.filter) s.now) }
+    ensures value { Scans (first_fault filter_fault) (Some result) (read.repeated (read.following bar read.filter) s.now) }
     ensures shorter { length result.1.now ≤ length s.now }
 {
     let mut fault = None;
@@ -85,7 +86,7 @@ fn filters<'a>(s: &'a str) -> (Option<Fault<'a>>, &'a str)
 }
 
 fn next_filter<'a>(s: &'a str) -> Option<(Option<Fault<'a>>, &'a str)>
-    ensures value { Scans filter_fault result (read.following 124 read.filter s.now) }
+    ensures value { Scans filter_fault result (read.following bar read.filter s.now) }
     ensures shorter { IfSome result (λ x. length x.1.now < length s.now) }
 {
     filter(following(s, b'|')?)
@@ -115,7 +116,7 @@ fn arguments<'a>(s: &'a str) -> Option<(Option<Fault<'a>>, &'a str)>
 
 /// Matches all further arguments, each after a comma. Returns their first fault and what follows them.
 fn more_arguments<'a>(s: &'a str) -> (Option<Fault<'a>>, &'a str)
-    ensures value { Scans (first_fault argument_fault) (Some result) (read.repeated (read.following 44 read.argument) s.now) }
+    ensures value { Scans (first_fault argument_fault) (Some result) (read.repeated (read.following comma read.argument) s.now) }
     ensures shorter { length result.1.now ≤ length s.now }
 {
     let mut fault = None;
@@ -128,7 +129,7 @@ fn more_arguments<'a>(s: &'a str) -> (Option<Fault<'a>>, &'a str)
 }
 
 fn next_argument<'a>(s: &'a str) -> Option<(Option<Fault<'a>>, &'a str)>
-    ensures value { Scans argument_fault result (read.following 44 read.argument s.now) }
+    ensures value { Scans argument_fault result (read.following comma read.argument s.now) }
     ensures shorter { IfSome result (λ x. length x.1.now < length s.now) }
 {
     argument(following(s, b',')?)

@@ -1,6 +1,7 @@
 //! The parts of a matched text, returned from left to right, so that a builder walks the text once.
 ghost use Rattle.std.specs.Prelude.{◌≡◌, ℕ, false, List, ◌<◌, ◌++◌, length, IfSome, MatchOption};
 ghost use Rattle.liquid_grammar.specs.meaning.Rules.{Begins, Repeated, ◌▷◌};
+ghost use Rattle.liquid_grammar.specs.meaning.Bytes.{bar, colon};
 ghost use Rattle.liquid_grammar.specs.meaning.Grammar.{White};
 ghost use Rattle.liquid_grammar.specs.meaning.Values.{Value, Index, CloseBracket, ValueRule, IndexRule};
 ghost use Rattle.liquid_grammar.specs.meaning.Tokens.{Argument, Filter, Token, Following, FilterRule, TokenRule};
@@ -12,7 +13,7 @@ ghost use Rattle.liquid_grammar.specs.steps.Heads.{HasColon};
 
 use crate::bracket::{self, bracketed};
 use crate::bytes::{begins_index, begins_value, byte_at};
-use crate::filter::{following, chain_and_kind};
+use crate::filter::{chain_and_kind, following};
 use crate::head::{Head, head_of_word, read_head};
 use crate::kind::TokenKind;
 use crate::literal::text_or_number;
@@ -150,9 +151,9 @@ pub fn close_bracket(s: &str) -> Option<&str>
 
 /// Returns the beginning of the next filter of a chain. Returns `None` if no filter is left.
 pub fn next_filter(s: &str) -> Option<FilterStart<'_>>
-    ensures only { (rest : List ℕ) (filters : List Filter) → Repeated (Following 124 FilterRule) s.now rest filters
+    ensures only { (rest : List ℕ) (filters : List Filter) → Repeated (Following bar FilterRule) s.now rest filters
         → MatchOption result (NoneLeft s.now rest filters)
-        (λ f. First (IsFilter f) (Repeated (Following 124 FilterRule)) rest filters) }
+        (λ f. First (IsFilter f) (Repeated (Following bar FilterRule)) rest filters) }
     ensures shorter { IfSome result (λ f. length f.rest.now < length s.now) }
 {
     let place = following(s, b'|')?;
@@ -165,7 +166,7 @@ pub fn next_filter(s: &str) -> Option<FilterStart<'_>>
 ///
 /// The white space before both is walked once.
 pub fn chain_step(s: &str) -> Option<ChainStep<'_>>
-    ensures only { (rest : List ℕ) (filters : List Filter) → Repeated (Following 124 FilterRule) s.now rest filters
+    ensures only { (rest : List ℕ) (filters : List Filter) → Repeated (Following bar FilterRule) s.now rest filters
         → MatchOption result (Unclosed s.now rest filters) (λ step. IsStep s.now step rest filters) }
     ensures shorter { IfSome result (λ step. length (step_rest step) < length s.now) }
 {
@@ -225,7 +226,7 @@ fn separator(is_first: bool) -> u8
 
 /// Returns how the value after a colon begins, and what follows that.
 fn head_after_colon(s: &str) -> Option<(Head<'_>, &str)>
-    ensures value { MatchOption result (¬ (Begins (Following 58 ValueRule) s.now)) (λ p. HasColon s.now p.0 p.1.now) }
+    ensures value { MatchOption result (¬ (Begins (Following colon ValueRule) s.now)) (λ p. HasColon s.now p.0 p.1.now) }
     ensures shorter { IfSome result (λ p. length p.1.now < length s.now) }
 {
     value_head(following(s, b':')?)

@@ -1,5 +1,6 @@
 //! Raw text.
 ghost use Rattle.std.specs.Prelude.{◌≡◌, ◌-◌, ◌<◌, ◌≤◌, length, IfSome};
+ghost use Rattle.liquid_grammar.specs.meaning.Bytes.{open_brace};
 ghost use Rattle.liquid_grammar.specs.steps.Steps as read;
 ghost use Rattle.liquid_grammar.specs.steps.Steps.{EndsRaw};
 ghost use Rattle.memchr.specs.Find.{IsFirst, Passes, is_byte};
@@ -37,7 +38,7 @@ pub(crate) fn raw_len(s: &str) -> usize
 /// Returns the first `{` at this place or after it.
 fn next_brace(bytes: &[u8], from: usize) -> Option<usize>
     requires { from ≤ length bytes.now }
-    ensures first { IsFirst (Passes (is_byte 123) bytes.now) from (length bytes.now) result }
+    ensures first { IsFirst (Passes (is_byte open_brace) bytes.now) from (length bytes.now) result }
     ensures within { IfSome result (λ brace. brace < length bytes.now) }
 {
     let brace = memchr(b'{', bytes.split_at(from).1)?;

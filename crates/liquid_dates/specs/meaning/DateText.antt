@@ -6,6 +6,7 @@ use Rattle.std.specs.List.{list_all}
 use Rattle.std.specs.Char.{to_ascii_lowercase}
 use Rattle.std.specs.Str.{trim}
 use Rattle.std.specs.Str.Parse.{IsNumeral, without_leading_sign, signed_digits_value}
+use Rattle.std.specs.Str.{byte}
 use Rattle.jiff_core.specs.declared.civil.date.Date.{Date as CivilDate}
 use Rattle.jiff_core.specs.declared.civil.time.Time.{Time as CivilTime}
 use Rattle.liquid_dates.specs.declared.date_time.DateTime.{DateTime}
@@ -13,6 +14,7 @@ use Rattle.liquid_dates.specs.meaning.Instant.{civil_date, civil_time, offset_se
 use Rattle.liquid_dates.specs.meaning.Names.{month_name, short_month_name, short_weekday_name}
 use Rattle.liquid_dates.specs.meaning.Flags.{is_digit, digits_number}
 use Rattle.liquid_dates.specs.meaning.Printed.{two_digits, four_digits}
+use Rattle.liquid_dates.specs.meaning.Bytes.{colon, dash, dot, plus, slash, space}
 
 -- a relation between a text and a value that it writes
 abbrev pub Form : Type 0 → Type 1
@@ -38,7 +40,7 @@ two_below limit n text = (n < limit) × (text ≡ two_digits n)
 -- four digits of a year, which may follow a `-`
 abbrev pub year_texts : ℤ → Texts
 year_texts y text =
-    (n : ℕ) × (n < 10000) × (((text ≡ four_digits n) × (y ≡ pos n)) ⊎ ((text ≡ 45 ∷ four_digits n) × (y ≡ neg_ℤ (pos n))))
+    (n : ℕ) × (n < 10000) × (((text ≡ four_digits n) × (y ≡ pos n)) ⊎ ((text ≡ dash ∷ four_digits n) × (y ≡ neg_ℤ (pos n))))
 
 -- the name of a month
 abbrev pub month_texts : (ℕ → List ℕ) → ℕ → Texts
@@ -50,7 +52,7 @@ weekday_texts w text = (w < 7) × (text ≡ short_weekday_name w)
 
 -- a day of one or two digits
 abbrev pub short_day : ℕ → Texts
-short_day n text = ((n < 10) × (text ≡ (48 + n) ∷ [])) ⊎ two_below 100 n text
+short_day n text = ((n < 10) × (text ≡ (byte "0" + n) ∷ [])) ⊎ two_below 100 n text
 
 -- one to nine digits of a fraction, in nanoseconds
 abbrev pub fraction_texts : ℕ → Texts
@@ -59,20 +61,20 @@ fraction_texts nano text =
 
 -- `YYYY-MM-DD`
 abbrev pub dashed : CivilDate → Texts
-dashed d = joined (year_texts d.year) 45 (joined (two_below 100 d.month) 45 (two_below 100 d.day))
+dashed d = joined (year_texts d.year) dash (joined (two_below 100 d.month) dash (two_below 100 d.day))
 
 -- `DD Month YYYY`
 abbrev pub day_month : (ℕ → List ℕ) → CivilDate → Texts
 day_month name d =
-    joined (two_below 100 d.day) 32 (joined (month_texts name d.month) 32 (year_texts d.year))
+    joined (two_below 100 d.day) space (joined (month_texts name d.month) space (year_texts d.year))
 
 -- `MM/DD/YYYY`
 abbrev pub slashed : CivilDate → Texts
-slashed d = joined (two_below 100 d.month) 47 (joined (two_below 100 d.day) 47 (year_texts d.year))
+slashed d = joined (two_below 100 d.month) slash (joined (two_below 100 d.day) slash (year_texts d.year))
 
 -- `HH:MM:SS`
 abbrev pub clock : CivilTime → Texts
-clock t = joined (two_below 24 t.hour) 58 (joined (two_below 60 t.minute) 58 (two_below 60 t.second))
+clock t = joined (two_below 24 t.hour) colon (joined (two_below 60 t.minute) colon (two_below 60 t.second))
 
 -- the forms of a date
 unfoldable pub dashed_date : Form CivilDate
@@ -101,16 +103,16 @@ SameDate a b = (a.year ≡ b.year) × (a.month ≡ b.month) × (a.day ≡ b.day)
 abbrev pub offset_texts : ℤ → Texts
 offset_texts z text =
     (h : ℕ) × (m : ℕ) × (h < 100) × (m < 60)
-    × (((text ≡ 43 ∷ (two_digits h ++ two_digits m)) × (z ≡ pos (h * 3600 + m * 60)))
-    ⊎ ((text ≡ 45 ∷ (two_digits h ++ two_digits m)) × (z ≡ neg_ℤ (pos (h * 3600 + m * 60)))))
+    × (((text ≡ plus ∷ (two_digits h ++ two_digits m)) × (z ≡ pos (h * 3600 + m * 60)))
+    ⊎ ((text ≡ dash ∷ (two_digits h ++ two_digits m)) × (z ≡ neg_ℤ (pos (h * 3600 + m * 60)))))
 
 -- a text of the date, a space and the clock
 abbrev pub timed : Texts → DateTime → Texts
-timed date dt = joined date 32 (clock (civil_time dt))
+timed date dt = joined date space (clock (civil_time dt))
 
 -- the offset after a space
 abbrev pub at_offset : Texts → DateTime → Texts
-at_offset local dt = joined local 32 (offset_texts (offset_seconds dt))
+at_offset local dt = joined local space (offset_texts (offset_seconds dt))
 
 -- `YYYY-MM-DD HH:MM:SS off`
 unfoldable pub dashed_date_time : Form DateTime
@@ -120,7 +122,7 @@ dashed_date_time text dt =
 -- `YYYY-MM-DD HH:MM:SS.fraction off`
 unfoldable pub fraction_date_time : Form DateTime
 fraction_date_time text dt =
-    at_offset (joined (dashed (civil_date dt)) 32 (joined (clock (civil_time dt)) 46 (fraction_texts (nanosecond dt)))) dt text
+    at_offset (joined (dashed (civil_date dt)) space (joined (clock (civil_time dt)) dot (fraction_texts (nanosecond dt)))) dt text
 
 -- `DD Month YYYY HH:MM:SS off`
 unfoldable pub long_date_time : Form DateTime
@@ -140,13 +142,13 @@ slashed_date_time text dt =
 -- `Mon D HH:MM:SS YYYY`
 abbrev pub month_first : DateTime → Texts
 month_first dt =
-    joined (month_texts short_month_name (civil_date dt).month) 32
-    (joined (short_day (civil_date dt).day) 32 (joined (clock (civil_time dt)) 32 (year_texts (civil_date dt).year)))
+    joined (month_texts short_month_name (civil_date dt).month) space
+    (joined (short_day (civil_date dt).day) space (joined (clock (civil_time dt)) space (year_texts (civil_date dt).year)))
 
 -- `Www Mon D HH:MM:SS YYYY off`, of any weekday
 unfoldable pub weekday_date_time : Form DateTime
 weekday_date_time text dt =
-    (w : ℕ) × at_offset (joined (weekday_texts w) 32 (month_first dt)) dt text × (nanosecond dt ≡ 0)
+    (w : ℕ) × at_offset (joined (weekday_texts w) space (month_first dt)) dt text × (nanosecond dt ≡ 0)
 
 -- the forms that begin with a day, a month or a weekday
 abbrev pub day_forms : Form DateTime
@@ -158,7 +160,7 @@ date_time_forms = first dashed_date_time (first fraction_date_time day_forms)
 -- a sign, `0` or `1`, and three digits
 abbrev pub is_offset_end : List ℕ → Bool
 is_offset_end (a ∷ b ∷ c ∷ d ∷ e ∷ []) =
-    ((a == 43) || (a == 45)) && (((b == 48) || (b == 49)) && (is_digit c && (is_digit d && is_digit e)))
+    ((a == plus) || (a == dash)) && (((b == byte "0") || (b == byte "1")) && (is_digit c && (is_digit d && is_digit e)))
 is_offset_end _ = false
 
 -- the text ends in that way

@@ -1,6 +1,7 @@
 -- What a directive prints for a date time.
 use Rattle.std.specs.Prelude.{ℕ, ◌+◌, ◌-◌, ◌/◌, ◌%◌, ◌^◌, min, nat_lt, if◌then◌else◌, ℤ, pos, unsigned_abs, int_lt, int_rem, List, [], ◌∷◌, ◌++◌, length, replicate, Option, unwrap_or, codes}
 use Rattle.std.specs.Fmt.{decimal}
+use Rattle.std.specs.Str.{byte}
 use Rattle.jiff_core.specs.Date.{weekday_of}
 use Rattle.liquid_dates.specs.declared.date_time.DateTime.{DateTime}
 use Rattle.liquid_dates.specs.declared.flags.Flags.{Flags}
@@ -24,6 +25,7 @@ use Rattle.liquid_dates.specs.meaning.Names.{month_name, short_month_name, weekd
 use Rattle.liquid_dates.specs.meaning.Printed.{sign_of}
 use Rattle.liquid_dates.specs.meaning.Numbers.{number_value, default_width, hour_of_12}
 use Rattle.liquid_dates.specs.meaning.Filling.{filled_number, filled_text, number_filling, text_filler, cased}
+use Rattle.liquid_dates.specs.meaning.Bytes.{colon, dash, percent, slash, space}
 
 -- the width of a number: 0 with the flag `-`, otherwise the one given, otherwise the default, with one more for a sign
 abbrev pub number_width : Flags → Option ℕ → Number → ℤ → ℕ
@@ -63,9 +65,9 @@ name_of case ShortWeekday dt = cased case (short_weekday_name (weekday_of (civil
 name_of case WholeWeekday dt = cased case (weekday_name (weekday_of (civil_date dt)))
 name_of case UpperHalf dt = upper_half_as case (civil_time dt).hour
 name_of case LowerHalf dt = lower_half_as case (civil_time dt).hour
-name_of case LineFeed dt = 10 ∷ []
-name_of case Tab dt = 9 ∷ []
-name_of case Percent dt = 37 ∷ []
+name_of case LineFeed dt = byte "\n" ∷ []
+name_of case Tab dt = byte "\t" ∷ []
+name_of case Percent dt = percent ∷ []
 
 -- a name, following its flags and its width
 unfoldable pub name_text : Flags → Option ℕ → Name → DateTime → List ℕ
@@ -79,17 +81,17 @@ two n = filled_number ZerosAfterSign 2 (pos n)
 
 -- `HH:MM`
 unfoldable pub hour_minute_of : DateTime → List ℕ
-hour_minute_of dt = two (civil_time dt).hour ++ (58 ∷ two (civil_time dt).minute)
+hour_minute_of dt = two (civil_time dt).hour ++ (colon ∷ two (civil_time dt).minute)
 
 -- `HH:MM:SS`
 unfoldable pub clock_of : DateTime → List ℕ
-clock_of dt = hour_minute_of dt ++ (58 ∷ two (civil_time dt).second)
+clock_of dt = hour_minute_of dt ++ (colon ∷ two (civil_time dt).second)
 
 -- `HH:MM:SS AM`, on a clock of twelve hours
 unfoldable pub clock_of_12 : DateTime → List ℕ
 clock_of_12 dt =
-    two (hour_of_12 (civil_time dt).hour) ++ (58 ∷ (two (civil_time dt).minute
-    ++ (58 ∷ (two (civil_time dt).second ++ (32 ∷ upper_half (civil_time dt).hour)))))
+    two (hour_of_12 (civil_time dt).hour) ++ (colon ∷ (two (civil_time dt).minute
+    ++ (colon ∷ (two (civil_time dt).second ++ (space ∷ upper_half (civil_time dt).hour)))))
 
 -- the year, padded with zeros to four characters with its sign
 abbrev pub year_of_four : DateTime → List ℕ
@@ -98,13 +100,13 @@ year_of_four dt = filled_number ZerosAfterSign 4 (civil_date dt).year
 -- `YYYY-MM-DD`
 unfoldable pub dashed_date_text : DateTime → List ℕ
 dashed_date_text dt =
-    year_of_four dt ++ (45 ∷ (two (civil_date dt).month ++ (45 ∷ two (civil_date dt).day)))
+    year_of_four dt ++ (dash ∷ (two (civil_date dt).month ++ (dash ∷ two (civil_date dt).day)))
 
 -- ` D-MON-YYYY`
 unfoldable pub named_date_text : DateTime → List ℕ
 named_date_text dt =
     filled_number SpacesBeforeSign 2 (pos (civil_date dt).day)
-    ++ (45 ∷ (cased Upper (short_month_name (civil_date dt).month) ++ (45 ∷ year_of_four dt)))
+    ++ (dash ∷ (cased Upper (short_month_name (civil_date dt).month) ++ (dash ∷ year_of_four dt)))
 
 -- the remainder of the year by 100, padded with zeros to two characters with its sign
 unfoldable pub year_of_two : DateTime → List ℕ
@@ -113,18 +115,18 @@ year_of_two dt = filled_number ZerosAfterSign 2 (int_rem (civil_date dt).year (p
 -- `MM/DD/YY`
 unfoldable pub slashed_date_text : DateTime → List ℕ
 slashed_date_text dt =
-    two (civil_date dt).month ++ (47 ∷ (two (civil_date dt).day
-    ++ (47 ∷ year_of_two dt)))
+    two (civil_date dt).month ++ (slash ∷ (two (civil_date dt).day
+    ++ (slash ∷ year_of_two dt)))
 
 -- `Www Mon `, and the day padded with a space to two characters
 unfoldable pub named_day : Case → DateTime → List ℕ
 named_day case dt =
-    cased case (short_weekday_name (weekday_of (civil_date dt))) ++ (32 ∷ (cased case (short_month_name (civil_date dt).month)
-    ++ (32 ∷ filled_number SpacesBeforeSign 2 (pos (civil_date dt).day))))
+    cased case (short_weekday_name (weekday_of (civil_date dt))) ++ (space ∷ (cased case (short_month_name (civil_date dt).month)
+    ++ (space ∷ filled_number SpacesBeforeSign 2 (pos (civil_date dt).day))))
 
 -- `Www Mon  D HH:MM:SS YYYY`
 unfoldable pub date_and_time : Case → DateTime → List ℕ
-date_and_time case dt = named_day case dt ++ (32 ∷ (clock_of dt ++ (32 ∷ year_of_four dt)))
+date_and_time case dt = named_day case dt ++ (space ∷ (clock_of dt ++ (space ∷ year_of_four dt)))
 
 -- a composite without its padding
 unfoldable pub composite_of : Case → Composite → DateTime → List ℕ
@@ -154,7 +156,7 @@ composite_text flags width c dt =
 -- the first of the nine digits of the fraction, and zeros past nine
 unfoldable pub fraction_of : ℕ → ℕ → List ℕ
 fraction_of digits nano =
-    filled_number ZerosAfterSign (min digits 9) (pos (nano / 10 ^ (9 - digits))) ++ replicate (digits - 9) 48
+    filled_number ZerosAfterSign (min digits 9) (pos (nano / 10 ^ (9 - digits))) ++ replicate (digits - 9) (byte "0")
 
 -- the length of an offset whose hours have two digits
 abbrev pub offset_length : Offset → ℕ
@@ -169,7 +171,7 @@ hours_width width kind = 2 + (unwrap_or width 0 - offset_length kind)
 -- the sign and the hours: spaces before the sign, or zeros after it
 unfoldable pub signed_hours : Filling → ℕ → ℤ → List ℕ
 signed_hours Spaces width seconds =
-    replicate (width - (1 + length (decimal (unsigned_abs seconds / 3600)))) 32
+    replicate (width - (1 + length (decimal (unsigned_abs seconds / 3600)))) space
     ++ (sign_of seconds ∷ decimal (unsigned_abs seconds / 3600))
 signed_hours Unset width seconds =
     sign_of seconds ∷ filled_number ZerosAfterSign width (pos (unsigned_abs seconds / 3600))
@@ -179,9 +181,9 @@ signed_hours Zeros width seconds =
 -- the minutes and seconds after them
 unfoldable pub offset_minutes : Offset → ℤ → List ℕ
 offset_minutes Joined seconds = two (unsigned_abs seconds / 60 % 60)
-offset_minutes Minutes seconds = 58 ∷ two (unsigned_abs seconds / 60 % 60)
+offset_minutes Minutes seconds = colon ∷ two (unsigned_abs seconds / 60 % 60)
 offset_minutes Seconds seconds =
-    58 ∷ (two (unsigned_abs seconds / 60 % 60) ++ (58 ∷ two (unsigned_abs seconds % 60)))
+    colon ∷ (two (unsigned_abs seconds / 60 % 60) ++ (colon ∷ two (unsigned_abs seconds % 60)))
 
 -- the offset, following its flags and its width; the flag `-` has no effect
 unfoldable pub offset_of : Flags → Option ℕ → Offset → DateTime → List ℕ

@@ -1,5 +1,6 @@
 -- What is between the per cent of a directive and its letter: flags, a width, a modifier.
 use Rattle.std.specs.Prelude.{ℕ, ◌+◌, ◌-◌, ◌*◌, Bool, ◌&&◌, ◌||◌, ◌==◌, nat_le, if◌then◌else◌, List, [], ◌∷◌, Option, Some, None, fold, true, false, codes}
+use Rattle.std.specs.Str.{byte}
 use Rattle.liquid_dates.specs.declared.flags.Flags.{Flags}
 use Rattle.liquid_dates.specs.declared.flags.Filling.TheVariants.{Unset, Zeros, Spaces}
 use Rattle.liquid_dates.specs.declared.flags.Case.TheVariants.{Plain, Upper, Change}
@@ -32,11 +33,11 @@ flags_of flags = fold with_flag no_flags flags
 
 -- `0` to `9`
 abbrev pub is_digit : ℕ → Bool
-is_digit c = nat_le 48 c && nat_le c 57
+is_digit c = nat_le (byte "0") c && nat_le c (byte "9")
 
 -- the number that decimal digits write
 unfoldable pub digits_number : List ℕ → ℕ
-digits_number digits = fold (λ n c. n * 10 + (c - 48)) 0 digits
+digits_number digits = fold (λ n c. n * 10 + (c - byte "0")) 0 digits
 
 -- the width that the digits give, if there are any
 unfoldable pub width_of : List ℕ → Option ℕ

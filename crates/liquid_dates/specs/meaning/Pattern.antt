@@ -9,6 +9,7 @@ use Rattle.liquid_dates.specs.declared.error.DateFormatError.TheVariants.{NoForm
 use Rattle.liquid_dates.specs.meaning.Flags.{is_flag, flags_of, is_digit, digits_number, width_of, is_modifier}
 use Rattle.liquid_dates.specs.meaning.Letters.{directive_of}
 use Rattle.liquid_dates.specs.meaning.DirectiveText.{directive_text}
+use Rattle.liquid_dates.specs.meaning.Bytes.{colon, percent}
 
 -- a character that is copied, or a per cent with its flags, its width's digits, its modifier and its letter
 pub data Item : Type 0 where
@@ -18,7 +19,7 @@ pub data Item : Type 0 where
 -- the characters of an item
 unfoldable pub spelling : Item → List ℕ
 spelling (literal c) = c ∷ []
-spelling (directive flags digits modifier letter) = 37 ∷ (flags ++ (digits ++ (modifier ++ letter)))
+spelling (directive flags digits modifier letter) = percent ∷ (flags ++ (digits ++ (modifier ++ letter)))
 
 -- the text begins with a character that passes
 abbrev pub begins : (ℕ → Bool) → List ℕ → Bool
@@ -38,9 +39,9 @@ IsModifier (c ∷ d ∷ cs) rest = ⊥
 
 -- the letter: any character, but `:` takes the next character, and a second `:` one more, if there is one
 abbrev pub IsLetter : List ℕ → List ℕ → Type 0
-IsLetter (c ∷ []) rest = (c ≢ 58) ⊎ (rest ≡ [])
-IsLetter (a ∷ b ∷ []) rest = (a ≡ 58) × ((b ≢ 58) ⊎ (rest ≡ []))
-IsLetter (a ∷ b ∷ c ∷ []) rest = (a ≡ 58) × (b ≡ 58)
+IsLetter (c ∷ []) rest = (c ≢ colon) ⊎ (rest ≡ [])
+IsLetter (a ∷ b ∷ []) rest = (a ≡ colon) × ((b ≢ colon) ⊎ (rest ≡ []))
+IsLetter (a ∷ b ∷ c ∷ []) rest = (a ≡ colon) × (b ≡ colon)
 IsLetter _ rest = ⊥
 
 -- the parts of a directive, each as long as it matches, before the rest of the text
@@ -53,14 +54,14 @@ pub record IsDirective (flags digits modifier letter rest : List ℕ) : Type 0 w
 
 -- an item, before the rest of the text
 abbrev pub IsItem : Item → List ℕ → Type 0
-IsItem (literal c) rest = c ≢ 37
+IsItem (literal c) rest = c ≢ percent
 IsItem (directive flags digits modifier letter) rest = IsDirective flags digits modifier letter rest
 
 -- a per cent whose flags and digits end the text
 pub record EndsAfterWidth (text : List ℕ) : Type 0 where
   pub flags : List ℕ
   pub digits : List ℕ
-  pub is : text ≡ 37 ∷ (flags ++ digits)
+  pub is : text ≡ percent ∷ (flags ++ digits)
   pub of_flags : IsRun is_flag flags digits
   pub of_digits : IsRun is_digit digits []
 
@@ -69,7 +70,7 @@ pub record EndsAfterModifier (text : List ℕ) : Type 0 where
   pub flags : List ℕ
   pub digits : List ℕ
   pub modifier : ℕ
-  pub is : text ≡ 37 ∷ (flags ++ (digits ++ (modifier ∷ [])))
+  pub is : text ≡ percent ∷ (flags ++ (digits ++ (modifier ∷ [])))
   pub of_flags : IsRun is_flag flags (digits ++ (modifier ∷ []))
   pub of_digits : IsRun is_digit digits (modifier ∷ [])
   pub of_width : digits_number digits < 2 ^ 64
@@ -81,7 +82,7 @@ pub record HasGreatWidth (text : List ℕ) : Type 0 where
   pub digits : List ℕ
   pub next : ℕ
   pub rest : List ℕ
-  pub is : text ≡ 37 ∷ (flags ++ (digits ++ (next ∷ rest)))
+  pub is : text ≡ percent ∷ (flags ++ (digits ++ (next ∷ rest)))
   pub of_flags : IsRun is_flag flags (digits ++ (next ∷ rest))
   pub of_digits : IsRun is_digit digits (next ∷ rest)
   pub of_width : 2 ^ 64 ≤ digits_number digits

@@ -3,6 +3,7 @@
 use Rattle.std.specs.Prelude.{true, false, ◌≡◌, ℕ, zero, suc, ◌+◌, ◌-◌, ◌*◌, ◌^◌, Bool, ◌&&◌, ◌==◌, nat_lt, if◌then◌else◌, ℤ, pos, neg_ℤ, List, [], ◌∷◌, take, drop, length, Option, Some, None, option_map, option_and_then}
 use Rattle.std.specs.Borrow.{Bor}
 use Rattle.std.specs.Str.{bytes_eq}
+use Rattle.std.specs.Str.{byte}
 use Rattle.jiff_core.specs.declared.civil.date.Date.{Date as CivilDate}
 use Rattle.liquid_dates.specs.declared.date_time.DateTime.{DateTime}
 use Rattle.liquid_dates.specs.meaning.Instant.{civil_date, civil_time, nanosecond, offset_seconds}
@@ -11,6 +12,7 @@ use Rattle.liquid_dates.specs.declared.stamps.Clock.{Clock}
 use Rattle.liquid_dates.specs.declared.stamps.Stamp.{Stamp}
 use Rattle.liquid_dates.specs.meaning.Flags.{is_digit}
 use Rattle.liquid_dates.specs.meaning.Names.{month_name, short_month_name, short_weekday_name}
+use Rattle.liquid_dates.specs.meaning.Bytes.{colon, dash, dot, plus, slash, space}
 
 -- a value, and the rest after it
 abbrev pub Read : Type 0 → Type 0
@@ -28,7 +30,7 @@ after_byte byte (c ∷ cs) = if c == byte then Some cs else None
 -- two digits of a number below a limit
 unfoldable pub two_at : ℕ → List ℕ → Read ℕ
 two_at limit (a ∷ b ∷ rest) =
-    if is_digit a && (is_digit b && nat_lt (10 * (a - 48) + (b - 48)) limit) then Some (10 * (a - 48) + (b - 48), rest) else None
+    if is_digit a && (is_digit b && nat_lt (10 * (a - byte "0") + (b - byte "0")) limit) then Some (10 * (a - byte "0") + (b - byte "0"), rest) else None
 two_at limit _ = None
 
 infixl 10 ◌>>=◌
@@ -48,7 +50,7 @@ year_after (Some following) text = option_map (λ y. (neg_ℤ (pos y.0), y.1)) (
 year_after None text = option_map (λ y. (pos y.0, y.1)) (four_at text)
 
 unfoldable pub year_at : List ℕ → Read ℤ
-year_at text = year_after (after_byte 45 text) text
+year_at text = year_after (after_byte dash text) text
 
 -- a reader, a byte after it, and a reader after that
 abbrev pub joined_at : {A B : Type 0} → (List ℕ → Read A) → ℕ → (List ℕ → Read B) → List ℕ → Read (A × B)
@@ -94,19 +96,19 @@ weekday_at = short_name_at short_weekday_name 7 0
 
 -- the forms of a date
 unfoldable pub dashed_at : List ℕ → Read (ℤ × (ℕ × ℕ))
-dashed_at = joined_at year_at 45 (joined_at (two_at 100) 45 (two_at 100))
+dashed_at = joined_at year_at dash (joined_at (two_at 100) dash (two_at 100))
 
 unfoldable pub long_at : List ℕ → Read (ℕ × (ℕ × ℤ))
-long_at = joined_at (two_at 100) 32 (joined_at month_at 32 year_at)
+long_at = joined_at (two_at 100) space (joined_at month_at space year_at)
 
 unfoldable pub short_at : List ℕ → Read (ℕ × (ℕ × ℤ))
-short_at = joined_at (two_at 100) 32 (joined_at short_month_at 32 year_at)
+short_at = joined_at (two_at 100) space (joined_at short_month_at space year_at)
 
 unfoldable pub slashed_at : List ℕ → Read (ℕ × (ℕ × ℤ))
-slashed_at = joined_at (two_at 100) 47 (joined_at (two_at 100) 47 year_at)
+slashed_at = joined_at (two_at 100) slash (joined_at (two_at 100) slash year_at)
 
 unfoldable pub clock_at : List ℕ → Read (ℕ × (ℕ × ℕ))
-clock_at = joined_at (two_at 24) 58 (joined_at (two_at 60) 58 (two_at 60))
+clock_at = joined_at (two_at 24) colon (joined_at (two_at 60) colon (two_at 60))
 
 -- the parts of a date, in the order in which a form writes them
 abbrev pub by_year : Ymd × List ℕ → (ℤ × (ℕ × ℕ)) × List ℕ
@@ -137,12 +139,12 @@ sign_after None (Some rest) = option_map (λ z. (neg_ℤ (pos z.0), z.1)) (hours
 sign_after None None = None
 
 unfoldable pub offset_at : List ℕ → Read ℤ
-offset_at text = sign_after (after_byte 43 text) (after_byte 45 text)
+offset_at text = sign_after (after_byte plus text) (after_byte dash text)
 
 -- one digit, or two
 abbrev pub one_digit_at : List ℕ → Read ℕ
 one_digit_at [] = None
-one_digit_at (c ∷ cs) = if is_digit c then Some (c - 48, cs) else None
+one_digit_at (c ∷ cs) = if is_digit c then Some (c - byte "0", cs) else None
 
 abbrev pub or_one_digit : Read ℕ → List ℕ → Read ℕ
 or_one_digit (Some x) text = Some x
@@ -155,7 +157,7 @@ short_day_at text = or_one_digit (two_at 100 text) text
 abbrev pub digits_from : ℕ → ℕ → List ℕ → (ℕ × ℕ) × List ℕ
 digits_from count value [] = ((count, value), [])
 digits_from count value (c ∷ cs) =
-    if is_digit c && nat_lt count 10 then digits_from (count + 1) (value * 10 + (c - 48)) cs else ((count, value), c ∷ cs)
+    if is_digit c && nat_lt count 10 then digits_from (count + 1) (value * 10 + (c - byte "0")) cs else ((count, value), c ∷ cs)
 
 -- one to nine digits of a fraction, in nanoseconds
 abbrev pub fraction_of_digits : ℕ → ℕ → List ℕ → Read ℕ
@@ -168,23 +170,23 @@ fraction_at text =
 
 -- the forms of a date with a time
 unfoldable pub timed_dashed_at : List ℕ → Read ((ℤ × (ℕ × ℕ)) × (ℕ × (ℕ × ℕ)))
-timed_dashed_at = joined_at dashed_at 32 clock_at
+timed_dashed_at = joined_at dashed_at space clock_at
 
 unfoldable pub timed_fraction_at : List ℕ → Read ((ℤ × (ℕ × ℕ)) × ((ℕ × (ℕ × ℕ)) × ℕ))
-timed_fraction_at = joined_at dashed_at 32 (joined_at clock_at 46 fraction_at)
+timed_fraction_at = joined_at dashed_at space (joined_at clock_at dot fraction_at)
 
 unfoldable pub timed_long_at : List ℕ → Read ((ℕ × (ℕ × ℤ)) × (ℕ × (ℕ × ℕ)))
-timed_long_at = joined_at long_at 32 clock_at
+timed_long_at = joined_at long_at space clock_at
 
 unfoldable pub timed_short_at : List ℕ → Read ((ℕ × (ℕ × ℤ)) × (ℕ × (ℕ × ℕ)))
-timed_short_at = joined_at short_at 32 clock_at
+timed_short_at = joined_at short_at space clock_at
 
 unfoldable pub timed_slashed_at : List ℕ → Read ((ℕ × (ℕ × ℤ)) × (ℕ × (ℕ × ℕ)))
-timed_slashed_at = joined_at slashed_at 32 clock_at
+timed_slashed_at = joined_at slashed_at space clock_at
 
 unfoldable pub timed_weekday_at : List ℕ → Read (ℕ × (ℕ × (ℕ × ((ℕ × (ℕ × ℕ)) × ℤ))))
 timed_weekday_at =
-    joined_at weekday_at 32 (joined_at short_month_at 32 (joined_at short_day_at 32 (joined_at clock_at 32 year_at)))
+    joined_at weekday_at space (joined_at short_month_at space (joined_at short_day_at space (joined_at clock_at space year_at)))
 
 -- the clock as a form writes it
 abbrev pub by_clock : Clock × List ℕ → (ℕ × (ℕ × ℕ)) × List ℕ
@@ -212,7 +214,7 @@ stamp_by_weekday p =
 
 -- an offset after a space
 abbrev pub space_offset : List ℕ → Read ℤ
-space_offset text = option_and_then offset_at (after_byte 32 text)
+space_offset text = option_and_then offset_at (after_byte space text)
 
 -- the offset of what is left after a date with a time: the one given there, or 0 if nothing is left
 abbrev pub offset_end : Bool → List ℕ → Option ℤ

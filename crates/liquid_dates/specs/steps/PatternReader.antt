@@ -14,8 +14,10 @@ use Rattle.liquid_dates.specs.declared.error.DateFormatError.TheVariants.{NoForm
 use Rattle.liquid_dates.specs.meaning.Flags.{is_flag, with_flag, flags_of, is_digit, digits_number, width_of, is_modifier}
 use Rattle.std.specs.Str.{chars, IsUtf8}
 use Rattle.std.specs.Borrow.{Bor}
+use Rattle.std.specs.Str.{byte}
 use Rattle.liquid_dates.specs.meaning.Letters.{directive_of}
 use Rattle.liquid_dates.specs.meaning.Pattern.{Item, literal, directive, item_print}
+use Rattle.liquid_dates.specs.meaning.Bytes.{colon, percent}
 
 -- the characters at the front that pass, and the rest after them
 abbrev pub front : (ℕ → Bool) → List ℕ → List ℕ
@@ -37,8 +39,8 @@ bounded_width n = if nat_lt n (2 ^ 64) then Given n else TooGreat
 
 -- a width with one more digit
 abbrev pub with_digit : Width → ℕ → Width
-with_digit Unset c = Given (c - 48)
-with_digit (Given n) c = bounded_width (n * 10 + (c - 48))
+with_digit Unset c = Given (c - byte "0")
+with_digit (Given n) c = bounded_width (n * 10 + (c - byte "0"))
 with_digit TooGreat c = TooGreat
 
 -- the digits at the front, after those before
@@ -53,10 +55,10 @@ after_second_colon (c ∷ cs) = c ∷ []
 
 abbrev pub after_colon : List ℕ → List ℕ
 after_colon [] = []
-after_colon (c ∷ cs) = if c == 58 then 58 ∷ after_second_colon cs else c ∷ []
+after_colon (c ∷ cs) = if c == colon then colon ∷ after_second_colon cs else c ∷ []
 
 abbrev pub letter_front : ℕ → List ℕ → List ℕ
-letter_front c cs = if c == 58 then 58 ∷ after_colon cs else c ∷ []
+letter_front c cs = if c == colon then colon ∷ after_colon cs else c ∷ []
 
 -- the rest after it
 abbrev pub following_second_colon : List ℕ → List ℕ
@@ -65,10 +67,10 @@ following_second_colon (c ∷ cs) = cs
 
 abbrev pub following_colon : List ℕ → List ℕ
 following_colon [] = []
-following_colon (c ∷ cs) = if c == 58 then following_second_colon cs else cs
+following_colon (c ∷ cs) = if c == colon then following_second_colon cs else cs
 
 abbrev pub letter_after : ℕ → List ℕ → List ℕ
-letter_after c cs = if c == 58 then following_colon cs else cs
+letter_after c cs = if c == colon then following_colon cs else cs
 
 -- an item and the rest after it, or an error
 abbrev pub ItemRead : Type 0
@@ -105,7 +107,7 @@ directive_at text = after_flags (front is_flag text) (following is_flag text)
 
 -- the item at the front of a text that begins with the character
 unfoldable pub item_at : ℕ → List ℕ → ItemRead
-item_at c cs = if c == 37 then directive_at cs else Ok (literal c, cs)
+item_at c cs = if c == percent then directive_at cs else Ok (literal c, cs)
 
 -- what the code keeps of a directive
 abbrev pub conversion_of : Item → Conversion → Type 0

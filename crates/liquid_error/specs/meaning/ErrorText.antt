@@ -5,7 +5,7 @@ use Rattle.liquid_error.specs.meaning.Refusal.{Entry, Note, Refusal, Reason, no_
 
 -- a text and a line feed
 abbrev pub line : List ℕ → List ℕ
-line text = text ++ 10 ∷ []
+line text = text ++ codes "\n"
 
 -- `    key=value`
 abbrev pub entry_line : Entry → List ℕ

@@ -2,6 +2,7 @@
 use Rattle.std.specs.Prelude.{ℕ, Bool, not, ◌||◌, List, codes, bytes_eq}
 use Rattle.liquid_grammar.specs.meaning.Bytes.{is_white, starts_name, is_word}
 use Rattle.liquid_grammar.specs.meaning.Rules.{Rule, Begins, One, Then, Else, Repeated, Where, Text, Ahead, Byte, ◌▷◌, ◌◁◌}
+use Rattle.liquid_grammar.specs.meaning.Bytes.{close_brace, dash, open_brace, percent}
 
 -- any run of white space, even an empty one
 abbrev pub White : Rule (List ℕ)
@@ -9,19 +10,19 @@ White = Repeated (One is_white)
 
 -- `{{` or `{%`, by its second byte
 abbrev pub Braces : ℕ → Rule ℕ
-Braces kind = Byte 123 ▷ Byte kind
+Braces kind = Byte open_brace ▷ Byte kind
 
 -- an opener with its dash and the white space before it; otherwise the braces alone
 abbrev pub Opener : ℕ → Rule ℕ
-Opener kind = Else (White ▷ Braces kind ▷ Byte 45) (Braces kind)
+Opener kind = Else (White ▷ Braces kind ▷ Byte dash) (Braces kind)
 
 -- a closer with its dash and the white space after it; otherwise `}}` or `%}` alone
 abbrev pub Closer : ℕ → Rule ℕ
-Closer kind = Else (Byte 45 ▷ Byte kind ▷ Byte 125 ◁ White) (Byte kind ▷ Byte 125)
+Closer kind = Else (Byte dash ▷ Byte kind ▷ Byte close_brace ◁ White) (Byte kind ▷ Byte close_brace)
 
 -- `{{` or `{%`, with dash and white space
 abbrev pub AnyOpener : Rule ℕ
-AnyOpener = Else (Opener 123) (Opener 37)
+AnyOpener = Else (Opener open_brace) (Opener percent)
 
 -- an opener begins here
 abbrev pub Opens : List ℕ → Type 0
@@ -29,7 +30,7 @@ Opens s = Begins AnyOpener s
 
 -- a byte inside an identifier: a dash only if a letter, a digit or `_` follows it
 abbrev pub NameByte : Rule ℕ
-NameByte = Else (One is_word) (Byte 45 ◁ Ahead (One is_word))
+NameByte = Else (One is_word) (Byte dash ◁ Ahead (One is_word))
 
 -- a letter or `_`, and all name bytes after it
 abbrev pub Identifier : Rule (List ℕ)
@@ -48,4 +49,4 @@ Name = Where (λ word. not (is_literal_word word)) Identifier
 
 -- white space and one `{`
 abbrev pub LoneBrace : Rule (List ℕ)
-LoneBrace = Text (Then White (Byte 123))
+LoneBrace = Text (Then White (Byte open_brace))

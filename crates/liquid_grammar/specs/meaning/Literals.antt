@@ -4,6 +4,7 @@ use Rattle.std.specs.Char.{is_ascii_digit}
 use Rattle.liquid_grammar.specs.meaning.Bytes.{starts_name}
 use Rattle.liquid_grammar.specs.meaning.Rules.{Rule, One, Then, Else, Repeated, Seen, Where, Text, Not, Byte, Optional, ◌▷◌, ◌◁◌}
 use Rattle.liquid_grammar.specs.meaning.Grammar.{Identifier, is_literal_word}
+use Rattle.liquid_grammar.specs.meaning.Bytes.{dash, dot, double_quote, plus, single_quote}
 
 -- a literal: a number by its text, with its sign
 pub data Literal : Type 0 where
@@ -37,15 +38,15 @@ Digits = Text (Then (One is_ascii_digit) (Repeated (One is_ascii_digit)))
 
 -- a sign or none, and digits
 abbrev pub Whole : Rule (List ℕ)
-Whole = Text (Then (Optional (One (λ b. b == 43 || b == 45))) Digits)
+Whole = Text (Then (Optional (One (λ b. b == plus || b == dash))) Digits)
 
 -- a whole number, `.` and digits
 abbrev pub Fractional : Rule (List ℕ)
-Fractional = Text (Then Whole (Then (Byte 46) Digits))
+Fractional = Text (Then Whole (Then (Byte dot) Digits))
 
 -- the longer of the two, with no letter and no `_` after it
 abbrev pub Number : Rule Literal
 Number = Else (Seen decimal Fractional) (Seen integer Whole) ◁ Not (One starts_name)
 
 abbrev pub LiteralRule : Rule Literal
-LiteralRule = Else Word (Else (Seen text_literal (Else (Quoted 39) (Quoted 34))) Number)
+LiteralRule = Else Word (Else (Seen text_literal (Else (Quoted single_quote) (Quoted double_quote))) Number)

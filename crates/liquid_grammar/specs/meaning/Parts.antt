@@ -19,6 +19,7 @@ use Rattle.liquid_grammar.specs.meaning.Kinds.{Kind, chain_kind}
 use Rattle.liquid_grammar.specs.meaning.KindMeanings.{token_kind_of}
 use Rattle.liquid_grammar.specs.meaning.Literals.{Literal}
 use Rattle.liquid_grammar.specs.meaning.Meanings.{literal_of}
+use Rattle.liquid_grammar.specs.meaning.Bytes.{bar, close_brace, colon, comma}
 
 -- no part is left
 pub record NoneLeft {A : Type 0} (s rest : List ℕ) (parts : List A) : Type 0 where
@@ -79,11 +80,11 @@ IsIndex s start.Bracket after rest i = IsBracketed s rest after i
 -- the arguments from here on: the first one of a filter is after `:`, each further one after a comma
 abbrev pub ArgumentsFrom : Bool → Rule (List Argument)
 ArgumentsFrom true = Seen arguments_of (Optional Arguments)
-ArgumentsFrom false = Repeated (Following 44 ArgumentRule)
+ArgumentsFrom false = Repeated (Following comma ArgumentRule)
 
 abbrev pub separator : Bool → ℕ
-separator true = 58
-separator false = 44
+separator true = colon
+separator false = comma
 
 -- where a filter begins, its name, and its arguments after the name
 pub record IsFilter (f : FilterStart) (rest : List ℕ) (filter : Filter) : Type 0 where
@@ -110,7 +111,7 @@ pub record IsChain (s rest : List ℕ) (c : Chain) : Type 0 where
   pub ends : c.following ≡ rest
   pub middle : List ℕ
   pub value : ValueRule s middle c.what.0
-  pub filters : Repeated (Following 124 FilterRule) middle rest c.what.1
+  pub filters : Repeated (Following bar FilterRule) middle rest c.what.1
 
 -- a value begins here
 pub record BeginsValue (s : List ℕ) (v : Value) : Type 0 where
@@ -159,12 +160,12 @@ pub record OpensExpression (s start : List ℕ) : Type 0 where
 -- the closing after the chain of an expression
 pub record ClosesExpression (s rest : List ℕ) : Type 0 where
   pub byte : ℕ
-  pub match : (White ▷ Closer 125) s rest byte
+  pub match : (White ▷ Closer close_brace) s rest byte
 
 -- no filter is left here, and no expression ends
 pub record Unclosed (s rest : List ℕ) (filters : List Filter) : Type 0 where
   pub none : NoneLeft s rest filters
-  pub endless : ¬ (Begins (White ▷ Closer 125) s)
+  pub endless : ¬ (Begins (White ▷ Closer close_brace) s)
 
 -- no filter is left here, and an expression ends
 pub record Ended (s rest : List ℕ) (filters : List Filter) (after : List ℕ) : Type 0 where
@@ -173,7 +174,7 @@ pub record Ended (s rest : List ℕ) (filters : List Filter) (after : List ℕ) 
 
 -- the next filter of an expression, or its end
 abbrev pub IsStep : List ℕ → ChainStep → List ℕ → List Filter → Type 0
-IsStep s (step.Filter f) rest filters = First (IsFilter f) (Repeated (Following 124 FilterRule)) rest filters
+IsStep s (step.Filter f) rest filters = First (IsFilter f) (Repeated (Following bar FilterRule)) rest filters
 IsStep s (step.End after) rest filters = Ended s rest filters after.now
 
 -- what follows the name of the filter, or the end

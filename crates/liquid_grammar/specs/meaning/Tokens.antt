@@ -1,8 +1,10 @@
 -- Arguments, filters, chains, tokens, expressions and tags.
 use Rattle.std.specs.Prelude.{ℕ, Bool, true, ◌||◌, ◌&&◌, ◌==◌, List, [], ◌∷◌, Option, Some, None}
+use Rattle.std.specs.Str.{byte}
 use Rattle.liquid_grammar.specs.meaning.Rules.{Rule, Placed, One, Then, Else, Repeated, Seen, Where, Text, At, Byte, Optional, ◌▷◌, ◌◁◌}
 use Rattle.liquid_grammar.specs.meaning.Grammar.{White, Opener, Closer, Identifier}
 use Rattle.liquid_grammar.specs.meaning.Values.{Value, ValueRule}
+use Rattle.liquid_grammar.specs.meaning.Bytes.{bar, close_brace, close_paren, colon, comma, dot, open_brace, open_paren, percent}
 
 -- an argument of a filter
 pub data Argument : Type 0 where
@@ -29,7 +31,7 @@ Tag = List ℕ × Placed (List Token)
 
 -- an identifier and `:`, with the white space after them
 abbrev pub KeywordStart : Rule (List ℕ)
-KeywordStart = Identifier ◁ White ◁ Byte 58 ◁ White
+KeywordStart = Identifier ◁ White ◁ Byte colon ◁ White
 
 -- an identifier, `:` and a value
 abbrev pub KeywordRule : Rule Argument
@@ -45,7 +47,7 @@ Following separator R = White ▷ Byte separator ▷ White ▷ R
 
 -- `:` with an argument, and further ones after commas
 abbrev pub Arguments : Rule (List Argument)
-Arguments = Seen (λ p. p.0 ∷ p.1) (Then (Following 58 ArgumentRule) (Repeated (Following 44 ArgumentRule)))
+Arguments = Seen (λ p. p.0 ∷ p.1) (Then (Following colon ArgumentRule) (Repeated (Following comma ArgumentRule)))
 
 -- the arguments that were found, or none
 abbrev pub arguments_of : Option (List Argument) → List Argument
@@ -58,19 +60,19 @@ FilterRule = At (Seen (λ p. (p.0, arguments_of p.1)) (Then Identifier (Optional
 
 -- a value, and all filters after `|`
 abbrev pub ChainRule : Rule Chain
-ChainRule = At (Then ValueRule (Repeated (Following 124 FilterRule)))
+ChainRule = At (Then ValueRule (Repeated (Following bar FilterRule)))
 
 -- `..` between white space
 abbrev pub Dots : Rule ℕ
-Dots = White ▷ Byte 46 ▷ Byte 46 ◁ White
+Dots = White ▷ Byte dot ▷ Byte dot ◁ White
 
 -- `(` and the white space after it
 abbrev pub RangeStart : Rule (List ℕ)
-RangeStart = Byte 40 ▷ White
+RangeStart = Byte open_paren ▷ White
 
 -- `)` and the white space before it
 abbrev pub RangeEnd : Rule ℕ
-RangeEnd = White ▷ Byte 41
+RangeEnd = White ▷ Byte close_paren
 
 -- two values with `..` between them, in parentheses
 abbrev pub RangeRule : Rule (Value × Value)
@@ -78,11 +80,11 @@ RangeRule = RangeStart ▷ Then (ValueRule ◁ Dots) ValueRule ◁ RangeEnd
 
 -- `<=`, `>=`, `==`, `!=` or `<>`
 abbrev pub is_double : ℕ × ℕ → Bool
-is_double p = ((p.1 == 61) && (((p.0 == 60 || p.0 == 62) || p.0 == 61) || p.0 == 33)) || (p.0 == 60 && p.1 == 62)
+is_double p = ((p.1 == byte "=") && (((p.0 == byte "<" || p.0 == byte ">") || p.0 == byte "=") || p.0 == byte "!")) || (p.0 == byte "<" && p.1 == byte ">")
 
 -- `<`, `>`, `=`, `,` or `:`
 abbrev pub is_single : ℕ → Bool
-is_single b = (((b == 60 || b == 62) || b == 61) || b == 44) || b == 58
+is_single b = (((b == byte "<" || b == byte ">") || b == byte "=") || b == comma) || b == colon
 
 -- the longest symbol
 abbrev pub SymbolRule : Rule (List ℕ)
@@ -94,16 +96,16 @@ TokenRule = Else (Seen range (At RangeRule)) (Else (Seen chain ChainRule) (Seen 
 
 -- the opening before the chain of an expression
 abbrev pub ExpressionStart : Rule (List ℕ)
-ExpressionStart = Opener 123 ▷ White
+ExpressionStart = Opener open_brace ▷ White
 
 -- a chain between `{{` and `}}`
 abbrev pub ExpressionRule : Rule Chain
-ExpressionRule = ExpressionStart ▷ ChainRule ◁ White ◁ Closer 125
+ExpressionRule = ExpressionStart ▷ ChainRule ◁ White ◁ Closer close_brace
 
 -- an opener and the name of a tag
 abbrev pub TagStart : Rule (List ℕ)
-TagStart = Opener 37 ▷ White ▷ Identifier
+TagStart = Opener percent ▷ White ▷ Identifier
 
 -- a name and tokens between `{%` and `%}`
 abbrev pub TagRule : Rule Tag
-TagRule = Then TagStart (At (Repeated (White ▷ TokenRule))) ◁ White ◁ Closer 37
+TagRule = Then TagStart (At (Repeated (White ▷ TokenRule))) ◁ White ◁ Closer percent

@@ -3,6 +3,7 @@ use Rattle.std.specs.Prelude.{ℕ, suc, zero, List, [], ◌∷◌, length}
 use Rattle.liquid_grammar.specs.meaning.Rules.{Rule, Placed, Then, Else, Repeated, Seen, At, Byte, ◌▷◌, ◌◁◌}
 use Rattle.liquid_grammar.specs.meaning.Grammar.{White, Identifier, Name}
 use Rattle.liquid_grammar.specs.meaning.Literals.{Literal, LiteralRule}
+use Rattle.liquid_grammar.specs.meaning.Bytes.{close_square, dot, open_square}
 
 -- a value with the places where its parts begin and end
 mutual
@@ -33,11 +34,11 @@ placed_bracket p = bracketed_index p.place p.following p.what
 
 -- `[` and the white space after it
 abbrev pub OpenBracket : Rule (List ℕ)
-OpenBracket = Byte 91 ▷ White
+OpenBracket = Byte open_square ▷ White
 
 -- `]` and the white space before it
 abbrev pub CloseBracket : Rule ℕ
-CloseBracket = White ▷ Byte 93
+CloseBracket = White ▷ Byte close_square
 
 -- the rules of a value, over the rule of the values in its brackets
 module _ (Inner : Rule Value) where
@@ -47,7 +48,7 @@ module _ (Inner : Rule Value) where
 
   -- `.` and an identifier, or brackets
   abbrev pub IndexOver : Rule Index
-  IndexOver = Else (Seen named_index (Byte 46 ▷ Identifier)) (Seen placed_bracket (At Bracketed))
+  IndexOver = Else (Seen named_index (Byte dot ▷ Identifier)) (Seen placed_bracket (At Bracketed))
 
   -- a name and all its indexes
   abbrev pub VariableOver : Rule Value

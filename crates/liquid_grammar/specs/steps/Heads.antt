@@ -8,6 +8,7 @@ use Rattle.liquid_grammar.specs.meaning.Grammar.{White, is_literal_word}
 use Rattle.liquid_grammar.specs.meaning.Parts.{HasHead}
 use Rattle.liquid_grammar.specs.meaning.Literals.{Literal, word_literal}
 use Rattle.liquid_grammar.specs.meaning.Meanings.{literal_of}
+use Rattle.liquid_grammar.specs.meaning.Bytes.{colon}
 
 abbrev literal_at : Head → List ℕ → Option (Literal × List ℕ)
 literal_at (head.Literal literal) rest = Some (literal_of literal, rest)
@@ -34,5 +35,5 @@ IsHeadOf word (head.Name name) = (is_literal_word word ≡ false) × (name.now �
 pub record HasColon (s : List ℕ) (h : Head) (after : List ℕ) : Type 0 where
   pub place : List ℕ
   pub white : List ℕ
-  pub colon : (White ▷ Byte 58 ▷ White) s place white
+  pub colon : (White ▷ Byte colon ▷ White) s place white
   pub head : HasHead place h after

@@ -6,6 +6,7 @@ use Rattle.std.specs.Str.{IsCharBoundary}
 use Rattle.std.specs.Borrow.{Bor}
 use Rattle.liquid_grammar.specs.meaning.Bytes.{is_white, starts_name, is_word}
 use Rattle.liquid_grammar.specs.meaning.Grammar.{Opens, is_literal_word}
+use Rattle.liquid_grammar.specs.meaning.Bytes.{close_brace, dash, open_brace, percent}
 
 -- a shape, and what is left of the text
 abbrev pub Reader : Type 0 → Type 0
@@ -52,26 +53,26 @@ unfoldable pub white : Reader (List ℕ)
 white = run is_white
 
 unfoldable pub braces : ℕ → Reader ℕ
-braces kind = right (byte 123) (byte kind)
+braces kind = right (byte open_brace) (byte kind)
 
 unfoldable pub dashed_opener : ℕ → Reader ℕ
-dashed_opener kind = right (right white (braces kind)) (byte 45)
+dashed_opener kind = right (right white (braces kind)) (byte dash)
 
 unfoldable pub opener : ℕ → Reader ℕ
 opener kind = either (dashed_opener kind) (braces kind)
 
 unfoldable pub any_opener : Reader ℕ
-any_opener = either (opener 123) (opener 37)
+any_opener = either (opener open_brace) (opener percent)
 
 unfoldable pub dashed_closer : ℕ → Reader ℕ
-dashed_closer kind = left (right (right (byte 45) (byte kind)) (byte 125)) white
+dashed_closer kind = left (right (right (byte dash) (byte kind)) (byte close_brace)) white
 
 unfoldable pub closer : ℕ → Reader ℕ
-closer kind = either (dashed_closer kind) (right (byte kind) (byte 125))
+closer kind = either (dashed_closer kind) (right (byte kind) (byte close_brace))
 
 -- a byte of a name, before this text
 abbrev pub is_name_byte : ℕ → List ℕ → Bool
-is_name_byte b s = is_word b || (b == 45 && is_word (slice_index s 0))
+is_name_byte b s = is_word b || (b == dash && is_word (slice_index s 0))
 
 -- the number of name bytes that the text begins with
 unfoldable pub name_len : List ℕ → ℕ
@@ -88,11 +89,11 @@ unfoldable pub name : Reader (List ℕ)
 name = only (λ word. not (is_literal_word word)) identifier
 
 unfoldable pub lone_brace : Reader (List ℕ)
-lone_brace = text (both white (byte 123))
+lone_brace = text (both white (byte open_brace))
 
 -- `{{` or `{%` is at the index
 abbrev pub begins_braces : List ℕ → ℕ → Bool
-begins_braces s at = slice_index s at == 123 && (slice_index s (at + 1) == 123 || slice_index s (at + 1) == 37)
+begins_braces s at = slice_index s at == open_brace && (slice_index s (at + 1) == open_brace || slice_index s (at + 1) == percent)
 
 -- where the white space before the index `from + n` begins, not before `from`
 unfoldable pub white_start : List ℕ → (from n : ℕ) → ℕ

@@ -9,6 +9,7 @@ use Rattle.liquid_grammar.specs.meaning.Literals.{Literal, word_literal, text_li
 use Rattle.liquid_grammar.specs.meaning.Values.{Value, Index, named_index, placed_literal, placed_variable, placed_bracket}
 use Rattle.liquid_grammar.specs.meaning.Tokens.{Argument, positional, keyword, Filter, Chain, Tag, Token, range, chain, symbol, arguments_of, is_double, is_single}
 use Rattle.liquid_grammar.specs.steps.Steps.{Reader, one, byte, both, either, seen, only, text, right, left, run, white, opener, closer, identifier, name}
+use Rattle.liquid_grammar.specs.meaning.Bytes.{bar, close_brace, close_paren, close_square, colon, comma, dash, dot, double_quote, open_brace, open_paren, open_square, percent, plus, single_quote}
 
 abbrev pub not_ahead : {A : Type 0} → Reader A → Reader (Unit {0})
 not_ahead f s = cond (is_some (f s)) None (Some (tt, s))
@@ -44,19 +45,19 @@ unfoldable pub quoted : ℕ → Reader (List ℕ)
 quoted quote = left (right (byte quote) (run (λ b. not (b == quote)))) (byte quote)
 
 abbrev pub text_of_quotes : Reader (List ℕ)
-text_of_quotes = either (quoted 39) (quoted 34)
+text_of_quotes = either (quoted single_quote) (quoted double_quote)
 
 unfoldable pub digits : Reader (List ℕ)
 digits = text (both (one is_ascii_digit) (run is_ascii_digit))
 
 unfoldable pub sign : Reader (Option ℕ)
-sign = optional (one (λ b. b == 43 || b == 45))
+sign = optional (one (λ b. b == plus || b == dash))
 
 unfoldable pub whole : Reader (List ℕ)
 whole = text (both sign digits)
 
 abbrev pub fraction : Reader (ℕ × List ℕ)
-fraction = both (byte 46) digits
+fraction = both (byte dot) digits
 
 unfoldable pub fractional : Reader (List ℕ)
 fractional = text (both whole fraction)
@@ -72,27 +73,27 @@ text_or_number = either (seen text_literal text_of_quotes) number
 
 -- a byte that a literal or a name may begin with
 abbrev pub begins_value : ℕ → Bool
-begins_value b = ((((starts_name b || is_ascii_digit b) || b == 34) || b == 39) || b == 45) || b == 43
+begins_value b = ((((starts_name b || is_ascii_digit b) || b == double_quote) || b == single_quote) || b == dash) || b == plus
 
 unfoldable pub literal : Reader Literal
 literal = either word text_or_number
 
 -- the readers of a value, over that of the values in its brackets
 unfoldable pub open_bracket : Reader (List ℕ)
-open_bracket = right (byte 91) white
+open_bracket = right (byte open_square) white
 
 unfoldable pub close_bracket : Reader ℕ
-close_bracket = right white (byte 93)
+close_bracket = right white (byte close_square)
 
 abbrev pub bracketed_over : Reader Value → Reader Value
 bracketed_over inner = left (right open_bracket inner) close_bracket
 
 unfoldable pub named : Reader (List ℕ)
-named = right (byte 46) identifier
+named = right (byte dot) identifier
 
 -- a byte that an index begins with
 abbrev pub begins_index : ℕ → Bool
-begins_index b = b == 46 || b == 91
+begins_index b = b == dot || b == open_square
 
 abbrev pub index_over : Reader Value → Reader Index
 index_over inner = either (seen named_index named) (seen placed_bracket (at (bracketed_over inner)))
@@ -111,7 +112,7 @@ unfoldable pub value : Reader Value
 value s = value_by (suc (length s)) s
 
 unfoldable pub keyword_start : Reader (List ℕ)
-keyword_start = left (left (left identifier white) (byte 58)) white
+keyword_start = left (left (left identifier white) (byte colon)) white
 
 abbrev pub keyword_argument : Reader Argument
 keyword_argument = seen (λ p. keyword p.0 p.1) (both keyword_start value)
@@ -127,26 +128,26 @@ abbrev pub following : {A : Type 0} → ℕ → Reader A → Reader A
 following separator f = right (separated separator) f
 
 unfoldable pub arguments : Reader (List Argument)
-arguments = seen (λ p. p.0 ∷ p.1) (both (following 58 argument) (repeated (following 44 argument)))
+arguments = seen (λ p. p.0 ∷ p.1) (both (following colon argument) (repeated (following comma argument)))
 
 unfoldable pub filter : Reader Filter
 filter = at (seen (λ p. (p.0, arguments_of p.1)) (both identifier (optional arguments)))
 
 -- `|` is here, after white space
 abbrev pub begins_filter : List ℕ → Bool
-begins_filter s = slice_index (drop (prefix_len is_white s) s) 0 == 124
+begins_filter s = slice_index (drop (prefix_len is_white s) s) 0 == bar
 
 unfoldable pub chain_of : Reader Chain
-chain_of = at (both value (repeated (following 124 filter)))
+chain_of = at (both value (repeated (following bar filter)))
 
 unfoldable pub dots : Reader ℕ
-dots = left (right (right white (byte 46)) (byte 46)) white
+dots = left (right (right white (byte dot)) (byte dot)) white
 
 unfoldable pub range_start : Reader (List ℕ)
-range_start = right (byte 40) white
+range_start = right (byte open_paren) white
 
 unfoldable pub range_end : Reader ℕ
-range_end = right white (byte 41)
+range_end = right white (byte close_paren)
 
 unfoldable pub ranged : Reader (Value × Value)
 ranged = left (right range_start (both (left value dots) value)) range_end
@@ -161,13 +162,13 @@ unfoldable pub token : Reader Token
 token = either (seen range (at ranged)) (either (seen chain chain_of) (seen symbol (at symbol_of)))
 
 unfoldable pub expression_start : Reader (List ℕ)
-expression_start = right (opener 123) white
+expression_start = right (opener open_brace) white
 
 unfoldable pub full_expression : Reader Chain
-full_expression = left (left (right expression_start chain_of) white) (closer 125)
+full_expression = left (left (right expression_start chain_of) white) (closer close_brace)
 
 unfoldable pub tag_start : Reader (List ℕ)
-tag_start = right (right (opener 37) white) identifier
+tag_start = right (right (opener percent) white) identifier
 
 unfoldable pub tag : Reader Tag
-tag = left (left (both tag_start (at (repeated (right white token)))) white) (closer 37)
+tag = left (left (both tag_start (at (repeated (right white token)))) white) (closer percent)

@@ -1,5 +1,6 @@
 -- What the cursors over a source's elements mean.
 use Rattle.std.specs.Prelude.{◌≡◌, ℕ, List, ◌∷◌, None, option_map}
+use Rattle.liquid_grammar.specs.meaning.Bytes.{open_brace}
 use Rattle.liquid_grammar.specs.meaning.Cover as cover
 use Rattle.liquid_grammar.specs.meaning.Cover.{raw, tag_element, expression, invalid}
 use Rattle.liquid_grammar.specs.meaning.Faults.{chain_fault}
@@ -25,7 +26,7 @@ IfExpression x holds = (source : List ℕ) (chain : Chain) → IsExpression x so
 -- what is neither a tag nor an expression, by its brace
 pub record IsInvalid (x : InvalidLiquidToken) (source following : List ℕ) : Type 0 where
   pub source_is : x.source.now ≡ source
-  pub brace_is : x.brace.now ≡ 123 ∷ following
+  pub brace_is : x.brace.now ≡ open_brace ∷ following
 
 -- the cursor means this element of the source, which is followed by this text
 abbrev pub StandsFor : BlockElement → (source following : List ℕ) → cover.Element → Type 0

@@ -6,6 +6,7 @@ use Rattle.liquid_error.specs.declared.place.Place.{Place}
 use Rattle.liquid_error.specs.declared.error.Error.{Error}
 use Rattle.liquid_error.specs.meaning.Told.{told}
 use Rattle.liquid_error.specs.meaning.Refusal.{Refusal, located, or_placed, with_context, with_trace, ok_then}
+use Rattle.liquid_grammar.specs.meaning.Bytes.{open_brace}
 use Rattle.liquid_grammar.specs.meaning.Tokens as token
 use Rattle.liquid_grammar.specs.meaning.Faults.{Fault, FaultKind, integer_out_of_range, decimal_not_supported, nested_too_deep, chain_fault, tag_fault}
 use Rattle.liquid_grammar.specs.meaning.Cover.{Element, raw, tag_element, expression, invalid, text_of, joined, Cover}
@@ -236,7 +237,7 @@ module _ {F T P B : Type 0} (l : Lang F T P B) (source : List ℕ) (outside : �
   element_read blocks nodes (expression c t) following =
       ok_then (checked source (chain_fault c)) (λ _. node_added blocks nodes (expression_read l.filters source c))
   element_read blocks nodes (tag_element t _) following = ok_then (checked source (tag_fault t)) (λ _. tag_read blocks nodes t)
-  element_read blocks nodes (invalid t) following = Err (refused_at source (codes "Invalid liquid") (123 ∷ following))
+  element_read blocks nodes (invalid t) following = Err (refused_at source (codes "Invalid liquid") (open_brace ∷ following))
 
   abbrev pub step : State F T P B → Element → List ℕ → Result (State F T P B) Refusal
   step (among blocks nodes) e following = element_read blocks nodes e following

@@ -4,6 +4,7 @@ use Rattle.std.specs.Borrow.{Bor}
 use Rattle.liquid_error.specs.declared.error.Error.{Error}
 use Rattle.liquid_error.specs.meaning.Refusal.{Refusal}
 use Rattle.liquid_error.specs.meaning.Told.{told}
+use Rattle.liquid_grammar.specs.meaning.Bytes.{bar, close_brace}
 use Rattle.liquid_grammar.specs.meaning.Cover.{IsElement, expression, invalid}
 use Rattle.liquid_grammar.specs.meaning.Faults.{Fault, chain_fault}
 use Rattle.liquid_grammar.specs.meaning.Grammar.{White, Closer}
@@ -49,7 +50,7 @@ ComesTo Undecided is lacks = Unit
 
 -- no expression ends here, after white space or none
 abbrev pub Endless : List ℕ → Type 0
-Endless s = ¬ (Begins (White ▷ Closer 125) s)
+Endless s = ¬ (Begins (White ▷ Closer close_brace) s)
 
 -- an opener is here, and neither a tag nor an expression
 abbrev pub StandsInvalid : List ℕ → Type 0
@@ -74,7 +75,7 @@ WalksToEnd fault of result read rest = IfOk result (λ walked. ComesTo walked (�
 
 -- all filters after `|`
 abbrev pub FiltersRule : Rule (List Filter)
-FiltersRule = Repeated (Following 124 FilterRule)
+FiltersRule = Repeated (Following bar FilterRule)
 
 -- this holds of each chain whose value has this beginning, with this text after the beginning
 abbrev pub IfHeaded : Head → List ℕ → (List ℕ → Chain → Type 0) → Type 0

@@ -3,6 +3,7 @@
 //! If something in an expression may be an error, the walk leaves it undecided, and another reading finds the error.
 ghost use Rattle.std.specs.Prelude.{◌≡◌, ◌∷◌, ◌<◌, ◌≤◌, ℕ, List, IfOk, IfSome, codes, length, map};
 ghost use Rattle.liquid_error.specs.meaning.Told.{told};
+ghost use Rattle.liquid_grammar.specs.meaning.Bytes.{open_brace};
 ghost use Rattle.liquid_grammar.specs.meaning.Faults.{filter_fault, chain_fault, first_fault};
 ghost use Rattle.liquid_grammar.specs.meaning.Parts.{IsFilter, OpensExpression};
 ghost use Rattle.liquid_grammar.specs.meaning.Tokens.{Filter};
@@ -90,8 +91,8 @@ fn fast_from_chain<'a, F: ParseFilter + Drop, T: ParseTag<F> + Drop, B: ParseBlo
 
 /// Returns the error "Invalid liquid" at the first brace of an opener of neither a tag nor an expression.
 pub(crate) fn no_expression(alloc: Global, source: &str, brace: &str) -> Error
-    ensures { (following : List ℕ) → brace.now ≡ 123 ∷ following
-        → IfSome (told result) (λ r. r ≡ refused_at source.now (codes "Invalid liquid") (123 ∷ following)) }
+    ensures { (following : List ℕ) → brace.now ≡ open_brace ∷ following
+        → IfSome (told result) (λ r. r ≡ refused_at source.now (codes "Invalid liquid") (open_brace ∷ following)) }
 {
     refused_at(alloc, source, "Invalid liquid", brace)
 }

@@ -1,6 +1,7 @@
 //! The elements of a source, one by one: their texts, and their nodes.
 ghost use Rattle.std.specs.Prelude.{◌≡◌, ◌∷◌, ℕ, List, IfOk, IfSome, codes};
 ghost use Rattle.liquid_error.specs.meaning.Told.{told, Gives};
+ghost use Rattle.liquid_grammar.specs.meaning.Bytes.{open_brace};
 ghost use Rattle.liquid_grammar.specs.meaning.Cover.{IsElement, text_of};
 ghost use Rattle.liquid_grammar.specs.meaning.Elements.{Means};
 ghost use Rattle.liquid_plugins.specs.meaning.NodesOf.{node_of, IsText};
@@ -128,7 +129,7 @@ impl<'a> InvalidLiquidToken<'a> {
         block: &mut TagBlock<'_, '_>,
     ) -> std::result::Result<Node<X, N, K>, Error>
         ensures refused { (source following : List ℕ) → IsInvalid self.entry source following
-            → Refuses result (refused_at source (codes "Invalid liquid") (123 ∷ following)) }
+            → Refuses result (refused_at source (codes "Invalid liquid") (open_brace ∷ following)) }
         ensures stays { block.new ≡ block.old }
     {
         let _ = block;
@@ -138,7 +139,7 @@ impl<'a> InvalidLiquidToken<'a> {
     /// Returns the same error.
     pub(crate) fn refusal(self, alloc: Global) -> Error
         ensures { (source following : List ℕ) → IsInvalid self.entry source following
-            → IfSome (told result) (λ r. r ≡ refused_at source (codes "Invalid liquid") (123 ∷ following)) }
+            → IfSome (told result) (λ r. r ≡ refused_at source (codes "Invalid liquid") (open_brace ∷ following)) }
     {
         no_expression(alloc, self.source, self.brace)
     }

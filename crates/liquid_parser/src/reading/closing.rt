@@ -74,7 +74,9 @@ fn read_until_closed<
         match next_element(rest) {
             Some((found, following)) => {
                 let element = hand_over(alloc, source, rest, found)?;
-                rest = advance(alloc, AROUND, source, &mut state, element, following, language)?;
+                rest = advance(
+                    alloc, AROUND, source, &mut state, element, following, language,
+                )?;
             }
             None => {
                 let nodes = end_reading::<F, T, B>(alloc, source, state)?;
