@@ -45,7 +45,7 @@ fn errors_have_places(rt: HostRuntime) -> Result<(), Fail> {
 fn want_of_memory_stays_so(rt: HostRuntime) -> Result<(), Fail> {
     let alloc = rt.alloc();
     let starved = Error::Memory.trace(alloc, "a").context(alloc, "k", "v");
-    holds(starved.is_memory(), "want of memory")?;
+    holds(starved.is_memory(), "out of memory")?;
     same(
         starved.to_string(alloc)?.as_str(),
         "liquid: out of memory\n",
@@ -65,7 +65,7 @@ fn an_error_is_placed_once(rt: HostRuntime) -> Result<(), Fail> {
     same(placed.to_string(alloc)?.as_str(), "liquid: a\n")?;
     holds(
         Error::Memory.or_place(first).is_memory(),
-        "want of memory has none",
+        "out of memory has none",
     )
 }
 

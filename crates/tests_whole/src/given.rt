@@ -67,7 +67,7 @@ fn a_built_runtime_has_the_globals_alone(rt: HostRuntime) -> Result<(), Fail> {
         Ok(_) => Err(Fail::from("y has a value")),
         Err(error) => holds(
             error.place().is_none() && !error.is_memory(),
-            "the refusal of y has no place, and is no want of memory",
+            "the refusal of y has no place, and is not out of memory",
         ),
     }
 }

@@ -36,7 +36,7 @@ fn around(alloc: Global) -> Result<BuiltRuntime<(), ()>, AllocError> {
 /// Fails if the error of a join is out of memory.
 fn refused(error: &Error) -> Result<(), Fail> {
     if error.is_memory() {
-        Err(Fail::from("a join answers want of memory"))
+        Err(Fail::from("a join runs out of memory"))
     } else {
         Ok(())
     }

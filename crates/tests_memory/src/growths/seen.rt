@@ -62,7 +62,7 @@ impl fmt::Display for Seen {
             (None, Some(count)) => write!(f, "refused after it, after {count} boxes"),
             (None, None) if self.first == Told::Memory => write!(
                 f,
-                "refused in it, want of memory"
+                "refused in it, out of memory"
             ),
             (None, None) => write!(f, "refused in it or never, whole answer"),
         }
