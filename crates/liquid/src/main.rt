@@ -1,33 +1,11 @@
 //! The command `liquid`, which renders a template file.
 #![tactic(auto)]
 
-pub mod command;
-pub mod explain;
-pub mod fault;
-pub mod filters;
-pub mod folder;
-pub mod gather;
-pub mod help;
-pub mod in_memory;
-mod json_notes;
-pub mod long_command;
-pub mod machine;
-mod near_names;
-mod notes;
-mod open_blocks;
-pub mod pages;
-pub mod pages_command;
-pub mod rendering;
-pub mod run;
-#[cfg(test)]
-mod tests;
-mod tree;
-pub mod write;
-
-use fault::Fault;
 use liquid_core::Error;
-use machine::Machine;
-use run::run;
+use liquid_program::fault::Fault;
+use liquid_program::help;
+use liquid_program::machine::Machine;
+use liquid_program::run::run;
 use std::io::{BufWriter, IsTerminal};
 use std::process::ExitCode;
 use std::{env, io};

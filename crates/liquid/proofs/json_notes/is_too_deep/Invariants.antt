@@ -1,5 +1,0 @@
-use Rattle.std.proofs.Common.{length}
-use Rattle.liquid.proofs.json_notes.is_too_deep.Given as goal
-
-abbrev pub decreases-tokens : goal.decreases-tokens
-decreases-tokens l = length l.reader
