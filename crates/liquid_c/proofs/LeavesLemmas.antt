@@ -26,7 +26,8 @@ pub memory_refuses : (k : ℕ) (t : Option Refusal) (o : Outcome) → IsNone t �
 memory_refuses k None o none kind = kind
 memory_refuses k (Some r) o none kind = absurd (true≢false none)
 
-pub placed_refuses : (k : ℕ) (t : Option Refusal) (o : Outcome) (place : Option Place) → ¬ (IsNone t) → place ≡ option_and_then (λ r. r.place) t → o.kind ≡ k → IsPlaced place o → Refuses k t o
+pub placed_refuses : (k : ℕ) (t : Option Refusal) (o : Outcome) (place : Option Place) → ¬ (IsNone t)
+    → place ≡ option_and_then (λ r. r.place) t → o.kind ≡ k → IsPlaced place o → Refuses k t o
 placed_refuses k None o place some is kind placed = absurd (some refl)
 placed_refuses k (Some r) o place some is kind placed = (kind, subst (λ p. IsPlaced p o) is placed)
 
@@ -78,11 +79,13 @@ ends_counted None o n w m is = is
 ends_counted (Some f) o n w m is = (is.0, where_counted f o n w m is.1)
 
 -- memory ran out before anything was rendered
-pub nothing_left : (page : Page) (old new : List ℕ) (o : Outcome) → o.kind ≡ 6 → o.needed ≡ 0 → o.written ≡ 0 → new ≡ old → Leaves page old new o
+pub nothing_left : (page : Page) (old new : List ℕ) (o : Outcome) → o.kind ≡ 6 → o.needed ≡ 0 → o.written ≡ 0 → new ≡ old
+    → Leaves page old new o
 nothing_left page old new o kind needed written same =
     let none : 0 ≡ min 0 (length old) = omega arith in
     let bytes : new ≡ take 0 [] ++ drop 0 old = same in
-    record { rendered = []; needed = needed; written = written ∙ none; bytes = subst (λ k. new ≡ take k [] ++ drop k old) (sym written) bytes; ends = inl (kind, (page.output, refl)) }
+    record { rendered = []; needed = needed; written = written ∙ none;
+        bytes = subst (λ k. new ≡ take k [] ++ drop k old) (sym written) bytes; ends = inl (kind, (page.output, refl)) }
 
 module _ (page : Page) (bytes old new : List ℕ) (o : Outcome) where
   fault_ends : (t : Option Fault) → MatchOption t (Begins bytes page) (λ f. (bytes ≡ page.output) × (page.fault ≡ Some f)) → Ends t o
@@ -91,7 +94,8 @@ module _ (page : Page) (bytes old new : List ℕ) (o : Outcome) where
   fault_ends (Some f) shows ends = inr (shows.0, subst (λ t. Tells t (length old) o) (sym shows.1) ends)
 
 -- the bytes that were rendered of a page
-module _ (page : Page) (bytes taken old new : List ℕ) (end : Result (Unit {0}) PageFault) (same : bytes ≡ taken) (shows : Shows page taken end) where
+module _ (page : Page) (bytes taken old new : List ℕ) (end : Result (Unit {0}) PageFault) (same : bytes ≡ taken)
+    (shows : Shows page taken end) where
   all_shown : (done : Unit {0}) → end ≡ Ok done → (bytes ≡ page.output) × (page.fault ≡ None)
   all_shown done is = subst (λ b. Shows page b (Ok done)) (sym same) (subst (Shows page taken) is shows)
 
@@ -99,14 +103,18 @@ module _ (page : Page) (bytes taken old new : List ℕ) (end : Result (Unit {0})
   fault_shown fault is = subst (λ b. Shows page b (Err fault)) (sym same) (subst (Shows page taken) is shows)
 
   -- all of them
-  pub whole_left : (o : Outcome) (done : Unit {0}) → end ≡ Ok done → o.needed ≡ length bytes → o.written ≡ min (length bytes) (length old) → new ≡ take o.written bytes ++ drop o.written old
+  pub whole_left : (o : Outcome) (done : Unit {0}) → end ≡ Ok done → o.needed ≡ length bytes → o.written ≡ min (length bytes) (length old)
+      → new ≡ take o.written bytes ++ drop o.written old
       → o.kind ≡ (if nat_le o.needed (length old) then 0 else 7) → IsPlaced None o → Leaves page old new o
   whole_left o done is needed written copied kind place =
       let shown = all_shown done is in
-      record { rendered = bytes; needed = needed; written = written; bytes = copied; ends = inr (shown.0, subst (λ t. Tells t (length old) o) (sym shown.1) (kind, place)) }
+      record { rendered = bytes; needed = needed; written = written; bytes = copied;
+          ends = inr (shown.0, subst (λ t. Tells t (length old) o) (sym shown.1) (kind, place)) }
 
   -- those before a fault
   pub fault_left : (o : Outcome) (n w m : ℕ) (fault : PageFault) → end ≡ Err fault → Ends (fault_told fault) o
       → n ≡ length bytes → w ≡ min (length bytes) (length old) → new ≡ take w bytes ++ drop w old → Leaves page old new (counted o n w m)
   fault_left o n w m fault is ends needed written copied =
-      record { rendered = bytes; needed = needed; written = written; bytes = copied; ends = fault_ends page bytes old new (counted o n w m) (fault_told fault) (fault_shown fault is) (ends_counted (fault_told fault) o n w m ends) }
+      record { rendered = bytes; needed = needed; written = written; bytes = copied;
+          ends = fault_ends page bytes old new (counted o n w m) (fault_told fault) (fault_shown fault is)
+          (ends_counted (fault_told fault) o n w m ends) }

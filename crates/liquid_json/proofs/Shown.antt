@@ -32,15 +32,18 @@ members_shown_of (e ∷ es) = ap (json.member (string_bytes e.0) (value_shown (v
 -- entries that are the same by name have the same members
 pub json_members_by_name : (xs ys : List (String Global × Json)) → map named xs ≡ map named ys → json_members xs ≡ json_members ys
 json_members_by_name xs ys same =
-    json_members_of xs ∙ ap members_of (sym (map-map viewed named xs) ∙ ap (map viewed) same ∙ map-map viewed named ys) ∙ sym (json_members_of ys)
+    json_members_of xs ∙ ap members_of (sym (map-map viewed named xs) ∙ ap (map viewed) same ∙ map-map viewed named ys)
+      ∙ sym (json_members_of ys)
   where
     viewed : List ℕ × Json → List ℕ × json.Data
     viewed e = (e.0, json_view e.1)
 
-pub members_shown-listed : (listed : List (String Global × Json)) (es : List (String Global × Value)) → map json_entry listed ≡ map shown_entry es → json_members listed ≡ members_shown (members_view es)
+pub members_shown-listed : (listed : List (String Global × Json)) (es : List (String Global × Value))
+    → map json_entry listed ≡ map shown_entry es → json_members listed ≡ members_shown (members_view es)
 members_shown-listed listed es shown = json_members_of listed ∙ ap members_of shown ∙ sym (members_shown_of es)
 
-pub names_shown : (listed : List (String Global × Json)) (es : List (String Global × Value)) → map json_entry listed ≡ map shown_entry es → map (λ e. string_bytes e.0) listed ≡ map (λ e. string_bytes e.0) es
+pub names_shown : (listed : List (String Global × Json)) (es : List (String Global × Value)) → map json_entry listed ≡ map shown_entry es
+    → map (λ e. string_bytes e.0) listed ≡ map (λ e. string_bytes e.0) es
 names_shown listed es same = sym (map-map name json_entry listed) ∙ ap (map name) same ∙ map-map name shown_entry es
   where
     name : List ℕ × json.Data → List ℕ

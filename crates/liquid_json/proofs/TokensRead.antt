@@ -37,7 +37,8 @@ pub after_none : (r : Option (json.Items × List Token)) → r ≡ parse_map (fo
 after_none None = refl
 after_none (Some p) = refl
 
-pub after_more : (js : List json.Json) (j : json.Json) (r : Option (json.Items × List Token)) → parse_map (following js) (parse_map (json.item j) r) ≡ parse_map (following (js ++ j ∷ [])) r
+pub after_more : (js : List json.Json) (j : json.Json) (r : Option (json.Items × List Token))
+    → parse_map (following js) (parse_map (json.item j) r) ≡ parse_map (following (js ++ j ∷ [])) r
 after_more js j None = refl
 after_more js j (Some p) = ap (λ more. Some (more, p.1)) (after_one_more js j p.0)
 
@@ -48,12 +49,15 @@ AreMade js vs = (rest : json.Items) (ts : Items) → AreGiven rest ts → AreGiv
 pub none_made : AreMade [] []
 none_made rest ts given = rw (joined_none ts) given
 
-one_given : (j : json.Json) (t : Tree) (rest : json.Items) (ts : Items) → IsGiven j t → AreGiven rest ts → AreGiven (json.item j rest) (item t ts)
+one_given : (j : json.Json) (t : Tree) (rest : json.Items) (ts : Items) → IsGiven j t → AreGiven rest ts
+    → AreGiven (json.item j rest) (item t ts)
 one_given j t rest ts first more = (read.item first.0 more.0, rw (first.1, more.1) refl, rw (first.2, more.2) refl)
 
-pub one_more_made : (js : List json.Json) (vs : List Value) (j : json.Json) (v : Value) → AreMade js vs → IsGiven j (view v) → AreMade (js ++ j ∷ []) (vs ++ v ∷ [])
+pub one_more_made : (js : List json.Json) (vs : List Value) (j : json.Json) (v : Value) → AreMade js vs → IsGiven j (view v)
+    → AreMade (js ++ j ∷ []) (vs ++ v ∷ [])
 one_more_made js vs j v made given rest ts more =
-    rw (← after_one_more js j rest, map-append view vs (v ∷ []), ← joined_last (map view vs) (view v) ts) (made (json.item j rest) (item (view v) ts) (one_given j (view v) rest ts given more))
+    rw (← after_one_more js j rest, map-append view vs (v ∷ []), ← joined_last (map view vs) (view v) ts)
+      (made (json.item j rest) (item (view v) ts) (one_given j (view v) rest ts given more))
 
 pub all_made : (js : List json.Json) (vs : List Value) → AreMade js vs → AreGiven (following js json.no_items) (items_view vs)
 all_made js vs made = rw (← joined_all (map view vs)) (made json.no_items no_items (read.no_items, refl, refl))
@@ -65,7 +69,8 @@ abbrev pub put_after : List (List ℕ × json.Json) → json.Members → json.Me
 put_after [] rest = rest
 put_after (e ∷ es) rest = json.member e.0 e.1 (put_after es rest)
 
-put_after_one_more : (es : List (List ℕ × json.Json)) (k : List ℕ) (j : json.Json) (rest : json.Members) → put_after es (json.member k j rest) ≡ put_after (es ++ (k, j) ∷ []) rest
+put_after_one_more : (es : List (List ℕ × json.Json)) (k : List ℕ) (j : json.Json) (rest : json.Members)
+    → put_after es (json.member k j rest) ≡ put_after (es ++ (k, j) ∷ []) rest
 put_after_one_more [] k j rest = refl
 put_after_one_more (e ∷ es) k j rest = ap (json.member e.0 e.1) (put_after_one_more es k j rest)
 
@@ -85,11 +90,14 @@ ArePut es ds = (rest : json.Members) → of_members (put_after es rest) read.no_
 pub none_put : ArePut [] read.no_members
 none_put rest = refl
 
-pub one_more_put : (es : List (List ℕ × json.Json)) (ds : read.Members) (k : List ℕ) (j : json.Json) (d : read.Data) → ArePut es ds → of_json j ≡ Some d → ArePut (es ++ (k, j) ∷ []) (put k d ds)
+pub one_more_put : (es : List (List ℕ × json.Json)) (ds : read.Members) (k : List ℕ) (j : json.Json) (d : read.Data) → ArePut es ds
+    → of_json j ≡ Some d → ArePut (es ++ (k, j) ∷ []) (put k d ds)
 one_more_put es ds k j d so_far is rest =
-    ap (λ ms. of_members ms read.no_members) (sym (put_after_one_more es k j rest)) ∙ so_far (json.member k j rest) ∙ ap (option_and_then (λ e. of_members rest (put k e ds))) is
+    ap (λ ms. of_members ms read.no_members) (sym (put_after_one_more es k j rest)) ∙ so_far (json.member k j rest)
+      ∙ ap (option_and_then (λ e. of_members rest (put k e ds))) is
 
-pub all_put : (es : List (List ℕ × json.Json)) (ds : read.Members) (ts : Members) → ArePut es ds → members_given ds ≡ Ok ts → MembersGiven (put_after es json.no_members) ts
+pub all_put : (es : List (List ℕ × json.Json)) (ds : read.Members) (ts : Members) → ArePut es ds → members_given ds ≡ Ok ts
+    → MembersGiven (put_after es json.no_members) ts
 all_put es ds ts so_far given = (ds, so_far json.no_members, given)
 
 members_or : Members → Result Members Refusal → Members
@@ -100,26 +108,33 @@ ok_is : (ts us : Members) (x : Result Members Refusal) → x ≡ Ok ts → x ≡
 unfolding members_or
 ok_is ts us x e f = ap (members_or ts) (sym e ∙ f)
 
-member_parts : (l : List ℕ) (x : Result Tree Refusal) (y : Result Members Refusal) (ts : Members) → ok_then x (λ t. ok_then y (λ us. Ok (member l t us))) ≡ Ok ts
+member_parts : (l : List ℕ) (x : Result Tree Refusal) (y : Result Members Refusal) (ts : Members)
+    → ok_then x (λ t. ok_then y (λ us. Ok (member l t us))) ≡ Ok ts
     → (u : Tree) × (us : Members) × (x ≡ Ok u) × (y ≡ Ok us) × (member l u us ≡ ts)
 member_parts l (Ok u) (Ok us) ts e = (u, us, refl, refl, ok_is (member l u us) ts _ refl e)
 member_parts l (Ok u) (Err r) ts e = absurd (cc)
 member_parts l (Err r) y ts e = absurd (cc)
 
-member_made : (k : List ℕ) (d : read.Data) (t : Tree) (ds : read.Members) (ts : Members) → value_given d ≡ Ok t → members_given ds ≡ Ok ts → members_given (read.member k d ds) ≡ Ok (member k t ts)
+member_made : (k : List ℕ) (d : read.Data) (t : Tree) (ds : read.Members) (ts : Members) → value_given d ≡ Ok t → members_given ds ≡ Ok ts
+    → members_given (read.member k d ds) ≡ Ok (member k t ts)
 member_made k d t ds ts is more = rw (is, more) refl
 
-in_order_made : (o : Ordering) (a b c : read.Members) (x y z : Members) → members_given a ≡ Ok x → members_given b ≡ Ok y → members_given c ≡ Ok z → members_given (match_ordering o a b c) ≡ Ok (match_ordering o x y z)
+in_order_made : (o : Ordering) (a b c : read.Members) (x y z : Members) → members_given a ≡ Ok x → members_given b ≡ Ok y
+    → members_given c ≡ Ok z → members_given (match_ordering o a b c) ≡ Ok (match_ordering o x y z)
 in_order_made Less a b c x y z first second third = first
 in_order_made Equal a b c x y z first second third = second
 in_order_made Greater a b c x y z first second third = third
 
 -- a member that is put into those that are values already
-pub put_made : (k : List ℕ) (d : read.Data) (t : Tree) (ds : read.Members) (ts : Members) → value_given d ≡ Ok t → members_given ds ≡ Ok ts → members_given (put k d ds) ≡ Ok (put_member k t ts)
-put_made k d t read.no_members ts is done = member_made k d t read.no_members no_members is refl ∙ ap (λ us. Ok (put_member k t us)) (ok_is no_members ts _ refl done)
+pub put_made : (k : List ℕ) (d : read.Data) (t : Tree) (ds : read.Members) (ts : Members) → value_given d ≡ Ok t → members_given ds ≡ Ok ts
+    → members_given (put k d ds) ≡ Ok (put_member k t ts)
+put_made k d t read.no_members ts is done =
+    member_made k d t read.no_members no_members is refl ∙ ap (λ us. Ok (put_member k t us)) (ok_is no_members ts _ refl done)
 put_made k d t (read.member l e ds) ts is done =
     let p = member_parts l (value_given e) (members_given ds) ts done in
-    let all = in_order_made (slice_cmp nat_cmp k l) _ _ _ _ _ _ (member_made k d t (read.member l e ds) (member l p.0 p.1) is (done ∙ ap Ok (sym p.4))) (member_made l d t ds p.1 is p.3)
+    let all =
+        in_order_made (slice_cmp nat_cmp k l) _ _ _ _ _ _ (member_made k d t (read.member l e ds) (member l p.0 p.1) is
+        (done ∙ ap Ok (sym p.4))) (member_made l d t ds p.1 is p.3)
     (member_made l e p.0 (put k d ds) (put_member k t p.1) p.2 (put_made k d t ds p.1 is p.3)) in
     all ∙ ap (λ us. Ok (put_member k t us)) p.4
 

@@ -17,5 +17,6 @@ unfolding names_of
 global_names-object object = ap from_entries (entries_viewed object.entries)
 
 -- an object that was given
-pub object_given : (given : Result Members Refusal) (object : BTreeMap (String Global) Value) → given ≡ Ok (members_view object.entries) → names_given (Some given) ≡ Ok (names_of object)
+pub object_given : (given : Result Members Refusal) (object : BTreeMap (String Global) Value) → given ≡ Ok (members_view object.entries)
+    → names_given (Some given) ≡ Ok (names_of object)
 object_given given object is = ap (λ g. names_given (Some g)) is ∙ ap Ok (global_names-object object)

@@ -40,7 +40,8 @@ pub same_text : (which : PageText) (bytes t : List ℕ) → text_read which byte
 same_text which bytes t is = same_if which bytes t (is_utf8 bytes) is
 
 -- bytes whose fault is that they are no text
-pub refused_text : (which : PageText) {A : Type 0} (given : Result A Fault) (fault : PageFault) → fault ≡ page.NoText which → IfSome (fault_told fault) (λ f. given ≡ Err f) → given ≡ Err (no_text which)
+pub refused_text : (which : PageText) {A : Type 0} (given : Result A Fault) (fault : PageFault) → fault ≡ page.NoText which
+    → IfSome (fault_told fault) (λ f. given ≡ Err f) → given ≡ Err (no_text which)
 refused_text which given fault is tells = subst (λ x. IfSome (fault_told x) (λ f. given ≡ Err f)) is tells
 
 -- a fault that is that of a page
@@ -50,22 +51,29 @@ alike (Some f) u p same stops = subst (λ o. IfSome o (λ g. p ≡ stopped g)) s
 
 module _ {X S F T L B : Type 0} (nodes : X → List (NodeShape F T B)) (finds : S → Found F T B) (l : Lang F T L B) where
   -- what was read beside partials that were read
-  pub read_over : (text : List ℕ) (partials : List NameAndText) (texts : Texts) (r : ReadTexts X S) → partials_read 0 partials empty ≡ Ok texts → IsReadAs nodes finds l text texts r → IsReadOver nodes finds l text partials r
+  pub read_over : (text : List ℕ) (partials : List NameAndText) (texts : Texts) (r : ReadTexts X S)
+      → partials_read 0 partials empty ≡ Ok texts → IsReadAs nodes finds l text texts r → IsReadOver nodes finds l text partials r
   read_over text partials texts (read.NoPartial which) is reads = absurd reads
   read_over text partials texts read.NoMemory is reads = tt
   read_over text partials texts (read.Unparsed error) is reads = (texts, is, reads)
   read_over text partials texts (read.Read template store) is reads = (texts, is, reads)
 
-module _ {Reg F T P L B Q : Type 0} (s : Settings Reg F T P B Q) (l : Lang F T L B) (options : PageOptions) (text : List ℕ) (names : Names) (partials : List NameAndText) (texts : Texts) (p : Page) (is : partials_read 0 partials empty ≡ Ok texts) (comes : ReadComesTo s l options (partials_over text names partials) p) where
+module _ {Reg F T P L B Q : Type 0} (s : Settings Reg F T P B Q) (l : Lang F T L B) (options : PageOptions) (text : List ℕ) (names : Names)
+    (partials : List NameAndText) (texts : Texts) (p : Page) (is : partials_read 0 partials empty ≡ Ok texts)
+    (comes : ReadComesTo s l options (partials_over text names partials) p) where
   -- a page whose partials were read
   text_comes : TextComesTo s l options text names texts p
   text_comes = step_on s l options p (partials_read 0 partials empty) texts (λ read. Ok (text, (names, read))) is comes
 
   -- a page whose template can't be parsed
-  pub unparsed_shown : (error : Error) (fault : PageFault) → ((answer : PageAnswer F T B) → Reads l text answer → IfSome (told error) (λ refusal. answer ≡ Err refusal))
+  pub unparsed_shown : (error : Error) (fault : PageFault) → ((answer : PageAnswer F T B) → Reads l text answer
+      → IfSome (told error) (λ refusal. answer ≡ Err refusal))
       → IfSome (fault_told fault) (λ f. option_map unparsed (told error) ≡ Some f) → IfSome (fault_told fault) (λ f. p ≡ stopped f)
-  unparsed_shown error fault each tells = alike (fault_told fault) (option_map unparsed (told error)) p tells (text_refused s l options p text names texts (told error) each text_comes)
+  unparsed_shown error fault each tells =
+      alike (fault_told fault) (option_map unparsed (told error)) p tells
+      (text_refused s l options p text names texts (told error) each text_comes)
 
   -- a page whose template was parsed
-  pub nodes_read : (nodes : List (NodeShape F T B)) → ((answer : PageAnswer F T B) → Reads l text answer → answer ≡ Ok nodes) → NodesComeTo s l options nodes names texts p
+  pub nodes_read : (nodes : List (NodeShape F T B)) → ((answer : PageAnswer F T B) → Reads l text answer → answer ≡ Ok nodes)
+      → NodesComeTo s l options nodes names texts p
   nodes_read nodes each = text_nodes s l options p text names texts nodes each text_comes

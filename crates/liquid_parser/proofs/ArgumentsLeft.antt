@@ -27,9 +27,12 @@ push_join : {A : Type 0} (xs : List A) (x : A) (ys : List A) → xs ++ x ∷ ys 
 push_join [] x ys = refl
 push_join (y ∷ xs) x ys = ap (λ zs. y ∷ zs) (push_join xs x ys)
 
-join_last : (a : Arguments) (name : Option (List ℕ)) (v : Value) (b : Arguments) → join a (with_argument (argument_by name v) b) ≡ join (with_last name (expression_meant v) a) b
-join_last a (Some name) v b = ap (λ k. record { positional = a.positional ++ b.positional; keyword = k }) (push_join a.keyword (name, expression_meant v) b.keyword)
-join_last a None v b = ap (λ p. record { positional = p; keyword = a.keyword ++ b.keyword }) (push_join a.positional (expression_meant v) b.positional)
+join_last : (a : Arguments) (name : Option (List ℕ)) (v : Value) (b : Arguments)
+    → join a (with_argument (argument_by name v) b) ≡ join (with_last name (expression_meant v) a) b
+join_last a (Some name) v b =
+    ap (λ k. record { positional = a.positional ++ b.positional; keyword = k }) (push_join a.keyword (name, expression_meant v) b.keyword)
+join_last a None v b =
+    ap (λ p. record { positional = p; keyword = a.keyword ++ b.keyword }) (push_join a.positional (expression_meant v) b.positional)
 
 append_none : {A : Type 0} (xs : List A) → xs ++ [] ≡ xs
 append_none [] = refl
@@ -57,10 +60,12 @@ pub record Next (s : List ℕ) (start : ArgumentStart) (rest : List ℕ) (built 
   pub then : value_fault value ≡ None → Left false middle rest (with_last (name_of start) (expression_meant value) built) meant whole
 
 pub left_next : (first : Bool) (s rest : List ℕ) (built meant : Arguments) (whole : Option Fault) (start : ArgumentStart)
-    → (left : Left first s rest built meant whole) → First (IsArgument start) (ArgumentsFrom false) rest left.arguments → Next s start rest built meant whole
+    → (left : Left first s rest built meant whole) → First (IsArgument start) (ArgumentsFrom false) rest left.arguments
+      → Next s start rest built meant whole
 left_next first s rest built meant whole start left f =
     let fault : whole ≡ first_fault argument_fault (f.part ∷ f.others) = left.fault ∙ ap (first_fault argument_fault) f.joined in
-    let part : argument_fault f.part ≡ value_fault f.found.value = ap argument_fault f.found.is ∙ argument_fine (name_of start) f.found.value in
+    let part : argument_fault f.part ≡ value_fault f.found.value =
+        ap argument_fault f.found.is ∙ argument_fine (name_of start) f.found.value in
     record {
       middle = f.middle;
       place = f.found.place;
@@ -78,27 +83,34 @@ left_next first s rest built meant whole start left f =
       };
     }
 
-pub left_none : (first : Bool) (s rest : List ℕ) (built meant : Arguments) (whole : Option Fault) → (left : Left first s rest built meant whole) → NoneLeft s rest left.arguments
+pub left_none : (first : Bool) (s rest : List ℕ) (built meant : Arguments) (whole : Option Fault)
+    → (left : Left first s rest built meant whole) → NoneLeft s rest left.arguments
     → (whole ≡ None) × (built ≡ meant)
 left_none first s rest built meant whole left n = (
   left.fault ∙ ap (first_fault argument_fault) n.none,
   sym (left.joined ∙ (ap (λ given. join built (arguments_meant given)) n.none
-      ∙ (ap (λ p. record { positional = p; keyword = built.keyword ++ [] }) (append_none built.positional) ∙ ap (λ k. record { positional = built.positional; keyword = k }) (append_none built.keyword)))),
+      ∙ (ap (λ p. record { positional = p; keyword = built.keyword ++ [] }) (append_none built.positional)
+        ∙ ap (λ k. record { positional = built.positional; keyword = k }) (append_none built.keyword)))),
 )
 
 -- a keyword argument in the program
 abbrev pub key_of : Bor (List ℕ) × Expression → List ℕ × ExpressionShape
 key_of k = (k.0.now, expression_of k.1)
 
-pub keyword_then : (rest middle end : List ℕ) (built meant : Arguments) (whole : Option Fault) (o : Option (List ℕ)) (name : List ℕ) (e e' : ExpressionShape) (ks : List (List ℕ × ExpressionShape))
-    → Left false middle end (with_last o e built) meant whole → o ≡ Some name → e' ≡ e → rest ≡ middle → ks ≡ built.keyword ++ (name, e') ∷ [] → Left false rest end (record built { keyword = ks }) meant whole
+pub keyword_then : (rest middle end : List ℕ) (built meant : Arguments) (whole : Option Fault) (o : Option (List ℕ)) (name : List ℕ)
+    (e e' : ExpressionShape) (ks : List (List ℕ × ExpressionShape))
+    → Left false middle end (with_last o e built) meant whole → o ≡ Some name → e' ≡ e → rest ≡ middle → ks ≡ built.keyword ++ (name, e')
+      ∷ [] → Left false rest end (record built { keyword = ks }) meant whole
 keyword_then rest middle end built meant whole o name e e' ks left named same following is =
     subst (λ r. Left false r end (record built { keyword = ks }) meant whole) (sym following)
-    (subst (λ k. Left false middle end (record built { keyword = k }) meant whole) (sym (is ∙ ap (λ x. built.keyword ++ (name, x) ∷ []) same))
+    (subst (λ k. Left false middle end (record built { keyword = k }) meant whole)
+      (sym (is ∙ ap (λ x. built.keyword ++ (name, x) ∷ []) same))
     (subst (λ o'. Left false middle end (with_last o' e built) meant whole) named left))
 
-pub positional_then : (rest middle end : List ℕ) (built meant : Arguments) (whole : Option Fault) (o : Option (List ℕ)) (e e' : ExpressionShape) (es : List ExpressionShape)
-    → Left false middle end (with_last o e built) meant whole → o ≡ None → e' ≡ e → rest ≡ middle → es ≡ built.positional ++ e' ∷ [] → Left false rest end (record built { positional = es }) meant whole
+pub positional_then : (rest middle end : List ℕ) (built meant : Arguments) (whole : Option Fault) (o : Option (List ℕ))
+    (e e' : ExpressionShape) (es : List ExpressionShape)
+    → Left false middle end (with_last o e built) meant whole → o ≡ None → e' ≡ e → rest ≡ middle → es ≡ built.positional ++ e' ∷ []
+      → Left false rest end (record built { positional = es }) meant whole
 positional_then rest middle end built meant whole o e e' es left named same following is =
     subst (λ r. Left false r end (record built { positional = es }) meant whole) (sym following)
     (subst (λ k. Left false middle end (record built { positional = k }) meant whole) (sym (is ∙ ap (λ x. built.positional ++ x ∷ []) same))

@@ -18,11 +18,13 @@ use Rattle.liquid_parser.proofs.EscapeLemmas.{taken}
 -- an element that is an end tag, or is not
 module _ (source end_name following : List ℕ) where
   pub end_tag : (x : Tag) (e : Element) → StandsFor (cursor.Tag x) source following e → bytes_eq x.name.now end_name ≡ true
-      → (t : token.Tag) × AreTokens x.tokens (handed source t) × (or_end source end_name e ≡ ok_then (expect_nothing (handed source t)) (λ _. Ok None))
+      → (t : token.Tag) × AreTokens x.tokens (handed source t) × (or_end source end_name e ≡ ok_then (expect_nothing (handed source t))
+        (λ _. Ok None))
   end_tag x (tag_element t text) m is = (
     t,
     m.0.tokens_are,
-    ap (λ b. if b then ok_then (expect_nothing (handed source t)) (λ _. Ok None) else Ok (Some (tag_element t text))) (ap (λ n. bytes_eq n end_name) (sym m.0.name_is) ∙ is),
+    ap (λ b. if b then ok_then (expect_nothing (handed source t)) (λ _. Ok None) else Ok (Some (tag_element t text)))
+      (ap (λ n. bytes_eq n end_name) (sym m.0.name_is) ∙ is),
   )
   end_tag x (raw text) m is = absurd m
   end_tag x (expression c text) m is = absurd m
@@ -30,7 +32,8 @@ module _ (source end_name following : List ℕ) where
 
 -- the first element of those that are left
 module _ (source end_name place following : List ℕ) (e : Element) (es : List Element) where
-  pub first_out : IsElement place following e → Cover place es → element_checked source e ≡ Ok tt → (handed_out source end_name es ≡ or_end source end_name e) × Cover following (following_first es)
+  pub first_out : IsElement place following e → Cover place es → element_checked source e ≡ Ok tt
+      → (handed_out source end_name es ≡ or_end source end_name e) × Cover following (following_first es)
   first_out is c fine =
       let t = taken place following e es is c in (
         ap (handed_out source end_name) t.is ∙ ap (λ r. ok_then r (λ _. or_end source end_name e)) fine,
@@ -42,19 +45,22 @@ module _ (source end_name place following : List ℕ) (e : Element) (es : List E
   first_fault o is c fault =
       let t = taken place following e es is c in (go o t.is fault, subst (λ xs. Cover following (following_first xs)) (sym t.is) t.cover)
     where
-      go : (o : Option Refusal) {others : List Element} → es ≡ e ∷ others → IfSome o (λ r. element_checked source e ≡ Err r) → IfSome o (λ r. handed_out source end_name es ≡ Err r)
+      go : (o : Option Refusal) {others : List Element} → es ≡ e ∷ others → IfSome o (λ r. element_checked source e ≡ Err r)
+          → IfSome o (λ r. handed_out source end_name es ≡ Err r)
       go None is h = tt
       go (Some r) is h = ap (handed_out source end_name) is ∙ ap (λ x. ok_then x (λ _. or_end source end_name e)) h
 
 -- no element is left
-pub none_out : (source end_name place : List ℕ) (es : List Element) (o : Option Refusal) → place ≡ [] → Cover place es → IfSome o (λ r. r ≡ unclosed_by source end_name)
+pub none_out : (source end_name place : List ℕ) (es : List Element) (o : Option Refusal) → place ≡ [] → Cover place es
+    → IfSome o (λ r. r ≡ unclosed_by source end_name)
     → IfSome o (λ r. handed_out source end_name es ≡ Err r) × Cover place (following_first es)
 none_out source end_name place es o empty c h =
     let only = cover_of [] in
     let none : es ≡ [] = only.only es (subst (λ x. Cover x es) empty c) ∙ sym (only.only [] done) in
     (go o none h, subst (λ xs. Cover place (following_first xs)) (sym none) (subst (λ x. Cover x []) (sym empty) done))
   where
-    go : (o : Option Refusal) → es ≡ [] → IfSome o (λ r. r ≡ unclosed_by source end_name) → IfSome o (λ r. handed_out source end_name es ≡ Err r)
+    go : (o : Option Refusal) → es ≡ [] → IfSome o (λ r. r ≡ unclosed_by source end_name)
+        → IfSome o (λ r. handed_out source end_name es ≡ Err r)
     go None is h = tt
     go (Some r) is h = ap (handed_out source end_name) is ∙ ap (λ x. Err x) (sym h)
 

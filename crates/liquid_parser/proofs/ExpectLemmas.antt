@@ -49,17 +49,21 @@ unfolding is_value_kind
 no_filters v [] e = refl
 no_filters v (f ∷ fs) e = cc
 
-no_value : (v : Value) (fs : List token.Filter) → is_value_kind (chain_kind v fs) ≡ false → value_of (chain (expression_meant v) (map call_of fs)) ≡ None
+no_value : (v : Value) (fs : List token.Filter) → is_value_kind (chain_kind v fs) ≡ false
+    → value_of (chain (expression_meant v) (map call_of fs)) ≡ None
 no_value v [] e = let both : true ≡ false = sym (values_are v) ∙ e in cc
 no_value v (f ∷ fs) e = refl
 
-pub has_parts : (t : TagToken) (handed : Token) (is : IsToken t handed) (p : TokenParts) → t.text.parts ≡ p → HasParts p t.text.place.now t.text.rest.now is.matched
+pub has_parts : (t : TagToken) (handed : Token) (is : IsToken t handed) (p : TokenParts) → t.text.parts ≡ p
+    → HasParts p t.text.place.now t.text.rest.now is.matched
 has_parts t handed is p e = subst (λ x. HasParts x t.text.place.now t.text.rest.now is.matched) e is.parts
 
-pub shape_of_parts : (t : TagToken) (handed : Token) (is : IsToken t handed) (matched : token.Token) → is.matched ≡ matched → handed.shape ≡ (handed_token t.source.now matched).shape
+pub shape_of_parts : (t : TagToken) (handed : Token) (is : IsToken t handed) (matched : token.Token) → is.matched ≡ matched
+    → handed.shape ≡ (handed_token t.source.now matched).shape
 shape_of_parts t handed is matched e = ap (λ x. Token.shape x) is.is ∙ ap (λ x. Token.shape (handed_token t.source.now x)) e
 
-pub chain_value : (t : TagToken) (handed : Token) (k : TokenKind) → IsToken t handed → t.text.parts ≡ parts.Chain k → is_value_kind (token_kind_of k) ≡ true → IsValue t.text.place.now handed (token_kind_of k)
+pub chain_value : (t : TagToken) (handed : Token) (k : TokenKind) → IsToken t handed → t.text.parts ≡ parts.Chain k
+    → is_value_kind (token_kind_of k) ≡ true → IsValue t.text.place.now handed (token_kind_of k)
 chain_value t handed k is e fits =
     let h : IsChainToken (token_kind_of k) t.text.place.now t.text.rest.now is.matched = has_parts t handed is (parts.Chain k) e in
     let value : Value = h.chain_here.what.0 in
@@ -74,14 +78,16 @@ chain_value t handed k is e fits =
       kind_is = h.kind_is ∙ ap (chain_kind value) none;
     }
 
-pub other_value : (t : TagToken) (handed : Token) (p : TokenParts) → IsToken t handed → t.text.parts ≡ p → are_value_parts p ≡ false → expect_value handed ≡ None
+pub other_value : (t : TagToken) (handed : Token) (p : TokenParts) → IsToken t handed → t.text.parts ≡ p → are_value_parts p ≡ false
+    → expect_value handed ≡ None
 unfolding are_value_parts
 other_value t handed (parts.Range start stop) is e other =
     let h = has_parts t handed is (parts.Range start stop) e in
     ap value_of (shape_of_parts t handed is _ h.is)
 other_value t handed (parts.Chain k) is e other =
     let h = has_parts t handed is (parts.Chain k) e in
-    ap value_of (shape_of_parts t handed is _ h.is) ∙ no_value h.chain_here.what.0 h.chain_here.what.1 (ap is_value_kind (sym h.kind_is) ∙ other)
+    ap value_of (shape_of_parts t handed is _ h.is) ∙ no_value h.chain_here.what.0 h.chain_here.what.1
+      (ap is_value_kind (sym h.kind_is) ∙ other)
 other_value t handed (parts.Symbol s) is e other =
     let h = has_parts t handed is (parts.Symbol s) e in
     ap value_of (shape_of_parts t handed is _ h)
@@ -106,21 +112,28 @@ value_literal (literal_value p b l) = refl
 value_literal (variable_value p b n no_index) = refl
 value_literal (variable_value p b n (more_indexes i is)) = refl
 
-pub value_expected : (place : List ℕ) (handed : Token) (k : Kind) (is : IsValue place handed k) → expect_value handed ≡ Some (expression_meant is.value)
+pub value_expected : (place : List ℕ) (handed : Token) (k : Kind) (is : IsValue place handed k)
+    → expect_value handed ≡ Some (expression_meant is.value)
 value_expected place handed k is = ap value_of is.is
 
 pub identifier_expected : (place : List ℕ) (handed : Token) (k : Kind) → IsValue place handed k → expect_identifier handed ≡ identifier_of k
-identifier_expected place handed k is = ap (λ s. option_and_then as_identifier (value_of s)) is.is ∙ (value_identifier is.value ∙ ap identifier_of (sym is.kind_is))
+identifier_expected place handed k is =
+    ap (λ s. option_and_then as_identifier (value_of s)) is.is ∙ (value_identifier is.value ∙ ap identifier_of (sym is.kind_is))
 
-pub literal_expected : (place : List ℕ) (handed : Token) (k : Kind) → IsValue place handed k → expect_literal handed ≡ option_map literal_tree (literal_of_kind k)
-literal_expected place handed k is = ap (λ s. option_and_then as_literal (value_of s)) is.is ∙ (value_literal is.value ∙ ap (λ x. option_map literal_tree (literal_of_kind x)) (sym is.kind_is))
+pub literal_expected : (place : List ℕ) (handed : Token) (k : Kind) → IsValue place handed k
+    → expect_literal handed ≡ option_map literal_tree (literal_of_kind k)
+literal_expected place handed k is =
+    ap (λ s. option_and_then as_literal (value_of s)) is.is ∙ (value_literal is.value
+    ∙ ap (λ x. option_map literal_tree (literal_of_kind x)) (sym is.kind_is))
 
-pub literal_is : (place : List ℕ) (handed : Token) (l : Literal) → IsValue place handed (literal_kind l) → expect_literal handed ≡ Some (literal_tree l)
+pub literal_is : (place : List ℕ) (handed : Token) (l : Literal) → IsValue place handed (literal_kind l)
+    → expect_literal handed ≡ Some (literal_tree l)
 unfolding literal_of_kind
 literal_is place handed l is = literal_expected place handed (literal_kind l) is
 
 -- literals, variables and identifiers are values
-pub values_of_kinds : (k : TokenKind) → ((l : CodeLiteral) × k ≡ kind.Literal l) ⊎ ((k ≡ kind.Variable) ⊎ ((name : Bor (List ℕ)) × k ≡ kind.Identifier name)) → is_value_kind (token_kind_of k) ≡ true
+pub values_of_kinds : (k : TokenKind) → ((l : CodeLiteral) × k ≡ kind.Literal l)
+    ⊎ ((k ≡ kind.Variable) ⊎ ((name : Bor (List ℕ)) × k ≡ kind.Identifier name)) → is_value_kind (token_kind_of k) ≡ true
 unfolding is_value_kind
 values_of_kinds k (inl e) = ap (λ x. is_value_kind (token_kind_of x)) e.1
 values_of_kinds k (inr (inl e)) = ap (λ x. is_value_kind (token_kind_of x)) e
@@ -141,13 +154,16 @@ name_meant (variable (boolean b) is) name h = absurd (cc)
 name_meant (variable (date d) is) name h = absurd (cc)
 name_meant (variable (date_time d) is) name h = absurd (cc)
 
-pub literal_shape : (t : TagToken) (handed : Token) (l : CodeLiteral) → IsToken t handed → t.text.parts ≡ parts.Chain (kind.Literal l) → handed.shape ≡ chain (literal (literal_tree (literal_of l))) []
+pub literal_shape : (t : TagToken) (handed : Token) (l : CodeLiteral) → IsToken t handed → t.text.parts ≡ parts.Chain (kind.Literal l)
+    → handed.shape ≡ chain (literal (literal_tree (literal_of l))) []
 unfolding literal_of_kind
 literal_shape t handed l is e =
     let found = chain_value t handed (kind.Literal l) is e (values_of_kinds (kind.Literal l) (inl (l, refl))) in
-    found.is ∙ ap (λ x. chain x []) (literal_meant _ _ (value_literal found.value ∙ ap (λ k. option_map literal_tree (literal_of_kind k)) (sym found.kind_is)))
+    found.is ∙ ap (λ x. chain x []) (literal_meant _ _ (value_literal found.value
+      ∙ ap (λ k. option_map literal_tree (literal_of_kind k)) (sym found.kind_is)))
 
-pub name_shape : (t : TagToken) (handed : Token) (name : Bor (List ℕ)) → IsToken t handed → t.text.parts ≡ parts.Chain (kind.Identifier name) → handed.shape ≡ chain (variable (text name.now) no_indexes) []
+pub name_shape : (t : TagToken) (handed : Token) (name : Bor (List ℕ)) → IsToken t handed
+    → t.text.parts ≡ parts.Chain (kind.Identifier name) → handed.shape ≡ chain (variable (text name.now) no_indexes) []
 name_shape t handed name is e =
     let found = chain_value t handed (kind.Identifier name) is e (values_of_kinds (kind.Identifier name) (inr (inr (name, refl)))) in
     found.is ∙ ap (λ x. chain x []) (name_meant _ _ (value_identifier found.value ∙ ap identifier_of (sym found.kind_is)))

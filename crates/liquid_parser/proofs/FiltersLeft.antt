@@ -26,7 +26,8 @@ push_all : {F : Type 0} (xs : List F) (x : F) (ys : List F) → xs ++ x ∷ ys �
 push_all [] x ys = refl
 push_all (y ∷ xs) x ys = ap (λ zs. y ∷ zs) (push_all xs x ys)
 
-after_push : {F : Type 0} (xs : List F) (x : F) (r : Result (List F) Refusal) → after_all xs (ok_then r (λ ys. Ok (x ∷ ys))) ≡ after_all (xs ++ x ∷ []) r
+after_push : {F : Type 0} (xs : List F) (x : F) (r : Result (List F) Refusal)
+    → after_all xs (ok_then r (λ ys. Ok (x ∷ ys))) ≡ after_all (xs ++ x ∷ []) r
 after_push xs x (Ok ys) = ap (λ zs. Ok zs) (push_all xs x ys)
 after_push xs x (Err e) = refl
 
@@ -39,11 +40,13 @@ append_none [] = refl
 append_none (x ∷ xs) = ap (λ ys. x ∷ ys) (append_none xs)
 
 -- the first of these filters is between its places
-pub filter_here : (s rest : List ℕ) (f : token.Filter) (fs : List token.Filter) → Repeated (Following 124 FilterRule) s rest (f ∷ fs) → FilterRule f.place f.following f
+pub filter_here : (s rest : List ℕ) (f : token.Filter) (fs : List token.Filter) → Repeated (Following 124 FilterRule) s rest (f ∷ fs)
+    → FilterRule f.place f.following f
 filter_here s rest f fs (more {middle = middle} m ms) =
     let inner = m.match.after in
     subst (λ g. FilterRule g.place g.following g) (sym m.is)
-    (subst (λ p. FilterRule p m.from.1.following m.from.1) (sym inner.begins) (subst (λ p. FilterRule m.match.middle p m.from.1) (sym inner.ends) inner))
+    (subst (λ p. FilterRule p m.from.1.following m.from.1) (sym inner.begins)
+      (subst (λ p. FilterRule m.match.middle p m.from.1) (sym inner.ends) inner))
 
 module _ {F : Type 0} (filters : Filters F) (source : List ℕ) where
   pub record Left (s rest : List ℕ) (made : List F) (meant : Result (List F) Refusal) (whole : Option Fault) : Type 0 where
@@ -52,21 +55,25 @@ module _ {F : Type 0} (filters : Filters F) (source : List ℕ) where
     pub fault : whole ≡ first_fault filter_fault filters_left
     pub joined : meant ≡ after_all made (filters_read filters source filters_left)
 
-  pub left_all : (s rest : List ℕ) (fs : List token.Filter) → Repeated (Following 124 FilterRule) s rest fs → Left s rest [] (filters_read filters source fs) (first_fault filter_fault fs)
+  pub left_all : (s rest : List ℕ) (fs : List token.Filter) → Repeated (Following 124 FilterRule) s rest fs
+      → Left s rest [] (filters_read filters source fs) (first_fault filter_fault fs)
   left_all s rest fs m = record { filters_left = fs; match = m; fault = refl; joined = sym (after_none _) }
 
   -- one more filter, and what is left after it if it has no fault
-  pub record Next (s : List ℕ) (start : FilterStart) (rest : List ℕ) (made : List F) (meant : Result (List F) Refusal) (whole : Option Fault) : Type 0 where
+  pub record Next (s : List ℕ) (start : FilterStart) (rest : List ℕ) (made : List F) (meant : Result (List F) Refusal)
+      (whole : Option Fault) : Type 0 where
     pub middle : List ℕ
     pub filter : token.Filter
     pub found : IsFilter start middle filter
     pub here : FilterRule filter.place filter.following filter
     pub fine : whole ≡ None → filter_fault filter ≡ None
-    pub made_next : filter_fault filter ≡ None → (x : F) → filter_or filters source (filters.get filter.what.0) filter ≡ Ok x → Left middle rest (made ++ x ∷ []) meant whole
+    pub made_next : filter_fault filter ≡ None → (x : F) → filter_or filters source (filters.get filter.what.0) filter ≡ Ok x
+        → Left middle rest (made ++ x ∷ []) meant whole
     pub refused : (r : Refusal) → filter_or filters source (filters.get filter.what.0) filter ≡ Err r → meant ≡ Err r
 
   pub left_next : (s rest : List ℕ) (made : List F) (meant : Result (List F) Refusal) (whole : Option Fault) (start : FilterStart)
-      → (left : Left s rest made meant whole) → First (IsFilter start) (Repeated (Following 124 FilterRule)) rest left.filters_left → Next s start rest made meant whole
+      → (left : Left s rest made meant whole) → First (IsFilter start) (Repeated (Following 124 FilterRule)) rest left.filters_left
+        → Next s start rest made meant whole
   left_next s rest made meant full start left f =
       let fault : full ≡ first_fault filter_fault (f.part ∷ f.others) = left.fault ∙ ap (first_fault filter_fault) f.joined in
       let whole = left.joined ∙ ap (λ fs. after_all made (filters_read filters source fs)) f.joined in
@@ -80,25 +87,34 @@ module _ {F : Type 0} (filters : Filters F) (source : List ℕ) where
           filters_left = f.others;
           match = f.then;
           fault = fault ∙ ap (λ o. option_or o (first_fault filter_fault f.others)) fine;
-          joined = whole ∙ (ap (λ o. after_all made (ok_then o (λ y. ok_then (filters_read filters source f.others) (λ ys. Ok (y ∷ ys))))) is ∙ after_push made x (filters_read filters source f.others));
+          joined =
+              whole ∙ (ap (λ o. after_all made (ok_then o (λ y. ok_then (filters_read filters source f.others) (λ ys. Ok (y ∷ ys))))) is
+              ∙ after_push made x (filters_read filters source f.others));
         };
-        refused = λ r is. whole ∙ ap (λ o. after_all made (ok_then o (λ y. ok_then (filters_read filters source f.others) (λ ys. Ok (y ∷ ys))))) is;
+        refused =
+            λ r is. whole ∙ ap (λ o. after_all made (ok_then o (λ y. ok_then (filters_read filters source f.others) (λ ys. Ok (y ∷ ys)))))
+            is;
       }
 
-  pub left_none : (s rest : List ℕ) (made : List F) (meant : Result (List F) Refusal) (whole : Option Fault) → (left : Left s rest made meant whole) → NoneLeft s rest left.filters_left → (whole ≡ None) × (meant ≡ Ok made)
+  pub left_none : (s rest : List ℕ) (made : List F) (meant : Result (List F) Refusal) (whole : Option Fault)
+      → (left : Left s rest made meant whole) → NoneLeft s rest left.filters_left → (whole ≡ None) × (meant ≡ Ok made)
   left_none s rest made meant whole left n = (
     left.fault ∙ ap (first_fault filter_fault) n.none,
     left.joined ∙ (ap (λ fs. after_all made (filters_read filters source fs)) n.none ∙ ap (λ xs. Ok xs) (append_none made)),
   )
 
   -- what a filter makes from its arguments
-  pub made_ok : (make : Arguments → Result F Refusal) (f : token.Filter) (a : Arguments) (x : F) → filters.get f.what.0 ≡ Some make → a ≡ arguments_meant f.what.1 → make a ≡ Ok x
+  pub made_ok : (make : Arguments → Result F Refusal) (f : token.Filter) (a : Arguments) (x : F) → filters.get f.what.0 ≡ Some make
+      → a ≡ arguments_meant f.what.1 → make a ≡ Ok x
       → filter_or filters source (filters.get f.what.0) f ≡ Ok x
   made_ok make f a x has same is =
-      ap (λ o. filter_or filters source o f) has ∙ ap (filter_refused (place_in source f.place) (slice_between f.place f.following)) (ap make (sym same) ∙ is)
+      ap (λ o. filter_or filters source o f) has ∙ ap (filter_refused (place_in source f.place) (slice_between f.place f.following))
+        (ap make (sym same) ∙ is)
 
-  pub made_err : (make : Arguments → Result F Refusal) (f : token.Filter) (a : Arguments) (o o' : Option Refusal) → filters.get f.what.0 ≡ Some make → a ≡ arguments_meant f.what.1
-      → IfSome o (λ r. make a ≡ Err r) → IfSome o' (λ r. option_map (refusal_of_filter (place_in source f.place) (slice_between f.place f.following)) o ≡ Some r)
+  pub made_err : (make : Arguments → Result F Refusal) (f : token.Filter) (a : Arguments) (o o' : Option Refusal)
+      → filters.get f.what.0 ≡ Some make → a ≡ arguments_meant f.what.1
+      → IfSome o (λ r. make a ≡ Err r) → IfSome o' (λ r. option_map
+        (refusal_of_filter (place_in source f.place) (slice_between f.place f.following)) o ≡ Some r)
       → IfSome o' (λ r. filter_or filters source (filters.get f.what.0) f ≡ Err r)
   made_err make f a o None has same is new = tt
   made_err make f a None (Some r) has same is new = cc new

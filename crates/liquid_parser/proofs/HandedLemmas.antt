@@ -34,7 +34,8 @@ parts_after (parts.Chain kind) s rest t h = ap after_of h.is ∙ h.match.ends
 parts_after (parts.Symbol text) s rest t h = ap after_of h
 
 -- the first token by its own rule, at its own places
-first_rule : {s rest : List ℕ} {t : token.Token} {ts : List token.Token} → Repeated (White ▷ TokenRule) s rest (t ∷ ts) → TokenRule (place_of t) (after_of t) t
+first_rule : {s rest : List ℕ} {t : token.Token} {ts : List token.Token} → Repeated (White ▷ TokenRule) s rest (t ∷ ts)
+    → TokenRule (place_of t) (after_of t) t
 first_rule {t = t} (more {middle = middle} m ms) =
     let rule : TokenRule m.match.middle middle t = subst (λ x. TokenRule m.match.middle middle x) (sym m.is) m.match.after in
     subst (λ p. TokenRule p (after_of t) t) (sym (rule_place rule)) (subst (λ p. TokenRule m.match.middle p t) (sym (rule_after rule)) rule)
@@ -42,7 +43,8 @@ first_rule {t = t} (more {middle = middle} m ms) =
 tokens_of : (t : TagTokenIter) (ts : Tokens) (a : AreTokens t ts) → Repeated (White ▷ TokenRule) t.rest.now a.tag.1.following a.tag.1.what
 tokens_of t ts a = subst (λ p. Repeated (White ▷ TokenRule) p a.tag.1.following a.tag.1.what) a.begins a.match
 
-pub cursor_tokens : (t : TagTokenIter) (ts : Tokens) (a : AreTokens t ts) → Repeated (White ▷ TokenRule) t.rest.now a.tag.1.following a.tag.1.what
+pub cursor_tokens : (t : TagTokenIter) (ts : Tokens) (a : AreTokens t ts)
+    → Repeated (White ▷ TokenRule) t.rest.now a.tag.1.following a.tag.1.what
 cursor_tokens t ts a = tokens_of t ts a
 
 -- the cursor is just after what came before
@@ -50,19 +52,25 @@ pub cursor_place : (t : TagTokenIter) (ts : Tokens) → AreTokens t ts → ts.fo
 cursor_place t ts a = ap (λ x. Tokens.following x) a.is ∙ ap (place_in t.source.now) a.begins
 
 -- no token is left
-pub none_handed : (t : TagTokenIter) (ts : Tokens) (a : AreTokens t ts) → NoneLeft t.rest.now a.tag.1.following a.tag.1.what → next ts ≡ None
+pub none_handed : (t : TagTokenIter) (ts : Tokens) (a : AreTokens t ts) → NoneLeft t.rest.now a.tag.1.following a.tag.1.what
+    → next ts ≡ None
 none_handed t ts a n = ap (λ x. first_of (Tokens.left x)) a.is ∙ ap (λ xs. first_of (map (handed_token t.source.now) xs)) n.none
 
 -- a token is returned
-pub one_handed : (t : TagTokenIter) (ts : Tokens) (text : TokenText) → text.place.now ≡ text.text.now ++ text.rest.now → (a : AreTokens t ts) → First (part.IsToken text) (Repeated (White ▷ TokenRule)) a.tag.1.following a.tag.1.what
-    → (given : Token × Tokens) × (next ts ≡ Some given) × IsHandedOut (record { source = t.source; text = text }) (record { source = t.source; rest = text.rest }) given
+pub one_handed : (t : TagTokenIter) (ts : Tokens) (text : TokenText) → text.place.now ≡ text.text.now ++ text.rest.now
+    → (a : AreTokens t ts) → First (part.IsToken text) (Repeated (White ▷ TokenRule)) a.tag.1.following a.tag.1.what
+    → (given : Token × Tokens) × (next ts ≡ Some given) × IsHandedOut (record { source = t.source; text = text })
+      (record { source = t.source; rest = text.rest }) given
 one_handed t ts text cut a f =
     let source : List ℕ = t.source.now in
     let fine : first_fault token_fault (f.part ∷ f.others) ≡ None = ap (first_fault token_fault) (sym f.joined) ∙ a.fine in
-    let has : HasParts text.parts text.place.now text.rest.now f.part = subst (λ p. HasParts text.parts text.place.now p f.part) (sym f.found.ends) f.found.has in
+    let has : HasParts text.parts text.place.now text.rest.now f.part =
+        subst (λ p. HasParts text.parts text.place.now p f.part) (sym f.found.ends) f.found.has in
     let rule = first_rule (subst (λ xs. Repeated (White ▷ TokenRule) t.rest.now a.tag.1.following xs) f.joined (tokens_of t ts a)) in
-    let at_place : TokenRule text.place.now (after_of f.part) f.part = subst (λ p. TokenRule p (after_of f.part) f.part) (parts_place text.parts _ _ f.part has) rule in
-    let following : place_in source (after_of f.part) ≡ place_in source f.middle = ap (place_in source) (parts_after text.parts _ _ f.part f.found.has) in
+    let at_place : TokenRule text.place.now (after_of f.part) f.part =
+        subst (λ p. TokenRule p (after_of f.part) f.part) (parts_place text.parts _ _ f.part has) rule in
+    let following : place_in source (after_of f.part) ≡ place_in source f.middle =
+        ap (place_in source) (parts_after text.parts _ _ f.part f.found.has) in
     let token : Token = handed_token source f.part in
     let others : List Token = map (handed_token source) f.others in (
       (token, record { following = token.following; left = others }),

@@ -37,21 +37,26 @@ pub record Left (depth : ℕ) (s rest : List ℕ) (built : List ExpressionShape)
   pub fault : whole ≡ indexes_fault depth (gather indexes)
   pub joined : meant ≡ join built (indexes_meant (gather indexes))
 
-pub left_all : (depth : ℕ) (s rest : List ℕ) (is : List Index) → Repeated IndexRule s rest is → Left depth s rest [] (indexes_meant (gather is)) (indexes_fault depth (gather is))
+pub left_all : (depth : ℕ) (s rest : List ℕ) (is : List Index) → Repeated IndexRule s rest is
+    → Left depth s rest [] (indexes_meant (gather is)) (indexes_fault depth (gather is))
 left_all depth s rest is m = record { indexes = is; match = m; fault = refl; joined = refl }
 
 -- one more index, and what is left after it if it has no fault
-pub record Next (depth : ℕ) (s : List ℕ) (start : IndexStart) (after rest : List ℕ) (built : List ExpressionShape) (meant : Indexes) (whole : Option Fault) : Type 0 where
+pub record Next (depth : ℕ) (s : List ℕ) (start : IndexStart) (after rest : List ℕ) (built : List ExpressionShape) (meant : Indexes)
+    (whole : Option Fault) : Type 0 where
   pub middle : List ℕ
   pub index_here : Index
   pub found : IsIndex s start after middle index_here
   pub fine : whole ≡ None → index_fault depth index_here ≡ None
   pub then : index_fault depth index_here ≡ None → Left depth middle rest (built ++ index_meant index_here ∷ []) meant whole
 
-pub left_next : (depth : ℕ) (s rest : List ℕ) (built : List ExpressionShape) (meant : Indexes) (whole : Option Fault) (start : IndexStart) (after : List ℕ)
-    → (left : Left depth s rest built meant whole) → First (IsIndex s start after) (Repeated IndexRule) rest left.indexes → Next depth s start after rest built meant whole
+pub left_next : (depth : ℕ) (s rest : List ℕ) (built : List ExpressionShape) (meant : Indexes) (whole : Option Fault) (start : IndexStart)
+    (after : List ℕ)
+    → (left : Left depth s rest built meant whole) → First (IsIndex s start after) (Repeated IndexRule) rest left.indexes
+      → Next depth s start after rest built meant whole
 left_next depth s rest built meant whole start after left f =
-    let fault : whole ≡ indexes_fault depth (gather (f.part ∷ f.others)) = left.fault ∙ ap (λ is. indexes_fault depth (gather is)) f.joined in
+    let fault : whole ≡ indexes_fault depth (gather (f.part ∷ f.others)) =
+        left.fault ∙ ap (λ is. indexes_fault depth (gather is)) f.joined in
     record {
       middle = f.middle;
       index_here = f.part;
@@ -61,11 +66,14 @@ left_next depth s rest built meant whole start after left f =
         indexes = f.others;
         match = f.then;
         fault = fault ∙ ap (λ o. option_or o (indexes_fault depth (gather f.others))) fine;
-        joined = left.joined ∙ (ap (λ is. join built (indexes_meant (gather is))) f.joined ∙ sym (join_last built (index_meant f.part) (indexes_meant (gather f.others))));
+        joined =
+            left.joined ∙ (ap (λ is. join built (indexes_meant (gather is))) f.joined
+            ∙ sym (join_last built (index_meant f.part) (indexes_meant (gather f.others))));
       };
     }
 
-pub left_none : (depth : ℕ) (s rest : List ℕ) (built : List ExpressionShape) (meant : Indexes) (whole : Option Fault) → (left : Left depth s rest built meant whole) → NoneLeft s rest left.indexes
+pub left_none : (depth : ℕ) (s rest : List ℕ) (built : List ExpressionShape) (meant : Indexes) (whole : Option Fault)
+    → (left : Left depth s rest built meant whole) → NoneLeft s rest left.indexes
     → (whole ≡ None) × (indexes_of built ≡ meant)
 left_none depth s rest built meant whole left n = (
   left.fault ∙ ap (λ is. indexes_fault depth (gather is)) n.none,

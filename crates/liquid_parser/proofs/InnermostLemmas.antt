@@ -36,12 +36,14 @@ none_innermost f xs y ys none e =
     cc
 
 -- the item at the end of a list of that length
-at_end : {A : Type 0} (xs front : List A) (last : A) (n : ℕ) → n ≡ length xs → xs ≡ front ++ last ∷ [] → (d : A) → get_or xs (n - 1) d ≡ last
+at_end : {A : Type 0} (xs front : List A) (last : A) (n : ℕ) → n ≡ length xs → xs ≡ front ++ last ∷ [] → (d : A)
+    → get_or xs (n - 1) d ≡ last
 at_end xs front last n count is d =
     let place : n - 1 ≡ length front = omega (arith, count, ap length is, length-append front (last ∷ [])) in
     ap (λ l. get_or l (n - 1) d) is ∙ (ap (λ i. get_or (front ++ last ∷ []) i d) place ∙ get_or-append_seam front last [] d)
 
-pub last_found : {A : Type 0} (xs : List A) (n : ℕ) (a : A) → n ≡ length xs → slice_get xs (n - 1) ≡ Some a → (front : List A) × (xs ≡ front ++ a ∷ [])
+pub last_found : {A : Type 0} (xs : List A) (n : ℕ) (a : A) → n ≡ length xs → slice_get xs (n - 1) ≡ Some a → (front : List A)
+    × (xs ≡ front ++ a ∷ [])
 last_found [] n a count e = absurd (cc)
 last_found (x ∷ xs) n a count e =
     let w = split_last x xs in
@@ -50,7 +52,8 @@ last_found (x ∷ xs) n a count e =
 pub last_missing : {A : Type 0} (xs : List A) (n : ℕ) → n ≡ length xs → slice_get xs (n - 1) ≡ None → xs ≡ []
 last_missing [] n count e = refl
 last_missing (x ∷ xs) n count e =
-    let found : slice_get (x ∷ xs) (n - 1) ≡ Some (get_or (x ∷ xs) (n - 1) x) = slice_get-get_or (x ∷ xs) (n - 1) x (omega (arith, count)) in
+    let found : slice_get (x ∷ xs) (n - 1) ≡ Some (get_or (x ∷ xs) (n - 1) x) =
+        slice_get-get_or (x ∷ xs) (n - 1) x (omega (arith, count)) in
     let both : None ≡ Some (get_or (x ∷ xs) (n - 1) x) = sym e ∙ found in
     cc
 
@@ -62,11 +65,13 @@ module _ {A C : Type 0} (f : A → C) (xs : List A) (n : ℕ) (y : C) (ys : List
   pub last_set : (w : A) → reverse (map f (slice_set xs (n - 1) w)) ≡ f w ∷ ys
   last_set w =
       let place : n - 1 ≡ length inner.front = omega (arith, count, ap length inner.is, length-append inner.front (inner.last ∷ [])) in
-      ap (λ l. reverse (map f l)) (ap (λ l. slice_set l (n - 1) w) inner.is ∙ (ap (λ i. slice_set (inner.front ++ inner.last ∷ []) i w) place ∙ set-append_seam inner.front inner.last [] w))
+      ap (λ l. reverse (map f l)) (ap (λ l. slice_set l (n - 1) w) inner.is
+        ∙ (ap (λ i. slice_set (inner.front ++ inner.last ∷ []) i w) place ∙ set-append_seam inner.front inner.last [] w))
       ∙ (push_block f inner.front w refl ∙ ap (λ bs. f w ∷ bs) inner.around_is)
 
 -- the innermost block ends, or a part of it
-module _ {F T P B : Type 0} (source : List ℕ) (t : token.Tag) (b innermost : Open F T P B) (blocks around : List (Open F T P B)) (nodes : List (NodeShape F T B)) where
+module _ {F T P B : Type 0} (source : List ℕ) (t : token.Tag) (b innermost : Open F T P B) (blocks around : List (Open F T P B))
+    (nodes : List (NodeShape F T B)) where
   pub ended_ok : (after : List (NodeShape F T B)) → innermost ∷ around ≡ b ∷ blocks → closed source t innermost nodes ≡ Ok after
       → ok_then (closed source t b nodes) (λ ns. Ok (among blocks ns)) ≡ Ok (among around after)
   ended_ok after same h =
@@ -79,9 +84,11 @@ module _ {F T P B : Type 0} (source : List ℕ) (t : token.Tag) (b innermost : O
       → IfSome told (λ r. ok_then {B = State F T P B} (closed source t b nodes) (λ ns. Ok (among blocks ns)) ≡ Err r)
   ended_err told same h =
       let is : b ≡ innermost = cc in
-      then_err told _ (closed source t innermost nodes) (λ ns. Ok (among blocks ns)) (ap (λ x. ok_then (closed source t x nodes) (λ ns. Ok (among blocks ns))) is) h
+      then_err told _ (closed source t innermost nodes) (λ ns. Ok (among blocks ns))
+        (ap (λ x. ok_then (closed source t x nodes) (λ ns. Ok (among blocks ns))) is) h
 
-  pub parted_ok : (part : Open F T P B) (bs : List (Open F T P B)) (ns : List (NodeShape F T B)) → innermost ≡ b → bs ≡ part ∷ blocks → ns ≡ [] → parted source t innermost nodes ≡ Ok part
+  pub parted_ok : (part : Open F T P B) (bs : List (Open F T P B)) (ns : List (NodeShape F T B)) → innermost ≡ b → bs ≡ part ∷ blocks
+      → ns ≡ [] → parted source t innermost nodes ≡ Ok part
       → ok_then (parted source t b nodes) (λ p. Ok (among (p ∷ blocks) [])) ≡ Ok (among bs ns)
   parted_ok part bs ns is others none h =
       ap (λ x. ok_then (parted source t x nodes) (λ p. Ok (among (p ∷ blocks) []))) (sym is)
@@ -91,4 +98,5 @@ module _ {F T P B : Type 0} (source : List ℕ) (t : token.Tag) (b innermost : O
   pub parted_err : (told : Option Refusal) → innermost ≡ b → IfSome told (λ r. parted source t innermost nodes ≡ Err r)
       → IfSome told (λ r. ok_then {B = State F T P B} (parted source t b nodes) (λ p. Ok (among (p ∷ blocks) [])) ≡ Err r)
   parted_err told is h =
-      then_err told _ (parted source t innermost nodes) (λ p. Ok (among (p ∷ blocks) [])) (ap (λ x. ok_then (parted source t x nodes) (λ p. Ok (among (p ∷ blocks) []))) (sym is)) h
+      then_err told _ (parted source t innermost nodes) (λ p. Ok (among (p ∷ blocks) []))
+        (ap (λ x. ok_then (parted source t x nodes) (λ p. Ok (among (p ∷ blocks) []))) (sym is)) h

@@ -18,7 +18,8 @@ pub not_deep : (depth : ℕ) (place : List ℕ) → depth < 100 → deep_fault d
 not_deep depth place few = ap (λ b. if b then None else Some (nested_too_deep, place)) (lt-ltb depth 100 few)
 
 -- the literal that a value without a fault is
-pub literal_fine : (v : Value) (l : Literal) → literal_kind l ≡ value_kind v → value_fault v ≡ None → (place : List ℕ) × (literal_fault place l ≡ None)
+pub literal_fine : (v : Value) (l : Literal) → literal_kind l ≡ value_kind v → value_fault v ≡ None → (place : List ℕ)
+    × (literal_fault place l ≡ None)
 literal_fine (literal_value place following m) l is fine = let same : l ≡ m = cc in (place, ap (literal_fault place) same ∙ fine)
 literal_fine (variable_value place following name no_index) l is fine = cc
 literal_fine (variable_value place following name (more_indexes i more)) l is fine = cc

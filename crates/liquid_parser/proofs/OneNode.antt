@@ -55,7 +55,8 @@ module _ {F T P B : Type 0} where
   one_map f None h = tt
   one_map f (Some x) h = h x
 
-  one_unwrap : (o : Option (Result (State F T P B) Refusal)) (other : Result (State F T P B) Refusal) → OneOr o → OneOf other → OneOf (unwrap_or o other)
+  one_unwrap : (o : Option (Result (State F T P B) Refusal)) (other : Result (State F T P B) Refusal) → OneOr o → OneOf other
+      → OneOf (unwrap_or o other)
   one_unwrap None other h k = k
   one_unwrap (Some x) other h k = h
 
@@ -63,24 +64,29 @@ module _ {F T P B : Type 0} where
   one_room true r e h = h
   one_room false r e h = tt
 
-  one_closed : (b : Open F T P B) (blocks : List (Open F T P B)) (n : NodeShape F T B) → Alone b blocks → OneIn (among blocks (b.before ++ n ∷ []))
+  one_closed : (b : Open F T P B) (blocks : List (Open F T P B)) (n : NodeShape F T B) → Alone b blocks
+      → OneIn (among blocks (b.before ++ n ∷ []))
   one_closed b [] n h = one_following b.before n h
   one_closed b (c ∷ blocks) n h = h
 
-  one_after : {A C : Type 0} (m : Result A Refusal) (f : A → Result C Refusal) (k : C → Result (State F T P B) Refusal) → ((x : A) → OneOf (ok_then (f x) k)) → OneOf (ok_then (ok_then m f) k)
+  one_after : {A C : Type 0} (m : Result A Refusal) (f : A → Result C Refusal) (k : C → Result (State F T P B) Refusal)
+      → ((x : A) → OneOf (ok_then (f x) k)) → OneOf (ok_then (ok_then m f) k)
   one_after (Ok x) f k h = h x
   one_after (Err r) f k h = tt
 
-  one_finished : (b : Open F T P B) (blocks : List (Open F T P B)) (body : Body) (of : List (List (NodeShape F T B))) → Alone b blocks → OneOf (ok_then (finished b body of) (λ ns. Ok (among blocks ns)))
+  one_finished : (b : Open F T P B) (blocks : List (Open F T P B)) (body : Body) (of : List (List (NodeShape F T B))) → Alone b blocks
+      → OneOf (ok_then (finished b body of) (λ ns. Ok (among blocks ns)))
   one_finished b blocks body of h =
-      one_after (placed_at b.place (b.kind.means.finish b.plan body)) (λ made. Ok (b.before ++ block_with made of ∷ [])) (λ ns. Ok (among blocks ns)) (λ made. one_closed b blocks (block_with made of) h)
+      one_after (placed_at b.place (b.kind.means.finish b.plan body)) (λ made. Ok (b.before ++ block_with made of ∷ []))
+        (λ ns. Ok (among blocks ns)) (λ made. one_closed b blocks (block_with made of) h)
 
   one_entered : (escapes : Bool) (b : Open F T P B) (blocks : List (Open F T P B)) → Alone b blocks → OneIn (entered escapes b blocks)
   one_entered true b blocks h = h
   one_entered false b blocks h = h
 
 module _ {F T P B : Type 0} (l : Lang F T P B) (source : List ℕ) (outside : ℕ) where
-  one_block : (blocks : List (Open F T P B)) (nodes : List (NodeShape F T B)) (t : token.Tag) → ((b : Open F T P B) → b.before ≡ nodes → Alone b blocks) → OneOr (as_block l source outside blocks nodes t)
+  one_block : (blocks : List (Open F T P B)) (nodes : List (NodeShape F T B)) (t : token.Tag)
+      → ((b : Open F T P B) → b.before ≡ nodes → Alone b blocks) → OneOr (as_block l source outside blocks nodes t)
   one_block blocks nodes t h =
       one_map (λ kind. block_begun l source outside t kind blocks nodes) (l.blocks.get t.0)
       (λ kind.
@@ -90,32 +96,42 @@ module _ {F T P B : Type 0} (l : Lang F T P B) (source : List ℕ) (outside : �
       (one_after (placed_at (place_in source (name_place t)) (kind.means.begin l.filters (handed source t)))
       (λ plan. Ok (record { kind = kind; place = place_in source (name_place t); plan = plan; before = nodes; parts = [] }))
       (λ b. Ok (entered kind.means.escapes b blocks))
-      (λ plan. one_entered kind.means.escapes (record { kind = kind; place = place_in source (name_place t); plan = plan; before = nodes; parts = [] }) blocks
+      (λ plan. one_entered kind.means.escapes (record { kind = kind; place = place_in source (name_place t); plan = plan; before = nodes;
+        parts = [] }) blocks
       (h (record { kind = kind; place = place_in source (name_place t); plan = plan; before = nodes; parts = [] }) refl))))
 
-  one_made : (blocks : List (Open F T P B)) (nodes : List (NodeShape F T B)) (t : token.Tag) → ((n : NodeShape F T B) → OneIn (among blocks (nodes ++ n ∷ []))) → OneOr (as_tag l source outside blocks nodes t)
+  one_made : (blocks : List (Open F T P B)) (nodes : List (NodeShape F T B)) (t : token.Tag)
+      → ((n : NodeShape F T B) → OneIn (among blocks (nodes ++ n ∷ []))) → OneOr (as_tag l source outside blocks nodes t)
   one_made blocks nodes t h =
       one_map (λ make. node_added blocks nodes (tag_given source t l.filters make)) (l.tags.get t.0)
       (λ make. one_then (tag_given source t l.filters make) (λ n. Ok (among blocks (nodes ++ n ∷ []))) h)
 
-  one_divided : (b : Open F T P B) (plan : P) (ps : List (List (NodeShape F T B))) (blocks : List (Open F T P B)) → Alone b blocks → Alone (record b { plan = plan; parts = ps }) blocks
+  one_divided : (b : Open F T P B) (plan : P) (ps : List (List (NodeShape F T B))) (blocks : List (Open F T P B)) → Alone b blocks
+      → Alone (record b { plan = plan; parts = ps }) blocks
   one_divided b plan ps [] h = h
   one_divided b plan ps (c ∷ blocks) h = h
 
-  one_outer : (blocks : List (Open F T P B)) (nodes : List (NodeShape F T B)) (t : token.Tag) → ((n : NodeShape F T B) → OneIn (among blocks (nodes ++ n ∷ []))) → ((b : Open F T P B) → b.before ≡ nodes → Alone b blocks)
+  one_outer : (blocks : List (Open F T P B)) (nodes : List (NodeShape F T B)) (t : token.Tag)
+      → ((n : NodeShape F T B) → OneIn (among blocks (nodes ++ n ∷ []))) → ((b : Open F T P B) → b.before ≡ nodes → Alone b blocks)
       → OneOf (outer_read l source outside t blocks nodes)
   one_outer blocks nodes t h k =
-      one_unwrap (option_or (as_tag l source outside blocks nodes t) (as_block l source outside blocks nodes t)) (Err (unknown_tag l source t))
-      (one_or (as_tag l source outside blocks nodes t) (as_block l source outside blocks nodes t) (one_made blocks nodes t h) (one_block blocks nodes t k)) tt
+      one_unwrap (option_or (as_tag l source outside blocks nodes t) (as_block l source outside blocks nodes t))
+        (Err (unknown_tag l source t))
+      (one_or (as_tag l source outside blocks nodes t) (as_block l source outside blocks nodes t) (one_made blocks nodes t h)
+        (one_block blocks nodes t k)) tt
 
-  one_tag : (b : Open F T P B) (blocks : List (Open F T P B)) (nodes : List (NodeShape F T B)) (t : token.Tag) → Alone b blocks → OneOf (tag_read l source outside (b ∷ blocks) nodes t)
+  one_tag : (b : Open F T P B) (blocks : List (Open F T P B)) (nodes : List (NodeShape F T B)) (t : token.Tag) → Alone b blocks
+      → OneOf (tag_read l source outside (b ∷ blocks) nodes t)
   one_tag b blocks nodes t h =
-      one_unwrap (option_or (as_end source t (b ∷ blocks) nodes) (as_divider source t (b ∷ blocks) nodes)) (outer_read l source outside t (b ∷ blocks) nodes)
+      one_unwrap (option_or (as_end source t (b ∷ blocks) nodes) (as_divider source t (b ∷ blocks) nodes))
+        (outer_read l source outside t (b ∷ blocks) nodes)
       (one_or (as_end source t (b ∷ blocks) nodes) (as_divider source t (b ∷ blocks) nodes)
       (one_if (bytes_eq t.0 b.kind.names.end_name) (ok_then (closed source t b nodes) (λ after. Ok (among blocks after)))
-      (one_after (expect_nothing (handed source t)) (λ _. finished b (parts (length b.parts + 1)) (b.parts ++ nodes ∷ [])) (λ after. Ok (among blocks after))
+      (one_after (expect_nothing (handed source t)) (λ _. finished b (parts (length b.parts + 1)) (b.parts ++ nodes ∷ []))
+        (λ after. Ok (among blocks after))
       (λ u. one_finished b blocks (parts (length b.parts + 1)) (b.parts ++ nodes ∷ []) h)))
-      (one_if (list_any (bytes_eq t.0) b.kind.means.dividers) (ok_then (parted source t b nodes) (λ divided. Ok (among (divided ∷ blocks) [])))
+      (one_if (list_any (bytes_eq t.0) b.kind.means.dividers) (ok_then (parted source t b nodes)
+        (λ divided. Ok (among (divided ∷ blocks) [])))
       (one_after (placed_at (place_in source (name_place t)) (b.kind.means.divide b.plan t.0 (handed source t)))
       (λ plan. Ok (record b { plan = plan; parts = b.parts ++ nodes ∷ [] })) (λ divided. Ok (among (divided ∷ blocks) []))
       (λ plan. one_divided b plan (b.parts ++ nodes ∷ []) blocks h))))
@@ -124,15 +140,18 @@ module _ {F T P B : Type 0} (l : Lang F T P B) (source : List ℕ) (outside : �
   one_first_tag : (t : token.Tag) → OneOf (tag_read l source outside [] [] t)
   one_first_tag t = one_outer [] [] t (λ n. (n, refl)) (λ c e. e)
 
-  one_step : (b : Open F T P B) (blocks : List (Open F T P B)) (nodes : List (NodeShape F T B)) (e : Element) (following : List ℕ) → Alone b blocks → OneOf (step l source outside (among (b ∷ blocks) nodes) e following)
+  one_step : (b : Open F T P B) (blocks : List (Open F T P B)) (nodes : List (NodeShape F T B)) (e : Element) (following : List ℕ)
+      → Alone b blocks → OneOf (step l source outside (among (b ∷ blocks) nodes) e following)
   one_step b blocks nodes (raw text) following h = h
   one_step b blocks nodes (expression c text) following h =
       one_then (checked source (chain_fault c)) (λ _. node_added (b ∷ blocks) nodes (expression_read l.filters source c))
       (λ u. one_then (expression_read l.filters source c) (λ n. Ok (among (b ∷ blocks) (nodes ++ n ∷ []))) (λ n. h))
-  one_step b blocks nodes (tag_element t text) following h = one_then (checked source (tag_fault t)) (λ _. tag_read l source outside (b ∷ blocks) nodes t) (λ u. one_tag b blocks nodes t h)
+  one_step b blocks nodes (tag_element t text) following h =
+      one_then (checked source (tag_fault t)) (λ _. tag_read l source outside (b ∷ blocks) nodes t) (λ u. one_tag b blocks nodes t h)
   one_step b blocks nodes (invalid text) following h = tt
 
-  one_escaped : (b : Open F T P B) (blocks : List (Open F T P B)) (so_far content : List ℕ) (o : Option ℕ) → Alone b blocks → OneOf (escape_read b blocks so_far content o)
+  one_escaped : (b : Open F T P B) (blocks : List (Open F T P B)) (so_far content : List ℕ) (o : Option ℕ) → Alone b blocks
+      → OneOf (escape_read b blocks so_far content o)
   one_escaped b blocks so_far content None h = one_finished b blocks (escaped so_far) [] h
   one_escaped b blocks so_far content (Some level) h = h
 
@@ -140,14 +159,17 @@ module _ {F T P B : Type 0} (l : Lang F T P B) (source : List ℕ) (outside : �
   AllOne (Ok p) = IsOne p.0
   AllOne (Err r) = ⊤
 
-  then_one : (r : Result (State F T P B) Refusal) (es : List Element) → ((n : State F T P B) → OneIn n → AllOne (read_closed l source outside n es)) → OneOf r → AllOne (ok_then r (λ n. read_closed l source outside n es))
+  then_one : (r : Result (State F T P B) Refusal) (es : List Element)
+      → ((n : State F T P B) → OneIn n → AllOne (read_closed l source outside n es)) → OneOf r
+      → AllOne (ok_then r (λ n. read_closed l source outside n es))
   then_one (Ok n) es ih h = ih n h
   then_one (Err r) es ih h = tt
 
   closed_one : (es : List Element) (st : State F T P B) → OneIn st → AllOne (read_closed l source outside st es)
   closed_one es (among [] nodes) h = h
   closed_one [] (among (b ∷ blocks) nodes) h = tt
-  closed_one (e ∷ es) (among (b ∷ blocks) nodes) h = then_one (step l source outside (among (b ∷ blocks) nodes) e (joined es)) es (closed_one es) (one_step b blocks nodes e (joined es) h)
+  closed_one (e ∷ es) (among (b ∷ blocks) nodes) h =
+      then_one (step l source outside (among (b ∷ blocks) nodes) e (joined es)) es (closed_one es) (one_step b blocks nodes e (joined es) h)
   closed_one [] (inside b blocks level so_far) h = tt
   closed_one (e ∷ es) (inside b blocks level so_far) h =
       then_one (step l source outside (inside b blocks level so_far) e (joined es)) es (closed_one es)
@@ -156,7 +178,8 @@ module _ {F T P B : Type 0} (l : Lang F T P B) (source : List ℕ) (outside : �
 module _ {F T P B : Type 0} (l : Lang F T P B) (source : List ℕ) (outside : ℕ) where
   -- a tag gives one node, whatever text it is in
   pub tag_one : (own : List ℕ) (t : token.Tag) (es : List Element) → AllOne l source outside (tag_node_read l source outside own t es)
-  tag_one own t es = then_one l source outside (tag_read l own outside [] [] t) es (closed_one l source outside es) (one_first_tag l own outside t)
+  tag_one own t es =
+      then_one l source outside (tag_read l own outside [] [] t) es (closed_one l source outside es) (one_first_tag l own outside t)
 
 -- the last of one node
 no_more : {N : Type 0} (zs : List N) (z : N) → zs ++ z ∷ [] ≡ [] → ⊥

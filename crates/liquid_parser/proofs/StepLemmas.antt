@@ -19,24 +19,30 @@ use Rattle.liquid_parser.specs.meaning.Lang as lang
 use Rattle.liquid_parser.specs.meaning.Lang.{Filters, parts}
 use Rattle.liquid_parser.specs.meaning.Reading.{Open, among, begun, block_with, closed, finished, name_place, node_added, placed_at}
 
-pub placed_ok : {A B : Type 0} (place : Place) (m : Result A Refusal) (k : A → Result B Refusal) (x : A) → m ≡ Ok x → ok_then (placed_at place m) k ≡ k x
+pub placed_ok : {A B : Type 0} (place : Place) (m : Result A Refusal) (k : A → Result B Refusal) (x : A) → m ≡ Ok x
+    → ok_then (placed_at place m) k ≡ k x
 placed_ok place m k x h = ap (λ n. ok_then (placed_at place n) k) h
 
-pub placed_err : {A B : Type 0} (o o' : Option Refusal) (place p : Place) (m : Result A Refusal) (k : A → Result B Refusal) → IfSome o (λ r. m ≡ Err r) → o' ≡ option_map (or_placed p) o → p ≡ place
+pub placed_err : {A B : Type 0} (o o' : Option Refusal) (place p : Place) (m : Result A Refusal) (k : A → Result B Refusal)
+    → IfSome o (λ r. m ≡ Err r) → o' ≡ option_map (or_placed p) o → p ≡ place
     → IfSome o' (λ r. ok_then (placed_at place m) k ≡ Err r)
 placed_err None o' place p m k h e same = subst (λ q. IfSome q (λ r. ok_then (placed_at place m) k ≡ Err r)) (sym e) tt
 placed_err (Some r) o' place p m k h e same =
-    subst (λ q. IfSome q (λ r. ok_then (placed_at place m) k ≡ Err r)) (sym e) (ap (λ n. ok_then (placed_at place n) k) h ∙ ap (λ q. Err (or_placed q r)) (sym same))
+    subst (λ q. IfSome q (λ r. ok_then (placed_at place m) k ≡ Err r)) (sym e)
+      (ap (λ n. ok_then (placed_at place n) k) h ∙ ap (λ q. Err (or_placed q r)) (sym same))
 
-pub then_refused : {A B : Type 0} (o : Option Refusal) (m : Result A Refusal) (k : A → Result B Refusal) → IfSome o (λ r. m ≡ Err r) → IfSome o (λ r. ok_then m k ≡ Err r)
+pub then_refused : {A B : Type 0} (o : Option Refusal) (m : Result A Refusal) (k : A → Result B Refusal) → IfSome o (λ r. m ≡ Err r)
+    → IfSome o (λ r. ok_then m k ≡ Err r)
 then_refused None m k h = tt
 then_refused (Some r) m k h = ap (λ n. ok_then n k) h
 
-pub added_err : {F T P B : Type 0} (blocks : List (Open F T P B)) (nodes : List (NodeShape F T B)) (o : Option Refusal) (m : Result (NodeShape F T B) Refusal) → IfSome o (λ r. m ≡ Err r) → IfSome o (λ r. node_added blocks nodes m ≡ Err r)
+pub added_err : {F T P B : Type 0} (blocks : List (Open F T P B)) (nodes : List (NodeShape F T B)) (o : Option Refusal)
+    (m : Result (NodeShape F T B) Refusal) → IfSome o (λ r. m ≡ Err r) → IfSome o (λ r. node_added blocks nodes m ≡ Err r)
 added_err blocks nodes o m h = then_refused o m (λ node. Ok (among blocks (nodes ++ node ∷ []))) h
 
 module _ {F T P B : Type 0} (source : List ℕ) (t : token.Tag) where
-  pub opened_ok : (filters : Filters F) (kind : lang.Block F P B) (nodes : List (NodeShape F T B)) (plan : P) (at : Place) (ps : List (List (NodeShape F T B)))
+  pub opened_ok : (filters : Filters F) (kind : lang.Block F P B) (nodes : List (NodeShape F T B)) (plan : P) (at : Place)
+      (ps : List (List (NodeShape F T B)))
       → kind.means.begin filters (handed source t) ≡ Ok plan → at ≡ place_in source (name_place t) → ps ≡ []
       → begun source t filters kind nodes ≡ Ok (record { kind = kind; place = at; plan = plan; before = nodes; parts = ps })
   opened_ok filters kind nodes plan at ps h f e =
@@ -53,32 +59,41 @@ module _ {F T P B : Type 0} (source : List ℕ) (t : token.Tag) where
       → closed source t b nodes ≡ Ok after
   closed_ok b nodes after n made none h count e =
       ap (λ x. ok_then x (λ _. ending b nodes)) none
-      ∙ (placed_ok b.place _ (λ made. Ok (b.before ++ block_with made (b.parts ++ nodes ∷ []) ∷ [])) made (subst (λ m. b.kind.means.finish b.plan (parts m) ≡ Ok made) count h)
+      ∙ (placed_ok b.place _ (λ made. Ok (b.before ++ block_with made (b.parts ++ nodes ∷ []) ∷ [])) made
+        (subst (λ m. b.kind.means.finish b.plan (parts m) ≡ Ok made) count h)
       ∙ ap (λ q. Ok q) (sym e))
 
   pub closed_err : (b : Open F T P B) (nodes : List (NodeShape F T B)) (n : ℕ) (o o' : Option Refusal) (p : Place)
-      → expect_nothing (handed source t) ≡ Ok tt → n ≡ length b.parts + 1 → IfSome o (λ r. b.kind.means.finish b.plan (parts n) ≡ Err r) → o' ≡ option_map (or_placed p) o → p ≡ b.place
+      → expect_nothing (handed source t) ≡ Ok tt → n ≡ length b.parts + 1 → IfSome o (λ r. b.kind.means.finish b.plan (parts n) ≡ Err r)
+        → o' ≡ option_map (or_placed p) o → p ≡ b.place
       → IfSome o' (λ r. closed source t b nodes ≡ Err r)
   closed_err b nodes n o o' p none count h e same =
-      let go = placed_err o o' b.place p (b.kind.means.finish b.plan (parts (length b.parts + 1))) (λ made. Ok (b.before ++ block_with made (b.parts ++ nodes ∷ []) ∷ [])) (subst (λ m. IfSome o (λ r. b.kind.means.finish b.plan (parts m) ≡ Err r)) count h) e same in
+      let go =
+          placed_err o o' b.place p (b.kind.means.finish b.plan (parts (length b.parts + 1)))
+          (λ made. Ok (b.before ++ block_with made (b.parts ++ nodes ∷ []) ∷ []))
+          (subst (λ m. IfSome o (λ r. b.kind.means.finish b.plan (parts m) ≡ Err r)) count h) e same in
       subst (λ x. IfSome o' (λ r. ok_then x (λ _. ending b nodes) ≡ Err r)) (sym none) go
 
-  pub closed_token : (b : Open F T P B) (nodes : List (NodeShape F T B)) (o : Option Refusal) → IfSome o (λ r. expect_nothing (handed source t) ≡ Err r) → IfSome o (λ r. closed source t b nodes ≡ Err r)
+  pub closed_token : (b : Open F T P B) (nodes : List (NodeShape F T B)) (o : Option Refusal)
+      → IfSome o (λ r. expect_nothing (handed source t) ≡ Err r) → IfSome o (λ r. closed source t b nodes ≡ Err r)
   closed_token b nodes None h = tt
   closed_token b nodes (Some r) h = ap (λ x. ok_then x (λ _. ending b nodes)) h
 
-pub map_twice : {A C D : Type 0} (h : A → C) (k : C → D) (m : A → D) → ((a : A) → k (h a) ≡ m a) → (xs : List A) → map k (map h xs) ≡ map m xs
+pub map_twice : {A C D : Type 0} (h : A → C) (k : C → D) (m : A → D) → ((a : A) → k (h a) ≡ m a) → (xs : List A)
+    → map k (map h xs) ≡ map m xs
 map_twice h k m same [] = refl
 map_twice h k m same (x ∷ xs) = ap (λ y. y ∷ map k (map h xs)) (same x) ∙ ap (λ ys. m x ∷ ys) (map_twice h k m same xs)
 
 module _ {X N K F T B : Type 0} (filter : X → F) (tag : N → T) (block : K → B) where
   text_shape : (s : String Global) → node_of filter tag block (Text s) ≡ text_node (string_bytes s)
   unfolding node_of
-  text_shape s = ap (node_of filter tag block) (sym (rolls-Text s)) ∙ code.fold-roll-Node X N K (NodeShape F T B) (node_step filter tag block) _
+  text_shape s =
+      ap (node_of filter tag block) (sym (rolls-Text s)) ∙ code.fold-roll-Node X N K (NodeShape F T B) (node_step filter tag block) _
 
   brief_shape : (s : ArrayString) → node_of filter tag block (Brief s) ≡ text_node s.bytes
   unfolding node_of
-  brief_shape s = ap (node_of filter tag block) (sym (rolls-Brief s)) ∙ code.fold-roll-Node X N K (NodeShape F T B) (node_step filter tag block) _
+  brief_shape s =
+      ap (node_of filter tag block) (sym (rolls-Brief s)) ∙ code.fold-roll-Node X N K (NodeShape F T B) (node_step filter tag block) _
 
   -- either form of a text has its shape
   pub is_text : (n : code.Node X N K) (bytes : List ℕ) → IsText n bytes → node_of filter tag block n ≡ text_node bytes
@@ -87,15 +102,18 @@ module _ {X N K F T B : Type 0} (filter : X → F) (tag : N → T) (block : K �
 
   pub name_shape : (s : ArrayString) → node_of filter tag block (Name s) ≡ chain_node (name_chain s.bytes)
   unfolding node_of
-  name_shape s = ap (node_of filter tag block) (sym (rolls-Name s)) ∙ code.fold-roll-Node X N K (NodeShape F T B) (node_step filter tag block) _
+  name_shape s =
+      ap (node_of filter tag block) (sym (rolls-Name s)) ∙ code.fold-roll-Node X N K (NodeShape F T B) (node_step filter tag block) _
 
   pub chain_shape : (c : FilterChain X) → node_of filter tag block (Chain c) ≡ chain_node (chain_of filter c)
   unfolding node_of
-  chain_shape c = ap (node_of filter tag block) (sym (rolls-Chain c)) ∙ code.fold-roll-Node X N K (NodeShape F T B) (node_step filter tag block) _
+  chain_shape c =
+      ap (node_of filter tag block) (sym (rolls-Chain c)) ∙ code.fold-roll-Node X N K (NodeShape F T B) (node_step filter tag block) _
 
   pub tag_shape : (made : N) → node_of filter tag block (Tag made) ≡ tag_node (tag made)
   unfolding node_of
-  tag_shape made = ap (node_of filter tag block) (sym (rolls-Tag made)) ∙ code.fold-roll-Node X N K (NodeShape F T B) (node_step filter tag block) _
+  tag_shape made =
+      ap (node_of filter tag block) (sym (rolls-Tag made)) ∙ code.fold-roll-Node X N K (NodeShape F T B) (node_step filter tag block) _
 
   pub block_shape : (made : K) (ps : Vec (Vec (code.Node X N K) Global) Global)
       → node_of filter tag block (Block made ps) ≡ block_with (block made) (map (λ v. shapes_of filter tag block v.items) ps.items)
@@ -103,16 +121,22 @@ module _ {X N K F T B : Type 0} (filter : X → F) (tag : N → T) (block : K �
   block_shape made ps =
       ap (node_of filter tag block) (sym (rolls-Block made ps))
       ∙ (code.fold-roll-Node X N K (NodeShape F T B) (node_step filter tag block) _
-      ∙ ap (λ q. block_node (block made) (parts_from q)) (map_twice _ (λ ns. nodes_from ns.items) (λ v. nodes_from (shapes_of filter tag block v.items)) (λ v. refl) ps.items
-      ∙ sym (map_twice (λ v. shapes_of filter tag block v.items) nodes_from (λ v. nodes_from (shapes_of filter tag block v.items)) (λ v. refl) ps.items)))
+      ∙ ap (λ q. block_node (block made) (parts_from q)) (map_twice _ (λ ns. nodes_from ns.items)
+        (λ v. nodes_from (shapes_of filter tag block v.items)) (λ v. refl) ps.items
+      ∙ sym (map_twice (λ v. shapes_of filter tag block v.items) nodes_from (λ v. nodes_from (shapes_of filter tag block v.items))
+        (λ v. refl) ps.items)))
 
-  pub bare_block_shape : (made : K) (ps : Vec (Vec (code.Node X N K) Global) Global) → ps.items ≡ [] → node_of filter tag block (Block made ps) ≡ block_with (block made) []
-  bare_block_shape made ps none = block_shape made ps ∙ ap (λ xs. block_with (block made) (map (λ v. shapes_of filter tag block v.items) xs)) none
+  pub bare_block_shape : (made : K) (ps : Vec (Vec (code.Node X N K) Global) Global) → ps.items ≡ []
+      → node_of filter tag block (Block made ps) ≡ block_with (block made) []
+  bare_block_shape made ps none =
+      block_shape made ps ∙ ap (λ xs. block_with (block made) (map (λ v. shapes_of filter tag block v.items) xs)) none
 
 -- one more part, counted
-pub count_parts : {A C : Type 0} (f : A → C) (old : List A) (a : A) {new : List A} → new ≡ old ++ a ∷ [] → length new ≡ length (map f old) + 1
+pub count_parts : {A C : Type 0} (f : A → C) (old : List A) (a : A) {new : List A} → new ≡ old ++ a ∷ []
+    → length new ≡ length (map f old) + 1
 count_parts f old a e = ap length e ∙ (length-append old (a ∷ []) ∙ ap (λ n. n + 1) (sym (length-map old f)))
 
 -- one more node after others
-pub last_node : {A C : Type 0} (f : A → C) (before : List A) (n : A) (shape : C) {new : List A} → new ≡ before ++ n ∷ [] → f n ≡ shape → map f new ≡ map f before ++ shape ∷ []
+pub last_node : {A C : Type 0} (f : A → C) (before : List A) (n : A) (shape : C) {new : List A} → new ≡ before ++ n ∷ [] → f n ≡ shape
+    → map f new ≡ map f before ++ shape ∷ []
 last_node f before n shape e is = ap (map f) e ∙ (map_push f before n ∙ ap (λ c. map f before ++ c ∷ []) is)

@@ -14,7 +14,8 @@ use Rattle.liquid_parser.specs.meaning.WholeTag.{WholeTag}
 pub tag_alone : (s : List ℕ) (t : Tag) → TagRule s [] t → IsElement s [] (tag_element t s)
 tag_alone s t m = record { joined = sym (append-nil s); kind = m }
 
-pub no_other : (e : CodeElement) (s : List ℕ) (t : Tag) → Means e (tag_element t s) → ((x : Bor (List ℕ)) × e ≡ code.Raw x) ⊎ (((x : ChainText) × e ≡ code.Expression x) ⊎ ((x : Bor (List ℕ)) × e ≡ code.Invalid x)) → ⊥
+pub no_other : (e : CodeElement) (s : List ℕ) (t : Tag) → Means e (tag_element t s) → ((x : Bor (List ℕ)) × e ≡ code.Raw x)
+    ⊎ (((x : ChainText) × e ≡ code.Expression x) ⊎ ((x : Bor (List ℕ)) × e ≡ code.Invalid x)) → ⊥
 no_other e s t m (inl is) = subst (λ x. Means x (tag_element t s)) is.1 m
 no_other e s t m (inr (inl is)) = subst (λ x. Means x (tag_element t s)) is.1 m
 no_other e s t m (inr (inr is)) = subst (λ x. Means x (tag_element t s)) is.1 m

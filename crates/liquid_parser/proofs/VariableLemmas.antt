@@ -39,8 +39,11 @@ whole_parts one s r name v m n =
       meant = ap expression_meant m.is ∙ ap (λ (p : List ℕ × List ℕ). variable (text p.0) (indexes_meant (gather m.from.what.1))) same;
     }
 
-pub whole_read : (source : List ℕ) (v : Value) (fault : Option Fault) (e : ExpressionShape) → fault ≡ value_fault v → checked source fault ≡ Ok tt → expression_meant v ≡ e → variable_read source v ≡ Ok e
-whole_read source v fault e is fine meant = ap (λ c. ok_then (checked source c) (λ _. Ok (expression_meant v))) (sym is) ∙ (ap (λ c. ok_then c (λ _. Ok (expression_meant v))) fine ∙ ap (λ x. Ok x) meant)
+pub whole_read : (source : List ℕ) (v : Value) (fault : Option Fault) (e : ExpressionShape) → fault ≡ value_fault v
+    → checked source fault ≡ Ok tt → expression_meant v ≡ e → variable_read source v ≡ Ok e
+whole_read source v fault e is fine meant =
+    ap (λ c. ok_then (checked source c) (λ _. Ok (expression_meant v))) (sym is)
+    ∙ (ap (λ c. ok_then c (λ _. Ok (expression_meant v))) fine ∙ ap (λ x. Ok x) meant)
 
 pub no_bytes : (xs : List ℕ) → true ≡ (length xs == 0) → xs ≡ []
 no_bytes [] e = refl

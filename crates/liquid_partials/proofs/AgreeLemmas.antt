@@ -20,7 +20,8 @@ both_are b (Some x) None h k = tt
 both_are b (Some x) (Some y) h k = sym h ∙ k
 
 module _ {A : Type 0} where
-  told_as : (a : Result A Refusal) (o : Option Refusal) → IfSome o (λ r. a ≡ Err r) → IfSome (option_map (λ r. let w : Result A Refusal = Err r in w) o) (λ w. a ≡ w)
+  told_as : (a : Result A Refusal) (o : Option Refusal) → IfSome o (λ r. a ≡ Err r)
+      → IfSome (option_map (λ r. let w : Result A Refusal = Err r in w) o) (λ w. a ≡ w)
   told_as a None h = h
   told_as a (Some r) h = h
 
@@ -32,19 +33,24 @@ module _ {A : Type 0} where
   tried_is a (Ok x) h = sym h
   tried_is a (Err e) h = tt
 
-  same_got : (a : Result A Refusal) (one other : Result A Error) → Gives (λ tree. tree) one a → Gives (λ tree. tree) other a → SameIfBoth (answer_told one) (answer_told other)
+  same_got : (a : Result A Refusal) (one other : Result A Error) → Gives (λ tree. tree) one a → Gives (λ tree. tree) other a
+      → SameIfBoth (answer_told one) (answer_told other)
   same_got a one other h k = both_are a (answer_told one) (answer_told other) (answer_is a one h) (answer_is a other k)
 
-  same_tried : (a : Option A) (one other : Result (Option A) AllocError) → IfOk one (λ found. found ≡ a) → IfOk other (λ found. found ≡ a) → SameIfBoth (result_ok one) (result_ok other)
+  same_tried : (a : Option A) (one other : Result (Option A) AllocError) → IfOk one (λ found. found ≡ a) → IfOk other (λ found. found ≡ a)
+      → SameIfBoth (result_ok one) (result_ok other)
   same_tried a one other h k = both_are a (result_ok one) (result_ok other) (tried_is a one h) (tried_is a other k)
 
-  agree : {S R : Type 0} (finds : S → NameMap (Result A Refusal)) (found : R → NameMap (Result A Refusal)) (m : NameMap (Result A Refusal)) {s : S} {t : R} (requests others : List (Request A))
+  agree : {S R : Type 0} (finds : S → NameMap (Result A Refusal)) (found : R → NameMap (Result A Refusal)) (m : NameMap (Result A Refusal))
+      {s : S} {t : R} (requests others : List (Request A))
       → Serves finds s requests → Serves found t others → finds s ≡ m → found t ≡ m → Alike requests others
   agree finds found m [] others h k e d = tt
   agree finds found m (got name a ∷ requests) [] h k e d = tt
   agree finds found m (tried name a ∷ requests) [] h k e d = tt
-  agree finds found m (got name a ∷ requests) (tried other b ∷ others) (serves x i h) (serves y j k) e d = agree finds found m requests others h k (i ∙ e) (j ∙ d)
-  agree finds found m (tried name a ∷ requests) (got other b ∷ others) (serves x i h) (serves y j k) e d = agree finds found m requests others h k (i ∙ e) (j ∙ d)
+  agree finds found m (got name a ∷ requests) (tried other b ∷ others) (serves x i h) (serves y j k) e d =
+      agree finds found m requests others h k (i ∙ e) (j ∙ d)
+  agree finds found m (tried name a ∷ requests) (got other b ∷ others) (serves x i h) (serves y j k) e d =
+      agree finds found m requests others h k (i ∙ e) (j ∙ d)
   agree finds found m (got name a ∷ requests) (got other b ∷ others) (serves x i h) (serves y j k) e d = (
     λ same. same_got (partial_in m name) a b (subst (λ w. Gives (λ tree. tree) a (partial_in w name)) e x)
         (subst (λ n. Gives (λ tree. tree) b (partial_in m n)) (sym same) (subst (λ w. Gives (λ tree. tree) b (partial_in w other)) d y)),

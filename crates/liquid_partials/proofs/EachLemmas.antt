@@ -27,14 +27,16 @@ module _ {X Y : Type 0} (f : X → Y) where
   made_or true x o p e = refl
   made_or false x o p e = e
 
-  find-made : (q : List ℕ) (es : List (List ℕ × X)) → find (slice_cmp nat_cmp) q (map made es) ≡ option_map f (find (slice_cmp nat_cmp) q es)
+  find-made : (q : List ℕ) (es : List (List ℕ × X)) → find (slice_cmp nat_cmp) q (map made es) ≡ option_map f
+      (find (slice_cmp nat_cmp) q es)
   find-made q [] = refl
   find-made q (e ∷ es) = made_or (eq_by_cmp (slice_cmp nat_cmp) q e.0) e.1 _ _ (find-made q es)
 
   -- a name has what its value gives
   pub get-each : (m : NameMap X) (q : List ℕ) → get (each f m) q ≡ option_map f (get m q)
   unfolding each
-  get-each m q = get-from_entries nat_list_cmp_total (map made (entries m)) q ∙ find-made q (entries m) ∙ ap (option_map f) (sym (get-entries m q))
+  get-each m q =
+      get-from_entries nat_list_cmp_total (map made (entries m)) q ∙ find-made q (entries m) ∙ ap (option_map f) (sym (get-entries m q))
 
   below-made : (k : List ℕ) (es : List (List ℕ × X)) → below_all (slice_cmp nat_cmp) k (map made es) ≡ below_all (slice_cmp nat_cmp) k es
   below-made k [] = refl
@@ -42,7 +44,9 @@ module _ {X Y : Type 0} (f : X → Y) where
 
   sorted-made : (es : List (List ℕ × X)) → is_sorted (slice_cmp nat_cmp) (map made es) ≡ is_sorted (slice_cmp nat_cmp) es
   sorted-made [] = refl
-  sorted-made (e ∷ es) = ap (λ b. b && is_sorted (slice_cmp nat_cmp) (map made es)) (below-made e.0 es) ∙ ap (λ b. below_all (slice_cmp nat_cmp) e.0 es && b) (sorted-made es)
+  sorted-made (e ∷ es) =
+      ap (λ b. b && is_sorted (slice_cmp nat_cmp) (map made es)) (below-made e.0 es)
+      ∙ ap (λ b. below_all (slice_cmp nat_cmp) e.0 es && b) (sorted-made es)
 
   keys-made : (es : List (List ℕ × X)) → map (λ e. e.0) (map made es) ≡ map (λ e. e.0) es
   keys-made [] = refl
@@ -53,7 +57,8 @@ module _ {X Y : Type 0} (f : X → Y) where
   entries-each m =
       let es = map made (entries m) in
       let sorted = subst T (sym (sorted-made (entries m))) (entries_sorted m) in
-      ap entries (same_names (from_entries es) (from_sorted es) (λ q. get-from_entries nat_list_cmp_total es q ∙ sym (get-from_sorted (slice_cmp nat_cmp) es q sorted)))
+      ap entries (same_names (from_entries es) (from_sorted es) (λ q. get-from_entries nat_list_cmp_total es q
+        ∙ sym (get-from_sorted (slice_cmp nat_cmp) es q sorted)))
       ∙ entries-from_sorted (slice_cmp nat_cmp) es sorted
 
   -- the names stay
@@ -68,7 +73,8 @@ module _ {X Y : Type 0} (f : X → Y) where
   contains-each m q = ap is_some (get-each m q) ∙ is_some-made (get m q)
 
   pub empty-each : each f empty ≡ empty
-  empty-each = same_names _ _ (λ q. get-each empty q ∙ ap (option_map f) (get-empty (slice_cmp nat_cmp) q) ∙ sym (get-empty (slice_cmp nat_cmp) q))
+  empty-each =
+      same_names _ _ (λ q. get-each empty q ∙ ap (option_map f) (get-empty (slice_cmp nat_cmp) q) ∙ sym (get-empty (slice_cmp nat_cmp) q))
 
   pub insert-each : (m : NameMap X) (k : List ℕ) (x : X) → each f (insert m k x) ≡ insert (each f m) k (f x)
   insert-each m k x = same_names _ _ (λ q.
@@ -91,30 +97,37 @@ module _ {X Y : Type 0} (f : X → Y) where
   pub unchanged-named : (old new : BTreeMap (String Global) X) → IsUnchanged old new → each f (by_name new) ≡ each f (by_name old)
   unchanged-named old new e = ap (each f) (by_name-unchanged old new e)
 
-  pub insert-named : (old new : BTreeMap (String Global) X) (k : String Global) (x : X) → Updates string_cmp old new k (Some x) → each f (by_name new) ≡ insert (each f (by_name old)) (string_bytes k) (f x)
+  pub insert-named : (old new : BTreeMap (String Global) X) (k : String Global) (x : X) → Updates string_cmp old new k (Some x)
+      → each f (by_name new) ≡ insert (each f (by_name old)) (string_bytes k) (f x)
   insert-named old new k x updates = ap (each f) (by_name-insert old new k x updates) ∙ insert-each f (by_name old) (string_bytes k) x
 
-  pub names-named : (m : BTreeMap (String Global) X) → IsOrdered string_cmp m → map (λ s. string_bytes s) (keys_of m.entries) ≡ keys (each f (by_name m))
+  pub names-named : (m : BTreeMap (String Global) X) → IsOrdered string_cmp m
+      → map (λ s. string_bytes s) (keys_of m.entries) ≡ keys (each f (by_name m))
   names-named m ordered = names-by_name m ordered ∙ sym (keys-each f (by_name m))
 
-same_copied : (o p : Option (String Global)) → IsCopied (λ s t. string_bytes t ≡ string_bytes s) o p → option_map string_bytes p ≡ option_map string_bytes o
+same_copied : (o p : Option (String Global)) → IsCopied (λ s t. string_bytes t ≡ string_bytes s) o p
+    → option_map string_bytes p ≡ option_map string_bytes o
 same_copied None p e = ap (option_map string_bytes) e
 same_copied (Some s) p e = ap (option_map string_bytes) e.1 ∙ ap (λ b. Some b) e.2
 
-pub texts-copy : (m n : BTreeMap (String Global) (String Global)) → IsClone (λ s t. string_bytes t ≡ string_bytes s) (λ s t. string_bytes t ≡ string_bytes s) m n → texts_in n ≡ texts_in m
+pub texts-copy : (m n : BTreeMap (String Global) (String Global))
+    → IsClone (λ s t. string_bytes t ≡ string_bytes s) (λ s t. string_bytes t ≡ string_bytes s) m n → texts_in n ≡ texts_in m
 texts-copy m n copied = same_names _ _ (λ q.
     get-each string_bytes (by_name n) q
     ∙ same_copied (get (by_name m) q) (get (by_name n) q) (by_name-copy (λ s t. string_bytes t ≡ string_bytes s) m n copied q)
     ∙ sym (get-each string_bytes (by_name m) q))
 
-pub texts-insert : (old new : BTreeMap (String Global) (String Global)) (k x : String Global) → Updates string_cmp old new k (Some x) → texts_in new ≡ insert (texts_in old) (string_bytes k) (string_bytes x)
+pub texts-insert : (old new : BTreeMap (String Global) (String Global)) (k x : String Global) → Updates string_cmp old new k (Some x)
+    → texts_in new ≡ insert (texts_in old) (string_bytes k) (string_bytes x)
 texts-insert old new k x updates = insert-named string_bytes old new k x updates
 
 pub ruleset sources = (get-named, contains-named, empty-named, unchanged-named, texts-insert, names-named, texts-copy)
 
-pub insert_kept : {A F T B : Type 0} (of : A → Nodes F T B) (old new : BTreeMap (String Global) (Result A Error)) (k : String Global) (x : Result A Error)
+pub insert_kept : {A F T B : Type 0} (of : A → Nodes F T B) (old new : BTreeMap (String Global) (Result A Error)) (k : String Global)
+    (x : Result A Error)
     → Updates string_cmp old new k (Some x) → all_kept of new ≡ insert (all_kept of old) (string_bytes k) (kept_as of x)
 insert_kept of old new k x updates = insert-named (kept_as of) old new k x updates
 
-pub unchanged_kept : {A F T B : Type 0} (of : A → Nodes F T B) (old new : BTreeMap (String Global) (Result A Error)) → IsUnchanged old new → all_kept of new ≡ all_kept of old
+pub unchanged_kept : {A F T B : Type 0} (of : A → Nodes F T B) (old new : BTreeMap (String Global) (Result A Error)) → IsUnchanged old new
+    → all_kept of new ≡ all_kept of old
 unchanged_kept of old new e = unchanged-named (kept_as of) old new e

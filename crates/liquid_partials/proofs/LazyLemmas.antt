@@ -63,7 +63,8 @@ module _ {X : Type 0} where
 
   -- giving a name the value that it has changes nothing
   pub insert-again : (m : NameMap X) (q : List ℕ) (a : X) → get m q ≡ Some a → insert m q a ≡ m
-  insert-again m q a e = same_names _ m (λ r. get-insert nat_list_cmp_total m q a r ∙ cond_same (names_eq r q) (Some a) (get m r) (λ t. same_name m r q t ∙ e))
+  insert-again m q a e =
+      same_names _ m (λ r. get-insert nat_list_cmp_total m q a r ∙ cond_same (names_eq r q) (Some a) (get m r) (λ t. same_name m r q t ∙ e))
 
   pub found_kept : (kept found : NameMap X) (q : List ℕ) (a : X) → Some a ≡ get kept q → get (over kept found) q ≡ Some a
   found_kept kept found q a e = get-over kept found q ∙ ap (λ o. option_or o (get found q)) (sym e)
@@ -72,14 +73,16 @@ module _ {X : Type 0} where
   found_unkept kept found q e = get-over kept found q ∙ ap (λ o. option_or o (get found q)) (sym e)
 
   -- what a kept name was kept as is not lost
-  pub over_more : (kept found : NameMap X) (q : List ℕ) (a : X) → get (over kept found) q ≡ Some a → over (insert kept q a) found ≡ over kept found
+  pub over_more : (kept found : NameMap X) (q : List ℕ) (a : X) → get (over kept found) q ≡ Some a
+      → over (insert kept q a) found ≡ over kept found
   over_more kept found q a e = insert-over kept found q a ∙ insert-again (over kept found) q a e
 
   abbrev after : NameMap X → List ℕ → Option X → NameMap X
   after kept name found = elim found [ None ↦ kept | Some answer ↦ insert kept name answer ]
 
   -- a request for a name that is kept keeps nothing more
-  pub kept_stays : (b : Bool) (kept found : NameMap X) (q : List ℕ) (a : X) → Some a ≡ get kept q → kept ≡ kept_after b (over kept found) q kept
+  pub kept_stays : (b : Bool) (kept found : NameMap X) (q : List ℕ) (a : X) → Some a ≡ get kept q
+      → kept ≡ kept_after b (over kept found) q kept
   kept_stays false kept found q a e = refl
   kept_stays true kept found q a e = sym (insert-again kept q a (sym e)) ∙ ap (after kept q) (sym (found_kept kept found q a e))
 
@@ -92,7 +95,8 @@ module _ {X : Type 0} where
   pub newly_kept : (finds kept : NameMap X) (q : List ℕ) (a : X) → get finds q ≡ Some a → insert kept q a ≡ kept_after true finds q kept
   newly_kept finds kept q a e = ap (after kept q) (sym e)
 
-  len-found : (o : Option X) (kept : NameMap X) (q : List ℕ) → len (after kept q o) ≡ len kept + once (is_some o && not (contains_key kept q))
+  len-found : (o : Option X) (kept : NameMap X) (q : List ℕ) → len (after kept q o) ≡ len kept + once
+      (is_some o && not (contains_key kept q))
   len-found None kept q = omega arith
   len-found (Some a) kept q = len-insert nat_list_cmp_total kept q a ∙ cond_once (contains_key kept q) (len kept)
 
@@ -101,7 +105,8 @@ module _ {X : Type 0} where
   len-kept_after finds kept q = len-found (get finds q) kept q
 
   -- a request parses no more texts than it keeps and than it is out of memory
-  pub reads_few : (b : Bool) (finds kept : NameMap X) (q : List ℕ) → len kept + once (is_read finds kept q) ≤ len (kept_after b finds q kept) + once (not b)
+  pub reads_few : (b : Bool) (finds kept : NameMap X) (q : List ℕ)
+      → len kept + once (is_read finds kept q) ≤ len (kept_after b finds q kept) + once (not b)
   reads_few true finds kept q = let e = len-kept_after finds kept q in omega (arith, e)
   reads_few false finds kept q = once_most (is_read finds kept q) (len kept)
 
@@ -117,17 +122,21 @@ module _ {X : Type 0} where
   still_found (Some a) kept name q e = is_some-insert kept name a q e
 
   -- what was kept stays kept
-  pub still_kept : (b : Bool) (finds kept : NameMap X) (name q : List ℕ) → contains_key kept q ≡ true → contains_key (kept_after b finds name kept) q ≡ true
+  pub still_kept : (b : Bool) (finds kept : NameMap X) (name q : List ℕ) → contains_key kept q ≡ true
+      → contains_key (kept_after b finds name kept) q ≡ true
   still_kept true finds kept name q e = still_found (get finds name) kept name q e
   still_kept false finds kept name q e = e
 
   -- a request with a result keeps a name that the source has
-  pub now_kept : (finds kept : NameMap X) (name : List ℕ) → contains_key finds name ≡ true → contains_key (kept_after true finds name kept) name ≡ true
+  pub now_kept : (finds kept : NameMap X) (name : List ℕ) → contains_key finds name ≡ true
+      → contains_key (kept_after true finds name kept) name ≡ true
   now_kept finds kept name e = go (get finds name) e
     where
       go : (o : Option X) → is_some o ≡ true → contains_key (after kept name o) name ≡ true
       go None t = absurd (subst Untrue t tt)
-      go (Some a) t = ap is_some (get-insert nat_list_cmp_total kept name a name) ∙ ap (λ b. is_some (cond b (Some a) (get kept name))) (ap is_eq (tied_itself nat_list_cmp_total name))
+      go (Some a) t =
+          ap is_some (get-insert nat_list_cmp_total kept name a name) ∙ ap (λ b. is_some (cond b (Some a) (get kept name)))
+          (ap is_eq (tied_itself nat_list_cmp_total name))
 
   -- nothing is parsed for a name that is kept
   pub not_read : (finds kept : NameMap X) (q : List ℕ) (a : X) (n : ℕ) → Some a ≡ get kept q → n ≡ n + once (is_read finds kept q)
@@ -157,7 +166,8 @@ any_last test [] x = go (test x)
     go false = refl
 any_last test (y ∷ xs) x = go (test y) (any_last test xs x)
   where
-    go : (b : Bool) → list_any test (xs ++ x ∷ []) ≡ (list_any test xs || test x) → (b || list_any test (xs ++ x ∷ [])) ≡ ((b || list_any test xs) || test x)
+    go : (b : Bool) → list_any test (xs ++ x ∷ []) ≡ (list_any test xs || test x)
+        → (b || list_any test (xs ++ x ∷ [])) ≡ ((b || list_any test xs) || test x)
     go true e = refl
     go false e = e
 
@@ -213,7 +223,8 @@ is_some-or : {X : Type 0} (o p : Option X) (c : Bool) → is_some p ≡ c → (i
 is_some-or None p c e h = e
 is_some-or (Some x) p c e h = sym (h refl)
 
-contains-all_kept : {A F T B : Type 0} (of : A → Nodes F T B) (kept : BTreeMap (String Global) (Result A Error)) (q : List ℕ) → contains_key (all_kept of kept) q ≡ contains_key (by_name kept) q
+contains-all_kept : {A F T B : Type 0} (of : A → Nodes F T B) (kept : BTreeMap (String Global) (Result A Error)) (q : List ℕ)
+    → contains_key (all_kept of kept) q ≡ contains_key (by_name kept) q
 contains-all_kept of kept q = contains-each (kept_as of) (by_name kept) q
 
 -- what was parsed while all names of a source are requested one after another
@@ -225,7 +236,8 @@ module _ {A F T B : Type 0} (of : A → Nodes F T B) (texts : Texts) where
     pub has : (q : List ℕ) → list_any (names_eq q) front ≡ true → contains_key (all_kept of kept) q ≡ true
     pub counted : count ≡ len (all_kept of kept)
 
-  pub read_none : (kept : BTreeMap (String Global) (Result A Error)) (count : ℕ) (rest : List (List ℕ)) → all_kept of kept ≡ empty → count ≡ 0 → rest ≡ keys texts → ReadSoFar kept count rest
+  pub read_none : (kept : BTreeMap (String Global) (Result A Error)) (count : ℕ) (rest : List (List ℕ)) → all_kept of kept ≡ empty
+      → count ≡ 0 → rest ≡ keys texts → ReadSoFar kept count rest
   read_none kept count rest none z e = record {
     front = [];
     whole = e;
@@ -238,18 +250,22 @@ module _ {A F T B : Type 0} (of : A → Nodes F T B) (texts : Texts) where
 
   pub read_all : (kept : BTreeMap (String Global) (Result A Error)) (n : ℕ) → ReadSoFar kept n [] → HasAll kept texts
   read_all kept n so_far q t =
-      sym (contains-all_kept of kept q) ∙ so_far.has q (ap (list_any (names_eq q)) (front_whole kept n so_far) ∙ sym (contains_key-keys texts q) ∙ t)
+      sym (contains-all_kept of kept q) ∙ so_far.has q (ap (list_any (names_eq q)) (front_whole kept n so_far)
+        ∙ sym (contains_key-keys texts q) ∙ t)
 
   pub all_counted : (kept : BTreeMap (String Global) (Result A Error)) (n : ℕ) → Known kept texts → ReadSoFar kept n [] → n ≡ len texts
   all_counted kept n known so_far =
-      so_far.counted ∙ same_len (all_kept of kept) texts (λ q. contains-all_kept of kept q ∙ both (contains_key (by_name kept) q) (contains_key texts q) (known q) (read_all kept n so_far q))
+      so_far.counted ∙ same_len (all_kept of kept) texts (λ q. contains-all_kept of kept q
+        ∙ both (contains_key (by_name kept) q) (contains_key texts q) (known q) (read_all kept n so_far q))
 
 module _ {A F T P B : Type 0} (of : A → Nodes F T B) (l : Lang F T P B) (texts : Texts) where
   -- the names of the source are those of the store
-  pub contains-known : (kept : BTreeMap (String Global) (Result A Error)) → Known kept texts → (q : List ℕ) → contains_key (kept_or_read of l kept texts) q ≡ contains_key texts q
+  pub contains-known : (kept : BTreeMap (String Global) (Result A Error)) → Known kept texts → (q : List ℕ)
+      → contains_key (kept_or_read of l kept texts) q ≡ contains_key texts q
   contains-known kept known q =
       ap is_some (get-over (all_kept of kept) (readings l texts) q)
-      ∙ is_some-or (get (all_kept of kept) q) (get (readings l texts) q) (contains_key texts q) (contains-readings l texts q) (λ t. known q (sym (contains-all_kept of kept q) ∙ t))
+      ∙ is_some-or (get (all_kept of kept) q) (get (readings l texts) q) (contains_key texts q) (contains-readings l texts q)
+        (λ t. known q (sym (contains-all_kept of kept q) ∙ t))
 
   pub keys-known : (kept : BTreeMap (String Global) (Result A Error)) → Known kept texts → keys (kept_or_read of l kept texts) ≡ keys texts
   keys-known kept known = same_keys (kept_or_read of l kept texts) texts (contains-known kept known)
@@ -257,89 +273,119 @@ module _ {A F T P B : Type 0} (of : A → Nodes F T B) (l : Lang F T P B) (texts
   -- a store that has kept nothing
   pub known-empty : (kept : BTreeMap (String Global) (Result A Error)) → IsEmpty kept → Known kept texts
   known-empty kept none q t =
-      untrue (contains_key (by_name kept) q) (sym (contains-all_kept of kept q) ∙ ap is_some (ap (λ m. get m q) (empty-named (kept_as of) kept none) ∙ get-empty (slice_cmp nat_cmp) q)) t
+      untrue (contains_key (by_name kept) q) (sym (contains-all_kept of kept q)
+        ∙ ap is_some (ap (λ m. get m q) (empty-named (kept_as of) kept none) ∙ get-empty (slice_cmp nat_cmp) q)) t
 
   pub compiled-empty : (kept : BTreeMap (String Global) (Result A Error)) → IsEmpty kept → Compiled l texts (kept_or_read of l kept texts)
-  compiled-empty kept none = subst (Compiled l texts) (sym (ap (λ m. over m (readings l texts)) (empty-named (kept_as of) kept none) ∙ empty-over (readings l texts))) (compiled l texts)
+  compiled-empty kept none =
+      subst (Compiled l texts) (sym (ap (λ m. over m (readings l texts)) (empty-named (kept_as of) kept none)
+      ∙ empty-over (readings l texts))) (compiled l texts)
 
   -- the names that are kept are the source's, after one more name
-  pub known-insert : (old new : BTreeMap (String Global) (Result A Error)) (name : List ℕ) (answer : Result (Nodes F T B) Refusal) → Known old texts
+  pub known-insert : (old new : BTreeMap (String Global) (Result A Error)) (name : List ℕ) (answer : Result (Nodes F T B) Refusal)
+      → Known old texts
       → all_kept of new ≡ insert (all_kept of old) name answer → contains_key texts name ≡ true → Known new texts
-  known-insert old new name answer known e there q t = go (names_eq q name) refl (sym (ap is_some (ap (λ m. get m q) e ∙ get-insert nat_list_cmp_total (all_kept of old) name answer q)) ∙ contains-all_kept of new q ∙ t)
+  known-insert old new name answer known e there q t =
+      go (names_eq q name) refl (sym (ap is_some (ap (λ m. get m q) e ∙ get-insert nat_list_cmp_total (all_kept of old) name answer q))
+      ∙ contains-all_kept of new q ∙ t)
     where
       go : (b : Bool) → names_eq q name ≡ b → is_some (cond b (Some answer) (get (all_kept of old) q)) ≡ true → contains_key texts q ≡ true
       go true same u = ap is_some (same_name texts q name same) ∙ there
       go false same u = known q (sym (contains-all_kept of old q) ∙ u)
 
-  pub known-same : (old new : BTreeMap (String Global) (Result A Error)) → Known old texts → all_kept of new ≡ all_kept of old → Known new texts
-  known-same old new known e q t = known q (sym (contains-all_kept of old q) ∙ ap (λ m. contains_key m q) (sym e) ∙ contains-all_kept of new q ∙ t)
+  pub known-same : (old new : BTreeMap (String Global) (Result A Error)) → Known old texts → all_kept of new ≡ all_kept of old
+      → Known new texts
+  known-same old new known e q t =
+      known q (sym (contains-all_kept of old q) ∙ ap (λ m. contains_key m q) (sym e) ∙ contains-all_kept of new q ∙ t)
 
-  pub known-kept : (old new : BTreeMap (String Global) (Result A Error)) (name : List ℕ) (answer : Result A Error) (r : Result (Unit {0}) AllocError) → Known old texts
-      → OnOk r (all_kept of new ≡ insert (all_kept of old) name (kept_as of answer)) → OnErr r (all_kept of new ≡ all_kept of old) → Some (kept_as of answer) ≡ get (readings l texts) name → Known new texts
-  known-kept old new name answer (Ok u) known ok err read = known-insert old new name (kept_as of answer) known ok (sym (contains-readings l texts name) ∙ ap is_some (sym read))
+  pub known-kept : (old new : BTreeMap (String Global) (Result A Error)) (name : List ℕ) (answer : Result A Error)
+      (r : Result (Unit {0}) AllocError) → Known old texts
+      → OnOk r (all_kept of new ≡ insert (all_kept of old) name (kept_as of answer)) → OnErr r (all_kept of new ≡ all_kept of old)
+        → Some (kept_as of answer) ≡ get (readings l texts) name → Known new texts
+  known-kept old new name answer (Ok u) known ok err read =
+      known-insert old new name (kept_as of answer) known ok (sym (contains-readings l texts name) ∙ ap is_some (sym read))
   known-kept old new name answer (Err e) known ok err read = known-same old new known err
 
   -- for a name for which nothing is kept, the result of parsing its text is found, and one text is parsed if the source
   -- has the name
-  module _ (old : BTreeMap (String Global) (Result A Error)) (known : Known old texts) (name : List ℕ) (no : contains_key (all_kept of old) name ≡ false) where
-    pub read_found : (o : Option (Result (Nodes F T B) Refusal)) → o ≡ get (readings l texts) name → o ≡ get (kept_or_read of l old texts) name
+  module _ (old : BTreeMap (String Global) (Result A Error)) (known : Known old texts) (name : List ℕ)
+      (no : contains_key (all_kept of old) name ≡ false) where
+    pub read_found : (o : Option (Result (Nodes F T B) Refusal)) → o ≡ get (readings l texts) name
+        → o ≡ get (kept_or_read of l old texts) name
     read_found o e = e ∙ sym (found_unkept (all_kept of old) (readings l texts) name (unkept (all_kept of old) name no))
 
     pub read_once : contains_key texts name ≡ is_read (kept_or_read of l old texts) (all_kept of old) name
-    read_once = and_true (contains_key texts name) ∙ sym (ap (λ b. b && not (contains_key (all_kept of old) name)) (contains-known old known name) ∙ ap (λ c. contains_key texts name && not c) no)
+    read_once =
+        and_true (contains_key texts name) ∙ sym (ap (λ b. b && not (contains_key (all_kept of old) name)) (contains-known old known name)
+        ∙ ap (λ c. contains_key texts name && not c) no)
       where
         and_true : (b : Bool) → b ≡ (b && true)
         and_true true = refl
         and_true false = refl
 
     -- then its result is kept
-    module _ (new : BTreeMap (String Global) (Result A Error)) (copy answer : Result A Error) (e : all_kept of new ≡ insert (all_kept of old) name (kept_as of copy)) (same : kept_as of copy ≡ kept_as of answer)
+    module _ (new : BTreeMap (String Global) (Result A Error)) (copy answer : Result A Error)
+        (e : all_kept of new ≡ insert (all_kept of old) name (kept_as of copy)) (same : kept_as of copy ≡ kept_as of answer)
         (read : Some (kept_as of answer) ≡ get (readings l texts) name) where
       inserted : all_kept of new ≡ insert (all_kept of old) name (kept_as of answer)
       inserted = e ∙ ap (insert (all_kept of old) name) same
 
       pub kept_same : kept_or_read of l new texts ≡ kept_or_read of l old texts
-      kept_same = ap (λ m. over m (readings l texts)) inserted ∙ over_more (all_kept of old) (readings l texts) name (kept_as of answer) (sym (read_found (Some (kept_as of answer)) read))
+      kept_same =
+          ap (λ m. over m (readings l texts)) inserted ∙ over_more (all_kept of old) (readings l texts) name (kept_as of answer)
+          (sym (read_found (Some (kept_as of answer)) read))
 
       pub kept_keeps : all_kept of new ≡ kept_after true (kept_or_read of l old texts) name (all_kept of old)
-      kept_keeps = inserted ∙ newly_kept (kept_or_read of l old texts) (all_kept of old) name (kept_as of answer) (sym (read_found (Some (kept_as of answer)) read))
+      kept_keeps =
+          inserted ∙ newly_kept (kept_or_read of l old texts) (all_kept of old) name (kept_as of answer)
+          (sym (read_found (Some (kept_as of answer)) read))
 
       pub kept_known : Known new texts
-      kept_known = known-insert old new name (kept_as of answer) known inserted (sym (contains-readings l texts name) ∙ ap is_some (sym read))
+      kept_known =
+          known-insert old new name (kept_as of answer) known inserted (sym (contains-readings l texts name) ∙ ap is_some (sym read))
 
   -- after any request all names of the source are still kept
   pub has-after : (old new : BTreeMap (String Global) (Result A Error)) (b : Bool) (name : List ℕ) → HasAll old texts
       → all_kept of new ≡ kept_after b (kept_or_read of l old texts) name (all_kept of old) → HasAll new texts
   has-after old new b name has e q t =
-      sym (contains-all_kept of new q) ∙ ap (λ m. contains_key m q) e ∙ still_kept b (kept_or_read of l old texts) (all_kept of old) name q (contains-all_kept of old q ∙ has q t)
+      sym (contains-all_kept of new q) ∙ ap (λ m. contains_key m q) e
+        ∙ still_kept b (kept_or_read of l old texts) (all_kept of old) name q (contains-all_kept of old q ∙ has q t)
 
   -- if all names of the source are kept, no request parses a text
-  none_read : (kept : BTreeMap (String Global) (Result A Error)) (name : List ℕ) → Known kept texts → HasAll kept texts → is_read (kept_or_read of l kept texts) (all_kept of kept) name ≡ false
+  none_read : (kept : BTreeMap (String Global) (Result A Error)) (name : List ℕ) → Known kept texts → HasAll kept texts
+      → is_read (kept_or_read of l kept texts) (all_kept of kept) name ≡ false
   none_read kept name known has = go (contains_key (kept_or_read of l kept texts) name) (contains-known kept known name)
     where
       go : (b : Bool) → b ≡ contains_key texts name → (b && not (contains_key (all_kept of kept) name)) ≡ false
       go true e = ap not (contains-all_kept of kept name ∙ has name (sym e))
       go false e = refl
 
-  pub no_more : (kept : BTreeMap (String Global) (Result A Error)) (name : List ℕ) (n : ℕ) → Known kept texts → HasAll kept texts → n + once (is_read (kept_or_read of l kept texts) (all_kept of kept) name) ≡ n
+  pub no_more : (kept : BTreeMap (String Global) (Result A Error)) (name : List ℕ) (n : ℕ) → Known kept texts → HasAll kept texts
+      → n + once (is_read (kept_or_read of l kept texts) (all_kept of kept) name) ≡ n
   no_more kept name n known has = ap (λ b. n + once b) (none_read kept name known has) ∙ omega arith
 
-  read_in : (kept : BTreeMap (String Global) (Result A Error)) (count : ℕ) (front rest : List (List ℕ)) (name : List ℕ) → Known kept texts → front ++ name ∷ rest ≡ keys texts → contains_key (kept_or_read of l kept texts) name ≡ true
+  read_in : (kept : BTreeMap (String Global) (Result A Error)) (count : ℕ) (front rest : List (List ℕ)) (name : List ℕ) → Known kept texts
+      → front ++ name ∷ rest ≡ keys texts → contains_key (kept_or_read of l kept texts) name ≡ true
   read_in kept count front rest name known whole =
-      contains-known kept known name ∙ contains_key-keys texts name ∙ ap (list_any (names_eq name)) (sym whole) ∙ any_here (names_eq name) front name rest (ap is_eq (tied_itself nat_list_cmp_total name))
+      contains-known kept known name ∙ contains_key-keys texts name ∙ ap (list_any (names_eq name)) (sym whole)
+        ∙ any_here (names_eq name) front name rest (ap is_eq (tied_itself nat_list_cmp_total name))
 
-  pub read_more : (old new : BTreeMap (String Global) (Result A Error)) (n count : ℕ) (name : List ℕ) (rest : List (List ℕ)) → Known old texts → ReadSoFar of texts old n (name ∷ rest)
+  pub read_more : (old new : BTreeMap (String Global) (Result A Error)) (n count : ℕ) (name : List ℕ) (rest : List (List ℕ))
+      → Known old texts → ReadSoFar of texts old n (name ∷ rest)
       → all_kept of new ≡ kept_after true (kept_or_read of l old texts) name (all_kept of old)
       → count ≡ n + once (is_read (kept_or_read of l old texts) (all_kept of old) name) → ReadSoFar of texts new count rest
   read_more old new n count name rest known so_far keeps counts =
       let finds = kept_or_read of l old texts in
       let there = read_in old n so_far.front rest name known so_far.whole in
       let long = len-kept_after finds (all_kept of old) name in
-      let here : contains_key (all_kept of new) name ≡ true = ap (λ m. contains_key m name) keeps ∙ now_kept finds (all_kept of old) name there in
+      let here : contains_key (all_kept of new) name ≡ true =
+          ap (λ m. contains_key m name) keeps ∙ now_kept finds (all_kept of old) name there in
       record {
         front = so_far.front ++ name ∷ [];
         whole = append_assoc so_far.front (name ∷ []) rest ∙ so_far.whole;
-        has = λ q t. by_last (names_eq q name) (list_any (names_eq q) so_far.front) (contains_key (all_kept of new) q) (sym (any_last (names_eq q) so_far.front name) ∙ t)
+        has =
+            λ q t. by_last (names_eq q name) (list_any (names_eq q) so_far.front) (contains_key (all_kept of new) q)
+            (sym (any_last (names_eq q) so_far.front name) ∙ t)
             (λ u. ap (λ m. contains_key m q) keeps ∙ still_kept true finds (all_kept of old) name q (so_far.has q u))
             (λ u. ap is_some (same_name (all_kept of new) q name u) ∙ here);
         counted = counts ∙ ap (λ k. k + once (is_read finds (all_kept of old) name)) so_far.counted ∙ sym long ∙ sym (ap len keeps);

@@ -28,23 +28,28 @@ pub compiled_alike : {F T L B : Type 0} (l k : Lang F T L B) (texts others : Tex
 compiled_alike l k texts others found same_l same_texts compiled =
     subst (λ t. Compiled k t found) same_texts (subst (λ w. Compiled w texts found) same_l compiled)
 
-module _ {Reg F T L P B Q : Type 0} (fresh : Reg) (settings : Option (Found F T B) → Setting Reg F T P B Q) (k : Lang F T L B) (text : List ℕ) (globals : Names) (partials : Texts) where
+module _ {Reg F T L P B Q : Type 0} (fresh : Reg) (settings : Option (Found F T B) → Setting Reg F T P B Q) (k : Lang F T L B)
+    (text : List ℕ) (globals : Names) (partials : Texts) where
   -- the language, what the runtime's store finds, and the view of a built runtime
-  pub page_over : (l : Lang F T L B) (stored : Option (Found F T B)) (found : Found F T B) (v left : View Reg) (before after : Sunk) (result : Result (Unit {0}) Error)
-      → ((answer : Result (List (NodeShape F T B)) Refusal) → Reads l text answer → Rendered (settings stored) answer v before after left result)
+  pub page_over : (l : Lang F T L B) (stored : Option (Found F T B)) (found : Found F T B) (v left : View Reg) (before after : Sunk)
+      (result : Result (Unit {0}) Error)
+      → ((answer : Result (List (NodeShape F T B)) Refusal) → Reads l text answer
+        → Rendered (settings stored) answer v before after left result)
       → l ≡ k → stored ≡ Some found → v ≡ built_view fresh page_depth globals → Compiled k partials found
       → RendersPage fresh settings k text globals partials before after result
   page_over l stored found v left before after result given same_l same_stored same_v compiled = record {
     left = left;
     rendered = λ answer reads other is_other.
         subst (λ w. Rendered (settings (Some other)) answer w before after left result) same_v
-        (subst (λ s. Rendered (settings s) answer v before after left result) (same_stored ∙ ap Some (sym (one_store k partials found other compiled is_other)))
+        (subst (λ s. Rendered (settings s) answer v before after left result)
+          (same_stored ∙ ap Some (sym (one_store k partials found other compiled is_other)))
         (given answer (subst (λ m. Reads m text answer) (sym same_l) reads)));
   }
 
   -- memory that runs out before anything is written is an outcome of each page
   nothing_comes : (at : Sunk) (error : Error) → told error ≡ None → (answer : Result (List (NodeShape F T B)) Refusal) (finds : Found F T B)
-      → Rendered (settings (Some finds)) answer (built_view fresh page_depth globals) at at (built_view fresh page_depth globals) (Err error)
+      → Rendered (settings (Some finds)) answer (built_view fresh page_depth globals) at at (built_view fresh page_depth globals)
+        (Err error)
   nothing_comes at error memory (Ok nodes) finds =
       let start = built_view fresh page_depth globals in
       let run = template_run (settings (Some finds)) (nodes_from nodes) start in
@@ -53,4 +58,6 @@ module _ {Reg F T L P B Q : Type 0} (fresh : Reg) (settings : Option (Found F T 
       (refl, (refl, subst (λ (o : Option Refusal). IfSome o (λ reason. reason ≡ refusal)) (sym memory) tt))
 
   pub no_page : (at : Sunk) (error : Error) → told error ≡ None → RendersPage fresh settings k text globals partials at at (Err error)
-  no_page at error memory = record { left = built_view fresh page_depth globals; rendered = λ answer reads finds compiled. nothing_comes at error memory answer finds }
+  no_page at error memory =
+      record { left = built_view fresh page_depth globals; rendered = λ answer reads finds compiled. nothing_comes at error memory answer
+      finds }

@@ -37,20 +37,24 @@ nth_past [] k past = refl
 nth_past (y ∷ ys) zero past = absurd (omega arith)
 nth_past (y ∷ ys) (suc k) past = nth_past ys k (omega arith)
 
-pub nth_of_values : (xs : List Value) (k : ℕ) (r : Option (Bor Value)) → IsItemAt xs k r → option_map (λ (x : Bor Value). view x.now) r ≡ nth k (items_view xs)
+pub nth_of_values : (xs : List Value) (k : ℕ) (r : Option (Bor Value)) → IsItemAt xs k r
+    → option_map (λ (x : Bor Value). view x.now) r ≡ nth k (items_view xs)
 nth_of_values xs k None found = nth_past xs k found.3
 nth_of_values xs k (Some x) found = nth_within xs k x.now found.3.0 found.1
 
-pub item_at_of_values : (xs : List Value) (index : ℤ) → item_at index (items_view xs) ≡ option_and_then (λ place. nth place (items_view xs)) (place_at index (length xs))
+pub item_at_of_values : (xs : List Value) (index : ℤ) → item_at index (items_view xs) ≡ option_and_then (λ place. nth place (items_view xs))
+    (place_at index (length xs))
 item_at_of_values xs index = ap (λ n. option_and_then (λ place. nth place (items_view xs)) (place_at index n)) (count_of_values xs)
 
-found_or : (o : Ordering) (v : Value) (rest : Option Value) (more : Option Tree) → option_map view rest ≡ more → option_map view (cond (is_eq o) (Some v) rest) ≡ match_ordering o more (Some (view v)) more
+found_or : (o : Ordering) (v : Value) (rest : Option Value) (more : Option Tree) → option_map view rest ≡ more
+    → option_map view (cond (is_eq o) (Some v) rest) ≡ match_ordering o more (Some (view v)) more
 found_or Less v rest more e = e
 found_or Equal v rest more e = refl
 found_or Greater v rest more e = e
 
 -- the value of a key is the member of that name
-pub value_of_member : (name : List ℕ) (es : List (String Global × Value)) → option_map view (lookup (is_at (λ k. slice_cmp nat_cmp name (string_bytes k))) es) ≡ get_member name (members_view es)
+pub value_of_member : (name : List ℕ) (es : List (String Global × Value))
+    → option_map view (lookup (is_at (λ k. slice_cmp nat_cmp name (string_bytes k))) es) ≡ get_member name (members_view es)
 value_of_member name [] = refl
 value_of_member name (e ∷ es) = found_or (slice_cmp nat_cmp name (string_bytes e.0)) e.1 _ _ (value_of_member name es)
 

@@ -15,7 +15,8 @@ use Rattle.liquid_runtime.proofs.Agreement.{get_agrees, lenient_get_agrees}
 use Rattle.liquid_plugins.specs.meaning.Expression.{ExpressionShape, literal, variable, Indexes, no_indexes, index}
 use Rattle.liquid_plugins.specs.meaning.Evaluation.{evaluate, path_of, try_evaluate, try_path_of, expected_scalar, named_path, try_named_path}
 
-ok_then-map : (s : Scal) (r : Result Path Refusal) (o : Option Path) → result_ok r ≡ o → result_ok (ok_then r (λ path. Ok (s ∷ path))) ≡ option_map (λ path. s ∷ path) o
+ok_then-map : (s : Scal) (r : Result Path Refusal) (o : Option Path) → result_ok r ≡ o
+    → result_ok (ok_then r (λ path. Ok (s ∷ path))) ≡ option_map (λ path. s ∷ path) o
 ok_then-map s (Ok path) o e = ap (option_map (λ path. s ∷ path)) e
 ok_then-map s (Err refusal) o e = ap (option_map (λ path. s ∷ path)) e
 
@@ -35,10 +36,12 @@ ok_then-gives r f (Some x) g u first more h = ap (λ q. ok_then q f) (first x re
 ok_then-map-gives : (s : Scal) (r : Result Path Refusal) (o : Option Path) (path : Path) → ((rest : Path) → o ≡ Some rest → r ≡ Ok rest)
     → option_map (λ rest. s ∷ rest) o ≡ Some path → ok_then r (λ rest. Ok (s ∷ rest)) ≡ Ok path
 ok_then-map-gives s r None path first h = cc
-ok_then-map-gives s r (Some rest) path first h = ap (λ q. ok_then q (λ rest. Ok (s ∷ rest))) (first rest refl) ∙ ap (λ w. Ok w) (same_value (s ∷ rest) path h)
+ok_then-map-gives s r (Some rest) path first h =
+    ap (λ q. ok_then q (λ rest. Ok (s ∷ rest))) (first rest refl) ∙ ap (λ w. Ok w) (same_value (s ∷ rest) path h)
 
 module _ {Reg : Type 0} where
-  and_then-map : (v : View Reg) (name : Scal) (o : Option Path) → option_and_then (λ path. try_path v (name ∷ path)) o ≡ option_and_then (try_path v) (option_map (λ path. name ∷ path) o)
+  and_then-map : (v : View Reg) (name : Scal) (o : Option Path)
+      → option_and_then (λ path. try_path v (name ∷ path)) o ≡ option_and_then (try_path v) (option_map (λ path. name ∷ path) o)
   and_then-map v name None = refl
   and_then-map v name (Some path) = refl
 
@@ -46,12 +49,14 @@ module _ {Reg : Type 0} where
     pub evaluate_agrees : (v : View Reg) (e : ExpressionShape) → v.lenient ≡ false → result_ok (evaluate v e) ≡ try_evaluate v e
     evaluate_agrees v (literal t) strict = refl
     evaluate_agrees v (variable name is) strict =
-        ok_then-agrees (path_of v is) (λ path. found v (name ∷ path)) (try_path_of v is) (λ path. try_path v (name ∷ path)) (path_agrees v is strict) (λ path. get_agrees v (name ∷ path) strict) ∙ and_then-map v name (try_path_of v is)
+        ok_then-agrees (path_of v is) (λ path. found v (name ∷ path)) (try_path_of v is) (λ path. try_path v (name ∷ path))
+          (path_agrees v is strict) (λ path. get_agrees v (name ∷ path) strict) ∙ and_then-map v name (try_path_of v is)
 
     path_agrees : (v : View Reg) (is : Indexes) → v.lenient ≡ false → result_ok (path_of v is) ≡ try_path_of v is
     path_agrees v no_indexes strict = refl
     path_agrees v (index e es) strict =
-        ok_then-agrees (evaluate v e) (λ t. ok_then (ok_or (as_scalar t) (expected_scalar t)) (λ scalar. ok_then (path_of v es) (λ path. Ok (scalar ∷ path))))
+        ok_then-agrees (evaluate v e) (λ t. ok_then (ok_or (as_scalar t) (expected_scalar t))
+          (λ scalar. ok_then (path_of v es) (λ path. Ok (scalar ∷ path))))
         (try_evaluate v e) (λ t. option_and_then (λ scalar. option_map (λ path. scalar ∷ path) (try_path_of v es)) (as_scalar t))
         (evaluate_agrees v e strict)
         (λ t. ok_then-agrees (ok_or (as_scalar t) (expected_scalar t)) (λ scalar. ok_then (path_of v es) (λ path. Ok (scalar ∷ path)))
@@ -59,11 +64,13 @@ module _ {Reg : Type 0} where
         (ok_or-agrees (as_scalar t) (expected_scalar t))
         (λ scalar. ok_then-map scalar (path_of v es) (try_path_of v es) (path_agrees v es strict)))
 
-  pub paths_agree : (v : View Reg) (name : Scal) (is : Indexes) → v.lenient ≡ false → result_ok (named_path v name is) ≡ try_named_path v name is
+  pub paths_agree : (v : View Reg) (name : Scal) (is : Indexes) → v.lenient ≡ false
+      → result_ok (named_path v name is) ≡ try_named_path v name is
   paths_agree v name is strict = ok_then-map name (path_of v is) (try_path_of v is) (path_agrees v is strict)
 
   -- a path that has a value gives it in any view
-  found_where : (v : View Reg) (path : Path) (t : Tree) (lenient : Bool) → v.lenient ≡ lenient → try_path v path ≡ Some t → found v path ≡ Ok t
+  found_where : (v : View Reg) (path : Path) (t : Tree) (lenient : Bool) → v.lenient ≡ lenient → try_path v path ≡ Some t
+      → found v path ≡ Ok t
   found_where v path t true e h = lenient_get_agrees v path e ∙ ap (λ o. Ok (unwrap_or o nil)) h
   found_where v path t false e h = came_to (found v path) t (get_agrees v path e ∙ h)
 
@@ -80,7 +87,8 @@ module _ {Reg : Type 0} where
     path_gives : (v : View Reg) (is : Indexes) (path : Path) → try_path_of v is ≡ Some path → path_of v is ≡ Ok path
     path_gives v no_indexes path h = ap (λ w. Ok w) (same_value [] path h)
     path_gives v (index e es) path h =
-        ok_then-gives (evaluate v e) (λ t. ok_then (ok_or (as_scalar t) (expected_scalar t)) (λ scalar. ok_then (path_of v es) (λ path. Ok (scalar ∷ path))))
+        ok_then-gives (evaluate v e) (λ t. ok_then (ok_or (as_scalar t) (expected_scalar t))
+          (λ scalar. ok_then (path_of v es) (λ path. Ok (scalar ∷ path))))
         (try_evaluate v e) (λ t. option_and_then (λ scalar. option_map (λ path. scalar ∷ path) (try_path_of v es)) (as_scalar t)) path
         (λ t k. evaluate_gives v e t k)
         (λ t q k. ok_then-gives (ok_or (as_scalar t) (expected_scalar t)) (λ scalar. ok_then (path_of v es) (λ path. Ok (scalar ∷ path)))
@@ -89,5 +97,6 @@ module _ {Reg : Type 0} where
         (λ scalar p i. ok_then-map-gives scalar (path_of v es) (try_path_of v es) p (λ rest j. path_gives v es rest j) i) k)
         h
 
-  pub paths_give : (v : View Reg) (name : Scal) (is : Indexes) (path : Path) → try_named_path v name is ≡ Some path → named_path v name is ≡ Ok path
+  pub paths_give : (v : View Reg) (name : Scal) (is : Indexes) (path : Path) → try_named_path v name is ≡ Some path
+      → named_path v name is ≡ Ok path
   paths_give v name is path h = ok_then-map-gives name (path_of v is) (try_path_of v is) path (λ rest j. path_gives v is rest j) h

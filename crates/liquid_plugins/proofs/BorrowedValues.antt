@@ -19,7 +19,8 @@ use Rattle.liquid_plugins.proofs.Agreement.{evaluate_gives}
 abbrev pub from_here : Tree → Option Path → Option Tree
 from_here t o = option_and_then (λ path. walk t path) o
 
-stepped : (t next : Tree) (s : Scal) (o : Option Path) → step t s ≡ Some next → from_here t (option_map (λ path. s ∷ path) o) ≡ from_here next o
+stepped : (t next : Tree) (s : Scal) (o : Option Path) → step t s ≡ Some next
+    → from_here t (option_map (λ path. s ∷ path) o) ≡ from_here next o
 stepped t next s None h = refl
 stepped t next s (Some path) h = ap (option_and_then (λ u. walk u path)) h
 
@@ -28,42 +29,51 @@ module _ {Reg : Type 0} where
   pub borrowed_value : (v : View Reg) (e : ExpressionShape) (t : Tree) → try_evaluate v e ≡ Some t → evaluate v e ≡ Ok t
   borrowed_value v e t h = evaluate_gives v e t h
 
-  named : (v : View Reg) (name : Scal) (t : Tree) (o : Option Path) → lookup v (render_scalar name) ≡ Some t → option_and_then (try_path v) (option_map (λ path. name ∷ path) o) ≡ from_here t o
+  named : (v : View Reg) (name : Scal) (t : Tree) (o : Option Path) → lookup v (render_scalar name) ≡ Some t
+      → option_and_then (try_path v) (option_map (λ path. name ∷ path) o) ≡ from_here t o
   named v name t None h = refl
   named v name t (Some path) h = ap (option_and_then (λ u. walk u path)) h
 
   -- a variable leads from the value of its name
-  pub begins_at : (v : View Reg) (name : Scal) (is : Indexes) (t : Tree) → lookup v (render_scalar name) ≡ Some t → try_evaluate v (variable name is) ≡ from_here t (try_path_of v is)
+  pub begins_at : (v : View Reg) (name : Scal) (is : Indexes) (t : Tree) → lookup v (render_scalar name) ≡ Some t
+      → try_evaluate v (variable name is) ≡ from_here t (try_path_of v is)
   begins_at v name is t h = named v name t (try_path_of v is) h
 
   -- a name alone gives the value that it has
-  pub borrowed_name : (v : View Reg) (name : List ℕ) (t : Tree) → lookup v name ≡ Some t → evaluate v (variable (text name) no_indexes) ≡ Ok t
+  pub borrowed_name : (v : View Reg) (name : List ℕ) (t : Tree) → lookup v name ≡ Some t
+      → evaluate v (variable (text name) no_indexes) ≡ Ok t
   borrowed_name v name t h = borrowed_value v (variable (text name) no_indexes) t (begins_at v (text name) no_indexes t h)
 
   -- an index that is known to be a scalar leads one step further
-  pub goes_on : (v : View Reg) (t next i : Tree) (s : Scal) (e : ExpressionShape) (es : Indexes) → try_evaluate v e ≡ Some i → i ≡ scalar s → step t s ≡ Some next → from_here t (try_path_of v (index e es)) ≡ from_here next (try_path_of v es)
+  pub goes_on : (v : View Reg) (t next i : Tree) (s : Scal) (e : ExpressionShape) (es : Indexes) → try_evaluate v e ≡ Some i → i ≡ scalar s
+      → step t s ≡ Some next → from_here t (try_path_of v (index e es)) ≡ from_here next (try_path_of v es)
   goes_on v t next i s e es h j k =
-      ap (λ o. from_here t (option_and_then (λ u. option_and_then (λ x. option_map (λ path. x ∷ path) (try_path_of v es)) (as_scalar u)) o)) (h ∙ ap Some j)
+      ap (λ o. from_here t (option_and_then (λ u. option_and_then (λ x. option_map (λ path. x ∷ path) (try_path_of v es)) (as_scalar u)) o))
+        (h ∙ ap Some j)
       ∙ stepped t next s (try_path_of v es) k
 
   comes_to : (v : View Reg) (e : ExpressionShape) (i : Tree) → as_literal e ≡ Some i → try_evaluate v e ≡ Some i
   comes_to v (literal t) i h = h
   comes_to v (variable name is) i h = absurd (none-some i h)
 
-  leads_on : (v : View Reg) (t i next : Tree) (s : Scal) (e : ExpressionShape) (es : Indexes) → try_evaluate v e ≡ Some i → as_scalar i ≡ Some s → step t s ≡ Some next → from_here t (try_path_of v (index e es)) ≡ from_here next (try_path_of v es)
+  leads_on : (v : View Reg) (t i next : Tree) (s : Scal) (e : ExpressionShape) (es : Indexes) → try_evaluate v e ≡ Some i
+      → as_scalar i ≡ Some s → step t s ≡ Some next → from_here t (try_path_of v (index e es)) ≡ from_here next (try_path_of v es)
   leads_on v t i next s e es h j k =
-      ap (λ o. from_here t (option_and_then (λ u. option_and_then (λ x. option_map (λ path. x ∷ path) (try_path_of v es)) (as_scalar u)) o)) h
+      ap (λ o. from_here t (option_and_then (λ u. option_and_then (λ x. option_map (λ path. x ∷ path) (try_path_of v es)) (as_scalar u)) o))
+        h
       ∙ ap (λ o. from_here t (option_and_then (λ x. option_map (λ path. x ∷ path) (try_path_of v es)) o)) j
       ∙ stepped t next s (try_path_of v es) k
 
-  first_leads : (v : View Reg) (t next : Tree) (e : ExpressionShape) (es : Indexes) → literal_part t e ≡ Some next → from_here t (try_path_of v (index e es)) ≡ from_here next (try_path_of v es)
+  first_leads : (v : View Reg) (t next : Tree) (e : ExpressionShape) (es : Indexes) → literal_part t e ≡ Some next
+      → from_here t (try_path_of v (index e es)) ≡ from_here next (try_path_of v es)
   first_leads v t next e es h =
       option_and_then_some (λ i. option_and_then (λ x. step t x) (as_scalar i)) (as_literal e) next h (λ i is_literal at_index.
       option_and_then_some (λ x. step t x) (as_scalar i) next at_index (λ s is_scalar at_part.
       leads_on v t i next s e es (comes_to v e i is_literal) is_scalar at_part))
 
   -- literal indexes lead to the same value in every view
-  pub literals_lead : (v : View Reg) (t u : Tree) (es : Indexes) → literal_walk t es ≡ Some u → option_and_then (λ path. walk t path) (try_path_of v es) ≡ Some u
+  pub literals_lead : (v : View Reg) (t u : Tree) (es : Indexes) → literal_walk t es ≡ Some u
+      → option_and_then (λ path. walk t path) (try_path_of v es) ≡ Some u
   literals_lead v t u no_indexes h = h
   literals_lead v t u (index e es) h =
       option_and_then_some (λ part. literal_walk part es) (literal_part t e) u h (λ part is_part on.

@@ -15,7 +15,8 @@ use Rattle.liquid_paths.specs.meaning.Walk.{Path, walk, find_after}
 use Rattle.liquid_plugins.specs.meaning.Expression.{ExpressionShape, literal, variable, Indexes, no_indexes, index}
 use Rattle.liquid_plugins.specs.meaning.Evaluation.{evaluate, path_of, expected_scalar, try_evaluate, try_path_of}
 
-shown_erased : (b : Bool) (globals : Option Names) → cond b (unwrap_or (cond b globals (without_names globals)) empty) empty ≡ cond b (unwrap_or globals empty) empty
+shown_erased : (b : Bool) (globals : Option Names) → cond b (unwrap_or (cond b globals (without_names globals)) empty) empty ≡ cond b
+    (unwrap_or globals empty) empty
 shown_erased true globals = refl
 shown_erased false globals = refl
 
@@ -34,8 +35,10 @@ module _ {Reg : Type 0} where
   pub found_erased : (v : View Reg) (path : Path) → found (erase v) path ≡ found v path
   found_erased v [] = refl
   found_erased v (name ∷ path) =
-      ap (λ (upper : Names). or_nil v.lenient (ok_then (ok_or (get (over upper (floor_names v)) (render_scalar name)) (unknown_variable (render_scalar name)))
-      (λ t. sealed_answer (is_sealed v.floor && is_none (get upper (render_scalar name))) (render_scalar name) (find_after (name ∷ []) t path))))
+      ap (λ (upper : Names). or_nil v.lenient (ok_then (ok_or (get (over upper (floor_names v)) (render_scalar name))
+          (unknown_variable (render_scalar name)))
+      (λ t. sealed_answer (is_sealed v.floor && is_none (get upper (render_scalar name))) (render_scalar name)
+        (find_after (name ∷ []) t path))))
       (upper_erased v)
 
   mutual
@@ -43,13 +46,16 @@ module _ {Reg : Type 0} where
     evaluate_erased v (literal t) = refl
     evaluate_erased v (variable name is) =
         ap (λ r. ok_then r (λ path. found (erase v) (name ∷ path))) (path_erased v is)
-        ∙ ok_then-same (path_of v is) (λ path. found (erase v) (name ∷ path)) (λ path. found v (name ∷ path)) (λ path. found_erased v (name ∷ path))
+        ∙ ok_then-same (path_of v is) (λ path. found (erase v) (name ∷ path)) (λ path. found v (name ∷ path))
+          (λ path. found_erased v (name ∷ path))
 
     path_erased : (v : View Reg) (is : Indexes) → path_of (erase v) is ≡ path_of v is
     path_erased v no_indexes = refl
     path_erased v (index e es) =
-        ap (λ r. ok_then r (λ t. ok_then (ok_or (as_scalar t) (expected_scalar t)) (λ scalar. ok_then (path_of (erase v) es) (λ path. Ok (scalar ∷ path))))) (evaluate_erased v e)
-        ∙ ap (λ q. ok_then (evaluate v e) (λ t. ok_then (ok_or (as_scalar t) (expected_scalar t)) (λ scalar. ok_then q (λ path. Ok (scalar ∷ path))))) (path_erased v es)
+        ap (λ r. ok_then r (λ t. ok_then (ok_or (as_scalar t) (expected_scalar t))
+          (λ scalar. ok_then (path_of (erase v) es) (λ path. Ok (scalar ∷ path))))) (evaluate_erased v e)
+        ∙ ap (λ q. ok_then (evaluate v e) (λ t. ok_then (ok_or (as_scalar t) (expected_scalar t))
+          (λ scalar. ok_then q (λ path. Ok (scalar ∷ path))))) (path_erased v es)
 
   try_path_erased : (v : View Reg) (path : Path) → try_path (erase v) path ≡ try_path v path
   try_path_erased v [] = refl
@@ -66,5 +72,7 @@ module _ {Reg : Type 0} where
     try_indexes_erased : (v : View Reg) (is : Indexes) → try_path_of (erase v) is ≡ try_path_of v is
     try_indexes_erased v no_indexes = refl
     try_indexes_erased v (index e es) =
-        ap (λ r. option_and_then (λ t. option_and_then (λ scalar. option_map (λ path. scalar ∷ path) (try_path_of (erase v) es)) (as_scalar t)) r) (try_erased v e)
-        ∙ ap (λ q. option_and_then (λ t. option_and_then (λ scalar. option_map (λ path. scalar ∷ path) q) (as_scalar t)) (try_evaluate v e)) (try_indexes_erased v es)
+        ap (λ r. option_and_then (λ t. option_and_then (λ scalar. option_map (λ path. scalar ∷ path) (try_path_of (erase v) es))
+          (as_scalar t)) r) (try_erased v e)
+        ∙ ap (λ q. option_and_then (λ t. option_and_then (λ scalar. option_map (λ path. scalar ∷ path) q) (as_scalar t)) (try_evaluate v e))
+          (try_indexes_erased v es)

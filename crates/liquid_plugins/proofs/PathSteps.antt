@@ -16,5 +16,6 @@ try_after front o = option_map (λ path. front ++ path) o
 abbrev pub following : Path → Result Path Refusal → Result Path Refusal
 following front r = ok_then r (λ path. Ok (front ++ path))
 
-pub expressions_of-drop : (es : List Expression) (i : ℕ) (e : Expression) → i < length es → e ≡ get_or es i e → expressions_of (drop i es) ≡ index (expression_of e) (expressions_of (drop (i + 1) es))
+pub expressions_of-drop : (es : List Expression) (i : ℕ) (e : Expression) → i < length es → e ≡ get_or es i e
+    → expressions_of (drop i es) ≡ index (expression_of e) (expressions_of (drop (i + 1) es))
 expressions_of-drop es i e within is = ap expressions_of (drop-cons es i e within) ∙ rw (add-one, ← is)

@@ -12,4 +12,6 @@ pub same_uneven : (ls rs : List Expression) → (length ls ≡ length rs → ⊥
 same_uneven [] [] apart = absurd (apart refl)
 same_uneven [] (r ∷ rs) apart = refl
 same_uneven (l ∷ ls) [] apart = refl
-same_uneven (l ∷ ls) (r ∷ rs) apart = ap (λ b. same_expression (expression_of l) (expression_of r) && b) (same_uneven ls rs (λ e. apart (ap suc e))) ∙ and_false (same_expression (expression_of l) (expression_of r))
+same_uneven (l ∷ ls) (r ∷ rs) apart =
+    ap (λ b. same_expression (expression_of l) (expression_of r) && b) (same_uneven ls rs (λ e. apart (ap suc e)))
+    ∙ and_false (same_expression (expression_of l) (expression_of r))

@@ -11,9 +11,14 @@ use Rattle.liquid_program.specs.declared.command.Options.{Options}
 use Rattle.liquid_program.specs.meaning.Program.{Renders, RendersIn, page_options}
 use Rattle.liquid_program.specs.meaning.ProgramLanguage.{plain_language, plain_setting, standard_language, standard_setting}
 
-pub nothing_in : (standard : Bool) (page : PageOptions) (text : List ℕ) (globals : Names) (partials : Option Texts) (at : Sunk) (error : Error) → told error ≡ None → RendersIn standard page text globals partials at at (Err error)
-nothing_in false page text globals partials at error memory = λ answer reads. no_page plain_setting plain_language page answer globals partials at error memory
-nothing_in true page text globals partials at error memory = λ answer reads. no_page standard_setting standard_language page answer globals partials at error memory
+pub nothing_in : (standard : Bool) (page : PageOptions) (text : List ℕ) (globals : Names) (partials : Option Texts) (at : Sunk)
+    (error : Error) → told error ≡ None → RendersIn standard page text globals partials at at (Err error)
+nothing_in false page text globals partials at error memory =
+    λ answer reads. no_page plain_setting plain_language page answer globals partials at error memory
+nothing_in true page text globals partials at error memory =
+    λ answer reads. no_page standard_setting standard_language page answer globals partials at error memory
 
-pub nothing_rendered : (options : Options) (text : List ℕ) (globals : Names) (partials : Option Texts) (at : Sunk) (error : Error) → told error ≡ None → Renders options text globals partials at at (Err error)
-nothing_rendered options text globals partials at error memory = nothing_in options.standard (page_options options) text globals partials at error memory
+pub nothing_rendered : (options : Options) (text : List ℕ) (globals : Names) (partials : Option Texts) (at : Sunk) (error : Error)
+    → told error ≡ None → Renders options text globals partials at at (Err error)
+nothing_rendered options text globals partials at error memory =
+    nothing_in options.standard (page_options options) text globals partials at error memory

@@ -56,56 +56,75 @@ module _ (following after_after : Option (List ℕ)) (lent : List ℕ) where
   abbrev filled : List ℕ → ℕ → Sunk
   filled output failures = sunk output failures after_after lent
 
-  broken_begins : {Reg : Type 0} (r : Run Reg) (output : List ℕ) (failures : ℕ) (left : View Reg) (refusal : Refusal) → BrokenOff r (ungated fresh) (ungated (filled output failures)) left refusal → IsBeginning r output
+  broken_begins : {Reg : Type 0} (r : Run Reg) (output : List ℕ) (failures : ℕ) (left : View Reg) (refusal : Refusal)
+      → BrokenOff r (ungated fresh) (ungated (filled output failures)) left refusal → IsBeginning r output
   broken_begins r output failures left refusal b =
       (b.rest ++ pieces b.later, ap pieces b.steps ∙ pieces-append b.front (b.step ∷ b.later) ∙ rw b.taken (rw b.piece (simp append_assoc)))
 
   stopped_begins : {Reg : Type 0} (r : Run Reg) (output : List ℕ) (failures : ℕ) (left : View Reg) (t : Option Refusal)
-      → MatchOption t (Cut r (ungated fresh) (ungated (filled output failures))) (Stopped r (ungated fresh) (ungated (filled output failures)) left) → IsBeginning r output
+      → MatchOption t (Cut r (ungated fresh) (ungated (filled output failures)))
+        (Stopped r (ungated fresh) (ungated (filled output failures)) left) → IsBeginning r output
   stopped_begins r output failures left None c = (
     c.rest ++ pieces c.later,
-    ap pieces c.steps ∙ pieces-append c.front c.later ∙ ap (λ t. t ++ pieces c.later) c.pieces_are ∙ append_assoc c.part c.rest (pieces c.later)
+    ap pieces c.steps ∙ pieces-append c.front c.later ∙ ap (λ t. t ++ pieces c.later) c.pieces_are
+      ∙ append_assoc c.part c.rest (pieces c.later)
         ∙ ap (λ front. front ++ (c.rest ++ pieces c.later)) (sym c.taken),
   )
   stopped_begins r output failures left (Some refusal) (inl s) = whole_begins r output s.0.taken
   stopped_begins r output failures left (Some refusal) (inr s) = broken_begins r output failures left refusal s
 
   -- an outcome shows the run
-  shown_outcome : {Reg : Type 0} (r : Run Reg) (output : List ℕ) (failures : ℕ) (flushed : Bool) (left : View Reg) (result : Result (Unit {0}) Error)
+  shown_outcome : {Reg : Type 0} (r : Run Reg) (output : List ℕ) (failures : ℕ) (flushed : Bool) (left : View Reg)
+      (result : Result (Unit {0}) Error)
       → Outcome r (ungated fresh) (ungated (filled output failures)) left result
       → ((settled (status_of result) flushed ≡ 0) × IsWhole r output) ⊎ ((settled (status_of result) flushed ≡ 1) × IsBeginning r output)
   shown_outcome r output failures flushed left (Ok u) o = shown_whole r output flushed o.0.taken o.1
-  shown_outcome r output failures flushed left (Err error) o = inr (refused_status flushed, stopped_begins r output failures left (told error) o)
+  shown_outcome r output failures flushed left (Err error) o =
+      inr (refused_status flushed, stopped_begins r output failures left (told error) o)
 
-  shown_answer : {Reg F T B : Type 0} (action : List (NodeShape F T B) → Action Reg) (v left : View Reg) (answer : PageAnswer F T B) (output : List ℕ) (failures : ℕ) (flushed : Bool) (result : Result (Unit {0}) Error)
+  shown_answer : {Reg F T B : Type 0} (action : List (NodeShape F T B) → Action Reg) (v left : View Reg) (answer : PageAnswer F T B)
+      (output : List ℕ) (failures : ℕ) (flushed : Bool) (result : Result (Unit {0}) Error)
       → RenderedBy action answer v fresh (filled output failures) left result
       → ShowsAnswer (λ nodes. action nodes v) answer output (settled (status_of result) flushed)
-  shown_answer action v left (Ok nodes) output failures flushed result o = shown_outcome (action nodes v) output failures flushed left result o.outcome
+  shown_answer action v left (Ok nodes) output failures flushed result o =
+      shown_outcome (action nodes v) output failures flushed left result o.outcome
   shown_answer action v left (Err refusal) output failures flushed (Ok u) o = absurd o.1.1
   shown_answer action v left (Err refusal) output failures flushed (Err error) o = (ap (λ s. s.taken) o.0, refused_status flushed)
 
-  shown_page : {Reg F T P L B Q : Type 0} (s : Settings Reg F T P B Q) (l : Lang F T L B) (options : PageOptions) (text : List ℕ) (globals : Names) (partials : Option Texts) (output : List ℕ) (failures : ℕ) (flushed : Bool) (result : Result (Unit {0}) Error)
-      → RendersPage s l options text globals partials fresh (filled output failures) result → ShowsPage s l options text globals partials output (settled (status_of result) flushed)
+  shown_page : {Reg F T P L B Q : Type 0} (s : Settings Reg F T P B Q) (l : Lang F T L B) (options : PageOptions) (text : List ℕ)
+      (globals : Names) (partials : Option Texts) (output : List ℕ) (failures : ℕ) (flushed : Bool) (result : Result (Unit {0}) Error)
+      → RendersPage s l options text globals partials fresh (filled output failures) result
+        → ShowsPage s l options text globals partials output (settled (status_of result) flushed)
   shown_page s l options text globals partials output failures flushed result renders = λ answer reads found is_found.
-      shown_answer (page_action s options found globals) (first_view (first_register s) options globals) (renders answer reads).left answer output failures flushed result ((renders answer reads).rendered found is_found)
+      shown_answer (page_action s options found globals) (first_view (first_register s) options globals)
+        (renders answer reads).left answer output failures flushed result ((renders answer reads).rendered found is_found)
 
-  shown_in : (standard : Bool) (options : PageOptions) (text : List ℕ) (globals : Names) (partials : Option Texts) (output : List ℕ) (failures : ℕ) (flushed : Bool) (result : Result (Unit {0}) Error)
-      → RendersIn standard options text globals partials fresh (filled output failures) result → ShowsIn standard options text globals partials output (settled (status_of result) flushed)
-  shown_in false options text globals partials output failures flushed result renders = shown_page plain_setting plain_language options text globals partials output failures flushed result renders
-  shown_in true options text globals partials output failures flushed result renders = shown_page standard_setting standard_language options text globals partials output failures flushed result renders
+  shown_in : (standard : Bool) (options : PageOptions) (text : List ℕ) (globals : Names) (partials : Option Texts) (output : List ℕ)
+      (failures : ℕ) (flushed : Bool) (result : Result (Unit {0}) Error)
+      → RendersIn standard options text globals partials fresh (filled output failures) result
+        → ShowsIn standard options text globals partials output (settled (status_of result) flushed)
+  shown_in false options text globals partials output failures flushed result renders =
+      shown_page plain_setting plain_language options text globals partials output failures flushed result renders
+  shown_in true options text globals partials output failures flushed result renders =
+      shown_page standard_setting standard_language options text globals partials output failures flushed result renders
 
-  shown_nothing : (output : List ℕ) (failures answered : ℕ) (flushed : Bool) → Fails fresh (filled output failures) answered → ShowsNothing output (settled answered flushed)
+  shown_nothing : (output : List ℕ) (failures answered : ℕ) (flushed : Bool) → Fails fresh (filled output failures) answered
+      → ShowsNothing output (settled answered flushed)
   shown_nothing output failures answered flushed (same, inl is) = (ap (λ s. s.taken) same, inl (rw is (unread_status flushed)))
   shown_nothing output failures answered flushed (same, inr is) = (ap (λ s. s.taken) same, inr (rw is (refused_status flushed)))
 
-  shown_text : (options : Options) (text : List ℕ) (globals : Names) (partials : Option Texts) (output : List ℕ) (failures answered : ℕ) (flushed : Bool)
-      → Finishes options text globals partials fresh (filled output failures) answered → ShowsText options text globals partials output (settled answered flushed)
+  shown_text : (options : Options) (text : List ℕ) (globals : Names) (partials : Option Texts) (output : List ℕ) (failures answered : ℕ)
+      (flushed : Bool)
+      → Finishes options text globals partials fresh (filled output failures) answered
+        → ShowsText options text globals partials output (settled answered flushed)
   shown_text options text globals partials output failures answered flushed finishes =
       subst (λ s. ShowsText options text globals partials output (settled s flushed)) (sym finishes.status_is)
       (shown_in options.standard (page_options options) text globals partials output failures flushed finishes.result finishes.renders)
 
-  shown_command : (options : Options) (ending : Option (List ℕ)) (paths : List (List ℕ)) (files : List ℕ → Option (List ℕ)) (folders : Bool → List ℕ → Option (List (List ℕ))) (output : List ℕ) (failures answered : ℕ) (flushed : Bool)
-      → Executes options ending paths (known_in files) (listed_in folders) fresh (filled output failures) answered → ShowsCommand options ending paths files folders output (settled answered flushed)
+  shown_command : (options : Options) (ending : Option (List ℕ)) (paths : List (List ℕ)) (files : List ℕ → Option (List ℕ))
+      (folders : Bool → List ℕ → Option (List (List ℕ))) (output : List ℕ) (failures answered : ℕ) (flushed : Bool)
+      → Executes options ending paths (known_in files) (listed_in folders) fresh (filled output failures) answered
+        → ShowsCommand options ending paths files folders output (settled answered flushed)
   shown_command options ending paths files folders output failures answered flushed runs =
       gathers_follow paths ending (known_in files) (listed_in folders) _ _ _ _ (shown_nothing output failures answered flushed)
       (λ text globals partials. shown_text options text globals partials output failures answered flushed) runs
@@ -113,7 +132,8 @@ module _ (following after_after : Option (List ℕ)) (lent : List ℕ) where
 module _ (files left : List ℕ → Option (List ℕ)) (folders : Bool → List ℕ → Option (List (List ℕ))) (output : List ℕ) (status : ℕ) where
   -- a page that is printed to an empty output is what its command shows
   printed_page : (options : Options) (ending : Option (List ℕ)) (paths : List (List ℕ))
-      → Printed (Executes options ending paths (known_in files) (listed_in folders)) (Some []) (Some output) status → ShowsCommand options ending paths files folders output status
+      → Printed (Executes options ending paths (known_in files) (listed_in folders)) (Some []) (Some output) status
+        → ShowsCommand options ending paths files folders output status
   printed_page options ending paths p =
       let same : p.taken ≡ output = sym p.appended in
       subst (λ s. ShowsCommand options ending paths files folders output s) (sym p.status_is)
@@ -123,20 +143,25 @@ module _ (files left : List ℕ → Option (List ℕ)) (folders : Bool → List 
   printed_output : (after : Option (List ℕ)) → Some output ≡ after → after ≡ Some [] → output ≡ []
   printed_output after same is = ap (λ o. unwrap_or o output) (same ∙ is)
 
-  printed_asked : (asked : Asked) (place : Option (List ℕ)) → Placed Printed asked place (known_in files) (listed_in folders) (known_in left) (Some []) (Some output) status
+  printed_asked : (asked : Asked) (place : Option (List ℕ)) → Placed Printed asked place (known_in files) (listed_in folders)
+      (known_in left) (Some []) (Some output) status
       → ShowsPlaced asked place files folders left output status
   printed_asked asked None p = (p.0, printed_page asked.choices.options asked.choices.ending asked.paths p.1)
   printed_asked asked (Some place) p = (printed_output (Some output) refl p.0, p.1)
 
   printed_words : (command : Option Asked) (others : Option AskedPages)
       → MatchOption command ((Some output ≡ Some []) × WritesOthers others (known_in files) (listed_in folders) (known_in left) status)
-      (λ asked. Placed Printed asked asked.choices.output (known_in files) (listed_in folders) (known_in left) (Some []) (Some output) status)
+      (λ asked. Placed Printed asked asked.choices.output (known_in files) (listed_in folders) (known_in left) (Some [])
+        (Some output) status)
       → MatchOption command ((output ≡ []) × WritesOthers others (known_in files) (listed_in folders) (known_in left) status)
       (λ asked. ShowsPlaced asked asked.choices.output files folders left output status)
   printed_words None others p = (printed_output (Some output) refl p.0, p.1)
   printed_words (Some asked) others p = printed_asked asked asked.choices.output p
 
 -- what is printed to an empty output is what the words show
-pub Shows-printed : (words : List (List ℕ)) (files left : List ℕ → Option (List ℕ)) (folders : Bool → List ℕ → Option (List (List ℕ))) (output : List ℕ) (status : ℕ)
-    → Prints words (known_in files) (listed_in folders) (known_in left) (Some []) (Some output) status → Shows words files folders left output status
-Shows-printed words files left folders output status p = printed_words files left folders output status (command_of words) (pages_of words) p
+pub Shows-printed : (words : List (List ℕ)) (files left : List ℕ → Option (List ℕ)) (folders : Bool → List ℕ → Option (List (List ℕ)))
+    (output : List ℕ) (status : ℕ)
+    → Prints words (known_in files) (listed_in folders) (known_in left) (Some []) (Some output) status
+      → Shows words files folders left output status
+Shows-printed words files left folders output status p =
+    printed_words files left folders output status (command_of words) (pages_of words) p

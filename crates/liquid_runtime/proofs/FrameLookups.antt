@@ -62,33 +62,59 @@ pub if_ok : {A E : Type 0} (o : Result A E) (P Q : A → Type 0) → ((x : A) �
 if_ok (Ok x) P Q f h = f x h
 if_ok (Err e) P Q f h = h
 
-names_either : (m n k : Names) (below set : BTreeSet (String Global)) → ((q : List ℕ) → get k q ≡ option_or (get m q) (get n q)) → NamesOver m below set → NamesOf n below → NamesOf k set
-names_either m n k below set is over of q = over q ∙ ap (λ b. is_some (get m q) || b) (of q) ∙ some-either (get m q) (get n q) ∙ ap is_some (sym (is q))
+names_either : (m n k : Names) (below set : BTreeSet (String Global)) → ((q : List ℕ) → get k q ≡ option_or (get m q) (get n q))
+    → NamesOver m below set → NamesOf n below → NamesOf k set
+names_either m n k below set is over of q =
+    over q ∙ ap (λ b. is_some (get m q) || b) (of q) ∙ some-either (get m q) (get n q) ∙ ap is_some (sym (is q))
 
 module _ {Reg : Type 0} where
   pub lookup_core : (r : Registers Reg) (depth : ℕ) (lenient : Bool) (q : List ℕ) → lookup (core_with r depth lenient) q ≡ None
-  lookup_core r depth lenient q = ap (λ m. get (over m no_names) q) (empty-over (over no_names no_names) ∙ empty-over no_names) ∙ ap (λ m. get m q) (empty-over no_names) ∙ nothing_there q
+  lookup_core r depth lenient q =
+      ap (λ m. get (over m no_names) q) (empty-over (over no_names no_names) ∙ empty-over no_names)
+      ∙ ap (λ m. get m q) (empty-over no_names) ∙ nothing_there q
 
-  pub lookup_indexed : (variables : Names) (r : Registers Reg) (depth : ℕ) (lenient : Bool) (q : List ℕ) → lookup (indexed_view variables (core_with r depth lenient)) q ≡ get variables q
-  lookup_indexed variables r depth lenient q = ap (λ m. get (over m variables) q) (empty-over (over no_names no_names) ∙ empty-over no_names) ∙ ap (λ m. get m q) (empty-over variables)
+  pub lookup_indexed : (variables : Names) (r : Registers Reg) (depth : ℕ) (lenient : Bool) (q : List ℕ)
+      → lookup (indexed_view variables (core_with r depth lenient)) q ≡ get variables q
+  lookup_indexed variables r depth lenient q =
+      ap (λ m. get (over m variables) q) (empty-over (over no_names no_names) ∙ empty-over no_names)
+      ∙ ap (λ m. get m q) (empty-over variables)
 
-  pub roots_core : (r : Registers Reg) (depth : ℕ) (lenient : Bool) (set : BTreeSet (String Global)) → IsEmpty set → NamesOf (names_seen (core_with r depth lenient)) set
+  pub roots_core : (r : Registers Reg) (depth : ℕ) (lenient : Bool) (set : BTreeSet (String Global)) → IsEmpty set
+      → NamesOf (names_seen (core_with r depth lenient)) set
   roots_core r depth lenient set none q = ap (λ ks. list_any (at_name q) ks) none ∙ ap is_some (sym (lookup_core r depth lenient q))
 
-  pub roots_indexed : (variables : Names) (r : Registers Reg) (depth : ℕ) (lenient : Bool) (below set : BTreeSet (String Global)) → NamesOver variables below set → NamesOf (names_seen (core_with r depth lenient)) below → NamesOf (names_seen (indexed_view variables (core_with r depth lenient))) set
-  roots_indexed variables r depth lenient below set is of = names_either variables (names_seen (core_with r depth lenient)) (names_seen (indexed_view variables (core_with r depth lenient))) below set
-      (λ q. lookup_indexed variables r depth lenient q ∙ sym (or_none (get variables q)) ∙ ap (option_or (get variables q)) (sym (lookup_core r depth lenient q))) is of
+  pub roots_indexed : (variables : Names) (r : Registers Reg) (depth : ℕ) (lenient : Bool) (below set : BTreeSet (String Global))
+      → NamesOver variables below set → NamesOf (names_seen (core_with r depth lenient)) below
+      → NamesOf (names_seen (indexed_view variables (core_with r depth lenient))) set
+  roots_indexed variables r depth lenient below set is of =
+      names_either variables (names_seen (core_with r depth lenient))
+      (names_seen (indexed_view variables (core_with r depth lenient))) below set
+      (λ q. lookup_indexed variables r depth lenient q ∙ sym (or_none (get variables q))
+        ∙ ap (option_or (get variables q)) (sym (lookup_core r depth lenient q))) is of
 
-  pub roots_stack : (names : Names) (name : Option (List ℕ)) (v : View Reg) (below set : BTreeSet (String Global)) → NamesOver names below set → NamesOf (names_seen v) below → NamesOf (names_seen (begin_stack names name v)) set
-  roots_stack names name v below set is of = names_either names (names_seen v) (names_seen (begin_stack names name v)) below set (lookup_stack names name v) is of
+  pub roots_stack : (names : Names) (name : Option (List ℕ)) (v : View Reg) (below set : BTreeSet (String Global))
+      → NamesOver names below set → NamesOf (names_seen v) below → NamesOf (names_seen (begin_stack names name v)) set
+  roots_stack names name v below set is of =
+      names_either names (names_seen v) (names_seen (begin_stack names name v)) below set (lookup_stack names name v) is of
 
-  pub roots_global : (assigned : Names) (v : View Reg) (below set : BTreeSet (String Global)) → NamesOver assigned below set → NamesOf (names_seen v) below → NamesOf (names_seen (assigned_view assigned v)) set
-  roots_global assigned v below set is of = names_either assigned (names_seen v) (names_seen (assigned_view assigned v)) below set (lookup_global assigned v) is of
+  pub roots_global : (assigned : Names) (v : View Reg) (below set : BTreeSet (String Global)) → NamesOver assigned below set
+      → NamesOf (names_seen v) below → NamesOf (names_seen (assigned_view assigned v)) set
+  roots_global assigned v below set is of =
+      names_either assigned (names_seen v) (names_seen (assigned_view assigned v)) below set (lookup_global assigned v) is of
 
-  pub roots_sandboxed : (r : Registers Reg) (names : Names) (name : Option (List ℕ)) (v : View Reg) (below set : BTreeSet (String Global)) → NamesOver names below set → IsEmpty below → NamesOf (names_seen (sandboxed_with r names name v)) set
-  roots_sandboxed r names name v below set is none q = is q ∙ ap (λ ks. is_some (get names q) || list_any (at_name q) ks) none ∙ or_false (is_some (get names q)) ∙ ap is_some (sym (lookup_sandboxed r.value names name v q))
+  pub roots_sandboxed : (r : Registers Reg) (names : Names) (name : Option (List ℕ)) (v : View Reg) (below set : BTreeSet (String Global))
+      → NamesOver names below set → IsEmpty below → NamesOf (names_seen (sandboxed_with r names name v)) set
+  roots_sandboxed r names name v below set is none q =
+      is q ∙ ap (λ ks. is_some (get names q) || list_any (at_name q) ks) none ∙ or_false (is_some (get names q))
+      ∙ ap is_some (sym (lookup_sandboxed r.value names name v q))
 
-  pub roots_isolated : (assigned : Names) (fresh : Reg) (names : Names) (name : Option (List ℕ)) (v : View Reg) (below set : BTreeSet (String Global)) → NamesOver assigned below set → NamesOf names below → NamesOf (names_seen (assigned_view assigned (begin_sandboxed fresh names name v))) set
-  roots_isolated assigned fresh names name v below set is of = names_either assigned names (names_seen (assigned_view assigned (begin_sandboxed fresh names name v))) below set (lookup_isolated assigned fresh names name v) is of
+  pub roots_isolated : (assigned : Names) (fresh : Reg) (names : Names) (name : Option (List ℕ)) (v : View Reg)
+      (below set : BTreeSet (String Global)) → NamesOver assigned below set → NamesOf names below
+      → NamesOf (names_seen (assigned_view assigned (begin_sandboxed fresh names name v))) set
+  roots_isolated assigned fresh names name v below set is of =
+      names_either assigned names (names_seen (assigned_view assigned (begin_sandboxed fresh names name v))) below set
+      (lookup_isolated assigned fresh names name v) is of
 
-pub ruleset frame_lookups = (seal_own, seal_below, roots_core, roots_indexed, roots_stack, roots_global, roots_sandboxed, nothing_there, own_value, value_below, lookup_core, lookup_indexed, lookup_stack, lookup_global, lookup_sandboxed, seal_stack, seal_global, seal_sandboxed, changed_objects)
+pub ruleset frame_lookups =
+    (seal_own, seal_below, roots_core, roots_indexed, roots_stack, roots_global, roots_sandboxed, nothing_there, own_value, value_below,
+    lookup_core, lookup_indexed, lookup_stack, lookup_global, lookup_sandboxed, seal_stack, seal_global, seal_sandboxed, changed_objects)

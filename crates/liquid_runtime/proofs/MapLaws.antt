@@ -11,11 +11,13 @@ use Rattle.liquid_runtime.specs.meaning.Maps.{NameMap, over}
 pub names_apart : IsAntisymmetric (slice_cmp nat_cmp)
 names_apart = slice_cmp-IsAntisymmetric nat_cmp-IsAntisymmetric
 
-cond-option_or : {X : Type 0} (b : Bool) (x : X) (first second : Option X) → cond b (Some x) (option_or first second) ≡ option_or (cond b (Some x) first) second
+cond-option_or : {X : Type 0} (b : Bool) (x : X) (first second : Option X)
+    → cond b (Some x) (option_or first second) ≡ option_or (cond b (Some x) first) second
 cond-option_or true x first second = refl
 cond-option_or false x first second = refl
 
-find-append : {X : Type 0} (q : List ℕ) (front back : List (List ℕ × X)) → find (slice_cmp nat_cmp) q (front ++ back) ≡ option_or (find (slice_cmp nat_cmp) q front) (find (slice_cmp nat_cmp) q back)
+find-append : {X : Type 0} (q : List ℕ) (front back : List (List ℕ × X))
+    → find (slice_cmp nat_cmp) q (front ++ back) ≡ option_or (find (slice_cmp nat_cmp) q front) (find (slice_cmp nat_cmp) q back)
 find-append q [] back = refl
 find-append q (e ∷ front) back =
     ap (cond (eq_by_cmp (slice_cmp nat_cmp) q e.0) (Some e.1)) (find-append q front back)
@@ -51,7 +53,8 @@ module _ {X : Type 0} where
   empty-over m = same_names _ m (λ q. get-over empty m q ∙ ap (λ o. option_or o (get m q)) (get-empty (slice_cmp nat_cmp) q))
 
   pub over-empty : (m : NameMap X) → over m empty ≡ m
-  over-empty m = same_names _ m (λ q. get-over m empty q ∙ ap (option_or (get m q)) (get-empty (slice_cmp nat_cmp) q) ∙ option_or-None (get m q))
+  over-empty m =
+      same_names _ m (λ q. get-over m empty q ∙ ap (option_or (get m q)) (get-empty (slice_cmp nat_cmp) q) ∙ option_or-None (get m q))
 
   -- a map over itself is itself
   pub over-same : (m : NameMap X) → over m m ≡ m

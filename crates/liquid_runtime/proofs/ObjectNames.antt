@@ -19,11 +19,14 @@ use Rattle.liquid_value.specs.declared.value.Value.{Value}
 use Rattle.liquid_runtime.specs.meaning.Maps.{names_of}
 use Rattle.liquid_runtime.proofs.MapLaws.{same_names}
 
-option_map-cond : {X Y : Type 0} (f : X → Y) (b : Bool) (x : X) (rest : Option X) → cond b (Some (f x)) (option_map f rest) ≡ option_map f (cond b (Some x) rest)
+option_map-cond : {X Y : Type 0} (f : X → Y) (b : Bool) (x : X) (rest : Option X)
+    → cond b (Some (f x)) (option_map f rest) ≡ option_map f (cond b (Some x) rest)
 option_map-cond f true x rest = refl
 option_map-cond f false x rest = refl
 
-find_as_lookup : (q : List ℕ) (es : List (String Global × Value)) → find (slice_cmp nat_cmp) q (map (λ e. (string_bytes e.0, view e.1)) es) ≡ option_map view (lookup_entry (λ k. is_eq (slice_cmp nat_cmp q (string_bytes k))) es)
+find_as_lookup : (q : List ℕ) (es : List (String Global × Value))
+    → find (slice_cmp nat_cmp) q (map (λ e. (string_bytes e.0, view e.1)) es) ≡ option_map view
+    (lookup_entry (λ k. is_eq (slice_cmp nat_cmp q (string_bytes k))) es)
 find_as_lookup q [] = refl
 find_as_lookup q (e ∷ es) =
     ap (cond (is_eq (slice_cmp nat_cmp q (string_bytes e.0))) (Some (view e.1))) (find_as_lookup q es)
@@ -32,7 +35,8 @@ find_as_lookup q (e ∷ es) =
 -- an object's names give what the object gives
 pub get-names_of : (object : BTreeMap (String Global) Value) (q : List ℕ) → get (names_of object) q ≡ option_map view (get_by_text object q)
 unfolding names_of
-get-names_of object q = get-from_entries nat_list_cmp_total (map (λ e. (string_bytes e.0, view e.1)) object.entries) q ∙ find_as_lookup q object.entries
+get-names_of object q =
+    get-from_entries nat_list_cmp_total (map (λ e. (string_bytes e.0, view e.1)) object.entries) q ∙ find_as_lookup q object.entries
 
 -- an object without entries has no names
 pub names_of-empty : (object : BTreeMap (String Global) Value) → IsEmpty object → names_of object ≡ empty
@@ -40,7 +44,8 @@ unfolding names_of
 names_of-empty object none = ap (λ es. from_entries (map (λ e. (string_bytes e.0, view e.1)) es)) none
 
 -- giving a name a value in the object is giving it that value in its names
-pub names_of-insert : (old new : BTreeMap (String Global) Value) (k : String Global) (x : Value) → Updates string_cmp old new k (Some x) → names_of new ≡ insert (names_of old) (string_bytes k) (view x)
+pub names_of-insert : (old new : BTreeMap (String Global) Value) (k : String Global) (x : Value) → Updates string_cmp old new k (Some x)
+    → names_of new ≡ insert (names_of old) (string_bytes k) (view x)
 names_of-insert old new k x updates = same_names _ _ (λ q.
     let same : bytes_eq (string_bytes k) q ≡ eq_by_cmp (slice_cmp nat_cmp) q (string_bytes k) =
     sym (is_eq-slice_cmp (string_bytes k) q) ∙ (eq_by_cmp_equiv nat_list_cmp_total).symm (string_bytes k) q in
@@ -52,11 +57,13 @@ names_of-insert old new k x updates = same_names _ _ (λ q.
     ∙ sym (get-insert nat_list_cmp_total (names_of old) (string_bytes k) (view x) q))
 
 -- a name that the object has is found there, whatever is below
-pub found_in_object : (object : BTreeMap (String Global) Value) (q : List ℕ) (x : Value) (below : Option Tree) → Some x ≡ get_by_text object q → option_or (get (names_of object) q) below ≡ Some (view x)
+pub found_in_object : (object : BTreeMap (String Global) Value) (q : List ℕ) (x : Value) (below : Option Tree)
+    → Some x ≡ get_by_text object q → option_or (get (names_of object) q) below ≡ Some (view x)
 found_in_object object q x below is = ap (λ o. option_or o below) (get-names_of object q ∙ ap (option_map view) (sym is))
 
 -- a name that the object does not have is looked up below
-pub found_below_object : (object : BTreeMap (String Global) Value) (q : List ℕ) (below : Option Tree) → None ≡ get_by_text object q → option_or (get (names_of object) q) below ≡ below
+pub found_below_object : (object : BTreeMap (String Global) Value) (q : List ℕ) (below : Option Tree) → None ≡ get_by_text object q
+    → option_or (get (names_of object) q) below ≡ below
 found_below_object object q below is = ap (λ o. option_or o below) (get-names_of object q ∙ ap (option_map view) (sym is))
 
 -- how the names of an object change with it

@@ -32,7 +32,8 @@ get-other m name other t apart =
     ∙ ap (λ b. cond b (Some t) (get m other)) (not_tied (slice_cmp nat_cmp other name) (λ e. apart (names_apart other name e)))
 
 get-other-shown : (shown : Bool) (globals : Option Names) (name other : List ℕ) (t : Tree) → other ≢ name
-    → get (cond shown (unwrap_or (option_map (λ names. insert names name t) globals) empty) empty) other ≡ get (cond shown (unwrap_or globals empty) empty) other
+    → get (cond shown (unwrap_or (option_map (λ names. insert names name t) globals) empty) empty) other ≡ get
+      (cond shown (unwrap_or globals empty) empty) other
 get-other-shown true None name other t apart = refl
 get-other-shown true (Some m) name other t apart = get-other m name other t apart
 get-other-shown false globals name other t apart = refl
@@ -49,14 +50,17 @@ is_some-same (Some t) = refl
 
 module _ {Reg : Type 0} where
   -- what a name gives, layer by layer
-  pub lookup-layers : (v : View Reg) (q : List ℕ) → lookup v q ≡ option_or (option_or (get v.locals q) (option_or (get (shown_globals v) q) (get v.base q))) (get (floor_names v) q)
+  pub lookup-layers : (v : View Reg) (q : List ℕ) → lookup v q ≡ option_or
+      (option_or (get v.locals q) (option_or (get (shown_globals v) q) (get v.base q))) (get (floor_names v) q)
   lookup-layers v q = get-over (upper_names v) (floor_names v) q
-      ∙ ap (λ o. option_or o (get (floor_names v) q)) (get-over v.locals (over (shown_globals v) v.base) q ∙ ap (option_or (get v.locals q)) (get-over (shown_globals v) v.base q))
+      ∙ ap (λ o. option_or o (get (floor_names v) q)) (get-over v.locals (over (shown_globals v) v.base) q
+        ∙ ap (option_or (get v.locals q)) (get-over (shown_globals v) v.base q))
 
   pub set_global_keeps : SetGlobalKeepsOthers Reg
   set_global_keeps v name other t apart = (
     lookup-layers (put_global v name t) other
-        ∙ ap (λ o. option_or (option_or (get v.locals other) (option_or o (get v.base other))) (get (floor_names v) other)) (get-other-shown v.shown v.globals name other t apart)
+        ∙ ap (λ o. option_or (option_or (get v.locals other) (option_or o (get v.base other))) (get (floor_names v) other))
+          (get-other-shown v.shown v.globals name other t apart)
         ∙ sym (lookup-layers v other),
     refl,
   )
@@ -64,7 +68,8 @@ module _ {Reg : Type 0} where
   pub set_index_keeps : SetIndexKeepsOthers Reg
   set_index_keeps v name other t apart = (
     lookup-layers (put_index v name t) other
-        ∙ ap (option_or (option_or (get v.locals other) (option_or (get (shown_globals v) other) (get v.base other)))) (get-other-floor v.floor v.index name other t apart)
+        ∙ ap (option_or (option_or (get v.locals other) (option_or (get (shown_globals v) other) (get v.base other))))
+          (get-other-floor v.floor v.index name other t apart)
         ∙ sym (lookup-layers v other),
     refl,
   )
@@ -82,7 +87,8 @@ module _ {Reg : Type 0} where
   globals_seen fresh depth globals name =
       global_keeps (begin_stack globals None (begin_index (core_view fresh depth))) name
       ∙ lookup_stack globals None (begin_index (core_view fresh depth)) name
-      ∙ ap (option_or (get globals name)) (lookup_indexed no_names (record { interrupt = record { current = None }; value = fresh }) depth false name ∙ nothing_there name)
+      ∙ ap (option_or (get globals name)) (lookup_indexed no_names
+        (record { interrupt = record { current = None }; value = fresh }) depth false name ∙ nothing_there name)
       ∙ or_none (get globals name)
 
   pub isolated_shows : IsolatedFrameShowsItsNames Reg
@@ -91,13 +97,17 @@ module _ {Reg : Type 0} where
   pub isolated_assigned : IsolatedFrameShowsAssigned Reg
   isolated_assigned fresh names name v q t =
       lookup_isolated (insert empty q t) fresh names name v q
-      ∙ ap (λ o. option_or o (get names q)) (get-insert nat_list_cmp_total empty q t q ∙ ap (λ b. cond b (Some t) (get no_names q)) ((eq_by_cmp_equiv nat_list_cmp_total).refl q))
+      ∙ ap (λ o. option_or o (get names q)) (get-insert nat_list_cmp_total empty q t q
+        ∙ ap (λ b. cond b (Some t) (get no_names q)) ((eq_by_cmp_equiv nat_list_cmp_total).refl q))
 
   pub isolated_ends : IsolatedEndsBoth Reg
   isolated_ends fresh names name v w = refl
 
   pub isolated_keeps : IsolatedKeepsOutside Reg
-  isolated_keeps names name v w d l = ap (λ x. record v { index = w.index; depth = x; lenient = w.lenient }) d ∙ ap (λ x. record v { index = w.index; lenient = x }) l
+  isolated_keeps names name v w d l =
+      ap (λ x. record v { index = w.index; depth = x; lenient = w.lenient }) d ∙ ap (λ x. record v { index = w.index; lenient = x }) l
 
 -- the laws of names and frames
-pub ruleset laws = (get-over, get_agrees, lenient_get_agrees, roots_are_seen, set_global_keeps, set_index_keeps, stack_first, global_keeps, isolated_ends, isolated_keeps)
+pub ruleset laws =
+    (get-over, get_agrees, lenient_get_agrees, roots_are_seen, set_global_keeps, set_index_keeps, stack_first, global_keeps, isolated_ends,
+    isolated_keeps)

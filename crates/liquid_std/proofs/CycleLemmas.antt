@@ -24,18 +24,21 @@ after_name name = option_and_then (if_colon name.0) (next name.1)
 abbrev by_colon : Token × Tokens → Token × Tokens → Bool → Option (Token × Tokens)
 by_colon name colon b = cond b (Some (name.0, colon.1)) None
 
-second_token : (ts : Tokens) (name colon : Token × Tokens) (text : List ℕ) (b : Bool) → next ts ≡ Some name → next name.1 ≡ Some colon → text ≡ colon.0.text → bytes_eq text (codes ":") ≡ b
+second_token : (ts : Tokens) (name colon : Token × Tokens) (text : List ℕ) (b : Bool) → next ts ≡ Some name → next name.1 ≡ Some colon
+    → text ≡ colon.0.text → bytes_eq text (codes ":") ≡ b
     → name_in ts ≡ by_colon name colon b
 second_token ts name colon text b one two same is =
     ap (option_and_then after_name) one ∙ ap (option_and_then (if_colon name.0)) two
     ∙ ap (by_colon name colon) (ap (λ x. bytes_eq x (codes ":")) (sym same) ∙ is)
 
 -- with a colon after it the next token is a name
-pub name_taken : (ts : Tokens) (name colon : Token × Tokens) (text : List ℕ) → next ts ≡ Some name → next name.1 ≡ Some colon → text ≡ colon.0.text → bytes_eq text (codes ":") ≡ true
+pub name_taken : (ts : Tokens) (name colon : Token × Tokens) (text : List ℕ) → next ts ≡ Some name → next name.1 ≡ Some colon
+    → text ≡ colon.0.text → bytes_eq text (codes ":") ≡ true
     → name_in ts ≡ Some (name.0, colon.1)
 name_taken ts name colon text one two same is = second_token ts name colon text true one two same is
 
-pub other_token : (ts : Tokens) (name colon : Token × Tokens) (text : List ℕ) → next ts ≡ Some name → next name.1 ≡ Some colon → text ≡ colon.0.text → bytes_eq text (codes ":") ≡ false
+pub other_token : (ts : Tokens) (name colon : Token × Tokens) (text : List ℕ) → next ts ≡ Some name → next name.1 ≡ Some colon
+    → text ≡ colon.0.text → bytes_eq text (codes ":") ≡ false
     → name_in ts ≡ None
 other_token ts name colon text one two same is = second_token ts name colon text false one two same is
 
@@ -47,22 +50,28 @@ no_token ts none = ap (option_and_then after_name) none
 
 -- what a token is read as
 module _ (t : Token) where
-  not_refused : (x : Expression) (q : Option ExpressionShape) (o : Option Refusal) → IfSome o (λ r. let read : Result Expression Refusal = Ok x in read ≡ Err r) → IfSome o (λ r. or_unexpected t q ≡ Err r)
+  not_refused : (x : Expression) (q : Option ExpressionShape) (o : Option Refusal)
+      → IfSome o (λ r. let read : Result Expression Refusal = Ok x in read ≡ Err r) → IfSome o (λ r. or_unexpected t q ≡ Err r)
   not_refused x q None h = h
   not_refused x q (Some r) h = cc h
 
-  refused_alike : (o : Option Refusal) → IfSome o (λ r. let read : Result Expression Refusal = Err (unexpected t) in read ≡ Err r) → IfSome o (λ r. let read : Result ExpressionShape Refusal = Err (unexpected t) in read ≡ Err r)
+  refused_alike : (o : Option Refusal) → IfSome o (λ r. let read : Result Expression Refusal = Err (unexpected t) in read ≡ Err r)
+      → IfSome o (λ r. let read : Result ExpressionShape Refusal = Err (unexpected t) in read ≡ Err r)
   refused_alike None h = h
   refused_alike (Some r) h = ap (λ q. ok_then q (λ a. Ok (expression_of a))) h
 
-  pub value_read : (token : TagToken) (attempt : TryMatchToken Expression) (result : Result Expression Error) → IsToken token t → Tries expression_of token attempt (expect_value t)
-      → ((u : Token) → FailedToken attempt u → Gives (λ x. x) result (or_unexpected u (matched_of attempt))) → Gives expression_of result (or_unexpected t (expect_value t))
-  value_read token (Matches x) (Ok y) is tries gives = ap (or_unexpected t) tries ∙ ap (λ q. ok_then q (λ a. Ok (expression_of a))) (gives t tt)
+  pub value_read : (token : TagToken) (attempt : TryMatchToken Expression) (result : Result Expression Error) → IsToken token t
+      → Tries expression_of token attempt (expect_value t)
+      → ((u : Token) → FailedToken attempt u → Gives (λ x. x) result (or_unexpected u (matched_of attempt)))
+        → Gives expression_of result (or_unexpected t (expect_value t))
+  value_read token (Matches x) (Ok y) is tries gives =
+      ap (or_unexpected t) tries ∙ ap (λ q. ok_then q (λ a. Ok (expression_of a))) (gives t tt)
   value_read token (Matches x) (Err e) is tries gives = not_refused x (expect_value t) (told e) (gives t tt)
   value_read token (Fails u) (Ok y) is tries gives =
       ap (or_unexpected t) tries.0 ∙ ap (λ q. ok_then q (λ a. Ok (expression_of a))) (gives t (subst (λ k. IsToken k t) (sym tries.1) is))
   value_read token (Fails u) (Err e) is tries gives =
-      subst (λ o. IfSome (told e) (λ r. or_unexpected t o ≡ Err r)) (sym tries.0) (refused_alike (told e) (gives t (subst (λ k. IsToken k t) (sym tries.1) is)))
+      subst (λ o. IfSome (told e) (λ r. or_unexpected t o ≡ Err r)) (sym tries.0)
+        (refused_alike (told e) (gives t (subst (λ k. IsToken k t) (sym tries.1) is)))
 
   module _ (ts : Tokens) where
     -- the name, and the values after it
@@ -72,14 +81,17 @@ module _ (t : Token) where
     abbrev by_name : Result ExpressionShape Refusal → Result CycleShape Refusal
     by_name name = ok_then name (λ e. by_values e (cycled ts))
 
-    pub named_read : (name : ExpressionShape) (values : List ExpressionShape) → or_unexpected t (expect_value t) ≡ Ok name → cycled ts ≡ Ok values
+    pub named_read : (name : ExpressionShape) (values : List ExpressionShape) → or_unexpected t (expect_value t) ≡ Ok name
+        → cycled ts ≡ Ok values
         → named_given t ts ≡ Ok (record { group = Named name; values = values })
     named_read name values one two = ap by_name one ∙ ap (by_values name) two
 
-    pub values_refused : (name : ExpressionShape) (o : Option Refusal) → or_unexpected t (expect_value t) ≡ Ok name → IfSome o (λ r. cycled ts ≡ Err r) → IfSome o (λ r. named_given t ts ≡ Err r)
+    pub values_refused : (name : ExpressionShape) (o : Option Refusal) → or_unexpected t (expect_value t) ≡ Ok name
+        → IfSome o (λ r. cycled ts ≡ Err r) → IfSome o (λ r. named_given t ts ≡ Err r)
     values_refused name None one h = h
     values_refused name (Some r) one h = ap by_name one ∙ ap (by_values name) h
 
-    pub name_refused : (o : Option Refusal) → IfSome o (λ r. or_unexpected t (expect_value t) ≡ Err r) → IfSome o (λ r. named_given t ts ≡ Err r)
+    pub name_refused : (o : Option Refusal) → IfSome o (λ r. or_unexpected t (expect_value t) ≡ Err r)
+        → IfSome o (λ r. named_given t ts ≡ Err r)
     name_refused None h = h
     name_refused (Some r) h = ap by_name h

@@ -16,7 +16,8 @@ use Rattle.liquid_std.specs.meaning.Languages.{tags_and_blocks}
 use Rattle.liquid_std.specs.meaning.Standard.{standard}
 use Rattle.liquid_std.specs.meaning.Pages.{RendersPage}
 
-pub page_in : {F : Type 0} (m : FilterMeaning F) (filters : Filters F) (l : Lang F (StdTagShape F) StdPlanShape StdBlockShape) (text : List ℕ) (globals : Names) (partials : Texts) (before after : Sunk) (result : Result (Unit {0}) Error)
+pub page_in : {F : Type 0} (m : FilterMeaning F) (filters : Filters F) (l : Lang F (StdTagShape F) StdPlanShape StdBlockShape)
+    (text : List ℕ) (globals : Names) (partials : Texts) (before after : Sunk) (result : Result (Unit {0}) Error)
     → l ≡ tags_and_blocks filters → page.RendersPage no_marks (standard marks_alone no_marks m) l text globals partials before after result
     → RendersPage m filters text globals partials before after result
 page_in m filters l text globals partials before after result same renders =

@@ -21,15 +21,19 @@ compared_with e op ts = ok_then (next_as expect_value ts) (λ value. alone (Comp
 abbrev after_token : ExpressionShape → Token × Tokens → Result ConditionShape Refusal
 after_token e given = ok_then (or_unexpected given.0 (comparison_of given.0.text)) (λ op. compared_with e op given.1)
 
-token_after : (e : ExpressionShape) (ts : List Token) (given : Token × Tokens) → first_of ts ≡ Some given → following_value e ts ≡ after_token e given
+token_after : (e : ExpressionShape) (ts : List Token) (given : Token × Tokens) → first_of ts ≡ Some given
+    → following_value e ts ≡ after_token e given
 token_after e [] given is = cc
 token_after e (t ∷ more) given is = ap (λ o. elim o [ None ↦ Ok (Holds e) | Some g ↦ after_token e g ]) is
 
-pub compared : (e : ExpressionShape) (ts : List Token) (given : Token × Tokens) (op : Comparison) → first_of ts ≡ Some given → comparison_of given.0.text ≡ Some op
+pub compared : (e : ExpressionShape) (ts : List Token) (given : Token × Tokens) (op : Comparison) → first_of ts ≡ Some given
+    → comparison_of given.0.text ≡ Some op
     → following_value e ts ≡ compared_with e op given.1
-compared e ts given op is fits = token_after e ts given is ∙ ap (λ o. ok_then (or_unexpected given.0 o) (λ p. compared_with e p given.1)) fits
+compared e ts given op is fits =
+    token_after e ts given is ∙ ap (λ o. ok_then (or_unexpected given.0 o) (λ p. compared_with e p given.1)) fits
 
-pub uncompared : (e : ExpressionShape) (ts : List Token) (given : Token × Tokens) (o : Option Refusal) → first_of ts ≡ Some given → comparison_of given.0.text ≡ None
+pub uncompared : (e : ExpressionShape) (ts : List Token) (given : Token × Tokens) (o : Option Refusal) → first_of ts ≡ Some given
+    → comparison_of given.0.text ≡ None
     → IfSome o (λ r. r ≡ unexpected given.0) → IfSome o (λ r. following_value e ts ≡ Err r)
 uncompared e ts given None is fails told = told
 uncompared e ts given (Some r) is fails told =

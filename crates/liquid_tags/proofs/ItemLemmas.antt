@@ -62,13 +62,15 @@ module _ (values : List Value) (items : Items) (place : ℕ) (e : items_view val
   none_left none = none_after (trees items) place (at_item ∙ ap (option_map view) none)
 
 -- the first of that many numbers, and those after it
-counted_first : (from : ℤ) (size following : ℕ) → size ≡ following + 1 → counted from size ≡ scalar (integer from) ∷ counted (from +ℤ pos 1) following
+counted_first : (from : ℤ) (size following : ℕ) → size ≡ following + 1 → counted from size ≡ scalar (integer from)
+    ∷ counted (from +ℤ pos 1) following
 counted_first from size following e = ap (counted from) (e ∙ add-one following)
 
 pub number_taken : (from : ℤ) (size following : ℕ) → size ≡ following + 1 → Some (scalar (integer from)) ≡ slice_get (counted from size) 0
 number_taken from size following e = sym (ap (λ xs. slice_get xs 0) (counted_first from size following e))
 
-pub numbers_after : (from next : ℤ) (size following : ℕ) → size ≡ following + 1 → next ≡ from +ℤ pos 1 → counted next following ≡ drop 1 (counted from size)
+pub numbers_after : (from next : ℤ) (size following : ℕ) → size ≡ following + 1 → next ≡ from +ℤ pos 1
+    → counted next following ≡ drop 1 (counted from size)
 numbers_after from next size following e n = ap (λ m. counted m following) n ∙ sym (ap (drop 1) (counted_first from size following e))
 
 pub no_number_after : (from next : ℤ) (size : ℕ) → size ≡ 1 → [] ≡ drop 1 (counted from size)
@@ -77,13 +79,16 @@ no_number_after from next size e = sym (ap (λ n. drop 1 (counted from n)) e)
 pub no_number : (from : ℤ) (size : ℕ) → size < 1 → counted from size ≡ []
 no_number from size below = let none : size ≡ 0 = omega arith in ap (counted from) none
 
-number_there : (from : ℤ) (size place : ℕ) → place < size → slice_get (counted from size) place ≡ Some (scalar (integer (from +ℤ pos place)))
+number_there : (from : ℤ) (size place : ℕ) → place < size → slice_get (counted from size) place ≡ Some
+    (scalar (integer (from +ℤ pos place)))
 number_there from zero place below = absurd (omega arith)
 number_there from (suc n) zero below = ap (λ z. Some (scalar (integer z))) (grind arith)
-number_there from (suc n) (suc place) below = number_there (from +ℤ pos 1) n place (omega arith) ∙ ap (λ z. Some (scalar (integer z))) (grind arith)
+number_there from (suc n) (suc place) below =
+    number_there (from +ℤ pos 1) n place (omega arith) ∙ ap (λ z. Some (scalar (integer z))) (grind arith)
 
 -- the number at a place, and none after the last
-pub number_at : (from number : ℤ) (size place : ℕ) → place < size → number ≡ from +ℤ pos place → Some (scalar (integer number)) ≡ slice_get (counted from size) place
+pub number_at : (from number : ℤ) (size place : ℕ) → place < size → number ≡ from +ℤ pos place
+    → Some (scalar (integer number)) ≡ slice_get (counted from size) place
 number_at from number size place below is = ap (λ z. Some (scalar (integer z))) is ∙ sym (number_there from size place below)
 
 pub number_past : (from : ℤ) (size place : ℕ) → size ≤ place → None ≡ slice_get (counted from size) place

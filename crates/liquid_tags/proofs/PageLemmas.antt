@@ -14,7 +14,8 @@ use Rattle.liquid_tags.specs.meaning.Languages.{tags_and_blocks}
 use Rattle.liquid_tags.specs.meaning.Library.{library}
 use Rattle.liquid_tags.specs.meaning.Pages.{RendersPage}
 
-pub page_in : {F : Type 0} (m : FilterMeaning F) (filters : Filters F) (l : Lang F (TagShape F) PlanShape BlockShape) (text : List ℕ) (globals : Names) (partials : Texts) (before after : Sunk) (result : Result (Unit {0}) Error)
+pub page_in : {F : Type 0} (m : FilterMeaning F) (filters : Filters F) (l : Lang F (TagShape F) PlanShape BlockShape) (text : List ℕ)
+    (globals : Names) (partials : Texts) (before after : Sunk) (result : Result (Unit {0}) Error)
     → l ≡ tags_and_blocks filters → page.RendersPage (tt {0}) (library (tt {0}) m) l text globals partials before after result
     → RendersPage m filters text globals partials before after result
 page_in m filters l text globals partials before after result same renders =

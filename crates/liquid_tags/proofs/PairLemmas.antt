@@ -39,26 +39,32 @@ valued name e more (Err refusal) = refl
 
 coloned : (name : List ℕ) (d e : Token) (more : List Token) (r : Result (Unit {0}) Refusal)
     → ok_then r (λ w. ok_then (or_unexpected e (expect_value e)) (λ value. ok_then (pairs_given more) (with_pair name value)))
-    ≡ ok_then (ok_then (ok_then r (on (following d (e ∷ more)))) (λ (sign : Unit {0} × Tokens). ok_then (next_as expect_value sign.1) (with_name name))) going_on
+    ≡ ok_then (ok_then (ok_then r (on (following d (e ∷ more))))
+        (λ (sign : Unit {0} × Tokens). ok_then (next_as expect_value sign.1) (with_name name))) going_on
 coloned name d e more (Ok x) = valued name e more (or_unexpected e (expect_value e))
 coloned name d e more (Err refusal) = refl
 
 coloned_last : (name : List ℕ) (d : Token) (r : Result (Unit {0}) Refusal)
     → ok_then r (λ w. missing_after d)
-    ≡ ok_then (ok_then (ok_then r (on (following d []))) (λ (sign : Unit {0} × Tokens). ok_then (next_as expect_value sign.1) (with_name name))) going_on
+    ≡ ok_then (ok_then (ok_then r (on (following d []))) (λ (sign : Unit {0} × Tokens). ok_then (next_as expect_value sign.1)
+        (with_name name))) going_on
 coloned_last name d (Ok x) = refl
 coloned_last name d (Err refusal) = refl
 
 abbrev named : Result (List ℕ × Tokens) Refusal → Result (List Pair) Refusal
-named r = ok_then (ok_then r (λ name. ok_then (next_as expect_colon name.1) (λ (sign : Unit {0} × Tokens). ok_then (next_as expect_value sign.1) (with_name name.0)))) going_on
+named r =
+    ok_then (ok_then r (λ name. ok_then (next_as expect_colon name.1)
+    (λ (sign : Unit {0} × Tokens). ok_then (next_as expect_value sign.1) (with_name name.0)))) going_on
 
 named_on : (n d e : Token) (more : List Token) (r : Result (List ℕ) Refusal)
-    → ok_then r (λ name. ok_then (colon d) (λ w. ok_then (or_unexpected e (expect_value e)) (λ value. ok_then (pairs_given more) (with_pair name value))))
+    → ok_then r (λ name. ok_then (colon d) (λ w. ok_then (or_unexpected e (expect_value e))
+      (λ value. ok_then (pairs_given more) (with_pair name value))))
     ≡ named (ok_then r (on (following n (d ∷ e ∷ more))))
 named_on n d e more (Ok name) = coloned name d e more (colon d)
 named_on n d e more (Err refusal) = refl
 
-named_two : (n d : Token) (r : Result (List ℕ) Refusal) → ok_then r (λ name. ok_then (colon d) (λ w. missing_after d)) ≡ named (ok_then r (on (following n (d ∷ []))))
+named_two : (n d : Token) (r : Result (List ℕ) Refusal) → ok_then r (λ name. ok_then (colon d) (λ w. missing_after d)) ≡ named
+    (ok_then r (on (following n (d ∷ []))))
 named_two n d (Ok name) = coloned_last name d (colon d)
 named_two n d (Err refusal) = refl
 
@@ -71,7 +77,8 @@ on_comma (Ok u) x y e = e
 on_comma (Err refusal) x y e = refl
 
 -- after a comma there is one pair, and the pairs after it
-pub pairs_step : (c : Token) (more : List Token) → pairs_given (c ∷ more) ≡ ok_then (comma c) (λ u. ok_then (pair_given (following c more)) going_on)
+pub pairs_step : (c : Token) (more : List Token) → pairs_given (c ∷ more) ≡ ok_then (comma c)
+    (λ u. ok_then (pair_given (following c more)) going_on)
 pairs_step c [] = refl
 pairs_step c (n ∷ []) = on_comma (comma c) _ _ (named_last n (or_unexpected n (expect_identifier n)))
 pairs_step c (n ∷ d ∷ []) = on_comma (comma c) _ _ (named_two n d (or_unexpected n (expect_identifier n)))
@@ -84,25 +91,32 @@ first_is (t ∷ more) given e = ap (λ o. elim o [ None ↦ t ∷ more | Some g 
 
 first_stands : (ts : List Token) (given : Token × Tokens) → first_of ts ≡ Some given → following given.0 given.1.left ≡ given.1
 first_stands [] given e = cc
-first_stands (t ∷ more) given e = sym (ap (λ o. elim o [ None ↦ following t more | Some g ↦ following g.0 g.1.left ]) e) ∙ ap (λ o. elim o [ None ↦ following t more | Some g ↦ g.1 ]) e
+first_stands (t ∷ more) given e =
+    sym (ap (λ o. elim o [ None ↦ following t more | Some g ↦ following g.0 g.1.left ]) e)
+    ∙ ap (λ o. elim o [ None ↦ following t more | Some g ↦ g.1 ]) e
 
 -- what a returned token makes of the pairs
-pub pairs_of_first : (ts : List Token) (given : Token × Tokens) → first_of ts ≡ Some given → pairs_given ts ≡ ok_then (comma given.0) (λ u. ok_then (pair_given given.1) going_on)
+pub pairs_of_first : (ts : List Token) (given : Token × Tokens) → first_of ts ≡ Some given
+    → pairs_given ts ≡ ok_then (comma given.0) (λ u. ok_then (pair_given given.1) going_on)
 pairs_of_first ts given e =
-    ap pairs_given (first_is ts given e) ∙ pairs_step given.0 given.1.left ∙ ap (λ rest. ok_then (comma given.0) (λ u. ok_then (pair_given rest) going_on)) (first_stands ts given e)
+    ap pairs_given (first_is ts given e) ∙ pairs_step given.0 given.1.left
+      ∙ ap (λ rest. ok_then (comma given.0) (λ u. ok_then (pair_given rest) going_on)) (first_stands ts given e)
 
 -- a name, a colon and a value are a pair
 pub pair_taken : (ts named signed valued : Tokens) (name text : List ℕ) (u : Unit {0}) (e : ExpressionShape)
-    → next_as expect_identifier ts ≡ Ok (name, named) → next_as expect_colon named ≡ Ok (u, signed) → next_as expect_value signed ≡ Ok (e, valued) → text ≡ name
+    → next_as expect_identifier ts ≡ Ok (name, named) → next_as expect_colon named ≡ Ok (u, signed)
+      → next_as expect_value signed ≡ Ok (e, valued) → text ≡ name
     → pair_given ts ≡ Ok ((text, e), valued)
 pair_taken ts named signed valued name text u e is_named is_signed is_valued same =
-    ap (λ r. ok_then r (λ (x : List ℕ × Tokens). ok_then (next_as expect_colon x.1) (λ (sign : Unit {0} × Tokens). ok_then (next_as expect_value sign.1) (with_name x.0)))) is_named
+    ap (λ r. ok_then r (λ (x : List ℕ × Tokens). ok_then (next_as expect_colon x.1)
+        (λ (sign : Unit {0} × Tokens). ok_then (next_as expect_value sign.1) (with_name x.0)))) is_named
     ∙ ap (λ r. ok_then r (λ (sign : Unit {0} × Tokens). ok_then (next_as expect_value sign.1) (with_name name))) is_signed
     ∙ ap (λ r. ok_then r (with_name name)) is_valued
     ∙ ap (λ (n : List ℕ). with_name n (e, valued)) (sym same)
 
 -- the result for a token where a comma is expected
-pub comma_given : (t : Token) (token : TagToken) (attempt : TryMatchToken (Unit {0})) (r : Result (Unit {0}) Error) → IsToken token t → Tries (λ u. u) token attempt (expect_comma t)
+pub comma_given : (t : Token) (token : TagToken) (attempt : TryMatchToken (Unit {0})) (r : Result (Unit {0}) Error) → IsToken token t
+    → Tries (λ u. u) token attempt (expect_comma t)
     → ((u : Token) → FailedToken attempt u → Gives (λ x. x) r (or_unexpected u (matched_of attempt))) → Gives (λ u. u) r (comma t)
 comma_given t token (Matches y) r is tries gives = subst (λ m. Gives (λ u. u) r (or_unexpected t m)) (sym tries) (gives t tt)
 comma_given t token (Fails u) r is tries gives =
@@ -118,12 +132,15 @@ joined done pair (Ok qs) = ap (λ ps. Ok ps) (sym (append_assoc done (pair ∷ [
 joined done pair (Err refusal) = refl
 
 -- after a comma one more pair is read
-pub pair_read : (done after : List Pair) (ts : List Token) (given : Token × Tokens) (pair : Pair) (rest : Tokens) (u : Unit {0}) (meant : Result (List Pair) Refusal)
-    → meant ≡ read_on done ts → first_of ts ≡ Some given → comma given.0 ≡ Ok u → pair_given given.1 ≡ Ok (pair, rest) → after ≡ done ++ pair ∷ []
+pub pair_read : (done after : List Pair) (ts : List Token) (given : Token × Tokens) (pair : Pair) (rest : Tokens) (u : Unit {0})
+    (meant : Result (List Pair) Refusal)
+    → meant ≡ read_on done ts → first_of ts ≡ Some given → comma given.0 ≡ Ok u → pair_given given.1 ≡ Ok (pair, rest) → after ≡ done
+      ++ pair ∷ []
     → meant ≡ read_on after rest.left
 pair_read done after ts given pair rest u meant so_far first is_comma is_pair pushed =
     so_far
-    ∙ ap (λ r. ok_then r (λ qs. Ok (done ++ qs))) (pairs_of_first ts given first ∙ ap (λ r. ok_then r (λ w. ok_then (pair_given given.1) going_on)) is_comma ∙ ap (λ r. ok_then r going_on) is_pair)
+    ∙ ap (λ r. ok_then r (λ qs. Ok (done ++ qs))) (pairs_of_first ts given first
+      ∙ ap (λ r. ok_then r (λ w. ok_then (pair_given given.1) going_on)) is_comma ∙ ap (λ r. ok_then r going_on) is_pair)
     ∙ joined done pair (pairs_given rest.left)
     ∙ ap (λ ps. read_on ps rest.left) (sym pushed)
 
@@ -132,13 +149,17 @@ pub comma_refused : (done : List Pair) (ts : List Token) (given : Token × Token
     → meant ≡ read_on done ts → first_of ts ≡ Some given → IfSome o (λ r. comma given.0 ≡ Err r) → IfSome o (λ r. meant ≡ Err r)
 comma_refused done ts given o meant so_far first refused =
     subst (λ q. IfSome o (λ r. q ≡ Err r)) (sym (so_far ∙ ap (λ r. ok_then r (λ qs. Ok (done ++ qs))) (pairs_of_first ts given first)))
-    (then_refused o (ok_then (comma given.0) (λ u. ok_then (pair_given given.1) going_on)) (λ qs. Ok (done ++ qs)) (then_refused o (comma given.0) (λ u. ok_then (pair_given given.1) going_on) refused))
+    (then_refused o (ok_then (comma given.0) (λ u. ok_then (pair_given given.1) going_on)) (λ qs. Ok (done ++ qs))
+      (then_refused o (comma given.0) (λ u. ok_then (pair_given given.1) going_on) refused))
 
 -- the refusal of what follows a comma
-pub pair_refused : (done : List Pair) (ts : List Token) (given : Token × Tokens) (u : Unit {0}) (o : Option Refusal) (meant : Result (List Pair) Refusal)
-    → meant ≡ read_on done ts → first_of ts ≡ Some given → comma given.0 ≡ Ok u → IfSome o (λ r. pair_given given.1 ≡ Err r) → IfSome o (λ r. meant ≡ Err r)
+pub pair_refused : (done : List Pair) (ts : List Token) (given : Token × Tokens) (u : Unit {0}) (o : Option Refusal)
+    (meant : Result (List Pair) Refusal)
+    → meant ≡ read_on done ts → first_of ts ≡ Some given → comma given.0 ≡ Ok u → IfSome o (λ r. pair_given given.1 ≡ Err r)
+      → IfSome o (λ r. meant ≡ Err r)
 pair_refused done ts given u o meant so_far first is_comma refused =
-    subst (λ q. IfSome o (λ r. q ≡ Err r)) (sym (so_far ∙ ap (λ r. ok_then r (λ qs. Ok (done ++ qs))) (pairs_of_first ts given first ∙ ap (λ r. ok_then r (λ w. ok_then (pair_given given.1) going_on)) is_comma)))
+    subst (λ q. IfSome o (λ r. q ≡ Err r)) (sym (so_far ∙ ap (λ r. ok_then r (λ qs. Ok (done ++ qs)))
+      (pairs_of_first ts given first ∙ ap (λ r. ok_then r (λ w. ok_then (pair_given given.1) going_on)) is_comma)))
     (then_refused o (ok_then (pair_given given.1) going_on) (λ qs. Ok (done ++ qs)) (then_refused o (pair_given given.1) going_on refused))
 
 no_token : (ts : List Token) → first_of ts ≡ None → ts ≡ []
@@ -146,5 +167,6 @@ no_token [] none = refl
 no_token (t ∷ more) none = cc
 
 -- if no token is left, the pairs that were read are all
-pub all_read : (done : List Pair) (ts : List Token) (meant : Result (List Pair) Refusal) → meant ≡ read_on done ts → first_of ts ≡ None → meant ≡ Ok done
+pub all_read : (done : List Pair) (ts : List Token) (meant : Result (List Pair) Refusal) → meant ≡ read_on done ts → first_of ts ≡ None
+    → meant ≡ Ok done
 all_read done ts meant so_far none = so_far ∙ ap (read_on done) (no_token ts none) ∙ ap (λ ps. Ok ps) (append-nil done)

@@ -26,21 +26,25 @@ module _ {F T B : Type 0} where
   entry_small (e ∷ es) name reading h = go (eq_by_cmp (slice_cmp nat_cmp) name e.0) (entry_small es name reading) h
     where
       go : (b : Bool) → (find (slice_cmp nat_cmp) name es ≡ Some reading → size_read reading ≤ size_all (map (λ e. e.1) es))
-          → cond b (Some e.1) (find (slice_cmp nat_cmp) name es) ≡ Some reading → size_read reading ≤ size_read e.1 + size_all (map (λ e. e.1) es)
+          → cond b (Some e.1) (find (slice_cmp nat_cmp) name es) ≡ Some reading
+            → size_read reading ≤ size_read e.1 + size_all (map (λ e. e.1) es)
       go true later k = let s : size_read e.1 ≡ size_read reading = ap size_read (same_Some e.1 reading k) in omega (arith, s)
       go false later k = omega (arith, later k)
 
-  found_size : (finds : Found F T B) (name : List ℕ) (ns : Nodes F T B) → partial_in finds name ≡ Ok ns → size_nodes ns ≤ size_all (values finds)
+  found_size : (finds : Found F T B) (name : List ℕ) (ns : Nodes F T B) → partial_in finds name ≡ Ok ns
+      → size_nodes ns ≤ size_all (values finds)
   found_size finds name ns h = go (get finds name) refl h
     where
       go : (found : Option (Result (Nodes F T B) Refusal)) → get finds name ≡ found
-          → ◌≡◌ {A = Result (Nodes F T B) Refusal} (elim found [ None ↦ Err (unknown_partial name (keys finds)) | Some reading ↦ reading ]) (Ok ns) → size_nodes ns ≤ size_all (values finds)
+          → ◌≡◌ {A = Result (Nodes F T B) Refusal} (elim found [ None ↦ Err (unknown_partial name (keys finds)) | Some reading ↦ reading ])
+            (Ok ns) → size_nodes ns ≤ size_all (values finds)
       go None g k = absurd (subst IsErr k tt)
       go (Some reading) g k =
           let s : size_read reading ≡ size_nodes ns = ap size_read k in
           omega (arith, s, entry_small (entries finds) name reading (sym (get-entries finds name) ∙ g))
 
-  answer_size : (finds : Option (Found F T B)) (name : List ℕ) (ns : Nodes F T B) → store_answer (option_map partial_in finds) name ≡ Ok ns → size_nodes ns ≤ partials_size finds
+  answer_size : (finds : Option (Found F T B)) (name : List ℕ) (ns : Nodes F T B) → store_answer (option_map partial_in finds) name ≡ Ok ns
+      → size_nodes ns ≤ partials_size finds
   answer_size None name ns h = absurd (subst IsErr h tt)
   answer_size (Some finds) name ns h = found_size finds name ns h
 

@@ -34,7 +34,8 @@ module _ {Reg : Type 0} where
   checkpoints-silent [] = refl
   checkpoints-silent (s ∷ ss) = ap (λ n. one_if s.checkpoint + n) (checkpoints-silent ss)
 
-module _ (b o d : Output) (empty : o.sunk.taken ≡ []) (no_bytes : o.bytes ≡ None) (turns : o.turns ≡ b.turns) (failures : d.sunk.failures ≡ o.sunk.failures) where
+module _ (b o d : Output) (empty : o.sunk.taken ≡ []) (no_bytes : o.bytes ≡ None) (turns : o.turns ≡ b.turns)
+    (failures : d.sunk.failures ≡ o.sunk.failures) where
   abbrev after : Output
   after = record b { turns = d.turns }
 
@@ -53,28 +54,41 @@ module _ (b o d : Output) (empty : o.sunk.taken ≡ []) (no_bytes : o.bytes ≡ 
     nothing_taken ss = sym (ap (λ t. b.sunk.taken ++ t) (pieces-silent ss) ∙ append-nil b.sunk.taken)
 
     bytes_none : (ss : List (Step Reg)) → Passes b.bytes (length (pieces (map silent_step ss))) b.bytes
-    bytes_none ss = passes_at b.bytes b.bytes 0 (length (pieces (map silent_step ss))) (sym (ap length (pieces-silent ss))) (passes_none b.bytes)
+    bytes_none ss =
+        passes_at b.bytes b.bytes 0 (length (pieces (map silent_step ss))) (sym (ap length (pieces-silent ss))) (passes_none b.bytes)
 
     whole_silent : (r : Run Reg) (x : View Reg) → Whole r o d x → Whole (silent r) b after x
     whole_silent r x h = record {
       taken = nothing_taken r.steps;
       failures = refl;
-      turns = passes_at b.turns d.turns (checkpoints r.steps) (checkpoints (map silent_step r.steps)) (sym (checkpoints-silent r.steps)) (turns_passed (checkpoints r.steps) h.turns);
+      turns =
+          passes_at b.turns d.turns (checkpoints r.steps) (checkpoints (map silent_step r.steps)) (sym (checkpoints-silent r.steps))
+          (turns_passed (checkpoints r.steps) h.turns);
       bytes = bytes_none r.steps;
       view = h.view;
     }
 
     cause_silent : (front : List (Step Reg)) (step : Step Reg) (part rest : List ℕ) (refusal : Refusal)
-        → SinkFails step rest (checkpoints front) (length (pieces front)) o d refusal ⊎ GateRefuses step part (checkpoints front) (length (pieces front)) o d refusal
-        → SinkFails (silent_step step) [] (checkpoints (map silent_step front)) (length (pieces (map silent_step front))) b after refusal ⊎ GateRefuses (silent_step step) [] (checkpoints (map silent_step front)) (length (pieces (map silent_step front))) b after refusal
+        → SinkFails step rest (checkpoints front) (length (pieces front)) o d refusal
+          ⊎ GateRefuses step part (checkpoints front) (length (pieces front)) o d refusal
+        → SinkFails (silent_step step) [] (checkpoints (map silent_step front)) (length (pieces (map silent_step front))) b after refusal
+          ⊎ GateRefuses (silent_step step) [] (checkpoints (map silent_step front))
+          (length (pieces (map silent_step front))) b after refusal
     cause_silent front step part rest refusal (inl h) = absurd (no_more d.sunk.failures o.sunk.failures failures h.failures)
-    cause_silent front step part rest refusal (inr h) = inr (record { nothing = refl; failures = refl; refused = refused_silent h.refused; reason = h.reason })
+    cause_silent front step part rest refusal (inr h) =
+        inr (record { nothing = refl; failures = refl; refused = refused_silent h.refused; reason = h.reason })
       where
-        refused_silent : ((step.checkpoint ≡ true) × Refuses o.turns (checkpoints front) 1 d.turns × Passes o.bytes (length (pieces front)) d.bytes) ⊎ ((0 < length step.piece) × Passes o.turns (checkpoints front) d.turns × Refuses o.bytes (length (pieces front)) (length step.piece) d.bytes)
-            → ((step.checkpoint ≡ true) × Refuses b.turns (checkpoints (map silent_step front)) 1 d.turns × Passes b.bytes (length (pieces (map silent_step front))) b.bytes) ⊎ ((0 < 0) × Passes b.turns (checkpoints (map silent_step front)) d.turns × Refuses b.bytes (length (pieces (map silent_step front))) 0 b.bytes)
+        refused_silent : ((step.checkpoint ≡ true) × Refuses o.turns (checkpoints front) 1 d.turns
+            × Passes o.bytes (length (pieces front)) d.bytes) ⊎ ((0 < length step.piece) × Passes o.turns (checkpoints front) d.turns
+            × Refuses o.bytes (length (pieces front)) (length step.piece) d.bytes)
+            → ((step.checkpoint ≡ true) × Refuses b.turns (checkpoints (map silent_step front)) 1 d.turns
+              × Passes b.bytes (length (pieces (map silent_step front))) b.bytes)
+              ⊎ ((0 < 0) × Passes b.turns (checkpoints (map silent_step front)) d.turns
+              × Refuses b.bytes (length (pieces (map silent_step front))) 0 b.bytes)
         refused_silent (inl x) = inl (
           x.0,
-          refuses_at b.turns d.turns (checkpoints front) (checkpoints (map silent_step front)) 1 (sym (checkpoints-silent front)) (subst (λ t. Refuses t (checkpoints front) 1 d.turns) turns x.1),
+          refuses_at b.turns d.turns (checkpoints front) (checkpoints (map silent_step front)) 1 (sym (checkpoints-silent front))
+            (subst (λ t. Refuses t (checkpoints front) 1 d.turns) turns x.1),
           bytes_none front,
         )
         refused_silent (inr x) = absurd (never_bytes (length (pieces front)) (length step.piece) x.2)
@@ -103,7 +117,9 @@ module _ (b o d : Output) (empty : o.sunk.taken ≡ []) (no_bytes : o.bytes ≡ 
       pieces_are = pieces-silent h.front;
       taken = sym (append-nil b.sunk.taken);
       failures = inl refl;
-      turns = up_to_at b.turns d.turns (checkpoints h.front) (checkpoints (map silent_step h.front)) (sym (checkpoints-silent h.front)) (subst (λ t. PassesUpTo t (checkpoints h.front) d.turns) turns h.turns);
+      turns =
+          up_to_at b.turns d.turns (checkpoints h.front) (checkpoints (map silent_step h.front)) (sym (checkpoints-silent h.front))
+          (subst (λ t. PassesUpTo t (checkpoints h.front) d.turns) turns h.turns);
       bytes = inl (bytes_none h.front);
     }
 
@@ -111,7 +127,8 @@ module _ (b o d : Output) (empty : o.sunk.taken ≡ []) (no_bytes : o.bytes ≡ 
     stopped_silent r x refusal (inl h) = inl (whole_silent r x h.0, h.1)
     stopped_silent r x refusal (inr h) = inr (broken_silent r x refusal h)
 
-    told_silent : (t : Option Refusal) (r : Run Reg) (x : View Reg) → MatchOption t (Cut r o d) (Stopped r o d x) → MatchOption t (Cut (silent r) b after) (Stopped (silent r) b after x)
+    told_silent : (t : Option Refusal) (r : Run Reg) (x : View Reg) → MatchOption t (Cut r o d) (Stopped r o d x)
+        → MatchOption t (Cut (silent r) b after) (Stopped (silent r) b after x)
     told_silent None r x h = cut_silent r h
     told_silent (Some refusal) r x h = stopped_silent r x refusal h
 
@@ -119,23 +136,29 @@ module _ (b o d : Output) (empty : o.sunk.taken ≡ []) (no_bytes : o.bytes ≡ 
     outcome_silent r x (Ok u) h = (whole_silent r x h.0, h.1)
     outcome_silent r x (Err e) h = told_silent (told e) r x h
 
-    silent_after : (r : Run Reg) (v x : View Reg) (answer : Answer) → RendersWithin r v o d x answer → RendersWithin (silent r) v b after x answer
+    silent_after : (r : Run Reg) (v x : View Reg) (answer : Answer) → RendersWithin r v o d x answer
+        → RendersWithin (silent r) v b after x answer
     silent_after r v x answer h = record { outcome = outcome_silent r x answer h.outcome; frames = h.frames; pours = pours_silent answer }
 
 module _ {Reg : Type 0} where
   -- the sink sees nothing of what was rendered aside
-  pub renders_silent : (r : Run Reg) (v x : View Reg) (b o d c : Output) (answer : Answer) → Aside b o d c → RendersWithin r v o d x answer → RendersWithin (silent r) v b c x answer
-  renders_silent r v x b o d c answer a h = subst (λ y. RendersWithin (silent r) v b y x answer) (sym a.back) (silent_after b o d a.empty a.no_bytes a.turns a.failures r v x answer h)
+  pub renders_silent : (r : Run Reg) (v x : View Reg) (b o d c : Output) (answer : Answer) → Aside b o d c → RendersWithin r v o d x answer
+      → RendersWithin (silent r) v b c x answer
+  renders_silent r v x b o d c answer a h =
+      subst (λ y. RendersWithin (silent r) v b y x answer) (sym a.back)
+      (silent_after b o d a.empty a.no_bytes a.turns a.failures r v x answer h)
 
   -- and the text is all that the run writes
-  pub text_silent : (r : Run Reg) (v x : View Reg) (b o d c : Output) (u : Unit {0}) → Aside b o d c → RendersWithin r v o d x (Ok u) → d.sunk.taken ≡ written r
+  pub text_silent : (r : Run Reg) (v x : View Reg) (b o d c : Output) (u : Unit {0}) → Aside b o d c → RendersWithin r v o d x (Ok u)
+      → d.sunk.taken ≡ written r
   text_silent r v x b o d c u a h = h.outcome.0.taken ∙ ap (λ t. t ++ written r) a.empty
 
 -- one text is open, and the sink around it is as it was
 none_some : {A : Type 0} (x : A) → None ≡ Some x → ⊥
 none_some x e = cc
 
-some_around : (o x : Output) (text : Option (List ℕ)) (n m : ℕ) (t : List ℕ) → around_of o text n ≡ around_of x (Some t) m → (o ≡ record x { turns = o.turns }) × (text ≡ Some (target_of o text).sunk.taken) × (n ≡ m)
+some_around : (o x : Output) (text : Option (List ℕ)) (n m : ℕ) (t : List ℕ) → around_of o text n ≡ around_of x (Some t) m
+    → (o ≡ record x { turns = o.turns }) × (text ≡ Some (target_of o text).sunk.taken) × (n ≡ m)
 some_around o x None n m t e = absurd (none_some x.sunk (ap (λ y. y.sunk) e))
 some_around o x (Some text) n m t e = (
   ap (λ s. record { sunk = s; turns = o.turns; bytes = o.bytes }) (same_Some o.sunk x.sunk (ap (λ y. y.sunk) e))
@@ -146,7 +169,8 @@ some_around o x (Some text) n m t e = (
 
 -- when what was rendered to the text is done, the rest is as it was when the text opened: only turns were asked of the
 -- sink's output
-stood : (p b a : Place) → Swapped p (Some []) b → around a ≡ around b → a ≡ place (record p.output { turns = a.output.turns }) (Some (target a).sunk.taken) p.sink_name
+stood : (p b a : Place) → Swapped p (Some []) b → around a ≡ around b
+    → a ≡ place (record p.output { turns = a.output.turns }) (Some (target a).sunk.taken) p.sink_name
 stood p b a e h =
     let s = some_around a.output p.output a.text a.sink_name p.sink_name [] (h ∙ ap around e.is) in
     let o = record p.output { turns = a.output.turns } in
@@ -155,18 +179,24 @@ stood p b a e h =
 pub text_stays : (p b a : Place) → Swapped p (Some []) b → around a ≡ around b → IsSome a.text
 text_stays p b a e h = subst (λ x. IsSome x.text) (sym (stood p b a e h)) refl
 
-closed_is : (p b a q : Place) (outer : Option (List ℕ)) → Swapped p (Some []) b → around a ≡ around b → outer ≡ p.text → Swapped a outer q → q ≡ place (record p.output { turns = a.output.turns }) p.text p.sink_name
-closed_is p b a q outer e h o i = i.is ∙ ap (λ x. place x.output outer x.sink_name) (stood p b a e h) ∙ ap (λ x. place (record p.output { turns = a.output.turns }) x p.sink_name) o
+closed_is : (p b a q : Place) (outer : Option (List ℕ)) → Swapped p (Some []) b → around a ≡ around b → outer ≡ p.text → Swapped a outer q
+    → q ≡ place (record p.output { turns = a.output.turns }) p.text p.sink_name
+closed_is p b a q outer e h o i =
+    i.is ∙ ap (λ x. place x.output outer x.sink_name) (stood p b a e h)
+    ∙ ap (λ x. place (record p.output { turns = a.output.turns }) x p.sink_name) o
 
-around_turns : (o : Output) (turns : Option Passed) (text : Option (List ℕ)) (n : ℕ) → around_of (record o { turns = turns }) text n ≡ around_of o text n
+around_turns : (o : Output) (turns : Option Passed) (text : Option (List ℕ)) (n : ℕ)
+    → around_of (record o { turns = turns }) text n ≡ around_of o text n
 around_turns o turns None n = refl
 around_turns o turns (Some text) n = refl
 
 -- what is around the outer text stays
-pub closed_around : (p b a q : Place) (outer : Option (List ℕ)) → Swapped p (Some []) b → around a ≡ around b → outer ≡ p.text → Swapped a outer q → around q ≡ around p
+pub closed_around : (p b a q : Place) (outer : Option (List ℕ)) → Swapped p (Some []) b → around a ≡ around b → outer ≡ p.text
+    → Swapped a outer q → around q ≡ around p
 closed_around p b a q outer e h o i = ap around (closed_is p b a q outer e h o i) ∙ around_turns p.output a.output.turns p.text p.sink_name
 
-target_turns : (o : Output) (turns : Option Passed) (text : Option (List ℕ)) → target_of (record o { turns = turns }) text ≡ record (target_of o text) { turns = turns }
+target_turns : (o : Output) (turns : Option Passed) (text : Option (List ℕ))
+    → target_of (record o { turns = turns }) text ≡ record (target_of o text) { turns = turns }
 target_turns o turns None = refl
 target_turns o turns (Some text) = refl
 
@@ -174,17 +204,21 @@ opened_turns : (o : Output) (text : Option (List ℕ)) → (target_of o text).tu
 opened_turns o None = refl
 opened_turns o (Some text) = refl
 
-pub closed_aside : (p b a q : Place) (outer : Option (List ℕ)) → Swapped p (Some []) b → around a ≡ around b → outer ≡ p.text → Swapped a outer q → Aside (target p) (target b) (target a) (target q)
+pub closed_aside : (p b a q : Place) (outer : Option (List ℕ)) → Swapped p (Some []) b → around a ≡ around b → outer ≡ p.text
+    → Swapped a outer q → Aside (target p) (target b) (target a) (target q)
 closed_aside p b a q outer e h o i = record {
   empty = ap (λ x. (target x).sunk.taken) e.is;
   no_bytes = ap (λ x. (target x).bytes) e.is;
   turns = ap (λ x. (target x).turns) e.is ∙ sym (opened_turns p.output p.text);
   failures = ap (λ x. (target x).sunk.failures) (stood p b a e h) ∙ sym (ap (λ x. (target x).sunk.failures) e.is);
-  back = ap target (closed_is p b a q outer e h o i) ∙ target_turns p.output a.output.turns p.text ∙ ap (λ t. record (target p) { turns = t }) (sym (opened_turns a.output a.text));
+  back =
+      ap target (closed_is p b a q outer e h o i) ∙ target_turns p.output a.output.turns p.text
+      ∙ ap (λ t. record (target p) { turns = t }) (sym (opened_turns a.output a.text));
 }
 
 -- what holds of the open text holds of what was rendered to it
-pub text_caught : (P : List ℕ → Type 0) (p b a : Place) → Swapped p (Some []) b → around a ≡ around b → IfSome a.text P → P (target a).sunk.taken
+pub text_caught : (P : List ℕ → Type 0) (p b a : Place) → Swapped p (Some []) b → around a ≡ around b → IfSome a.text P
+    → P (target a).sunk.taken
 text_caught P p b a e h i = subst (λ t. IfSome t P) (ap (λ x. x.text) (stood p b a e h)) i
 
 -- a tag has no part, so its text is empty

@@ -17,7 +17,8 @@ and_zero : (n : ℕ) → n ≡ n + 0
 and_zero n = omega arith
 
 module _ {Reg : Type 0} where
-  goes_on_asked : (o : Option Refusal) (r : Run Reg) (next : Action Reg) → asked_in (goes_on o r next) ≡ asked_in r + asked_after o r.view next
+  goes_on_asked : (o : Option Refusal) (r : Run Reg) (next : Action Reg)
+      → asked_in (goes_on o r next) ≡ asked_in r + asked_after o r.view next
   goes_on_asked None r next = checkpoints-append r.steps (next r.view).steps
   goes_on_asked (Some refusal) r next = and_zero (asked_in r)
 
@@ -45,11 +46,13 @@ module _ {Reg : Type 0} where
 module _ {Reg F T P B Q N R : Type 0} (s : Setting Reg F T P B Q) (m : NodeMeaning N R Reg) where
   one_turn : (partials : List ℕ → Action Reg) (n : N) (parts : List (Action Reg)) (left : ℕ) (progress : R) (v : View Reg) →
       asked_in (turns s partials m n parts (suc left) progress v) ≡ 1 + asked_in (answered s partials m n parts
-      (m.takes n progress v).answer (m.takes n progress v).progress (turns s partials m n parts left) (with_written (m.takes n progress v).written v))
+      (m.takes n progress v).answer (m.takes n progress v).progress (turns s partials m n parts left)
+        (with_written (m.takes n progress v).written v))
   unfolding turns
   one_turn partials n parts left progress v = refl
 
-  no_turn : (partials : List ℕ → Action Reg) (n : N) (parts : List (Action Reg)) (progress : R) (v : View Reg) → asked_in (turns s partials m n parts 0 progress v) ≡ 0
+  no_turn : (partials : List ℕ → Action Reg) (n : N) (parts : List (Action Reg)) (progress : R) (v : View Reg)
+      → asked_in (turns s partials m n parts 0 progress v) ≡ 0
   unfolding turns
   no_turn partials n parts progress v = refl
 

@@ -29,7 +29,8 @@ module _ {Reg : Type 0} where
   opened_restored (isolated_frame names name) v rs = omega arith
   opened_restored global_frame v rs = omega arith
 
-  pub owed_open : (frame : FrameShape) (v : View Reg) (rs rs1 rs2 : List (Restore Reg)) → rs1 ≡ restored_by frame v ∷ rs → rs2 ≡ rs1 → 0 < length (opened rs2)
+  pub owed_open : (frame : FrameShape) (v : View Reg) (rs rs1 rs2 : List (Restore Reg)) → rs1 ≡ restored_by frame v ∷ rs → rs2 ≡ rs1
+      → 0 < length (opened rs2)
   owed_open frame v rs rs1 rs2 owes same = subst (λ z. 0 < length (opened z)) (sym (same ∙ owes)) (opened_restored frame v rs)
 
   -- memory ran out before anything was rendered
@@ -37,24 +38,30 @@ module _ {Reg : Type 0} where
   renders_memory r v b e h = renders_refused r v v b e (rw h tt) refl
 
   -- pushed, rendered, popped
-  pub renders_framed : (fresh : Reg) (frame : FrameShape) (trace : Option (List ℕ)) (inner : Action Reg) (v v1 w x : View Reg) (rs rs1 rs2 rs3 : List (Restore Reg)) (b a : Output) (answer answer' : Result (Unit {0}) Error)
-      → v1 ≡ beginning fresh frame v → rs1 ≡ restored_by frame v ∷ rs → rs2 ≡ rs1 → EndsFirst rs2 w rs3 x → ErrBecomes (refused_through trace) answer answer'
+  pub renders_framed : (fresh : Reg) (frame : FrameShape) (trace : Option (List ℕ)) (inner : Action Reg) (v v1 w x : View Reg)
+      (rs rs1 rs2 rs3 : List (Restore Reg)) (b a : Output) (answer answer' : Result (Unit {0}) Error)
+      → v1 ≡ beginning fresh frame v → rs1 ≡ restored_by frame v ∷ rs → rs2 ≡ rs1 → EndsFirst rs2 w rs3 x
+        → ErrBecomes (refused_through trace) answer answer'
       → RendersWithin (inner v1) v1 b a w answer → RendersWithin (under fresh frame trace inner v) v b a x answer'
   renders_framed fresh frame trace inner v v1 w x rs rs1 rs2 rs3 b a answer answer' h i j k e r =
       let same : restored_by frame v ∷ rs ≡ k.restores ∷ rs3 = sym i ∙ sym j ∙ k.was_first in
-      let is : x ≡ ending (restored_by frame v) w = k.is_ended ∙ ap (λ o. ending o w) (sym (first_is (restored_by frame v) k.restores rs rs3 same)) in
+      let is : x ≡ ending (restored_by frame v) w =
+          k.is_ended ∙ ap (λ o. ending o w) (sym (first_is (restored_by frame v) k.restores rs rs3 same)) in
       subst (λ u. RendersWithin (under fresh frame trace inner v) v b a u answer') (sym is)
       (renders_under fresh frame trace inner v w b a answer answer' e (subst (λ u. RendersWithin (inner u) u b a w answer) h r))
 
-  pub framed_kept : (frame : FrameShape) (v w x : View Reg) (rs rs1 rs2 rs3 : List (Restore Reg)) → rs1 ≡ restored_by frame v ∷ rs → rs2 ≡ rs1 → EndsFirst rs2 w rs3 x → rs3 ≡ rs
+  pub framed_kept : (frame : FrameShape) (v w x : View Reg) (rs rs1 rs2 rs3 : List (Restore Reg)) → rs1 ≡ restored_by frame v ∷ rs
+      → rs2 ≡ rs1 → EndsFirst rs2 w rs3 x → rs3 ≡ rs
   framed_kept frame v w x rs rs1 rs2 rs3 i j k = sym (later_are (restored_by frame v) k.restores rs rs3 (sym i ∙ sym j ∙ k.was_first))
 
 -- a rendering without a gate is one within no gate
 module _ {Reg : Type 0} where
-  pub without_gate : (r : Run Reg) (v x : View Reg) (b a : Sunk) (answer : Result (Unit {0}) Error) → RendersWithin r v (ungated b) (ungated a) x answer → Renders r v b a x answer
+  pub without_gate : (r : Run Reg) (v x : View Reg) (b a : Sunk) (answer : Result (Unit {0}) Error)
+      → RendersWithin r v (ungated b) (ungated a) x answer → Renders r v b a x answer
   without_gate r v x b a answer h = record { outcome = h.outcome; frames = h.frames; pours = h.pours }
 
-  pub within_no_gate : (r : Run Reg) (v x : View Reg) (b a : Sunk) (answer : Result (Unit {0}) Error) → Renders r v b a x answer → RendersWithin r v (ungated b) (ungated a) x answer
+  pub within_no_gate : (r : Run Reg) (v x : View Reg) (b a : Sunk) (answer : Result (Unit {0}) Error) → Renders r v b a x answer
+      → RendersWithin r v (ungated b) (ungated a) x answer
   within_no_gate r v x b a answer h = record { outcome = h.outcome; frames = h.frames; pours = h.pours }
 
 pub ruleset framing = (renders_framed, framed_kept, renders_memory, opened_restored)

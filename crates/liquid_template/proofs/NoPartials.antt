@@ -19,7 +19,9 @@ pub no_name : {X : Type 0} (name : List ℕ) → get (empty {X = X} {R = slice_c
 no_name name = get-empty (slice_cmp nat_cmp) name
 
 pub no_names : (X : Type 0) → keys (empty {X = X} {R = slice_cmp nat_cmp}) ≡ []
-no_names X = ap (map (λ e. e.0)) (none_left (entries (empty {X = X} {R = slice_cmp nat_cmp})) (sym (len-entries empty) ∙ len-empty (slice_cmp nat_cmp) X))
+no_names X =
+    ap (map (λ e. e.0)) (none_left (entries (empty {X = X} {R = slice_cmp nat_cmp}))
+    (sym (len-entries empty) ∙ len-empty (slice_cmp nat_cmp) X))
 
 module _ {A : Type 0} where
   abbrev none : NameMap (Result A Refusal)
@@ -30,10 +32,12 @@ module _ {A : Type 0} where
 
   pub no_partial : (name : List ℕ) → partial_in none name ≡ Err (unknown_partial name [])
   no_partial name =
-      ap (λ found. elim found [ None ↦ Err (unknown_partial name (keys none)) | Some reading ↦ reading ]) (no_name {X = Result A Refusal} name)
+      ap (λ found. elim found [ None ↦ Err (unknown_partial name (keys none)) | Some reading ↦ reading ])
+          (no_name {X = Result A Refusal} name)
       ∙ ap (λ names. Err (unknown_partial name names)) (no_names (Result A Refusal))
 
-separated : (sep : List ℕ) (names : List (Bor (List ℕ))) → flat_map (λ name. sep ++ name.now) names ≡ flat_map (λ text. sep ++ text) (map (λ name. name.now) names)
+separated : (sep : List ℕ) (names : List (Bor (List ℕ))) → flat_map (λ name. sep ++ name.now) names ≡ flat_map (λ text. sep ++ text)
+    (map (λ name. name.now) names)
 separated sep [] = refl
 separated sep (name ∷ names) = ap (λ rest. (sep ++ name.now) ++ rest) (separated sep names)
 

@@ -18,7 +18,8 @@ passes_then (Some p) m a k n h i = i ∙ ap (option_map (asked true n)) h ∙ ap
 
 pub refuses_then : (b m a : Option Passed) (k n more : ℕ) → Passes b k m → Refuses m n more a → Refuses b (k + n) more a
 refuses_then None m a k n more h i = subst (λ o. Refuses o n more a) h i
-refuses_then (Some p) m a k n more h i = subst (λ q. (a ≡ Some (asked false 0 q)) × IsPast q more) (add_both p k n) (subst (λ o. Refuses o n more a) h i)
+refuses_then (Some p) m a k n more h i =
+    subst (λ q. (a ≡ Some (asked false 0 q)) × IsPast q more) (add_both p k n) (subst (λ o. Refuses o n more a) h i)
 
 pub up_to_then : (b m a : Option Passed) (k n : ℕ) → Passes b k m → PassesUpTo m n a → PassesUpTo b (k + n) a
 up_to_then b m a k n h (inl i) = inl (passes_then b m a k n h i)

@@ -17,7 +17,9 @@ took_nothing : (taken : List ℕ) → TookText taken taken
 took_nothing taken = record { more = []; taken_is = sym (append-nil taken); text = IsUtf8-nil }
 
 took_both : (a b c : List ℕ) → TookText a b → TookText b c → TookText a c
-took_both a b c p q = record { more = p.more ++ q.more; taken_is = q.taken_is ∙ rw (p.taken_is, append_assoc); text = IsUtf8-append p.more q.more p.text q.text }
+took_both a b c p q =
+    record { more = p.more ++ q.more; taken_is = q.taken_is ∙ rw (p.taken_is, append_assoc);
+    text = IsUtf8-append p.more q.more p.text q.text }
 
 on_ok : {A B : Type 0} (answer : Answer) → (A → B) → OnOk answer A → OnOk answer B
 on_ok (Ok u) f a = f a
@@ -39,7 +41,8 @@ pours_then b m a u answer p q = record {
 }
 
 -- the same answer, with its error changed
-pub pours_through : (f : Refusal → Refusal) (b a : Sunk) (answer answer' : Answer) → ErrBecomes f answer answer' → Pours b a answer → Pours b a answer'
+pub pours_through : (f : Refusal → Refusal) (b a : Sunk) (answer answer' : Answer) → ErrBecomes f answer answer' → Pours b a answer
+    → Pours b a answer'
 pours_through f b a (Ok u) (Ok u') e p = record { grows = p.grows; lent = p.lent; text = p.text }
 pours_through f b a (Ok u) (Err x) e p = cc
 pours_through f b a (Err x) (Ok u) e p = absurd e

@@ -21,7 +21,8 @@ module _ {Reg : Type 0} where
   abbrev put_step : List ℕ → View Reg → Step Reg
   put_step piece v = record { piece = piece; checkpoint = false; traces = []; at = v }
 
-  put_cause : (piece part rest : List ℕ) (v : View Reg) (b a : Output) (refusal : Refusal) → a.turns ≡ b.turns → PieceFails piece rest b a refusal ⊎ PieceRefused piece part b a refusal
+  put_cause : (piece part rest : List ℕ) (v : View Reg) (b a : Output) (refusal : Refusal) → a.turns ≡ b.turns
+      → PieceFails piece rest b a refusal ⊎ PieceRefused piece part b a refusal
       → SinkFails (put_step piece v) rest 0 0 b a refusal ⊎ GateRefuses (put_step piece v) part 0 0 b a refusal
   put_cause piece part rest v b a refusal e (inl h) = inl (record {
     no_checkpoint = refl;
@@ -38,8 +39,10 @@ module _ {Reg : Type 0} where
     reason = h.reason;
   })
 
-  lost_cut : (piece : List ℕ) (v : View Reg) (b a : Output) (part rest : List ℕ) → a.turns ≡ b.turns → piece ≡ part ++ rest → a.sunk.taken ≡ b.sunk.taken ++ part
-      → (a.sunk.failures ≡ b.sunk.failures) ⊎ (a.sunk.failures ≡ b.sunk.failures + 1) → Passes b.bytes (length piece) a.bytes ⊎ ((part ≡ []) × Refuses b.bytes 0 (length piece) a.bytes) → Cut (writes piece v) b a
+  lost_cut : (piece : List ℕ) (v : View Reg) (b a : Output) (part rest : List ℕ) → a.turns ≡ b.turns → piece ≡ part ++ rest
+      → a.sunk.taken ≡ b.sunk.taken ++ part
+      → (a.sunk.failures ≡ b.sunk.failures) ⊎ (a.sunk.failures ≡ b.sunk.failures + 1) → Passes b.bytes (length piece) a.bytes
+        ⊎ ((part ≡ []) × Refuses b.bytes 0 (length piece) a.bytes) → Cut (writes piece v) b a
   lost_cut piece v b a part rest e is taken failures (inl q) = record {
     front = put_step piece v ∷ [];
     later = [];
@@ -81,7 +84,8 @@ module _ {Reg : Type 0} where
     cause = put_cause piece p.part p.rest v b a refusal e p.cause;
   })
 
-  outcome_put : (piece : List ℕ) (v : View Reg) (b a : Output) (answer : Result (Unit {0}) Error) → a.turns ≡ b.turns → PieceTaken piece b a answer → Outcome (writes piece v) b a v answer
+  outcome_put : (piece : List ℕ) (v : View Reg) (b a : Output) (answer : Result (Unit {0}) Error) → a.turns ≡ b.turns
+      → PieceTaken piece b a answer → Outcome (writes piece v) b a v answer
   outcome_put piece v b a (Ok u) e h = (
     record {
       taken = h.taken ∙ ap (λ t. b.sunk.taken ++ t) (sym (append-nil piece));
@@ -95,5 +99,6 @@ module _ {Reg : Type 0} where
   outcome_put piece v b a (Err x) e h = told_put (told x) piece v b a e h
 
   -- one piece is put out
-  pub renders_put : (piece : List ℕ) (v : View Reg) (b a : Output) (answer : Result (Unit {0}) Error) → PieceOut piece b a answer → RendersWithin (writes piece v) v b a v answer
+  pub renders_put : (piece : List ℕ) (v : View Reg) (b a : Output) (answer : Result (Unit {0}) Error) → PieceOut piece b a answer
+      → RendersWithin (writes piece v) v b a v answer
   renders_put piece v b a answer h = record { outcome = outcome_put piece v b a answer h.turns h.taken; frames = refl; pours = h.pours }

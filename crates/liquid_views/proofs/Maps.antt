@@ -13,15 +13,18 @@ use Rattle.liquid_value.specs.meaning.Members.{get_member, put_member, member_co
 use Rattle.liquid_value.specs.meaning.Tree.{Tree, Members, member}
 use Rattle.liquid_views.specs.meaning.Trees.{members_by}
 
-pub has_no_members_of_map : {K V : Type 0} (index : K → List ℕ) (tree : V → Tree) (es : List (K × V)) → has_no_members (members_by index tree es) ≡ (length es == 0)
+pub has_no_members_of_map : {K V : Type 0} (index : K → List ℕ) (tree : V → Tree) (es : List (K × V))
+    → has_no_members (members_by index tree es) ≡ (length es == 0)
 has_no_members_of_map index tree [] = refl
 has_no_members_of_map index tree (e ∷ es) = search rules
 
-pub count_of_map : {K V : Type 0} (index : K → List ℕ) (tree : V → Tree) (es : List (K × V)) → member_count (members_by index tree es) ≡ length es
+pub count_of_map : {K V : Type 0} (index : K → List ℕ) (tree : V → Tree) (es : List (K × V))
+    → member_count (members_by index tree es) ≡ length es
 count_of_map index tree [] = refl
 count_of_map index tree (e ∷ es) = ap suc (count_of_map index tree es)
 
-found_or : {V : Type 0} (tree : V → Tree) (o : Ordering) (v : V) (rest : Option V) (more : Option Tree) → option_map tree rest ≡ more → option_map tree (cond (is_eq o) (Some v) rest) ≡ match_ordering o more (Some (tree v)) more
+found_or : {V : Type 0} (tree : V → Tree) (o : Ordering) (v : V) (rest : Option V) (more : Option Tree) → option_map tree rest ≡ more
+    → option_map tree (cond (is_eq o) (Some v) rest) ≡ match_ordering o more (Some (tree v)) more
 found_or tree Less v rest more e = e
 found_or tree Equal v rest more e = refl
 found_or tree Greater v rest more e = e
@@ -39,7 +42,8 @@ pub found_of_map : {K V : Type 0} (index : K → List ℕ) (tree : V → Tree) (
     → is_some (lookup (is_at (λ k. slice_cmp nat_cmp name (index k))) es) ≡ is_some (get_member name (members_by index tree es))
 found_of_map index tree name es = sym (is_some-map tree _) ∙ ap is_some (value_of_map index tree name es)
 
-below_middle : {K V : Type 0} (cmp : K → K → Ordering) (key : K) (es : List (K × V)) (e : K × V) (more : List (K × V)) → AllByRecursion (λ y. cmp key y ≡ Less) (keys_of (es ++ e ∷ more)) → cmp key e.0 ≡ Less
+below_middle : {K V : Type 0} (cmp : K → K → Ordering) (key : K) (es : List (K × V)) (e : K × V) (more : List (K × V))
+    → AllByRecursion (λ y. cmp key y ≡ Less) (keys_of (es ++ e ∷ more)) → cmp key e.0 ≡ Less
 below_middle cmp key [] e more h = h.0
 below_middle cmp key (x ∷ es) e more h = below_middle cmp key es e more h.1
 
@@ -51,12 +55,15 @@ unfolding IsStrictlySortedBy
 put_last index cmp ordered tree [] e more h = refl
 put_last index cmp ordered tree (first ∷ done) e more h =
     let above : slice_cmp nat_cmp (index e.0) (index first.0) ≡ Greater =
-    nat_list_cmp_total.antisymm (index e.0) (index first.0) ∙ ap ordering_reverse (sym (ordered first.0 e.0) ∙ below_middle cmp first.0 done e more h.0) in
+    nat_list_cmp_total.antisymm (index e.0) (index first.0) ∙ ap ordering_reverse
+      (sym (ordered first.0 e.0) ∙ below_middle cmp first.0 done e more h.0) in
     rw above (ap (member (index first.0) (tree first.1)) (put_last index cmp ordered tree done e more h.1))
 
 -- the text of the entries so far and the text of this one, before the text of the later ones
-pub map_turn : {K V : Type 0} (index : K → List ℕ) (tree : V → Tree) (text : Members → List ℕ) (piece : List ℕ → Tree → List ℕ) → ((key : List ℕ) (t : Tree) (ms : Members) → text (member key t ms) ≡ piece key t ++ text ms)
+pub map_turn : {K V : Type 0} (index : K → List ℕ) (tree : V → Tree) (text : Members → List ℕ) (piece : List ℕ → Tree → List ℕ)
+    → ((key : List ℕ) (t : Tree) (ms : Members) → text (member key t ms) ≡ piece key t ++ text ms)
     → (whole done : List ℕ) (es left : List (K × V)) (key : K) (v : V) → es ≡ (key, v) ∷ left
     → whole ≡ done ++ text (members_by index tree es) → whole ≡ (done ++ piece (index key) (tree v)) ++ text (members_by index tree left)
 map_turn index tree text piece step whole done es left key v is e =
-    e ∙ ap (λ ms. done ++ text (members_by index tree ms)) is ∙ ap (λ more. done ++ more) (step _ _ _) ∙ sym (append_assoc done (piece (index key) (tree v)) _)
+    e ∙ ap (λ ms. done ++ text (members_by index tree ms)) is ∙ ap (λ more. done ++ more) (step _ _ _)
+      ∙ sym (append_assoc done (piece (index key) (tree v)) _)

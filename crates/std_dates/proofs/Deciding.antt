@@ -101,7 +101,8 @@ same_decided P Q to from (inl (a, p)) = inl (a, to a p)
 same_decided P Q to from (inr none) = inr (λ a q. none a (from a q))
 
 -- the first form that fits
-pub first_decided : {A : Type 0} (F G : List ℕ → A → Type 0) (text : List ℕ) → Decided (F text) → Decided (G text) → Decided (first F G text)
+pub first_decided : {A : Type 0} (F G : List ℕ → A → Type 0) (text : List ℕ) → Decided (F text) → Decided (G text)
+    → Decided (first F G text)
 first_decided F G text (inl (a, f)) g = inl (a, inl f)
 first_decided F G text (inr none) (inl (a, g)) = inl (a, inr (none, g))
 first_decided {A = A} F G text (inr none) (inr fails) = inr neither

@@ -25,7 +25,8 @@ use Rattle.std_dates.proofs.Parts.{date_of, time_of, date_time_of, same_date_is,
 -- the texts `now` and `today`
 is_now : (bytes : List ℕ) → Either (IsNow bytes)
 is_now bytes =
-    one_of (equal_texts (map to_ascii_lowercase (trim bytes)) (codes "now")) (equal_texts (map to_ascii_lowercase (trim bytes)) (codes "today"))
+    one_of (equal_texts (map to_ascii_lowercase (trim bytes)) (codes "now"))
+      (equal_texts (map to_ascii_lowercase (trim bytes)) (codes "today"))
 
 today_is_now : (bytes : List ℕ) → bytes ≡ codes "today" → IsNow bytes
 unfolding trim_start trim_end chars lib.Utf8.encode
@@ -41,8 +42,10 @@ is_number bytes = both (is_numeral 10 (without_leading_sign bytes)) (fits (signe
 date_time_text_decided : (bytes : List ℕ) (now : DateTime) → Decided (IsDateTimeText bytes now)
 date_time_text_decided bytes now = by_length (equal_texts bytes [])
   where
-    by_number : bytes ≢ [] → ¬ (IsNow bytes) → IsNumber bytes → Decided (IsUnixTime (signed_digits_value 10 bytes)) → Decided (IsDateTimeText bytes now)
-    by_number full other number (inl (dt, is)) = inl (dt, (full, inr (other, inl (signed_digits_value 10 bytes, (number.0, number.1, refl), is))))
+    by_number : bytes ≢ [] → ¬ (IsNow bytes) → IsNumber bytes → Decided (IsUnixTime (signed_digits_value 10 bytes))
+        → Decided (IsDateTimeText bytes now)
+    by_number full other number (inl (dt, is)) =
+        inl (dt, (full, inr (other, inl (signed_digits_value 10 bytes, (number.0, number.1, refl), is))))
     by_number full other number (inr none) = inr fails
       where
         fails : (dt : DateTime) → ¬ (IsDateTimeText bytes now dt)
@@ -50,7 +53,8 @@ date_time_text_decided bytes now = by_length (equal_texts bytes [])
         fails dt (_, inr (_, inl (z, is, unix))) = none dt (rw (← is.2) unix)
         fails dt (_, inr (_, inr (none, _))) = none (signed_digits_value 10 bytes) (number.0, number.1, refl)
 
-    by_form : bytes ≢ [] → ¬ (IsNow bytes) → ¬ (IsNumber bytes) → Decided (date_time_forms (with_given_offset (ends_in_offset bytes) bytes)) → Decided (IsDateTimeText bytes now)
+    by_form : bytes ≢ [] → ¬ (IsNow bytes) → ¬ (IsNumber bytes) → Decided (date_time_forms (with_given_offset (ends_in_offset bytes) bytes))
+        → Decided (IsDateTimeText bytes now)
     by_form full other apart (inl (dt, is)) = inl (dt, (full, inr (other, inr (λ z number. apart (number.0, number.1), is))))
     by_form full other apart (inr none) = inr fails
       where
@@ -106,7 +110,9 @@ date_text_once bytes now c d (inr (_, form)) (inr (_, form₂)) = same_date_is c
 
 -- midnight
 midnight : CivilDate → DateTime
-midnight d = date_time_of d (time_of 0 0 0 0 (omega arith, omega arith, omega arith, omega arith)) (pos 0) (omega (arith, signed_arith), omega (arith, signed_arith))
+midnight d =
+    date_time_of d (time_of 0 0 0 0 (omega arith, omega arith, omega arith, omega arith)) (pos 0)
+    (omega (arith, signed_arith), omega (arith, signed_arith))
 
 midnight_is : (d : CivilDate) → IsMidnight d (midnight d)
 unfolding midnight
@@ -118,7 +124,8 @@ midnight_once c d a b e (date_a, time_a, offset_a) (date_b, time_b, offset_b) =
     let years = ap (λ (x : CivilDate). x.year) e in
     let months = ap (λ (x : CivilDate). x.month) e in
     let days = ap (λ (x : CivilDate). x.day) e in
-    same_date_time_is a b ((date_a.0 ∙ years ∙ sym date_b.0, date_a.1 ∙ months ∙ sym date_b.1, date_a.2 ∙ days ∙ sym date_b.2), (time.0, time.1, time.2), time.3, offset_a ∙ sym offset_b)
+    same_date_time_is a b ((date_a.0 ∙ years ∙ sym date_b.0, date_a.1 ∙ months ∙ sym date_b.1, date_a.2 ∙ days ∙ sym date_b.2),
+      (time.0, time.1, time.2), time.3, offset_a ∙ sym offset_b)
 
 midnight_text_decided : (bytes : List ℕ) (now : DateTime) → Decided (IsMidnightText now bytes)
 midnight_text_decided bytes now = by_date (date_text_decided bytes now)
@@ -130,7 +137,8 @@ midnight_text_decided bytes now = by_date (date_text_decided bytes now)
 -- either of them
 pub text_at_decided : (bytes : List ℕ) (now : DateTime) → Decided (IsTextAt now bytes)
 text_at_decided bytes now =
-    first_decided (λ b dt. IsDateTimeText b now dt) (IsMidnightText now) bytes (date_time_text_decided bytes now) (midnight_text_decided bytes now)
+    first_decided (λ b dt. IsDateTimeText b now dt) (IsMidnightText now) bytes (date_time_text_decided bytes now)
+      (midnight_text_decided bytes now)
 
 text_at_once : (bytes : List ℕ) (now a b : DateTime) → IsTextAt now bytes a → IsTextAt now bytes b → a ≡ b
 text_at_once bytes now a b (inl h) (inl k) = date_time_text_once bytes now a b h k
@@ -156,7 +164,8 @@ text_anywhen bytes now then dt other (inr (none, (d, is, at))) =
 -- some date time
 epoch : DateTime
 epoch =
-    midnight (date_of (pos 1970) 1 1 ((omega (arith, signed_arith), omega (arith, signed_arith)), (omega arith, omega arith), (omega arith, omega arith)))
+    midnight (date_of (pos 1970) 1 1 ((omega (arith, signed_arith), omega (arith, signed_arith)), (omega arith, omega arith),
+      (omega arith, omega arith)))
 
 -- the text, with such a moment or without one
 moment_text_decided : (now : Option DateTime) (bytes : List ℕ) → Decided (IsMomentText now bytes)

@@ -28,11 +28,15 @@ evaluate_named_erased v (k ∷ ks) =
     ap (λ r. ok_then r (λ t. ok_then (evaluate_named (erase v) ks) (λ ts. Ok ((k.0, t) ∷ ts)))) (evaluate_erased v k.1)
     ∙ ap (λ q. ok_then (evaluate v k.1) (λ t. ok_then q (λ ts. Ok ((k.0, t) ∷ ts)))) (evaluate_named_erased v ks)
 
-pub evaluate_arguments_erased : {Reg : Type 0} (v : View Reg) (es : List ExpressionShape) (ks : List Named) → evaluate_arguments (erase v) es ks ≡ evaluate_arguments v es ks
+pub evaluate_arguments_erased : {Reg : Type 0} (v : View Reg) (es : List ExpressionShape) (ks : List Named)
+    → evaluate_arguments (erase v) es ks ≡ evaluate_arguments v es ks
 evaluate_arguments_erased v es ks =
-    ap (λ r. ok_then r (λ ts. ok_then (evaluate_named (erase v) ks) (λ us. Ok (record { positional = ts; keyword = us })))) (evaluate_all_erased v es)
-    ∙ ap (λ q. ok_then (evaluate_all v es) (λ ts. ok_then q (λ us. Ok (record { positional = ts; keyword = us })))) (evaluate_named_erased v ks)
+    ap (λ r. ok_then r (λ ts. ok_then (evaluate_named (erase v) ks) (λ us. Ok (record { positional = ts; keyword = us }))))
+        (evaluate_all_erased v es)
+    ∙ ap (λ q. ok_then (evaluate_all v es) (λ ts. ok_then q (λ us. Ok (record { positional = ts; keyword = us }))))
+      (evaluate_named_erased v ks)
 
 -- so it is all that a call needs
-pub call_answer_erased : {K Reg : Type 0} (sense : K → FilterSense) (f : CallShape K) (input : Tree) (v : View Reg) → call_answer sense f input (erase v) ≡ call_answer sense f input v
+pub call_answer_erased : {K Reg : Type 0} (sense : K → FilterSense) (f : CallShape K) (input : Tree) (v : View Reg)
+    → call_answer sense f input (erase v) ≡ call_answer sense f input v
 call_answer_erased sense f input v = ap (λ r. ok_then r ((sense f.kind).answers input)) (evaluate_arguments_erased v f.positional f.keyword)

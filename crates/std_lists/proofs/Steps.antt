@@ -15,7 +15,8 @@ abbrev pub added : ℤ → Result ℤ Refusal → Result ℤ Refusal
 added sum r = ok_then r (λ rest. Ok (sum +ℤ rest))
 
 -- the first of what is left, and the rest
-pub mapped-drop : {A B : Type 0} (f : A → B) (xs : List A) (i : ℕ) (x : A) → i < length xs → x ≡ get_or xs i x → map f (drop i xs) ≡ f x ∷ map f (drop (i + 1) xs)
+pub mapped-drop : {A B : Type 0} (f : A → B) (xs : List A) (i : ℕ) (x : A) → i < length xs → x ≡ get_or xs i x → map f (drop i xs) ≡ f x
+    ∷ map f (drop (i + 1) xs)
 mapped-drop f xs i x within is = ap (map f) (drop-cons xs i x within) ∙ rw (add-one, ← is)
 
 map-append : {A B : Type 0} (f : A → B) (xs ys : List A) → map f (xs ++ ys) ≡ map f xs ++ map f ys

@@ -14,6 +14,7 @@ added-added sum n more (Ok rest) is = ap Ok (omega (arith, ints))
 added-added sum n more (Err refusal) is = refl
 
 -- the number of the first item moves from what is left to the sum
-pub total-more : (name : Option (List ℕ)) (t : Tree) (ts : List Tree) (sum n more : ℤ) → ok_then (key_of name t) number ≡ Ok n → more ≡ sum +ℤ n → added sum (total name (t ∷ ts)) ≡ added more (total name ts)
+pub total-more : (name : Option (List ℕ)) (t : Tree) (ts : List Tree) (sum n more : ℤ) → ok_then (key_of name t) number ≡ Ok n
+    → more ≡ sum +ℤ n → added sum (total name (t ∷ ts)) ≡ added more (total name ts)
 total-more name t ts sum n more first is =
     ap (λ r. added sum (ok_then r (λ m. added m (total name ts)))) first ∙ added-added sum n more (total name ts) is

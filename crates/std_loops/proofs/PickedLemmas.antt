@@ -69,9 +69,11 @@ module _ {A : Type 0} (xs : List A) (from to : ℕ) where
 pub picked_all : {A : Type 0} (offset : ℤ) (from to : ℕ) (rev : Bool) (xs : List A) → from ≡ natural offset → to ≡ length xs
     → in_order rev (drop from (take to xs)) ≡ picked offset None rev xs
 picked_all offset from to rev xs starts ends =
-    ap (λ n. in_order rev (drop n (take to xs))) starts ∙ ap (λ ys. in_order rev (drop (natural offset) ys)) (ap (λ n. take n xs) ends ∙ take-length xs)
+    ap (λ n. in_order rev (drop n (take to xs))) starts ∙ ap (λ ys. in_order rev (drop (natural offset) ys))
+      (ap (λ n. take n xs) ends ∙ take-length xs)
 
-pub picked_some : {A : Type 0} (offset limit : ℤ) (from to : ℕ) (rev : Bool) (xs : List A) → from ≡ natural offset → to ≡ natural (offset +ℤ limit)
+pub picked_some : {A : Type 0} (offset limit : ℤ) (from to : ℕ) (rev : Bool) (xs : List A) → from ≡ natural offset
+    → to ≡ natural (offset +ℤ limit)
     → in_order rev (drop from (take to xs)) ≡ picked offset (Some limit) rev xs
 picked_some offset limit from to rev xs starts ends =
     ap (λ n. in_order rev (drop n (take to xs))) starts ∙ ap (λ n. in_order rev (drop (natural offset) (take n xs))) ends
@@ -80,14 +82,16 @@ ordered_length : {A : Type 0} (rev : Bool) (xs : List A) → length (in_order re
 ordered_length false xs = refl
 ordered_length true xs = length-reverse xs
 
-pub picked_length : {A : Type 0} (from to : ℕ) (rev : Bool) (xs : List A) → length (in_order rev (drop from (take to xs))) ≡ min to (length xs) - from
+pub picked_length : {A : Type 0} (from to : ℕ) (rev : Bool) (xs : List A)
+    → length (in_order rev (drop from (take to xs))) ≡ min to (length xs) - from
 picked_length from to rev xs = ordered_length rev (drop from (take to xs)) ∙ between_length xs from to
 
 ordered_none : {A : Type 0} (rev : Bool) (xs : List A) → xs ≡ [] → in_order rev xs ≡ []
 ordered_none false xs none = none
 ordered_none true xs none = ap reverse none
 
-pub none_first : {A : Type 0} (from to : ℕ) (rev : Bool) (xs : List A) → min to (length xs) ≤ from → None ≡ slice_get (in_order rev (drop from (take to xs))) 0
+pub none_first : {A : Type 0} (from to : ℕ) (rev : Bool) (xs : List A) → min to (length xs) ≤ from
+    → None ≡ slice_get (in_order rev (drop from (take to xs))) 0
 none_first from to rev xs past = sym (ap (λ ys. slice_get ys 0) (ordered_none rev (drop from (take to xs)) (none_between xs from to past)))
 
 pub none_following : {A : Type 0} (from to : ℕ) (rev : Bool) (xs : List A) → min to (length xs) ≤ from
@@ -96,7 +100,8 @@ none_following from to rev xs past =
     let none = ordered_none rev (drop from (take to xs)) (none_between xs from to past) in
     none ∙ sym (ap (drop 1) none)
 
-pub forward_first : {A : Type 0} (from to : ℕ) (rev : Bool) (xs : List A) (o : Option A) → rev ≡ false → from < min to (length xs) → o ≡ slice_get xs from
+pub forward_first : {A : Type 0} (from to : ℕ) (rev : Bool) (xs : List A) (o : Option A) → rev ≡ false → from < min to (length xs)
+    → o ≡ slice_get xs from
     → o ≡ slice_get (in_order rev (drop from (take to xs))) 0
 forward_first from to false xs o is below at = at ∙ sym (first_between xs from to below)
 forward_first from to true xs o is below at = cc
@@ -106,14 +111,16 @@ pub forward_after : {A : Type 0} (from to : ℕ) (rev : Bool) (xs : List A) → 
 forward_after from to false xs is = ap (λ n. drop n (take to xs)) (add-one from) ∙ rest_past (take to xs) from
 forward_after from to true xs is = cc
 
-pub backward_first : {A : Type 0} (from to end last : ℕ) (rev : Bool) (xs : List A) (o : Option A) → rev ≡ true → end ≡ min to (length xs) → from < end → last ≡ end - 1
+pub backward_first : {A : Type 0} (from to end last : ℕ) (rev : Bool) (xs : List A) (o : Option A) → rev ≡ true → end ≡ min to (length xs)
+    → from < end → last ≡ end - 1
     → o ≡ slice_get xs last → o ≡ slice_get (in_order rev (drop from (take to xs))) 0
 backward_first from to end last false xs o is ends below before at = cc
 backward_first from to end last true xs o is ends below before at =
     let found = within xs last (omega arith) in
     at ∙ found.1 ∙ sym (ap (λ ys. slice_get ys 0) (reversed_first xs from to last found.0 (omega arith) (omega arith) found.1))
 
-pub backward_after : {A : Type 0} (from to end last : ℕ) (rev : Bool) (xs : List A) → rev ≡ true → end ≡ min to (length xs) → from < end → last ≡ end - 1
+pub backward_after : {A : Type 0} (from to end last : ℕ) (rev : Bool) (xs : List A) → rev ≡ true → end ≡ min to (length xs) → from < end
+    → last ≡ end - 1
     → in_order rev (drop from (take last xs)) ≡ drop 1 (in_order rev (drop from (take to xs)))
 backward_after from to end last false xs is ends below before = cc
 backward_after from to end last true xs is ends below before =

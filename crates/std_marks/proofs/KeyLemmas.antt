@@ -28,7 +28,9 @@ last_digit : (n : ℕ) → 48 + n % 10 < 58
 last_digit n = let small : n % 10 < 10 = mod-lt n (omega arith) in omega (arith, small)
 
 digits_only : (n : ℕ) → n < 2 ^ 64 → Digits (decimal n)
-digits_only = decimal_by_steps (λ n ds. Digits ds) (λ n small. (omega (arith, small), tt)) (λ n ds large is. digit_after ds (48 + n % 10) (last_digit n) is)
+digits_only =
+    decimal_by_steps (λ n ds. Digits ds) (λ n small. (omega (arith, small), tt))
+    (λ n ds large is. digit_after ds (48 + n % 10) (last_digit n) is)
 
 -- two texts that begin with digits and a colon have the same digits, and go on alike
 up_to_colon : (ds es xs ys : List ℕ) → Digits ds → Digits es → ds ++ 58 ∷ xs ≡ es ++ 58 ∷ ys → (ds ≡ es) × (xs ≡ ys)
@@ -54,7 +56,9 @@ after_length t more = append_assoc (decimal (length t)) (58 ∷ t) more
 
 first_text : (s t xs ys : List ℕ) → length s < 2 ^ 64 → length t < 2 ^ 64 → with_length s ++ xs ≡ with_length t ++ ys → (s ≡ t) × (xs ≡ ys)
 first_text s t xs ys small short e =
-    let parts = up_to_colon (decimal (length s)) (decimal (length t)) (s ++ xs) (t ++ ys) (digits_only (length s) small) (digits_only (length t) short)
+    let parts =
+        up_to_colon (decimal (length s)) (decimal (length t)) (s ++ xs) (t ++ ys) (digits_only (length s) small)
+        (digits_only (length t) short)
     (sym (after_length s xs) ∙ e ∙ after_length t ys) in
     split_alike s t xs ys (decimal_injective (length s) (length t) small short parts.0) parts.1
 
@@ -76,7 +80,8 @@ same_texts (s ∷ ss) (t ∷ ts) p q e =
 
 unlike : (name : List ℕ) (ts : List (List ℕ)) → AreTexts ts → 61 ∷ name ≡ with_lengths ts → ⊥
 unlike name [] q e = cc
-unlike name (t ∷ ts) q e = not_named (decimal (length t)) (t ++ with_lengths ts) name (digits_only (length t) q.0) (e ∙ after_length t (with_lengths ts))
+unlike name (t ∷ ts) q e =
+    not_named (decimal (length t)) (t ++ with_lengths ts) name (digits_only (length t) q.0) (e ∙ after_length t (with_lengths ts))
 
 pub keys_differ : KeysDiffer
 keys_differ (named a) (named b) p q e = ap named (ap rest e)

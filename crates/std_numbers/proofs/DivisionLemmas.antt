@@ -17,10 +17,12 @@ pub floor_remainder-below : (a : ℤ) (b : ℕ) → neg_ℤ (int_rem_euclid (neg
 floor_remainder-below a b = flipped a _ _ b (euclid_rest (neg_ℤ a) (suc b) (omega arith))
 
 -- the same for a divisor that is known to be below 0
-pub floor_remainder-negated : (a b r : ℤ) → lt_z b (pos 0) ≡ true → r ≡ int_rem_euclid (pos 0 -ℤ a) (pos 0 -ℤ b) → pos 0 -ℤ r ≡ floor_remainder a b
+pub floor_remainder-negated : (a b r : ℤ) → lt_z b (pos 0) ≡ true → r ≡ int_rem_euclid (pos 0 -ℤ a) (pos 0 -ℤ b)
+    → pos 0 -ℤ r ≡ floor_remainder a b
 floor_remainder-negated a (pos b) r low e = grind arith
 floor_remainder-negated a (negsuc b) r low e =
     let flip : (z : ℤ) → pos 0 -ℤ z ≡ neg_ℤ z = λ z. omega (arith, ints) in
     let divisor : pos 0 -ℤ negsuc b ≡ pos (suc b) = omega (arith, ints) in
-    let rest : r ≡ int_rem_euclid (neg_ℤ a) (pos (suc b)) = e ∙ ap (int_rem_euclid (pos 0 -ℤ a)) divisor ∙ ap (λ z. int_rem_euclid z (pos (suc b))) (flip a) in
+    let rest : r ≡ int_rem_euclid (neg_ℤ a) (pos (suc b)) =
+        e ∙ ap (int_rem_euclid (pos 0 -ℤ a)) divisor ∙ ap (λ z. int_rem_euclid z (pos (suc b))) (flip a) in
     flip r ∙ ap neg_ℤ rest ∙ floor_remainder-below a b

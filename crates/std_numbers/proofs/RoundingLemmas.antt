@@ -19,4 +19,5 @@ rounded_to-none unit (negsuc m) fits h = ap (λ k. neg_ℤ (pos k)) (sym (neares
 -- past 19 digits before the point, no number reaches half the unit
 pub rounded-none : (n d : ℤ) → FitsSigned w64 n → lt_z d (pos 0) ≡ true → 19 < unsigned_abs d → pos 0 ≡ rounded n d
 rounded-none n (pos d) fits low far = grind arith
-rounded-none n (negsuc d) fits low far = rounded_to-none (10 ^ suc d) n fits (let far_enough : 20 ≤ suc d = omega arith in pow-le-pow_right (omega arith) far_enough)
+rounded-none n (negsuc d) fits low far =
+    rounded_to-none (10 ^ suc d) n fits (let far_enough : 20 ≤ suc d = omega arith in pow-le-pow_right (omega arith) far_enough)

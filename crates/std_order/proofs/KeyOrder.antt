@@ -47,7 +47,8 @@ abbrev three_cmp : Tree → Tree → Ordering
 three_cmp = then_cmp (on rank nat_cmp) (then_cmp (on key_number int_cmp) (on key_text (slice_cmp nat_cmp)))
 
 three_cmp_total : IsTotalOrder three_cmp
-three_cmp_total = then_total (on_total rank nat_cmp_total) (then_total (on_total key_number int_cmp_total) (on_total key_text nat_list_cmp_total))
+three_cmp_total =
+    then_total (on_total rank nat_cmp_total) (then_total (on_total key_number int_cmp_total) (on_total key_text nat_list_cmp_total))
 
 then_equal : (o : Ordering) → o ≡ ordering_then o Equal
 then_equal Less = refl

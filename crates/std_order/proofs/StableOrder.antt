@@ -58,7 +58,8 @@ module _ {X : Type 0} (lt : X → X → Bool) (o : IsStrictWeakOrder lt) where
   Rises-put_in : (c : X) (ds : List X) → Rises ds → Rises (put_in lt c ds)
   Rises-put_in c [] up = (tt, tt)
   Rises-put_in c (d ∷ ds) up = elim (cases_Bool (lt d c)) [
-    | inl first ↦ rw (cond-true (lt d c) (d ∷ put_in lt c ds) (c ∷ d ∷ ds) first) (AreNotBefore-put_in d c ds (o.one_way d c first) up.0, Rises-put_in c ds up.1)
+    | inl first ↦ rw (cond-true (lt d c) (d ∷ put_in lt c ds) (c ∷ d ∷ ds) first)
+      (AreNotBefore-put_in d c ds (o.one_way d c first) up.0, Rises-put_in c ds up.1)
     | inr stays ↦ rw (cond-false (lt d c) (d ∷ put_in lt c ds) (c ∷ d ∷ ds) stays) ((stays, AreNotBefore-chain d c ds stays up.0), up)
   ]
 
@@ -94,7 +95,8 @@ module _ {X : Type 0} (lt : X → X → Bool) (o : IsStrictWeakOrder lt) where
       filter-put_in x c (in_order lt cs) ∙ ap (λ l. cond (ties lt x c) (c ∷ l) l) (filter-in_order x cs)
 
   -- an entry that a test finds does not come before y
-  AreNotBefore-found : (y : X) (p : X → Bool) (zs : List X) (w : X) (ws : List X) → AreNotBefore y zs → filter p zs ≡ w ∷ ws → lt w y ≡ false
+  AreNotBefore-found : (y : X) (p : X → Bool) (zs : List X) (w : X) (ws : List X) → AreNotBefore y zs → filter p zs ≡ w ∷ ws
+      → lt w y ≡ false
   AreNotBefore-found y p [] w ws all e = cc
   AreNotBefore-found y p (z ∷ zs) w ws all e = elim (cases_Bool (p z)) [
     | inl with ↦ let whole = sym (filter-kept p z zs with) ∙ e in let head : z ≡ w = cc in ap (λ v. lt v y) (sym head) ∙ all.0
@@ -117,7 +119,8 @@ module _ {X : Type 0} (lt : X → X → Bool) (o : IsStrictWeakOrder lt) where
       let tails : (x : X) → filter (ties lt x) ys ≡ filter (ties lt x) zs =
       λ x. elim (cases_Bool (ties lt x y)) [
         | inl with ↦
-            let both = sym (filter-kept (ties lt x) y ys with) ∙ same x ∙ filter-kept (ties lt x) z zs (ap (ties lt x) (sym head) ∙ with) in cc
+            let both =
+                sym (filter-kept (ties lt x) y ys with) ∙ same x ∙ filter-kept (ties lt x) z zs (ap (ties lt x) (sym head) ∙ with) in cc
         | inr without ↦
             sym (filter-dropped (ties lt x) y ys without) ∙ same x ∙ filter-dropped (ties lt x) z zs (ap (ties lt x) (sym head) ∙ without)
       ] in
@@ -154,16 +157,19 @@ module _ {X : Type 0} (lt : X → X → Bool) (o : IsStrictWeakOrder lt) where
   -- what is sorted and stable is the one order
   pub in_order-from_sort : (xs ys : List X) → IsSortedBy lt ys → IsStableBy lt xs ys → ys ≡ in_order lt xs
   in_order-from_sort xs ys sorted stable =
-      same_from_ties ys (in_order lt xs) (Rises-from_far ys (sorted_far lt o ys sorted)) (Rises-in_order xs) (λ x. stable x ∙ sym (filter-in_order x xs))
+      same_from_ties ys (in_order lt xs) (Rises-from_far ys (sorted_far lt o ys sorted)) (Rises-in_order xs)
+        (λ x. stable x ∙ sym (filter-in_order x xs))
 
 -- entries that are seen through a function are put in order by what is seen
-put_in-map : {X Y : Type 0} (f : X → Y) (lt : Y → Y → Bool) (x : X) (xs : List X) → map f (put_in (λ a b. lt (f a) (f b)) x xs) ≡ put_in lt (f x) (map f xs)
+put_in-map : {X Y : Type 0} (f : X → Y) (lt : Y → Y → Bool) (x : X) (xs : List X)
+    → map f (put_in (λ a b. lt (f a) (f b)) x xs) ≡ put_in lt (f x) (map f xs)
 put_in-map f lt x [] = refl
 put_in-map f lt x (y ∷ ys) = elim (cases_Bool (lt (f y) (f x))) [
   | inl first ↦ ap (map f) (cond-true _ _ _ first) ∙ ap (λ l. f y ∷ l) (put_in-map f lt x ys) ∙ sym (cond-true _ _ _ first)
   | inr stays ↦ ap (map f) (cond-false _ _ _ stays) ∙ sym (cond-false _ _ _ stays)
 ]
 
-pub in_order-map : {X Y : Type 0} (f : X → Y) (lt : Y → Y → Bool) (xs : List X) → map f (in_order (λ a b. lt (f a) (f b)) xs) ≡ in_order lt (map f xs)
+pub in_order-map : {X Y : Type 0} (f : X → Y) (lt : Y → Y → Bool) (xs : List X)
+    → map f (in_order (λ a b. lt (f a) (f b)) xs) ≡ in_order lt (map f xs)
 in_order-map f lt [] = refl
 in_order-map f lt (x ∷ xs) = put_in-map f lt x (in_order (λ a b. lt (f a) (f b)) xs) ∙ ap (put_in lt (f x)) (in_order-map f lt xs)

@@ -39,7 +39,8 @@ module _ {Reg : Type 0} (v : View Reg) where
       ap (λ r. ok_then r (λ it_holds. cond it_holds (Ok part) (part_if v (part + 1) (map condition_image cs)))) (holds_kept c)
       ∙ ap (λ q. ok_then (condition.holds v c) (λ it_holds. cond it_holds (Ok part) q)) (chosen_kept (part + 1) cs)
 
-  part_kept : (r : Result ℕ Refusal) → ok_then r (λ part. Ok (progress.Once part)) ≡ ok_then (ok_then r (λ part. Ok (Once part))) (λ p. Ok (progress_image p))
+  part_kept : (r : Result ℕ Refusal) → ok_then r (λ part. Ok (progress.Once part)) ≡ ok_then (ok_then r (λ part. Ok (Once part)))
+      (λ p. Ok (progress_image p))
   part_kept (Ok part) = refl
   part_kept (Err refusal) = refl
 
@@ -53,7 +54,8 @@ module _ {Reg : Type 0} (v : View Reg) where
       let none : Result (Option ℤ) Refusal = Ok None in
       ok_then r (λ ts. ok_then none (λ offset. ok_then none (λ limit. Ok (picked (unwrap_or offset (pos 0)) limit false ts))))
 
-  loop_kept : (r : Result (List Tree) Refusal) → ok_then (unpicked r) (λ ts. Ok (over_items ts)) ≡ ok_then (ok_then r (λ ts. Ok (library.over_items ts))) (λ p. Ok (progress_image p))
+  loop_kept : (r : Result (List Tree) Refusal) → ok_then (unpicked r) (λ ts. Ok (over_items ts)) ≡ ok_then
+      (ok_then r (λ ts. Ok (library.over_items ts))) (λ p. Ok (progress_image p))
   loop_kept (Ok ts) = ap (λ (p : StdProgressShape). Ok p) (items_kept ts)
   loop_kept (Err refusal) = refl
 
@@ -66,7 +68,8 @@ module _ {Reg : Type 0} (v : View Reg) where
 abbrev pub turn_image : {Reg : Type 0} → Answered TurnShape ProgressShape Reg → Answered TurnShape StdProgressShape Reg
 turn_image t = record { answer = t.answer; progress = progress_image t.progress; written = t.written }
 
-pub takes_kept : {Reg : Type 0} (held : MarksIn Reg) (b : BlockShape) (p : ProgressShape) (v : View Reg) → block_takes held (block_image b) (progress_image p) v ≡ turn_image (library.block_takes b p v)
+pub takes_kept : {Reg : Type 0} (held : MarksIn Reg) (b : BlockShape) (p : ProgressShape) (v : View Reg)
+    → block_takes held (block_image b) (progress_image p) v ≡ turn_image (library.block_takes b p v)
 takes_kept held (If cs) (Once part) v = refl
 takes_kept held (If cs) (Loop r) v = refl
 takes_kept held (For name s) (Once part) v = refl
@@ -78,7 +81,8 @@ pub counts_kept : (p : ProgressShape) → block_count (progress_image p) ≡ lib
 counts_kept (Once part) = refl
 counts_kept (Loop r) = refl
 
-pub catches_kept : (b : BlockShape) (p : ProgressShape) (text : List ℕ) → block_catches (block_image b) (progress_image p) text ≡ progress_image p
+pub catches_kept : (b : BlockShape) (p : ProgressShape) (text : List ℕ)
+    → block_catches (block_image b) (progress_image p) text ≡ progress_image p
 catches_kept (If cs) p text = refl
 catches_kept (For name s) p text = refl
 catches_kept (Raw text) p bytes = refl

@@ -33,18 +33,21 @@ module _ {P : Type 0} (name_of : P → List ℕ) (q : List ℕ) where
   found before [] = refl
   found before (p ∷ ps) =
       found (insert before (name_of p) p) ps
-      ∙ ap (λ o. last_named o ps) (get-insert nat_list_cmp_total before (name_of p) p q ∙ ap (λ b. cond b (Some p) (get before q)) (is_eq-slice_cmp q (name_of p)))
+      ∙ ap (λ o. last_named o ps) (get-insert nat_list_cmp_total before (name_of p) p q
+        ∙ ap (λ b. cond b (Some p) (get before q)) (is_eq-slice_cmp q (name_of p)))
 
   found_in : (ps : List P) → get (under_names name_of empty ps) q ≡ last_named None ps
   found_in ps = found empty ps ∙ ap (λ o. last_named o ps) (get-empty (slice_cmp nat_cmp) q)
 
-  named_or : (b : Bool) (p r : P) (before : Option P) → bytes_eq q (name_of p) ≡ b → ((s : P) → before ≡ Some s → q ≡ name_of s) → cond b (Some p) before ≡ Some r → q ≡ name_of r
+  named_or : (b : Bool) (p r : P) (before : Option P) → bytes_eq q (name_of p) ≡ b → ((s : P) → before ≡ Some s → q ≡ name_of s)
+      → cond b (Some p) before ≡ Some r → q ≡ name_of r
   named_or true p r before same named is =
       let at : p ≡ r = cc is in
       (bytes_eq-Decides q (name_of p)).0 same ∙ ap name_of at
   named_or false p r before same named is = named r is
 
-  named : (before : Option P) (ps : List P) (r : P) → ((s : P) → before ≡ Some s → q ≡ name_of s) → last_named before ps ≡ Some r → q ≡ name_of r
+  named : (before : Option P) (ps : List P) (r : P) → ((s : P) → before ≡ Some s → q ≡ name_of s) → last_named before ps ≡ Some r
+      → q ≡ name_of r
   named before [] r is_named is = is_named r is
   named before (p ∷ ps) r is_named is =
       named (cond (bytes_eq q (name_of p)) (Some p) before) ps r (λ s. named_or (bytes_eq q (name_of p)) p s before refl is_named) is
@@ -75,7 +78,8 @@ std_tags =
     ∷ tag.Decrement ∷ tag.Echo ∷ tag.Cycle ∷ []
 
 abbrev std_blocks : List StdBlocks
-std_blocks = block.If ∷ block.Unless ∷ block.Case ∷ block.For ∷ block.Tablerow ∷ block.Capture ∷ block.Ifchanged ∷ block.Comment ∷ block.Raw ∷ []
+std_blocks =
+    block.If ∷ block.Unless ∷ block.Case ∷ block.For ∷ block.Tablerow ∷ block.Capture ∷ block.Ifchanged ∷ block.Comment ∷ block.Raw ∷ []
 
 own_tag : (p : Tags) → last_named tag_name (library_tag.tag_name p) None std_tags ≡ Some (tag.Library p)
 own_tag Assign = refl

@@ -40,12 +40,14 @@ use Rattle.std_superset.proofs.TreeLemmas.{added, block_kept, parted as parts_ad
 -- a block of the library that is open: its plan, whether an `else` has closed it, the place of its name, the nodes before
 -- it and its parts
 pub data Opened (F : Type 0) : Type 0 where
-  opened : Planned → Bool → Place → List (NodeShape F (TagShape F) BlockShape) → List (List (NodeShape F (TagShape F) BlockShape)) → Opened F
+  opened : Planned → Bool → Place → List (NodeShape F (TagShape F) BlockShape) → List (List (NodeShape F (TagShape F) BlockShape))
+      → Opened F
 
 -- how far a text is read in both languages: among nodes, or inside the body of a `raw`
 pub data Reading (F : Type 0) : Type 0 where
   among_nodes : List (Opened F) → List (NodeShape F (TagShape F) BlockShape) → Reading F
-  inside_raw : List ℕ → Bool → Place → List (NodeShape F (TagShape F) BlockShape) → List (List (NodeShape F (TagShape F) BlockShape)) → List (Opened F) → ℕ → List ℕ → Reading F
+  inside_raw : List ℕ → Bool → Place → List (NodeShape F (TagShape F) BlockShape) → List (List (NodeShape F (TagShape F) BlockShape))
+      → List (Opened F) → ℕ → List ℕ → Reading F
 
 module _ {F : Type 0} where
   -- an open block in each language
@@ -73,10 +75,13 @@ module _ {F : Type 0} where
       inside (new_open (opened (raw_plan text) is_closed place before ps)) (map new_open os) level so_far
 
   -- where the library reads on, the standard language does too
-  abbrev pub Follows : Result (State F (TagShape F) PlanShape BlockShape) Refusal → Result (State F (StdTagShape F) StdPlanShape StdBlockShape) Refusal → Type 0
-  Follows old new = (s : State F (TagShape F) PlanShape BlockShape) → old ≡ Ok s → (next : Reading F) × (s ≡ old_state next) × (new ≡ Ok (new_state next))
+  abbrev pub Follows : Result (State F (TagShape F) PlanShape BlockShape) Refusal
+      → Result (State F (StdTagShape F) StdPlanShape StdBlockShape) Refusal → Type 0
+  Follows old new =
+      (s : State F (TagShape F) PlanShape BlockShape) → old ≡ Ok s → (next : Reading F) × (s ≡ old_state next) × (new ≡ Ok (new_state next))
 
-  alike : (old old' : Result (State F (TagShape F) PlanShape BlockShape) Refusal) (new new' : Result (State F (StdTagShape F) StdPlanShape StdBlockShape) Refusal)
+  alike : (old old' : Result (State F (TagShape F) PlanShape BlockShape) Refusal)
+      (new new' : Result (State F (StdTagShape F) StdPlanShape StdBlockShape) Refusal)
       → old ≡ old' → new ≡ new' → Follows old' new' → Follows old new
   alike old old' new new' same_old same_new follows s is =
       let f = follows s (sym same_old ∙ is) in
@@ -115,14 +120,20 @@ module _ {F : Type 0} (filters : Filters F) (source : List ℕ) (outside : ℕ) 
       (ok_then (closed source t (new_open o) (map node_image ns)) (λ after. Ok (among (map new_open os) after)))
   ends (opened p is_closed place before ps) os ns t s is =
       let last = block_with (node_of p) (ps ++ ns ∷ []) in
-      let whole = made_from (closed source t (old_open (opened p is_closed place before ps)) ns) (λ after. Ok (among (map old_open os) after)) s is in
-      let left = made_from (expect_nothing (handed source t)) (λ u. finished (old_open (opened p is_closed place before ps)) (parts (length ps + 1)) (ps ++ ns ∷ [])) whole.0 whole.1 in
+      let whole =
+          made_from (closed source t (old_open (opened p is_closed place before ps)) ns)
+          (λ after. Ok (among (map old_open os) after)) s is in
+      let left =
+          made_from (expect_nothing (handed source t)) (λ u. finished (old_open (opened p is_closed place before ps))
+          (parts (length ps + 1)) (ps ++ ns ∷ [])) whole.0 whole.1 in
       let nodes = same_value (before ++ last ∷ []) whole.0 left.2 in
-      let of_parts : List (List (NodeShape F (StdTagShape F) StdBlockShape)) → Result (State F (StdTagShape F) StdPlanShape StdBlockShape) Refusal
+      let of_parts : List (List (NodeShape F (StdTagShape F) StdBlockShape))
+          → Result (State F (StdTagShape F) StdPlanShape StdBlockShape) Refusal
       = λ qs. Ok (among (map new_open os) (map node_image before ++ block_with (block_image (node_of p)) qs ∷ [])) in (
         among_nodes os whole.0,
         sym (same_value (among (map old_open os) whole.0) s whole.2),
-        ap (λ r. ok_then (ok_then r (λ u. finished (new_open (opened p is_closed place before ps)) (parts (length (map (map node_image) ps) + 1)) (map (map node_image) ps ++ map node_image ns ∷ [])))
+        ap (λ r. ok_then (ok_then r (λ u. finished (new_open (opened p is_closed place before ps))
+          (parts (length (map (map node_image) ps) + 1)) (map (map node_image) ps ++ map node_image ns ∷ [])))
             (λ after. Ok (among (map new_open os) after))) left.1
             ∙ ap of_parts (parts_added ps ns)
             ∙ ap (λ n. Ok (among (map new_open os) (map node_image before ++ n ∷ []))) (sym (block_kept (node_of p) (ps ++ ns ∷ [])))
@@ -131,39 +142,58 @@ module _ {F : Type 0} (filters : Filters F) (source : List ℕ) (outside : ℕ) 
       )
 
   -- a part of a block ends
-  parts_on : (o : Opened F) (os : List (Opened F)) (ns : List (NodeShape F (TagShape F) BlockShape)) (t : token.Tag) → list_any (bytes_eq t.0) (old_open o).kind.means.dividers ≡ true
+  parts_on : (o : Opened F) (os : List (Opened F)) (ns : List (NodeShape F (TagShape F) BlockShape)) (t : token.Tag)
+      → list_any (bytes_eq t.0) (old_open o).kind.means.dividers ≡ true
       → Follows (ok_then (parted source t (old_open o) ns) (λ divided. Ok (among (divided ∷ map old_open os) [])))
       (ok_then (parted source t (new_open o) (map node_image ns)) (λ divided. Ok (among (divided ∷ map new_open os) [])))
   parts_on (opened p is_closed place before ps) os ns t is_divider s is =
       let at = place_in source (name_place t) in
       let old_with : Blocks → PlanShape → Open F (TagShape F) PlanShape BlockShape
       = λ k q. record { kind = library.whole_block k; place = place; plan = q; before = before; parts = ps ++ ns ∷ [] } in
-      let new_with : Blocks → StdPlanShape → List (List (NodeShape F (StdTagShape F) StdBlockShape)) → Open F (StdTagShape F) StdPlanShape StdBlockShape
-      = λ k q qs. record { kind = standard.whole_block (standard_block k); place = place; plan = q; before = map node_image before; parts = qs } in
-      let whole = made_from (parted source t (old_open (opened p is_closed place before ps)) ns) (λ divided. Ok (among (divided ∷ map old_open os) [])) s is in
-      let made = made_from (placed_at at (library.divided (plan p is_closed) t.0 (handed source t))) (λ q. Ok (old_with (kind_of p) q)) whole.0 whole.1 in
-      let law = divides p is_closed t.0 (handed source t) made.0 is_divider (unplaced at (library.divided (plan p is_closed) t.0 (handed source t)) made.0 made.1) in (
+      let new_with : Blocks → StdPlanShape → List (List (NodeShape F (StdTagShape F) StdBlockShape))
+          → Open F (StdTagShape F) StdPlanShape StdBlockShape
+      = λ k q qs. record { kind = standard.whole_block (standard_block k); place = place; plan = q; before = map node_image before;
+          parts = qs } in
+      let whole =
+          made_from (parted source t (old_open (opened p is_closed place before ps)) ns)
+          (λ divided. Ok (among (divided ∷ map old_open os) [])) s is in
+      let made =
+          made_from (placed_at at (library.divided (plan p is_closed) t.0 (handed source t)))
+          (λ q. Ok (old_with (kind_of p) q)) whole.0 whole.1 in
+      let law =
+          divides p is_closed t.0 (handed source t) made.0 is_divider (unplaced at
+          (library.divided (plan p is_closed) t.0 (handed source t)) made.0 made.1) in (
         among_nodes (opened law.0 law.1 place before (ps ++ ns ∷ []) ∷ os) [],
         sym (same_value (among (whole.0 ∷ map old_open os) []) s whole.2)
-            ∙ ap (λ d. among (d ∷ map old_open os) []) (sym (same_value (old_with (kind_of p) made.0) whole.0 made.2) ∙ ap (old_with (kind_of p)) law.3 ∙ ap (λ k. old_with k (plan law.0 law.1)) (sym law.2)),
-        ap (λ r. ok_then (ok_then (placed_at at r) (λ q. Ok (new_with (kind_of p) q (map (map node_image) ps ++ map node_image ns ∷ [])))) (λ divided. Ok (among (divided ∷ map new_open os) []))) law.4
+            ∙ ap (λ d. among (d ∷ map old_open os) []) (sym (same_value (old_with (kind_of p) made.0) whole.0 made.2)
+              ∙ ap (old_with (kind_of p)) law.3 ∙ ap (λ k. old_with k (plan law.0 law.1)) (sym law.2)),
+        ap (λ r. ok_then (ok_then (placed_at at r) (λ q. Ok (new_with (kind_of p) q (map (map node_image) ps ++ map node_image ns ∷ []))))
+          (λ divided. Ok (among (divided ∷ map new_open os) []))) law.4
             ∙ ap (λ qs. Ok (among (new_with (kind_of p) (plan_image law.0 law.1) qs ∷ map new_open os) [])) (parts_added ps ns)
-            ∙ ap (λ k. Ok (among (new_with k (plan_image law.0 law.1) (map (map node_image) (ps ++ ns ∷ [])) ∷ map new_open os) [])) (sym law.2),
+            ∙ ap (λ k. Ok (among (new_with k (plan_image law.0 law.1) (map (map node_image) (ps ++ ns ∷ [])) ∷ map new_open os) []))
+              (sym law.2),
       )
 
   -- a tag of the library is one of the standard language
-  reads_tag : (os : List (Opened F)) (ns : List (NodeShape F (TagShape F) BlockShape)) (t : token.Tag) (p : Tags) → get languages.the_tags t.0 ≡ Some p
-      → Follows (outer_read old source outside t (map old_open os) ns) (outer_read new source outside t (map new_open os) (map node_image ns))
+  reads_tag : (os : List (Opened F)) (ns : List (NodeShape F (TagShape F) BlockShape)) (t : token.Tag) (p : Tags)
+      → get languages.the_tags t.0 ≡ Some p
+      → Follows (outer_read old source outside t (map old_open os) ns)
+        (outer_read new source outside t (map new_open os) (map node_image ns))
   reads_tag os ns t p has s is =
       let at = place_in source (name_place t) in
       let old_read = tag_outer old source outside t (map old_open os) ns (old_tag p) (ap (option_map old_tag) has) in
-      let new_read = tag_outer new source outside t (map new_open os) (map node_image ns) (new_tag (tag.Library p)) (ap (option_map new_tag) (tag_kept t.0 p (tag_named t.0 p has))) in
-      let whole = made_from (tag_given source t filters (old_tag p)) (λ n. Ok (among (map old_open os) (ns ++ n ∷ []))) s (sym old_read ∙ is) in
+      let new_read =
+          tag_outer new source outside t (map new_open os) (map node_image ns) (new_tag (tag.Library p))
+          (ap (option_map new_tag) (tag_kept t.0 p (tag_named t.0 p has))) in
+      let whole =
+          made_from (tag_given source t filters (old_tag p)) (λ n. Ok (among (map old_open os) (ns ++ n ∷ []))) s (sym old_read ∙ is) in
       let made = made_from (placed_at at (old_tag p filters (handed source t))) (λ n. Ok (tag_node n)) whole.0 whole.1 in (
         among_nodes os (ns ++ tag_node made.0 ∷ []),
-        sym (same_value (among (map old_open os) (ns ++ whole.0 ∷ [])) s whole.2) ∙ ap (λ n. among (map old_open os) (ns ++ n ∷ [])) (sym (same_value (tag_node made.0) whole.0 made.2)),
+        sym (same_value (among (map old_open os) (ns ++ whole.0 ∷ [])) s whole.2)
+          ∙ ap (λ n. among (map old_open os) (ns ++ n ∷ [])) (sym (same_value (tag_node made.0) whole.0 made.2)),
         new_read
-            ∙ ap (λ r. ok_then (ok_then (placed_at at (ok_then r library_node)) (λ n. Ok (tag_node n))) (λ n. Ok (among (map new_open os) (map node_image ns ++ n ∷ []))))
+            ∙ ap (λ r. ok_then (ok_then (placed_at at (ok_then r library_node)) (λ n. Ok (tag_node n)))
+              (λ n. Ok (among (map new_open os) (map node_image ns ++ n ∷ []))))
             (unplaced at (old_tag p filters (handed source t)) made.0 made.1)
             ∙ ap (λ l. Ok (among (map new_open os) l)) (added ns (tag_node made.0)),
       )
@@ -181,14 +211,16 @@ module _ {F : Type 0} (filters : Filters F) (source : List ℕ) (outside : ℕ) 
   old_enters (raw_plan text) os ns place = refl
 
   new_enters : (p : Planned) (os : List (Opened F)) (ns : List (NodeShape F (TagShape F) BlockShape)) (place : Place)
-      → entered (standard.escapes_of (standard_block (kind_of p))) (new_open (opened p false place ns [])) (map new_open os) ≡ new_state (entry p os ns place)
+      → entered (standard.escapes_of (standard_block (kind_of p))) (new_open (opened p false place ns [])) (map new_open os) ≡ new_state
+        (entry p os ns place)
   new_enters (if_plan cs) os ns place = refl
   new_enters (for_plan name s) os ns place = refl
   new_enters (raw_plan text) os ns place = refl
 
   begins_block : (os : List (Opened F)) (ns : List (NodeShape F (TagShape F) BlockShape)) (t : token.Tag) (b : Blocks)
       → Follows (ok_then (begun source t filters (old_block b) ns) (λ o. Ok (entered (library.escapes_of b) o (map old_open os))))
-      (ok_then (begun source t filters (new_block (standard_block b)) (map node_image ns)) (λ o. Ok (entered (standard.escapes_of (standard_block b)) o (map new_open os))))
+      (ok_then (begun source t filters (new_block (standard_block b)) (map node_image ns))
+        (λ o. Ok (entered (standard.escapes_of (standard_block b)) o (map new_open os))))
   begins_block os ns t b s is =
       let at = place_in source (name_place t) in
       let old_with : Blocks → PlanShape → Open F (TagShape F) PlanShape BlockShape
@@ -200,45 +232,59 @@ module _ {F : Type 0} (filters : Filters F) (source : List ℕ) (outside : ℕ) 
       let law = begins b (handed source t) made.0 (unplaced at (library.begun b (handed source t)) made.0 made.1) in (
         entry law.0 os ns at,
         sym (same_value (entered (library.escapes_of b) whole.0 (map old_open os)) s whole.2)
-            ∙ ap (λ o. entered (library.escapes_of b) o (map old_open os)) (sym (same_value (old_with b made.0) whole.0 made.2) ∙ ap (old_with b) law.2)
+            ∙ ap (λ o. entered (library.escapes_of b) o (map old_open os))
+              (sym (same_value (old_with b made.0) whole.0 made.2) ∙ ap (old_with b) law.2)
             ∙ ap (λ k. entered (library.escapes_of k) (old_with k (plan law.0 false)) (map old_open os)) (sym law.1)
             ∙ old_enters law.0 os ns at,
-        ap (λ r. ok_then (ok_then (placed_at at r) (λ q. Ok (new_with b q))) (λ o. Ok (entered (standard.escapes_of (standard_block b)) o (map new_open os)))) law.3
-            ∙ ap (λ k. Ok (entered (standard.escapes_of (standard_block k)) (new_with k (plan_image law.0 false)) (map new_open os))) (sym law.1)
+        ap (λ r. ok_then (ok_then (placed_at at r) (λ q. Ok (new_with b q)))
+          (λ o. Ok (entered (standard.escapes_of (standard_block b)) o (map new_open os)))) law.3
+            ∙ ap (λ k. Ok (entered (standard.escapes_of (standard_block k)) (new_with k (plan_image law.0 false)) (map new_open os)))
+              (sym law.1)
             ∙ ap (λ (n : State F (StdTagShape F) StdPlanShape StdBlockShape). Ok n) (new_enters law.0 os ns at),
       )
 
-  with_room : (room : Bool) (x : Result (State F (TagShape F) PlanShape BlockShape) Refusal) (y : Result (State F (StdTagShape F) StdPlanShape StdBlockShape) Refusal) (refusal : Refusal)
+  with_room : (room : Bool) (x : Result (State F (TagShape F) PlanShape BlockShape) Refusal)
+      (y : Result (State F (StdTagShape F) StdPlanShape StdBlockShape) Refusal) (refusal : Refusal)
       → Follows x y → Follows (if room then x else Err refusal) (if room then y else Err refusal)
   with_room true x y refusal follows s is = follows s is
   with_room false x y refusal follows s is = cc is
 
   -- a block of the library is one of the standard language
-  reads_block : (os : List (Opened F)) (ns : List (NodeShape F (TagShape F) BlockShape)) (t : token.Tag) (b : Blocks) → get languages.the_tags t.0 ≡ None → get languages.the_blocks t.0 ≡ Some b
-      → Follows (outer_read old source outside t (map old_open os) ns) (outer_read new source outside t (map new_open os) (map node_image ns))
+  reads_block : (os : List (Opened F)) (ns : List (NodeShape F (TagShape F) BlockShape)) (t : token.Tag) (b : Blocks)
+      → get languages.the_tags t.0 ≡ None → get languages.the_blocks t.0 ≡ Some b
+      → Follows (outer_read old source outside t (map old_open os) ns)
+        (outer_read new source outside t (map new_open os) (map node_image ns))
   reads_block os ns t b none has =
       let named = block_named t.0 b has in
       let x = ok_then (begun source t filters (old_block b) ns) (λ o. Ok (entered (library.escapes_of b) o (map old_open os))) in
-      let y = ok_then (begun source t filters (new_block (standard_block b)) (map node_image ns)) (λ o. Ok (entered (standard.escapes_of (standard_block b)) o (map new_open os))) in
+      let y =
+          ok_then (begun source t filters (new_block (standard_block b)) (map node_image ns))
+          (λ o. Ok (entered (standard.escapes_of (standard_block b)) o (map new_open os))) in
       let refusal = refused_at source (codes "Nested too deep") (name_place t) in
       alike (outer_read old source outside t (map old_open os) ns) (if nat_lt (outside + length os) block_limit then x else Err refusal)
-      (outer_read new source outside t (map new_open os) (map node_image ns)) (if nat_lt (outside + length os) block_limit then y else Err refusal)
+      (outer_read new source outside t (map new_open os) (map node_image ns))
+        (if nat_lt (outside + length os) block_limit then y else Err refusal)
       (block_outer old source outside t (map old_open os) ns (old_block b) (ap (option_map old_tag) none) (ap (option_map old_block) has)
       ∙ ap (λ n. if nat_lt (outside + n) block_limit then x else Err refusal) (length-map os old_open))
-      (block_outer new source outside t (map new_open os) (map node_image ns) (new_block (standard_block b)) (ap (option_map new_tag) (tag_free t.0 b named)) (ap (option_map new_block) (own_block t.0 b named))
+      (block_outer new source outside t (map new_open os) (map node_image ns) (new_block (standard_block b))
+        (ap (option_map new_tag) (tag_free t.0 b named)) (ap (option_map new_block) (own_block t.0 b named))
       ∙ ap (λ n. if nat_lt (outside + n) block_limit then y else Err refusal) (length-map os new_open))
       (with_room (nat_lt (outside + length os) block_limit) x y refusal (begins_block os ns t b))
 
-  reads_named : (os : List (Opened F)) (ns : List (NodeShape F (TagShape F) BlockShape)) (t : token.Tag) (o : Option Tags) (q : Option Blocks) → get languages.the_tags t.0 ≡ o → get languages.the_blocks t.0 ≡ q
-      → Follows (outer_read old source outside t (map old_open os) ns) (outer_read new source outside t (map new_open os) (map node_image ns))
+  reads_named : (os : List (Opened F)) (ns : List (NodeShape F (TagShape F) BlockShape)) (t : token.Tag) (o : Option Tags)
+      (q : Option Blocks) → get languages.the_tags t.0 ≡ o → get languages.the_blocks t.0 ≡ q
+      → Follows (outer_read old source outside t (map old_open os) ns)
+        (outer_read new source outside t (map new_open os) (map node_image ns))
   reads_named os ns t (Some p) q has other s is = reads_tag os ns t p has s is
   reads_named os ns t None (Some b) none has s is = reads_block os ns t b none has s is
   reads_named os ns t None None none no_block s is =
-      let unknown = unknown_outer old source outside t (map old_open os) ns (ap (option_map old_tag) none) (ap (option_map old_block) no_block) in
+      let unknown =
+          unknown_outer old source outside t (map old_open os) ns (ap (option_map old_tag) none) (ap (option_map old_block) no_block) in
       cc (sym unknown ∙ is)
 
   reads_outer : (os : List (Opened F)) (ns : List (NodeShape F (TagShape F) BlockShape)) (t : token.Tag)
-      → Follows (outer_read old source outside t (map old_open os) ns) (outer_read new source outside t (map new_open os) (map node_image ns))
+      → Follows (outer_read old source outside t (map old_open os) ns)
+        (outer_read new source outside t (map new_open os) (map node_image ns))
   reads_outer os ns t = reads_named os ns t (get languages.the_tags t.0) (get languages.the_blocks t.0) refl refl
 
   same_end : (o : Opened F) → (new_open o).kind.names.end_name ≡ (old_open o).kind.names.end_name
@@ -251,67 +297,88 @@ module _ {F : Type 0} (filters : Filters F) (source : List ℕ) (outside : ℕ) 
   same_dividers (opened (for_plan name s) is_closed place before ps) = refl
   same_dividers (opened (raw_plan text) is_closed place before ps) = refl
 
-  reads_in : (o : Opened F) (os : List (Opened F)) (ns : List (NodeShape F (TagShape F) BlockShape)) (t : token.Tag) (is_end is_divider : Bool)
+  reads_in : (o : Opened F) (os : List (Opened F)) (ns : List (NodeShape F (TagShape F) BlockShape)) (t : token.Tag)
+      (is_end is_divider : Bool)
       → bytes_eq t.0 (old_open o).kind.names.end_name ≡ is_end → list_any (bytes_eq t.0) (old_open o).kind.means.dividers ≡ is_divider
-      → Follows (tag_read old source outside (map old_open (o ∷ os)) ns t) (tag_read new source outside (map new_open (o ∷ os)) (map node_image ns) t)
+      → Follows (tag_read old source outside (map old_open (o ∷ os)) ns t)
+        (tag_read new source outside (map new_open (o ∷ os)) (map node_image ns) t)
   reads_in o os ns t true is_divider ending dividing =
-      alike (tag_read old source outside (map old_open (o ∷ os)) ns t) (ok_then (closed source t (old_open o) ns) (λ after. Ok (among (map old_open os) after)))
-      (tag_read new source outside (map new_open (o ∷ os)) (map node_image ns) t) (ok_then (closed source t (new_open o) (map node_image ns)) (λ after. Ok (among (map new_open os) after)))
+      alike (tag_read old source outside (map old_open (o ∷ os)) ns t)
+        (ok_then (closed source t (old_open o) ns) (λ after. Ok (among (map old_open os) after)))
+      (tag_read new source outside (map new_open (o ∷ os)) (map node_image ns) t)
+        (ok_then (closed source t (new_open o) (map node_image ns)) (λ after. Ok (among (map new_open os) after)))
       (end_read old source outside t (old_open o) (map old_open os) ns ending)
       (end_read new source outside t (new_open o) (map new_open os) (map node_image ns) (ap (bytes_eq t.0) (same_end o) ∙ ending))
       (ends o os ns t)
   reads_in o os ns t false true ending dividing =
-      alike (tag_read old source outside (map old_open (o ∷ os)) ns t) (ok_then (parted source t (old_open o) ns) (λ divided. Ok (among (divided ∷ map old_open os) [])))
-      (tag_read new source outside (map new_open (o ∷ os)) (map node_image ns) t) (ok_then (parted source t (new_open o) (map node_image ns)) (λ divided. Ok (among (divided ∷ map new_open os) [])))
+      alike (tag_read old source outside (map old_open (o ∷ os)) ns t)
+        (ok_then (parted source t (old_open o) ns) (λ divided. Ok (among (divided ∷ map old_open os) [])))
+      (tag_read new source outside (map new_open (o ∷ os)) (map node_image ns) t)
+        (ok_then (parted source t (new_open o) (map node_image ns)) (λ divided. Ok (among (divided ∷ map new_open os) [])))
       (divider_read old source outside t (old_open o) (map old_open os) ns ending dividing)
-      (divider_read new source outside t (new_open o) (map new_open os) (map node_image ns) (ap (bytes_eq t.0) (same_end o) ∙ ending) (ap (list_any (bytes_eq t.0)) (same_dividers o) ∙ dividing))
+      (divider_read new source outside t (new_open o) (map new_open os) (map node_image ns) (ap (bytes_eq t.0) (same_end o) ∙ ending)
+        (ap (list_any (bytes_eq t.0)) (same_dividers o) ∙ dividing))
       (parts_on o os ns t dividing)
   reads_in o os ns t false false ending dividing =
       alike (tag_read old source outside (map old_open (o ∷ os)) ns t) (outer_read old source outside t (map old_open (o ∷ os)) ns)
-      (tag_read new source outside (map new_open (o ∷ os)) (map node_image ns) t) (outer_read new source outside t (map new_open (o ∷ os)) (map node_image ns))
+      (tag_read new source outside (map new_open (o ∷ os)) (map node_image ns) t)
+        (outer_read new source outside t (map new_open (o ∷ os)) (map node_image ns))
       (other_read old source outside t (old_open o) (map old_open os) ns ending dividing)
-      (other_read new source outside t (new_open o) (map new_open os) (map node_image ns) (ap (bytes_eq t.0) (same_end o) ∙ ending) (ap (list_any (bytes_eq t.0)) (same_dividers o) ∙ dividing))
+      (other_read new source outside t (new_open o) (map new_open os) (map node_image ns) (ap (bytes_eq t.0) (same_end o) ∙ ending)
+        (ap (list_any (bytes_eq t.0)) (same_dividers o) ∙ dividing))
       (reads_outer (o ∷ os) ns t)
 
   reads_any : (os : List (Opened F)) (ns : List (NodeShape F (TagShape F) BlockShape)) (t : token.Tag)
       → Follows (tag_read old source outside (map old_open os) ns t) (tag_read new source outside (map new_open os) (map node_image ns) t)
   reads_any [] ns t = reads_outer [] ns t
-  reads_any (o ∷ os) ns t = reads_in o os ns t (bytes_eq t.0 (old_open o).kind.names.end_name) (list_any (bytes_eq t.0) (old_open o).kind.means.dividers) refl refl
+  reads_any (o ∷ os) ns t =
+      reads_in o os ns t (bytes_eq t.0 (old_open o).kind.names.end_name)
+      (list_any (bytes_eq t.0) (old_open o).kind.means.dividers) refl refl
 
   reads_element : (os : List (Opened F)) (ns : List (NodeShape F (TagShape F) BlockShape)) (e : Element) (following : List ℕ)
-      → Follows (element_read old source outside (map old_open os) ns e following) (element_read new source outside (map new_open os) (map node_image ns) e following)
+      → Follows (element_read old source outside (map old_open os) ns e following)
+        (element_read new source outside (map new_open os) (map node_image ns) e following)
   reads_element os ns (raw text) following s is =
-      (among_nodes os (ns ++ text_node text ∷ []), sym (same_value (among (map old_open os) (ns ++ text_node text ∷ [])) s is), ap (λ l. Ok (among (map new_open os) l)) (added ns (text_node text)))
+      (among_nodes os (ns ++ text_node text ∷ []), sym (same_value (among (map old_open os) (ns ++ text_node text ∷ [])) s is),
+        ap (λ l. Ok (among (map new_open os) l)) (added ns (text_node text)))
   reads_element os ns (expression c text) following s is =
-      let fine = made_from (checked source (chain_fault c)) (λ u. node_added (map old_open os) ns (expression_read filters source c)) s is in
+      let fine =
+          made_from (checked source (chain_fault c)) (λ u. node_added (map old_open os) ns (expression_read filters source c)) s is in
       let whole = made_from (expression_read filters source c) (λ n. Ok (among (map old_open os) (ns ++ n ∷ []))) s fine.2 in
       let made = made_from (chain_read filters source c) (λ chain. Ok (chain_node chain)) whole.0 whole.1 in (
         among_nodes os (ns ++ chain_node made.0 ∷ []),
-        sym (same_value (among (map old_open os) (ns ++ whole.0 ∷ [])) s whole.2) ∙ ap (λ n. among (map old_open os) (ns ++ n ∷ [])) (sym (same_value (chain_node made.0) whole.0 made.2)),
+        sym (same_value (among (map old_open os) (ns ++ whole.0 ∷ [])) s whole.2)
+          ∙ ap (λ n. among (map old_open os) (ns ++ n ∷ [])) (sym (same_value (chain_node made.0) whole.0 made.2)),
         ap (λ r. ok_then r (λ u. node_added (map new_open os) (map node_image ns) (expression_read filters source c))) fine.1
-            ∙ ap (λ r. ok_then (ok_then r (λ chain. Ok (chain_node chain))) (λ n. Ok (among (map new_open os) (map node_image ns ++ n ∷ [])))) made.1
+            ∙ ap (λ r. ok_then (ok_then r (λ chain. Ok (chain_node chain)))
+              (λ n. Ok (among (map new_open os) (map node_image ns ++ n ∷ [])))) made.1
             ∙ ap (λ l. Ok (among (map new_open os) l)) (added ns (chain_node made.0)),
       )
   reads_element os ns (tag_element t text) following s is =
       let fine = made_from (checked source (tag_fault t)) (λ u. tag_read old source outside (map old_open os) ns t) s is in
       let follows = reads_any os ns t s fine.2 in
-      (follows.0, follows.1, ap (λ r. ok_then r (λ u. tag_read new source outside (map new_open os) (map node_image ns) t)) fine.1 ∙ follows.2)
+      (follows.0, follows.1, ap (λ r. ok_then r (λ u. tag_read new source outside (map new_open os) (map node_image ns) t)) fine.1
+        ∙ follows.2)
   reads_element os ns (invalid text) following s is = cc is
 
-  reads_raw : (text : List ℕ) (is_closed : Bool) (place : Place) (before : List (NodeShape F (TagShape F) BlockShape)) (ps : List (List (NodeShape F (TagShape F) BlockShape))) (os : List (Opened F)) (so_far content : List ℕ) (level : Option ℕ)
+  reads_raw : (text : List ℕ) (is_closed : Bool) (place : Place) (before : List (NodeShape F (TagShape F) BlockShape))
+      (ps : List (List (NodeShape F (TagShape F) BlockShape))) (os : List (Opened F)) (so_far content : List ℕ) (level : Option ℕ)
       → Follows (escape_read (old_open (opened (raw_plan text) is_closed place before ps)) (map old_open os) so_far content level)
       (escape_read (new_open (opened (raw_plan text) is_closed place before ps)) (map new_open os) so_far content level)
   reads_raw text is_closed place before ps os so_far content None s is =
       let last : NodeShape F (TagShape F) BlockShape = block_with (node_of (raw_plan so_far)) [] in
-      (among_nodes os (before ++ last ∷ []), sym (same_value (among (map old_open os) (before ++ last ∷ [])) s is), ap (λ l. Ok (among (map new_open os) l)) (added before last))
+      (among_nodes os (before ++ last ∷ []), sym (same_value (among (map old_open os) (before ++ last ∷ [])) s is),
+        ap (λ l. Ok (among (map new_open os) l)) (added before last))
   reads_raw text is_closed place before ps os so_far content (Some level) s is = (
     inside_raw text is_closed place before ps os level (so_far ++ content),
-    sym (same_value (inside (old_open (opened (raw_plan text) is_closed place before ps)) (map old_open os) level (so_far ++ content)) s is),
+    sym (same_value (inside (old_open (opened (raw_plan text) is_closed place before ps)) (map old_open os) level (so_far ++ content)) s
+      is),
     refl,
   )
 
   -- one element more is read
-  pub reads_step : (r : Reading F) (e : Element) (following : List ℕ) → Follows (step old source outside (old_state r) e following) (step new source outside (new_state r) e following)
+  pub reads_step : (r : Reading F) (e : Element) (following : List ℕ)
+      → Follows (step old source outside (old_state r) e following) (step new source outside (new_state r) e following)
   reads_step (among_nodes os ns) e following = reads_element os ns e following
   reads_step (inside_raw text is_closed place before ps os level so_far) e following =
       let kind = (old_open (opened (raw_plan text) is_closed place before ps)).kind in

@@ -40,14 +40,16 @@ use Rattle.std_superset.specs.meaning.Images.{block_image, condition_image}
 use Rattle.std_superset.proofs.NameLemmas.{standard_block}
 
 -- what a result that is passed on was made from
-pub made_from : {A B : Type 0} (r : Result A Refusal) (k : A → Result B Refusal) (y : B) → ok_then r k ≡ Ok y → (x : A) × (r ≡ Ok x) × (k x ≡ Ok y)
+pub made_from : {A B : Type 0} (r : Result A Refusal) (k : A → Result B Refusal) (y : B) → ok_then r k ≡ Ok y → (x : A) × (r ≡ Ok x)
+    × (k x ≡ Ok y)
 made_from (Ok x) k y is = (x, refl, is)
 made_from (Err refusal) k y is = cc is
 
 pub same_value : {A : Type 0} (x y : A) → let r : Result A Refusal = Ok x in r ≡ Ok y → x ≡ y
 same_value x y is = cc is
 
-no_comparison : (text : List ℕ) (op : Comparison) (b : Bool) → comparison_of text ≡ Some op → bytes_eq text (codes "contains") ≡ b → b ≡ false
+no_comparison : (text : List ℕ) (op : Comparison) (b : Bool) → comparison_of text ≡ Some op → bytes_eq text (codes "contains") ≡ b
+    → b ≡ false
 no_comparison text op false is same = refl
 no_comparison text op true is same =
     let none : comparison_of text ≡ None = ap comparison_of ((bytes_eq-Decides text (codes "contains")).0 same) in
@@ -76,11 +78,13 @@ abbrev compared : ExpressionShape → Comparison → ExpressionShape × Tokens �
 compared e op value = alone (Compares e op value.0) value.1
 
 no_more : (e x : ExpressionShape) (op : Comparison) (ts : List Token) (place : Place) (c : ConditionShape)
-    → alone (Compares e op x) (record { following = place; left = ts }) ≡ Ok c → after_test (test.Passes e (operator.Compares op) x) ts ≡ Ok (condition_image c)
+    → alone (Compares e op x) (record { following = place; left = ts }) ≡ Ok c
+      → after_test (test.Passes e (operator.Compares op) x) ts ≡ Ok (condition_image c)
 no_more e x op [] place c is = ap (λ d. Ok (condition_image d)) (same_value (Compares e op x) c is)
 no_more e x op (t ∷ ts) place c is = cc is
 
-second_of : (e : ExpressionShape) (op : Comparison) (t : Token) (more : List Token) (r : Result ExpressionShape Refusal) (c : ConditionShape)
+second_of : (e : ExpressionShape) (op : Comparison) (t : Token) (more : List Token) (r : Result ExpressionShape Refusal)
+    (c : ConditionShape)
     → ok_then (ok_then r (valued t more)) (compared e op) ≡ Ok c
     → ok_then r (λ x. after_test (test.Passes e (operator.Compares op) x) more) ≡ Ok (condition_image c)
 second_of e op t more (Ok x) c is = no_more e x op more t.following c is
@@ -96,11 +100,14 @@ given_back : (t : Token) (o : Option Comparison) (op : Comparison) → or_unexpe
 given_back t None op is = cc is
 given_back t (Some p) op is = ap Some (same_value p op is)
 
-after_first : (e : ExpressionShape) (ts : List Token) (c : ConditionShape) → asked.following_value e ts ≡ Ok c → after_value e ts ≡ Ok (condition_image c)
+after_first : (e : ExpressionShape) (ts : List Token) (c : ConditionShape) → asked.following_value e ts ≡ Ok c
+    → after_value e ts ≡ Ok (condition_image c)
 after_first e [] c is = ap (λ d. Ok (condition_image d)) (same_value (Holds e) c is)
 after_first e (t ∷ more) c is =
-    let read = made_from (or_unexpected t (comparison_of t.text)) (λ op. ok_then (next_as expect_value (tokens t more)) (compared e op)) c is in
-    ap (λ o. elim o as (λ _. Result standard.ConditionShape Refusal) [ None ↦ joined_by (test.Holds e) t (from_value t.following more) | Some op ↦ from_second e op t.following more ])
+    let read =
+        made_from (or_unexpected t (comparison_of t.text)) (λ op. ok_then (next_as expect_value (tokens t more)) (compared e op)) c is in
+    ap (λ o. elim o as (λ _. Result standard.ConditionShape Refusal)
+      [ None ↦ joined_by (test.Holds e) t (from_value t.following more) | Some op ↦ from_second e op t.following more ])
     (same_operator t.text read.0 (given_back t (comparison_of t.text) read.0 read.1))
     ∙ second e read.0 t.following more c read.2
 
@@ -111,7 +118,8 @@ first_of t more (Ok e) c is = after_first e more c is
 first_of t more (Err refusal) c is = cc is
 
 from_first : (place : Place) (ts : List Token) (c : ConditionShape)
-    → ok_then (next_as expect_value (record { following = place; left = ts })) after_value_asked ≡ Ok c → from_value place ts ≡ Ok (condition_image c)
+    → ok_then (next_as expect_value (record { following = place; left = ts })) after_value_asked ≡ Ok c
+      → from_value place ts ≡ Ok (condition_image c)
 from_first place [] c is = cc is
 from_first place (t ∷ more) c is = first_of t more (or_unexpected t (expect_value t)) c is
 
@@ -142,7 +150,8 @@ abbrev pub plan_image : Planned → Bool → StdPlanShape
 plan_image p is_closed = record { node = block_image (node_of p); is_closed = is_closed }
 
 abbrev pub Begins : Blocks → Tokens → PlanShape → Type 0
-Begins b ts p = (planned : Planned) × (kind_of planned ≡ b) × (p ≡ plan planned false) × (begun (standard_block b) ts ≡ Ok (plan_image planned false))
+Begins b ts p =
+    (planned : Planned) × (kind_of planned ≡ b) × (p ≡ plan planned false) × (begun (standard_block b) ts ≡ Ok (plan_image planned false))
 
 -- a standard plan that no `else` has closed
 abbrev unclosed : StdBlockShape → Result StdPlanShape Refusal
@@ -154,7 +163,8 @@ one_condition c = unclosed (shape.If (c ∷ []))
 begins_if : (ts : Tokens) (p : PlanShape) → library.begun If ts ≡ Ok p → Begins If ts p
 begins_if ts p is =
     let read = made_from (asked.condition_given ts) (λ c. Ok (library.planned (node.If (c ∷ [])))) p is in
-    (if_plan (read.0 ∷ []), refl, sym (same_value (library.planned (node.If (read.0 ∷ []))) p read.2), ap (λ r. ok_then r one_condition) (condition_kept ts read.0 read.1))
+    (if_plan (read.0 ∷ []), refl, sym (same_value (library.planned (node.If (read.0 ∷ []))) p read.2),
+      ap (λ r. ok_then r one_condition) (condition_kept ts read.0 read.1))
 
 -- the parts of a loop without options
 abbrev from_options : List ℕ → SeriesShape → OptionsShape → Result LoopShape Refusal
@@ -182,7 +192,8 @@ old_word name word = ok_then (next_as expect_series word.1) (old_series name)
 abbrev old_name : List ℕ × Tokens → Result PlanShape Refusal
 old_name name = ok_then (next_as (expect_str (codes "in")) name.1) (old_word name.0)
 
-options_none : (x p : PlanShape) (ts : List Token) (place : Place) → alone x (record { following = place; left = ts }) ≡ Ok p → (options_from loop.For no_options ts ≡ Ok no_options) × (x ≡ p)
+options_none : (x p : PlanShape) (ts : List Token) (place : Place) → alone x (record { following = place; left = ts }) ≡ Ok p
+    → (options_from loop.For no_options ts ≡ Ok no_options) × (x ≡ p)
 options_none x p [] place is = (refl, same_value x p is)
 options_none x p (t ∷ ts) place is = cc is
 
@@ -204,7 +215,8 @@ begins_for ts p is =
 begins_raw : (ts : Tokens) (p : PlanShape) → library.begun Raw ts ≡ Ok p → Begins Raw ts p
 begins_raw ts p is =
     let left = made_from (none_left ts.left) (λ u. Ok (library.planned (node.Raw []))) p is in
-    (raw_plan [], refl, sym (same_value (library.planned (node.Raw [])) p left.2), ap (λ r. ok_then r (λ u. unclosed (shape.Raw []))) left.1)
+    (raw_plan [], refl, sym (same_value (library.planned (node.Raw [])) p left.2),
+      ap (λ r. ok_then r (λ u. unclosed (shape.Raw []))) left.1)
 
 -- a block of the library begins as its image
 pub begins : (b : Blocks) (ts : Tokens) (p : PlanShape) → library.begun b ts ≡ Ok p → Begins b ts p
@@ -214,14 +226,16 @@ begins Raw ts p is = begins_raw ts p is
 
 abbrev pub Divides : Planned → Bool → List ℕ → Tokens → PlanShape → Type 0
 Divides planned is_closed name ts p =
-    (next : Planned) × (closed : Bool) × (kind_of next ≡ kind_of planned) × (p ≡ plan next closed) × (divided (plan_image planned is_closed) name ts ≡ Ok (plan_image next closed))
+    (next : Planned) × (closed : Bool) × (kind_of next ≡ kind_of planned) × (p ≡ plan next closed)
+      × (divided (plan_image planned is_closed) name ts ≡ Ok (plan_image next closed))
 
 -- what an image makes of a divider, by whether that is `else`
 abbrev by_name : StdBlockShape → Tokens → Bool → Result StdPlanShape Refusal
 by_name n ts is_else = cond is_else (alone (record { node = n; is_closed = true }) ts) (ok_then (node_divided n ts) unclosed)
 
 -- an `else` closes a plan
-closes : (planned : Planned) (name : List ℕ) (ts : Tokens) (p : PlanShape) → bytes_eq name (codes "else") ≡ true → alone (plan planned true) ts ≡ Ok p → Divides planned false name ts p
+closes : (planned : Planned) (name : List ℕ) (ts : Tokens) (p : PlanShape) → bytes_eq name (codes "else") ≡ true
+    → alone (plan planned true) ts ≡ Ok p → Divides planned false name ts p
 closes planned name ts p same is =
     let left = made_from (none_left ts.left) (λ u. Ok (plan planned true)) p is in (
       planned,
@@ -240,8 +254,10 @@ divided_if cs = Ok (shape.If cs)
 abbrev old_condition : List ConditionShape → ConditionShape → Result PlanShape Refusal
 old_condition cs c = Ok (plan (if_plan (cs ++ c ∷ [])) false)
 
-if_divides : (cs : List ConditionShape) (is_else : Bool) (name : List ℕ) (ts : Tokens) (p : PlanShape) → bytes_eq name (codes "else") ≡ is_else
-    → cond is_else (alone (plan (if_plan cs) true) ts) (ok_then (asked.condition_given ts) (old_condition cs)) ≡ Ok p → Divides (if_plan cs) false name ts p
+if_divides : (cs : List ConditionShape) (is_else : Bool) (name : List ℕ) (ts : Tokens) (p : PlanShape)
+    → bytes_eq name (codes "else") ≡ is_else
+    → cond is_else (alone (plan (if_plan cs) true) ts) (ok_then (asked.condition_given ts) (old_condition cs)) ≡ Ok p
+      → Divides (if_plan cs) false name ts p
 if_divides cs true name ts p same is = closes (if_plan cs) name ts p same is
 if_divides cs false name ts p same is =
     let read = made_from (asked.condition_given ts) (old_condition cs) p is in (
@@ -250,24 +266,29 @@ if_divides cs false name ts p same is =
       refl,
       sym (same_value (plan (if_plan (cs ++ read.0 ∷ [])) false) p read.2),
       ap (by_name (shape.If (map condition_image cs)) ts) same
-          ∙ ap (λ r. ok_then (ok_then (ok_then r (one_more (map condition_image cs))) divided_if) unclosed) (condition_kept ts read.0 read.1)
+          ∙ ap (λ r. ok_then (ok_then (ok_then r (one_more (map condition_image cs))) divided_if) unclosed)
+            (condition_kept ts read.0 read.1)
           ∙ ap (λ ds. unclosed (shape.If ds)) (sym (map-append condition_image cs (read.0 ∷ []))),
     )
 
 abbrev old_other : List ℕ → SeriesShape → ConditionShape → Result PlanShape Refusal
 old_other name_of s c = Ok (plan (for_plan name_of s) false)
 
-for_divides : (name_of : List ℕ) (s : SeriesShape) (is_else : Bool) (name : List ℕ) (ts : Tokens) (p : PlanShape) → bytes_eq name (codes "else") ≡ is_else → list_any (bytes_eq name) (codes "else" ∷ []) ≡ true
-    → cond is_else (alone (plan (for_plan name_of s) true) ts) (ok_then (asked.condition_given ts) (old_other name_of s)) ≡ Ok p → Divides (for_plan name_of s) false name ts p
+for_divides : (name_of : List ℕ) (s : SeriesShape) (is_else : Bool) (name : List ℕ) (ts : Tokens) (p : PlanShape)
+    → bytes_eq name (codes "else") ≡ is_else → list_any (bytes_eq name) (codes "else" ∷ []) ≡ true
+    → cond is_else (alone (plan (for_plan name_of s) true) ts) (ok_then (asked.condition_given ts) (old_other name_of s)) ≡ Ok p
+      → Divides (for_plan name_of s) false name ts p
 for_divides name_of s true name ts p same is_divider is = closes (for_plan name_of s) name ts p same is
 for_divides name_of s false name ts p same is_divider is =
     let differs : false ≡ true = sym (ap (λ b. b || false) same) ∙ is_divider in
     cc differs
 
 -- a divider of a block of the library divides its image
-pub divides : (planned : Planned) (is_closed : Bool) (name : List ℕ) (ts : Tokens) (p : PlanShape) → list_any (bytes_eq name) (library.dividers_of (kind_of planned)) ≡ true
+pub divides : (planned : Planned) (is_closed : Bool) (name : List ℕ) (ts : Tokens) (p : PlanShape)
+    → list_any (bytes_eq name) (library.dividers_of (kind_of planned)) ≡ true
     → library.divided (plan planned is_closed) name ts ≡ Ok p → Divides planned is_closed name ts p
 divides planned true name ts p is_divider is = cc is
 divides (if_plan cs) false name ts p is_divider is = if_divides cs (bytes_eq name (codes "else")) name ts p refl is
-divides (for_plan name_of s) false name ts p is_divider is = for_divides name_of s (bytes_eq name (codes "else")) name ts p refl is_divider is
+divides (for_plan name_of s) false name ts p is_divider is =
+    for_divides name_of s (bytes_eq name (codes "else")) name ts p refl is_divider is
 divides (raw_plan text) false name ts p is_divider is = cc is_divider

@@ -12,18 +12,24 @@ module _ {F : Type 0} where
   nodes_kept [] = refl
   nodes_kept (n ∷ ns) = ap (node (node_image n)) (nodes_kept ns)
 
-  pub parts_kept : (ps : List (List (NodeShape F (TagShape F) BlockShape))) → parts_image (parts_from (map nodes_from ps)) ≡ parts_from (map nodes_from (map (map node_image) ps))
+  pub parts_kept : (ps : List (List (NodeShape F (TagShape F) BlockShape)))
+      → parts_image (parts_from (map nodes_from ps)) ≡ parts_from (map nodes_from (map (map node_image) ps))
   parts_kept [] = refl
-  parts_kept (ns ∷ ps) = ap (λ m. part m (parts_image (parts_from (map nodes_from ps)))) (nodes_kept ns) ∙ ap (part (nodes_from (map node_image ns))) (parts_kept ps)
+  parts_kept (ns ∷ ps) =
+      ap (λ m. part m (parts_image (parts_from (map nodes_from ps)))) (nodes_kept ns)
+      ∙ ap (part (nodes_from (map node_image ns))) (parts_kept ps)
 
   -- the image of a block with these parts
-  pub block_kept : (b : BlockShape) (ps : List (List (NodeShape F (TagShape F) BlockShape))) → node_image (block_with b ps) ≡ block_with (block_image b) (map (map node_image) ps)
+  pub block_kept : (b : BlockShape) (ps : List (List (NodeShape F (TagShape F) BlockShape)))
+      → node_image (block_with b ps) ≡ block_with (block_image b) (map (map node_image) ps)
   block_kept b ps = ap (block_node (block_image b)) (parts_kept ps)
 
   -- the image of a list with one node more
-  pub added : (ns : List (NodeShape F (TagShape F) BlockShape)) (n : NodeShape F (TagShape F) BlockShape) → map node_image ns ++ node_image n ∷ [] ≡ map node_image (ns ++ n ∷ [])
+  pub added : (ns : List (NodeShape F (TagShape F) BlockShape)) (n : NodeShape F (TagShape F) BlockShape) → map node_image ns
+      ++ node_image n ∷ [] ≡ map node_image (ns ++ n ∷ [])
   added ns n = sym (map-append node_image ns (n ∷ []))
 
   -- the images of parts with one part more
-  pub parted : (ps : List (List (NodeShape F (TagShape F) BlockShape))) (ns : List (NodeShape F (TagShape F) BlockShape)) → map (map node_image) ps ++ map node_image ns ∷ [] ≡ map (map node_image) (ps ++ ns ∷ [])
+  pub parted : (ps : List (List (NodeShape F (TagShape F) BlockShape))) (ns : List (NodeShape F (TagShape F) BlockShape))
+      → map (map node_image) ps ++ map node_image ns ∷ [] ≡ map (map node_image) (ps ++ ns ∷ [])
   parted ps ns = sym (map-append (map node_image) ps (ns ∷ []))

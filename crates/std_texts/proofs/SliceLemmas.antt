@@ -18,7 +18,8 @@ mapped_at None n xs = refl
 mapped_at (Some start) n xs = ap (take n) (drop-map view start xs) ∙ take-map view n (drop start xs)
 
 -- the part of the items is the items of the part
-pub items_sliced : (start count : ℤ) (xs : List Value) → items_of (sliced start count (own_items (items_view xs))) ≡ items_view (sliced start count xs)
+pub items_sliced : (start count : ℤ) (xs : List Value) → items_of (sliced start count (own_items (items_view xs))) ≡ items_view
+    (sliced start count xs)
 items_sliced start count xs =
     ap (λ ts. items_of (sliced start count ts)) (own_items_of (map view xs))
     ∙ ap (λ n. items_of (sliced_at (start_in n start) (count_in count) (map view xs))) (length-map xs view)

@@ -15,7 +15,8 @@ module _ {Reg : Type 0} where
   can_be_popped (isolated_frame names name) v rs = omega arith
   can_be_popped global_frame v rs = omega arith
 
-  pub as_before : (frame : FrameShape) (v w x : View Reg) (rs rs1 rs2 rs3 : List (Restore Reg)) → rs1 ≡ restored_by frame v ∷ rs → rs2 ≡ rs1 → EndsFirst rs2 w rs3 x → rs3 ≡ rs
+  pub as_before : (frame : FrameShape) (v w x : View Reg) (rs rs1 rs2 rs3 : List (Restore Reg)) → rs1 ≡ restored_by frame v ∷ rs → rs2 ≡ rs1
+      → EndsFirst rs2 w rs3 x → rs3 ≡ rs
   as_before frame v w x rs rs1 rs2 rs3 i j k = sym (later_are (restored_by frame v) k.restores rs rs3 (sym i ∙ sym j ∙ k.was_first))
 
 pub ruleset pushed = (can_be_popped, as_before)

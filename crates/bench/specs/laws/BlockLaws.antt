@@ -17,12 +17,14 @@ use Rattle.bench.specs.meaning.Blocks.{block_answers, block_nodes, block_takes, 
 
 module _ {Reg : Type 0} where
   -- a turn returns the same, whatever is hidden
-  same_answer : (n : BlockShape) (stage : Stage) (g : Names) (v : View Reg) → block_answers n stage (hiding g v) ≡ block_answers n stage (hiding empty v)
+  same_answer : (n : BlockShape) (stage : Stage) (g : Names) (v : View Reg)
+      → block_answers n stage (hiding g v) ≡ block_answers n stage (hiding empty v)
   same_answer shape.Box stage g v = refl
   same_answer shape.Sbox stage g v = refl
   same_answer shape.Swap stage g v = refl
   same_answer (shape.Raw slice) stage g v = refl
-  same_answer (shape.With name e) First g v = ap (λ r. ok_then (bound name r) (λ frame. Ok (body_turn 0 frame None))) (evaluate_hidden g v e)
+  same_answer (shape.With name e) First g v =
+      ap (λ r. ok_then (bound name r) (λ frame. Ok (body_turn 0 frame None))) (evaluate_hidden g v e)
   same_answer (shape.With name e) Second g v = refl
   same_answer (shape.With name e) Third g v = refl
   same_answer (shape.With name e) Over g v = refl

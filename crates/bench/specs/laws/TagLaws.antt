@@ -19,11 +19,15 @@ use Rattle.bench.specs.meaning.Tags.{assigned, tag_nodes, tag_takes}
 
 module _ {Reg : Type 0} where
   -- a result that writes nothing hides globals
-  pub unchanged_hides : {A P : Type 0} (answer : Result A Refusal) (p : P) (g : Names) (v : View Reg) → answers answer p (hiding g v) ≡ overlaid g (answers answer p (hiding empty v))
+  pub unchanged_hides : {A P : Type 0} (answer : Result A Refusal) (p : P) (g : Names) (v : View Reg)
+      → answers answer p (hiding g v) ≡ overlaid g (answers answer p (hiding empty v))
   unchanged_hides answer p g v = answers_hide answer p (λ w. w) (λ m w. refl) g v
 
-  set_hides : (name : List ℕ) (r : Result Tree Refusal) (p : ℕ) (g : Names) (v : View Reg) → turned (λ _. end_turn) p (assigned name r (hiding g v)) ≡ overlaid g (turned (λ _. end_turn) p (assigned name r (hiding empty v)))
-  set_hides name (Ok t) p g v = ap (λ m. record (turned (λ _. end_turn) p (assigned name (Ok t) (hiding g v))) { written = record (written_of (hiding g v)) { globals = Some m } })
+  set_hides : (name : List ℕ) (r : Result Tree Refusal) (p : ℕ) (g : Names) (v : View Reg)
+      → turned (λ _. end_turn) p (assigned name r (hiding g v)) ≡ overlaid g (turned (λ _. end_turn) p (assigned name r (hiding empty v)))
+  set_hides name (Ok t) p g v =
+      ap (λ m. record (turned (λ _. end_turn) p (assigned name (Ok t) (hiding g v)))
+      { written = record (written_of (hiding g v)) { globals = Some m } })
       (ap (λ m. insert m name t) (sym (empty-over g)) ∙ sym (insert-over empty g name t))
   set_hides name (Err refusal) p g v = unchanged_hides (Err refusal) p g v
 
@@ -31,9 +35,13 @@ module _ {Reg : Type 0} where
   tag_start_hides n g v = unchanged_hides (Ok 1) tt g v
 
   tag_turn_hides : (n : TagShape) (p : ℕ) → HidesGlobals {Reg = Reg} (tag_takes n p)
-  tag_turn_hides (shape.Set name e) p g v = ap (λ r. turned (λ _. end_turn) p (assigned name r (hiding g v))) (evaluate_hidden g v e) ∙ set_hides name (evaluate (hiding empty v) e) p g v
+  tag_turn_hides (shape.Set name e) p g v =
+      ap (λ r. turned (λ _. end_turn) p (assigned name r (hiding g v))) (evaluate_hidden g v e)
+      ∙ set_hides name (evaluate (hiding empty v) e) p g v
   tag_turn_hides (shape.Inc name) p g v = unchanged_hides (Ok (partial_turn name no_frame None)) p g v
-  tag_turn_hides shape.Brk p g v = ap (λ m. record (tag_takes shape.Brk p (hiding g v)) { written = record (tag_takes shape.Brk p (hiding g v)).written { globals = Some m } }) (sym (empty-over g))
+  tag_turn_hides shape.Brk p g v =
+      ap (λ m. record (tag_takes shape.Brk p (hiding g v)) { written = record (tag_takes shape.Brk p (hiding g v)).written
+      { globals = Some m } }) (sym (empty-over g))
 
   pub tags_hide : Discreet {Reg = Reg} tag_nodes
   tags_hide = record { start = tag_start_hides; turn = tag_turn_hides }

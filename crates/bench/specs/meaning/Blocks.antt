@@ -63,7 +63,8 @@ block_answers shape.Box stage v = Ok (boxed stage)
 block_answers shape.Sbox stage v = Ok (once (body_turn 0 (sandboxed_frame empty None) None) end_turn stage)
 block_answers shape.Swap stage v = Ok (swapped stage)
 block_answers (shape.Raw slice) stage v = Ok (once (text_turn slice) end_turn stage)
-block_answers (shape.With name e) stage v = once (ok_then (bound name (evaluate v e)) (λ frame. Ok (body_turn 0 frame None))) (Ok end_turn) stage
+block_answers (shape.With name e) stage v =
+    once (ok_then (bound name (evaluate v e)) (λ frame. Ok (body_turn 0 frame None))) (Ok end_turn) stage
 block_answers shape.Glob stage v = Ok (once (body_turn 0 global_frame None) end_turn stage)
 
 -- no turn writes anything

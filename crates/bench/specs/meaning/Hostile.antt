@@ -46,7 +46,9 @@ hostile_block_takes block_shape.Far stage v = answers (Ok (once (body_turn 9 no_
 
 -- what the nodes mean
 abbrev pub hostile_tag_nodes : {Reg : Type 0} → NodeMeaning HostileTagShape ℕ Reg
-hostile_tag_nodes = record { starts = λ n. begins_with (turns_said n); count = λ turns. turns; takes = hostile_tag_takes; catches = captures_nothing }
+hostile_tag_nodes =
+    record { starts = λ n. begins_with (turns_said n); count = λ turns. turns; takes = hostile_tag_takes; catches = captures_nothing }
 
 abbrev pub hostile_block_nodes : {Reg : Type 0} → NodeMeaning HostileBlockShape Stage Reg
-hostile_block_nodes = record { starts = λ n. begins_with First; count = λ stage. 3; takes = hostile_block_takes; catches = captures_nothing }
+hostile_block_nodes =
+    record { starts = λ n. begins_with First; count = λ stage. 3; takes = hostile_block_takes; catches = captures_nothing }

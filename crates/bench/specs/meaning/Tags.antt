@@ -46,7 +46,8 @@ render_old (Some t) = render t
 abbrev pub tag_takes : {Reg : Type 0} → TagShape → ℕ → View Reg → Answered TurnShape ℕ Reg
 tag_takes (shape.Set name e) progress v = turned (λ _. end_turn) progress (assigned name (evaluate v e) v)
 tag_takes (shape.Inc name) progress v = answers (Ok (partial_turn name no_frame None)) progress v
-tag_takes shape.Brk progress v = record { answer = Ok end_turn; progress = progress; written = record (written_of v) { interrupt = Some Break } }
+tag_takes shape.Brk progress v =
+    record { answer = Ok end_turn; progress = progress; written = record (written_of v) { interrupt = Some Break } }
 
 abbrev pub leaky_takes : {Reg : Type 0} → LeakyTagShape → ℕ → View Reg → Answered TurnShape ℕ Reg
 leaky_takes (leaky_shape.Plain node) progress v = tag_takes node progress v

@@ -21,5 +21,6 @@ module _ {A B P Q Reg : Type 0} (m : NodeMeaning A P Reg) (n : NodeMeaning B Q R
   discreet_beside : Discreet (nodes_beside m n)
   discreet_beside = record { start = start_hides; turn = turn_hides }
 
-pub hides_beside : {A B P Q Reg : Type 0} {m : NodeMeaning A P Reg} {n : NodeMeaning B Q Reg} → Discreet m → Discreet n → Discreet (nodes_beside m n)
+pub hides_beside : {A B P Q Reg : Type 0} {m : NodeMeaning A P Reg} {n : NodeMeaning B Q Reg} → Discreet m → Discreet n
+    → Discreet (nodes_beside m n)
 hides_beside {m = m} {n = n} library own = discreet_beside m n library own

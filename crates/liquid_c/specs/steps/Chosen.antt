@@ -27,7 +27,8 @@ abbrev pub IsChosen : ℕ → Chosen → Type 0
 IsChosen options chosen.NoOptions = 8 ≤ options
 IsChosen options chosen.NoMemory = options < 8
 IsChosen options (chosen.Plain l) = (options < 8) × ((has_standard options ≡ false) × (meaning_of filter_made l.value ≡ plain_language))
-IsChosen options (chosen.Standard l) = (options < 8) × ((has_standard options ≡ true) × (standard_meaning filter_made l.value ≡ standard_language))
+IsChosen options (chosen.Standard l) =
+    (options < 8) × ((has_standard options ≡ true) × (standard_meaning filter_made l.value ≡ standard_language))
 
 -- a page is refused for a reason of this kind, and nothing is written
 abbrev pub IsRefused : ℕ → List ℕ → List ℕ → List ℕ → Outcome → Type 0

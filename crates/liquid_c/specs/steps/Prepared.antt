@@ -19,7 +19,8 @@ AskedComesTo s l asked globals page =
     ComesTo s l (page_options asked) asked.text.now globals (map bytes_of_partial asked.partials.now) page
 
 -- the page over these globals is this one, if what was read is that of some bytes in some language, which come to it
-pub record PreparedComesTo {X S Reg F T P B Q : Type 0} (L : Type 0) (s : Settings Reg F T P B Q) (nodes : X → List (NodeShape F T B)) (finds : S → Found F T B)
+pub record PreparedComesTo {X S Reg F T P B Q : Type 0} (L : Type 0) (s : Settings Reg F T P B Q) (nodes : X → List (NodeShape F T B))
+    (finds : S → Found F T B)
     (read : Option (ReadTexts X S)) (options : PageOptions) (globals : List ℕ) (page : Page) : Type 0 where
   pub l : Lang F T L B
   pub text : List ℕ

@@ -64,19 +64,22 @@ abbrev pub first_register : {Reg F T P B Q : Type 0} → Settings Reg F T P B Q 
 first_register s = (s None).fresh
 
 -- the rendering of nodes: in a sandbox and in isolation, under a frame without a name whose data are the globals
-abbrev pub nodes_action : {Reg F T P B Q : Type 0} → Settings Reg F T P B Q → PageFrame → Option (Found F T B) → Names → List (NodeShape F T B) → Action Reg
+abbrev pub nodes_action : {Reg F T P B Q : Type 0} → Settings Reg F T P B Q → PageFrame → Option (Found F T B) → Names
+    → List (NodeShape F T B) → Action Reg
 nodes_action s Open found globals nodes = template_run (s found) (nodes_from nodes)
 nodes_action s Sandboxed found globals nodes = sandboxed_run (s found) globals None (nodes_from nodes)
 nodes_action s Isolated found globals nodes = isolated_run (s found) globals None (nodes_from nodes)
 
 -- the same under the limits of the options
-abbrev pub page_action : {Reg F T P B Q : Type 0} → Settings Reg F T P B Q → PageOptions → Option (Found F T B) → Names → List (NodeShape F T B) → Action Reg
+abbrev pub page_action : {Reg F T P B Q : Type 0} → Settings Reg F T P B Q → PageOptions → Option (Found F T B) → Names
+    → List (NodeShape F T B) → Action Reg
 page_action s options found globals nodes = limited (room_of options) (nodes_action s options.frame found globals nodes)
 
 module _ {Reg F T P L B Q : Type 0} (s : Settings Reg F T P B Q) (l : Lang F T L B) (options : PageOptions) where
   -- the parsed text was rendered, with these options, over a built runtime with these globals and a store of these
   -- partials, which left a view
-  pub record RendersAnswer (answer : PageAnswer F T B) (globals : Names) (partials : Option Texts) (before after : Sunk) (result : Result (Unit {0}) Error) : Type 0 where
+  pub record RendersAnswer (answer : PageAnswer F T B) (globals : Names) (partials : Option Texts) (before after : Sunk)
+      (result : Result (Unit {0}) Error) : Type 0 where
     pub left : View Reg
     pub rendered : (found : Option (Found F T B)) → IsFoundIn l partials found
         → RenderedBy (page_action s options found globals) answer (first_view (first_register s) options globals) before after left result
@@ -86,9 +89,11 @@ module _ {Reg F T P L B Q : Type 0} (s : Settings Reg F T P B Q) (l : Lang F T L
   Renders text globals partials before after result =
       (answer : PageAnswer F T B) → Reads l text answer → RendersAnswer answer globals partials before after result
 
-module _ {X N K Reg F T P B Q : Type 0} (fresh : Reg) (filter : FilterType X F) (tag : NodeType N T P Reg) (block : NodeType K B Q Reg) where
+module _ {X N K Reg F T P B Q : Type 0} (fresh : Reg) (filter : FilterType X F) (tag : NodeType N T P Reg)
+    (block : NodeType K B Q Reg) where
   -- a template of these types was rendered in the same way
-  abbrev pub RendersTemplate : {L : Type 0} → Lang F T L B → PageOptions → Template X N K → Names → Option Texts → Sunk → Sunk → Result (Unit {0}) Error → Type 0
+  abbrev pub RendersTemplate : {L : Type 0} → Lang F T L B → PageOptions → Template X N K → Names → Option Texts → Sunk → Sunk
+      → Result (Unit {0}) Error → Type 0
   RendersTemplate l options template globals partials before after result =
       RendersAnswer (setting fresh filter.means tag.means block.means) l options
       (Ok (nodes_in filter.shape tag.shape block.shape template)) globals partials before after result

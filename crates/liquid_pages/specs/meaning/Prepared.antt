@@ -30,14 +30,17 @@ module _ {X S F T L B : Type 0} (nodes : X → List (NodeShape F T B)) (finds : 
   IsReadAs texts (read.NoPartial which) = ⊥
   IsReadAs texts read.NoMemory = ⊤
   IsReadAs texts (read.Unparsed error) = EachAnswer (λ answer. IfSome (told error) (λ refusal. answer ≡ Err refusal))
-  IsReadAs texts (read.Read template store) = EachAnswer (λ answer. answer ≡ Ok (nodes template)) × IsFoundIn l (Some texts) (option_map finds store)
+  IsReadAs texts (read.Read template store) =
+      EachAnswer (λ answer. answer ≡ Ok (nodes template)) × IsFoundIn l (Some texts) (option_map finds store)
 
   -- the same by the bytes of the partials, which are read first
   abbrev pub IsReadOver : List NameAndText → ReadTexts X S → Type 0
   IsReadOver partials (read.NoPartial which) = partials_read 0 partials empty ≡ Err (no_text which)
   IsReadOver partials read.NoMemory = ⊤
-  IsReadOver partials (read.Unparsed error) = (texts : Texts) × (partials_read 0 partials empty ≡ Ok texts) × IsReadAs texts (read.Unparsed error)
-  IsReadOver partials (read.Read template store) = (texts : Texts) × (partials_read 0 partials empty ≡ Ok texts) × IsReadAs texts (read.Read template store)
+  IsReadOver partials (read.Unparsed error) =
+      (texts : Texts) × (partials_read 0 partials empty ≡ Ok texts) × IsReadAs texts (read.Unparsed error)
+  IsReadOver partials (read.Read template store) =
+      (texts : Texts) × (partials_read 0 partials empty ≡ Ok texts) × IsReadAs texts (read.Read template store)
 
   -- the same by the bytes of the template, which are read before the partials
   abbrev pub IsPrepared : List NameAndText → Option (ReadTexts X S) → Type 0

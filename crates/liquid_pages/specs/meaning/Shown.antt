@@ -32,7 +32,8 @@ bytes_of_partial p = (p.name.now, p.text.now)
 abbrev pub partials_read : ℕ → List NameAndText → Texts → Result Texts Fault
 partials_read n [] texts = Ok texts
 partials_read n (p ∷ ps) texts =
-    and_then (text_read (PartialName n) p.0) (λ name. and_then (text_read (PartialText n) p.1) (λ text. partials_read (suc n) ps (insert texts name text)))
+    and_then (text_read (PartialName n) p.0) (λ name. and_then (text_read (PartialText n) p.1)
+      (λ text. partials_read (suc n) ps (insert texts name text)))
 
 -- the names of the globals, from bytes that are a text of JSON
 abbrev pub names_read : List ℕ → Result Names Fault
@@ -62,14 +63,16 @@ page_of_answer run_of (Ok nodes) = page_of_run (run_of nodes)
 page_of_answer run_of (Err refusal) = stopped (unparsed refusal)
 
 -- the run of nodes with these options over these names, where a store finds this
-abbrev pub page_run : {Reg F T P B Q : Type 0} → Settings Reg F T P B Q → PageOptions → Names → Option (Found F T B) → List (NodeShape F T B) → Run Reg
+abbrev pub page_run : {Reg F T P B Q : Type 0} → Settings Reg F T P B Q → PageOptions → Names → Option (Found F T B)
+    → List (NodeShape F T B) → Run Reg
 page_run s options names found nodes = page_action s options found names nodes (first_view (first_register s) options names)
 
 module _ {Reg F T P L B Q : Type 0} (s : Settings Reg F T P B Q) (l : Lang F T L B) (options : PageOptions) where
   -- a text over names, with these partials, is rendered as this page
   abbrev pub TextComesTo : List ℕ → Names → Texts → Page → Type 0
   TextComesTo text names texts page =
-      (answer : PageAnswer F T B) × Reads l text answer × ((found : Option (Found F T B)) × IsFoundIn l (Some texts) found × (page ≡ page_of_answer (page_run s options names found) answer))
+      (answer : PageAnswer F T B) × Reads l text answer × ((found : Option (Found F T B)) × IsFoundIn l (Some texts) found
+        × (page ≡ page_of_answer (page_run s options names found) answer))
 
   -- nodes over names, with these partials, are rendered as this page
   abbrev pub NodesComeTo : List (NodeShape F T B) → Names → Texts → Page → Type 0

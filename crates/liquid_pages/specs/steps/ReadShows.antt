@@ -16,12 +16,14 @@ use Rattle.liquid_pages.specs.meaning.Prepared.{IsReadOver}
 use Rattle.liquid_pages.specs.meaning.Shown.{IsShown, NameAndText, NodesComeTo, Page, ReadComesTo, partials_over}
 
 -- what was read of a text and its partials is still that
-abbrev pub StaysRead : {X S F T B : Type 0} → (L : Type 0) → (X → List (NodeShape F T B)) → (S → Found F T B) → ReadTexts X S → ReadTexts X S → Type 0
+abbrev pub StaysRead : {X S F T B : Type 0} → (L : Type 0) → (X → List (NodeShape F T B)) → (S → Found F T B) → ReadTexts X S
+    → ReadTexts X S → Type 0
 StaysRead {F = F} {T = T} {B = B} L nodes finds before after =
     (l : Lang F T L B) (text : List ℕ) (partials : List NameAndText)
     → IsReadOver nodes finds l text partials before → IsReadOver nodes finds l text partials after
 
-module _ {X N K S Reg F T P B Q : Type 0} (L : Type 0) (fresh : Reg) (filter : FilterType X F) (tag : NodeType N T P Reg) (block : NodeType K B Q Reg)
+module _ {X N K S Reg F T P B Q : Type 0} (L : Type 0) (fresh : Reg) (filter : FilterType X F) (tag : NodeType N T P Reg)
+    (block : NodeType K B Q Reg)
     (finds : S → Found F T B) (options : PageOptions) where
   -- what was read comes to a page over these names, which is shown
   abbrev pub ReadShows : Names → ReadTexts (Template X N K) S → Rendered → Type 0

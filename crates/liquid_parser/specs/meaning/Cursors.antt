@@ -64,7 +64,8 @@ made_by (Some make) arguments = result_ok (make arguments)
 
 abbrev pub calls_made : {F : Type 0} → Filters F → List Call → Option (List F)
 calls_made filters [] = Some []
-calls_made filters (c ∷ cs) = option_and_then (λ x. option_map (λ xs. x ∷ xs) (calls_made filters cs)) (made_by (filters.get c.name) c.arguments)
+calls_made filters (c ∷ cs) =
+    option_and_then (λ x. option_map (λ xs. x ∷ xs) (calls_made filters cs)) (made_by (filters.get c.name) c.arguments)
 
 abbrev pub chain_made : {F : Type 0} → Filters F → TokenShape → Option (ChainShape F)
 chain_made filters (chain e calls) = option_map (λ xs. record { entry = e; filters = xs }) (calls_made filters calls)

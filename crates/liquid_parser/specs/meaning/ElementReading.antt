@@ -30,9 +30,11 @@ module _ {F T P B : Type 0} (l : Lang F T P B) (source : List ℕ) (outside : �
   abbrev pub read_closed : State F T P B → List Element → Result (List (NodeShape F T B) × List Element) Refusal
   read_closed (among [] nodes) es = Ok (nodes, es)
   read_closed (among (b ∷ blocks) nodes) [] = Err (unclosed_by source b.kind.names.end_name)
-  read_closed (among (b ∷ blocks) nodes) (e ∷ es) = ok_then (step l source outside (among (b ∷ blocks) nodes) e (joined es)) (λ next. read_closed next es)
+  read_closed (among (b ∷ blocks) nodes) (e ∷ es) =
+      ok_then (step l source outside (among (b ∷ blocks) nodes) e (joined es)) (λ next. read_closed next es)
   read_closed (inside b blocks level so_far) [] = Err (unclosed_by source b.kind.names.end_name)
-  read_closed (inside b blocks level so_far) (e ∷ es) = ok_then (step l source outside (inside b blocks level so_far) e (joined es)) (λ next. read_closed next es)
+  read_closed (inside b blocks level so_far) (e ∷ es) =
+      ok_then (step l source outside (inside b blocks level so_far) e (joined es)) (λ next. read_closed next es)
 
   -- the node that an element of its own text gives, with this text after it there; a block takes its body and its end
   -- from the elements of the source

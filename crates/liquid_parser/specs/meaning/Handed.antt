@@ -92,7 +92,8 @@ token_between source place following shape =
     record { shape = shape; text = slice_between place following; place = place_in source place; following = place_in source following }
 
 abbrev pub handed_token : List ℕ → token.Token → Token
-handed_token source (token.range r) = token_between source r.place r.following (range (expression_meant r.what.0) (expression_meant r.what.1))
+handed_token source (token.range r) =
+    token_between source r.place r.following (range (expression_meant r.what.0) (expression_meant r.what.1))
 handed_token source (token.chain c) = token_between source c.place c.following (chain (expression_meant c.what.0) (map call_of c.what.1))
 handed_token source (token.symbol s) = token_between source s.place s.following (symbol s.what)
 

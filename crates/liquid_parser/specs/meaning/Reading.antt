@@ -103,7 +103,8 @@ level_after end_name start_name nests level e = level_by (is_end end_name e) (is
 abbrev pub escape : (end_name start_name : List ℕ) → Bool → ℕ → List ℕ → List Element → Option (List ℕ × List Element)
 escape end_name start_name nests level so_far [] = None
 escape end_name start_name nests level so_far (e ∷ es) =
-    option_map_or (λ next. escape end_name start_name nests next (so_far ++ text_of e) es) (level_after end_name start_name nests level e) (Some (so_far, es))
+    option_map_or (λ next. escape end_name start_name nests next (so_far ++ text_of e) es) (level_after end_name start_name nests level e)
+      (Some (so_far, es))
 
 -- a block that is open: its kind, the place of the name of its start tag, its plan, the nodes before it in the list
 -- that it is in, and its parts up to its last divider
@@ -133,7 +134,8 @@ abbrev pub unclosed_by : List ℕ → List ℕ → Refusal
 unclosed_by source end_name = refused_at source (codes "Unclosed block. {% " ++ (end_name ++ codes " %} tag expected.")) []
 
 -- one more node after others, once it is made
-abbrev pub node_added : {F T P B : Type 0} → List (Open F T P B) → List (NodeShape F T B) → Result (NodeShape F T B) Refusal → Result (State F T P B) Refusal
+abbrev pub node_added : {F T P B : Type 0} → List (Open F T P B) → List (NodeShape F T B) → Result (NodeShape F T B) Refusal
+    → Result (State F T P B) Refusal
 node_added blocks nodes made = ok_then made (λ node. Ok (among blocks (nodes ++ node ∷ [])))
 
 -- a block ends with these parts: the list that it is in, with its node as the last
@@ -141,7 +143,8 @@ abbrev pub finished : {F T P B : Type 0} → Open F T P B → Body → List (Lis
 finished b body of = ok_then (placed_at b.place (b.kind.means.finish b.plan body)) (λ made. Ok (b.before ++ block_with made of ∷ []))
 
 -- an element of an escaped body: at its end the body is the text up to there
-abbrev pub escape_read : {F T P B : Type 0} → Open F T P B → List (Open F T P B) → List ℕ → List ℕ → Option ℕ → Result (State F T P B) Refusal
+abbrev pub escape_read : {F T P B : Type 0} → Open F T P B → List (Open F T P B) → List ℕ → List ℕ → Option ℕ
+    → Result (State F T P B) Refusal
 escape_read b blocks so_far content None = ok_then (finished b (escaped so_far) []) (λ nodes. Ok (among blocks nodes))
 escape_read b blocks so_far content (Some level) = Ok (inside b blocks level (so_far ++ content))
 
@@ -161,8 +164,10 @@ abbrev pub expression_read : {F T B : Type 0} → Filters F → List ℕ → tok
 expression_read filters source chain = ok_then (chain_read filters source chain) (λ made. Ok (chain_node made))
 
 -- the node that the tokens of a tag of the source give
-abbrev pub tag_given : {F T B : Type 0} → List ℕ → token.Tag → Filters F → (Filters F → Tokens → Result T Refusal) → Result (NodeShape F T B) Refusal
-tag_given source t filters make = ok_then (placed_at (place_in source (name_place t)) (make filters (handed source t))) (λ made. Ok (tag_node made))
+abbrev pub tag_given : {F T B : Type 0} → List ℕ → token.Tag → Filters F → (Filters F → Tokens → Result T Refusal)
+    → Result (NodeShape F T B) Refusal
+tag_given source t filters make =
+    ok_then (placed_at (place_in source (name_place t)) (make filters (handed source t))) (λ made. Ok (tag_node made))
 
 -- a tag of the source is read
 module _ {F T P B : Type 0} (source : List ℕ) (t : token.Tag) where
@@ -266,4 +271,6 @@ Answers of l s (Err error) = IfSome (told error) (λ refusal. Reads l s (Err ref
 
 -- each text is read as exactly one result
 abbrev pub OneReading : {F T P B : Type 0} → Lang F T P B → Type 0
-OneReading {F} {T} {P} {B} l = (s : List ℕ) → (a : Result (List (NodeShape F T B)) Refusal) × Reads l s a × ((b : Result (List (NodeShape F T B)) Refusal) → Reads l s b → b ≡ a)
+OneReading {F} {T} {P} {B} l =
+    (s : List ℕ) → (a : Result (List (NodeShape F T B)) Refusal) × Reads l s a
+    × ((b : Result (List (NodeShape F T B)) Refusal) → Reads l s b → b ≡ a)

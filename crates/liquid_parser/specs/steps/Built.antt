@@ -65,12 +65,14 @@ pub record MakesNode {F T B : Type 0} (filters : Filters F) (source s rest : Lis
   pub read : expression_read filters source chain ≡ Ok node
 
 -- the walk comes to this node, unless what opens here is neither a tag nor an expression
-abbrev pub WalksToNode : {X N K E F T B : Type 0} → (X → F) → (N → T) → (K → B) → Filters F → (source s : List ℕ) → Result (Walked (Node X N K × Bor (List ℕ))) E → Type 0
+abbrev pub WalksToNode : {X N K E F T B : Type 0} → (X → F) → (N → T) → (K → B) → Filters F → (source s : List ℕ)
+    → Result (Walked (Node X N K × Bor (List ℕ))) E → Type 0
 WalksToNode filter tag block filters source s result =
     IfOk result (λ walked. ComesTo walked (λ p. MakesNode filters source s p.1.now (node_of filter tag block p.0)) (StandsInvalid s))
 
 -- the walk comes to the end of an expression, after this rest, unless none ends there
-abbrev pub WalksToEnd : {A M E : Type 0} → Option Fault → (A → M) → Result (Walked (A × Bor (List ℕ))) E → Result M Refusal → List ℕ → Type 0
+abbrev pub WalksToEnd : {A M E : Type 0} → Option Fault → (A → M) → Result (Walked (A × Bor (List ℕ))) E → Result M Refusal → List ℕ
+    → Type 0
 WalksToEnd fault of result read rest = IfOk result (λ walked. ComesTo walked (λ p. MadeToEnd fault of p read rest) (Endless rest))
 
 -- all filters after `|`
@@ -79,7 +81,8 @@ FiltersRule = Repeated (Following bar FilterRule)
 
 -- this holds of each chain whose value has this beginning, with this text after the beginning
 abbrev pub IfHeaded : Head → List ℕ → (List ℕ → Chain → Type 0) → Type 0
-IfHeaded head after holds = (place middle rest : List ℕ) (c : Chain) → IsHead place middle head after c.what.0 → FiltersRule middle rest c.what.1 → holds rest c
+IfHeaded head after holds =
+    (place middle rest : List ℕ) (c : Chain) → IsHead place middle head after c.what.0 → FiltersRule middle rest c.what.1 → holds rest c
 
 -- the call returns what is meant, and leaves this rest; an out-of-memory error says nothing
 abbrev pub GivesUpTo : {A M : Type 0} → (A → M) → Result (A × Bor (List ℕ)) Error → Result M Refusal → List ℕ → Type 0

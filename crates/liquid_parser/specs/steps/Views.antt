@@ -55,7 +55,8 @@ module _ {X N K L W F T B P : Type 0} (filter : X → F) (tag : N → T) (block 
 
   -- a call that opens a block after these nodes, divides a block or closes it gives what is meant of the block and of
   -- these nodes, which are the next part of an open block
-  abbrev pub Opens : List (Node X N K) → Result (OpenBlock W L (Node X N K)) Error → (List (NodeShape F T B) → Result (Open F T P B) Refusal) → Type 0
+  abbrev pub Opens : List (Node X N K) → Result (OpenBlock W L (Node X N K)) Error
+      → (List (NodeShape F T B) → Result (Open F T P B) Refusal) → Type 0
   Opens nodes result meant = Gives open_view result (meant (shapes_of filter tag block nodes))
 
   abbrev pub Divides : {U : Type 0} → (old new : OpenBlock W L (Node X N K)) → List (Node X N K) → Result U Error
@@ -64,33 +65,39 @@ module _ {X N K L W F T B P : Type 0} (filter : X → F) (tag : N → T) (block 
 
   abbrev pub Closes : OpenBlock W L (Node X N K) → List (Node X N K) → Result (Vec (Node X N K)) Error
       → (Open F T P B → List (NodeShape F T B) → Result (List (NodeShape F T B)) Refusal) → Type 0
-  Closes b nodes result meant = Gives (λ v. shapes_of filter tag block v.items) result (meant (open_view b) (shapes_of filter tag block nodes))
+  Closes b nodes result meant =
+      Gives (λ v. shapes_of filter tag block v.items) result (meant (open_view b) (shapes_of filter tag block nodes))
 
   -- a call takes the state one step on: to what is meant of its open blocks and of the nodes so far
   abbrev pub Steps : (old new : ParserState W L (Node X N K)) → Result (Next W L (Node X N K)) Error
       → (List (Open F T P B) → List (NodeShape F T B) → Result (State F T P B) Refusal) → Type 0
-  Steps old new result meant = Gives (λ n. next_view n new) result (meant (blocks_view old.open.items) (shapes_of filter tag block old.nodes.items))
+  Steps old new result meant =
+      Gives (λ n. next_view n new) result (meant (blocks_view old.open.items) (shapes_of filter tag block old.nodes.items))
 
   -- the same if a block is open: to what is meant of the innermost block, of those around it and of the nodes so far
   abbrev pub StepsInside : (old new : ParserState W L (Node X N K)) → Result (Next W L (Node X N K)) Error
       → (Open F T P B → List (Open F T P B) → List (NodeShape F T B) → Result (State F T P B) Refusal) → Type 0
   StepsInside old new result meant =
-      (b : Open F T P B) (blocks : List (Open F T P B)) → blocks_view old.open.items ≡ b ∷ blocks → Gives (λ n. next_view n new) result (meant b blocks (shapes_of filter tag block old.nodes.items))
+      (b : Open F T P B) (blocks : List (Open F T P B)) → blocks_view old.open.items ≡ b ∷ blocks
+        → Gives (λ n. next_view n new) result (meant b blocks (shapes_of filter tag block old.nodes.items))
 
   -- a call reads some of the text from a state on, which it leaves at a state
   abbrev pub Leaves : Next W L (Node X N K) → (old new : ParserState W L (Node X N K)) → List ℕ → Result (Bor (List ℕ)) Error
       → (State F T P B → List Element → Result (State F T P B × List Element) Refusal) → Type 0
-  Leaves next old new text result meant = (es : List Element) → Cover text es → LeavesAt (state_view new) result (meant (next_view next old) es)
+  Leaves next old new text result meant =
+      (es : List Element) → Cover text es → LeavesAt (state_view new) result (meant (next_view next old) es)
 
   -- the same for an element, which this text follows
   abbrev pub Advances : BlockElement → (old new : ParserState W L (Node X N K)) → List ℕ → Result (Bor (List ℕ)) Error
       → (State F T P B → (own following : List ℕ) → Element → List Element → Result (State F T P B × List Element) Refusal) → Type 0
-  Advances element old new text result meant = IfElement element (λ own following e. Leaves Among old new text result (λ st es. meant st own following e es))
+  Advances element old new text result meant =
+      IfElement element (λ own following e. Leaves Among old new text result (λ st es. meant st own following e es))
 
   -- a call reads some of the text from a state on, up to these nodes
   abbrev pub ReadsOn : Next W L (Node X N K) → ParserState W L (Node X N K) → List ℕ → Result (Vec (Node X N K) × Bor (List ℕ)) Error
       → (State F T P B → List Element → Result (List (NodeShape F T B) × List Element) Refusal) → Type 0
-  ReadsOn next s text result meant = (es : List Element) → Cover text es → LeadsTo (λ v. shapes_of filter tag block v.items) result (meant (next_view next s) es)
+  ReadsOn next s text result meant =
+      (es : List Element) → Cover text es → LeadsTo (λ v. shapes_of filter tag block v.items) result (meant (next_view next s) es)
 
 -- the escaped body of a block that has just begun is read to its end: how far the text is read then, and the elements
 -- that are left

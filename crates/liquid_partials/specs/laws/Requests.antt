@@ -32,7 +32,8 @@ module _ {A : Type 0} where
   -- a store served these requests, one after another, and none of them changed what it finds
   pub data Serves {S : Type 0} (finds : S → NameMap (Result A Refusal)) : S → List (Request A) → Type 0 where
     served : {s : S} → Serves finds s []
-    serves : {s t : S} {request : Request A} {more : List (Request A)} → Answers (finds s) request → finds t ≡ finds s → Serves finds t more → Serves finds s (request ∷ more)
+    serves : {s t : S} {request : Request A} {more : List (Request A)} → Answers (finds s) request → finds t ≡ finds s → Serves finds t more
+        → Serves finds s (request ∷ more)
 
   -- the tree or the refusal that `get` returned; none if it was out of memory
   abbrev pub answer_told : Result A Error → Option (Result A Refusal)
@@ -41,8 +42,10 @@ module _ {A : Type 0} where
 
   -- for the same names the same results, except for those that are out of memory
   abbrev pub Alike : List (Request A) → List (Request A) → Type 0
-  Alike (got name result ∷ more) (got other answer ∷ others) = (name ≡ other → SameIfBoth (answer_told result) (answer_told answer)) × Alike more others
-  Alike (tried name result ∷ more) (tried other answer ∷ others) = (name ≡ other → SameIfBoth (result_ok result) (result_ok answer)) × Alike more others
+  Alike (got name result ∷ more) (got other answer ∷ others) =
+      (name ≡ other → SameIfBoth (answer_told result) (answer_told answer)) × Alike more others
+  Alike (tried name result ∷ more) (tried other answer ∷ others) =
+      (name ≡ other → SameIfBoth (result_ok result) (result_ok answer)) × Alike more others
   Alike (request ∷ more) (other ∷ others) = Alike more others
   Alike [] others = ⊤
   Alike more [] = ⊤
@@ -65,13 +68,17 @@ module _ {A : Type 0} where
   -- after them
   pub data Keeps (finds last : NameMap (Result A Refusal)) (count : ℕ) : NameMap (Result A Refusal) → ℕ → List (Request A) → Type 0 where
     kept_none : {kept : NameMap (Result A Refusal)} {n : ℕ} → last ≡ kept → count ≡ n → Keeps finds last count kept n []
-    kept_more : {kept next : NameMap (Result A Refusal)} {n m : ℕ} {request : Request A} {more : List (Request A)} → next ≡ kept_after (is_answered request) finds (name_asked request) kept
-        → m ≡ n + once (is_read finds kept (name_asked request)) → Keeps finds last count next m more → Keeps finds last count kept n (request ∷ more)
+    kept_more : {kept next : NameMap (Result A Refusal)} {n m : ℕ} {request : Request A} {more : List (Request A)}
+        → next ≡ kept_after (is_answered request) finds (name_asked request) kept
+        → m ≡ n + once (is_read finds kept (name_asked request)) → Keeps finds last count next m more
+          → Keeps finds last count kept n (request ∷ more)
 
 -- over any list of requests a store that keeps its results parses at most as many texts as it keeps new names and as
 -- requests are out of memory
 abbrev pub FewReadings : Type 0 → Type 0
-FewReadings A = (finds kept last : NameMap (Result A Refusal)) (n count : ℕ) (requests : List (Request A)) → Keeps finds last count kept n requests → count + len kept ≤ n + len last + unanswered requests
+FewReadings A =
+    (finds kept last : NameMap (Result A Refusal)) (n count : ℕ) (requests : List (Request A)) → Keeps finds last count kept n requests
+    → count + len kept ≤ n + len last + unanswered requests
 
 -- any list of requests has the same results from two stores of one source in one language
 abbrev pub StoresAgree : {F T P B S R : Type 0} → Lang F T P B → (S → Found F T B) → (R → Found F T B) → Type 0

@@ -22,7 +22,8 @@ page_depth = 32
 module _ {Reg F T L P B Q : Type 0} where
   -- a text that the language refuses has the same refusal, with nothing written; otherwise the outcome is that of the run of
   -- its nodes, in a view of the globals alone, where each partial is the result of parsing its text
-  pub record RendersPage (fresh : Reg) (settings : Option (Found F T B) → Setting Reg F T P B Q) (l : Lang F T L B) (text : List ℕ) (globals : Names) (partials : Texts) (before after : Sunk) (result : Result (Unit {0}) Error) : Type 0 where
+  pub record RendersPage (fresh : Reg) (settings : Option (Found F T B) → Setting Reg F T P B Q) (l : Lang F T L B) (text : List ℕ)
+      (globals : Names) (partials : Texts) (before after : Sunk) (result : Result (Unit {0}) Error) : Type 0 where
     pub left : View Reg
     pub rendered : (answer : Result (List (NodeShape F T B)) Refusal) → Reads l text answer
         → (finds : Found F T B) → Compiled l partials finds

@@ -24,12 +24,14 @@ Refuses refusal (Err error) = IfSome (told error) (λ reason. reason ≡ refusal
 
 -- a text that is read as nodes is rendered as they are; one that is refused has the same refusal, with nothing written
 -- and nothing changed
-abbrev pub RenderedBy : {Reg F T B : Type 0} → (List (NodeShape F T B) → Action Reg) → Result (List (NodeShape F T B)) Refusal → View Reg → Sunk → Sunk → View Reg → Result (Unit {0}) Error → Type 0
+abbrev pub RenderedBy : {Reg F T B : Type 0} → (List (NodeShape F T B) → Action Reg) → Result (List (NodeShape F T B)) Refusal → View Reg
+    → Sunk → Sunk → View Reg → Result (Unit {0}) Error → Type 0
 RenderedBy action (Ok nodes) v before after left result = Renders (action nodes v) v before after left result
 RenderedBy action (Err refusal) v before after left result = (after ≡ before) × ((left ≡ v) × Refuses refusal result)
 
 -- nodes are rendered as their template's run
-abbrev pub Rendered : {Reg F T P B Q : Type 0} → Setting Reg F T P B Q → Result (List (NodeShape F T B)) Refusal → View Reg → Sunk → Sunk → View Reg → Result (Unit {0}) Error → Type 0
+abbrev pub Rendered : {Reg F T P B Q : Type 0} → Setting Reg F T P B Q → Result (List (NodeShape F T B)) Refusal → View Reg → Sunk → Sunk
+    → View Reg → Result (Unit {0}) Error → Type 0
 Rendered s = RenderedBy (λ nodes. template_run s (nodes_from nodes))
 
 -- the setting over the store of a runtime

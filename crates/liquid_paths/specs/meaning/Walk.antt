@@ -53,7 +53,8 @@ unknown_index front t index =
 -- the same walk after a front: the value at its end, or the refusal of the first index that has nothing at it
 abbrev pub find_after : Path → Tree → Path → Result Tree Refusal
 find_after front t [] = Ok t
-find_after front t (index ∷ path) = ok_then (ok_or (step t index) (unknown_index front t index)) (λ next. find_after (front ++ index ∷ []) next path)
+find_after front t (index ∷ path) =
+    ok_then (ok_or (step t index) (unknown_index front t index)) (λ next. find_after (front ++ index ∷ []) next path)
 
 -- the value at the end of a path, or the refusal, whose `variable` is the longest front that leads to a value
 abbrev pub find : Tree → Path → Result Tree Refusal

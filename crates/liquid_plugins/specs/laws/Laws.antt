@@ -19,10 +19,14 @@ EvaluateGives Reg = (v : View Reg) (e : ExpressionShape) (t : Tree) → try_eval
 
 -- the same for the paths of variables
 abbrev pub PathsAgree : Type 0 → Type 0
-PathsAgree Reg = (v : View Reg) (name : Scal) (indexes : Indexes) → v.lenient ≡ false → result_ok (named_path v name indexes) ≡ try_named_path v name indexes
+PathsAgree Reg =
+    (v : View Reg) (name : Scal) (indexes : Indexes) → v.lenient ≡ false
+    → result_ok (named_path v name indexes) ≡ try_named_path v name indexes
 
 abbrev pub PathsGive : Type 0 → Type 0
-PathsGive Reg = (v : View Reg) (name : Scal) (indexes : Indexes) (path : Path) → try_named_path v name indexes ≡ Some path → named_path v name indexes ≡ Ok path
+PathsGive Reg =
+    (v : View Reg) (name : Scal) (indexes : Indexes) (path : Path) → try_named_path v name indexes ≡ Some path
+    → named_path v name indexes ≡ Ok path
 
 -- an expression has the same result with what a filter sees
 abbrev pub EvaluatesErased : Type 0 → Type 0

@@ -22,13 +22,15 @@ mutual
   same_symm (literal t) (literal u) = same_value_equiv.symm t u
   same_symm (literal t) (variable m js) = refl
   same_symm (variable n is) (literal u) = refl
-  same_symm (variable n is) (variable m js) = ap (λ b. b && same_indexes is js) (same_scalar_equiv.symm n m) ∙ ap (λ b. same_scalar m n && b) (indexes_symm is js)
+  same_symm (variable n is) (variable m js) =
+      ap (λ b. b && same_indexes is js) (same_scalar_equiv.symm n m) ∙ ap (λ b. same_scalar m n && b) (indexes_symm is js)
 
   indexes_symm : (l r : Indexes) → same_indexes l r ≡ same_indexes r l
   indexes_symm no_indexes no_indexes = refl
   indexes_symm no_indexes (index f fs) = refl
   indexes_symm (index e es) no_indexes = refl
-  indexes_symm (index e es) (index f fs) = ap (λ b. b && same_indexes es fs) (same_symm e f) ∙ ap (λ b. same_expression f e && b) (indexes_symm es fs)
+  indexes_symm (index e es) (index f fs) =
+      ap (λ b. b && same_indexes es fs) (same_symm e f) ∙ ap (λ b. same_expression f e && b) (indexes_symm es fs)
 
 mutual
   same_congr : (l r other : ExpressionShape) → same_expression l r ≡ true → same_expression l other ≡ same_expression r other
@@ -38,7 +40,8 @@ mutual
   same_congr (variable n is) (literal u) other same = cc
   same_congr (variable n is) (variable m js) (literal w) same = refl
   same_congr (variable n is) (variable m js) (variable k ks) same =
-      ap (λ b. b && same_indexes is ks) (same_scalar_equiv.congr n m k (first_true _ _ same)) ∙ ap (λ b. same_scalar m k && b) (indexes_congr is js ks (second_true _ _ same))
+      ap (λ b. b && same_indexes is ks) (same_scalar_equiv.congr n m k (first_true _ _ same))
+        ∙ ap (λ b. same_scalar m k && b) (indexes_congr is js ks (second_true _ _ same))
 
   indexes_congr : (l r other : Indexes) → same_indexes l r ≡ true → same_indexes l other ≡ same_indexes r other
   indexes_congr no_indexes no_indexes other same = refl
@@ -46,7 +49,8 @@ mutual
   indexes_congr (index e es) no_indexes other same = cc
   indexes_congr (index e es) (index f fs) no_indexes same = refl
   indexes_congr (index e es) (index f fs) (index g gs) same =
-      ap (λ b. b && same_indexes es gs) (same_congr e f g (first_true _ _ same)) ∙ ap (λ b. same_expression f g && b) (indexes_congr es fs gs (second_true _ _ same))
+      ap (λ b. b && same_indexes es gs) (same_congr e f g (first_true _ _ same))
+        ∙ ap (λ b. same_expression f g && b) (indexes_congr es fs gs (second_true _ _ same))
 
 pub same_expression_equiv : IsEquivalence same_expression
 same_expression_equiv = record { refl = same_refl; symm = same_symm; congr = same_congr }

@@ -11,4 +11,5 @@ pub record Arguments : Type 0 where
 
 -- those of a call
 abbrev pub arguments_of : FilterArguments → Arguments
-arguments_of a = record { positional = map expression_of a.positional.items; keyword = map (λ k. (k.0.now, expression_of k.1)) a.keyword.items }
+arguments_of a =
+    record { positional = map expression_of a.positional.items; keyword = map (λ k. (k.0.now, expression_of k.1)) a.keyword.items }

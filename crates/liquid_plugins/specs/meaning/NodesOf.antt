@@ -17,7 +17,8 @@ name_chain name = record { entry = variable (text name) no_indexes; filters = []
 
 -- the node is a text of these bytes, in memory of its own or in the node
 abbrev pub IsText : {X N K : Type 0} → Node X N K → List ℕ → Type 0
-IsText node bytes = ((t : String Global) × (node ≡ Text t) × (string_bytes t ≡ bytes)) ⊎ ((t : ArrayString) × (node ≡ Brief t) × (t.bytes ≡ bytes))
+IsText node bytes =
+    ((t : String Global) × (node ≡ Text t) × (string_bytes t ≡ bytes)) ⊎ ((t : ArrayString) × (node ≡ Brief t) × (t.bytes ≡ bytes))
 
 module _ {X N K F T B : Type 0} (filter : X → F) (tag : N → T) (block : K → B) where
   -- one level of a node, with each node inside already given as its shape

@@ -44,4 +44,6 @@ pub expression_code : Coded ExpressionShape
 expression_code = code_by (Pairs Leaf) (coded_pairs coded_leaf) expression_pairs expression_back expression_same
 
 abbrev pub chain_code : {F : Type 0} → Coded F → Coded (ChainShape F)
-chain_code {F} c = code_by (ExpressionShape × List F) (coded× expression_code (coded_list c)) (λ e. (e.entry, e.filters)) (λ p. record { entry = p.0; filters = p.1 }) (λ _. refl)
+chain_code {F} c =
+    code_by (ExpressionShape × List F) (coded× expression_code (coded_list c)) (λ e. (e.entry, e.filters))
+    (λ p. record { entry = p.0; filters = p.1 }) (λ _. refl)

@@ -74,7 +74,9 @@ scal_same (date d) = refl
 scal_same (date_time dt) = refl
 
 pub coded_scal : Coded Scal
-coded_scal = code_by (ℤ ⊎ (Bool ⊎ (List ℕ ⊎ (CivilDate ⊎ DateTime)))) (coded⊎ coded_ℤ (coded⊎ coded_bool (coded⊎ (coded_list coded_ℕ) (coded⊎ (civil.the_row).coded (moment.the_row).coded)))) scal_sum scal_of_sum scal_same
+coded_scal =
+    code_by (ℤ ⊎ (Bool ⊎ (List ℕ ⊎ (CivilDate ⊎ DateTime)))) (coded⊎ coded_ℤ
+    (coded⊎ coded_bool (coded⊎ (coded_list coded_ℕ) (coded⊎ (civil.the_row).coded (moment.the_row).coded)))) scal_sum scal_of_sum scal_same
 
 abbrev leaf_sum : Leaf → Scal ⊎ (State ⊎ (List ℕ ⊎ ℕ))
 leaf_sum (of_scalar x) = inl x
@@ -104,7 +106,9 @@ leaf_same is_array = refl
 leaf_same is_object = refl
 
 pub coded_leaf : Coded Leaf
-coded_leaf = code_by (Scal ⊎ (State ⊎ (List ℕ ⊎ ℕ))) (coded⊎ coded_scal (coded⊎ (states.the_row).coded (coded⊎ (coded_list coded_ℕ) coded_ℕ))) leaf_sum leaf_of_sum leaf_same
+coded_leaf =
+    code_by (Scal ⊎ (State ⊎ (List ℕ ⊎ ℕ))) (coded⊎ coded_scal (coded⊎ (states.the_row).coded (coded⊎ (coded_list coded_ℕ) coded_ℕ)))
+    leaf_sum leaf_of_sum leaf_same
 
 mutual
   pub tree_pairs : Tree → Pairs Leaf

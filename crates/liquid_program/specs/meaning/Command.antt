@@ -180,13 +180,15 @@ with_paths paths (word ∷ words) = option_map_or (λ more. with_paths more word
 
 -- a template and its globals have to be among the paths
 abbrev pub whole_command : Choices → List (List ℕ) → Option Asked
-whole_command c paths = if nat_lt 1 (length paths) && not (is_some c.globals) && not (is_some c.partials) then Some (asked c paths) else None
+whole_command c paths =
+    if nat_lt 1 (length paths) && not (is_some c.globals) && not (is_some c.partials) then Some (asked c paths) else None
 
 -- the long form, where these choices and paths come before the words, and maybe an option whose word is the next one
 abbrev pub long_command : Choices → List (List ℕ) → Option Awaited → List (List ℕ) → Option Asked
 long_command c paths None [] = whole_command c paths
 long_command c paths (Some option) [] = None
-long_command c paths (Some option) (word ∷ words) = option_map_or (λ more. long_command more paths None words) (with_word option word c) None
+long_command c paths (Some option) (word ∷ words) =
+    option_map_or (λ more. long_command more paths None words) (with_word option word c) None
 long_command c paths None (word ∷ words) =
     if bytes_eq word (codes "--") then option_map_or (whole_command c) (with_paths paths words) None
     else if is_place word then option_map_or (λ more. long_command c more None words) (with_path paths word) None

@@ -21,7 +21,8 @@ Same before after = (path : List ℕ) → after path ≡ before path
 -- the file at a path has these bytes, and what is known of every other file is what was known before. If nothing is known
 -- of a file, nothing is known of it then
 abbrev pub Replaces : (List ℕ → Option (Option (List ℕ))) → (List ℕ → Option (Option (List ℕ))) → List ℕ → List ℕ → Type 0
-Replaces before after file bytes = (path : List ℕ) → after path ≡ (if bytes_eq file path then option_map (λ _. Some bytes) (before path) else before path)
+Replaces before after file bytes =
+    (path : List ℕ) → after path ≡ (if bytes_eq file path then option_map (λ _. Some bytes) (before path) else before path)
 
 -- all files are known, and all folders
 abbrev pub known_in : (List ℕ → Option (List ℕ)) → List ℕ → Option (Option (List ℕ))

@@ -56,16 +56,21 @@ WithNames (Some None) stop next = stop
 WithNames (Some (Some names)) stop next = next names
 
 -- all partials of a folder, in byte order of their names
-abbrev pub WithFolder : (List ℕ → Option (Option (List ℕ))) → List ℕ → Option (List ℕ) → Option (Option (List (List ℕ))) → Type 0 → (Texts → Type 0) → Type 0
-WithFolder known folder ending names stop next = WithNames names stop (λ listed. WithFiles known folder (unwrap_or ending []) (in_order ending listed) empty stop next)
+abbrev pub WithFolder : (List ℕ → Option (Option (List ℕ))) → List ℕ → Option (List ℕ) → Option (Option (List (List ℕ))) → Type 0
+    → (Texts → Type 0) → Type 0
+WithFolder known folder ending names stop next =
+    WithNames names stop (λ listed. WithFiles known folder (unwrap_or ending []) (in_order ending listed) empty stop next)
 
 -- without a folder there are no partials. Where partials have an ending, those in subfolders are among them
-abbrev pub WithPartials : (List ℕ → Option (Option (List ℕ))) → (Bool → List ℕ → Option (Option (List (List ℕ)))) → Option (List ℕ) → List (List ℕ) → Type 0 → (Option Texts → Type 0) → Type 0
+abbrev pub WithPartials : (List ℕ → Option (Option (List ℕ))) → (Bool → List ℕ → Option (Option (List (List ℕ)))) → Option (List ℕ)
+    → List (List ℕ) → Type 0 → (Option Texts → Type 0) → Type 0
 WithPartials known listed ending [] stop next = next None
-WithPartials known listed ending (folder ∷ words) stop next = WithFolder known folder ending (listed (is_some ending) folder) stop (λ texts. next (Some texts))
+WithPartials known listed ending (folder ∷ words) stop next =
+    WithFolder known folder ending (listed (is_some ending) folder) stop (λ texts. next (Some texts))
 
 -- the template, then its globals, then its partials
-abbrev pub Gathers : List (List ℕ) → Option (List ℕ) → (List ℕ → Option (Option (List ℕ))) → (Bool → List ℕ → Option (Option (List (List ℕ)))) → Type 0 → (List ℕ → Names → Option Texts → Type 0) → Type 0
+abbrev pub Gathers : List (List ℕ) → Option (List ℕ) → (List ℕ → Option (Option (List ℕ)))
+    → (Bool → List ℕ → Option (Option (List (List ℕ)))) → Type 0 → (List ℕ → Names → Option Texts → Type 0) → Type 0
 Gathers (template ∷ globals ∷ rest) ending known listed stop next =
     WithText (known template) stop (λ text.
     WithText (known globals) stop (λ json.
@@ -74,7 +79,8 @@ Gathers (template ∷ globals ∷ rest) ending known listed stop next =
 Gathers other ending known listed stop next = ⊤
 
 -- the globals of several pages, then their partials
-abbrev pub GathersGlobals : List ℕ → List (List ℕ) → Option (List ℕ) → (List ℕ → Option (Option (List ℕ))) → (Bool → List ℕ → Option (Option (List (List ℕ)))) → Type 0 → (Names → Option Texts → Type 0) → Type 0
+abbrev pub GathersGlobals : List ℕ → List (List ℕ) → Option (List ℕ) → (List ℕ → Option (Option (List ℕ)))
+    → (Bool → List ℕ → Option (Option (List (List ℕ)))) → Type 0 → (Names → Option Texts → Type 0) → Type 0
 GathersGlobals globals rest ending known listed stop next =
     WithText (known globals) stop (λ json.
     WithGlobals (object_read json) stop (λ names.

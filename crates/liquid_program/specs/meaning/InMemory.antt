@@ -32,7 +32,8 @@ abbrev pub list_at : BTreeMap (String Global) (Vec (String Global)) → List ℕ
 list_at lists path = option_map (λ v. map string_bytes v.items) (get_by_text lists path)
 
 -- of two kinds of lists the one that is asked for, at a path
-abbrev pub lists_at : BTreeMap (String Global) (Vec (String Global)) → BTreeMap (String Global) (Vec (String Global)) → Bool → List ℕ → Option (List (List ℕ))
+abbrev pub lists_at : BTreeMap (String Global) (Vec (String Global)) → BTreeMap (String Global) (Vec (String Global)) → Bool → List ℕ
+    → Option (List (List ℕ))
 lists_at folders trees false path = list_at folders path
 lists_at folders trees true path = list_at trees path
 
@@ -50,7 +51,8 @@ IsBeginning r output = (left : List ℕ) × (written r ≡ output ++ left)
 
 -- status 0 shows the whole run of the parsed text, status 1 a beginning of it; a text that is refused shows nothing
 abbrev pub ShowsAnswer : {Reg F T B : Type 0} → (List (NodeShape F T B) → Run Reg) → PageAnswer F T B → List ℕ → ℕ → Type 0
-ShowsAnswer run_of (Ok nodes) output status = ((status ≡ 0) × IsWhole (run_of nodes) output) ⊎ ((status ≡ 1) × IsBeginning (run_of nodes) output)
+ShowsAnswer run_of (Ok nodes) output status =
+    ((status ≡ 0) × IsWhole (run_of nodes) output) ⊎ ((status ≡ 1) × IsBeginning (run_of nodes) output)
 ShowsAnswer run_of (Err refusal) output status = (output ≡ []) × (status ≡ 1)
 
 -- nothing is shown: a file can't be read as what it should be, or memory ran out
@@ -58,31 +60,40 @@ abbrev pub ShowsNothing : List ℕ → ℕ → Type 0
 ShowsNothing output status = (output ≡ []) × ((status ≡ 3) ⊎ (status ≡ 1))
 
 -- a text in a language over the globals, with a store of the partials
-abbrev pub ShowsPage : {Reg F T P L B Q : Type 0} → Settings Reg F T P B Q → Lang F T L B → PageOptions → List ℕ → Names → Option Texts → List ℕ → ℕ → Type 0
+abbrev pub ShowsPage : {Reg F T P L B Q : Type 0} → Settings Reg F T P B Q → Lang F T L B → PageOptions → List ℕ → Names → Option Texts
+    → List ℕ → ℕ → Type 0
 ShowsPage {F = F} {T = T} {B = B} s l options text globals partials output status =
-    (answer : PageAnswer F T B) → Reads l text answer → (found : Option (Found F T B)) → IsFoundIn l partials found → ShowsAnswer (page_run s options globals found) answer output status
+    (answer : PageAnswer F T B) → Reads l text answer → (found : Option (Found F T B)) → IsFoundIn l partials found
+      → ShowsAnswer (page_run s options globals found) answer output status
 
 -- the template's text, in the standard language or in the other one
 abbrev pub ShowsIn : Bool → PageOptions → List ℕ → Names → Option Texts → List ℕ → ℕ → Type 0
-ShowsIn false options text globals partials output status = ShowsPage plain_setting plain_language options text globals partials output status
-ShowsIn true options text globals partials output status = ShowsPage standard_setting standard_language options text globals partials output status
+ShowsIn false options text globals partials output status =
+    ShowsPage plain_setting plain_language options text globals partials output status
+ShowsIn true options text globals partials output status =
+    ShowsPage standard_setting standard_language options text globals partials output status
 
 abbrev pub ShowsText : Options → List ℕ → Names → Option Texts → List ℕ → ℕ → Type 0
 ShowsText options text globals partials output status = ShowsIn options.standard (page_options options) text globals partials output status
 
 -- what a command shows, by the files at its paths
-abbrev pub ShowsCommand : Options → Option (List ℕ) → List (List ℕ) → (List ℕ → Option (List ℕ)) → (Bool → List ℕ → Option (List (List ℕ))) → List ℕ → ℕ → Type 0
+abbrev pub ShowsCommand : Options → Option (List ℕ) → List (List ℕ) → (List ℕ → Option (List ℕ)) → (Bool → List ℕ → Option (List (List ℕ)))
+    → List ℕ → ℕ → Type 0
 ShowsCommand options ending paths files folders output status =
-    Gathers paths ending (known_in files) (listed_in folders) (ShowsNothing output status) (λ text globals partials. ShowsText options text globals partials output status)
+    Gathers paths ending (known_in files) (listed_in folders) (ShowsNothing output status)
+      (λ text globals partials. ShowsText options text globals partials output status)
 
 -- a page that goes to the output leaves all files as they are; one that goes to a file shows nothing
-abbrev pub ShowsPlaced : Asked → Option (List ℕ) → (List ℕ → Option (List ℕ)) → (Bool → List ℕ → Option (List (List ℕ))) → (List ℕ → Option (List ℕ)) → List ℕ → ℕ → Type 0
+abbrev pub ShowsPlaced : Asked → Option (List ℕ) → (List ℕ → Option (List ℕ)) → (Bool → List ℕ → Option (List (List ℕ)))
+    → (List ℕ → Option (List ℕ)) → List ℕ → ℕ → Type 0
 ShowsPlaced asked None files folders left output status =
     Same (known_in files) (known_in left) × ShowsCommand asked.choices.options asked.choices.ending asked.paths files folders output status
 ShowsPlaced asked (Some place) files folders left output status =
     (output ≡ []) × WritesAsked asked place (known_in files) (listed_in folders) (known_in left) status
 
 -- what the words show, by the files, and which files there are then
-abbrev pub Shows : List (List ℕ) → (List ℕ → Option (List ℕ)) → (Bool → List ℕ → Option (List (List ℕ))) → (List ℕ → Option (List ℕ)) → List ℕ → ℕ → Type 0
+abbrev pub Shows : List (List ℕ) → (List ℕ → Option (List ℕ)) → (Bool → List ℕ → Option (List (List ℕ))) → (List ℕ → Option (List ℕ))
+    → List ℕ → ℕ → Type 0
 Shows words files folders left output status =
-    MatchOption (command_of words) ((output ≡ []) × WritesOthers (pages_of words) (known_in files) (listed_in folders) (known_in left) status) (λ asked. ShowsPlaced asked asked.choices.output files folders left output status)
+    MatchOption (command_of words) ((output ≡ []) × WritesOthers (pages_of words) (known_in files) (listed_in folders)
+      (known_in left) status) (λ asked. ShowsPlaced asked asked.choices.output files folders left output status)

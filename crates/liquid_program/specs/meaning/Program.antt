@@ -33,11 +33,14 @@ page_options options = record {
 -- the text, parsed in the standard language or in the other one, was rendered as a page, with these options, over these
 -- globals and these partials
 abbrev pub RendersIn : Bool → PageOptions → List ℕ → Names → Option Texts → Sunk → Sunk → Result (Unit {0}) Error → Type 0
-RendersIn false options text globals partials before after result = RendersPage plain_setting plain_language options text globals partials before after result
-RendersIn true options text globals partials before after result = RendersPage standard_setting standard_language options text globals partials before after result
+RendersIn false options text globals partials before after result =
+    RendersPage plain_setting plain_language options text globals partials before after result
+RendersIn true options text globals partials before after result =
+    RendersPage standard_setting standard_language options text globals partials before after result
 
 abbrev pub Renders : Options → List ℕ → Names → Option Texts → Sunk → Sunk → Result (Unit {0}) Error → Type 0
-Renders options text globals partials before after result = RendersIn options.standard (page_options options) text globals partials before after result
+Renders options text globals partials before after result =
+    RendersIn options.standard (page_options options) text globals partials before after result
 
 -- 0 if the template was rendered, 1 if it was refused
 abbrev pub status_of : Result (Unit {0}) Error → ℕ
@@ -45,7 +48,8 @@ status_of (Ok _) = 0
 status_of (Err error) = 1
 
 -- the text was rendered, and the status says how that ended
-pub record Finishes (options : Options) (text : List ℕ) (globals : Names) (partials : Option Texts) (before after : Sunk) (status : ℕ) : Type 0 where
+pub record Finishes (options : Options) (text : List ℕ) (globals : Names) (partials : Option Texts) (before after : Sunk)
+    (status : ℕ) : Type 0 where
   pub result : Result (Unit {0}) Error
   pub renders : Renders options text globals partials before after result
   pub status_is : status ≡ status_of result
@@ -55,9 +59,11 @@ abbrev pub Fails : Sunk → Sunk → ℕ → Type 0
 Fails before after status = (after ≡ before) × ((status ≡ 3) ⊎ (status ≡ 1))
 
 -- the files at these paths are read, and the template is rendered over the globals
-abbrev pub Executes : Options → Option (List ℕ) → List (List ℕ) → (List ℕ → Option (Option (List ℕ))) → (Bool → List ℕ → Option (Option (List (List ℕ)))) → Sunk → Sunk → ℕ → Type 0
+abbrev pub Executes : Options → Option (List ℕ) → List (List ℕ) → (List ℕ → Option (Option (List ℕ)))
+    → (Bool → List ℕ → Option (Option (List (List ℕ)))) → Sunk → Sunk → ℕ → Type 0
 Executes options ending paths known listed before after status =
-    Gathers paths ending known listed (Fails before after status) (λ text globals partials. Finishes options text globals partials before after status)
+    Gathers paths ending known listed (Fails before after status)
+      (λ text globals partials. Finishes options text globals partials before after status)
 
 -- the template at a path is read and rendered, over globals and partials that were read before
 abbrev pub ExecutesOne : Options → List ℕ → Names → Option Texts → (List ℕ → Option (Option (List ℕ))) → Sunk → Sunk → ℕ → Type 0

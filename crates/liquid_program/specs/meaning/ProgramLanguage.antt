@@ -37,7 +37,8 @@ use Rattle.liquid_program.specs.declared.filters.PlainKind.TheVariants.{Append, 
 
 -- `append`, and `fail`, which refuses every input
 abbrev pub plain_sense : PlainKind → FilterSense
-plain_sense Append = record { name = codes "append"; optional = false ∷ []; keywords = []; answers = λ input g. appended input g.positional }
+plain_sense Append =
+    record { name = codes "append"; optional = false ∷ []; keywords = []; answers = λ input g. appended input g.positional }
 plain_sense Fail = record { name = codes "fail"; optional = []; keywords = []; answers = λ input g. Err (plain (codes "bad")) }
 
 abbrev pub plain_filters : NameMap (FilterPlugin PlainKind)
@@ -57,7 +58,8 @@ PlainLang = Lang (CallShape PlainKind) (TagShape (CallShape PlainKind)) PlanShap
 abbrev pub plain_language : PlainLang
 plain_language = tags_and_blocks (registry_of plain_made plain_filters)
 
-abbrev pub plain_setting : Option (Found (CallShape PlainKind) (TagShape (CallShape PlainKind)) BlockShape) → Setting (Unit {0}) (CallShape PlainKind) (TagShape (CallShape PlainKind)) ℕ BlockShape ProgressShape
+abbrev pub plain_setting : Option (Found (CallShape PlainKind) (TagShape (CallShape PlainKind)) BlockShape)
+    → Setting (Unit {0}) (CallShape PlainKind) (TagShape (CallShape PlainKind)) ℕ BlockShape ProgressShape
 plain_setting = library tt (calls plain_sense)
 
 -- the standard language, and what its templates are rendered with; the register holds marks, of which there are none at

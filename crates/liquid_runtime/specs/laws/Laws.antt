@@ -30,19 +30,26 @@ LenientGetAgrees Reg = (v : View Reg) (path : Path) → v.lenient ≡ true → f
 
 -- a path of one text has a value exactly if that text is in the set of the names that are seen
 abbrev pub RootsAreSeen : Type 0 → Type 0
-RootsAreSeen Reg = (v : View Reg) (set : BTreeSet (String Global)) (name : List ℕ) → NamesOf (names_seen v) set → is_some (try_path v (text name ∷ [])) ≡ contains_text set name
+RootsAreSeen Reg =
+    (v : View Reg) (set : BTreeSet (String Global)) (name : List ℕ) → NamesOf (names_seen v) set
+    → is_some (try_path v (text name ∷ [])) ≡ contains_text set name
 
 -- setting a global changes no lookup of another name and no index variable
 abbrev pub SetGlobalKeepsOthers : Type 0 → Type 0
-SetGlobalKeepsOthers Reg = (v : View Reg) (name other : List ℕ) (t : Tree) → other ≢ name → (lookup (put_global v name t) other ≡ lookup v other) × ((put_global v name t).index ≡ v.index)
+SetGlobalKeepsOthers Reg =
+    (v : View Reg) (name other : List ℕ) (t : Tree) → other ≢ name → (lookup (put_global v name t) other ≡ lookup v other)
+    × ((put_global v name t).index ≡ v.index)
 
 -- setting an index variable changes no global and no lookup of another name
 abbrev pub SetIndexKeepsOthers : Type 0 → Type 0
-SetIndexKeepsOthers Reg = (v : View Reg) (name other : List ℕ) (t : Tree) → other ≢ name → (lookup (put_index v name t) other ≡ lookup v other) × ((put_index v name t).globals ≡ v.globals)
+SetIndexKeepsOthers Reg =
+    (v : View Reg) (name other : List ℕ) (t : Tree) → other ≢ name → (lookup (put_index v name t) other ≡ lookup v other)
+    × ((put_index v name t).globals ≡ v.globals)
 
 -- in a stack frame a name has its value in the frame's data, otherwise the value that it has below
 abbrev pub StackNamesFirst : Type 0 → Type 0
-StackNamesFirst Reg = (names : Names) (v : View Reg) (name : List ℕ) → lookup (begin_stack names None v) name ≡ option_or (get names name) (lookup v name)
+StackNamesFirst Reg =
+    (names : Names) (v : View Reg) (name : List ℕ) → lookup (begin_stack names None v) name ≡ option_or (get names name) (lookup v name)
 
 -- a new global frame hides no name and adds none
 abbrev pub GlobalFrameKeepsNames : Type 0 → Type 0
@@ -50,11 +57,15 @@ GlobalFrameKeepsNames Reg = (v : View Reg) (name : List ℕ) → lookup (begin_g
 
 -- a new isolated frame shows only its own names
 abbrev pub IsolatedFrameShowsItsNames : Type 0 → Type 0
-IsolatedFrameShowsItsNames Reg = (fresh : Reg) (names : Names) (name : Option (List ℕ)) (v : View Reg) (q : List ℕ) → lookup (begin_isolated fresh names name v) q ≡ get names q
+IsolatedFrameShowsItsNames Reg =
+    (fresh : Reg) (names : Names) (name : Option (List ℕ)) (v : View Reg) (q : List ℕ)
+    → lookup (begin_isolated fresh names name v) q ≡ get names q
 
 -- what is assigned in it is seen there
 abbrev pub IsolatedFrameShowsAssigned : Type 0 → Type 0
-IsolatedFrameShowsAssigned Reg = (fresh : Reg) (names : Names) (name : Option (List ℕ)) (v : View Reg) (q : List ℕ) (t : Tree) → lookup (put_global (begin_isolated fresh names name v) q t) q ≡ Some t
+IsolatedFrameShowsAssigned Reg =
+    (fresh : Reg) (names : Names) (name : Option (List ℕ)) (v : View Reg) (q : List ℕ) (t : Tree)
+    → lookup (put_global (begin_isolated fresh names name v) q t) q ≡ Some t
 
 -- it ends as a global frame inside a sandboxed one does
 abbrev pub IsolatedEndsBoth : Type 0 → Type 0
@@ -71,4 +82,5 @@ IsolatedKeepsOutside Reg =
 
 -- a built runtime has the caller's globals and no other name
 abbrev pub GlobalsAreSeen : Type 0 → Type 0
-GlobalsAreSeen Reg = (fresh : Reg) (depth : ℕ) (globals : Names) (name : List ℕ) → lookup (built_view fresh depth globals) name ≡ get globals name
+GlobalsAreSeen Reg =
+    (fresh : Reg) (depth : ℕ) (globals : Names) (name : List ℕ) → lookup (built_view fresh depth globals) name ≡ get globals name

@@ -10,7 +10,8 @@ opened (scope_base ∷ rs) = []
 opened (r ∷ rs) = r ∷ opened rs
 
 -- the innermost frame has ended
-pub record EndsFirst {Reg : Type 0} (before : List (Restore Reg)) (old : View Reg) (after : List (Restore Reg)) (new : View Reg) : Type 0 where
+pub record EndsFirst {Reg : Type 0} (before : List (Restore Reg)) (old : View Reg) (after : List (Restore Reg))
+    (new : View Reg) : Type 0 where
   pub restores : Restore Reg
   pub was_first : before ≡ restores ∷ after
   pub is_ended : new ≡ ending restores old

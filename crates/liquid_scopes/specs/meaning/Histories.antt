@@ -51,6 +51,10 @@ module _ {Reg : Type 0} where
 
   -- two kinds of scopes that show and restore the same give the same results for the same calls, and show and restore
   -- the same after each
-  abbrev pub SameAnswers : {S T : Type 0} → Reg → (S → View Reg) → (S → List (Restore Reg)) → (T → View Reg) → (T → List (Restore Reg)) → Type 0
-  SameAnswers {S} {T} fresh view restores view' restores' = (s : S) (t : T) (calls : List Call) (outs : List (Answer × S)) (outs' : List (Answer × T)) → view s ≡ view' t → restores s ≡ restores' t
-      → Made view restores fresh s calls outs → Made view' restores' fresh t calls outs' → map (left_by view restores) outs ≡ map (left_by view' restores') outs'
+  abbrev pub SameAnswers : {S T : Type 0} → Reg → (S → View Reg) → (S → List (Restore Reg)) → (T → View Reg) → (T → List (Restore Reg))
+      → Type 0
+  SameAnswers {S} {T} fresh view restores view' restores' =
+      (s : S) (t : T) (calls : List Call) (outs : List (Answer × S)) (outs' : List (Answer × T)) → view s ≡ view' t
+      → restores s ≡ restores' t
+      → Made view restores fresh s calls outs → Made view' restores' fresh t calls outs'
+        → map (left_by view restores) outs ≡ map (left_by view' restores') outs'

@@ -37,8 +37,10 @@ module _ {V Reg : Type 0} where
   layer_restores shape none_layer v = restore_nothing
   layer_restores shape (stack_layer d n) v = restored_by (stack_frame d n) v
   layer_restores shape (global_layer g) v = restored_by global_frame v
-  layer_restores shape (sandboxed_layer d n saved) v = restore_sandboxed v.locals v.base v.shown v.floor v.name saved.interrupt.current (shape saved.value)
-  layer_restores shape (isolated_layer d g n saved) v = restore_isolated v.locals v.globals v.base v.shown v.floor v.name saved.interrupt.current (shape saved.value)
+  layer_restores shape (sandboxed_layer d n saved) v =
+      restore_sandboxed v.locals v.base v.shown v.floor v.name saved.interrupt.current (shape saved.value)
+  layer_restores shape (isolated_layer d g n saved) v =
+      restore_isolated v.locals v.globals v.base v.shown v.floor v.name saved.interrupt.current (shape saved.value)
 
   abbrev pub shown_over : View Reg → List (Layer V) → View Reg
   shown_over v [] = v

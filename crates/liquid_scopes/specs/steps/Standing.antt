@@ -31,7 +31,8 @@ Noted has frame old new = (q : List ℕ) (j : ℕ) → stands new q j ≡ (stand
 
 -- some of them do
 abbrev pub PartlyNoted : (List ℕ → Bool) → ℕ → Places → Places → Type 0
-PartlyNoted has frame old new = (q : List ℕ) (j : ℕ) → (stands new q j || (has q && nat_eq j frame)) ≡ (stands old q j || (has q && nat_eq j frame))
+PartlyNoted has frame old new =
+    (q : List ℕ) (j : ℕ) → (stands new q j || (has q && nat_eq j frame)) ≡ (stands old q j || (has q && nat_eq j frame))
 
 -- the names that pass no longer have this frame
 abbrev pub Forgotten : (List ℕ → Bool) → ℕ → Places → Places → Type 0

@@ -33,25 +33,30 @@ module _ {Reg : Type 0} (held : MarksIn Reg) where
   begins_hidden shape.Comment g v = refl
   begins_hidden (shape.Raw text) g v = refl
 
-  captures_hide : (name : List ℕ) (caught : Option (List ℕ)) (g : Names) (v : View Reg) → captures name caught (hiding g v) ≡ overlaid g (captures name caught (hiding empty v))
+  captures_hide : (name : List ℕ) (caught : Option (List ℕ)) (g : Names) (v : View Reg)
+      → captures name caught (hiding g v) ≡ overlaid g (captures name caught (hiding empty v))
   captures_hide name None g v = answers_hide (Ok (capture_turn 0 no_frame None)) None (λ w. w) (λ h w. refl) g v
   captures_hide name (Some bytes) g v =
-      ap (λ n. answers (Ok end_turn) None (hiding n v)) (ap (λ n. insert n name (text_value bytes)) (sym (empty-over g)) ∙ sym (insert-over empty g name (text_value bytes)))
+      ap (λ n. answers (Ok end_turn) None (hiding n v)) (ap (λ n. insert n name (text_value bytes)) (sym (empty-over g))
+        ∙ sym (insert-over empty g name (text_value bytes)))
 
   block_start_hides : (n : StdBlockShape) → HidesGlobals {Reg = Reg} (block_starts n)
-  block_start_hides n g v = ap (λ r. answers r tt (hiding g v)) (begins_hidden n g v) ∙ answers_hide (begins_as n (hiding empty v)) tt (λ w. w) (λ h w. refl) g v
+  block_start_hides n g v =
+      ap (λ r. answers r tt (hiding g v)) (begins_hidden n g v) ∙ answers_hide (begins_as n (hiding empty v)) tt (λ w. w) (λ h w. refl) g v
 
   block_turn_hides : (n : StdBlockShape) (p : StdProgressShape) → HidesGlobals {Reg = Reg} (block_takes held n p)
   block_turn_hides (shape.Raw text) p g v = answers_hide (Ok (text_turn text)) p (λ w. w) (λ h w. refl) g v
   block_turn_hides shape.Comment p g v = answers_hide (Ok end_turn) p (λ w. w) (λ h w. refl) g v
   block_turn_hides (shape.For l) (Rounds r) g v = ap in_rounds (loop_hides l.name r g v)
   block_turn_hides (shape.For l) (Once part) g v = answers_hide (Ok (part_turn (Once part))) (Once part) (λ w. w) (λ h w. refl) g v
-  block_turn_hides (shape.For l) (Capturing caught) g v = answers_hide (Ok (part_turn (Capturing caught))) (Capturing caught) (λ w. w) (λ h w. refl) g v
+  block_turn_hides (shape.For l) (Capturing caught) g v =
+      answers_hide (Ok (part_turn (Capturing caught))) (Capturing caught) (λ w. w) (λ h w. refl) g v
   block_turn_hides (shape.For l) (Table t) g v = answers_hide (Ok (part_turn (Table t))) (Table t) (λ w. w) (λ h w. refl) g v
   block_turn_hides (shape.Tablerow l) (Table t) g v = ap in_table (table_hides l.name t g v)
   block_turn_hides (shape.Tablerow l) (Once part) g v = answers_hide (Ok (part_turn (Once part))) (Once part) (λ w. w) (λ h w. refl) g v
   block_turn_hides (shape.Tablerow l) (Rounds r) g v = answers_hide (Ok (part_turn (Rounds r))) (Rounds r) (λ w. w) (λ h w. refl) g v
-  block_turn_hides (shape.Tablerow l) (Capturing caught) g v = answers_hide (Ok (part_turn (Capturing caught))) (Capturing caught) (λ w. w) (λ h w. refl) g v
+  block_turn_hides (shape.Tablerow l) (Capturing caught) g v =
+      answers_hide (Ok (part_turn (Capturing caught))) (Capturing caught) (λ w. w) (λ h w. refl) g v
   block_turn_hides (shape.Capture name) (Table t) g v = answers_hide (Ok (part_turn (Table t))) (Table t) (λ w. w) (λ h w. refl) g v
   block_turn_hides (shape.Capture name) (Capturing caught) g v = ap in_capture (captures_hide name caught g v)
   block_turn_hides (shape.Capture name) (Once part) g v = answers_hide (Ok (part_turn (Once part))) (Once part) (λ w. w) (λ h w. refl) g v

@@ -29,10 +29,12 @@ module _ {F Reg : Type 0} (held : MarksIn Reg) (m : FilterMeaning F) where
   chain_hidden : (c : ChainShape F) (g : Names) (v : View Reg) → chain_value m c (hiding g v) ≡ chain_value m c (hiding empty v)
   chain_hidden c g v = ap (λ r. ok_then r (filtered m (erase (hiding empty v)) c.filters)) (evaluate_hidden g v c.entry)
 
-  counted_hides : {P : Type 0} (name : List ℕ) (lower : Option ℤ) (p : P) (g : Names) (v : View Reg) → counted_down name lower p (hiding g v) ≡ overlaid g (counted_down name lower p (hiding empty v))
+  counted_hides : {P : Type 0} (name : List ℕ) (lower : Option ℤ) (p : P) (g : Names) (v : View Reg)
+      → counted_down name lower p (hiding g v) ≡ overlaid g (counted_down name lower p (hiding empty v))
   counted_hides name None p g v = answers_hide (Err (past_limit name)) p (λ w. w) (λ h w. refl) g v
   counted_hides name (Some lower) p g v =
-      answers_hide (ok_then (old_index v name) (λ old. Ok (text_turn (signed_decimal lower)))) p (λ w. put_index w name (scalar (integer lower))) (λ h w. refl) g v
+      answers_hide (ok_then (old_index v name) (λ old. Ok (text_turn (signed_decimal lower)))) p
+        (λ w. put_index w name (scalar (integer lower))) (λ h w. refl) g v
 
   tag_start_hides : (n : StdTagShape F) → HidesGlobals {A = ℕ} {P = Unit {0}} {Reg = Reg} (begins_with 1)
   tag_start_hides n g v = answers_hide (Ok 1) tt (λ w. w) (λ h w. refl) g v
@@ -41,7 +43,8 @@ module _ {F Reg : Type 0} (held : MarksIn Reg) (m : FilterMeaning F) where
   tag_turn_hides (Library n) p g v = ap library_turn ((library.tags_hide m).turn n p g v)
   tag_turn_hides (Decrement name) p g v = counted_hides name (one_lower (counts_from (value_in v.index name))) p g v
   tag_turn_hides (Echo c) p g v =
-      ap (λ r. answers (echo_turn r) p (hiding g v)) (chain_hidden c g v) ∙ answers_hide (echo_turn (chain_value m c (hiding empty v))) p (λ w. w) (λ h w. refl) g v
+      ap (λ r. answers (echo_turn r) p (hiding g v)) (chain_hidden c g v)
+        ∙ answers_hide (echo_turn (chain_value m c (hiding empty v))) p (λ w. w) (λ h w. refl) g v
   tag_turn_hides (Cycle c) p g v = cycles_hide held g v c p
 
   pub tags_hide : Discreet {Reg = Reg} (tag_nodes held m)

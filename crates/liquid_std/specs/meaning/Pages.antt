@@ -13,5 +13,6 @@ use Rattle.liquid_std.specs.meaning.Languages.{tags_and_blocks}
 use Rattle.liquid_std.specs.meaning.Standard.{standard}
 
 -- a text is rendered as a page of the standard language with these filters
-abbrev pub RendersPage : {F : Type 0} → FilterMeaning F → Filters F → List ℕ → Names → Texts → Sunk → Sunk → Result (Unit {0}) Error → Type 0
+abbrev pub RendersPage : {F : Type 0} → FilterMeaning F → Filters F → List ℕ → Names → Texts → Sunk → Sunk → Result (Unit {0}) Error
+    → Type 0
 RendersPage m filters = page.RendersPage no_marks (standard marks_alone no_marks m) (tags_and_blocks filters)

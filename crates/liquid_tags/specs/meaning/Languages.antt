@@ -34,7 +34,8 @@ abbrev pub the_blocks : NameMap Blocks
 the_blocks = under_names start_of empty (If ∷ For ∷ Raw ∷ [])
 
 -- what a language of such tags and blocks means, by what its filters make from their arguments
-abbrev pub meaning_of : {U F : Type 0} → (U → Arguments → Result F Refusal) → Language U Tags Blocks → Lang F (TagShape F) PlanShape BlockShape
+abbrev pub meaning_of : {U F : Type 0} → (U → Arguments → Result F Refusal) → Language U Tags Blocks
+    → Lang F (TagShape F) PlanShape BlockShape
 meaning_of makes = language_of makes tag_given whole_block
 
 -- the library's language with these filters

@@ -11,5 +11,6 @@ use Rattle.liquid_tags.specs.meaning.Languages.{tags_and_blocks}
 use Rattle.liquid_tags.specs.meaning.Library.{library}
 
 -- a text is rendered as a page of the library's language with these filters
-abbrev pub RendersPage : {F : Type 0} → FilterMeaning F → Filters F → List ℕ → Names → Texts → Sunk → Sunk → Result (Unit {0}) Error → Type 0
+abbrev pub RendersPage : {F : Type 0} → FilterMeaning F → Filters F → List ℕ → Names → Texts → Sunk → Sunk → Result (Unit {0}) Error
+    → Type 0
 RendersPage m filters = page.RendersPage (tt {0}) (library (tt {0}) m) (tags_and_blocks filters)

@@ -57,7 +57,8 @@ counted from (suc n) = scalar (integer from) ∷ counted (from +ℤ pos 1) n
 
 -- the refusal of a range of more than a million numbers
 abbrev pub range_too_long : ℤ → ℤ → Refusal
-range_too_long from to = with_context (codes "stop") (signed_decimal to) (with_context (codes "start") (signed_decimal from) (plain (codes "Range too long")))
+range_too_long from to =
+    with_context (codes "stop") (signed_decimal to) (with_context (codes "start") (signed_decimal from) (plain (codes "Range too long")))
 
 -- the greatest number of items of a range
 abbrev pub longest : ℕ
@@ -74,4 +75,5 @@ items_between from to =
 abbrev pub items_of : {Reg : Type 0} → View Reg → SeriesShape → Result (List Tree) Refusal
 items_of v (Of e) = ok_then (evaluate v e) items_in
 items_of v (Between from to) =
-    ok_then (evaluate v from) (λ a. ok_then (whole_number a) (λ m. ok_then (evaluate v to) (λ b. ok_then (whole_number b) (λ n. items_between m n))))
+    ok_then (evaluate v from) (λ a. ok_then (whole_number a) (λ m. ok_then (evaluate v to)
+      (λ b. ok_then (whole_number b) (λ n. items_between m n))))

@@ -44,4 +44,5 @@ next_place place = cond (nat_lt place 7) (place + 1) place
 -- the same names, each with what is written over its value, from a place on
 abbrev pub written_over : Numbers → ℕ → Members → Members
 written_over n place no_members = no_members
-written_over n place (member name t ms) = member name (written (flag_at n place) (number_at n place) t) (written_over n (next_place place) ms)
+written_over n place (member name t ms) =
+    member name (written (flag_at n place) (number_at n place) t) (written_over n (next_place place) ms)

@@ -52,7 +52,8 @@ module _ {Reg : Type 0} where
 
   -- a step, and a run, seen from outside a frame and a trace
   abbrev pub step_outside : Restore Reg → Option (List ℕ) → Step Reg → Step Reg
-  step_outside restores trace step = record { piece = step.piece; checkpoint = step.checkpoint; traces = traced trace step.traces; at = ending restores step.at }
+  step_outside restores trace step =
+      record { piece = step.piece; checkpoint = step.checkpoint; traces = traced trace step.traces; at = ending restores step.at }
 
   abbrev pub outside : Restore Reg → Option (List ℕ) → Run Reg → Run Reg
   outside restores trace r = record {

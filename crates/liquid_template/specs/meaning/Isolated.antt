@@ -34,7 +34,8 @@ run_given_back outside r = record {
 
 -- a call that renders in isolation: its outcome is that of its run over the outside, and also that of its run over the
 -- emptied outside, given back
-pub record RendersIsolated {Reg : Type 0} (fresh : Reg) (action : Action Reg) (outside : View Reg) (before after : Sunk) (left : View Reg) (answer : Result (Unit {0}) Error) : Type 0 where
+pub record RendersIsolated {Reg : Type 0} (fresh : Reg) (action : Action Reg) (outside : View Reg) (before after : Sunk) (left : View Reg)
+    (answer : Result (Unit {0}) Error) : Type 0 where
   pub renders : Renders (action outside) outside before after left answer
   pub isolated : Renders (run_given_back outside (action (emptied fresh outside))) outside before after left answer
 

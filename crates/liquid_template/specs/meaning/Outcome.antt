@@ -28,7 +28,8 @@ was_stopped traces = record (plain (codes "Rendering was stopped")) { traces = t
 
 -- a rendering breaks off at a step, before which this many turns and bytes passed. The sink failed, with some of the
 -- piece left
-pub record SinkFails {Reg : Type 0} (step : Step Reg) (rest : List ℕ) (turns_before bytes_before : ℕ) (before after : Output) (refusal : Refusal) : Type 0 where
+pub record SinkFails {Reg : Type 0} (step : Step Reg) (rest : List ℕ) (turns_before bytes_before : ℕ) (before after : Output)
+    (refusal : Refusal) : Type 0 where
   pub no_checkpoint : step.checkpoint ≡ false
   pub some_left : 0 < length rest
   pub failures : after.sunk.failures ≡ before.sunk.failures + 1
@@ -38,11 +39,13 @@ pub record SinkFails {Reg : Type 0} (step : Step Reg) (rest : List ℕ) (turns_b
 
 -- or the gate refused the turn, or the bytes of the piece, of which nothing is written. They were past the limit, if it
 -- is known
-pub record GateRefuses {Reg : Type 0} (step : Step Reg) (part : List ℕ) (turns_before bytes_before : ℕ) (before after : Output) (refusal : Refusal) : Type 0 where
+pub record GateRefuses {Reg : Type 0} (step : Step Reg) (part : List ℕ) (turns_before bytes_before : ℕ) (before after : Output)
+    (refusal : Refusal) : Type 0 where
   pub nothing : part ≡ []
   pub failures : after.sunk.failures ≡ before.sunk.failures
   pub refused : ((step.checkpoint ≡ true) × Refuses before.turns turns_before 1 after.turns × Passes before.bytes bytes_before after.bytes)
-      ⊎ ((0 < length step.piece) × Passes before.turns turns_before after.turns × Refuses before.bytes bytes_before (length step.piece) after.bytes)
+      ⊎ ((0 < length step.piece) × Passes before.turns turns_before after.turns
+        × Refuses before.bytes bytes_before (length step.piece) after.bytes)
   pub reason : refusal ≡ was_stopped step.traces
 
 -- broken off at one step: the sink took all pieces before it, and a part of its own piece; the view is that step's, and
@@ -86,13 +89,15 @@ Outcome r before after left (Err error) = MatchOption (told error) (Cut r before
 
 -- a call that renders: its outcome is that of the run in the view at entry, and whatever it is, the frames are as they
 -- were
-pub record Renders {Reg : Type 0} (r : Run Reg) (entry : View Reg) (before after : Sunk) (left : View Reg) (answer : Result (Unit {0}) Error) : Type 0 where
+pub record Renders {Reg : Type 0} (r : Run Reg) (entry : View Reg) (before after : Sunk) (left : View Reg)
+    (answer : Result (Unit {0}) Error) : Type 0 where
   pub outcome : Outcome r (ungated before) (ungated after) left answer
   pub frames : SameFrames entry left
   pub pours : Pours before after answer
 
 -- the same for a call that asks a gate before each turn and each piece
-pub record RendersWithin {Reg : Type 0} (r : Run Reg) (entry : View Reg) (before after : Output) (left : View Reg) (answer : Result (Unit {0}) Error) : Type 0 where
+pub record RendersWithin {Reg : Type 0} (r : Run Reg) (entry : View Reg) (before after : Output) (left : View Reg)
+    (answer : Result (Unit {0}) Error) : Type 0 where
   pub outcome : Outcome r before after left answer
   pub frames : SameFrames entry left
   pub pours : Pours before.sunk after.sunk answer

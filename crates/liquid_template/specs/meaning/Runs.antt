@@ -10,8 +10,10 @@ use Rattle.liquid_template.specs.meaning.Nodes.{Setting, performed, played, run_
 use Rattle.liquid_template.specs.meaning.Partials.{Found, partial_in, partials_at}
 
 -- a setting, from what the filters, tags and blocks mean, and from what the store finds, if there is one
-abbrev pub setting : {Reg F T P B Q : Type 0} → Reg → FilterMeaning F → NodeMeaning T P Reg → NodeMeaning B Q Reg → Option (Found F T B) → Setting Reg F T P B Q
-setting fresh filters tags blocks finds = record { fresh = fresh; filters = filters; tags = tags; blocks = blocks; finds = option_map partial_in finds }
+abbrev pub setting : {Reg F T P B Q : Type 0} → Reg → FilterMeaning F → NodeMeaning T P Reg → NodeMeaning B Q Reg → Option (Found F T B)
+    → Setting Reg F T P B Q
+setting fresh filters tags blocks finds =
+    record { fresh = fresh; filters = filters; tags = tags; blocks = blocks; finds = option_map partial_in finds }
 
 module _ {Reg F T P B Q : Type 0} (s : Setting Reg F T P B Q) (depth : ℕ) where
   abbrev pub node_run : NodeShape F T B → Action Reg

@@ -40,7 +40,8 @@ run_over_outside outside r = record {
 
 -- a call that renders in a sandbox: its outcome is that of its run over the outside, and if the outside has globals,
 -- also that of its run over the emptied outside
-pub record RendersSandboxed {Reg : Type 0} (fresh : Reg) (action : Action Reg) (outside : View Reg) (before after : Sunk) (left : View Reg) (answer : Result (Unit {0}) Error) : Type 0 where
+pub record RendersSandboxed {Reg : Type 0} (fresh : Reg) (action : Action Reg) (outside : View Reg) (before after : Sunk) (left : View Reg)
+    (answer : Result (Unit {0}) Error) : Type 0 where
   pub renders : Renders (action outside) outside before after left answer
   pub isolated : HasGlobals outside → Renders (run_over_outside outside (action (emptied fresh outside))) outside before after left answer
 

@@ -55,7 +55,8 @@ module _ {Reg F T P B Q : Type 0} (s : Setting Reg F T P B Q) (depth : ℕ) wher
       pub owes : rs1 ≡ restored_by frame from ∷ rs
       pub goes : (parts : List (Action Reg)) → (k : ℕ) → (d a : Output) → (x y : View Reg) → (u : Unit {0}) → (answer : Answer)
           → RendersWithin (silent (under s.fresh frame trace (inner parts) from)) from c d x (Ok u)
-          → RendersWithin (turns s (partials_at s depth) m n parts k (m.catches n q (written (under s.fresh frame trace (inner parts) from))) x) x d a y answer
+          → RendersWithin (turns s (partials_at s depth) m n parts k (m.catches n q
+            (written (under s.fresh frame trace (inner parts) from))) x) x d a y answer
           → RendersWithin (turns s (partials_at s depth) m n parts (suc k) p v) v b a y answer
       pub fails : (parts : List (Action Reg)) → (k : ℕ) → (d : Output) → (x : View Reg) → (e : Error)
           → RendersWithin (silent (under s.fresh frame trace (inner parts) from)) from c d x (Err e)
@@ -90,7 +91,8 @@ pub record Aside (before opened closed after : Output) : Type 0 where
 
 -- a part was rendered aside under its frame, which has ended, and the node was given the text, unless the part was
 -- refused
-pub record Captured {Reg N R : Type 0} (m : NodeMeaning N R Reg) (n : N) (inner : Action Reg) (trace : Option (List ℕ)) (p q : R) (v w : View Reg) (rs rs1 : List (Restore Reg)) (b c : Output) (answer : Answer) (result : Bool) : Type 0 where
+pub record Captured {Reg N R : Type 0} (m : NodeMeaning N R Reg) (n : N) (inner : Action Reg) (trace : Option (List ℕ)) (p q : R)
+    (v w : View Reg) (rs rs1 : List (Restore Reg)) (b c : Output) (answer : Answer) (result : Bool) : Type 0 where
   pub start : Output
   pub last : Output
   pub left : View Reg
@@ -127,10 +129,12 @@ module _ {Reg F T P B Q : Type 0} (s : Setting Reg F T P B Q) (depth : ℕ) {A :
       × (kept ≡ trace)
       × IsOk answer
   PartialOpens frame trace v w rs rs1 answer kept None =
-      (rs1 ≡ rs) × IsErrAnd answer (λ e. (b : Output) → RendersWithin (under s.fresh frame trace (partials_at s depth name) v) v b b w (Err e))
+      (rs1 ≡ rs) × IsErrAnd answer (λ e. (b : Output) → RendersWithin (under s.fresh frame trace (partials_at s depth name) v) v b b w
+        (Err e))
 
 -- the frame of a part has begun, with the part's trace kept; or out of memory is the answer, and no frame has begun
 abbrev pub FrameBegins : {Reg : Type 0} → Reg → FrameShape → Option (List ℕ) → View Reg → View Reg → List (Restore Reg) → List (Restore Reg)
     → Answer → Option (List ℕ) → Bool → Type 0
-FrameBegins fresh frame trace v w rs rs1 answer kept true = (w ≡ beginning fresh frame v) × (rs1 ≡ restored_by frame v ∷ rs) × (kept ≡ trace) × IsOk answer
+FrameBegins fresh frame trace v w rs rs1 answer kept true =
+    (w ≡ beginning fresh frame v) × (rs1 ≡ restored_by frame v ∷ rs) × (kept ≡ trace) × IsOk answer
 FrameBegins fresh frame trace v w rs rs1 answer kept false = (w ≡ v) × (rs1 ≡ rs) × IsErrAnd answer (λ e. told e ≡ None)

@@ -13,4 +13,5 @@ Answer = Result (Unit {0}) Error
 abbrev pub Begins : {N R Reg : Type 0} → NodeMeaning N R Reg → N → View Reg → View Reg → Answer → Option R → Type 0
 Begins m n v w answer (Some p) = IsOk answer × ((m.starts n v).answer ≡ Ok p) × (w ≡ with_written (m.starts n v).written v)
 Begins m n v w answer None =
-    IsErrAnd answer (λ e. IfSome (told e) (λ r. (m.starts n v).answer ≡ Err r) × OnSome (told e) (w ≡ with_written (m.starts n v).written v))
+    IsErrAnd answer (λ e. IfSome (told e) (λ r. (m.starts n v).answer ≡ Err r)
+      × OnSome (told e) (w ≡ with_written (m.starts n v).written v))

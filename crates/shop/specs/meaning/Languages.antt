@@ -62,7 +62,8 @@ abbrev pub block_taken : one_of.Beside Blocks (one_of.Beside Stock (TextBlockPlu
 block_taken = block_beside whole_block (block_beside (λ block. stock_block) (λ plugin. text_block twice plugin.kind))
 
 -- what a language of such plug-ins means
-abbrev pub meaning_of : Language (FilterPlugin (Beside StdKind Quoted)) (one_of.Beside Tags Badge) (one_of.Beside Blocks (one_of.Beside Stock (TextBlockPlugin Twice)))
+abbrev pub meaning_of : Language (FilterPlugin (Beside StdKind Quoted)) (one_of.Beside Tags Badge)
+    (one_of.Beside Blocks (one_of.Beside Stock (TextBlockPlugin Twice)))
     → Lang ShopFilter ShopTag ShopPlan ShopBlock
 meaning_of = language_of filter_made tag_made block_taken
 

@@ -54,7 +54,8 @@ ShopLang = Lang ShopFilter ShopTag ShopPlan ShopBlock
 
 -- what the shop's templates are rendered with, by what its store finds
 abbrev pub shop_setting : Option ShopFound → Setting (Unit {0}) ShopFilter ShopTag TagProgress ShopBlock BlockProgress
-shop_setting = setting tt filter_calls (nodes_beside (tag_nodes filter_calls) badge) (nodes_beside block_nodes (nodes_beside stock (text_nodes twice)))
+shop_setting =
+    setting tt filter_calls (nodes_beside (tag_nodes filter_calls) badge) (nodes_beside block_nodes (nodes_beside stock (text_nodes twice)))
 
 -- what a text is read as
 abbrev pub ShopAnswer : Type 0
@@ -67,7 +68,8 @@ the_partials = insert empty (codes "item") ITEM.now
 -- the view of an open shop: the globals are the shop's goods
 abbrev pub SeesGoods : View (Unit {0}) → Type 0
 SeesGoods v =
-    (goods : BTreeMap (String Global) Value) × (object_read GOODS.now ≡ Some (Ok (members_view goods.entries))) × (v ≡ built_view tt 32 (names_of goods))
+    (goods : BTreeMap (String Global) Value) × (object_read GOODS.now ≡ Some (Ok (members_view goods.entries)))
+      × (v ≡ built_view tt 32 (names_of goods))
 
 -- its store finds the shop's partials
 abbrev pub FindsPartials : Option ShopFound → Type 0
@@ -85,12 +87,14 @@ refusal_names error = insert empty (codes "refusal") (scalar (text (error_text (
 module _ (l : ShopLang) (found : Option ShopFound) where
   -- the shop's page was rendered in its view
   abbrev pub PageShown : View (Unit {0}) → Sunk → Sunk → View (Unit {0}) → Result (Unit {0}) Error → Type 0
-  PageShown v before after left result = (answer : ShopAnswer) → Reads l PAGE.now answer → Rendered (shop_setting found) answer v before after left result
+  PageShown v before after left result =
+      (answer : ShopAnswer) → Reads l PAGE.now answer → Rendered (shop_setting found) answer v before after left result
 
   -- a text was rendered in a sandbox that sees these names alone
   abbrev pub SandboxShown : Names → List ℕ → View (Unit {0}) → Sunk → Sunk → View (Unit {0}) → Result (Unit {0}) Error → Type 0
   SandboxShown names source v before after left result =
-      (answer : ShopAnswer) → Reads l source answer → RenderedBy (λ nodes. sandboxed_run (shop_setting found) names None (nodes_from nodes)) answer v before after left result
+      (answer : ShopAnswer) → Reads l source answer → RenderedBy (λ nodes. sandboxed_run (shop_setting found) names None (nodes_from nodes))
+        answer v before after left result
 
   -- nothing follows a review without an error; an error is shown in the same way
   abbrev pub Follows : Result (Unit {0}) Error → View (Unit {0}) → Sunk → Sunk → View (Unit {0}) → Result (Unit {0}) Error → Type 0
@@ -98,7 +102,8 @@ module _ (l : ShopLang) (found : Option ShopFound) where
   Follows (Err error) v before after left result = SandboxShown (refusal_names error) REFUSED.now v before after left result
 
   -- a review was shown, and then its error, if it has one
-  pub record ReviewShown (review : List ℕ) (v : View (Unit {0})) (before after : Sunk) (left : View (Unit {0})) (result : Result (Unit {0}) Error) : Type 0 where
+  pub record ReviewShown (review : List ℕ) (v : View (Unit {0})) (before after : Sunk) (left : View (Unit {0}))
+      (result : Result (Unit {0}) Error) : Type 0 where
     pub answer : Result (Unit {0}) Error
     pub between : Sunk
     pub seen : View (Unit {0})

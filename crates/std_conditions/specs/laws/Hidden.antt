@@ -31,7 +31,8 @@ module _ {Reg : Type 0} (g : Names) (v : View Reg) where
       ap (λ x. ok_then (evaluate (hiding g v) l) (λ a. ok_then x (λ b. Ok (passes op a b)))) (evaluate_hidden g v r)
       ∙ ap (λ x. ok_then x (λ a. ok_then (evaluate (hiding empty v) r) (λ b. Ok (passes op a b)))) (evaluate_hidden g v l)
 
-  joined_hidden : (ts : List (TestShape × Connective)) (last : TestShape) → joined_hold (hiding g v) ts last ≡ joined_hold (hiding empty v) ts last
+  joined_hidden : (ts : List (TestShape × Connective)) (last : TestShape)
+      → joined_hold (hiding g v) ts last ≡ joined_hold (hiding empty v) ts last
   joined_hidden [] last = test_hidden last
   joined_hidden (t ∷ ts) last =
       ap (λ x. ok_then (test_holds (hiding g v) t.0) (λ it_holds. cond (decides t.1 it_holds) (Ok it_holds) x)) (joined_hidden ts last)
@@ -58,7 +59,8 @@ module _ {Reg : Type 0} (g : Names) (v : View Reg) where
       ap (λ x. ok_then (evaluate (hiding g v) e) (λ u. cond (value_eq t u) (Ok true) x)) (equals_hidden t es)
       ∙ ap (λ x. ok_then x (λ u. cond (value_eq t u) (Ok true) (equals_one (hiding empty v) t es))) (evaluate_hidden g v e)
 
-  when_hidden : (t : Tree) (part : ℕ) (whens : List (List ExpressionShape)) → part_when (hiding g v) t part whens ≡ part_when (hiding empty v) t part whens
+  when_hidden : (t : Tree) (part : ℕ) (whens : List (List ExpressionShape))
+      → part_when (hiding g v) t part whens ≡ part_when (hiding empty v) t part whens
   when_hidden t part [] = refl
   when_hidden t part (es ∷ more) =
       ap (λ x. ok_then (equals_one (hiding g v) t es) (λ is_equal. cond is_equal (Ok part) x)) (when_hidden t (part + 1) more)
@@ -67,4 +69,5 @@ module _ {Reg : Type 0} (g : Names) (v : View Reg) where
   pub part_case_hidden : (c : CaseShape) → part_case (hiding g v) c ≡ part_case (hiding empty v) c
   part_case_hidden c =
       ap (λ r. ok_then r (λ t. part_when (hiding g v) t 1 c.alternatives)) (evaluate_hidden g v c.value)
-      ∙ then_same (evaluate (hiding empty v) c.value) (λ t. part_when (hiding g v) t 1 c.alternatives) (λ t. part_when (hiding empty v) t 1 c.alternatives) (λ t. when_hidden t 1 c.alternatives)
+      ∙ then_same (evaluate (hiding empty v) c.value) (λ t. part_when (hiding g v) t 1 c.alternatives)
+        (λ t. part_when (hiding empty v) t 1 c.alternatives) (λ t. when_hidden t 1 c.alternatives)

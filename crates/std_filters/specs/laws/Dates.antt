@@ -18,4 +18,6 @@ MomentsArePrinted =
 
 -- any other input is returned
 abbrev pub OthersAreKept : Type 0
-OthersAreKept = (now : Option DateTime) (input pattern : Tree) → ((dt : DateTime) → ¬ (IsMomentOf now input dt)) → dated now input (pattern ∷ []) ≡ Ok input
+OthersAreKept =
+    (now : Option DateTime) (input pattern : Tree) → ((dt : DateTime) → ¬ (IsMomentOf now input dt))
+    → dated now input (pattern ∷ []) ≡ Ok input

@@ -48,7 +48,8 @@ evaluate_named v (k ∷ ks) = ok_then (evaluate v k.1) (λ t. ok_then (evaluate_
 
 -- the values of all arguments, the positional ones first, or the first error
 abbrev pub evaluate_arguments : {Reg : Type 0} → View Reg → List ExpressionShape → List Named → Result Given Refusal
-evaluate_arguments v es ks = ok_then (evaluate_all v es) (λ ts. ok_then (evaluate_named v ks) (λ us. Ok (record { positional = ts; keyword = us })))
+evaluate_arguments v es ks =
+    ok_then (evaluate_all v es) (λ ts. ok_then (evaluate_named v ks) (λ us. Ok (record { positional = ts; keyword = us })))
 
 -- the shape of a call
 abbrev pub call_of : {K : Type 0} → FilterCall K → CallShape K
@@ -95,4 +96,5 @@ accepts sense arguments = takes sense.optional (length arguments.positional) && 
 -- what arguments make of a kind: a call, if it takes them
 abbrev pub call_made : {K : Type 0} → (K → FilterSense) → K → Arguments → Result (CallShape K) Refusal
 call_made sense kind arguments =
-    cond (accepts (sense kind) arguments) (Ok (record { kind = kind; positional = arguments.positional; keyword = arguments.keyword })) (Err unexpected_arguments)
+    cond (accepts (sense kind) arguments) (Ok (record { kind = kind; positional = arguments.positional; keyword = arguments.keyword }))
+        (Err unexpected_arguments)

@@ -26,13 +26,15 @@ printed pattern (Ok bytes) = Ok (scalar (text bytes))
 printed pattern (Err e) = Err (pattern_error (date_format_error_text e) pattern)
 
 -- what is printed for the moment that an input means, or the input if it means none
-abbrev pub printed_moment : {P : DateTime → Type 0} → Tree → List ℕ → (((dt : DateTime) × P dt) ⊎ ((dt : DateTime) → ¬ (P dt))) → Result Tree Refusal
+abbrev pub printed_moment : {P : DateTime → Type 0} → Tree → List ℕ → (((dt : DateTime) × P dt) ⊎ ((dt : DateTime) → ¬ (P dt)))
+    → Result Tree Refusal
 printed_moment input pattern (inl (dt, _)) = printed pattern (formatted dt pattern)
 printed_moment input pattern (inr _) = Ok input
 
 -- the same, except for an empty pattern, with which the input is kept
 abbrev pub printed_by : Option DateTime → Tree → List ℕ → Result Tree Refusal
-printed_by now input pattern = cond (nat_eq (length pattern) 0) (Ok input) (printed_moment {P = IsMomentOf now input} input pattern (moment_of now input))
+printed_by now input pattern =
+    cond (nat_eq (length pattern) 0) (Ok input) (printed_moment {P = IsMomentOf now input} input pattern (moment_of now input))
 
 -- by the text of the argument, where `now` and `today` are the moment that is given, if one is
 abbrev pub dated : Option DateTime → Tree → List Tree → Result Tree Refusal

@@ -57,7 +57,9 @@ standard_filters now = register std_sense (registered std_sense empty timeless_k
 
 -- the same, as a part of a table with a host's own filters
 abbrev pub library_filters : {O : Type 0} → (O → FilterSense) → Option DateTime → NameMap (FilterPlugin (Beside StdKind O))
-library_filters own now = register (sense_beside std_sense own) (registered (sense_beside std_sense own) empty (map Library timeless_kinds)) (Library (date_kind now))
+library_filters own now =
+    register (sense_beside std_sense own) (registered (sense_beside std_sense own) empty (map Library timeless_kinds))
+    (Library (date_kind now))
 
 -- the standard filters, and a host's own, which replace those of the same name
 abbrev pub filters_beside : {O : Type 0} → (O → FilterSense) → Option DateTime → List O → NameMap (FilterPlugin (Beside StdKind O))

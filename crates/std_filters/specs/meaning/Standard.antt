@@ -121,7 +121,8 @@ number_sense numbers.Times = placed (codes "times") one number.times
 
 -- the filters on any value
 abbrev pub value_sense : ValueKind → FilterSense
-value_sense values.Default = record { name = codes "default"; optional = one_or_none; keywords = codes "allow_false" ∷ []; answers = defaulted }
+value_sense values.Default =
+    record { name = codes "default"; optional = one_or_none; keywords = codes "allow_false" ∷ []; answers = defaulted }
 value_sense values.Json = alone (codes "json") (λ input. Ok (as_json input))
 value_sense values.Size = alone (codes "size") (λ input. Ok (size input))
 

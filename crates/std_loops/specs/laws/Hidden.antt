@@ -33,8 +33,10 @@ module _ {Reg : Type 0} (g : Names) (v : View Reg) where
   series_hidden : (s : SeriesShape) → items_of (hiding g v) s ≡ items_of (hiding empty v) s
   series_hidden (Of e) = ap (λ x. ok_then x items_in) (evaluate_hidden g v e)
   series_hidden (Between from to) =
-      ap (λ x. ok_then (evaluate (hiding g v) from) (λ a. ok_then (whole_number a) (λ m. ok_then x (λ b. ok_then (whole_number b) (λ n. items_between m n))))) (evaluate_hidden g v to)
-      ∙ ap (λ x. ok_then x (λ a. ok_then (whole_number a) (λ m. ok_then (evaluate (hiding empty v) to) (λ b. ok_then (whole_number b) (λ n. items_between m n))))) (evaluate_hidden g v from)
+      ap (λ x. ok_then (evaluate (hiding g v) from) (λ a. ok_then (whole_number a)
+        (λ m. ok_then x (λ b. ok_then (whole_number b) (λ n. items_between m n))))) (evaluate_hidden g v to)
+      ∙ ap (λ x. ok_then x (λ a. ok_then (whole_number a) (λ m. ok_then (evaluate (hiding empty v) to)
+        (λ b. ok_then (whole_number b) (λ n. items_between m n))))) (evaluate_hidden g v from)
 
   option_hidden : (e : Option ExpressionShape) → option_number (hiding g v) e ≡ option_number (hiding empty v) e
   option_hidden None = refl
@@ -42,11 +44,14 @@ module _ {Reg : Type 0} (g : Names) (v : View Reg) where
 
   pub picked_hidden : (l : LoopShape) → picked_items (hiding g v) l ≡ picked_items (hiding empty v) l
   picked_hidden l =
-      ap (λ x. ok_then (items_of (hiding g v) l.series) (λ ts. ok_then (option_number (hiding g v) l.options.offset) (λ offset. ok_then x (λ limit.
+      ap (λ x. ok_then (items_of (hiding g v) l.series) (λ ts. ok_then (option_number (hiding g v) l.options.offset)
+        (λ offset. ok_then x (λ limit.
       Ok (picked (unwrap_or offset (pos 0)) limit l.options.is_reversed ts))))) (option_hidden l.options.limit)
-      ∙ ap (λ x. ok_then (items_of (hiding g v) l.series) (λ ts. ok_then x (λ offset. ok_then (option_number (hiding empty v) l.options.limit) (λ limit.
+      ∙ ap (λ x. ok_then (items_of (hiding g v) l.series) (λ ts. ok_then x
+        (λ offset. ok_then (option_number (hiding empty v) l.options.limit) (λ limit.
       Ok (picked (unwrap_or offset (pos 0)) limit l.options.is_reversed ts))))) (option_hidden l.options.offset)
-      ∙ ap (λ x. ok_then x (λ ts. ok_then (option_number (hiding empty v) l.options.offset) (λ offset. ok_then (option_number (hiding empty v) l.options.limit) (λ limit.
+      ∙ ap (λ x. ok_then x (λ ts. ok_then (option_number (hiding empty v) l.options.offset)
+        (λ offset. ok_then (option_number (hiding empty v) l.options.limit) (λ limit.
       Ok (picked (unwrap_or offset (pos 0)) limit l.options.is_reversed ts))))) (series_hidden l.series)
 
   nil_hidden : (s : SeriesShape) → is_over_nil (hiding g v) s ≡ is_over_nil (hiding empty v) s
@@ -54,7 +59,9 @@ module _ {Reg : Type 0} (g : Names) (v : View Reg) where
   nil_hidden (Between from to) = refl
 
   abbrev tabled : Result Bool Refusal → Result (List Tree) Refusal → Result (Option ℤ) Refusal → Result (Option TableShape) Refusal
-  tabled nothing items columns = ok_then nothing (λ n. cond n (Ok None) (ok_then items (λ ts. ok_then columns (λ c. Ok (Some (table ts (natural (unwrap_or c (pos 0)))))))))
+  tabled nothing items columns =
+      ok_then nothing (λ n. cond n (Ok None) (ok_then items (λ ts. ok_then columns
+      (λ c. Ok (Some (table ts (natural (unwrap_or c (pos 0)))))))))
 
   pub table_hidden : (l : LoopShape) → table_over (hiding g v) l ≡ table_over (hiding empty v) l
   table_hidden l =
@@ -67,15 +74,20 @@ module _ {Reg : Type 0} where
   rested_keeps zero g v = refl
   rested_keeps (suc place) g v = refl
 
-  pub loop_hides : (name : List ℕ) (r : RoundsShape) (g : Names) (v : View Reg) → loop_takes name r (hiding g v) ≡ overlaid g (loop_takes name r (hiding empty v))
+  pub loop_hides : (name : List ℕ) (r : RoundsShape) (g : Names) (v : View Reg)
+      → loop_takes name r (hiding g v) ≡ overlaid g (loop_takes name r (hiding empty v))
   loop_hides name r g v =
-      answers_hide (Ok (cond (is_left r.place v.interrupt) end_turn (item_turn name r.place r.size (slice_get r.left 0)))) (following r) (rested r.place) (rested_keeps r.place) g v
+      answers_hide (Ok (cond (is_left r.place v.interrupt) end_turn (item_turn name r.place r.size (slice_get r.left 0)))) (following r)
+        (rested r.place) (rested_keeps r.place) g v
 
-  stage_hides : (s : Stage) (name : List ℕ) (t : TableShape) (g : Names) (v : View Reg) → stage_takes s name t (hiding g v) ≡ overlaid g (stage_takes s name t (hiding empty v))
+  stage_hides : (s : Stage) (name : List ℕ) (t : TableShape) (g : Names) (v : View Reg)
+      → stage_takes s name t (hiding g v) ≡ overlaid g (stage_takes s name t (hiding empty v))
   stage_hides Text name t g v =
-      answers_hide (Ok (text_turn (text_at t (is_left t.place v.interrupt)))) (after_text t (is_left t.place v.interrupt)) (rested t.place) (rested_keeps t.place) g v
+      answers_hide (Ok (text_turn (text_at t (is_left t.place v.interrupt)))) (after_text t (is_left t.place v.interrupt)) (rested t.place)
+        (rested_keeps t.place) g v
   stage_hides Body name t g v = answers_hide (Ok (body_of name t)) (after_body t) (λ w. w) (λ h w. refl) g v
   stage_hides End name t g v = answers_hide (Ok end_turn) t (λ w. w) (λ h w. refl) g v
 
-  pub table_hides : (name : List ℕ) (t : TableShape) (g : Names) (v : View Reg) → table_takes name t (hiding g v) ≡ overlaid g (table_takes name t (hiding empty v))
+  pub table_hides : (name : List ℕ) (t : TableShape) (g : Names) (v : View Reg)
+      → table_takes name t (hiding g v) ≡ overlaid g (table_takes name t (hiding empty v))
   table_hides name t g v = stage_hides t.stage name t g v

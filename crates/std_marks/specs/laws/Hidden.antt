@@ -55,11 +55,14 @@ module _ {Reg : Type 0} (held : MarksIn Reg) (g : Names) (v : View Reg) where
   pub cycles_hide : {P : Type 0} (c : CycleShape) (p : P) → cycles held c p (hiding g v) ≡ overlaid g (cycles held c p (hiding empty v))
   cycles_hide c p =
       let next = next_of (hiding empty v) c (marks_in held v) in
-      ap (λ n. answers (ok_then n (λ x. Ok (text_turn x.0))) p (view_after held (hiding g v) n)) (next_hidden c (marks_in held v)) ∙ told_hides p next
+      ap (λ n. answers (ok_then n (λ x. Ok (text_turn x.0))) p (view_after held (hiding g v) n)) (next_hidden c (marks_in held v))
+        ∙ told_hides p next
 
-  unless_last_hides : (text : List ℕ) (is : Bool) → unless_last held text (hiding g v) is ≡ overlaid g (unless_last held text (hiding empty v) is)
+  unless_last_hides : (text : List ℕ) (is : Bool) → unless_last held text (hiding g v) is ≡ overlaid g
+      (unless_last held text (hiding empty v) is)
   unless_last_hides text true = answers_hide (Ok end_turn) None (λ w. w) (λ h w. refl) g v
-  unless_last_hides text false = answers_hide (Ok (text_turn text)) None (λ w. marked held (with_last text (marks_in held w)) w) (λ h w. refl) g v
+  unless_last_hides text false =
+      answers_hide (Ok (text_turn text)) None (λ w. marked held (with_last text (marks_in held w)) w) (λ h w. refl) g v
 
   pub changes_hide : (caught : Option (List ℕ)) → changes held caught (hiding g v) ≡ overlaid g (changes held caught (hiding empty v))
   changes_hide None = answers_hide (Ok (capture_turn 0 no_frame None)) None (λ w. w) (λ h w. refl) g v

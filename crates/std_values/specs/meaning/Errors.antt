@@ -34,7 +34,8 @@ object_expected name t = with_context (codes "found") (source t) (with_context (
 
 -- two values that have no order
 abbrev pub without_order : Tree → Tree → Refusal
-without_order first second = with_context (codes "second") (source second) (with_context (codes "first") (source first) (plain (codes "Values without an order")))
+without_order first second =
+    with_context (codes "second") (source second) (with_context (codes "first") (source first) (plain (codes "Values without an order")))
 
 -- a text that is not the base64 of any bytes
 abbrev pub invalid_base64 : Refusal

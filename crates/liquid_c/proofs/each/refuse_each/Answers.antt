@@ -8,7 +8,10 @@ loop-place-init c = record { turns = λ out. begun; later = refl; size = refl }
 
 pub loop-place-preserved : goal.loop-place-preserved
 loop-place-preserved c = record {
-  turns = λ out. refused_turn (λ g. g.now) c.args.kind out c.args.globals.now c.loop-place.outcomes c.loop-place.place _ (search rules) (search rules) c.requires (c.loop-place.invariant.turns out) c.refused.ensures.kind c.refused.ensures.needed c.refused.ensures.written;
+  turns =
+      λ out. refused_turn (λ g. g.now) c.args.kind out c.args.globals.now c.loop-place.outcomes c.loop-place.place _ (search rules)
+      (search rules) c.requires (c.loop-place.invariant.turns out) c.refused.ensures.kind c.refused.ensures.needed
+      c.refused.ensures.written;
   later = later_turn c.loop-place.outcomes c.args.outcomes.now c.loop-place.place _ c.loop-place.invariant.later;
   size = search rules;
 }
@@ -16,4 +19,5 @@ loop-place-preserved c = record {
 pub returns : goal.returns
 returns c =
     let ends : c.loop-place.place ≡ c.fewer-place-end.result = search rules in
-    λ out. all_turns (λ g. g.now) _ out out c.args.globals.now c.args.outcomes.now c.loop-place.outcomes 0 0 c.loop-place.place _ (ends ∙ c.fewer-place-end.ensures) (c.loop-place.invariant.turns out) c.loop-place.invariant.later
+    λ out. all_turns (λ g. g.now) _ out out c.args.globals.now c.args.outcomes.now c.loop-place.outcomes 0 0 c.loop-place.place _
+      (ends ∙ c.fewer-place-end.ensures) (c.loop-place.invariant.turns out) c.loop-place.invariant.later

@@ -6,7 +6,8 @@ pub returns-then-is_memory : goal.returns-then-is_memory
 returns-then-is_memory c = memory_refuses c.args.kind _ _ (search rules) refl
 
 pub returns-in-Some : goal.returns-in-Some
-returns-in-Some c = placed_refuses c.args.kind _ _ (Some c.in-Some.field-0) (search rules) (sym c.in-Some.is ∙ c.place.ensures) refl (refl, refl)
+returns-in-Some c =
+    placed_refuses c.args.kind _ _ (Some c.in-Some.field-0) (search rules) (sym c.in-Some.is ∙ c.place.ensures) refl (refl, refl)
 
 pub returns-in-None : goal.returns-in-None
 returns-in-None c = placed_refuses c.args.kind _ _ None (search rules) (sym c.in-None.is ∙ c.place.ensures) refl (refl, refl)

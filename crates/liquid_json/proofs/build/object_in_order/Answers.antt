@@ -8,4 +8,5 @@ use Rattle.liquid_json.proofs.build.object_in_order.Goals as goal
 pub returns : goal.returns
 returns c =
     let entries = c.args.entries.items in
-    IfOk-weaker c.collect.result (IsFromIterResult string_cmp entries) _ (λ m made. members_by_name m.entries entries (collected entries m c.requires made)) (search rules)
+    IfOk-weaker c.collect.result (IsFromIterResult string_cmp entries) _
+      (λ m made. members_by_name m.entries entries (collected entries m c.requires made)) (search rules)

@@ -10,7 +10,9 @@ returns-in_err-nodes-clause-rendered g c =
     rw (p.1, p.2) (λ answer reads. RenderedBy-refused _ answer _ _ c.in_err-nodes.field-0.0 (c.in_err-nodes.ensures.only answer reads))
 
 pub returns-clause-rendered : goal.returns-clause-rendered
-returns-clause-rendered g c = λ answer reads. RenderedBy-read _ answer _ _ _ _ _ _ (c.in_ok-nodes.ensures.only answer reads) (rw (c.new.ensures) at c.render_to.ensures.renders)
+returns-clause-rendered g c =
+    λ answer reads. RenderedBy-read _ answer _ _ _ _ _ _ (c.in_ok-nodes.ensures.only answer reads)
+    (rw (c.new.ensures) at c.render_to.ensures.renders)
 
 pub returns-clause-pours : goal.returns-clause-pours
 returns-clause-pours g c = c.render_to.ensures.renders.pours

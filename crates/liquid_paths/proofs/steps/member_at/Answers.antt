@@ -6,4 +6,5 @@ use Rattle.liquid_paths.proofs.Turns.{now_mapped}
 use Rattle.liquid_paths.proofs.steps.member_at.Goals as goal
 
 pub returns : goal.returns
-returns c = now_mapped view c.get.result ∙ ap (option_map view) c.get.ensures.value ∙ value_of_member c.args.word.now c.args.members.now.entries
+returns c =
+    now_mapped view c.get.result ∙ ap (option_map view) c.get.ensures.value ∙ value_of_member c.args.word.now c.args.members.now.entries

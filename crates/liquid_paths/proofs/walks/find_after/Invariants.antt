@@ -7,4 +7,6 @@ use Rattle.liquid_paths.specs.meaning.InPlace.{InPlace}
 use Rattle.liquid_paths.proofs.walks.find_after.Given as goal
 
 abbrev pub invariant-loop-place : goal.invariant-loop-place
-invariant-loop-place l = (find_after (indexes_of (take l.front l.path)) (view l.value) (indexes_of (drop l.front l.path)) ≡ find_after (indexes_of (take l.place l.path)) (cow_view l.at) (indexes_of (drop l.place l.path))) × InPlace l.at
+invariant-loop-place l =
+    (find_after (indexes_of (take l.front l.path)) (view l.value) (indexes_of (drop l.front l.path)) ≡ find_after
+    (indexes_of (take l.place l.path)) (cow_view l.at) (indexes_of (drop l.place l.path))) × InPlace l.at

@@ -9,4 +9,5 @@ use Rattle.liquid_plugins.proofs.evaluate.+evaluate.Given as goal
 abbrev pub invariant-named_path-loop-index : goal.invariant-named_path-loop-index
 invariant-named_path-loop-index g l =
     let v = g.R.Runtime.view l.runtime in
-    named_path v (scal string_bytes l.name) (expressions_of l.indexes.items) ≡ following (code_path_of l.path) (path_of v (expressions_of (drop l.index-index l.index-items)))
+    named_path v (scal string_bytes l.name) (expressions_of l.indexes.items) ≡ following (code_path_of l.path)
+      (path_of v (expressions_of (drop l.index-index l.index-items)))

@@ -10,7 +10,9 @@ use Rattle.liquid_program.proofs.gather.texts_of.Given as goal
 abbrev pub invariant-loop-name : goal.invariant-loop-name
 invariant-loop-name g l = record {
   same : g.F.Folder.known l.files ≡ g.F.Folder.known l.fn.files;
-  read : ReadSoFar (g.F.Folder.known l.fn.files) l.fn.folder l.fn.ending (keys (by_name l.fn.names)) (map (λ s. string_bytes s) (keys_of l.name-iterator)) l.source;
+  read : ReadSoFar (g.F.Folder.known l.fn.files) l.fn.folder l.fn.ending (keys (by_name l.fn.names))
+      (map (λ s. string_bytes s) (keys_of l.name-iterator)) l.source;
   came : (all : List ℕ → Option (List ℕ)) → g.F.Folder.known l.fn.files ≡ known_in all
-      → CameSoFar all l.fn.folder l.fn.ending (keys (by_name l.fn.names)) (map (λ s. string_bytes s) (keys_of l.name-iterator)) (g.F.Folder.requests l.fn.files) (g.F.Folder.requests l.files);
+      → CameSoFar all l.fn.folder l.fn.ending (keys (by_name l.fn.names)) (map (λ s. string_bytes s) (keys_of l.name-iterator))
+        (g.F.Folder.requests l.fn.files) (g.F.Folder.requests l.files);
 }

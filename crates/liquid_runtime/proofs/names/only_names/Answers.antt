@@ -6,4 +6,5 @@ use Rattle.liquid_runtime.proofs.names.only_names.Goals as goal
 pub returns : goal.returns
 returns c =
     let m = names_of c.args.object.now in
-    if_ok c.add_names.result (λ set. NamesOver m c.new.result set) (λ set. NamesOf m set) (λ set is. names_alone m c.new.result set is c.new.ensures.empty) c.add_names.ensures
+    if_ok c.add_names.result (λ set. NamesOver m c.new.result set) (λ set. NamesOf m set)
+      (λ set is. names_alone m c.new.result set is c.new.ensures.empty) c.add_names.ensures

@@ -10,4 +10,6 @@ undo_not true e = refl
 undo_not false e = absurd (cc)
 
 pub returns : goal.returns
-returns c = λ none q. ap (λ m. get m q) (names_of-empty c.args.names.now (nil_from_length c.args.names.now.entries (c.is_empty.ensures.0 (undo_not c.is_empty.result none)))) ∙ get-empty _ q
+returns c =
+    λ none q. ap (λ m. get m q) (names_of-empty c.args.names.now
+    (nil_from_length c.args.names.now.entries (c.is_empty.ensures.0 (undo_not c.is_empty.result none)))) ∙ get-empty _ q

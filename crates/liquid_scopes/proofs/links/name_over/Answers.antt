@@ -10,8 +10,11 @@ loop-link-preserved g c = λ v e.
     let xs = c.args.links.now in
     let i = c.loop-link.link-index in
     let l = c.link-item.result in
-    c.name_over-name.ensures ∙ ap (layer_name (layer_of l)) (c.loop-link.invariant v e) ∙ sym (name_link (layer_of l) (shown_over v (map layer_of (take i xs))))
+    c.name_over-name.ensures ∙ ap (layer_name (layer_of l)) (c.loop-link.invariant v e)
+      ∙ sym (name_link (layer_of l) (shown_over v (map layer_of (take i xs))))
     ∙ ap (λ u. u.name) (sym (shown_step layer_of v xs i l c.loop-link-test.true c.link-item.is))
 
 pub returns : goal.returns
-returns g c = λ v e. c.loop-link.invariant v e ∙ ap (λ xs. (shown_over v (map layer_of xs)).name) (take_all c.loop-link.link-index c.args.links.now (omega (arith, c.loop-link-test.false)))
+returns g c =
+    λ v e. c.loop-link.invariant v e ∙ ap (λ xs. (shown_over v (map layer_of xs)).name)
+    (take_all c.loop-link.link-index c.args.links.now (omega (arith, c.loop-link-test.false)))

@@ -10,7 +10,8 @@ returns-then-place-seal-clause-value g c =
     let ls = map layer_of c.args.table.now.links.items in
     let q = c.args.name.now in
     let top = c.args.listed in
-    sealed_away top (last_seal ls) c.in-Some.place c.in-Some-sealed.seal (own_at_top top ls q) (lookup (g.R.Runtime.view c.args.base.now) q) c.in-Some.is (sym c.sealed.ensures ∙ c.in-Some-sealed.is) c.if-place-seal.true
+    sealed_away top (last_seal ls) c.in-Some.place c.in-Some-sealed.seal (own_at_top top ls q)
+      (lookup (g.R.Runtime.view c.args.base.now) q) c.in-Some.is (sym c.sealed.ensures ∙ c.in-Some-sealed.is) c.if-place-seal.true
 
 pub returns-else-place-seal-clause-value : goal.returns-else-place-seal-clause-value
 returns-else-place-seal-clause-value g c =
@@ -18,7 +19,8 @@ returns-else-place-seal-clause-value g c =
     let q = c.args.name.now in
     let top = c.args.listed in
     c.look_at.ensures.value ∙ ap (λ o. own_at_top o ls q) (sym c.in-Some.is)
-    ∙ above_seal top (last_seal ls) c.in-Some.place c.in-Some-sealed.seal (own_at_top top ls q) (lookup (g.R.Runtime.view c.args.base.now) q) c.in-Some.is (sym c.sealed.ensures ∙ c.in-Some-sealed.is) c.if-place-seal.false
+    ∙ above_seal top (last_seal ls) c.in-Some.place c.in-Some-sealed.seal (own_at_top top ls q)
+      (lookup (g.R.Runtime.view c.args.base.now) q) c.in-Some.is (sym c.sealed.ensures ∙ c.in-Some-sealed.is) c.if-place-seal.false
 
 pub returns-in-None-sealed-clause-value : goal.returns-in-None-sealed-clause-value
 returns-in-None-sealed-clause-value g c =
@@ -26,18 +28,21 @@ returns-in-None-sealed-clause-value g c =
     let q = c.args.name.now in
     let top = c.args.listed in
     c.look_at-in-None-sealed.ensures.value ∙ ap (λ o. own_at_top o ls q) (sym c.in-Some.is)
-    ∙ no_seal top (last_seal ls) c.in-Some.place (own_at_top top ls q) (lookup (g.R.Runtime.view c.args.base.now) q) c.in-Some.is (sym c.sealed.ensures ∙ c.in-None-sealed.is)
+    ∙ no_seal top (last_seal ls) c.in-Some.place (own_at_top top ls q) (lookup (g.R.Runtime.view c.args.base.now) q) c.in-Some.is
+      (sym c.sealed.ensures ∙ c.in-None-sealed.is)
 
 pub returns-in-Some-sealed-2-clause-value : goal.returns-in-Some-sealed-2-clause-value
 returns-in-Some-sealed-2-clause-value g c =
     let ls = map layer_of c.args.table.now.links.items in
     let q = c.args.name.now in
     let top = c.args.listed in
-    base_sealed top (last_seal ls) c.in-Some-sealed-2.field-0 (own_at_top top ls q) (lookup (g.R.Runtime.view c.args.base.now) q) c.in-None.is (sym c.sealed-in-None.ensures ∙ c.in-Some-sealed-2.is)
+    base_sealed top (last_seal ls) c.in-Some-sealed-2.field-0 (own_at_top top ls q)
+      (lookup (g.R.Runtime.view c.args.base.now) q) c.in-None.is (sym c.sealed-in-None.ensures ∙ c.in-Some-sealed-2.is)
 
 pub returns-in-None-sealed-2-clause-value : goal.returns-in-None-sealed-2-clause-value
 returns-in-None-sealed-2-clause-value g c =
     let ls = map layer_of c.args.table.now.links.items in
     let q = c.args.name.now in
     let top = c.args.listed in
-    c.try_get_name.ensures ∙ base_seen top (last_seal ls) (own_at_top top ls q) (lookup (g.R.Runtime.view c.args.base.now) q) c.in-None.is (sym c.sealed-in-None.ensures ∙ c.in-None-sealed-2.is)
+    c.try_get_name.ensures ∙ base_seen top (last_seal ls) (own_at_top top ls q) (lookup (g.R.Runtime.view c.args.base.now) q) c.in-None.is
+      (sym c.sealed-in-None.ensures ∙ c.in-None-sealed-2.is)

@@ -10,4 +10,6 @@ returns-in_err-language g c =
     rw p.1 (no_page _ _ _ c.args.text.now _ _ _ _ p.2)
 
 pub returns : goal.returns
-returns g c = page_in g.F.Filter.Filter.means (registry_of g.F.ParseFilter.makes c.args.filters) _ c.args.text.now _ _ _ _ _ c.in_ok-language.ensures.means c.render_page_in.ensures
+returns g c =
+    page_in g.F.Filter.Filter.means (registry_of g.F.ParseFilter.makes c.args.filters) _ c.args.text.now _ _ _ _ _
+    c.in_ok-language.ensures.means c.render_page_in.ensures

@@ -5,4 +5,5 @@ use Rattle.liquid_views.specs.meaning.Entries.{put_entries}
 use Rattle.liquid_views.proofs.hash_map.copy_entries.Given as goal
 
 abbrev pub invariant-loop-key : goal.invariant-loop-key
-invariant-loop-key g l = put_entries g.V.ValueView.tree l.map.entries no_members ≡ put_entries g.V.ValueView.tree l.key-iterator (members_view l.copies.entries)
+invariant-loop-key g l =
+    put_entries g.V.ValueView.tree l.map.entries no_members ≡ put_entries g.V.ValueView.tree l.key-iterator (members_view l.copies.entries)

@@ -7,4 +7,5 @@ use Rattle.std_conditions.proofs.branches.equals_one.Given as goal
 abbrev pub invariant-loop-expression : goal.invariant-loop-expression
 invariant-loop-expression g l =
     let v = g.R.Runtime.view l.runtime in
-    equals_one v (tree_of l.value) (map expression_of l.expressions) ≡ equals_one v (tree_of l.value) (map expression_of (drop l.expression-index l.expressions))
+    equals_one v (tree_of l.value) (map expression_of l.expressions) ≡ equals_one v (tree_of l.value)
+      (map expression_of (drop l.expression-index l.expressions))

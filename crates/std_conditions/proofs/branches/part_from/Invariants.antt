@@ -6,4 +6,5 @@ use Rattle.std_conditions.proofs.branches.part_from.Given as goal
 abbrev pub invariant-loop-condition : goal.invariant-loop-condition
 invariant-loop-condition g l =
     let v = g.R.Runtime.view l.runtime in
-    (l.part ≡ l.first + l.condition-index) × (part_if v l.first (map condition_of l.conditions) ≡ part_if v l.part (map condition_of (drop l.condition-index l.conditions)))
+    (l.part ≡ l.first + l.condition-index) × (part_if v l.first (map condition_of l.conditions) ≡ part_if v l.part
+      (map condition_of (drop l.condition-index l.conditions)))

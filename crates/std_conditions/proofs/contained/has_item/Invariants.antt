@@ -4,4 +4,5 @@ use Rattle.std_conditions.specs.meaning.Contained.{has_item}
 use Rattle.std_conditions.proofs.contained.has_item.Given as goal
 
 abbrev pub invariant-loop-item : goal.invariant-loop-item
-invariant-loop-item l = has_item (tree_of l.value) (items_view l.items.items) ≡ has_item (tree_of l.value) (items_view (drop l.item-index l.items.items))
+invariant-loop-item l =
+    has_item (tree_of l.value) (items_view l.items.items) ≡ has_item (tree_of l.value) (items_view (drop l.item-index l.items.items))

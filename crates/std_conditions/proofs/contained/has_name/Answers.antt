@@ -12,4 +12,5 @@ some_mapped f (Some x) = refl
 pub returns : goal.returns
 returns c =
     c.is_some.ensures ∙ some_mapped (λ v. view v.now) c.get.result
-    ∙ ap is_some (now_mapped view c.get.result ∙ ap (option_map view) c.get.ensures.value ∙ value_of_member c.args.name.now c.args.members.now.entries)
+    ∙ ap is_some (now_mapped view c.get.result ∙ ap (option_map view) c.get.ensures.value
+      ∙ value_of_member c.args.name.now c.args.members.now.entries)

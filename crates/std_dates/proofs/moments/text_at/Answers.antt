@@ -11,10 +11,12 @@ returns-in-Some-clause-fits c = inl c.in-Some.ensures.fits
 
 pub returns-in-Some-from_str-clause-fits : goal.returns-in-Some-from_str-clause-fits
 returns-in-Some-from_str-clause-fits c =
-    found_weaker _ _ _ (λ dt at. inr (c.in-None.ensures.only, (c.in-Some-from_str.date, c.in-Some-from_str.ensures.fits, at))) c.midnight.ensures.is
+    found_weaker _ _ _ (λ dt at. inr (c.in-None.ensures.only, (c.in-Some-from_str.date, c.in-Some-from_str.ensures.fits, at)))
+      c.midnight.ensures.is
 
 -- neither a date time nor a date
-neither : (text : List ℕ) (now dt : DateTime) → ((e : DateTime) → ¬ (IsDateTimeText text now e)) → ((d : CivilDate) → ¬ (IsDateText text now d)) → ¬ (IsTextAt now text dt)
+neither : (text : List ℕ) (now dt : DateTime) → ((e : DateTime) → ¬ (IsDateTimeText text now e))
+    → ((d : CivilDate) → ¬ (IsDateText text now d)) → ¬ (IsTextAt now text dt)
 neither text now dt none no_date (inl is) = none dt is
 neither text now dt none no_date (inr (_, (d, is, at))) = no_date d is
 

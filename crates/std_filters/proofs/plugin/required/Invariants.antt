@@ -4,6 +4,7 @@ use Rattle.std_filters.proofs.plugin.required.Given as goal
 
 abbrev pub invariant-loop-parameter : goal.invariant-loop-parameter
 invariant-loop-parameter l = record {
-  counted : l.count + required (map (λ p. p.is_optional) (drop l.parameter-index l.parameters)) ≡ required (map (λ p. p.is_optional) l.parameters);
+  counted : l.count + required (map (λ p. p.is_optional) (drop l.parameter-index l.parameters)) ≡ required
+      (map (λ p. p.is_optional) l.parameters);
   bounded : l.count ≤ l.parameter-index;
 }

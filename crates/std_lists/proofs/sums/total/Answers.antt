@@ -14,9 +14,13 @@ pub loop-item-preserved : goal.loop-item-preserved
 loop-item-preserved c =
     let name = option_map (λ n. cow_str_bytes n.now) c.args.name in
     let so_far = to_z w128 c.loop-item.total-bits in
-    let front = mapped-drop (λ (r : Bor Value). tree_of r.now) c.args.items.now c.loop-item.item-index c.item-item.result c.loop-item-test.true c.item-item.is in
+    let front =
+        mapped-drop (λ (r : Bor Value). tree_of r.now) c.args.items.now c.loop-item.item-index c.item-item.result c.loop-item-test.true
+        c.item-item.is in
     record {
-      sum_so_far = c.loop-item.invariant.sum_so_far ∙ ap (λ ts. added so_far (total name ts)) front ∙ total-more name _ _ so_far _ _ c.in_ok-key_number.ensures (omega (arith, ints));
+      sum_so_far =
+          c.loop-item.invariant.sum_so_far ∙ ap (λ ts. added so_far (total name ts)) front
+          ∙ total-more name _ _ so_far _ _ c.in_ok-key_number.ensures (omega (arith, ints));
       from_below = omega (arith, ints);
       from_above = omega (arith, ints);
     }

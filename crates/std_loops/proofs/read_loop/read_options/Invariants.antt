@@ -9,7 +9,8 @@ use Rattle.std_loops.proofs.read_loop.read_options.Given as goal
 abbrev pub invariant-options : goal.invariant-options
 invariant-options l =
     (ts : Tokens) → AreTokens l.fn.tokens ts
-    → (rest : Tokens) × AreTokens l.tokens rest × (options_from l.block no_options ts.left ≡ options_from l.block (options_of l.options) rest.left)
+    → (rest : Tokens) × AreTokens l.tokens rest × (options_from l.block no_options ts.left ≡ options_from l.block
+      (options_of l.options) rest.left)
 
 abbrev pub decreases-options : goal.decreases-options
 decreases-options l = bytes_left l.tokens

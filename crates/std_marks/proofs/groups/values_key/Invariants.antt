@@ -5,4 +5,6 @@ use Rattle.std_marks.specs.meaning.Groups.{displayed, with_lengths}
 use Rattle.std_marks.proofs.groups.values_key.Given as goal
 
 abbrev pub invariant-loop-value : goal.invariant-loop-value
-invariant-loop-value l = string_bytes l.key ++ with_lengths (displayed (map expression_of (drop l.value-index l.values))) ≡ with_lengths (displayed (map expression_of l.values))
+invariant-loop-value l =
+    string_bytes l.key ++ with_lengths (displayed (map expression_of (drop l.value-index l.values))) ≡ with_lengths
+    (displayed (map expression_of l.values))

@@ -19,4 +19,5 @@ invariant-filters g l =
     shadow (Utf8 l.rest)
     × (length l.rest ≤ length l.s)
     × ((source end : List ℕ) (fs : List token.Filter) → Repeated (Following 124 FilterRule) l.s end fs
-    → Left (registry_of g.F.ParseFilter.makes l.registry) source l.rest end (map g.F.Filter.Meant.shape l.filters.items) (filters_read (registry_of g.F.ParseFilter.makes l.registry) source fs) (first_fault filter_fault fs))
+    → Left (registry_of g.F.ParseFilter.makes l.registry) source l.rest end (map g.F.Filter.Meant.shape l.filters.items)
+      (filters_read (registry_of g.F.ParseFilter.makes l.registry) source fs) (first_fault filter_fault fs))

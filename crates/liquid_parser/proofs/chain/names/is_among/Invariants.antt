@@ -3,4 +3,5 @@ use Rattle.std.specs.List.{list_any}
 use Rattle.liquid_parser.proofs.chain.names.is_among.Given as goal
 
 abbrev pub invariant-loop-other : goal.invariant-loop-other
-invariant-loop-other l = list_any (bytes_eq l.name) (map (λ n. n.now) l.names) ≡ list_any (bytes_eq l.name) (map (λ n. n.now) (drop l.other-index l.names))
+invariant-loop-other l =
+    list_any (bytes_eq l.name) (map (λ n. n.now) l.names) ≡ list_any (bytes_eq l.name) (map (λ n. n.now) (drop l.other-index l.names))

@@ -5,7 +5,8 @@ use Rattle.liquid_parser.proofs.TagLemmas.{tag_alone, no_other, tag_found, is_no
 use Rattle.liquid_parser.proofs.cursor.tag.whole_tag.Goals as goal
 
 pub returns-in_err-element-clause-only : goal.returns-in_err-element-clause-only
-returns-in_err-element-clause-only c t m = absurd (c.in_err-element.ensures.only [] (tag_element t c.args.text.now) (tag_alone c.args.text.now t m))
+returns-in_err-element-clause-only c t m =
+    absurd (c.in_err-element.ensures.only [] (tag_element t c.args.text.now) (tag_alone c.args.text.now t m))
 
 pub returns-then-is_empty-clause-only : goal.returns-then-is_empty-clause-only
 returns-then-is_empty-clause-only c t m =
@@ -15,7 +16,8 @@ returns-then-is_empty-clause-only c t m =
 pub returns-then-is_empty-clause-found : goal.returns-then-is_empty-clause-found
 returns-then-is_empty-clause-found c =
     let seen = c.in_ok-element.ensures.found in
-    tag_found c.args.text.now c.in_ok-element.rest.now c.in-Tag.tag seen.0 seen.1 (subst (λ e. Means e seen.0) c.in-Tag.is seen.2) (is_nothing c.in_ok-element.rest.now (sym c.is_empty.ensures ∙ c.if-is_empty.true))
+    tag_found c.args.text.now c.in_ok-element.rest.now c.in-Tag.tag seen.0 seen.1 (subst (λ e. Means e seen.0) c.in-Tag.is seen.2)
+      (is_nothing c.in_ok-element.rest.now (sym c.is_empty.ensures ∙ c.if-is_empty.true))
 
 pub returns-else-is_empty-clause-only : goal.returns-else-is_empty-clause-only
 returns-else-is_empty-clause-only c t m =

@@ -9,4 +9,5 @@ decreases-elements l = length l.rest
 
 -- each start that is without its end took some text
 abbrev pub invariant-elements : goal.invariant-elements
-invariant-elements l = shadow (Utf8 l.rest) × (l.level + length l.rest ≤ length l.body) × Going l.body l.end_name l.start_name l.nests l.rest l.level
+invariant-elements l =
+    shadow (Utf8 l.rest) × (l.level + length l.rest ≤ length l.body) × Going l.body l.end_name l.start_name l.nests l.rest l.level

@@ -11,4 +11,6 @@ decreases-elements g l = length l.rest
 
 -- what is left of the text is text, and what came before it leads to the state
 abbrev pub invariant-elements : goal.invariant-elements
-invariant-elements g l = shadow (Utf8 l.rest) × Goes (language_of g.F.ParseFilter.makes g.T.ParseTag.gives g.B.ParseBlock.block l.language) l.text l.rest (state_view g.F.Filter.Meant.shape g.T.Node.Meant.shape g.B.Node.Meant.shape g.B.Plan.Meant.shape g.B.ParseBlock.block l.state)
+invariant-elements g l =
+    shadow (Utf8 l.rest) × Goes (language_of g.F.ParseFilter.makes g.T.ParseTag.gives g.B.ParseBlock.block l.language) l.text l.rest
+    (state_view g.F.Filter.Meant.shape g.T.Node.Meant.shape g.B.Node.Meant.shape g.B.Plan.Meant.shape g.B.ParseBlock.block l.state)

@@ -4,7 +4,9 @@ use Rattle.liquid_parser.proofs.StepLemmas.{placed_ok, placed_err, tag_shape}
 use Rattle.liquid_parser.proofs.reading.steps.tag_node.Goals as goal
 
 pub returns-in-Ok : goal.returns-in-Ok
-returns-in-Ok g c source t h = placed_ok _ _ _ _ (c.in-Ok.ensures _ h.tokens_are) ∙ ap (λ n. Ok n) (sym (tag_shape g.F.Filter.Meant.shape g.T.Node.Meant.shape g.B.Node.Meant.shape c.in-Ok.made))
+returns-in-Ok g c source t h =
+    placed_ok _ _ _ _ (c.in-Ok.ensures _ h.tokens_are) ∙ ap (λ n. Ok n)
+    (sym (tag_shape g.F.Filter.Meant.shape g.T.Node.Meant.shape g.B.Node.Meant.shape c.in-Ok.made))
 
 pub returns-in-Err : goal.returns-in-Err
 returns-in-Err g c source t h =

@@ -9,6 +9,11 @@ use Rattle.liquid_partials.proofs.eager.EagerCompilerPartialCompiler.compile.Giv
 abbrev pub invariant-loop-name : goal.invariant-loop-name
 invariant-loop-name g l = record {
   source : l.lazy.texts.source ≡ l.fn.self.source;
-  compiled : Compiled (language_of g.F.ParseFilter.makes g.T.ParseTag.gives g.B.ParseBlock.block l.fn.language.value) (g.S.PartialSource.texts l.fn.self.source) (kept_or_read (λ template. template_nodes g.F.Filter.Meant.shape g.T.Node.Meant.shape g.B.Node.Meant.shape template.value) (language_of g.F.ParseFilter.makes g.T.ParseTag.gives g.B.ParseBlock.block l.lazy.texts.parser.language.value) l.lazy.kept (g.S.PartialSource.texts l.lazy.texts.source));
-  read : ReadSoFar (λ template. template_nodes g.F.Filter.Meant.shape g.T.Node.Meant.shape g.B.Node.Meant.shape template.value) (g.S.PartialSource.texts l.fn.self.source) l.lazy.kept l.lazy.texts.readings.count (map (λ name. string_bytes name) l.name-iterator.rest.items);
+  compiled : Compiled (language_of g.F.ParseFilter.makes g.T.ParseTag.gives g.B.ParseBlock.block l.fn.language.value)
+      (g.S.PartialSource.texts l.fn.self.source) (kept_or_read (λ template. template_nodes g.F.Filter.Meant.shape g.T.Node.Meant.shape
+      g.B.Node.Meant.shape template.value) (language_of g.F.ParseFilter.makes g.T.ParseTag.gives g.B.ParseBlock.block
+      l.lazy.texts.parser.language.value) l.lazy.kept (g.S.PartialSource.texts l.lazy.texts.source));
+  read : ReadSoFar (λ template. template_nodes g.F.Filter.Meant.shape g.T.Node.Meant.shape g.B.Node.Meant.shape template.value)
+      (g.S.PartialSource.texts l.fn.self.source) l.lazy.kept l.lazy.texts.readings.count
+      (map (λ name. string_bytes name) l.name-iterator.rest.items);
 }

@@ -13,7 +13,8 @@ returns-in-None-clause-gives g c =
     let none = found_none (readings l texts) c.args.name.now (rw c.in-None.is at c.in_ok-template.ensures.gives) in
     let unknown = rw c.in_ok-template.ensures.source at c.unknown.ensures in
     if_some (told c.unknown.result)
-    (λ r e. partial_found (readings l texts) c.args.name.now None none ∙ ap (λ names. Err (unknown_partial c.args.name.now names)) (keys-readings l texts) ∙ ap (λ x. Err x) (sym e))
+    (λ r e. partial_found (readings l texts) c.args.name.now None none
+      ∙ ap (λ names. Err (unknown_partial c.args.name.now names)) (keys-readings l texts) ∙ ap (λ x. Err x) (sym e))
     unknown
 
 pub returns-in-None-clause-lost : goal.returns-in-None-clause-lost

@@ -4,4 +4,6 @@ use Rattle.liquid_partials.proofs.StoreLemmas.{if_ok, keys-readings}
 use Rattle.liquid_partials.proofs.on_demand.OnDemandStorePartialStoreFilterNodeNode.names.Goals as goal
 
 pub returns : goal.returns
-returns g c = if_ok c.names.result (λ names e. e ∙ sym (keys-readings (language_of g.F.ParseFilter.makes g.T.ParseTag.gives g.B.ParseBlock.block c.args.self.now.texts.parser.language.value) (g.S.PartialSource.texts c.args.self.now.texts.source))) c.names.ensures
+returns g c =
+    if_ok c.names.result (λ names e. e ∙ sym (keys-readings (language_of g.F.ParseFilter.makes g.T.ParseTag.gives g.B.ParseBlock.block
+    c.args.self.now.texts.parser.language.value) (g.S.PartialSource.texts c.args.self.now.texts.source))) c.names.ensures

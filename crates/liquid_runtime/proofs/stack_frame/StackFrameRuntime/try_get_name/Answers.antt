@@ -18,4 +18,5 @@ returns-in-None g c =
     let f = c.args.self.now in
     let v = g.P.Runtime.view f.parent in
     let q = c.args.name.now in
-    c.try_get_name.ensures ∙ sym (lookup_stack (names_of f.names) None v q ∙ value_below (get (names_of f.names) q) (lookup v q) c.in-None.ensures)
+    c.try_get_name.ensures ∙ sym (lookup_stack (names_of f.names) None v q
+      ∙ value_below (get (names_of f.names) q) (lookup v q) c.in-None.ensures)

@@ -6,4 +6,6 @@ use Rattle.liquid_scopes.specs.steps.LinkLayers.{layer_of}
 use Rattle.liquid_scopes.proofs.chained_scopes.ChainedScopesRuntime.try_get_name.Given as goal
 
 abbrev pub invariant-loop-link : goal.invariant-loop-link
-invariant-loop-link g l = option_map (λ r. tree_of r.now) l.found ≡ lookup (shown_over (g.R.Runtime.view l.self.base) (map layer_of (take l.link-index l.link-items))) l.name
+invariant-loop-link g l =
+    option_map (λ r. tree_of r.now) l.found ≡ lookup (shown_over (g.R.Runtime.view l.self.base)
+    (map layer_of (take l.link-index l.link-items))) l.name

@@ -5,4 +5,6 @@ use Rattle.liquid_scopes.proofs.LayerLaws.{shown_index}
 use Rattle.liquid_scopes.proofs.flat_scopes.FlatScopesRuntime.get_index.Goals as goal
 
 pub returns : goal.returns
-returns g c = c.get_index.ensures ∙ ap (λ i. value_in i c.args.name.now) (sym (shown_index (g.R.Runtime.view c.args.self.now.base) (map layer_of c.args.self.now.table.links.items)))
+returns g c =
+    c.get_index.ensures ∙ ap (λ i. value_in i c.args.name.now) (sym
+    (shown_index (g.R.Runtime.view c.args.self.now.base) (map layer_of c.args.self.now.table.links.items)))

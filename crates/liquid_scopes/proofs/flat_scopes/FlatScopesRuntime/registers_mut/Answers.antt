@@ -13,10 +13,15 @@ returns g c =
       (refl, λ w. refl),
       record {
         lends = tt;
-        after = λ w. ap (λ v. shown_over v ls) (c.registers_mut.ensures.after w) ∙ shown_with_registers (g.R.Runtime.view s.base) ls (shaped g.R.Register.Fresh.shape w);
+        after =
+            λ w. ap (λ v. shown_over v ls) (c.registers_mut.ensures.after w)
+            ∙ shown_with_registers (g.R.Runtime.view s.base) ls (shaped g.R.Register.Fresh.shape w);
         store = c.registers_mut.ensures.store;
-        owes = λ w. ap (λ v. restoring g.R.Register.Fresh.shape v ls (scope_base ∷ g.R.Runtime.restores (g.R.Runtime.relent s.base w))) (c.registers_mut.ensures.after w)
-            ∙ restoring_with_registers g.R.Register.Fresh.shape (g.R.Runtime.view s.base) ls (shaped g.R.Register.Fresh.shape w) (scope_base ∷ g.R.Runtime.restores (g.R.Runtime.relent s.base w))
+        owes =
+            λ w. ap (λ v. restoring g.R.Register.Fresh.shape v ls (scope_base ∷ g.R.Runtime.restores (g.R.Runtime.relent s.base w)))
+            (c.registers_mut.ensures.after w)
+            ∙ restoring_with_registers g.R.Register.Fresh.shape (g.R.Runtime.view s.base) ls (shaped g.R.Register.Fresh.shape w)
+              (scope_base ∷ g.R.Runtime.restores (g.R.Runtime.relent s.base w))
             ∙ ap (λ rs. restoring g.R.Register.Fresh.shape (g.R.Runtime.view s.base) ls (scope_base ∷ rs)) (c.registers_mut.ensures.owes w);
         borrows = c.registers_mut.ensures.borrows;
         value = c.registers_mut.ensures.value ∙ sym (shown_registers (g.R.Runtime.view s.base) ls);

@@ -6,7 +6,12 @@ use Rattle.liquid_scopes.proofs.LayerLaws.{none_open}
 use Rattle.liquid_scopes.proofs.flat_scopes.FlatScopesScopes.into_base.Goals as goal
 
 pub returns-clause-view : goal.returns-clause-view
-returns-clause-view g c = ap (shown_over (g.R.Runtime.view c.args.self.base)) (sym (none_open g.R.Register.Fresh.shape (g.R.Runtime.view c.args.self.base) (map layer_of c.args.self.table.links.items) _ c.requires))
+returns-clause-view g c =
+    ap (shown_over (g.R.Runtime.view c.args.self.base)) (sym (none_open g.R.Register.Fresh.shape (g.R.Runtime.view c.args.self.base)
+    (map layer_of c.args.self.table.links.items) _ c.requires))
 
 pub returns-clause-owes : goal.returns-clause-owes
-returns-clause-owes g c = ap (λ ls. restoring g.R.Register.Fresh.shape (g.R.Runtime.view c.args.self.base) ls (scope_base ∷ g.R.Runtime.restores c.args.self.base)) (sym (none_open g.R.Register.Fresh.shape (g.R.Runtime.view c.args.self.base) (map layer_of c.args.self.table.links.items) _ c.requires))
+returns-clause-owes g c =
+    ap (λ ls. restoring g.R.Register.Fresh.shape (g.R.Runtime.view c.args.self.base) ls
+    (scope_base ∷ g.R.Runtime.restores c.args.self.base)) (sym (none_open g.R.Register.Fresh.shape (g.R.Runtime.view c.args.self.base)
+    (map layer_of c.args.self.table.links.items) _ c.requires))

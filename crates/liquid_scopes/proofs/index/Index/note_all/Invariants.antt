@@ -9,5 +9,6 @@ use Rattle.liquid_scopes.proofs.index.Index.note_all.Given as goal
 -- the names that are still to come are those that are missing, and none is removed
 abbrev pub invariant-loop-name : goal.invariant-loop-name
 invariant-loop-name l = (q : List ℕ) (j : ℕ)
-    → ((stands l.self.places q j || (has_name q l.name-iterator && nat_eq j l.frame)) ≡ (stands l.initial.self.places q j || (is_some (get (names_of l.names) q) && nat_eq j l.frame)))
+    → ((stands l.self.places q j || (has_name q l.name-iterator && nat_eq j l.frame)) ≡ (stands l.initial.self.places q j
+      || (is_some (get (names_of l.names) q) && nat_eq j l.frame)))
     × ((stands l.self.places q j || stands l.initial.self.places q j) ≡ stands l.self.places q j)

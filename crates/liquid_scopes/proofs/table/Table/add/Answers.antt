@@ -16,7 +16,15 @@ invariant_of-self g c =
     let place = c.len-place.result in
     record {
       fits = λ q j. c.in-Ok.ensures.fits q j
-          ∙ ap (λ ls. listed_at ls t.unlisted q j) (sym (ap (map layer_of) (c.push_reserved.ensures.items ∙ ap (λ links. links.items ++ link ∷ []) c.in-Ok.ensures.links) ∙ map_append layer_of s.links.items (link ∷ [])));
-      seals_are = kept_place is_sandboxed layer_of xs ys link place _ _ c.push_reserved.ensures.items (omega (arith, c.len-place.ensures, t.links.ok.0)) t.seals_are (c.keep_place.ensures ∙ ap (λ b. t.seals.items ++ cond b (place ∷ []) []) c.is_sandboxed.ensures);
-      globals_are = kept_place is_global layer_of xs ys link place _ _ c.push_reserved.ensures.items (omega (arith, c.len-place.ensures, t.links.ok.0)) t.globals_are (c.keep_place-2.ensures ∙ ap (λ b. t.globals.items ++ cond b (place ∷ []) []) c.is_global.ensures);
+          ∙ ap (λ ls. listed_at ls t.unlisted q j) (sym (ap (map layer_of)
+            (c.push_reserved.ensures.items ∙ ap (λ links. links.items ++ link ∷ []) c.in-Ok.ensures.links)
+            ∙ map_append layer_of s.links.items (link ∷ [])));
+      seals_are =
+          kept_place is_sandboxed layer_of xs ys link place _ _ c.push_reserved.ensures.items
+          (omega (arith, c.len-place.ensures, t.links.ok.0)) t.seals_are
+          (c.keep_place.ensures ∙ ap (λ b. t.seals.items ++ cond b (place ∷ []) []) c.is_sandboxed.ensures);
+      globals_are =
+          kept_place is_global layer_of xs ys link place _ _ c.push_reserved.ensures.items
+          (omega (arith, c.len-place.ensures, t.links.ok.0)) t.globals_are
+          (c.keep_place-2.ensures ∙ ap (λ b. t.globals.items ++ cond b (place ∷ []) []) c.is_global.ensures);
     }

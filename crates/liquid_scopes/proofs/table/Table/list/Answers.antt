@@ -9,7 +9,9 @@ invariant_of-self g c =
     let s = c.args.self.now in
     let xs = s.links.items in
     record {
-      fits = λ q j. fits_past layer_of xs q j c.in-Some.place _ (subst (λ ys. length ys ≤ c.in-Some.place) c.as_slice.ensures.value c.in-None-get.ensures.lookup.3) (s.fits q j ∙ ap (λ u. listed_at (map layer_of xs) u q j) c.in-Some.is);
+      fits =
+          λ q j. fits_past layer_of xs q j c.in-Some.place _ (subst (λ ys. length ys ≤ c.in-Some.place) c.as_slice.ensures.value
+          c.in-None-get.ensures.lookup.3) (s.fits q j ∙ ap (λ u. listed_at (map layer_of xs) u q j) c.in-Some.is);
       seals_are = s.seals_are;
       globals_are = s.globals_are;
     }
@@ -21,7 +23,8 @@ invariant_of-self-in-Ok g c =
     let link = c.in-Some-get.link.now in
     record {
       fits = λ q j. fits_listed layer_of xs link q j c.in-Some.place _ _
-          (own_within layer_of c.as_slice.result.now c.in-Some.place link q c.in-Some-get.ensures.lookup.3.0 c.in-Some-get.ensures.lookup.1 ∙ ap (λ ys. own_at c.in-Some.place (map layer_of ys) q) c.as_slice.ensures.value)
+          (own_within layer_of c.as_slice.result.now c.in-Some.place link q c.in-Some-get.ensures.lookup.3.0 c.in-Some-get.ensures.lookup.1
+            ∙ ap (λ ys. own_at c.in-Some.place (map layer_of ys) q) c.as_slice.ensures.value)
           (s.fits q j ∙ ap (λ u. listed_at (map layer_of xs) u q j) c.in-Some.is) (c.in-Ok.ensures.noted q j);
       seals_are = s.seals_are;
       globals_are = s.globals_are;
@@ -33,7 +36,9 @@ invariant_of-self-in-Err g c =
     let xs = s.links.items in
     let link = c.in-Some-get.link.now in
     record {
-      fits = λ q j. fits_undone layer_of xs link q j c.in-Some.place _ _ _ (s.fits q j ∙ ap (λ u. listed_at (map layer_of xs) u q j) c.in-Some.is) (c.note.ensures.partly q j) (c.forget.ensures q j)
+      fits =
+          λ q j. fits_undone layer_of xs link q j c.in-Some.place _ _ _
+          (s.fits q j ∙ ap (λ u. listed_at (map layer_of xs) u q j) c.in-Some.is) (c.note.ensures.partly q j) (c.forget.ensures q j)
           ∙ ap (λ u. listed_at (map layer_of xs) u q j) (sym c.in-Some.is);
       seals_are = s.seals_are;
       globals_are = s.globals_are;

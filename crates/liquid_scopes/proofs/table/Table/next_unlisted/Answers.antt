@@ -15,7 +15,9 @@ pub invariant_of-self : goal.invariant_of-self
 invariant_of-self g c =
     let s = c.list.new.self in
     record {
-      fits = λ q j. fits_next (map layer_of s.links.items) s.unlisted q j c.len.result _ (omega (arith, c.len.ensures, s.links.ok.0) ∙ sym (map_length layer_of s.links.items)) c.in_ok-list.ensures.listed (s.fits q j);
+      fits =
+          λ q j. fits_next (map layer_of s.links.items) s.unlisted q j c.len.result _
+          (omega (arith, c.len.ensures, s.links.ok.0) ∙ sym (map_length layer_of s.links.items)) c.in_ok-list.ensures.listed (s.fits q j);
       seals_are = s.seals_are;
       globals_are = s.globals_are;
     }
@@ -23,5 +25,6 @@ invariant_of-self g c =
 pub returns-clause-fits : goal.returns-clause-fits
 returns-clause-fits g c = λ q j.
     let s = c.list.new.self in
-    fits_push (map layer_of s.links.items) (layer_of c.args.next.now) s.unlisted q j c.len.result _ (omega (arith, c.len.ensures, s.links.ok.0) ∙ sym (map_length layer_of s.links.items)) c.in_ok-list.ensures.listed (s.fits q j)
+    fits_push (map layer_of s.links.items) (layer_of c.args.next.now) s.unlisted q j c.len.result _
+      (omega (arith, c.len.ensures, s.links.ok.0) ∙ sym (map_length layer_of s.links.items)) c.in_ok-list.ensures.listed (s.fits q j)
     ∙ ap (λ links. listed_at (map layer_of links.items ++ layer_of c.args.next.now ∷ []) (Some c.len.result) q j) c.in_ok-list.ensures.links

@@ -7,4 +7,6 @@ use Rattle.liquid_scopes.specs.steps.LinkLayers.{layer_of}
 use Rattle.liquid_scopes.proofs.table.Table.roots_over.Goals as goal
 
 pub returns : goal.returns
-returns g c = λ v e. subst (λ xs. IfOk c.roots_over.result (λ names. NamesOf (names_seen (shown_over v (map layer_of xs))) names)) c.as_slice.ensures.value (c.roots_over.ensures v e)
+returns g c =
+    λ v e. subst (λ xs. IfOk c.roots_over.result (λ names. NamesOf (names_seen (shown_over v (map layer_of xs))) names))
+    c.as_slice.ensures.value (c.roots_over.ensures v e)

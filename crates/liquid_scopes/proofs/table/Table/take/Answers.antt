@@ -11,9 +11,16 @@ invariant_of-self g c =
     let xs = c.args.self.now.links.items in
     let ys = c.pop.new.self.items in
     record {
-      fits = λ q j. fits_pop_unlisted layer_of xs ys c.in-Some.link c.args.self.now.unlisted q j c.len-place.result _ c.in-Some.ensures.items (omega (arith, c.len-place.ensures, c.pop.new.self.ok.0)) (sym c.is_at.ensures ∙ c.if-is_at.true) (c.args.self.now.fits q j);
-      seals_are = dropped_place is_sandboxed layer_of xs ys c.in-Some.link _ _ c.in-Some.ensures.items c.args.self.now.seals_are (λ kept place e. c.drop_place.ensures kept place (e ∙ ap (λ b. kept ++ cond b (place ∷ []) []) (sym c.is_sandboxed.ensures)));
-      globals_are = dropped_place is_global layer_of xs ys c.in-Some.link _ _ c.in-Some.ensures.items c.args.self.now.globals_are (λ kept place e. c.drop_place-in-Some.ensures kept place (e ∙ ap (λ b. kept ++ cond b (place ∷ []) []) (sym c.is_global.ensures)));
+      fits =
+          λ q j. fits_pop_unlisted layer_of xs ys c.in-Some.link c.args.self.now.unlisted q j c.len-place.result _ c.in-Some.ensures.items
+          (omega (arith, c.len-place.ensures, c.pop.new.self.ok.0)) (sym c.is_at.ensures ∙ c.if-is_at.true) (c.args.self.now.fits q j);
+      seals_are =
+          dropped_place is_sandboxed layer_of xs ys c.in-Some.link _ _ c.in-Some.ensures.items c.args.self.now.seals_are
+          (λ kept place e. c.drop_place.ensures kept place (e ∙ ap (λ b. kept ++ cond b (place ∷ []) []) (sym c.is_sandboxed.ensures)));
+      globals_are =
+          dropped_place is_global layer_of xs ys c.in-Some.link _ _ c.in-Some.ensures.items c.args.self.now.globals_are
+          (λ kept place e. c.drop_place-in-Some.ensures kept place (e ∙ ap (λ b. kept ++ cond b (place ∷ []) [])
+          (sym c.is_global.ensures)));
     }
 
 pub invariant_of-self-in-Some : goal.invariant_of-self-in-Some
@@ -21,7 +28,14 @@ invariant_of-self-in-Some g c =
     let xs = c.args.self.now.links.items in
     let ys = c.pop.new.self.items in
     record {
-      fits = λ q j. fits_pop layer_of xs ys c.in-Some.link c.args.self.now.unlisted q j c.len-place.result _ _ c.in-Some.ensures.items (omega (arith, c.len-place.ensures, c.pop.new.self.ok.0)) (c.args.self.now.fits q j) (c.forget.ensures q j);
-      seals_are = dropped_place is_sandboxed layer_of xs ys c.in-Some.link _ _ c.in-Some.ensures.items c.args.self.now.seals_are (λ kept place e. c.drop_place.ensures kept place (e ∙ ap (λ b. kept ++ cond b (place ∷ []) []) (sym c.is_sandboxed.ensures)));
-      globals_are = dropped_place is_global layer_of xs ys c.in-Some.link _ _ c.in-Some.ensures.items c.args.self.now.globals_are (λ kept place e. c.drop_place-in-Some.ensures kept place (e ∙ ap (λ b. kept ++ cond b (place ∷ []) []) (sym c.is_global.ensures)));
+      fits =
+          λ q j. fits_pop layer_of xs ys c.in-Some.link c.args.self.now.unlisted q j c.len-place.result _ _ c.in-Some.ensures.items
+          (omega (arith, c.len-place.ensures, c.pop.new.self.ok.0)) (c.args.self.now.fits q j) (c.forget.ensures q j);
+      seals_are =
+          dropped_place is_sandboxed layer_of xs ys c.in-Some.link _ _ c.in-Some.ensures.items c.args.self.now.seals_are
+          (λ kept place e. c.drop_place.ensures kept place (e ∙ ap (λ b. kept ++ cond b (place ∷ []) []) (sym c.is_sandboxed.ensures)));
+      globals_are =
+          dropped_place is_global layer_of xs ys c.in-Some.link _ _ c.in-Some.ensures.items c.args.self.now.globals_are
+          (λ kept place e. c.drop_place-in-Some.ensures kept place (e ∙ ap (λ b. kept ++ cond b (place ∷ []) [])
+          (sym c.is_global.ensures)));
     }

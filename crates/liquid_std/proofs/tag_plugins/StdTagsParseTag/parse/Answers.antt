@@ -7,9 +7,11 @@ use Rattle.liquid_std.specs.declared.tags.StdTagShape.TheVariants.{Library}
 use Rattle.liquid_std.proofs.tag_plugins.StdTagsParseTag.parse.Goals as goal
 
 pub returns-in_ok-parse-in-Library : goal.returns-in_ok-parse-in-Library
-returns-in_ok-parse-in-Library g c ts at = rw c.in-Library.is (ap (λ r. ok_then r (λ n. Ok (Library n))) (c.in_ok-parse-in-Library.ensures ts at))
+returns-in_ok-parse-in-Library g c ts at =
+    rw c.in-Library.is (ap (λ r. ok_then r (λ n. Ok (Library n))) (c.in_ok-parse-in-Library.ensures ts at))
 
 pub returns-in_err-parse-in-Library : goal.returns-in_err-parse-in-Library
 returns-in_err-parse-in-Library g c ts at =
     let p = err_from_is_err_and c.from_residual.result c.from_residual.ensures.1 in
-    rw (c.in-Library.is, p.1, p.2) (then_refused (told c.in_err-parse-in-Library.field-0.0) _ (λ n. Ok (Library n)) (c.in_err-parse-in-Library.ensures ts at))
+    rw (c.in-Library.is, p.1, p.2) (then_refused (told c.in_err-parse-in-Library.field-0.0) _ (λ n. Ok (Library n))
+      (c.in_err-parse-in-Library.ensures ts at))

@@ -8,4 +8,5 @@ returns-then-bytes g c = gated_put _ _ _ _ _ _ _ c.if-bytes.true (c.bytes.ensure
 pub returns-else-bytes : goal.returns-else-bytes
 returns-else-bytes g c =
     let some : 0 < length c.args.piece.now = search rules in
-    rw c.refuse.ensures (gated_refused _ _ _ _ _ _ c.if-bytes.false some c.bytes.ensures.bytes c.bytes.ensures.past c.bytes.ensures.turns c.stopped_error.ensures)
+    rw c.refuse.ensures (gated_refused _ _ _ _ _ _ c.if-bytes.false some c.bytes.ensures.bytes c.bytes.ensures.past c.bytes.ensures.turns
+      c.stopped_error.ensures)

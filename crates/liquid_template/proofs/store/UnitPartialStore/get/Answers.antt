@@ -5,4 +5,5 @@ use Rattle.liquid_template.proofs.Renderings.{if_then}
 use Rattle.liquid_template.proofs.store.UnitPartialStore.get.Goals as goal
 
 pub returns-clause-gives : goal.returns-clause-gives
-returns-clause-gives g c = if_then (told c.unknown_partial.result) (λ r e. no_partial c.args.name.now ∙ ap (λ x. Err x) (sym e)) c.unknown_partial.ensures
+returns-clause-gives g c =
+    if_then (told c.unknown_partial.result) (λ r e. no_partial c.args.name.now ∙ ap (λ x. Err x) (sym e)) c.unknown_partial.ensures

@@ -10,4 +10,6 @@ returns-in_ok-to_cow-in-Some g c =
     ∙ value_of_map g.K.ObjectIndex.index g.V.ValueView.tree c.args.index.now c.args.self.now.entries
 
 pub returns-in-None : goal.returns-in-None
-returns-in-None g c = ap (option_map g.V.ValueView.tree) c.in-None.ensures ∙ value_of_map g.K.ObjectIndex.index g.V.ValueView.tree c.args.index.now c.args.self.now.entries
+returns-in-None g c =
+    ap (option_map g.V.ValueView.tree) c.in-None.ensures ∙ value_of_map g.K.ObjectIndex.index g.V.ValueView.tree c.args.index.now
+    c.args.self.now.entries

@@ -9,7 +9,9 @@ pub returns-in-Tag : goal.returns-in-Tag
 returns-in-Tag c source following e m = c.as_str-in-Tag.ensures ∙ tag_text c.in-Tag.tag source following e (rw c.in-Tag.is at m)
 
 pub returns-in-Expression : goal.returns-in-Expression
-returns-in-Expression c source following e m = c.as_str-in-Expression.ensures ∙ expression_text c.in-Expression.exp source following e (rw c.in-Expression.is at m)
+returns-in-Expression c source following e m =
+    c.as_str-in-Expression.ensures ∙ expression_text c.in-Expression.exp source following e (rw c.in-Expression.is at m)
 
 pub returns-in-Invalid : goal.returns-in-Invalid
-returns-in-Invalid c source following e m = c.as_str-in-Invalid.ensures ∙ invalid_text c.in-Invalid.token source following e (rw c.in-Invalid.is at m)
+returns-in-Invalid c source following e m =
+    c.as_str-in-Invalid.ensures ∙ invalid_text c.in-Invalid.token source following e (rw c.in-Invalid.is at m)
