@@ -62,13 +62,13 @@ module _ {F T P B : Type 0} (l : Lang F T P B) (source end_name : List ℕ) (out
     es,
     c,
     subst (λ b. Progress b es es done) (sym is_open) (λ a h. subst (λ d. AllRead l source end_name outside es (in_front d a)) (sym none)
-      (subst (λ x. AllRead l source end_name outside es x) (sym (in_front_none a)) h)),
+        (subst (λ x. AllRead l source end_name outside es x) (sym (in_front_none a)) h)),
   )
 
   pub Onward-node : (text rest rest' : List ℕ) (closed closed' : Bool) (done done' : List (NodeShape F T B)) (n : NodeShape F T B)
       → Onward text closed rest done → closed ≡ false → closed' ≡ false → done' ≡ done ++ n ∷ []
       → ((es : List Element) → Cover rest es → (left : List Element) × Cover rest' left
-        × (next_read l source end_name outside es ≡ Ok (Some (n ∷ []), left))) → Onward text closed' rest' done'
+      × (next_read l source end_name outside es ≡ Ok (Some (n ∷ []), left))) → Onward text closed' rest' done'
   Onward-node text rest rest' closed closed' done done' n goes is_open is_open' is gives es c =
       let w = goes es c in
       let g = gives w.0 w.1 in
@@ -76,15 +76,15 @@ module _ {F T P B : Type 0} (l : Lang F T P B) (source end_name : List ℕ) (out
         g.0,
         g.1,
         subst (λ b. Progress b es g.0 done') (sym is_open') (λ a h. subst (λ d. AllRead l source end_name outside es (in_front d a))
-          (sym is)
+            (sym is)
             (subst (λ x. AllRead l source end_name outside es x) (in_front_twice done (n ∷ []) a)
-              (progress (in_front (n ∷ []) a) (one_more g.2 h)))),
+            (progress (in_front (n ∷ []) a) (one_more g.2 h)))),
       )
 
   pub Onward-end : (text rest rest' : List ℕ) (closed closed' : Bool) (done : List (NodeShape F T B)) → Onward text closed rest done
       → closed ≡ false → closed' ≡ true
       → ((es : List Element) → Cover rest es → (left : List Element) × Cover rest' left
-        × (next_read l source end_name outside es ≡ Ok (None, left))) → Onward text closed' rest' done
+      × (next_read l source end_name outside es ≡ Ok (None, left))) → Onward text closed' rest' done
   Onward-end text rest rest' closed closed' done goes is_open shut gives es c =
       let w = goes es c in
       let g = gives w.0 w.1 in
@@ -92,13 +92,13 @@ module _ {F T P B : Type 0} (l : Lang F T P B) (source end_name : List ℕ) (out
         g.0,
         g.1,
         subst (λ b. Progress b es g.0 done) (sym shut) (subst (λ d. AllRead l source end_name outside es (Ok (d, g.0))) (append-nil done)
-          (progress (Ok ([], g.0)) (ended g.2))),
+            (progress (Ok ([], g.0)) (ended g.2))),
       )
 
   pub Onward-refused : (text rest : List ℕ) (closed : Bool) (done : List (NodeShape F T B)) (o : Option Refusal)
       → Onward text closed rest done → closed ≡ false
       → ((es : List Element) → Cover rest es → IfSome o (λ r. next_read l source end_name outside es ≡ Err r)) → (es : List Element)
-        → Cover text es → IfSome o (λ r. AllRead l source end_name outside es (Err r))
+      → Cover text es → IfSome o (λ r. AllRead l source end_name outside es (Err r))
   Onward-refused text rest closed done None goes is_open gives es c = tt
   Onward-refused text rest closed done (Some r) goes is_open gives es c =
       let w = goes es c in
@@ -107,7 +107,7 @@ module _ {F T P B : Type 0} (l : Lang F T P B) (source end_name : List ℕ) (out
 
   pub Onward-all : (text rest : List ℕ) (closed : Bool) (done : List (NodeShape F T B)) → Onward text closed rest done → closed ≡ true
       → (es : List Element) → Cover text es → (left : List Element) × Cover rest left
-        × AllRead l source end_name outside es (Ok (done, left))
+      × AllRead l source end_name outside es (Ok (done, left))
   Onward-all text rest closed done goes shut es c = let w = goes es c in (w.0, w.1, subst (λ b. Progress b es w.0 done) shut w.2)
 
 -- what was found is all there is
@@ -123,8 +123,8 @@ pub only_ok : {F T P B A : Type 0} (of : A → List (NodeShape F T B)) (l : Lang
     → (a : Result (List (NodeShape F T B) × List Element) Refusal) → AllRead l source end_name outside es a → IsAll of (Ok nodes) block a
 only_ok of l outside nodes block es source end_name s n found a all =
     let here : AllRead l source end_name outside es (Ok (of nodes, found.0)) =
-        subst (λ x. AllRead l x end_name outside es (Ok (of nodes, found.0))) s
-        (subst (λ x. AllRead l block.source.now x outside es (Ok (of nodes, found.0))) n found.2) in
+    subst (λ x. AllRead l x end_name outside es (Ok (of nodes, found.0))) s
+    (subst (λ x. AllRead l block.source.now x outside es (Ok (of nodes, found.0))) n found.2) in
     (found.0, found.1, same_all l source end_name outside all here)
 
 -- the same for calls on a cursor, from the one at first to the one now and the next
@@ -145,12 +145,12 @@ module _ {F T P B A : Type 0} (l : Lang F T P B) (outside : ℕ) (of : A → Nod
   pub goes_node : (new : TagBlock) (n : A) (done done' : List (NodeShape F T B)) → now.is_closed ≡ false
       → Onward l old.source.now old.end_name.now outside old.rest.now now.is_closed now.rest.now done → done' ≡ done ++ of n ∷ []
       → ((es : List Element) → Cover now.rest.now es → ParsedNext of (Ok (Some n)) new
-        (next_read l now.source.now now.end_name.now outside es))
+      (next_read l now.source.now now.end_name.now outside es))
       → Onward l old.source.now old.end_name.now outside old.rest.now new.is_closed new.rest.now done'
   goes_node new n done done' is_open goes is gives =
       let o = cover_of now.rest.now in
       Onward-node l old.source.now old.end_name.now outside old.rest.now now.rest.now new.rest.now now.is_closed new.is_closed done done'
-        (of n) goes is_open (gives o.elements o.cover).3 is
+      (of n) goes is_open (gives o.elements o.cover).3 is
       (λ es c. let p = gives es c in (p.0, p.1, here es _ p.2))
 
   pub goes_end : (new : TagBlock) (done : List (NodeShape F T B)) → now.is_closed ≡ false
@@ -160,7 +160,7 @@ module _ {F T P B A : Type 0} (l : Lang F T P B) (outside : ℕ) (of : A → Nod
   goes_end new done is_open goes gives =
       let o = cover_of now.rest.now in
       Onward-end l old.source.now old.end_name.now outside old.rest.now now.rest.now new.rest.now now.is_closed new.is_closed done goes
-        is_open (gives o.elements o.cover).3
+      is_open (gives o.elements o.cover).3
       (λ es c. let p = gives es c in (p.0, p.1, here es _ p.2))
 
   pub goes_refused : (o : Option Refusal) (done : List (NodeShape F T B)) → now.is_closed ≡ false
@@ -170,7 +170,7 @@ module _ {F T P B A : Type 0} (l : Lang F T P B) (outside : ℕ) (of : A → Nod
   goes_refused None done is_open goes gives es c = tt
   goes_refused (Some r) done is_open goes gives es c =
       Onward-refused l old.source.now old.end_name.now outside old.rest.now now.rest.now now.is_closed done (Some r) goes is_open
-        (λ es c. here es _ (gives es c)) es c
+      (λ es c. here es _ (gives es c)) es c
 
   -- what is found at a cursor further on
   pub found_err : (o : Option Refusal) (es : List Element) → IfSome o (λ r. AllRead l old.source.now old.end_name.now outside es (Err r))

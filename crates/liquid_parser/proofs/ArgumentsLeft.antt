@@ -61,11 +61,11 @@ pub record Next (s : List ℕ) (start : ArgumentStart) (rest : List ℕ) (built 
 
 pub left_next : (first : Bool) (s rest : List ℕ) (built meant : Arguments) (whole : Option Fault) (start : ArgumentStart)
     → (left : Left first s rest built meant whole) → First (IsArgument start) (ArgumentsFrom false) rest left.arguments
-      → Next s start rest built meant whole
+    → Next s start rest built meant whole
 left_next first s rest built meant whole start left f =
     let fault : whole ≡ first_fault argument_fault (f.part ∷ f.others) = left.fault ∙ ap (first_fault argument_fault) f.joined in
     let part : argument_fault f.part ≡ value_fault f.found.value =
-        ap argument_fault f.found.is ∙ argument_fine (name_of start) f.found.value in
+    ap argument_fault f.found.is ∙ argument_fine (name_of start) f.found.value in
     record {
       middle = f.middle;
       place = f.found.place;
@@ -90,7 +90,7 @@ left_none first s rest built meant whole left n = (
   left.fault ∙ ap (first_fault argument_fault) n.none,
   sym (left.joined ∙ (ap (λ given. join built (arguments_meant given)) n.none
       ∙ (ap (λ p. record { positional = p; keyword = built.keyword ++ [] }) (append_none built.positional)
-        ∙ ap (λ k. record { positional = built.positional; keyword = k }) (append_none built.keyword)))),
+      ∙ ap (λ k. record { positional = built.positional; keyword = k }) (append_none built.keyword)))),
 )
 
 -- a keyword argument in the program
@@ -100,17 +100,17 @@ key_of k = (k.0.now, expression_of k.1)
 pub keyword_then : (rest middle end : List ℕ) (built meant : Arguments) (whole : Option Fault) (o : Option (List ℕ)) (name : List ℕ)
     (e e' : ExpressionShape) (ks : List (List ℕ × ExpressionShape))
     → Left false middle end (with_last o e built) meant whole → o ≡ Some name → e' ≡ e → rest ≡ middle → ks ≡ built.keyword ++ (name, e')
-      ∷ [] → Left false rest end (record built { keyword = ks }) meant whole
+    ∷ [] → Left false rest end (record built { keyword = ks }) meant whole
 keyword_then rest middle end built meant whole o name e e' ks left named same following is =
     subst (λ r. Left false r end (record built { keyword = ks }) meant whole) (sym following)
     (subst (λ k. Left false middle end (record built { keyword = k }) meant whole)
-      (sym (is ∙ ap (λ x. built.keyword ++ (name, x) ∷ []) same))
+    (sym (is ∙ ap (λ x. built.keyword ++ (name, x) ∷ []) same))
     (subst (λ o'. Left false middle end (with_last o' e built) meant whole) named left))
 
 pub positional_then : (rest middle end : List ℕ) (built meant : Arguments) (whole : Option Fault) (o : Option (List ℕ))
     (e e' : ExpressionShape) (es : List ExpressionShape)
     → Left false middle end (with_last o e built) meant whole → o ≡ None → e' ≡ e → rest ≡ middle → es ≡ built.positional ++ e' ∷ []
-      → Left false rest end (record built { positional = es }) meant whole
+    → Left false rest end (record built { positional = es }) meant whole
 positional_then rest middle end built meant whole o e e' es left named same following is =
     subst (λ r. Left false r end (record built { positional = es }) meant whole) (sym following)
     (subst (λ k. Left false middle end (record built { positional = k }) meant whole) (sym (is ∙ ap (λ x. built.positional ++ x ∷ []) same))

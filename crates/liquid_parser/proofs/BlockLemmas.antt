@@ -19,12 +19,12 @@ use Rattle.liquid_parser.proofs.EscapeLemmas.{taken}
 module _ (source end_name following : List ℕ) where
   pub end_tag : (x : Tag) (e : Element) → StandsFor (cursor.Tag x) source following e → bytes_eq x.name.now end_name ≡ true
       → (t : token.Tag) × AreTokens x.tokens (handed source t) × (or_end source end_name e ≡ ok_then (expect_nothing (handed source t))
-        (λ _. Ok None))
+      (λ _. Ok None))
   end_tag x (tag_element t text) m is = (
     t,
     m.0.tokens_are,
     ap (λ b. if b then ok_then (expect_nothing (handed source t)) (λ _. Ok None) else Ok (Some (tag_element t text)))
-      (ap (λ n. bytes_eq n end_name) (sym m.0.name_is) ∙ is),
+        (ap (λ n. bytes_eq n end_name) (sym m.0.name_is) ∙ is),
   )
   end_tag x (raw text) m is = absurd m
   end_tag x (expression c text) m is = absurd m

@@ -39,14 +39,14 @@ calls_read : {F : Type 0} (filters : Filters F) (source : List ℕ) (fs : List t
 calls_read filters source [] = refl
 calls_read filters source (f ∷ fs) =
     ap (λ o. option_and_then (λ x. option_map (λ xs. x ∷ xs) o) (made_by (filters.get f.what.0) (arguments_meant f.what.1)))
-      (calls_read filters source fs)
+    (calls_read filters source fs)
     ∙ (ap (option_and_then (λ x. option_map (λ xs. x ∷ xs) (result_ok (filters_read filters source fs))))
-      (made_or filters source (filters.get f.what.0) f)
+    (made_or filters source (filters.get f.what.0) f)
     ∙ both_ok (filter_or filters source (filters.get f.what.0) f) (filters_read filters source fs))
 
 entry_ok : {F : Type 0} (c : token.Chain) (r : Result (List F) Refusal)
     → option_map {U = ChainShape F} (λ xs. record { entry = expression_meant c.what.0; filters = xs }) (result_ok r) ≡ result_ok
-      (ok_then r (λ xs. Ok (record { entry = expression_meant c.what.0; filters = xs })))
+    (ok_then r (λ xs. Ok (record { entry = expression_meant c.what.0; filters = xs })))
 entry_ok c (Ok xs) = refl
 entry_ok c (Err r) = refl
 

@@ -82,8 +82,12 @@ module _ (source : Bor (List ℕ)) (s following : List ℕ) where
   pub tag_over : ((r rest : List ℕ) (tag : token.Tag) → TagRule r rest tag
       → Repeated (White ▷ TokenRule) tag.1.place tag.1.following tag.1.what)
       → (t : TagText) (e : Element) → IsElement s following e → Means (found.Tag t) e → checked source.now (faults_of t.fault) ≡ Ok tt
-      → HandsOver (Ok (cursor.Tag (record { name = t.name; from = t.place; text = t.text;
-        tokens = record { source = source; rest = t.tokens } }))) source.now following e
+      → HandsOver (Ok (cursor.Tag (record {
+        name = t.name;
+        from = t.place;
+        text = t.text;
+        tokens = record { source = source; rest = t.tokens };
+      }))) source.now following e
   tag_over tokens t (tag_element tag text) is m ok =
       let fine : tag_fault tag ≡ None = sym m.fault_is ∙ checked_none source.now _ ok in (
         ap (checked source.now) fine,
@@ -111,7 +115,7 @@ module _ (source : Bor (List ℕ)) (s following : List ℕ) where
 
   pub expression_over : ((r rest : List ℕ) (c : token.Chain) → ExpressionRule r rest c → ChainRule c.place c.following c)
       → (t : ChainText) (name : Option (Bor (List ℕ))) (e : Element) → IsElement s following e → Means (found.Expression t) e
-        → checked source.now (faults_of t.fault) ≡ Ok tt
+      → checked source.now (faults_of t.fault) ≡ Ok tt
       → option_map (λ n. n.now) name ≡ identifier_of (token_kind_of t.kind)
       → HandsOver (Ok (cursor.Expression (record { source = source; text = t.text; chain = t.chain; name = name }))) source.now following e
   expression_over within t name (expression c text) is m ok named =
@@ -159,7 +163,7 @@ module _ {F T P B : Type 0} (l : Lang F T P B) (source : List ℕ) (outside : �
 
   pub tag_step : (x : Tag) (following : List ℕ) (e : Element) → StandsFor (cursor.Tag x) source following e
       → (tag : token.Tag) × IsTag x source tag × (step l source outside
-        (among blocks nodes) e following ≡ tag_read l source outside blocks nodes tag)
+      (among blocks nodes) e following ≡ tag_read l source outside blocks nodes tag)
   tag_step x following (tag_element tag text) m =
       (tag, m.0, ap (λ f. ok_then (checked source f) (λ _. tag_read l source outside blocks nodes tag)) m.0.fine)
   tag_step x following (raw text) m = absurd m
@@ -168,7 +172,7 @@ module _ {F T P B : Type 0} (l : Lang F T P B) (source : List ℕ) (outside : �
 
   pub expression_step : (x : ExpCursor) (following : List ℕ) (e : Element) → StandsFor (cursor.Expression x) source following e
       → (c : token.Chain) × IsExpression x source c × (step l source outside (among blocks nodes) e following ≡ node_added blocks nodes
-        (expression_read l.filters source c))
+      (expression_read l.filters source c))
   expression_step x following (expression c text) m = (
     c,
     m.0,
@@ -180,7 +184,7 @@ module _ {F T P B : Type 0} (l : Lang F T P B) (source : List ℕ) (outside : �
 
   pub invalid_step : (x : InvalidLiquidToken) (following : List ℕ) (e : Element) → StandsFor (cursor.Invalid x) source following e
       → IsInvalid x source following × (step l source outside (among blocks nodes) e following ≡ Err
-        (refused_at source (codes "Invalid liquid") (123 ∷ following)))
+      (refused_at source (codes "Invalid liquid") (123 ∷ following)))
   invalid_step x following (invalid text) m = (m.0, refl)
   invalid_step x following (raw text) m = absurd m
   invalid_step x following (tag_element tag text) m = absurd m

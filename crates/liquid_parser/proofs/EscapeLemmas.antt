@@ -47,7 +47,7 @@ module _ (body end_name start_name : List ℕ) (nests : Bool) where
           t.cover,
           w.2 ∙ (ap (escape end_name start_name nests level g.so_far) t.is
               ∙ ap (λ o. option_map_or (λ n. escape end_name start_name nests n (g.so_far ++ text_of e) t.others) o
-                (Some (g.so_far, t.others))) at),
+              (Some (g.so_far, t.others))) at),
         );
   }
 
@@ -56,7 +56,7 @@ module _ (body end_name start_name : List ℕ) (nests : Bool) where
       → IsElement rest following e
       → level_after end_name start_name nests level e ≡ None → g.so_far ≡ text
       → (es : List Element) → Cover body es → (left : List Element) × Cover following left
-        × (escape end_name start_name nests 0 [] es ≡ Some (text, left))
+      × (escape end_name start_name nests 0 [] es ≡ Some (text, left))
   going_end rest following text e level g is at same es c =
       let w = g.onward es c in
       let t = taken rest following e w.0 is w.1 in (
@@ -64,7 +64,7 @@ module _ (body end_name start_name : List ℕ) (nests : Bool) where
         t.cover,
         w.2 ∙ (ap (escape end_name start_name nests level g.so_far) t.is
             ∙ (ap (λ o. option_map_or (λ n. escape end_name start_name nests n (g.so_far ++ text_of e) t.others) o
-              (Some (g.so_far, t.others))) at
+            (Some (g.so_far, t.others))) at
             ∙ ap (λ x. Some (x, t.others)) same)),
       )
 
@@ -85,20 +85,20 @@ module _ (body end_name start_name : List ℕ) (nests : Bool) where
 -- a reading that continues after each element continues after the end of an escaped body
 module _ {F T P B A : Type 0} (l : Lang F T P B) (source : List ℕ) (outside : ℕ) (k : State F T P B → List Element → Result A Refusal)
     (ends : (b : Open F T P B) (blocks : List (Open F T P B)) (level : ℕ) (so_far : List ℕ)
-      → k (inside b blocks level so_far) [] ≡ Err (unclosed_by source b.kind.names.end_name))
+    → k (inside b blocks level so_far) [] ≡ Err (unclosed_by source b.kind.names.end_name))
     (steps : (b : Open F T P B) (blocks : List (Open F T P B)) (level : ℕ) (so_far : List ℕ) (e : Element) (es : List Element)
-      → k (inside b blocks level so_far) (e ∷ es) ≡ ok_then (step l source outside (inside b blocks level so_far) e (joined es))
-      (λ n. k n es)) where
+    → k (inside b blocks level so_far) (e ∷ es) ≡ ok_then (step l source outside (inside b blocks level so_far) e (joined es))
+    (λ n. k n es)) where
   past_read : (b : Open F T P B) (blocks : List (Open F T P B)) (level : ℕ) (so_far : List ℕ) (es : List Element)
       → k (inside b blocks level so_far) es ≡ ok_then (past_escaped source (inside b blocks level so_far) es) (λ p. k p.0 p.1)
   past_read b blocks level so_far [] = ends b blocks level so_far
   past_read b blocks level so_far (e ∷ es) =
       steps b blocks level so_far e es ∙ go (level_after b.kind.names.end_name b.kind.names.start_name b.kind.means.nests level e)
-        (λ n. past_read b blocks n (so_far ++ text_of e) es)
+      (λ n. past_read b blocks n (so_far ++ text_of e) es)
     where
       finish_then : (m : Result (List (NodeShape F T B)) Refusal)
           → ok_then {A = State F T P B} (ok_then m (λ nodes. Ok (among blocks nodes))) (λ n. k n es) ≡ ok_then
-            {A = State F T P B × List Element} (ok_then m (λ nodes. Ok (among blocks nodes, es))) (λ p. k p.0 p.1)
+          {A = State F T P B × List Element} (ok_then m (λ nodes. Ok (among blocks nodes, es))) (λ p. k p.0 p.1)
       finish_then (Ok n) = refl
       finish_then (Err r) = refl
 
@@ -107,7 +107,7 @@ module _ {F T P B A : Type 0} (l : Lang F T P B) (source : List ℕ) (outside : 
           (so_far ++ text_of e) es)) (λ p. k p.0 p.1))
           → ok_then (escape_read b blocks so_far (text_of e) o) (λ n. k n es)
           ≡ ok_then (escaped_body source b blocks (option_map_or (λ n. escape b.kind.names.end_name b.kind.names.start_name
-            b.kind.means.nests n (so_far ++ text_of e) es) o (Some (so_far, es)))) (λ p. k p.0 p.1)
+          b.kind.means.nests n (so_far ++ text_of e) es) o (Some (so_far, es)))) (λ p. k p.0 p.1)
       go None onward = finish_then (finished b (escaped so_far) [])
       go (Some n) onward = onward n
 

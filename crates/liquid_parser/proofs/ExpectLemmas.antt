@@ -87,7 +87,7 @@ other_value t handed (parts.Range start stop) is e other =
 other_value t handed (parts.Chain k) is e other =
     let h = has_parts t handed is (parts.Chain k) e in
     ap value_of (shape_of_parts t handed is _ h.is) ∙ no_value h.chain_here.what.0 h.chain_here.what.1
-      (ap is_value_kind (sym h.kind_is) ∙ other)
+    (ap is_value_kind (sym h.kind_is) ∙ other)
 other_value t handed (parts.Symbol s) is e other =
     let h = has_parts t handed is (parts.Symbol s) e in
     ap value_of (shape_of_parts t handed is _ h)
@@ -160,7 +160,7 @@ unfolding literal_of_kind
 literal_shape t handed l is e =
     let found = chain_value t handed (kind.Literal l) is e (values_of_kinds (kind.Literal l) (inl (l, refl))) in
     found.is ∙ ap (λ x. chain x []) (literal_meant _ _ (value_literal found.value
-      ∙ ap (λ k. option_map literal_tree (literal_of_kind k)) (sym found.kind_is)))
+    ∙ ap (λ k. option_map literal_tree (literal_of_kind k)) (sym found.kind_is)))
 
 pub name_shape : (t : TagToken) (handed : Token) (name : Bor (List ℕ)) → IsToken t handed
     → t.text.parts ≡ parts.Chain (kind.Identifier name) → handed.shape ≡ chain (variable (text name.now) no_indexes) []

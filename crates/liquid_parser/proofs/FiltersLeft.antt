@@ -46,7 +46,7 @@ filter_here s rest f fs (more {middle = middle} m ms) =
     let inner = m.match.after in
     subst (λ g. FilterRule g.place g.following g) (sym m.is)
     (subst (λ p. FilterRule p m.from.1.following m.from.1) (sym inner.begins)
-      (subst (λ p. FilterRule m.match.middle p m.from.1) (sym inner.ends) inner))
+    (subst (λ p. FilterRule m.match.middle p m.from.1) (sym inner.ends) inner))
 
 module _ {F : Type 0} (filters : Filters F) (source : List ℕ) where
   pub record Left (s rest : List ℕ) (made : List F) (meant : Result (List F) Refusal) (whole : Option Fault) : Type 0 where
@@ -73,7 +73,7 @@ module _ {F : Type 0} (filters : Filters F) (source : List ℕ) where
 
   pub left_next : (s rest : List ℕ) (made : List F) (meant : Result (List F) Refusal) (whole : Option Fault) (start : FilterStart)
       → (left : Left s rest made meant whole) → First (IsFilter start) (Repeated (Following 124 FilterRule)) rest left.filters_left
-        → Next s start rest made meant whole
+      → Next s start rest made meant whole
   left_next s rest made meant full start left f =
       let fault : full ≡ first_fault filter_fault (f.part ∷ f.others) = left.fault ∙ ap (first_fault filter_fault) f.joined in
       let whole = left.joined ∙ ap (λ fs. after_all made (filters_read filters source fs)) f.joined in
@@ -109,12 +109,12 @@ module _ {F : Type 0} (filters : Filters F) (source : List ℕ) where
       → filter_or filters source (filters.get f.what.0) f ≡ Ok x
   made_ok make f a x has same is =
       ap (λ o. filter_or filters source o f) has ∙ ap (filter_refused (place_in source f.place) (slice_between f.place f.following))
-        (ap make (sym same) ∙ is)
+      (ap make (sym same) ∙ is)
 
   pub made_err : (make : Arguments → Result F Refusal) (f : token.Filter) (a : Arguments) (o o' : Option Refusal)
       → filters.get f.what.0 ≡ Some make → a ≡ arguments_meant f.what.1
       → IfSome o (λ r. make a ≡ Err r) → IfSome o' (λ r. option_map
-        (refusal_of_filter (place_in source f.place) (slice_between f.place f.following)) o ≡ Some r)
+      (refusal_of_filter (place_in source f.place) (slice_between f.place f.following)) o ≡ Some r)
       → IfSome o' (λ r. filter_or filters source (filters.get f.what.0) f ≡ Err r)
   made_err make f a o None has same is new = tt
   made_err make f a None (Some r) has same is new = cc new

@@ -60,17 +60,17 @@ none_handed t ts a n = ap (λ x. first_of (Tokens.left x)) a.is ∙ ap (λ xs. f
 pub one_handed : (t : TagTokenIter) (ts : Tokens) (text : TokenText) → text.place.now ≡ text.text.now ++ text.rest.now
     → (a : AreTokens t ts) → First (part.IsToken text) (Repeated (White ▷ TokenRule)) a.tag.1.following a.tag.1.what
     → (given : Token × Tokens) × (next ts ≡ Some given) × IsHandedOut (record { source = t.source; text = text })
-      (record { source = t.source; rest = text.rest }) given
+    (record { source = t.source; rest = text.rest }) given
 one_handed t ts text cut a f =
     let source : List ℕ = t.source.now in
     let fine : first_fault token_fault (f.part ∷ f.others) ≡ None = ap (first_fault token_fault) (sym f.joined) ∙ a.fine in
     let has : HasParts text.parts text.place.now text.rest.now f.part =
-        subst (λ p. HasParts text.parts text.place.now p f.part) (sym f.found.ends) f.found.has in
+    subst (λ p. HasParts text.parts text.place.now p f.part) (sym f.found.ends) f.found.has in
     let rule = first_rule (subst (λ xs. Repeated (White ▷ TokenRule) t.rest.now a.tag.1.following xs) f.joined (tokens_of t ts a)) in
     let at_place : TokenRule text.place.now (after_of f.part) f.part =
-        subst (λ p. TokenRule p (after_of f.part) f.part) (parts_place text.parts _ _ f.part has) rule in
+    subst (λ p. TokenRule p (after_of f.part) f.part) (parts_place text.parts _ _ f.part has) rule in
     let following : place_in source (after_of f.part) ≡ place_in source f.middle =
-        ap (place_in source) (parts_after text.parts _ _ f.part f.found.has) in
+    ap (place_in source) (parts_after text.parts _ _ f.part f.found.has) in
     let token : Token = handed_token source f.part in
     let others : List Token = map (handed_token source) f.others in (
       (token, record { following = token.following; left = others }),

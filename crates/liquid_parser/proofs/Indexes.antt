@@ -53,10 +53,10 @@ pub record Next (depth : ℕ) (s : List ℕ) (start : IndexStart) (after rest : 
 pub left_next : (depth : ℕ) (s rest : List ℕ) (built : List ExpressionShape) (meant : Indexes) (whole : Option Fault) (start : IndexStart)
     (after : List ℕ)
     → (left : Left depth s rest built meant whole) → First (IsIndex s start after) (Repeated IndexRule) rest left.indexes
-      → Next depth s start after rest built meant whole
+    → Next depth s start after rest built meant whole
 left_next depth s rest built meant whole start after left f =
     let fault : whole ≡ indexes_fault depth (gather (f.part ∷ f.others)) =
-        left.fault ∙ ap (λ is. indexes_fault depth (gather is)) f.joined in
+    left.fault ∙ ap (λ is. indexes_fault depth (gather is)) f.joined in
     record {
       middle = f.middle;
       index_here = f.part;

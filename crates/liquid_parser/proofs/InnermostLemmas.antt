@@ -53,7 +53,7 @@ pub last_missing : {A : Type 0} (xs : List A) (n : ℕ) → n ≡ length xs → 
 last_missing [] n count e = refl
 last_missing (x ∷ xs) n count e =
     let found : slice_get (x ∷ xs) (n - 1) ≡ Some (get_or (x ∷ xs) (n - 1) x) =
-        slice_get-get_or (x ∷ xs) (n - 1) x (omega (arith, count)) in
+    slice_get-get_or (x ∷ xs) (n - 1) x (omega (arith, count)) in
     let both : None ≡ Some (get_or (x ∷ xs) (n - 1) x) = sym e ∙ found in
     cc
 
@@ -66,7 +66,7 @@ module _ {A C : Type 0} (f : A → C) (xs : List A) (n : ℕ) (y : C) (ys : List
   last_set w =
       let place : n - 1 ≡ length inner.front = omega (arith, count, ap length inner.is, length-append inner.front (inner.last ∷ [])) in
       ap (λ l. reverse (map f l)) (ap (λ l. slice_set l (n - 1) w) inner.is
-        ∙ (ap (λ i. slice_set (inner.front ++ inner.last ∷ []) i w) place ∙ set-append_seam inner.front inner.last [] w))
+      ∙ (ap (λ i. slice_set (inner.front ++ inner.last ∷ []) i w) place ∙ set-append_seam inner.front inner.last [] w))
       ∙ (push_block f inner.front w refl ∙ ap (λ bs. f w ∷ bs) inner.around_is)
 
 -- the innermost block ends, or a part of it
@@ -85,7 +85,7 @@ module _ {F T P B : Type 0} (source : List ℕ) (t : token.Tag) (b innermost : O
   ended_err told same h =
       let is : b ≡ innermost = cc in
       then_err told _ (closed source t innermost nodes) (λ ns. Ok (among blocks ns))
-        (ap (λ x. ok_then (closed source t x nodes) (λ ns. Ok (among blocks ns))) is) h
+      (ap (λ x. ok_then (closed source t x nodes) (λ ns. Ok (among blocks ns))) is) h
 
   pub parted_ok : (part : Open F T P B) (bs : List (Open F T P B)) (ns : List (NodeShape F T B)) → innermost ≡ b → bs ≡ part ∷ blocks
       → ns ≡ [] → parted source t innermost nodes ≡ Ok part
@@ -99,4 +99,4 @@ module _ {F T P B : Type 0} (source : List ℕ) (t : token.Tag) (b innermost : O
       → IfSome told (λ r. ok_then {B = State F T P B} (parted source t b nodes) (λ p. Ok (among (p ∷ blocks) [])) ≡ Err r)
   parted_err told is h =
       then_err told _ (parted source t innermost nodes) (λ p. Ok (among (p ∷ blocks) []))
-        (ap (λ x. ok_then (parted source t x nodes) (λ p. Ok (among (p ∷ blocks) []))) (sym is)) h
+      (ap (λ x. ok_then (parted source t x nodes) (λ p. Ok (among (p ∷ blocks) []))) (sym is)) h

@@ -14,8 +14,8 @@ use Rattle.liquid_parser.specs.meaning.Reading.{filters_read, chain_read}
 module _ {F : Type 0} (filters : Filters F) (source name : List ℕ) where
   parts_of_name : (value : Value) (fs : List token.Filter) → Some name ≡ identifier_of (chain_kind value fs)
       → ok_then {B = ChainShape F} (filters_read filters source fs)
-        (λ xs. Ok (record { entry = expression_meant value; filters = xs })) ≡ Ok
-        (record { entry = variable (text name) no_indexes; filters = [] })
+      (λ xs. Ok (record { entry = expression_meant value; filters = xs })) ≡ Ok
+      (record { entry = variable (text name) no_indexes; filters = [] })
   parts_of_name (variable_value place following own no_index) [] is = cc
   parts_of_name (variable_value place following own (more_indexes i more)) [] is = cc
   parts_of_name (literal_value place following l) [] is = cc

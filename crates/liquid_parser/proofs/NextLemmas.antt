@@ -25,7 +25,7 @@ value_taken of expect t token (Fails u) x is tries gives =
 value_refused : {A M : Type 0} (of : A → M) (expect : Token → Option M) (t : Token) (token : TagToken) (attempt : TryMatchToken A)
     (o : Option Refusal) → IsToken token t → Tries of token attempt (expect t)
     → ((u : Token) → FailedToken attempt u → IfSome o (λ r. or_unexpected u (matched_of attempt) ≡ Err r))
-      → IfSome o (λ r. or_unexpected t (expect t) ≡ Err r)
+    → IfSome o (λ r. or_unexpected t (expect t) ≡ Err r)
 value_refused of expect t token (Matches y) None is tries gives = gives t tt
 value_refused of expect t token (Matches y) (Some r) is tries gives =
     let e : Ok y ≡ Err r = gives t tt in
@@ -45,7 +45,7 @@ module _ {A M : Type 0} (of : A → M) (expect : Token → Option M) (message : 
     h.0.1,
     ap (λ q. ok_then q (λ given. ok_then (or_unexpected given.0 (expect given.0)) (λ y. Ok (y, given.1)))) h.1
         ∙ ap (λ q. ok_then q (λ y. Ok (y, h.0.1))) (value_taken of expect h.0.0 token attempt x h.2.token_is
-          (tries h.0.0 h.2.token_is) gives),
+        (tries h.0.0 h.2.token_is) gives),
     h.2.left,
   )
 
@@ -57,9 +57,9 @@ module _ {A M : Type 0} (of : A → M) (expect : Token → Option M) (message : 
       → IfSome o (λ r. next_as message expect ts ≡ Err r)
   next_refused token cursor attempt o h tries gives =
       subst (λ q. IfSome o (λ r. ok_then {B = M × Tokens} q (λ given. ok_then {B = M × Tokens} (or_unexpected given.0 (expect given.0))
-          (λ y. Ok (y, given.1))) ≡ Err r)) (sym h.1)
+      (λ y. Ok (y, given.1))) ≡ Err r)) (sym h.1)
       (then_refused {B = M × Tokens} o (or_unexpected h.0.0 (expect h.0.0)) (λ y. Ok (y, h.0.1))
-        (value_refused of expect h.0.0 token attempt o h.2.token_is (tries h.0.0 h.2.token_is) gives))
+      (value_refused of expect h.0.0 token attempt o h.2.token_is (tries h.0.0 h.2.token_is) gives))
 
   -- the result of an attempt to read the next token is what was meant
   pub next_given : (token : TagToken) (cursor : TagTokenIter) (attempt : TryMatchToken A) (r : Result A Error)

@@ -78,7 +78,7 @@ module _ {F T P B : Type 0} where
       → OneOf (ok_then (finished b body of) (λ ns. Ok (among blocks ns)))
   one_finished b blocks body of h =
       one_after (placed_at b.place (b.kind.means.finish b.plan body)) (λ made. Ok (b.before ++ block_with made of ∷ []))
-        (λ ns. Ok (among blocks ns)) (λ made. one_closed b blocks (block_with made of) h)
+      (λ ns. Ok (among blocks ns)) (λ made. one_closed b blocks (block_with made of) h)
 
   one_entered : (escapes : Bool) (b : Open F T P B) (blocks : List (Open F T P B)) → Alone b blocks → OneIn (entered escapes b blocks)
   one_entered true b blocks h = h
@@ -96,8 +96,13 @@ module _ {F T P B : Type 0} (l : Lang F T P B) (source : List ℕ) (outside : �
       (one_after (placed_at (place_in source (name_place t)) (kind.means.begin l.filters (handed source t)))
       (λ plan. Ok (record { kind = kind; place = place_in source (name_place t); plan = plan; before = nodes; parts = [] }))
       (λ b. Ok (entered kind.means.escapes b blocks))
-      (λ plan. one_entered kind.means.escapes (record { kind = kind; place = place_in source (name_place t); plan = plan; before = nodes;
-        parts = [] }) blocks
+      (λ plan. one_entered kind.means.escapes (record {
+        kind = kind;
+        place = place_in source (name_place t);
+        plan = plan;
+        before = nodes;
+        parts = [];
+      }) blocks
       (h (record { kind = kind; place = place_in source (name_place t); plan = plan; before = nodes; parts = [] }) refl))))
 
   one_made : (blocks : List (Open F T P B)) (nodes : List (NodeShape F T B)) (t : token.Tag)
@@ -116,22 +121,22 @@ module _ {F T P B : Type 0} (l : Lang F T P B) (source : List ℕ) (outside : �
       → OneOf (outer_read l source outside t blocks nodes)
   one_outer blocks nodes t h k =
       one_unwrap (option_or (as_tag l source outside blocks nodes t) (as_block l source outside blocks nodes t))
-        (Err (unknown_tag l source t))
+      (Err (unknown_tag l source t))
       (one_or (as_tag l source outside blocks nodes t) (as_block l source outside blocks nodes t) (one_made blocks nodes t h)
-        (one_block blocks nodes t k)) tt
+      (one_block blocks nodes t k)) tt
 
   one_tag : (b : Open F T P B) (blocks : List (Open F T P B)) (nodes : List (NodeShape F T B)) (t : token.Tag) → Alone b blocks
       → OneOf (tag_read l source outside (b ∷ blocks) nodes t)
   one_tag b blocks nodes t h =
       one_unwrap (option_or (as_end source t (b ∷ blocks) nodes) (as_divider source t (b ∷ blocks) nodes))
-        (outer_read l source outside t (b ∷ blocks) nodes)
+      (outer_read l source outside t (b ∷ blocks) nodes)
       (one_or (as_end source t (b ∷ blocks) nodes) (as_divider source t (b ∷ blocks) nodes)
       (one_if (bytes_eq t.0 b.kind.names.end_name) (ok_then (closed source t b nodes) (λ after. Ok (among blocks after)))
       (one_after (expect_nothing (handed source t)) (λ _. finished b (parts (length b.parts + 1)) (b.parts ++ nodes ∷ []))
-        (λ after. Ok (among blocks after))
+      (λ after. Ok (among blocks after))
       (λ u. one_finished b blocks (parts (length b.parts + 1)) (b.parts ++ nodes ∷ []) h)))
       (one_if (list_any (bytes_eq t.0) b.kind.means.dividers) (ok_then (parted source t b nodes)
-        (λ divided. Ok (among (divided ∷ blocks) [])))
+      (λ divided. Ok (among (divided ∷ blocks) [])))
       (one_after (placed_at (place_in source (name_place t)) (b.kind.means.divide b.plan t.0 (handed source t)))
       (λ plan. Ok (record b { plan = plan; parts = b.parts ++ nodes ∷ [] })) (λ divided. Ok (among (divided ∷ blocks) []))
       (λ plan. one_divided b plan (b.parts ++ nodes ∷ []) blocks h))))

@@ -34,18 +34,18 @@ module _ {F T P B : Type 0} (l : Lang F T P B) (source end_name : List ℕ) (out
   next_element : (es : List Element) (e : Element) (rest : List ℕ) → handed_out source end_name es ≡ Ok (Some e)
       → Cover rest (following_first es)
       → next_read l source end_name outside es ≡ ok_then (node_read l source outside source rest e (following_first es))
-        (λ p. Ok (Some p.0, p.1))
+      (λ p. Ok (Some p.0, p.1))
   next_element es e rest out c =
       ap (λ r. ok_then r (λ found. element_or_end l source end_name outside found (following_first es))) out
       ∙ ap (λ b. ok_then (node_read l source outside source b e (following_first es)) (λ p. Ok (Some p.0, p.1)))
-        (joined_cover rest (following_first es) c)
+      (joined_cover rest (following_first es) c)
 
   -- the next element was returned, and parsed
   pub next_node : {A : Type 0} (of : A → NodeShape F T B) (n : A) (x : BlockElement) (between block : TagBlock) (es : List Element)
       → between.source.now ≡ source → block.is_closed ≡ between.is_closed
       → HandsOut (Ok (Some x)) between (handed_out source end_name es) → Cover between.rest.now (following_first es)
       → ((e : Element) → StandsFor x between.source.now between.rest.now e
-        → Parsed of (Ok n) block (node_read l between.source.now outside between.source.now between.rest.now e (following_first es)))
+      → Parsed of (Ok n) block (node_read l between.source.now outside between.source.now between.rest.now e (following_first es)))
       → ParsedNext of (Ok (Some n)) block (next_read l source end_name outside es)
   next_node of n x between block es same kept out c parsed =
       let p = parsed out.0 out.2 in
@@ -58,7 +58,7 @@ module _ {F T P B : Type 0} (l : Lang F T P B) (source end_name : List ℕ) (out
       → between.source.now ≡ source
       → HandsOut (Ok (Some x)) between (handed_out source end_name es) → Cover between.rest.now (following_first es)
       → ((e : Element) → StandsFor x between.source.now between.rest.now e
-        → Parsed of (Err error) block (node_read l between.source.now outside between.source.now between.rest.now e (following_first es)))
+      → Parsed of (Err error) block (node_read l between.source.now outside between.source.now between.rest.now e (following_first es)))
       → IfSome (told error) (λ r. next_read l source end_name outside es ≡ Err r)
   next_refused of error x between block es same out c parsed = go (told error) (parsed out.0 out.2)
     where

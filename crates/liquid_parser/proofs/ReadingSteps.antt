@@ -30,14 +30,14 @@ module _ {F T P B : Type 0} (l : Lang F T P B) (s : List ℕ) where
   read_first following e blocks nodes es c =
       ap (λ b. ok_then (step l s 0 (among blocks nodes) e b) (λ n. read l s 0 n es)) (joined_cover following es c)
       ∙ past_then l s 0 (read l s 0) (λ b bs level so_far. refl) (λ b bs level so_far e' es'. refl)
-        (step l s 0 (among blocks nodes) e following) es
+      (step l s 0 (among blocks nodes) e following) es
 
   -- one more element
   pub Goes-on : (rest following : List ℕ) (e : Element) (blocks : List (Open F T P B)) (nodes : List (NodeShape F T B)) (st : State F T P B)
       (after : List ℕ)
       → Goes rest (among blocks nodes) → IsElement rest following e
       → ((es : List Element) → Cover following es → (left : List Element) × Cover after left
-        × (advanced l s 0 (among blocks nodes) s following e es ≡ Ok (st, left))) → Goes after st
+      × (advanced l s 0 (among blocks nodes) s following e es ≡ Ok (st, left))) → Goes after st
   Goes-on rest following e blocks nodes st after goes is leads es c =
       let o = cover_of following in
       let w = goes (e ∷ o.elements) (next is o.cover) in
@@ -55,13 +55,17 @@ module _ {F T P B : Type 0} (l : Lang F T P B) (s : List ℕ) where
   refused_one rest following e blocks nodes r goes is gives =
       let o = cover_of following in
       let w = goes (e ∷ o.elements) (next is o.cover) in
-      record { elements = w.0; cover = w.1; is = sym (w.2 ∙ (read_first following e blocks nodes o.elements o.cover
-          ∙ ap (λ q. ok_then q (λ p. read l s 0 p.0 p.1)) (gives o.elements o.cover))) }
+      record {
+        elements = w.0;
+        cover = w.1;
+        is = sym (w.2 ∙ (read_first following e blocks nodes o.elements o.cover
+            ∙ ap (λ q. ok_then q (λ p. read l s 0 p.0 p.1)) (gives o.elements o.cover)));
+      }
 
   pub refused : (rest following : List ℕ) (e : Element) (blocks : List (Open F T P B)) (nodes : List (NodeShape F T B)) (o : Option Refusal)
       → Goes rest (among blocks nodes) → IsElement rest following e
       → ((es : List Element) → Cover following es → IfSome o (λ r. advanced l s 0 (among blocks nodes) s following e es ≡ Err r))
-        → IfSome o (λ r. Reads l s (Err r))
+      → IfSome o (λ r. Reads l s (Err r))
   refused rest following e blocks nodes None goes is gives = tt
   refused rest following e blocks nodes (Some r) goes is gives = refused_one rest following e blocks nodes r goes is gives
 
@@ -98,6 +102,9 @@ module _ {F T P B : Type 0} (l : Lang F T P B) (s : List ℕ) where
   pub one_reading : (a : Result (List (NodeShape F T B)) Refusal) × Reads l s a
       × ((b : Result (List (NodeShape F T B)) Refusal) → Reads l s b → b ≡ a)
   one_reading =
-      let o = cover_of s in
-      (answer l s o.elements, record { elements = o.elements; cover = o.cover; is = refl }, λ b r. r.is
-        ∙ ap (answer l s) (o.only r.elements r.cover))
+      let o = cover_of s in (
+        answer l s o.elements,
+        record { elements = o.elements; cover = o.cover; is = refl },
+        λ b r. r.is
+            ∙ ap (answer l s) (o.only r.elements r.cover),
+      )

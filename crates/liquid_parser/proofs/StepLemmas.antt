@@ -29,7 +29,7 @@ pub placed_err : {A B : Type 0} (o o' : Option Refusal) (place p : Place) (m : R
 placed_err None o' place p m k h e same = subst (λ q. IfSome q (λ r. ok_then (placed_at place m) k ≡ Err r)) (sym e) tt
 placed_err (Some r) o' place p m k h e same =
     subst (λ q. IfSome q (λ r. ok_then (placed_at place m) k ≡ Err r)) (sym e)
-      (ap (λ n. ok_then (placed_at place n) k) h ∙ ap (λ q. Err (or_placed q r)) (sym same))
+    (ap (λ n. ok_then (placed_at place n) k) h ∙ ap (λ q. Err (or_placed q r)) (sym same))
 
 pub then_refused : {A B : Type 0} (o : Option Refusal) (m : Result A Refusal) (k : A → Result B Refusal) → IfSome o (λ r. m ≡ Err r)
     → IfSome o (λ r. ok_then m k ≡ Err r)
@@ -60,18 +60,18 @@ module _ {F T P B : Type 0} (source : List ℕ) (t : token.Tag) where
   closed_ok b nodes after n made none h count e =
       ap (λ x. ok_then x (λ _. ending b nodes)) none
       ∙ (placed_ok b.place _ (λ made. Ok (b.before ++ block_with made (b.parts ++ nodes ∷ []) ∷ [])) made
-        (subst (λ m. b.kind.means.finish b.plan (parts m) ≡ Ok made) count h)
+      (subst (λ m. b.kind.means.finish b.plan (parts m) ≡ Ok made) count h)
       ∙ ap (λ q. Ok q) (sym e))
 
   pub closed_err : (b : Open F T P B) (nodes : List (NodeShape F T B)) (n : ℕ) (o o' : Option Refusal) (p : Place)
       → expect_nothing (handed source t) ≡ Ok tt → n ≡ length b.parts + 1 → IfSome o (λ r. b.kind.means.finish b.plan (parts n) ≡ Err r)
-        → o' ≡ option_map (or_placed p) o → p ≡ b.place
+      → o' ≡ option_map (or_placed p) o → p ≡ b.place
       → IfSome o' (λ r. closed source t b nodes ≡ Err r)
   closed_err b nodes n o o' p none count h e same =
       let go =
-          placed_err o o' b.place p (b.kind.means.finish b.plan (parts (length b.parts + 1)))
-          (λ made. Ok (b.before ++ block_with made (b.parts ++ nodes ∷ []) ∷ []))
-          (subst (λ m. IfSome o (λ r. b.kind.means.finish b.plan (parts m) ≡ Err r)) count h) e same in
+      placed_err o o' b.place p (b.kind.means.finish b.plan (parts (length b.parts + 1)))
+      (λ made. Ok (b.before ++ block_with made (b.parts ++ nodes ∷ []) ∷ []))
+      (subst (λ m. IfSome o (λ r. b.kind.means.finish b.plan (parts m) ≡ Err r)) count h) e same in
       subst (λ x. IfSome o' (λ r. ok_then x (λ _. ending b nodes) ≡ Err r)) (sym none) go
 
   pub closed_token : (b : Open F T P B) (nodes : List (NodeShape F T B)) (o : Option Refusal)
@@ -122,9 +122,9 @@ module _ {X N K F T B : Type 0} (filter : X → F) (tag : N → T) (block : K �
       ap (node_of filter tag block) (sym (rolls-Block made ps))
       ∙ (code.fold-roll-Node X N K (NodeShape F T B) (node_step filter tag block) _
       ∙ ap (λ q. block_node (block made) (parts_from q)) (map_twice _ (λ ns. nodes_from ns.items)
-        (λ v. nodes_from (shapes_of filter tag block v.items)) (λ v. refl) ps.items
+      (λ v. nodes_from (shapes_of filter tag block v.items)) (λ v. refl) ps.items
       ∙ sym (map_twice (λ v. shapes_of filter tag block v.items) nodes_from (λ v. nodes_from (shapes_of filter tag block v.items))
-        (λ v. refl) ps.items)))
+      (λ v. refl) ps.items)))
 
   pub bare_block_shape : (made : K) (ps : Vec (Vec (code.Node X N K) Global) Global) → ps.items ≡ []
       → node_of filter tag block (Block made ps) ≡ block_with (block made) []

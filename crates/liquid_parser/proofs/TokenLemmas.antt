@@ -64,16 +64,27 @@ pub no_tokens : {s following rest white : List ℕ} {ts : List Token} → White 
 no_tokens w none (ends n) = refl
 no_tokens {s = s} {rest = rest} {white = white} w none (more {middle = middle} {shape = shape} m ms) =
     let first : TokenRule m.match.middle middle m.from.1 = m.match.after in
-    absurd (none (record { rest = middle; shape = m.from.1; match = subst (λ p. TokenRule p middle m.from.1)
-        (same_rest s m.match.middle rest _ _ m.match.before w) first }))
+    absurd (none (record {
+      rest = middle;
+      shape = m.from.1;
+      match = subst (λ p. TokenRule p middle m.from.1)
+          (same_rest s m.match.middle rest _ _ m.match.before w) first;
+    }))
 
 -- if one does, it is the first, and is refused if none is expected
 pub some_token : {s following rest left white : List ℕ} {shape : Token} (ts : List Token) (source : List ℕ) → White s rest white
     → TokenRule rest left shape → Repeated (White ▷ TokenRule) s following ts
     → none_left (map (handed_token source) ts) ≡ Err (located (codes "Unexpected token") (place_in source rest))
 some_token [] source w t (ends n) =
-    absurd (n (record { rest = _; shape = _; match = record { from = (_, _); match = record { middle = _; before = w; after = t };
-    is = refl } }))
+    absurd (n (record {
+      rest = _;
+      shape = _;
+      match = record {
+        from = (_, _);
+        match = record { middle = _; before = w; after = t };
+        is = refl;
+      };
+    }))
 some_token {s = s} {rest = rest} (x ∷ ts) source w t (more {middle = middle} m ms) =
     let first : TokenRule m.match.middle middle m.from.1 = m.match.after in
     let at_rest : place_of x ≡ rest = ap place_of m.is ∙ (rule_place first ∙ same_rest s m.match.middle rest _ _ m.match.before w) in
@@ -84,7 +95,7 @@ pub none_expected : (t : TagTokenIter) (ts : Tokens) (rest white : List ℕ) →
     → ¬ (Begins TokenRule rest) → expect_nothing ts ≡ Ok tt
 none_expected t ts rest white a w none =
     let tokens : Repeated (White ▷ TokenRule) t.rest.now a.tag.1.following a.tag.1.what =
-        subst (λ p. Repeated (White ▷ TokenRule) p a.tag.1.following a.tag.1.what) a.begins a.match in
+    subst (λ p. Repeated (White ▷ TokenRule) p a.tag.1.following a.tag.1.what) a.begins a.match in
     ap (λ x. none_left (Tokens.left x)) a.is ∙ ap (λ ys. none_left (map (handed_token t.source.now) ys)) (no_tokens w none tokens)
 
 pub one_expected : (t : TagTokenIter) (ts : Tokens) (rest left white : List ℕ) (shape : Token) → AreTokens t ts
@@ -92,7 +103,7 @@ pub one_expected : (t : TagTokenIter) (ts : Tokens) (rest left white : List ℕ)
     → expect_nothing ts ≡ Err (located (codes "Unexpected token") (place_in t.source.now rest))
 one_expected t ts rest left white shape a w found =
     let tokens : Repeated (White ▷ TokenRule) t.rest.now a.tag.1.following a.tag.1.what =
-        subst (λ p. Repeated (White ▷ TokenRule) p a.tag.1.following a.tag.1.what) a.begins a.match in
+    subst (λ p. Repeated (White ▷ TokenRule) p a.tag.1.following a.tag.1.what) a.begins a.match in
     ap (λ x. none_left (Tokens.left x)) a.is ∙ some_token a.tag.1.what t.source.now w found tokens
 
 pub if_some_weaker : {A : Type 0} {P Q : A → Type 0} (o : Option A) → ((x : A) → P x → Q x) → IfSome o P → IfSome o Q

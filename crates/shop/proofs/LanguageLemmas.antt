@@ -17,7 +17,7 @@ use Rattle.shop.specs.meaning.Languages.{meaning_of, the_blocks, the_filters, th
 pub shop_language : (filters : NameMap (FilterPlugin (FilterBeside StdKind Quoted))) (tags : NameMap (Beside Tags Badge))
     (blocks : NameMap (Beside Blocks (Beside Stock (TextBlockPlugin Twice))))
     → filters ≡ the_filters → tags ≡ the_tags → blocks ≡ the_blocks
-      → meaning_of (record { filters = filters; tags = tags; blocks = blocks }) ≡ the_language
+    → meaning_of (record { filters = filters; tags = tags; blocks = blocks }) ≡ the_language
 unfolding the_language
 shop_language filters tags blocks e f g =
     ap (λ x. meaning_of (record { filters = x; tags = tags; blocks = blocks })) e

@@ -36,12 +36,12 @@ module _ (l : ShopLang) (found : Option ShopFound) where
       → SandboxShown l found names source v at at v (Err error)
   nothing_shown names source v at error memory = λ answer reads.
       RenderedBy-refused (λ nodes. sandboxed_run (shop_setting found) names None (nodes_from nodes)) answer v at error
-        (no_reason (told error) answer memory)
+      (no_reason (told error) answer memory)
 
   pub same_names : (names others : Names) (source : List ℕ) (v left : View (Unit {0})) (before after : Sunk)
       (result : Result (Unit {0}) Error)
       → names ≡ others → SandboxShown l found names source v before after left result
-        → SandboxShown l found others source v before after left result
+      → SandboxShown l found others source v before after left result
   same_names names others source v left before after result e h =
       subst (λ ns. SandboxShown l found ns source v before after left result) e h
 
@@ -60,7 +60,7 @@ module _ (l : ShopLang) (found : Option ShopFound) where
   pub reviewed : (review : List ℕ) (v seen left : View (Unit {0})) (before between after : Sunk) (answer result : Result (Unit {0}) Error)
       (names : Names)
       → names ≡ visit_names → SandboxShown l found names review v before between seen answer
-        → Follows l found answer seen between after left result
+      → Follows l found answer seen between after left result
       → ReviewShown l found review v before after left result
   reviewed review v seen left before between after answer result names e shown followed = record {
     answer = answer;

@@ -149,7 +149,8 @@ fn write_refusal<K: Sink>(
     refusal: &Error,
     sink: &mut K,
 ) -> Result<(), Error>
-    ensures shown { SandboxShown (meaning_of shop.old.language.value) (⟦<Shop as Seen>⟧.found shop.old) (refusal_names refusal.now) REFUSED.now
+    ensures shown { SandboxShown (meaning_of shop.old.language.value) (⟦<Shop as Seen>⟧.found shop.old)
+        (refusal_names refusal.now) REFUSED.now
         (⟦<Shop as Seen>⟧.view shop.old) (K.sunk sink.old) (K.sunk sink.new) (⟦<Shop as Seen>⟧.view shop.new) result }
     ensures language { shop.new.language ≡ shop.old.language }
     ensures partials { ⟦<Shop as Seen>⟧.found shop.new ≡ ⟦<Shop as Seen>⟧.found shop.old }

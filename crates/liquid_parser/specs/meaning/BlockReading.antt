@@ -100,7 +100,7 @@ pub data AllRead {F T P B : Type 0} (l : Lang F T P B) (source end_name : List �
       → AllRead l source end_name outside es (Ok ([], left))
   one_more : {es left : List Element} {nodes : List (NodeShape F T B)} {a : Result (List (NodeShape F T B) × List Element) Refusal}
       → next_read l source end_name outside es ≡ Ok (Some nodes, left) → AllRead l source end_name outside left a
-        → AllRead l source end_name outside es (in_front nodes a)
+      → AllRead l source end_name outside es (in_front nodes a)
 
 -- the same for calls: the next node, and all nodes
 abbrev pub ParsedNext : {A N : Type 0} → (A → N) → Result (Option A) Error → TagBlock → Result (Option (List N) × List Element) Refusal

@@ -104,7 +104,7 @@ abbrev pub escape : (end_name start_name : List ℕ) → Bool → ℕ → List �
 escape end_name start_name nests level so_far [] = None
 escape end_name start_name nests level so_far (e ∷ es) =
     option_map_or (λ next. escape end_name start_name nests next (so_far ++ text_of e) es) (level_after end_name start_name nests level e)
-      (Some (so_far, es))
+    (Some (so_far, es))
 
 -- a block that is open: its kind, the place of the name of its start tag, its plan, the nodes before it in the list
 -- that it is in, and its parts up to its last divider

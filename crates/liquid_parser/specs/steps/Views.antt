@@ -79,7 +79,7 @@ module _ {X N K L W F T B P : Type 0} (filter : X → F) (tag : N → T) (block 
       → (Open F T P B → List (Open F T P B) → List (NodeShape F T B) → Result (State F T P B) Refusal) → Type 0
   StepsInside old new result meant =
       (b : Open F T P B) (blocks : List (Open F T P B)) → blocks_view old.open.items ≡ b ∷ blocks
-        → Gives (λ n. next_view n new) result (meant b blocks (shapes_of filter tag block old.nodes.items))
+      → Gives (λ n. next_view n new) result (meant b blocks (shapes_of filter tag block old.nodes.items))
 
   -- a call reads some of the text from a state on, which it leaves at a state
   abbrev pub Leaves : Next W L (Node X N K) → (old new : ParserState W L (Node X N K)) → List ℕ → Result (Bor (List ℕ)) Error

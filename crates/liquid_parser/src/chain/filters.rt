@@ -69,7 +69,8 @@ fn parse_filter<'a, F: ParseFilter + Drop>(
     start: FilterStart<'a>,
     registry: &PluginRegistry<F>,
 ) -> Result<(F::Filter, &'a str), Error>
-    ensures value { (rest : List ℕ) (f : token.Filter) → IsFilter start.entry rest f → FilterRule f.place f.following f → filter_fault f ≡ None
+    ensures value { (rest : List ℕ) (f : token.Filter) → IsFilter start.entry rest f
+        → FilterRule f.place f.following f → filter_fault f ≡ None
         → GivesUpTo F.Filter.shape result (filter_read (registry_of F.makes registry.now) source.now f) rest }
     ensures within { IfOk result (λ p. length p.1.now ≤ length start.entry.rest.now) }
 {

@@ -9,5 +9,9 @@ use Rattle.std_filters.specs.meaning.Sense.{FilterSense}
 -- the text in quotes
 abbrev pub quoted : Quoted → FilterSense
 quoted kind =
-    record { name = codes "quoted"; optional = []; keywords = [];
-    answers = λ input given. Ok (scalar (text (codes "\"" ++ (render input ++ codes "\"")))) }
+    record {
+      name = codes "quoted";
+      optional = [];
+      keywords = [];
+      answers = λ input given. Ok (scalar (text (codes "\"" ++ (render input ++ codes "\""))));
+    }

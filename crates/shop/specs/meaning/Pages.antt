@@ -69,7 +69,7 @@ the_partials = insert empty (codes "item") ITEM.now
 abbrev pub SeesGoods : View (Unit {0}) → Type 0
 SeesGoods v =
     (goods : BTreeMap (String Global) Value) × (object_read GOODS.now ≡ Some (Ok (members_view goods.entries)))
-      × (v ≡ built_view tt 32 (names_of goods))
+    × (v ≡ built_view tt 32 (names_of goods))
 
 -- its store finds the shop's partials
 abbrev pub FindsPartials : Option ShopFound → Type 0
@@ -94,7 +94,7 @@ module _ (l : ShopLang) (found : Option ShopFound) where
   abbrev pub SandboxShown : Names → List ℕ → View (Unit {0}) → Sunk → Sunk → View (Unit {0}) → Result (Unit {0}) Error → Type 0
   SandboxShown names source v before after left result =
       (answer : ShopAnswer) → Reads l source answer → RenderedBy (λ nodes. sandboxed_run (shop_setting found) names None (nodes_from nodes))
-        answer v before after left result
+      answer v before after left result
 
   -- nothing follows a review without an error; an error is shown in the same way
   abbrev pub Follows : Result (Unit {0}) Error → View (Unit {0}) → Sunk → Sunk → View (Unit {0}) → Result (Unit {0}) Error → Type 0

@@ -18,5 +18,7 @@ invariant-arguments l =
     shadow (Utf8 l.rest)
     × (length l.rest ≤ length l.s)
     × ((end : List ℕ) (given : List Argument) → ArgumentsFrom true l.s end given
-    → Left l.is_first l.rest end (record { positional = map expression_of l.positional.items;
-      keyword = map (λ k. (k.0.now, expression_of k.1)) l.keyword.items }) (arguments_meant given) (first_fault argument_fault given))
+    → Left l.is_first l.rest end (record {
+      positional = map expression_of l.positional.items;
+      keyword = map (λ k. (k.0.now, expression_of k.1)) l.keyword.items;
+    }) (arguments_meant given) (first_fault argument_fault given))

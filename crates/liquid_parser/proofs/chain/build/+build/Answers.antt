@@ -31,8 +31,8 @@ pub build_index-returns-in-Some-close_bracket-clause-value : goal.build_index-re
 build_index-returns-in-Some-close_bracket-clause-value t c place rest i m =
     let b = rw c.in-Bracket.is at m in
     let h =
-        rw c.in-Some.is at c.in_ok-value-in-Bracket.ensures.value b.following b.value b.match
-        (λ _. record { rest = rest; shape = b.byte; match = b.closes }) in
+    rw c.in-Some.is at c.in_ok-value-in-Bracket.ensures.value b.following b.value b.match
+    (λ _. record { rest = rest; shape = b.byte; match = b.closes }) in
     let shallow : deep_fault c.args.depth place ≡ None = not_deep c.args.depth place (omega (arith, c.if-depth-ge-BRACKET_LIMIT.false)) in (
       ap (index_fault c.args.depth) b.is ∙ (ap (λ o. option_or o (fault_within (suc c.args.depth) b.value)) shallow ∙ rw add-one at h.0),
       h.1 ∙ sym (ap index_meant b.is),
@@ -45,7 +45,7 @@ build_variable-indexes-init t c = (
   search rules,
   λ end is m closes.
       subst (λ xs. Left c.args.depth c.args.s.now end (map expression_of xs) (indexes_meant (gather is))
-        (indexes_fault c.args.depth (gather is))) (sym c.new-indexes.ensures.items) (left_all c.args.depth c.args.s.now end is m),
+      (indexes_fault c.args.depth (gather is))) (sym c.new-indexes.ensures.items) (left_all c.args.depth c.args.s.now end is m),
 )
 
 pub build_variable-indexes-preserved : goal.build_variable-indexes-preserved
@@ -55,24 +55,24 @@ build_variable-indexes-preserved t c = (
   λ end is m closes.
       let left = c.indexes.invariant.2 end is m closes in
       let next =
-          left_next c.args.depth c.indexes.rest.now end (map expression_of c.indexes.indexes.items) (indexes_meant (gather is))
-          (indexes_fault c.args.depth (gather is)) c.in-Some.start c.in-Some.after.now left
-          (c.in-Some.ensures.only end left.indexes left.match closes) in
+      left_next c.args.depth c.indexes.rest.now end (map expression_of c.indexes.indexes.items) (indexes_meant (gather is))
+      (indexes_fault c.args.depth (gather is)) c.in-Some.start c.in-Some.after.now left
+      (c.in-Some.ensures.only end left.indexes left.match closes) in
       let h = rw c.in-Some-2.is at c.in_ok-index.ensures.value c.indexes.rest.now next.middle next.index_here next.found in
       let items : map expression_of c.push.new.self.items ≡ map expression_of c.indexes.indexes.items ++ index_meant next.index_here ∷ [] =
       ap (map expression_of) c.in_ok-push-in-Some-2.ensures.items ∙ map-append expression_of c.indexes.indexes.items
-        (c.in-Some-2.index ∷ []) ∙ ap (λ e. map expression_of c.indexes.indexes.items ++ e ∷ []) h.1 in
+      (c.in-Some-2.index ∷ []) ∙ ap (λ e. map expression_of c.indexes.indexes.items ++ e ∷ []) h.1 in
       rw items (subst (λ p. Left c.args.depth p end (map expression_of c.indexes.indexes.items ++ index_meant next.index_here ∷ [])
-        (indexes_meant (gather is)) (indexes_fault c.args.depth (gather is))) (sym h.2) (next.then h.0)),
+      (indexes_meant (gather is)) (indexes_fault c.args.depth (gather is))) (sym h.2) (next.then h.0)),
 )
 
 pub build_variable-returns-in-None-clause-value : goal.build_variable-returns-in-None-clause-value
 build_variable-returns-in-None-clause-value t c end is m closes =
     let left = c.indexes.invariant.2 end is m closes in
     let next =
-        left_next c.args.depth c.indexes.rest.now end (map expression_of c.indexes.indexes.items) (indexes_meant (gather is))
-        (indexes_fault c.args.depth (gather is)) c.in-Some.start c.in-Some.after.now left
-        (c.in-Some.ensures.only end left.indexes left.match closes) in
+    left_next c.args.depth c.indexes.rest.now end (map expression_of c.indexes.indexes.items) (indexes_meant (gather is))
+    (indexes_fault c.args.depth (gather is)) c.in-Some.start c.in-Some.after.now left
+    (c.in-Some.ensures.only end left.indexes left.match closes) in
     let h = rw c.in-None.is at c.in_ok-index.ensures.value c.indexes.rest.now next.middle next.index_here next.found in
     λ none. h (next.fine none)
 
@@ -81,8 +81,8 @@ build_variable-returns-clause-value t c rest is m closes =
     let left = c.indexes.invariant.2 rest is m closes in
     let none = c.in_default.ensures.only rest left.indexes left.match closes in
     let done =
-        left_none c.args.depth c.indexes.rest.now rest (map expression_of c.indexes.indexes.items) (indexes_meant (gather is))
-        (indexes_fault c.args.depth (gather is)) left none in (
+    left_none c.args.depth c.indexes.rest.now rest (map expression_of c.indexes.indexes.items) (indexes_meant (gather is))
+    (indexes_fault c.args.depth (gather is)) left none in (
       done.0,
       c.of_parts.ensures
           ∙ (ap (λ n. variable (text n) (expressions_of c.indexes.indexes.items)) c.in_ok-from_str.ensures.ok

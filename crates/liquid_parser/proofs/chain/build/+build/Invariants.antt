@@ -30,4 +30,4 @@ invariant-build_variable-indexes l =
     shadow (Utf8 l.rest)
     × (length l.rest ≤ length l.s)
     × ((end : List ℕ) (is : List Index) → Repeated IndexRule l.s end is → (0 < l.depth → Begins CloseBracket end)
-      → Left l.depth l.rest end (map expression_of l.indexes.items) (indexes_meant (gather is)) (indexes_fault l.depth (gather is)))
+    → Left l.depth l.rest end (map expression_of l.indexes.items) (indexes_meant (gather is)) (indexes_fault l.depth (gather is)))

@@ -20,4 +20,4 @@ invariant-filters g l =
     × (length l.rest ≤ length l.s)
     × ((source end : List ℕ) (fs : List token.Filter) → Repeated (Following 124 FilterRule) l.s end fs
     → Left (registry_of g.F.ParseFilter.makes l.registry) source l.rest end (map g.F.Filter.Meant.shape l.filters.items)
-      (filters_read (registry_of g.F.ParseFilter.makes l.registry) source fs) (first_fault filter_fault fs))
+    (filters_read (registry_of g.F.ParseFilter.makes l.registry) source fs) (first_fault filter_fault fs))

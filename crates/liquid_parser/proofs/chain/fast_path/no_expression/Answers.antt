@@ -7,4 +7,4 @@ use Rattle.liquid_parser.proofs.chain.fast_path.no_expression.Goals as goal
 pub returns : goal.returns
 returns c following is =
     subst (λ place. IfSome (told c.refused_at.result) (λ r. r ≡ refused_at c.args.source.now (codes "Invalid liquid") place)) is
-      c.refused_at.ensures
+    c.refused_at.ensures

@@ -19,4 +19,4 @@ invariant-filters g l =
     shadow (Utf8 l.rest)
     × ((end : List ℕ) (fs : List token.Filter) → Repeated (Following 124 FilterRule) l.s end fs → first_fault filter_fault fs ≡ None
     → Left (registry_of g.F.ParseFilter.makes l.registry) l.source l.rest end (map g.F.Filter.Meant.shape l.filters.items)
-      (filters_read (registry_of g.F.ParseFilter.makes l.registry) l.source fs) (first_fault filter_fault fs))
+    (filters_read (registry_of g.F.ParseFilter.makes l.registry) l.source fs) (first_fault filter_fault fs))

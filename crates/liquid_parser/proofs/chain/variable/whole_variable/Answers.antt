@@ -25,4 +25,4 @@ returns-in-None-2 c v m f =
     let w = whole_parts c.one_match.ensures.identifiers c.args.text.now c.in-Some.rest.now c.in-Some.name.now v m c.in-Some.ensures.value in
     let fine : indexes_fault 0 (gather w.indexes) ≡ None = sym w.fault ∙ (sym f ∙ checked_none _ _ c.in_ok-check.ensures) in
     absurd ((rw c.in-None-2.is at c.in_ok-expression-in-Some.ensures.value [] w.indexes w.match (λ some. absurd (omega (arith, some))))
-      fine)
+    fine)

@@ -14,7 +14,7 @@ pub returns-in_err-check-in-Tag : goal.returns-in_err-check-in-Tag
 returns-in_err-check-in-Tag c following e is m =
     let p = err_from_is_err_and c.from_residual.result c.from_residual.ensures.1 in
     rw (p.1, p.2) (tag_not_over c.args.source c.args.place.now following c.in-Tag.tag _ e
-      (rw c.in-Tag.is at m) c.in_err-check-in-Tag.ensures)
+    (rw c.in-Tag.is at m) c.in_err-check-in-Tag.ensures)
 
 pub returns-in_ok-check-in-Expression : goal.returns-in_ok-check-in-Expression
 returns-in_ok-check-in-Expression c following e is m =
@@ -25,7 +25,7 @@ pub returns-in_err-check-in-Expression : goal.returns-in_err-check-in-Expression
 returns-in_err-check-in-Expression c following e is m =
     let p = err_from_is_err_and c.from_residual-in_err-check-in-Expression.result c.from_residual-in_err-check-in-Expression.ensures.1 in
     rw (p.1, p.2) (expression_not_over c.args.source c.args.place.now following c.in-Expression.expression _ e
-      (rw c.in-Expression.is at m) c.in_err-check-in-Expression.ensures)
+    (rw c.in-Expression.is at m) c.in_err-check-in-Expression.ensures)
 
 pub returns-in-Invalid : goal.returns-in-Invalid
 returns-in-Invalid c following e is m =

@@ -17,7 +17,7 @@ pub returns-then-is_empty-clause-found : goal.returns-then-is_empty-clause-found
 returns-then-is_empty-clause-found c =
     let seen = c.in_ok-element.ensures.found in
     tag_found c.args.text.now c.in_ok-element.rest.now c.in-Tag.tag seen.0 seen.1 (subst (λ e. Means e seen.0) c.in-Tag.is seen.2)
-      (is_nothing c.in_ok-element.rest.now (sym c.is_empty.ensures ∙ c.if-is_empty.true))
+    (is_nothing c.in_ok-element.rest.now (sym c.is_empty.ensures ∙ c.if-is_empty.true))
 
 pub returns-else-is_empty-clause-only : goal.returns-else-is_empty-clause-only
 returns-else-is_empty-clause-only c t m =

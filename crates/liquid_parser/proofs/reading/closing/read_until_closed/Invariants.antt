@@ -15,5 +15,5 @@ invariant-elements g l =
     shadow (Utf8 l.rest)
     × ((front : List ℕ) × (l.text ≡ front ++ l.rest))
     × Closing (language_of g.F.ParseFilter.makes g.T.ParseTag.gives g.B.ParseBlock.block l.language) l.source 1 l.text
-      (state_view g.F.Filter.Meant.shape g.T.Node.Meant.shape g.B.Node.Meant.shape g.B.Plan.Meant.shape g.B.ParseBlock.block l.fn.state)
-      l.rest (state_view g.F.Filter.Meant.shape g.T.Node.Meant.shape g.B.Node.Meant.shape g.B.Plan.Meant.shape g.B.ParseBlock.block l.state)
+    (state_view g.F.Filter.Meant.shape g.T.Node.Meant.shape g.B.Node.Meant.shape g.B.Plan.Meant.shape g.B.ParseBlock.block l.fn.state)
+    l.rest (state_view g.F.Filter.Meant.shape g.T.Node.Meant.shape g.B.Node.Meant.shape g.B.Plan.Meant.shape g.B.ParseBlock.block l.state)

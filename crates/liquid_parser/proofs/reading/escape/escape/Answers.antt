@@ -10,7 +10,7 @@ elements-preserved c =
       search rules,
       omega (arith, c.in-Some-level_after.ensures.within, c.in-Some.ensures.shorter, c.elements.invariant.1),
       going_next _ _ _ _ _ _ found.0 _ _ c.elements.invariant.2 found.1
-        (sym (c.in-Some-level_after.ensures.value _ _ found.0 found.1 found.2)),
+          (sym (c.in-Some-level_after.ensures.value _ _ found.0 found.1 found.2)),
     )
 
 pub split_at-requires : goal.split_at-requires
@@ -22,8 +22,8 @@ pub returns-in-None-clause-value : goal.returns-in-None-clause-value
 returns-in-None-clause-value c es cover =
     let found = c.in-Some.ensures.found in
     going_end _ _ _ _ _ _ _ found.0 _ c.elements.invariant.2 found.1 (sym (c.in-None.ensures.value _ _ found.0 found.1 found.2))
-      (sym (c.split_at.ensures.front ∙ front_is c.args.body.now c.elements.invariant.2.so_far c.elements.rest.now
-      c.elements.invariant.2.whole)) es cover
+    (sym (c.split_at.ensures.front ∙ front_is c.args.body.now c.elements.invariant.2.so_far c.elements.rest.now
+    c.elements.invariant.2.whole)) es cover
 
 pub returns-in-None-clause-within : goal.returns-in-None-clause-within
 returns-in-None-clause-within c =

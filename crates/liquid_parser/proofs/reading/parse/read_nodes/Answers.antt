@@ -13,18 +13,20 @@ use Rattle.liquid_parser.proofs.ReadingSteps.{Goes, Goes-begin, Goes-on, refused
 use Rattle.liquid_parser.proofs.reading.parse.read_nodes.Goals as goal
 
 pub elements-init : goal.elements-init
-elements-init g c =
-    (search rules, Goes-begin (language_of g.F.ParseFilter.makes g.T.ParseTag.gives g.B.ParseBlock.block c.args.language.now)
-    c.args.text.now _ (ap (λ os. among (blocks_view g.F.Filter.Meant.shape g.T.Node.Meant.shape g.B.Node.Meant.shape g.B.Plan.Meant.shape
-    g.B.ParseBlock.block os) (shapes_of g.F.Filter.Meant.shape g.T.Node.Meant.shape g.B.Node.Meant.shape c.new-2.result.items))
-    c.new.ensures.items ∙ ap (λ ns. among (blocks_view g.F.Filter.Meant.shape g.T.Node.Meant.shape g.B.Node.Meant.shape g.B.Plan.Meant.shape
-    g.B.ParseBlock.block []) (shapes_of g.F.Filter.Meant.shape g.T.Node.Meant.shape g.B.Node.Meant.shape ns)) c.new-2.ensures.items))
+elements-init g c = (
+  search rules,
+  Goes-begin (language_of g.F.ParseFilter.makes g.T.ParseTag.gives g.B.ParseBlock.block c.args.language.now)
+      c.args.text.now _ (ap (λ os. among (blocks_view g.F.Filter.Meant.shape g.T.Node.Meant.shape g.B.Node.Meant.shape g.B.Plan.Meant.shape
+      g.B.ParseBlock.block os) (shapes_of g.F.Filter.Meant.shape g.T.Node.Meant.shape g.B.Node.Meant.shape c.new-2.result.items))
+      c.new.ensures.items ∙ ap (λ ns. among (blocks_view g.F.Filter.Meant.shape g.T.Node.Meant.shape g.B.Node.Meant.shape g.B.Plan.Meant.shape
+      g.B.ParseBlock.block []) (shapes_of g.F.Filter.Meant.shape g.T.Node.Meant.shape g.B.Node.Meant.shape ns)) c.new-2.ensures.items),
+)
 
 pub elements-preserved-in-Whole : goal.elements-preserved-in-Whole
 elements-preserved-in-Whole g c =
     let blocks =
-        blocks_view g.F.Filter.Meant.shape g.T.Node.Meant.shape g.B.Node.Meant.shape g.B.Plan.Meant.shape g.B.ParseBlock.block
-        c.elements.state.open.items in
+    blocks_view g.F.Filter.Meant.shape g.T.Node.Meant.shape g.B.Node.Meant.shape g.B.Plan.Meant.shape g.B.ParseBlock.block
+    c.elements.state.open.items in
     let nodes = shapes_of g.F.Filter.Meant.shape g.T.Node.Meant.shape g.B.Node.Meant.shape c.elements.state.nodes.items in
     let made = rw c.in-Whole.is at c.in_ok-node.ensures.value c.args.text.now in (
       search rules,
@@ -36,9 +38,9 @@ elements-preserved-in-Whole g c =
             es,
             cover,
             node_advanced (language_of g.F.ParseFilter.makes g.T.ParseTag.gives g.B.ParseBlock.block c.args.language.now) c.args.text.now 0
-              blocks nodes _ _ _ made es
+                blocks nodes _ _ _ made es
                 ∙ ap (λ ns. Ok (among blocks ns, es)) (sym (last_node (node_of g.F.Filter.Meant.shape g.T.Node.Meant.shape
-                  g.B.Node.Meant.shape) c.elements.state.nodes.items _ _ c.in_ok-push-in-Whole.ensures.items refl)),
+                g.B.Node.Meant.shape) c.elements.state.nodes.items _ _ c.in_ok-push-in-Whole.ensures.items refl)),
           )),
     )
 
@@ -49,11 +51,11 @@ elements-preserved g c =
     let over = c.in_ok-element-in-Some.ensures c.in-Some.following.now found.0 found.1 found.2 in (
       search rules,
       Goes-on (language_of g.F.ParseFilter.makes g.T.ParseTag.gives g.B.ParseBlock.block c.args.language.now) c.args.text.now _ _ found.0
-        (blocks_view g.F.Filter.Meant.shape g.T.Node.Meant.shape g.B.Node.Meant.shape g.B.Plan.Meant.shape g.B.ParseBlock.block
-        c.elements.state.open.items) (shapes_of g.F.Filter.Meant.shape g.T.Node.Meant.shape g.B.Node.Meant.shape
-        c.elements.state.nodes.items) (state_view g.F.Filter.Meant.shape g.T.Node.Meant.shape g.B.Node.Meant.shape g.B.Plan.Meant.shape
-        g.B.ParseBlock.block c.advance.new.state) c.in_ok-rest-in-Some.rest.now goes found.1
-        (λ es cover. c.in_ok-rest-in-Some.ensures.value c.args.text.now c.in-Some.following.now found.0 over.1 es cover),
+          (blocks_view g.F.Filter.Meant.shape g.T.Node.Meant.shape g.B.Node.Meant.shape g.B.Plan.Meant.shape g.B.ParseBlock.block
+          c.elements.state.open.items) (shapes_of g.F.Filter.Meant.shape g.T.Node.Meant.shape g.B.Node.Meant.shape
+          c.elements.state.nodes.items) (state_view g.F.Filter.Meant.shape g.T.Node.Meant.shape g.B.Node.Meant.shape g.B.Plan.Meant.shape
+          g.B.ParseBlock.block c.advance.new.state) c.in_ok-rest-in-Some.rest.now goes found.1
+          (λ es cover. c.in_ok-rest-in-Some.ensures.value c.args.text.now c.in-Some.following.now found.0 over.1 es cover),
     )
 
 pub elements-smaller : goal.elements-smaller
@@ -67,9 +69,9 @@ returns-in_err-element-in-Some g c =
     let found = c.in-Some.ensures.found in
     let p = err_from_is_err_and c.from_residual-in_err-element-in-Some.result c.from_residual-in_err-element-in-Some.ensures.1 in
     rw (p.1, p.2) (unchecked (language_of g.F.ParseFilter.makes g.T.ParseTag.gives g.B.ParseBlock.block c.args.language.now) c.args.text.now
-      _ _ found.0 (blocks_view g.F.Filter.Meant.shape g.T.Node.Meant.shape g.B.Node.Meant.shape g.B.Plan.Meant.shape g.B.ParseBlock.block
-      c.elements.state.open.items) (shapes_of g.F.Filter.Meant.shape g.T.Node.Meant.shape g.B.Node.Meant.shape c.elements.state.nodes.items)
-      _ goes found.1 (c.in_err-element-in-Some.ensures c.in-Some.following.now found.0 found.1 found.2))
+    _ _ found.0 (blocks_view g.F.Filter.Meant.shape g.T.Node.Meant.shape g.B.Node.Meant.shape g.B.Plan.Meant.shape g.B.ParseBlock.block
+    c.elements.state.open.items) (shapes_of g.F.Filter.Meant.shape g.T.Node.Meant.shape g.B.Node.Meant.shape c.elements.state.nodes.items)
+    _ goes found.1 (c.in_err-element-in-Some.ensures c.in-Some.following.now found.0 found.1 found.2))
 
 pub returns-in_err-rest-in-Some : goal.returns-in_err-rest-in-Some
 returns-in_err-rest-in-Some g c =
@@ -78,25 +80,25 @@ returns-in_err-rest-in-Some g c =
     let over = c.in_ok-element-in-Some.ensures c.in-Some.following.now found.0 found.1 found.2 in
     let p = err_from_is_err_and c.from_residual-in_err-rest-in-Some.result c.from_residual-in_err-rest-in-Some.ensures.1 in
     rw (p.1, p.2) (refused (language_of g.F.ParseFilter.makes g.T.ParseTag.gives g.B.ParseBlock.block c.args.language.now) c.args.text.now _
-      _ found.0 (blocks_view g.F.Filter.Meant.shape g.T.Node.Meant.shape g.B.Node.Meant.shape g.B.Plan.Meant.shape g.B.ParseBlock.block
-      c.elements.state.open.items) (shapes_of g.F.Filter.Meant.shape g.T.Node.Meant.shape g.B.Node.Meant.shape c.elements.state.nodes.items)
-      _ goes found.1 (λ es cover. c.in_err-rest-in-Some.ensures.value c.args.text.now c.in-Some.following.now found.0 over.1 es cover))
+    _ found.0 (blocks_view g.F.Filter.Meant.shape g.T.Node.Meant.shape g.B.Node.Meant.shape g.B.Plan.Meant.shape g.B.ParseBlock.block
+    c.elements.state.open.items) (shapes_of g.F.Filter.Meant.shape g.T.Node.Meant.shape g.B.Node.Meant.shape c.elements.state.nodes.items)
+    _ goes found.1 (λ es cover. c.in_err-rest-in-Some.ensures.value c.args.text.now c.in-Some.following.now found.0 over.1 es cover))
 
 pub returns-in-None : goal.returns-in-None
 returns-in-None g c =
     ends _ _ _ _ c.end_reading.result (subst (λ rest. Goes (language_of g.F.ParseFilter.makes g.T.ParseTag.gives g.B.ParseBlock.block
-      c.args.language.now) c.args.text.now rest (state_view g.F.Filter.Meant.shape g.T.Node.Meant.shape g.B.Node.Meant.shape
-      g.B.Plan.Meant.shape g.B.ParseBlock.block c.elements.state)) c.in-None.ensures.found c.elements.invariant.1) c.end_reading.ensures
+    c.args.language.now) c.args.text.now rest (state_view g.F.Filter.Meant.shape g.T.Node.Meant.shape g.B.Node.Meant.shape
+    g.B.Plan.Meant.shape g.B.ParseBlock.block c.elements.state)) c.in-None.ensures.found c.elements.invariant.1) c.end_reading.ensures
 
 pub returns-in-NoExpression : goal.returns-in-NoExpression
 returns-in-NoExpression g c =
     let blocks =
-        blocks_view g.F.Filter.Meant.shape g.T.Node.Meant.shape g.B.Node.Meant.shape g.B.Plan.Meant.shape g.B.ParseBlock.block
-        c.elements.state.open.items in
+    blocks_view g.F.Filter.Meant.shape g.T.Node.Meant.shape g.B.Node.Meant.shape g.B.Plan.Meant.shape g.B.ParseBlock.block
+    c.elements.state.open.items in
     let nodes = shapes_of g.F.Filter.Meant.shape g.T.Node.Meant.shape g.B.Node.Meant.shape c.elements.state.nodes.items in
     let found = rw c.in-NoExpression.is at c.in_ok-node.ensures.value c.args.text.now in
     refused (language_of g.F.ParseFilter.makes g.T.ParseTag.gives g.B.ParseBlock.block c.args.language.now) c.args.text.now _ found.0
-      (invalid found.1) blocks nodes _ c.elements.invariant.1 found.2
+    (invalid found.1) blocks nodes _ c.elements.invariant.1 found.2
     (λ es cover. invalid_advanced (language_of g.F.ParseFilter.makes g.T.ParseTag.gives g.B.ParseBlock.block c.args.language.now)
-      c.args.text.now 0 blocks nodes found.0 found.1 es _ (c.no_expression.ensures found.0
-      (lone_brace_at c.elements.rest.now found.0 found.1 c.match_white.result.1.now _ found.2 c.match_white.ensures.value)))
+    c.args.text.now 0 blocks nodes found.0 found.1 es _ (c.no_expression.ensures found.0
+    (lone_brace_at c.elements.rest.now found.0 found.1 c.match_white.result.1.now _ found.2 c.match_white.ensures.value)))

@@ -13,5 +13,5 @@ pub returns-in-None : goal.returns-in-None
 returns-in-None c text is =
     let middle : c.saturating_sub.result ≡ length c.args.place.now - length c.args.following.now = search in
     cc (c.in-None.ensures.variant.1 (subst (IsCharBoundary c.args.place.now) (sym middle)
-      (IsCharBoundary-before_rest c.args.place.now c.args.following.now c.utf8.following
-      (front_ends c.args.place.now text c.args.following.now is))))
+    (IsCharBoundary-before_rest c.args.place.now c.args.following.now c.utf8.following
+    (front_ends c.args.place.now text c.args.following.now is))))

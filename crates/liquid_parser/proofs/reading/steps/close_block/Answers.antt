@@ -11,27 +11,27 @@ pub returns-in_err-expect_nothing : goal.returns-in_err-expect_nothing
 returns-in_err-expect_nothing g c source t h =
     let p = err_from_is_err_and c.from_residual.result c.from_residual.ensures.1 in
     rw (p.1, p.2) (closed_token source t (open_view g.F.Filter.Meant.shape g.T.Node.Meant.shape g.B.Node.Meant.shape g.B.Plan.Meant.shape
-      g.B.ParseBlock.block c.args.block) (shapes_of g.F.Filter.Meant.shape g.T.Node.Meant.shape g.B.Node.Meant.shape c.args.nodes.items) _
-      (c.in_err-expect_nothing.ensures _ h.tokens_are))
+    g.B.ParseBlock.block c.args.block) (shapes_of g.F.Filter.Meant.shape g.T.Node.Meant.shape g.B.Node.Meant.shape c.args.nodes.items) _
+    (c.in_err-expect_nothing.ensures _ h.tokens_are))
 
 pub returns-in_ok-push-in-Ok : goal.returns-in_ok-push-in-Ok
 returns-in_ok-push-in-Ok g c source t h =
     let held : c.len.result ≡ length c.push.new.self.items = grind (arith, c.push.new.self.ok.0, c.len.ensures) in
     let made = block_shape g.F.Filter.Meant.shape g.T.Node.Meant.shape g.B.Node.Meant.shape c.in-Ok.made c.push.new.self
     ∙ ap (block_with (g.B.Node.Meant.shape c.in-Ok.made)) (ap (map _) c.in_ok-push.ensures.items
-      ∙ map_push _ c.args.block.parts.items c.args.nodes) in
+    ∙ map_push _ c.args.block.parts.items c.args.nodes) in
     closed_ok source t (open_view g.F.Filter.Meant.shape g.T.Node.Meant.shape g.B.Node.Meant.shape g.B.Plan.Meant.shape g.B.ParseBlock.block
-      c.args.block) (shapes_of g.F.Filter.Meant.shape g.T.Node.Meant.shape g.B.Node.Meant.shape c.args.nodes.items) _ c.len.result _
-      (c.in_ok-expect_nothing.ensures _ h.tokens_are) c.in-Ok.ensures
+    c.args.block) (shapes_of g.F.Filter.Meant.shape g.T.Node.Meant.shape g.B.Node.Meant.shape c.args.nodes.items) _ c.len.result _
+    (c.in_ok-expect_nothing.ensures _ h.tokens_are) c.in-Ok.ensures
     (held ∙ count_parts _ c.args.block.parts.items c.args.nodes c.in_ok-push.ensures.items)
     (last_node (node_of g.F.Filter.Meant.shape g.T.Node.Meant.shape g.B.Node.Meant.shape) c.args.block.before.items _ _
-      c.in_ok-push-in-Ok.ensures.items made)
+    c.in_ok-push-in-Ok.ensures.items made)
 
 pub returns-in-Err : goal.returns-in-Err
 returns-in-Err g c source t h =
     let held : c.len.result ≡ length c.push.new.self.items = grind (arith, c.push.new.self.ok.0, c.len.ensures) in
     closed_err source t (open_view g.F.Filter.Meant.shape g.T.Node.Meant.shape g.B.Node.Meant.shape g.B.Plan.Meant.shape
-      g.B.ParseBlock.block c.args.block) (shapes_of g.F.Filter.Meant.shape g.T.Node.Meant.shape g.B.Node.Meant.shape c.args.nodes.items)
-      c.len.result _ _ _ (c.in_ok-expect_nothing.ensures _ h.tokens_are)
-      (held ∙ count_parts _ c.args.block.parts.items c.args.nodes c.in_ok-push.ensures.items) c.in-Err.ensures c.or_place.ensures
-      c.place_in.ensures
+    g.B.ParseBlock.block c.args.block) (shapes_of g.F.Filter.Meant.shape g.T.Node.Meant.shape g.B.Node.Meant.shape c.args.nodes.items)
+    c.len.result _ _ _ (c.in_ok-expect_nothing.ensures _ h.tokens_are)
+    (held ∙ count_parts _ c.args.block.parts.items c.args.nodes c.in_ok-push.ensures.items) c.in-Err.ensures c.or_place.ensures
+    c.place_in.ensures

@@ -10,14 +10,14 @@ use Rattle.liquid_parser.proofs.reading.steps.divide_block.Goals as goal
 pub returns-in_ok-push-in-Ok : goal.returns-in_ok-push-in-Ok
 returns-in_ok-push-in-Ok g c source t h =
     let b =
-        open_view g.F.Filter.Meant.shape g.T.Node.Meant.shape g.B.Node.Meant.shape g.B.Plan.Meant.shape g.B.ParseBlock.block
-        c.args.block.now in
+    open_view g.F.Filter.Meant.shape g.T.Node.Meant.shape g.B.Node.Meant.shape g.B.Plan.Meant.shape g.B.ParseBlock.block
+    c.args.block.now in
     let nodes = shapes_of g.F.Filter.Meant.shape g.T.Node.Meant.shape g.B.Node.Meant.shape c.args.nodes.items in
     let parts =
-        ap (map (λ v. shapes_of g.F.Filter.Meant.shape g.T.Node.Meant.shape g.B.Node.Meant.shape v.items)) c.in_ok-push-in-Ok.ensures.items
-        ∙ map_push _ c.args.block.now.parts.items c.args.nodes in
+    ap (map (λ v. shapes_of g.F.Filter.Meant.shape g.T.Node.Meant.shape g.B.Node.Meant.shape v.items)) c.in_ok-push-in-Ok.ensures.items
+    ∙ map_push _ c.args.block.now.parts.items c.args.nodes in
     placed_ok (place_in source (name_place t)) (b.kind.means.divide b.plan t.0 (handed source t))
-        (λ plan. Ok (record b { plan = plan; parts = b.parts ++ nodes ∷ [] })) _ (rw h.name_is at c.in-Ok.ensures _ h.tokens_are)
+    (λ plan. Ok (record b { plan = plan; parts = b.parts ++ nodes ∷ [] })) _ (rw h.name_is at c.in-Ok.ensures _ h.tokens_are)
     ∙ ap (λ ps. Ok (record b { plan = g.B.Plan.Meant.shape c.divide.new.plan; parts = ps })) (sym parts)
 
 pub returns-in-Err : goal.returns-in-Err

@@ -5,7 +5,7 @@ use Rattle.shop.proofs.pages.Shop.write_sandboxed.Goals as goal
 pub returns-clause-shown : goal.returns-clause-shown
 returns-clause-shown g c = λ answer reads.
     RenderedBy-read _ answer _ _ _ _ _ _ (c.in_ok-parse.ensures.only answer (rw c.deref.ensures reads))
-      (rw c.new-page.ensures at c.render_sandboxed.ensures.sandboxed.renders)
+    (rw c.new-page.ensures at c.render_sandboxed.ensures.sandboxed.renders)
 
 pub returns-in_err-parse-clause-shown : goal.returns-in_err-parse-clause-shown
 returns-in_err-parse-clause-shown g c = λ answer reads.

@@ -13,10 +13,10 @@ nodes-preserved-in-Continue-branch-3 g c =
     let is_open : c.nodes.self.is_closed ≡ false = c.nodes-test.true in (
       passes_on c.args.self.now c.nodes.self c.parse_next.new.self c.nodes.invariant.0 c.parse_next.ensures.passes,
       λ was_open. goes_node (language_of g.F.ParseFilter.makes g.T.ParseTag.gives g.B.ParseBlock.block c.args.language.now) 1
-        (node_of g.F.Filter.Meant.shape g.T.Node.Meant.shape g.B.Node.Meant.shape) c.args.self.now c.nodes.self c.nodes.invariant.0
-        c.parse_next.new.self c.in-Some.node _ _ is_open (c.nodes.invariant.1 was_open)
+          (node_of g.F.Filter.Meant.shape g.T.Node.Meant.shape g.B.Node.Meant.shape) c.args.self.now c.nodes.self c.nodes.invariant.0
+          c.parse_next.new.self c.in-Some.node _ _ is_open (c.nodes.invariant.1 was_open)
           (last_node (node_of g.F.Filter.Meant.shape g.T.Node.Meant.shape g.B.Node.Meant.shape) c.nodes.nodes.items c.in-Some.node _
-            c.in_ok-push-in-Some.ensures.items refl) (λ es cover. rw c.in-Some.is at c.in_ok-node.ensures.open is_open es cover),
+          c.in_ok-push-in-Some.ensures.items refl) (λ es cover. rw c.in-Some.is at c.in_ok-node.ensures.open is_open es cover),
       λ shut. still_closed c.args.self.now c.nodes.self is_open (c.nodes.invariant.2 shut).1 shut,
     )
 
@@ -25,9 +25,9 @@ nodes-preserved g c =
     let is_open : c.nodes.self.is_closed ≡ false = c.nodes-test.true in (
       passes_on c.args.self.now c.nodes.self c.parse_next.new.self c.nodes.invariant.0 c.parse_next.ensures.passes,
       λ was_open. goes_end (language_of g.F.ParseFilter.makes g.T.ParseTag.gives g.B.ParseBlock.block c.args.language.now) 1
-        (node_of g.F.Filter.Meant.shape g.T.Node.Meant.shape g.B.Node.Meant.shape) c.args.self.now c.nodes.self c.nodes.invariant.0
-        c.parse_next.new.self _ is_open (c.nodes.invariant.1 was_open)
-        (λ es cover. rw c.in-None.is at c.in_ok-node.ensures.open is_open es cover),
+          (node_of g.F.Filter.Meant.shape g.T.Node.Meant.shape g.B.Node.Meant.shape) c.args.self.now c.nodes.self c.nodes.invariant.0
+          c.parse_next.new.self _ is_open (c.nodes.invariant.1 was_open)
+          (λ es cover. rw c.in-None.is at c.in_ok-node.ensures.open is_open es cover),
       λ shut. still_closed c.args.self.now c.nodes.self is_open (c.nodes.invariant.2 shut).1 shut,
     )
 
@@ -45,40 +45,40 @@ returns-in_err-node-clause-found g c was_open es cover =
     let passes = passes_on c.args.self.now c.nodes.self c.parse_next.new.self c.nodes.invariant.0 c.parse_next.ensures.passes in
     let p = err_from_is_err_and c.from_residual.result c.from_residual.ensures.1 in
     rw (p.1, p.2) (found_err (language_of g.F.ParseFilter.makes g.T.ParseTag.gives g.B.ParseBlock.block c.args.language.now) 1
-      (node_of g.F.Filter.Meant.shape g.T.Node.Meant.shape g.B.Node.Meant.shape) c.args.self.now c.parse_next.new.self passes
-      (told c.in_err-node.field-0.0) es
+    (node_of g.F.Filter.Meant.shape g.T.Node.Meant.shape g.B.Node.Meant.shape) c.args.self.now c.parse_next.new.self passes
+    (told c.in_err-node.field-0.0) es
     (goes_refused (language_of g.F.ParseFilter.makes g.T.ParseTag.gives g.B.ParseBlock.block c.args.language.now) 1
-      (node_of g.F.Filter.Meant.shape g.T.Node.Meant.shape g.B.Node.Meant.shape) c.args.self.now c.nodes.self c.nodes.invariant.0
-      (told c.in_err-node.field-0.0) _ is_open (c.nodes.invariant.1 was_open)
-      (λ es cover. c.in_err-node.ensures.open is_open es cover) es cover))
+    (node_of g.F.Filter.Meant.shape g.T.Node.Meant.shape g.B.Node.Meant.shape) c.args.self.now c.nodes.self c.nodes.invariant.0
+    (told c.in_err-node.field-0.0) _ is_open (c.nodes.invariant.1 was_open)
+    (λ es cover. c.in_err-node.ensures.open is_open es cover) es cover))
 
 pub returns-in_err-node-clause-only : goal.returns-in_err-node-clause-only
 returns-in_err-node-clause-only g c was_open es a cover all =
     let is_open : c.nodes.self.is_closed ≡ false = c.nodes-test.true in
     let p = err_from_is_err_and c.from_residual.result c.from_residual.ensures.1 in
     rw (p.1, p.2) (only_err (language_of g.F.ParseFilter.makes g.T.ParseTag.gives g.B.ParseBlock.block c.args.language.now) 1
-      (told c.in_err-node.field-0.0) es c.args.self.now.source.now c.args.self.now.end_name.now a
+    (told c.in_err-node.field-0.0) es c.args.self.now.source.now c.args.self.now.end_name.now a
     (goes_refused (language_of g.F.ParseFilter.makes g.T.ParseTag.gives g.B.ParseBlock.block c.args.language.now) 1
-      (node_of g.F.Filter.Meant.shape g.T.Node.Meant.shape g.B.Node.Meant.shape) c.args.self.now c.nodes.self c.nodes.invariant.0
-      (told c.in_err-node.field-0.0) _ is_open (c.nodes.invariant.1 was_open)
-      (λ es cover. c.in_err-node.ensures.open is_open es cover) es cover) all)
+    (node_of g.F.Filter.Meant.shape g.T.Node.Meant.shape g.B.Node.Meant.shape) c.args.self.now c.nodes.self c.nodes.invariant.0
+    (told c.in_err-node.field-0.0) _ is_open (c.nodes.invariant.1 was_open)
+    (λ es cover. c.in_err-node.ensures.open is_open es cover) es cover) all)
 
 pub returns-clause-found : goal.returns-clause-found
 returns-clause-found g c was_open es cover =
     let shut : c.nodes.self.is_closed ≡ true = c.nodes-test.false in
     found_all (language_of g.F.ParseFilter.makes g.T.ParseTag.gives g.B.ParseBlock.block c.args.language.now) 1
-      (node_of g.F.Filter.Meant.shape g.T.Node.Meant.shape g.B.Node.Meant.shape) c.args.self.now c.nodes.self c.nodes.invariant.0
-      (λ v. shapes_of g.F.Filter.Meant.shape g.T.Node.Meant.shape g.B.Node.Meant.shape v.items) c.nodes.nodes shut
-      (c.nodes.invariant.1 was_open) es cover
+    (node_of g.F.Filter.Meant.shape g.T.Node.Meant.shape g.B.Node.Meant.shape) c.args.self.now c.nodes.self c.nodes.invariant.0
+    (λ v. shapes_of g.F.Filter.Meant.shape g.T.Node.Meant.shape g.B.Node.Meant.shape v.items) c.nodes.nodes shut
+    (c.nodes.invariant.1 was_open) es cover
 
 pub returns-clause-only : goal.returns-clause-only
 returns-clause-only g c was_open es a cover all =
     let shut : c.nodes.self.is_closed ≡ true = c.nodes-test.false in
     let passes = c.nodes.invariant.0 in
     only_ok (λ v. shapes_of g.F.Filter.Meant.shape g.T.Node.Meant.shape g.B.Node.Meant.shape v.items)
-      (language_of g.F.ParseFilter.makes g.T.ParseTag.gives g.B.ParseBlock.block c.args.language.now) 1 c.nodes.nodes c.nodes.self es
-      c.args.self.now.source.now c.args.self.now.end_name.now (ap (λ b. b.now) passes.source_is) (ap (λ b. b.now) passes.end_is)
+    (language_of g.F.ParseFilter.makes g.T.ParseTag.gives g.B.ParseBlock.block c.args.language.now) 1 c.nodes.nodes c.nodes.self es
+    c.args.self.now.source.now c.args.self.now.end_name.now (ap (λ b. b.now) passes.source_is) (ap (λ b. b.now) passes.end_is)
     (found_all (language_of g.F.ParseFilter.makes g.T.ParseTag.gives g.B.ParseBlock.block c.args.language.now) 1
-      (node_of g.F.Filter.Meant.shape g.T.Node.Meant.shape g.B.Node.Meant.shape) c.args.self.now c.nodes.self passes
-      (λ v. shapes_of g.F.Filter.Meant.shape g.T.Node.Meant.shape g.B.Node.Meant.shape v.items) c.nodes.nodes shut
-      (c.nodes.invariant.1 was_open) es cover) a all
+    (node_of g.F.Filter.Meant.shape g.T.Node.Meant.shape g.B.Node.Meant.shape) c.args.self.now c.nodes.self passes
+    (λ v. shapes_of g.F.Filter.Meant.shape g.T.Node.Meant.shape g.B.Node.Meant.shape v.items) c.nodes.nodes shut
+    (c.nodes.invariant.1 was_open) es cover) a all

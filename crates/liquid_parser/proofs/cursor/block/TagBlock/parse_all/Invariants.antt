@@ -13,6 +13,6 @@ abbrev pub invariant-nodes : goal.invariant-nodes
 invariant-nodes g l =
     Passes l.fn.self l.self
     × (l.fn.self.is_closed ≡ false → Onward (language_of g.F.ParseFilter.makes g.T.ParseTag.gives g.B.ParseBlock.block l.language)
-      l.fn.self.source.now l.fn.self.end_name.now 1 l.fn.self.rest.now l.self.is_closed l.self.rest.now
-      (shapes_of g.F.Filter.Meant.shape g.T.Node.Meant.shape g.B.Node.Meant.shape l.nodes.items))
+    l.fn.self.source.now l.fn.self.end_name.now 1 l.fn.self.rest.now l.self.is_closed l.self.rest.now
+    (shapes_of g.F.Filter.Meant.shape g.T.Node.Meant.shape g.B.Node.Meant.shape l.nodes.items))
     × (l.fn.self.is_closed ≡ true → (l.nodes.items ≡ []) × (l.self ≡ l.fn.self))

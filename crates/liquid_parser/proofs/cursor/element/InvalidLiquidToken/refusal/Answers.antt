@@ -7,4 +7,4 @@ use Rattle.liquid_parser.proofs.cursor.element.InvalidLiquidToken.refusal.Goals 
 pub returns : goal.returns
 returns c source following is =
     subst (λ s. IfSome (told c.no_expression.result) (λ r. r ≡ refused_at s (codes "Invalid liquid") (123 ∷ following))) is.source_is
-      (c.no_expression.ensures following is.brace_is)
+    (c.no_expression.ensures following is.brace_is)

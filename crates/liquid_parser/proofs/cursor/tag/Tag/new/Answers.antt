@@ -10,7 +10,7 @@ returns-in_err-check-in-Some-clause-tag c t m =
     let seen = c.in-Some.ensures.only t m in
     let p = err_from_is_err_and c.from_residual.result c.from_residual.ensures.1 in
     rw (p.1, p.2) (if_some_weaker (told c.in_err-check-in-Some.field-0.0)
-      (λ r is. ap (checked c.args.text.now) (sym seen.fault_is) ∙ is) c.in_err-check-in-Some.ensures)
+    (λ r is. ap (checked c.args.text.now) (sym seen.fault_is) ∙ is) c.in_err-check-in-Some.ensures)
 
 pub returns-in-None-clause-tag : goal.returns-in-None-clause-tag
 returns-in-None-clause-tag c t m = absurd (c.in-None.ensures.only t m)

@@ -12,8 +12,8 @@ returns-in-Some g c t is =
     let found = c.in_ok-entry.ensures t is in
     let shape = rw c.in-Some.is at found in
     let made =
-        c.new-in-Some.ensures ∙ ap (λ items. record { entry = expression_of c.in-Some.entry; filters = map g.F.Filter.Meant.shape items })
-        c.new.ensures.items in
+    c.new-in-Some.ensures ∙ ap (λ items. record { entry = expression_of c.in-Some.entry; filters = map g.F.Filter.Meant.shape items })
+    c.new.ensures.items in
     ap (chain_made (registry_of g.F.ParseFilter.makes c.args.filters.now)) shape ∙ ap Some (sym made)
 
 pub returns-in-Ok : goal.returns-in-Ok
@@ -23,7 +23,9 @@ returns-in-Ok g c t is =
 
 pub returns-in-Chain : goal.returns-in-Chain
 returns-in-Chain g c t is =
-    let read = chain_expected (registry_of g.F.ParseFilter.makes c.args.filters.now) c.args.self t c.in-Chain.field-0 is c.in-Chain.is in
-    (read.is ∙ nothing_made (told c.in-Err.error) _ c.is_memory.result
-      (c.in-Err.ensures c.args.self.text.rest.now read.shape read.match read.fine)
-      (λ none. c.is_memory.ensures.1 none) c.if-is_memory.false, refl)
+    let read = chain_expected (registry_of g.F.ParseFilter.makes c.args.filters.now) c.args.self t c.in-Chain.field-0 is c.in-Chain.is in (
+      read.is ∙ nothing_made (told c.in-Err.error) _ c.is_memory.result
+          (c.in-Err.ensures c.args.self.text.rest.now read.shape read.match read.fine)
+          (λ none. c.is_memory.ensures.1 none) c.if-is_memory.false,
+      refl,
+    )

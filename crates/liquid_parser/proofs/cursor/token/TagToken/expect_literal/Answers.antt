@@ -8,7 +8,7 @@ pub returns-in-Some : goal.returns-in-Some
 returns-in-Some c t is =
     let made = rw c.in-Some.is at c.in_ok-value-in-Some-Literal.ensures [] in
     literal_is _ t (literal_of c.in-Some-Literal.literal) (rw c.in-Some-Literal.field-0-is at c.in-Some-Literal.ensures t is)
-      ∙ ap Some (sym made.1)
+    ∙ ap Some (sym made.1)
 
 pub returns-in-None : goal.returns-in-None
 returns-in-None c t is =

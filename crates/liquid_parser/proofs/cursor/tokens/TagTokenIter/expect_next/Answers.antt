@@ -11,6 +11,8 @@ returns-in-Some-clause-value c ts are =
 
 pub returns-in-None-clause-value : goal.returns-in-None-clause-value
 returns-in-None-clause-value c ts are =
-    let h = c.in-None.ensures.value ts are in
-    (if_some_weaker (told c.raise_error.result) (λ r is. or_none c.args.message.now ts h.0 ∙ ap (λ x. Err x) (sym is))
-      (c.raise_error.ensures ts h.1), h.1)
+    let h = c.in-None.ensures.value ts are in (
+      if_some_weaker (told c.raise_error.result) (λ r is. or_none c.args.message.now ts h.0 ∙ ap (λ x. Err x) (sym is))
+          (c.raise_error.ensures ts h.1),
+      h.1,
+    )
