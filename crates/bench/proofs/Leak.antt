@@ -50,6 +50,6 @@ module _ {Reg : Type 0} where
       let there : (leaked v hidden_s).answer ≡ Ok (text_turn (codes "S")) = rw s_there refl in
       let absent : (leaked v no_names).answer ≡ Ok (text_turn []) = rw s_not_there refl in
       let same : (leaked v hidden_s).answer ≡ (leaked v no_names).answer =
-          ap (λ (t : Answered TurnShape ℕ Reg). t.answer) (discreet.turn (shape.Leak s (literal nil)) 1 hidden_s v) in
+      ap (λ (t : Answered TurnShape ℕ Reg). t.answer) (discreet.turn (shape.Leak s (literal nil)) 1 hidden_s v) in
       let e : ◌≡◌ {A = Result TurnShape Refusal} (Ok (text_turn (codes "S"))) (Ok (text_turn [])) = sym there ∙ same ∙ absent in
       cc

@@ -25,7 +25,7 @@ module _ {X : Type 0} (name : List ℕ) (x : X) where
   pub keys_one : keys (insert (empty {R = slice_cmp nat_cmp}) name x) ≡ name ∷ []
   keys_one = ap (map (λ e. e.0)) (entries-insert nat_list_cmp_total empty name x
       ∙ ap (put (slice_cmp nat_cmp) name x) (none_left (entries (empty {X = X} {R = slice_cmp nat_cmp}))
-        (sym (len-entries empty) ∙ len-empty (slice_cmp nat_cmp) X)))
+      (sym (len-entries empty) ∙ len-empty (slice_cmp nat_cmp) X)))
 
 is_some_cond : {X : Type 0} (b : Bool) (x : X) → is_some (cond b (Some x) None) ≡ b
 is_some_cond true x = refl
@@ -50,15 +50,21 @@ module _ {A : Type 0} (name : List ℕ) (x : A) (q : List ℕ) where
 
   pub partial_own : bytes_eq q name ≡ true → partial_in (insert empty name (Ok x)) q ≡ Ok x
   partial_own e =
-      ap (λ found. elim found [ None ↦ Err (unknown_partial q (keys {X = Result A Refusal}
-          (insert (empty {R = slice_cmp nat_cmp}) name (Ok x)))) | Some reading ↦ reading ])
-          (get_own {X = Result A Refusal} name (Ok x) q e)
+      ap (λ found. elim found [
+        | None ↦ Err (unknown_partial q (keys {X = Result A Refusal}
+            (insert (empty {R = slice_cmp nat_cmp}) name (Ok x))))
+        | Some reading ↦ reading
+      ])
+      (get_own {X = Result A Refusal} name (Ok x) q e)
 
   pub partial_other : bytes_eq q name ≡ false → partial_in (insert empty name (Ok x)) q ≡ Err (unknown_partial q (name ∷ []))
   partial_other e =
-      ap (λ found. elim found [ None ↦ Err (unknown_partial q (keys {X = Result A Refusal}
-          (insert (empty {R = slice_cmp nat_cmp}) name (Ok x)))) | Some reading ↦ reading ])
-          (get_other {X = Result A Refusal} name (Ok x) q e)
+      ap (λ found. elim found [
+        | None ↦ Err (unknown_partial q (keys {X = Result A Refusal}
+            (insert (empty {R = slice_cmp nat_cmp}) name (Ok x))))
+        | Some reading ↦ reading
+      ])
+      (get_other {X = Result A Refusal} name (Ok x) q e)
       ∙ ap (λ names. Err (unknown_partial q names)) (keys_one {X = Result A Refusal} name (Ok x))
 
 -- one name that is pushed to none

@@ -46,21 +46,21 @@ module _ (asked : Asked) (globals old new : List ℕ) (o : Outcome) where
     -- a page in the language without filters
     pub plain_asked : (l : PlainLanguage) → it ≡ chosen.Plain l
         → ((page : Page) → ComesTo (library (tt {0}) filter_calls) (meaning_of filter_made l.value)
-          (page_options asked) asked.text.now globals (map bytes_of_partial asked.partials.now) page → Leaves page old new o)
+        (page_options asked) asked.text.now globals (map bytes_of_partial asked.partials.now) page → Leaves page old new o)
         → LeavesOver asked globals old new o
     plain_asked l same leaves =
         let all : IsChosen asked.options (chosen.Plain l) = subst (IsChosen asked.options) same is in
         left_in false all.0 all.1.0 (subst (λ k. (page : Page) → ComesTo (library (tt {0}) filter_calls) k
-            (page_options asked) asked.text.now globals (map bytes_of_partial asked.partials.now) page → Leaves page old new o) all.1.1
-            leaves)
+        (page_options asked) asked.text.now globals (map bytes_of_partial asked.partials.now) page → Leaves page old new o) all.1.1
+        leaves)
 
     -- a page in the standard language
     pub standard_asked : (l : StandardLanguage) → it ≡ chosen.Standard l
         → ((page : Page) → ComesTo (standard marks_alone no_marks filter_calls) (standard_meaning filter_made l.value)
-          (page_options asked) asked.text.now globals (map bytes_of_partial asked.partials.now) page → Leaves page old new o)
+        (page_options asked) asked.text.now globals (map bytes_of_partial asked.partials.now) page → Leaves page old new o)
         → LeavesOver asked globals old new o
     standard_asked l same leaves =
         let all : IsChosen asked.options (chosen.Standard l) = subst (IsChosen asked.options) same is in
         left_in true all.0 all.1.0 (subst (λ k. (page : Page) → ComesTo (standard marks_alone no_marks filter_calls) k
-            (page_options asked) asked.text.now globals (map bytes_of_partial asked.partials.now) page → Leaves page old new o) all.1.1
-            leaves)
+        (page_options asked) asked.text.now globals (map bytes_of_partial asked.partials.now) page → Leaves page old new o) all.1.1
+        leaves)

@@ -84,8 +84,13 @@ pub nothing_left : (page : Page) (old new : List ℕ) (o : Outcome) → o.kind �
 nothing_left page old new o kind needed written same =
     let none : 0 ≡ min 0 (length old) = omega arith in
     let bytes : new ≡ take 0 [] ++ drop 0 old = same in
-    record { rendered = []; needed = needed; written = written ∙ none;
-        bytes = subst (λ k. new ≡ take k [] ++ drop k old) (sym written) bytes; ends = inl (kind, (page.output, refl)) }
+    record {
+      rendered = [];
+      needed = needed;
+      written = written ∙ none;
+      bytes = subst (λ k. new ≡ take k [] ++ drop k old) (sym written) bytes;
+      ends = inl (kind, (page.output, refl));
+    }
 
 module _ (page : Page) (bytes old new : List ℕ) (o : Outcome) where
   fault_ends : (t : Option Fault) → MatchOption t (Begins bytes page) (λ f. (bytes ≡ page.output) × (page.fault ≡ Some f)) → Ends t o
@@ -108,13 +113,23 @@ module _ (page : Page) (bytes taken old new : List ℕ) (end : Result (Unit {0})
       → o.kind ≡ (if nat_le o.needed (length old) then 0 else 7) → IsPlaced None o → Leaves page old new o
   whole_left o done is needed written copied kind place =
       let shown = all_shown done is in
-      record { rendered = bytes; needed = needed; written = written; bytes = copied;
-          ends = inr (shown.0, subst (λ t. Tells t (length old) o) (sym shown.1) (kind, place)) }
+      record {
+        rendered = bytes;
+        needed = needed;
+        written = written;
+        bytes = copied;
+        ends = inr (shown.0, subst (λ t. Tells t (length old) o) (sym shown.1) (kind, place));
+      }
 
   -- those before a fault
   pub fault_left : (o : Outcome) (n w m : ℕ) (fault : PageFault) → end ≡ Err fault → Ends (fault_told fault) o
       → n ≡ length bytes → w ≡ min (length bytes) (length old) → new ≡ take w bytes ++ drop w old → Leaves page old new (counted o n w m)
   fault_left o n w m fault is ends needed written copied =
-      record { rendered = bytes; needed = needed; written = written; bytes = copied;
-          ends = fault_ends page bytes old new (counted o n w m) (fault_told fault) (fault_shown fault is)
-          (ends_counted (fault_told fault) o n w m ends) }
+      record {
+        rendered = bytes;
+        needed = needed;
+        written = written;
+        bytes = copied;
+        ends = fault_ends page bytes old new (counted o n w m) (fault_told fault) (fault_shown fault is)
+            (ends_counted (fault_told fault) o n w m ends);
+      }

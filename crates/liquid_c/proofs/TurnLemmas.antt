@@ -18,9 +18,9 @@ pub next_turn : {X : Type 0} (f : X → List ℕ) (P : List ℕ → List ℕ →
 next_turn f P old xs os before after used whole n more d o within room turns front leaves is =
     subst (λ k. InTurn P old (map f (take (n + 1) xs)) (take (n + 1) (set os n o)) after (used + o.written) (whole + k)) (sym is)
     (subst (λ gs. InTurn P old gs (take (n + 1) (set os n o)) after (used + o.written) (whole + one_if_whole o))
-      (sym (one_more f xs n d within))
+    (sym (one_more f xs n d within))
     (subst (λ left. InTurn P old (map f (take n xs) ++ f (get_or xs n d) ∷ []) left after (used + o.written) (whole + one_if_whole o))
-      (sym (take_more_set os n o room))
+    (sym (take_more_set os n o room))
     (rendered turns front leaves)))
 
 pub later_turn : (os first : List Outcome) (n : ℕ) (o : Outcome) → drop n os ≡ drop n first → drop (n + 1) (set os n o) ≡ drop (n + 1) first
@@ -31,7 +31,7 @@ later_turn os first n o same =
 pub all_turns : {X : Type 0} (f : X → List ℕ) (P : List ℕ → List ℕ → List ℕ → Outcome → Type 0) (old new : List ℕ) (xs : List X)
     (first os : List Outcome) (used whole n count : ℕ)
     → n ≡ count → InTurn P old (map f (take n xs)) (take n os) new used whole → drop n os ≡ drop n first
-      → AllTurns P (map f xs) old new first os count whole
+    → AllTurns P (map f xs) old new first os count whole
 all_turns f P old new xs first os used whole n count is turns same =
     subst (λ k. AllTurns P (map f xs) old new first os k whole) is
     (record { used = used; turns = subst (λ gs. InTurn P old gs (take n os) new used whole) (sym (take-map f n xs)) turns; later = same })
@@ -47,13 +47,13 @@ none_counted (suc k) some = sym (ap one_if (eqb-suc-zero k))
 pub refused_turn : {X : Type 0} (f : X → List ℕ) (kind : ℕ) (out : List ℕ) (xs : List X) (os : List Outcome) (n : ℕ) (o : Outcome)
     → n < length xs → n < length os → 1 ≤ kind → InTurn (IsRefused kind) out (map f (take n xs)) (take n os) out 0 0
     → o.kind ≡ kind → o.needed ≡ 0 → o.written ≡ 0 → InTurn (IsRefused kind) out (map f (take (n + 1) xs))
-      (take (n + 1) (set os n o)) out 0 0
+    (take (n + 1) (set os n o)) out 0 0
 refused_turn f kind out [] os n o within room some turns is needed written = absurd (omega (arith, within))
 refused_turn f kind out (x ∷ xs) os n o within room some turns is needed written =
     let used : 0 + o.written ≡ 0 = omega (arith, written) in
     subst (λ u. InTurn (IsRefused kind) out (map f (take (n + 1) (x ∷ xs))) (take (n + 1) (set os n o)) out u 0) used
     (next_turn f (IsRefused kind) out (x ∷ xs) os out out 0 0 n 0 x o within room turns refl (is, (needed, (written, refl)))
-      (none_counted o.kind (subst (λ k. 1 ≤ k) (sym is) some)))
+    (none_counted o.kind (subst (λ k. 1 ≤ k) (sym is) some)))
 
 -- turns of which P is said, where P leads to Q
 module _ {P Q : List ℕ → List ℕ → List ℕ → Outcome → Type 0}

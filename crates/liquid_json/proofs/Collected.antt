@@ -51,7 +51,7 @@ first_name Less x y xs ys is h k same = absurd (none-some x.1 (sym (none_earlier
 first_name Equal x y xs ys is h k same = is
 first_name Greater x y xs ys is h k same =
     absurd (none-some y.1 (sym (none_earlier y.0 x xs h (string_cmp_total.antisymm y.0 x.0 ∙ ap ordering_reverse is)) ∙ same y.0
-      ∙ found_first y ys))
+    ∙ found_first y ys))
 
 -- .. and so are the values of the others
 rest_found : {V : Type 0} (x y : Entry V) (xs ys : List (Entry V)) → string_cmp x.0 y.0 ≡ Equal → Ascend (x ∷ xs) → Ascend (y ∷ ys)
@@ -59,7 +59,7 @@ rest_found : {V : Type 0} (x y : Entry V) (xs ys : List (Entry V)) → string_cm
 rest_found x y xs ys tie h k same name b at =
     let laws = eq_by_cmp_equiv string_cmp_total in
     let alike : is_at (string_cmp name) y.0 ≡ is_at (string_cmp name) x.0 =
-        laws.symm name y.0 ∙ sym (laws.congr x.0 y.0 name (ap is_eq tie)) ∙ laws.symm x.0 name in
+    laws.symm name y.0 ∙ sym (laws.congr x.0 y.0 name (ap is_eq tie)) ∙ laws.symm x.0 name in
     by b at alike
   where
     by : (b : Bool) → is_at (string_cmp name) x.0 ≡ b → is_at (string_cmp name) y.0 ≡ is_at (string_cmp name) x.0
@@ -76,13 +76,13 @@ same_named (x ∷ xs) [] h k same = absurd (none-some x.1 (sym (same x.0) ∙ fo
 same_named (x ∷ xs) (y ∷ ys) h k same =
     let tie : string_cmp x.0 y.0 ≡ Equal = first_name _ x y xs ys refl h k same in
     let first : x.1 ≡ y.1 =
-        ap (λ found. unwrap_or found x.1) (sym (found_first x xs) ∙ same x.0 ∙ lookup_head (is_at (string_cmp x.0)) y ys (ap is_eq tie)) in
+    ap (λ found. unwrap_or found x.1) (sym (found_first x xs) ∙ same x.0 ∙ lookup_head (is_at (string_cmp x.0)) y ys (ap is_eq tie)) in
     let rest : map named xs ≡ map named ys =
-        same_named xs ys (sorted_tail string_cmp x.0 (keys_of xs) h) (sorted_tail string_cmp y.0 (keys_of ys) k)
-        (λ name. rest_found x y xs ys tie h k same name _ refl) in
+    same_named xs ys (sorted_tail string_cmp x.0 (keys_of xs) h) (sorted_tail string_cmp y.0 (keys_of ys) k)
+    (λ name. rest_found x y xs ys tie h k same name _ refl) in
     let name : string_bytes x.0 ≡ string_bytes y.0 = exact_bytes (string_bytes x.0) (string_bytes y.0) tie in
     ap (λ (bytes : List ℕ). (bytes, x.1) ∷ map named xs) name ∙ ap (λ v. (string_bytes y.0, v) ∷ map named xs) first
-        ∙ ap (λ more. (string_bytes y.0, y.1) ∷ more) rest
+    ∙ ap (λ more. (string_bytes y.0, y.1) ∷ more) rest
 
 -- a map that is built from entries whose names ascend has them
 pub collected : {V : Type 0} (xs : List (Entry V)) (m : BTreeMap (String Global) V) → IsStrictlySortedBy string_cmp (keys_of xs)
@@ -90,4 +90,4 @@ pub collected : {V : Type 0} (xs : List (Entry V)) (m : BTreeMap (String Global)
 collected xs m ascends made =
     same_named m.entries xs made.1 ascends
     (λ name. made.0 name ∙ update_all_none (eq_by_cmp_equiv string_cmp_total) (eq_by_cmp string_cmp) (λ x y. refl) xs name
-      (IsDistinct-from_sorted string_cmp (keys_of xs) ascends))
+    (IsDistinct-from_sorted string_cmp (keys_of xs) ascends))

@@ -51,7 +51,7 @@ pub item_given : (all : Result Items Refusal) (done : List Value) (v : Value) (d
     → value_given d ≡ Ok (view v) → all ≡ after_items (map view (done ++ v ∷ [])) (items_given ds)
 item_given all done v d ds so_far is =
     so_far ∙ ap (λ first. after_items (map view done) (ok_then first (λ t. ok_then (items_given ds) (λ ts. Ok (item t ts))))) is
-      ∙ item_after (map view done) (view v) (items_given ds)
+    ∙ item_after (map view done) (view v) (items_given ds)
     ∙ ap (λ trees. after_items trees (items_given ds)) (sym (map-append view done (v ∷ [])))
 
 item_refused : (all : Result Items Refusal) (done : List Tree) (d : json.Data) (ds : json.Items) (r : Refusal)
@@ -106,7 +106,7 @@ pub member_given : (all : Result Members Refusal) (done : List Entry) (name : St
     → value_given d ≡ Ok (view v) → all ≡ after_members (map entry_view (done ++ (name, v) ∷ [])) (members_given ds)
 member_given all done name v d ds so_far is =
     so_far ∙ ap (λ first. after_members (map entry_view done) (ok_then first
-      (λ t. ok_then (members_given ds) (λ ts. Ok (member (string_bytes name) t ts))))) is
+    (λ t. ok_then (members_given ds) (λ ts. Ok (member (string_bytes name) t ts))))) is
     ∙ member_after (map entry_view done) (entry_view (name, v)) (members_given ds)
     ∙ ap (λ trees. after_members trees (members_given ds)) (sym (map-append entry_view done ((name, v) ∷ [])))
 
@@ -132,7 +132,7 @@ joined_members_all (e ∷ es) = ap (member (string_bytes e.0) (view e.1)) (joine
 pub members_by_name : (xs ys : List Entry) → map named xs ≡ map named ys → members_view xs ≡ members_view ys
 members_by_name xs ys same =
     sym (joined_members_all xs) ∙ ap (λ es. joined_members es no_members)
-      (sym (map-map viewed named xs) ∙ ap (map viewed) same ∙ map-map viewed named ys) ∙ joined_members_all ys
+    (sym (map-map viewed named xs) ∙ ap (map viewed) same ∙ map-map viewed named ys) ∙ joined_members_all ys
   where
     viewed : List ℕ × Value → List ℕ × Tree
     viewed e = (e.0, view e.1)

@@ -33,7 +33,7 @@ members_shown_of (e ∷ es) = ap (json.member (string_bytes e.0) (value_shown (v
 pub json_members_by_name : (xs ys : List (String Global × Json)) → map named xs ≡ map named ys → json_members xs ≡ json_members ys
 json_members_by_name xs ys same =
     json_members_of xs ∙ ap members_of (sym (map-map viewed named xs) ∙ ap (map viewed) same ∙ map-map viewed named ys)
-      ∙ sym (json_members_of ys)
+    ∙ sym (json_members_of ys)
   where
     viewed : List ℕ × Json → List ℕ × json.Data
     viewed e = (e.0, json_view e.1)

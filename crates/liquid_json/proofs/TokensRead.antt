@@ -57,7 +57,7 @@ pub one_more_made : (js : List json.Json) (vs : List Value) (j : json.Json) (v :
     → AreMade (js ++ j ∷ []) (vs ++ v ∷ [])
 one_more_made js vs j v made given rest ts more =
     rw (← after_one_more js j rest, map-append view vs (v ∷ []), ← joined_last (map view vs) (view v) ts)
-      (made (json.item j rest) (item (view v) ts) (one_given j (view v) rest ts given more))
+    (made (json.item j rest) (item (view v) ts) (one_given j (view v) rest ts given more))
 
 pub all_made : (js : List json.Json) (vs : List Value) → AreMade js vs → AreGiven (following js json.no_items) (items_view vs)
 all_made js vs made = rw (← joined_all (map view vs)) (made json.no_items no_items (read.no_items, refl, refl))
@@ -94,7 +94,7 @@ pub one_more_put : (es : List (List ℕ × json.Json)) (ds : read.Members) (k : 
     → of_json j ≡ Some d → ArePut (es ++ (k, j) ∷ []) (put k d ds)
 one_more_put es ds k j d so_far is rest =
     ap (λ ms. of_members ms read.no_members) (sym (put_after_one_more es k j rest)) ∙ so_far (json.member k j rest)
-      ∙ ap (option_and_then (λ e. of_members rest (put k e ds))) is
+    ∙ ap (option_and_then (λ e. of_members rest (put k e ds))) is
 
 pub all_put : (es : List (List ℕ × json.Json)) (ds : read.Members) (ts : Members) → ArePut es ds → members_given ds ≡ Ok ts
     → MembersGiven (put_after es json.no_members) ts
@@ -133,8 +133,8 @@ put_made k d t read.no_members ts is done =
 put_made k d t (read.member l e ds) ts is done =
     let p = member_parts l (value_given e) (members_given ds) ts done in
     let all =
-        in_order_made (slice_cmp nat_cmp k l) _ _ _ _ _ _ (member_made k d t (read.member l e ds) (member l p.0 p.1) is
-        (done ∙ ap Ok (sym p.4))) (member_made l d t ds p.1 is p.3)
+    in_order_made (slice_cmp nat_cmp k l) _ _ _ _ _ _ (member_made k d t (read.member l e ds) (member l p.0 p.1) is
+    (done ∙ ap Ok (sym p.4))) (member_made l d t ds p.1 is p.3)
     (member_made l e p.0 (put k d ds) (put_member k t p.1) p.2 (put_made k d t ds p.1 is p.3)) in
     all ∙ ap (λ us. Ok (put_member k t us)) p.4
 

@@ -60,7 +60,7 @@ module _ {Reg : Type 0} where
       → room_past (room_after room step) front ≡ room_past room (step ∷ front)
   past_first room step front =
       ap (λ n. record { turns = n; bytes = room.bytes - length step.piece - length (pieces front) })
-          (left_over room.turns (one_if step.checkpoint) (checkpoints front))
+      (left_over room.turns (one_if step.checkpoint) (checkpoints front))
       ∙ ap (λ n. record { turns = room.turns - (one_if step.checkpoint + checkpoints front); bytes = n })
       (left_over room.bytes (length step.piece) (length (pieces front)) ∙ ap (λ n. room.bytes - n) (sym (pieces_first step front)))
 
@@ -76,7 +76,7 @@ module _ {Reg : Type 0} where
       let bytes : length step.piece + length (pieces front) ≤ room.bytes = subst (λ n. n ≤ room.bytes) (pieces_first step front) i in
       let rest = front_stays (room_after room step) front more refusal v (omega (arith, turns)) (omega (arith, bytes)) in
       ap (λ b. if b then with_step step (steps_within (room_after room step) (front ++ more) refusal v) else stopped_at step)
-        (fits room step (omega (arith, turns)) (omega (arith, bytes)))
+      (fits room step (omega (arith, turns)) (omega (arith, bytes)))
       ∙ ap (with_step step) rest
       ∙ ap (λ x. with_front (step ∷ front) (steps_within x more refusal v)) (past_first room step front)
 
@@ -103,7 +103,7 @@ module _ {Reg : Type 0} where
   stops room r front later step is h i none =
       ap (λ ss. steps_within room ss r.refusal r.view) is ∙ front_stays room front (step ∷ later) r.refusal r.view h i
       ∙ ap (λ b. with_front front (if b then with_step step (steps_within
-        (room_after (room_past room front) step) later r.refusal r.view) else stopped_at step)) none
+      (room_after (room_past room front) step) later r.refusal r.view) else stopped_at step)) none
 
 -- what limits say of counts: no more has passed than may pass in all
 abbrev IsHeld : Option Passed → Type 0
@@ -147,10 +147,12 @@ module _ {Reg : Type 0} (room : Room) (r : Run Reg) (entry left : View Reg) (bef
   whole_limited : Whole r At Then left → Whole (run_within room r) (ungated before) (ungated after) left × (run_within room r ≡ r)
   whole_limited w =
       let stays =
-          all_stays room r (passes_held room.turns (checkpoints r.steps) (Some gate.turns) turns_held w.turns)
-          (passes_held room.bytes (length (written r)) (Some gate.bytes) bytes_held w.bytes) in
-      (subst (λ p. Whole p (ungated before) (ungated after) left) (sym stays)
-        (record { taken = w.taken; failures = w.failures; turns = refl; bytes = refl; view = w.view }), stays)
+      all_stays room r (passes_held room.turns (checkpoints r.steps) (Some gate.turns) turns_held w.turns)
+      (passes_held room.bytes (length (written r)) (Some gate.bytes) bytes_held w.bytes) in (
+        subst (λ p. Whole p (ungated before) (ungated after) left) (sym stays)
+            (record { taken = w.taken; failures = w.failures; turns = refl; bytes = refl; view = w.view }),
+        stays,
+      )
 
   cut_limited : Cut r At Then → Cut (run_within room r) (ungated before) (ungated after)
   cut_limited c = record {
@@ -184,7 +186,7 @@ module _ {Reg : Type 0} (room : Room) (r : Run Reg) (entry left : View Reg) (bef
   fails_limited refusal b f =
       let turns : checkpoints b.front ≤ room.turns = passes_held room.turns (checkpoints b.front) (Some gate.turns) turns_held f.turns in
       let bytes : length (pieces b.front) + length b.step.piece ≤ room.bytes =
-          passes_held room.bytes (length (pieces b.front) + length b.step.piece) (Some gate.bytes) bytes_held f.bytes in
+      passes_held room.bytes (length (pieces b.front) + length b.step.piece) (Some gate.bytes) bytes_held f.bytes in
       let front = b.front ++ b.step ∷ [] in
       record {
         front = b.front;
@@ -200,8 +202,14 @@ module _ {Reg : Type 0} (room : Room) (r : Run Reg) (entry left : View Reg) (bef
         taken = b.taken;
         view = b.view;
         cause =
-            inl (record { no_checkpoint = f.no_checkpoint; some_left = f.some_left; failures = f.failures; turns = refl; bytes = refl;
-            reason = f.reason });
+            inl (record {
+              no_checkpoint = f.no_checkpoint;
+              some_left = f.some_left;
+              failures = f.failures;
+              turns = refl;
+              bytes = refl;
+              reason = f.reason;
+            });
       }
 
   -- the gate refused a step for which there was no room
@@ -213,9 +221,9 @@ module _ {Reg : Type 0} (room : Room) (r : Run Reg) (entry left : View Reg) (bef
       of_cause : ((b.step.checkpoint ≡ true) × Refuses At.turns (checkpoints b.front) 1 Then.turns
           × Passes At.bytes (length (pieces b.front)) Then.bytes)
           ⊎ ((0 < length b.step.piece) × Passes At.turns (checkpoints b.front) Then.turns
-            × Refuses At.bytes (length (pieces b.front)) (length b.step.piece) Then.bytes)
+          × Refuses At.bytes (length (pieces b.front)) (length b.step.piece) Then.bytes)
           → (checkpoints b.front ≤ room.turns) × ((length (pieces b.front) ≤ room.bytes)
-            × (has_room (room_past room b.front) b.step ≡ false))
+          × (has_room (room_past room b.front) b.step ≡ false))
       of_cause (inl x) =
           let turns = refuses_held room.turns (checkpoints b.front) 1 (Some gate.turns) turns_held x.1 in
           let over : room.turns < 0 + checkpoints b.front + 1 = x.1.1 in (
@@ -223,9 +231,9 @@ module _ {Reg : Type 0} (room : Room) (r : Run Reg) (entry left : View Reg) (bef
             (
               passes_held room.bytes (length (pieces b.front)) (Some gate.bytes) bytes_held x.2,
               not_first (nat_le (one_if b.step.checkpoint) (room.turns - checkpoints b.front))
-                (nat_le (length b.step.piece) (room.bytes - length (pieces b.front)))
+                  (nat_le (length b.step.piece) (room.bytes - length (pieces b.front)))
                   (rw x.0 (le_false 1 (room.turns - checkpoints b.front) (no_turn_left room.turns (checkpoints b.front) turns
-                    (omega (arith, over))))),
+                  (omega (arith, over))))),
             ),
           )
       of_cause (inr x) =
@@ -235,9 +243,9 @@ module _ {Reg : Type 0} (room : Room) (r : Run Reg) (entry left : View Reg) (bef
             (
               bytes,
               not_second (nat_le (one_if b.step.checkpoint) (room.turns - checkpoints b.front))
-                (nat_le (length b.step.piece) (room.bytes - length (pieces b.front)))
+                  (nat_le (length b.step.piece) (room.bytes - length (pieces b.front)))
                   (le_false (length b.step.piece) (room.bytes - length (pieces b.front))
-                    (no_bytes_left room.bytes (length (pieces b.front)) (length b.step.piece) bytes (omega (arith, over)))),
+                  (no_bytes_left room.bytes (length (pieces b.front)) (length b.step.piece) bytes (omega (arith, over)))),
             ),
           )
 
@@ -273,7 +281,7 @@ module _ {Reg : Type 0} (room : Room) (r : Run Reg) (entry left : View Reg) (bef
 
   told_limited : (t : Option Refusal) → MatchOption t (Cut r At Then) (Stopped r At Then left)
       → MatchOption t (Cut (run_within room r) (ungated before) (ungated after))
-        (Stopped (run_within room r) (ungated before) (ungated after) left)
+      (Stopped (run_within room r) (ungated before) (ungated after) left)
   told_limited None c = cut_limited c
   told_limited (Some refusal) s = stopped_limited refusal s
 
@@ -298,13 +306,13 @@ module _ {Reg : Type 0} (room : Room) (r : Run Reg) (entry left : View Reg) (bef
 pub limits_render : {Reg : Type 0} (room : Room) (r : Run Reg) (entry left : View Reg) (before after : Sunk) (name later_name : ℕ)
     (first : Gated) (limits : Limits) (answer : Result (Unit {0}) Error)
     → first ≡ fresh_gate room → RendersWithin r entry (gated (borrowed name before) first)
-      (gated (borrowed later_name after) (gated_of limits)) left answer
+    (gated (borrowed later_name after) (gated_of limits)) left answer
     → Renders (run_within room r) entry before after left answer
 limits_render room r entry left before after name later_name first limits answer is h =
     renders_limited room r entry left before after name later_name (gated_of limits) (min-le_right limits.turns limits.max_turns)
-      (min-le_right limits.bytes limits.max_bytes) answer
+    (min-le_right limits.bytes limits.max_bytes) answer
     (subst (λ f. RendersWithin r entry (gated (borrowed name before) f) (gated (borrowed later_name after) (gated_of limits)) left answer)
-      is h)
+    is h)
 
 -- the sink that was lent is the same one
 pub same_name : {Reg : Type 0} (r : Run Reg) (entry left : View Reg) (before after : Sunk) (name later_name : ℕ) (first later : Gated)

@@ -47,10 +47,10 @@ module _ {Reg F T P L B Q : Type 0} (s : Settings Reg F T P B Q) (l : Lang F T L
         left = left;
         rendered = λ other is_other.
             subst (λ w. RendersRun (page_action s options other names nodes w) w before after left result)
-              (same_v ∙ ap (λ b. built_over (first_register s) options.lenient (runtime_names b names)) (sym is))
+            (same_v ∙ ap (λ b. built_over (first_register s) options.lenient (runtime_names b names)) (sym is))
             (subst (λ b. RendersRun (limited (room_of options) (nodes_action s b other names nodes) v) v before after left result) (sym is)
             (subst (λ t. RendersRun (limited (room_of options) (nodes_action s frame t names nodes) v) v before after left result)
-              (same_stored ∙ one_found partials found other is_found is_other)
+            (same_stored ∙ one_found partials found other is_found is_other)
             (subst (λ m. RendersRun (limited m (nodes_action s frame stored names nodes) v) v before after left result) same_room given)));
       }
 
@@ -58,7 +58,7 @@ module _ {Reg F T P L B Q : Type 0} (s : Settings Reg F T P B Q) (l : Lang F T L
   pub nodes_over : (options : PageOptions) (answer nodes : PageAnswer F T B) (names : Names) (partials : Option Texts) (before after : Sunk)
       (result : Result (Unit {0}) Error)
       → answer ≡ nodes → RendersAnswer s l options nodes names partials before after result
-        → RendersAnswer s l options answer names partials before after result
+      → RendersAnswer s l options answer names partials before after result
   nodes_over options answer nodes names partials before after result is renders =
       subst (λ a. RendersAnswer s l options a names partials before after result) (sym is) renders
 
@@ -66,29 +66,33 @@ module _ {Reg F T P L B Q : Type 0} (s : Settings Reg F T P B Q) (l : Lang F T L
   nothing_comes : (options : PageOptions) (names : Names) (at : Sunk) (error : Error) → told error ≡ None
       → (answer : PageAnswer F T B) (found : Option (Found F T B))
       → RenderedBy (page_action s options found names) answer (first_view (first_register s) options names) at at
-        (first_view (first_register s) options names) (Err error)
+      (first_view (first_register s) options names) (Err error)
   nothing_comes options names at error memory (Ok nodes) found =
       without_gate (page_action s options found names nodes (first_view (first_register s) options names))
-        (first_view (first_register s) options names) (first_view (first_register s) options names) at at (Err error)
+      (first_view (first_register s) options names) (first_view (first_register s) options names) at at (Err error)
       (renders_memory (page_action s options found names nodes (first_view (first_register s) options names))
-        (first_view (first_register s) options names) (ungated at) error memory)
+      (first_view (first_register s) options names) (ungated at) error memory)
   nothing_comes options names at error memory (Err refusal) found =
       (refl, (refl, subst (λ (o : Option Refusal). IfSome o (λ reason. reason ≡ refusal)) (sym memory) tt))
 
   pub nothing_rendered : (options : PageOptions) (answer : PageAnswer F T B) (names : Names) (partials : Option Texts) (at : Sunk)
       (error : Error) → told error ≡ None → RendersAnswer s l options answer names partials at at (Err error)
   nothing_rendered options answer names partials at error memory =
-      record { left = first_view (first_register s) options names;
-          rendered = λ found is_found. nothing_comes options names at error memory answer found }
+      record {
+        left = first_view (first_register s) options names;
+        rendered = λ found is_found. nothing_comes options names at error memory answer found;
+      }
 
   -- a text that is refused has the same refusal
   pub refused_alike : (options : PageOptions) (answer : PageAnswer F T B) (names : Names) (partials : Option Texts) (at : Sunk)
       (error : Error) → IfSome (told error) (λ refusal. answer ≡ Err refusal)
       → RendersAnswer s l options answer names partials at at (Err error)
   refused_alike options answer names partials at error only =
-      record { left = first_view (first_register s) options names;
-          rendered = λ found is_found. RenderedBy-refused (page_action s options found names) answer
-          (first_view (first_register s) options names) at error only }
+      record {
+        left = first_view (first_register s) options names;
+        rendered = λ found is_found. RenderedBy-refused (page_action s options found names) answer
+            (first_view (first_register s) options names) at error only;
+      }
 
 -- a store that was compiled from the partials
 pub found_in : {F T L B : Type 0} (partials : Option Texts) (source texts : Texts) (l k : Lang F T L B) (found : Found F T B)

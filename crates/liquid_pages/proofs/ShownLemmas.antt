@@ -45,7 +45,7 @@ module _ {Reg : Type 0} (r : Run Reg) (first last : List ℕ) (left : View Reg) 
   begins c = (
     c.rest ++ pieces c.later,
     ap pieces c.steps ∙ pieces-append c.front c.later ∙ ap (λ t. t ++ pieces c.later) c.pieces_are
-      ∙ append_assoc c.part c.rest (pieces c.later)
+        ∙ append_assoc c.part c.rest (pieces c.later)
         ∙ ap (λ t. t ++ (c.rest ++ pieces c.later)) (sym (c.taken ∙ ap (λ t. t ++ c.part) nothing)),
   )
 
@@ -63,7 +63,7 @@ module _ {Reg : Type 0} (r : Run Reg) (first last : List ℕ) (left : View Reg) 
 
   stopped_shown : (t : Option Refusal) → MatchOption t (Cut r (At first) (At last)) (Stopped r (At first) (At last) left)
       → MatchOption (option_map refused t) (Begins last (page_of_run r))
-        (λ f. (last ≡ (page_of_run r).output) × ((page_of_run r).fault ≡ Some f))
+      (λ f. (last ≡ (page_of_run r).output) × ((page_of_run r).fault ≡ Some f))
   stopped_shown None c = begins c
   stopped_shown (Some refusal) (inl s) = (all_written s.0, ap (option_map refused) s.1)
   stopped_shown (Some refusal) (inr b) = absurd (never_broken refusal b)
@@ -83,7 +83,7 @@ nodes_shown s l options nodes names texts first last result end nothing is rende
     subst (λ e. Shows p last e) (sym is)
     (subst (λ q. Shows q last (ended result)) (sym comes.2)
     (shown_outcome (page_run s options names comes.0 nodes) first last renders.left nothing result
-      (renders.rendered comes.0 comes.1).outcome))
+    (renders.rendered comes.0 comes.1).outcome))
 
 fault_shown_told : (p : Page) (t : Option Fault) → IfSome t (λ f. p ≡ stopped f)
     → MatchOption t (Begins [] p) (λ f. ([] ≡ p.output) × (p.fault ≡ Some f))

@@ -58,7 +58,7 @@ module _ {X Y : Type 0} (f : X → Y) where
       let es = map made (entries m) in
       let sorted = subst T (sym (sorted-made (entries m))) (entries_sorted m) in
       ap entries (same_names (from_entries es) (from_sorted es) (λ q. get-from_entries nat_list_cmp_total es q
-        ∙ sym (get-from_sorted (slice_cmp nat_cmp) es q sorted)))
+      ∙ sym (get-from_sorted (slice_cmp nat_cmp) es q sorted)))
       ∙ entries-from_sorted (slice_cmp nat_cmp) es sorted
 
   -- the names stay

@@ -251,12 +251,12 @@ module _ {A F T B : Type 0} (of : A → Nodes F T B) (texts : Texts) where
   pub read_all : (kept : BTreeMap (String Global) (Result A Error)) (n : ℕ) → ReadSoFar kept n [] → HasAll kept texts
   read_all kept n so_far q t =
       sym (contains-all_kept of kept q) ∙ so_far.has q (ap (list_any (names_eq q)) (front_whole kept n so_far)
-        ∙ sym (contains_key-keys texts q) ∙ t)
+      ∙ sym (contains_key-keys texts q) ∙ t)
 
   pub all_counted : (kept : BTreeMap (String Global) (Result A Error)) (n : ℕ) → Known kept texts → ReadSoFar kept n [] → n ≡ len texts
   all_counted kept n known so_far =
       so_far.counted ∙ same_len (all_kept of kept) texts (λ q. contains-all_kept of kept q
-        ∙ both (contains_key (by_name kept) q) (contains_key texts q) (known q) (read_all kept n so_far q))
+      ∙ both (contains_key (by_name kept) q) (contains_key texts q) (known q) (read_all kept n so_far q))
 
 module _ {A F T P B : Type 0} (of : A → Nodes F T B) (l : Lang F T P B) (texts : Texts) where
   -- the names of the source are those of the store
@@ -265,7 +265,7 @@ module _ {A F T P B : Type 0} (of : A → Nodes F T B) (l : Lang F T P B) (texts
   contains-known kept known q =
       ap is_some (get-over (all_kept of kept) (readings l texts) q)
       ∙ is_some-or (get (all_kept of kept) q) (get (readings l texts) q) (contains_key texts q) (contains-readings l texts q)
-        (λ t. known q (sym (contains-all_kept of kept q) ∙ t))
+      (λ t. known q (sym (contains-all_kept of kept q) ∙ t))
 
   pub keys-known : (kept : BTreeMap (String Global) (Result A Error)) → Known kept texts → keys (kept_or_read of l kept texts) ≡ keys texts
   keys-known kept known = same_keys (kept_or_read of l kept texts) texts (contains-known kept known)
@@ -274,7 +274,7 @@ module _ {A F T P B : Type 0} (of : A → Nodes F T B) (l : Lang F T P B) (texts
   pub known-empty : (kept : BTreeMap (String Global) (Result A Error)) → IsEmpty kept → Known kept texts
   known-empty kept none q t =
       untrue (contains_key (by_name kept) q) (sym (contains-all_kept of kept q)
-        ∙ ap is_some (ap (λ m. get m q) (empty-named (kept_as of) kept none) ∙ get-empty (slice_cmp nat_cmp) q)) t
+      ∙ ap is_some (ap (λ m. get m q) (empty-named (kept_as of) kept none) ∙ get-empty (slice_cmp nat_cmp) q)) t
 
   pub compiled-empty : (kept : BTreeMap (String Global) (Result A Error)) → IsEmpty kept → Compiled l texts (kept_or_read of l kept texts)
   compiled-empty kept none =
@@ -301,7 +301,7 @@ module _ {A F T P B : Type 0} (of : A → Nodes F T B) (l : Lang F T P B) (texts
   pub known-kept : (old new : BTreeMap (String Global) (Result A Error)) (name : List ℕ) (answer : Result A Error)
       (r : Result (Unit {0}) AllocError) → Known old texts
       → OnOk r (all_kept of new ≡ insert (all_kept of old) name (kept_as of answer)) → OnErr r (all_kept of new ≡ all_kept of old)
-        → Some (kept_as of answer) ≡ get (readings l texts) name → Known new texts
+      → Some (kept_as of answer) ≡ get (readings l texts) name → Known new texts
   known-kept old new name answer (Ok u) known ok err read =
       known-insert old new name (kept_as of answer) known ok (sym (contains-readings l texts name) ∙ ap is_some (sym read))
   known-kept old new name answer (Err e) known ok err read = known-same old new known err
@@ -349,7 +349,7 @@ module _ {A F T P B : Type 0} (of : A → Nodes F T B) (l : Lang F T P B) (texts
       → all_kept of new ≡ kept_after b (kept_or_read of l old texts) name (all_kept of old) → HasAll new texts
   has-after old new b name has e q t =
       sym (contains-all_kept of new q) ∙ ap (λ m. contains_key m q) e
-        ∙ still_kept b (kept_or_read of l old texts) (all_kept of old) name q (contains-all_kept of old q ∙ has q t)
+      ∙ still_kept b (kept_or_read of l old texts) (all_kept of old) name q (contains-all_kept of old q ∙ has q t)
 
   -- if all names of the source are kept, no request parses a text
   none_read : (kept : BTreeMap (String Global) (Result A Error)) (name : List ℕ) → Known kept texts → HasAll kept texts
@@ -368,7 +368,7 @@ module _ {A F T P B : Type 0} (of : A → Nodes F T B) (l : Lang F T P B) (texts
       → front ++ name ∷ rest ≡ keys texts → contains_key (kept_or_read of l kept texts) name ≡ true
   read_in kept count front rest name known whole =
       contains-known kept known name ∙ contains_key-keys texts name ∙ ap (list_any (names_eq name)) (sym whole)
-        ∙ any_here (names_eq name) front name rest (ap is_eq (tied_itself nat_list_cmp_total name))
+      ∙ any_here (names_eq name) front name rest (ap is_eq (tied_itself nat_list_cmp_total name))
 
   pub read_more : (old new : BTreeMap (String Global) (Result A Error)) (n count : ℕ) (name : List ℕ) (rest : List (List ℕ))
       → Known old texts → ReadSoFar of texts old n (name ∷ rest)
@@ -379,7 +379,7 @@ module _ {A F T P B : Type 0} (of : A → Nodes F T B) (l : Lang F T P B) (texts
       let there = read_in old n so_far.front rest name known so_far.whole in
       let long = len-kept_after finds (all_kept of old) name in
       let here : contains_key (all_kept of new) name ≡ true =
-          ap (λ m. contains_key m name) keeps ∙ now_kept finds (all_kept of old) name there in
+      ap (λ m. contains_key m name) keeps ∙ now_kept finds (all_kept of old) name there in
       record {
         front = so_far.front ++ name ∷ [];
         whole = append_assoc so_far.front (name ∷ []) rest ∙ so_far.whole;

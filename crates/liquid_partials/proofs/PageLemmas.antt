@@ -34,7 +34,7 @@ module _ {Reg F T L P B Q : Type 0} (fresh : Reg) (settings : Option (Found F T 
   pub page_over : (l : Lang F T L B) (stored : Option (Found F T B)) (found : Found F T B) (v left : View Reg) (before after : Sunk)
       (result : Result (Unit {0}) Error)
       → ((answer : Result (List (NodeShape F T B)) Refusal) → Reads l text answer
-        → Rendered (settings stored) answer v before after left result)
+      → Rendered (settings stored) answer v before after left result)
       → l ≡ k → stored ≡ Some found → v ≡ built_view fresh page_depth globals → Compiled k partials found
       → RendersPage fresh settings k text globals partials before after result
   page_over l stored found v left before after result given same_l same_stored same_v compiled = record {
@@ -42,14 +42,14 @@ module _ {Reg F T L P B Q : Type 0} (fresh : Reg) (settings : Option (Found F T 
     rendered = λ answer reads other is_other.
         subst (λ w. Rendered (settings (Some other)) answer w before after left result) same_v
         (subst (λ s. Rendered (settings s) answer v before after left result)
-          (same_stored ∙ ap Some (sym (one_store k partials found other compiled is_other)))
+        (same_stored ∙ ap Some (sym (one_store k partials found other compiled is_other)))
         (given answer (subst (λ m. Reads m text answer) (sym same_l) reads)));
   }
 
   -- memory that runs out before anything is written is an outcome of each page
   nothing_comes : (at : Sunk) (error : Error) → told error ≡ None → (answer : Result (List (NodeShape F T B)) Refusal) (finds : Found F T B)
       → Rendered (settings (Some finds)) answer (built_view fresh page_depth globals) at at (built_view fresh page_depth globals)
-        (Err error)
+      (Err error)
   nothing_comes at error memory (Ok nodes) finds =
       let start = built_view fresh page_depth globals in
       let run = template_run (settings (Some finds)) (nodes_from nodes) start in
@@ -59,5 +59,8 @@ module _ {Reg F T L P B Q : Type 0} (fresh : Reg) (settings : Option (Found F T 
 
   pub no_page : (at : Sunk) (error : Error) → told error ≡ None → RendersPage fresh settings k text globals partials at at (Err error)
   no_page at error memory =
-      record { left = built_view fresh page_depth globals; rendered = λ answer reads finds compiled. nothing_comes at error memory answer
-      finds }
+      record {
+        left = built_view fresh page_depth globals;
+        rendered = λ answer reads finds compiled. nothing_comes at error memory answer
+            finds;
+      }

@@ -40,5 +40,5 @@ module _ {Reg F T B : Type 0} (action : List (NodeShape F T B) → Action Reg) w
       → RenderedBy action answer v b b v (Err e)
   RenderedBy-refused (Ok nodes) v b e h =
       without_gate (action nodes v) v v b b (Err e) (renders_refused (action nodes v) v v (ungated b) e
-        (not_read nodes (action nodes v) v (told e) h) refl)
+      (not_read nodes (action nodes v) v (told e) h) refl)
   RenderedBy-refused (Err refusal) v b e h = (refl, (refl, same_refusal refusal (told e) h))

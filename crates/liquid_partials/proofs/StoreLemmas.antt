@@ -62,14 +62,14 @@ module _ {F T P B : Type 0} (l : Lang F T P B) where
   pub absent : (texts : Texts) (name : List ℕ) → is_some (get texts name) ≡ false → tried (readings l texts) name ≡ Ok None
   absent texts name e =
       ap tried_of (get-each (λ text. as_tree (reading l text)) texts name
-        ∙ ap (option_map (λ text. as_tree (reading l text))) (nothing_there (get texts name) e))
+      ∙ ap (option_map (λ text. as_tree (reading l text))) (nothing_there (get texts name) e))
 
   -- for a known name its text is read
   pub present : (texts : Texts) (name text : List ℕ) (a : Result (Nodes F T B) Refusal) → get texts name ≡ Some text
       → as_tree (reading l text) ≡ a → tried (readings l texts) name ≡ ok_then a (λ tree. Ok (Some tree))
   present texts name text a e r =
       ap tried_of (get-each (λ text. as_tree (reading l text)) texts name ∙ ap (option_map (λ text. as_tree (reading l text))) e
-        ∙ ap (λ x. Some x) r)
+      ∙ ap (λ x. Some x) r)
 
   pub contains-readings : (texts : Texts) (name : List ℕ) → is_some (get (readings l texts) name) ≡ is_some (get texts name)
   contains-readings texts name = contains-each (λ text. as_tree (reading l text)) texts name

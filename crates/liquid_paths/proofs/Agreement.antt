@@ -22,7 +22,7 @@ pub find_after-agrees : (front : Path) (t : Tree) (path : Path) → result_ok (f
 find_after-agrees front t [] = refl
 find_after-agrees front t (i ∷ path) =
     ok_then-agrees (ok_or (step t i) (unknown_index front t i)) (λ next. find_after (front ++ i ∷ []) next path) (step t i)
-      (λ next. walk next path)
+    (λ next. walk next path)
     (ok_or-agrees (step t i) (unknown_index front t i)) (λ next. find_after-agrees (front ++ i ∷ []) next path)
 
 pub find_agrees : FindAgrees

@@ -29,7 +29,7 @@ becomes_known change meant old new p q = known_after change meant (told old) (to
 pub unknown_told : (plain_error fronted asked whole : Error) (front : Path) (t : Tree) (index : Scal) (requested available : List ℕ)
     → IfSome (told plain_error) (λ r. r ≡ plain (codes "Unknown index")) → Becomes (with_front front) plain_error fronted
     → Becomes (with_context (codes "requested index") requested) fronted asked
-      → Becomes (with_context (codes "available indexes") available) asked whole
+    → Becomes (with_context (codes "available indexes") available) asked whole
     → requested ≡ render_scalar index → available ≡ listed (indexes t) → IfSome (told whole) (λ r. r ≡ unknown_index front t index)
 unknown_told a b c d front t index requested available p q r s e f =
     let fronted = becomes_known (with_front front) (plain (codes "Unknown index")) a b p q in

@@ -50,13 +50,13 @@ module _ {Reg : Type 0} where
     evaluate_agrees v (literal t) strict = refl
     evaluate_agrees v (variable name is) strict =
         ok_then-agrees (path_of v is) (λ path. found v (name ∷ path)) (try_path_of v is) (λ path. try_path v (name ∷ path))
-          (path_agrees v is strict) (λ path. get_agrees v (name ∷ path) strict) ∙ and_then-map v name (try_path_of v is)
+        (path_agrees v is strict) (λ path. get_agrees v (name ∷ path) strict) ∙ and_then-map v name (try_path_of v is)
 
     path_agrees : (v : View Reg) (is : Indexes) → v.lenient ≡ false → result_ok (path_of v is) ≡ try_path_of v is
     path_agrees v no_indexes strict = refl
     path_agrees v (index e es) strict =
         ok_then-agrees (evaluate v e) (λ t. ok_then (ok_or (as_scalar t) (expected_scalar t))
-          (λ scalar. ok_then (path_of v es) (λ path. Ok (scalar ∷ path))))
+        (λ scalar. ok_then (path_of v es) (λ path. Ok (scalar ∷ path))))
         (try_evaluate v e) (λ t. option_and_then (λ scalar. option_map (λ path. scalar ∷ path) (try_path_of v es)) (as_scalar t))
         (evaluate_agrees v e strict)
         (λ t. ok_then-agrees (ok_or (as_scalar t) (expected_scalar t)) (λ scalar. ok_then (path_of v es) (λ path. Ok (scalar ∷ path)))
@@ -88,7 +88,7 @@ module _ {Reg : Type 0} where
     path_gives v no_indexes path h = ap (λ w. Ok w) (same_value [] path h)
     path_gives v (index e es) path h =
         ok_then-gives (evaluate v e) (λ t. ok_then (ok_or (as_scalar t) (expected_scalar t))
-          (λ scalar. ok_then (path_of v es) (λ path. Ok (scalar ∷ path))))
+        (λ scalar. ok_then (path_of v es) (λ path. Ok (scalar ∷ path))))
         (try_evaluate v e) (λ t. option_and_then (λ scalar. option_map (λ path. scalar ∷ path) (try_path_of v es)) (as_scalar t)) path
         (λ t k. evaluate_gives v e t k)
         (λ t q k. ok_then-gives (ok_or (as_scalar t) (expected_scalar t)) (λ scalar. ok_then (path_of v es) (λ path. Ok (scalar ∷ path)))

@@ -49,7 +49,7 @@ module _ {Reg : Type 0} where
       → step t s ≡ Some next → from_here t (try_path_of v (index e es)) ≡ from_here next (try_path_of v es)
   goes_on v t next i s e es h j k =
       ap (λ o. from_here t (option_and_then (λ u. option_and_then (λ x. option_map (λ path. x ∷ path) (try_path_of v es)) (as_scalar u)) o))
-        (h ∙ ap Some j)
+      (h ∙ ap Some j)
       ∙ stepped t next s (try_path_of v es) k
 
   comes_to : (v : View Reg) (e : ExpressionShape) (i : Tree) → as_literal e ≡ Some i → try_evaluate v e ≡ Some i
@@ -60,7 +60,7 @@ module _ {Reg : Type 0} where
       → as_scalar i ≡ Some s → step t s ≡ Some next → from_here t (try_path_of v (index e es)) ≡ from_here next (try_path_of v es)
   leads_on v t i next s e es h j k =
       ap (λ o. from_here t (option_and_then (λ u. option_and_then (λ x. option_map (λ path. x ∷ path) (try_path_of v es)) (as_scalar u)) o))
-        h
+      h
       ∙ ap (λ o. from_here t (option_and_then (λ x. option_map (λ path. x ∷ path) (try_path_of v es)) o)) j
       ∙ stepped t next s (try_path_of v es) k
 

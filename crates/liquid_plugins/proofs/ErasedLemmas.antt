@@ -36,9 +36,9 @@ module _ {Reg : Type 0} where
   found_erased v [] = refl
   found_erased v (name ∷ path) =
       ap (λ (upper : Names). or_nil v.lenient (ok_then (ok_or (get (over upper (floor_names v)) (render_scalar name))
-          (unknown_variable (render_scalar name)))
+      (unknown_variable (render_scalar name)))
       (λ t. sealed_answer (is_sealed v.floor && is_none (get upper (render_scalar name))) (render_scalar name)
-        (find_after (name ∷ []) t path))))
+      (find_after (name ∷ []) t path))))
       (upper_erased v)
 
   mutual
@@ -47,15 +47,15 @@ module _ {Reg : Type 0} where
     evaluate_erased v (variable name is) =
         ap (λ r. ok_then r (λ path. found (erase v) (name ∷ path))) (path_erased v is)
         ∙ ok_then-same (path_of v is) (λ path. found (erase v) (name ∷ path)) (λ path. found v (name ∷ path))
-          (λ path. found_erased v (name ∷ path))
+        (λ path. found_erased v (name ∷ path))
 
     path_erased : (v : View Reg) (is : Indexes) → path_of (erase v) is ≡ path_of v is
     path_erased v no_indexes = refl
     path_erased v (index e es) =
         ap (λ r. ok_then r (λ t. ok_then (ok_or (as_scalar t) (expected_scalar t))
-          (λ scalar. ok_then (path_of (erase v) es) (λ path. Ok (scalar ∷ path))))) (evaluate_erased v e)
+        (λ scalar. ok_then (path_of (erase v) es) (λ path. Ok (scalar ∷ path))))) (evaluate_erased v e)
         ∙ ap (λ q. ok_then (evaluate v e) (λ t. ok_then (ok_or (as_scalar t) (expected_scalar t))
-          (λ scalar. ok_then q (λ path. Ok (scalar ∷ path))))) (path_erased v es)
+        (λ scalar. ok_then q (λ path. Ok (scalar ∷ path))))) (path_erased v es)
 
   try_path_erased : (v : View Reg) (path : Path) → try_path (erase v) path ≡ try_path v path
   try_path_erased v [] = refl
@@ -73,6 +73,6 @@ module _ {Reg : Type 0} where
     try_indexes_erased v no_indexes = refl
     try_indexes_erased v (index e es) =
         ap (λ r. option_and_then (λ t. option_and_then (λ scalar. option_map (λ path. scalar ∷ path) (try_path_of (erase v) es))
-          (as_scalar t)) r) (try_erased v e)
+        (as_scalar t)) r) (try_erased v e)
         ∙ ap (λ q. option_and_then (λ t. option_and_then (λ scalar. option_map (λ path. scalar ∷ path) q) (as_scalar t)) (try_evaluate v e))
-          (try_indexes_erased v es)
+        (try_indexes_erased v es)

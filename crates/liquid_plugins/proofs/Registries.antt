@@ -74,7 +74,7 @@ module _ {X : Type 0} where
   entries-by_name m ordered =
       let sorted = sorted-named m.entries ordered in
       ap entries (same_names (from_entries (map named m.entries)) (from_sorted (map named m.entries))
-        (λ q. get-from_entries nat_list_cmp_total (map named m.entries) q ∙ sym (get-from_sorted _ (map named m.entries) q sorted)))
+      (λ q. get-from_entries nat_list_cmp_total (map named m.entries) q ∙ sym (get-from_sorted _ (map named m.entries) q sorted)))
       ∙ entries-from_sorted _ (map named m.entries) sorted
 
   names-named : (es : List (String Global × X)) → map (λ s. string_bytes s) (keys_of es) ≡ map (λ e. e.0) (map named es)
@@ -95,19 +95,19 @@ module _ {X : Type 0} where
   lookup-copied : (C : X → X → Type 0) (q : List ℕ) (es fs : List (String Global × X))
       → AllZip (λ e f. (string_bytes f.0 ≡ string_bytes e.0) × C e.1 f.1) es fs
       → IsCopied C (lookup_entry (λ k. is_eq (slice_cmp nat_cmp q (string_bytes k))) es)
-        (lookup_entry (λ k. is_eq (slice_cmp nat_cmp q (string_bytes k))) fs)
+      (lookup_entry (λ k. is_eq (slice_cmp nat_cmp q (string_bytes k))) fs)
   lookup-copied C q [] [] copied = refl
   lookup-copied C q [] (f ∷ fs) copied = absurd copied
   lookup-copied C q (e ∷ es) [] copied = absurd copied
   lookup-copied C q (e ∷ es) (f ∷ fs) copied =
       let same : is_eq (slice_cmp nat_cmp q (string_bytes f.0)) ≡ is_eq (slice_cmp nat_cmp q (string_bytes e.0)) =
-          ap (λ bs. is_eq (slice_cmp nat_cmp q bs)) copied.0.0 in
+      ap (λ bs. is_eq (slice_cmp nat_cmp q bs)) copied.0.0 in
       let rest = lookup-copied C q es fs copied.1 in
       subst (λ b. IsCopied C (lookup_entry (λ k. is_eq (slice_cmp nat_cmp q (string_bytes k))) (e ∷ es))
-        (cond b (Some f.1) (lookup_entry (λ k. is_eq (slice_cmp nat_cmp q (string_bytes k))) fs))) (sym same)
+      (cond b (Some f.1) (lookup_entry (λ k. is_eq (slice_cmp nat_cmp q (string_bytes k))) fs))) (sym same)
       (elim (is_eq (slice_cmp nat_cmp q (string_bytes e.0))) as (λ b. IsCopied C
-        (cond b (Some e.1) (lookup_entry (λ k. is_eq (slice_cmp nat_cmp q (string_bytes k))) es))
-        (cond b (Some f.1) (lookup_entry (λ k. is_eq (slice_cmp nat_cmp q (string_bytes k))) fs))) [
+      (cond b (Some e.1) (lookup_entry (λ k. is_eq (slice_cmp nat_cmp q (string_bytes k))) es))
+      (cond b (Some f.1) (lookup_entry (λ k. is_eq (slice_cmp nat_cmp q (string_bytes k))) fs))) [
         | true ↦ (f.1, refl, copied.0.1)
         | false ↦ rest
       ])

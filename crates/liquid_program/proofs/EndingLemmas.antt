@@ -28,6 +28,6 @@ unwrapped (Some ending) none result is empty = ap (λ r. r.now) is
 pub names_step : (ending : Option (List ℕ)) (found after : NameMap (Unit {0})) (name : List ℕ) (stem : Option (List ℕ))
     (rest : List (List ℕ))
     → stem ≡ stem_of ending name → after ≡ option_map_or (λ s. insert found s tt) stem found
-      → names_into ending after rest ≡ names_into ending found (name ∷ rest)
+    → names_into ending after rest ≡ names_into ending found (name ∷ rest)
 names_step ending found after name stem rest same is =
     ap (λ m. names_into ending m rest) (is ∙ ap (λ s. option_map_or (λ t. insert found t tt) s found) same)

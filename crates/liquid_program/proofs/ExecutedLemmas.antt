@@ -24,8 +24,12 @@ failed result fault is = ap exit_status is
 pub finishes_memory : (options : Options) (text : List ℕ) (globals : Names) (partials : Option Texts) (at : Sunk) (status : ℕ) → status ≡ 1
     → Finishes options text globals partials at at status
 finishes_memory options text globals partials at status is =
-    record { result = Err (roll-Error Error-F.Memory); renders = nothing_rendered options text globals partials at
-        (roll-Error Error-F.Memory) (search (rules, the_lemmas)); status_is = is }
+    record {
+      result = Err (roll-Error Error-F.Memory);
+      renders = nothing_rendered options text globals partials at
+          (roll-Error Error-F.Memory) (search (rules, the_lemmas));
+      status_is = is;
+    }
 
 -- a step that stops, with nothing written
 pub stopped : (A : Type 0) (fault : Fault) (at : Sunk) (status : ℕ) → status ≡ fault_status fault → Stops {A = A} (Err fault)
@@ -49,13 +53,13 @@ module _ (options : Options) (ending : Option (List ℕ)) (template globals : Li
 
   any_globals : (text json : List ℕ) → status ≡ 1
       → WithGlobals (object_read json) Stop (λ names. WithPartials known listed ending (option_words folder) Stop
-        (λ partials. Finishes options text names partials at at status))
+      (λ partials. Finishes options text names partials at at status))
   any_globals text json one = globals_anyhow (object_read json) Stop _ (refl, inr one) (λ names. any_partials text names one)
 
   any_json : (text : List ℕ) → status ≡ 1
       → WithText (known globals) Stop (λ json. WithGlobals (object_read json) Stop
-        (λ names. WithPartials known listed ending (option_words folder) Stop
-        (λ partials. Finishes options text names partials at at status)))
+      (λ names. WithPartials known listed ending (option_words folder) Stop
+      (λ partials. Finishes options text names partials at at status)))
   any_json text one = text_anyhow (known globals) Stop _ (refl, inr one) (λ json. any_globals text json one)
 
   pub no_template : (fault : Fault) → status ≡ fault_status fault
@@ -63,7 +67,7 @@ module _ (options : Options) (ending : Option (List ℕ)) (template globals : Li
       → Execution
   no_template fault is step =
       text_follows (known template) _ Stop _ _ (stopped (String Global) fault at status is)
-        (λ text memory. any_json text (is ∙ memory)) step
+      (λ text memory. any_json text (is ∙ memory)) step
 
   module _ (text : String Global) (there : WithText (known template) (Stops (Ok text)) (λ bytes. Brings string_bytes bytes (Ok text))) where
     abbrev Following : List ℕ → Type 0
@@ -80,42 +84,42 @@ module _ (options : Options) (ending : Option (List ℕ)) (template globals : Li
         (λ bytes. Brings (string_bytes {Z = Global}) bytes (Err fault)) → Execution
     no_json fault is step =
         with_template (text_follows (known globals) _ Stop _ _ (stopped (String Global) fault at status is)
-          (λ json memory. any_globals (string_bytes text) json (is ∙ memory)) step)
+        (λ json memory. any_globals (string_bytes text) json (is ∙ memory)) step)
 
     module _ (json : String Global) (found : WithText (known globals) (Stops (Ok json)) (λ bytes. Brings string_bytes bytes (Ok json)))
-        where
-      abbrev Given : List ℕ → Type 0
-      Given bytes =
-          WithGlobals (object_read bytes) Stop (λ names. WithPartials known listed ending (option_words folder) Stop
-          (λ partials. Finishes options (string_bytes text) names partials at at status))
+      where
+        abbrev Given : List ℕ → Type 0
+        Given bytes =
+            WithGlobals (object_read bytes) Stop (λ names. WithPartials known listed ending (option_words folder) Stop
+            (λ partials. Finishes options (string_bytes text) names partials at at status))
 
-      with_json : Given (string_bytes json) → Execution
-      with_json given =
-          with_template (text_follows (known globals) _ Stop _ _ (λ never. absurd never) (λ bytes same. subst Given same given) found)
+        with_json : Given (string_bytes json) → Execution
+        with_json given =
+            with_template (text_follows (known globals) _ Stop _ _ (λ never. absurd never) (λ bytes same. subst Given same given) found)
 
-      pub no_globals : (fault : Fault) → status ≡ fault_status fault
-          → WithGlobals (object_read (string_bytes json)) (Stops {A = BTreeMap (String Global) Value} (Err fault))
+        pub no_globals : (fault : Fault) → status ≡ fault_status fault
+            → WithGlobals (object_read (string_bytes json)) (Stops {A = BTreeMap (String Global) Value} (Err fault))
             (λ names. Brings names_of names (Err fault)) → Execution
-      no_globals fault is step =
-          with_json (globals_follow _ _ Stop _ _ (stopped (BTreeMap (String Global) Value) fault at status is)
+        no_globals fault is step =
+            with_json (globals_follow _ _ Stop _ _ (stopped (BTreeMap (String Global) Value) fault at status is)
             (λ names memory. any_partials (string_bytes text) names (is ∙ memory)) step)
 
-      module _ (object : BTreeMap (String Global) Value) (given : WithGlobals (object_read (string_bytes json)) (Stops (Ok object))
-          (λ names. Brings names_of names (Ok object))) where
-        abbrev Parts : Names → Type 0
-        Parts names =
-            WithPartials known listed ending (option_words folder) Stop (λ partials. Finishes options
-            (string_bytes text) names partials at at status)
+        module _ (object : BTreeMap (String Global) Value) (given : WithGlobals (object_read (string_bytes json)) (Stops (Ok object))
+            (λ names. Brings names_of names (Ok object))) where
+          abbrev Parts : Names → Type 0
+          Parts names =
+              WithPartials known listed ending (option_words folder) Stop (λ partials. Finishes options
+              (string_bytes text) names partials at at status)
 
-        with_globals : Parts (names_of object) → Execution
-        with_globals parts = with_json (globals_follow _ _ Stop _ _ (λ never. absurd never) (λ names same. subst Parts same parts) given)
+          with_globals : Parts (names_of object) → Execution
+          with_globals parts = with_json (globals_follow _ _ Stop _ _ (λ never. absurd never) (λ names same. subst Parts same parts) given)
 
-        pub no_partials : (fault : Fault) → status ≡ fault_status fault
-            → WithPartials known listed ending (option_words folder) (Stops {A = Option Texts} (Err fault))
+          pub no_partials : (fault : Fault) → status ≡ fault_status fault
+              → WithPartials known listed ending (option_words folder) (Stops {A = Option Texts} (Err fault))
               (λ partials. Brings (λ (source : Option Texts). source) partials (Err fault)) → Execution
-        no_partials fault is step =
-            with_globals (partials_follow known listed ending (option_words folder) _ Stop _ _ (stopped (Option Texts) fault at status is)
-            (λ partials memory. finishes_memory options (string_bytes text) (names_of object) partials at status (is ∙ memory)) step)
+          no_partials fault is step =
+              with_globals (partials_follow known listed ending (option_words folder) _ Stop _ _ (stopped (Option Texts) fault at status is)
+              (λ partials memory. finishes_memory options (string_bytes text) (names_of object) partials at status (is ∙ memory)) step)
 
 pub executed : (options : Options) (ending : Option (List ℕ)) (template globals : List ℕ) (folder : Option (List ℕ)) (known : Files)
     (listed : Folders) (before after : Sunk) (status : ℕ)
@@ -124,25 +128,25 @@ pub executed : (options : Options) (ending : Option (List ℕ)) (template global
     → WithText (known globals) (Stops (Ok json)) (λ bytes. Brings string_bytes bytes (Ok json))
     → WithGlobals (object_read (string_bytes json)) (Stops (Ok object)) (λ names. Brings names_of names (Ok object))
     → WithPartials known listed ending (option_words folder) (Stops (Ok source))
-      (λ partials. Brings (λ (s : Option Texts). s) partials (Ok source))
+    (λ partials. Brings (λ (s : Option Texts). s) partials (Ok source))
     → Renders options (string_bytes text) (names_of object) source before after result → status ≡ status_of result
     → Executes options ending (path_words template globals folder) known listed before after status
 executed options ending template globals folder known listed before after status text json object source result there found given brought
     renders is =
     let finished : Finishes options (string_bytes text) (names_of object) source before after status =
-        record { result = result; renders = renders; status_is = is } in
+    record { result = result; renders = renders; status_is = is } in
     text_follows (known template) _ _ _ _ (λ never. absurd never)
     (λ bytes same. subst (λ b. WithText (known globals) (Fails before after status)
-      (λ j. WithGlobals (object_read j) (Fails before after status)
-      (λ names. WithPartials known listed ending (option_words folder) (Fails before after status)
-      (λ partials. Finishes options b names partials before after status)))) same
+    (λ j. WithGlobals (object_read j) (Fails before after status)
+    (λ names. WithPartials known listed ending (option_words folder) (Fails before after status)
+    (λ partials. Finishes options b names partials before after status)))) same
     (text_follows (known globals) _ _ _ _ (λ never. absurd never)
     (λ bytes same. subst (λ j. WithGlobals (object_read j) (Fails before after status)
-      (λ names. WithPartials known listed ending (option_words folder) (Fails before after status)
-      (λ partials. Finishes options (string_bytes text) names partials before after status))) same
+    (λ names. WithPartials known listed ending (option_words folder) (Fails before after status)
+    (λ partials. Finishes options (string_bytes text) names partials before after status))) same
     (globals_follow _ _ _ _ _ (λ never. absurd never)
     (λ names same. subst (λ n. WithPartials known listed ending (option_words folder) (Fails before after status)
-      (λ partials. Finishes options (string_bytes text) n partials before after status)) same
+    (λ partials. Finishes options (string_bytes text) n partials before after status)) same
     (partials_follow known listed ending (option_words folder) _ _ _ _ (λ never. absurd never)
     (λ partials same. subst (λ p. Finishes options (string_bytes text) (names_of object) p before after status) same finished) brought))
-      given)) found)) there
+    given)) found)) there

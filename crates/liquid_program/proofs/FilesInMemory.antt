@@ -18,7 +18,7 @@ choose f false x rest = refl
 pub bytes_at-insert : (old new : BTreeMap (String Global) (Vec ℕ)) (k : String Global) (file : Vec ℕ)
     → Updates string_cmp old new k (Some file)
     → (p : List ℕ) → option_map (λ v. v.items) (get_by_text new p) ≡ (if bytes_eq (string_bytes k) p then Some file.items else option_map
-      (λ v. v.items) (get_by_text old p))
+    (λ v. v.items) (get_by_text old p))
 bytes_at-insert old new k file updates p =
     ap (option_map (λ v. v.items)) (btree_map_updates_text (string_bytes k) old new (Some file) updates p)
     ∙ choose (λ v. v.items) (bytes_eq (string_bytes k) p) file (get_by_text old p)
@@ -27,7 +27,7 @@ bytes_at-insert old new k file updates p =
 pub names_at-insert : (old new : BTreeMap (String Global) (Vec (String Global))) (k : String Global) (names : Vec (String Global))
     → Updates string_cmp old new k (Some names)
     → (p : List ℕ) → option_map (λ v. map string_bytes v.items) (get_by_text new p) ≡ (if bytes_eq (string_bytes k) p then Some
-      (map string_bytes names.items) else option_map (λ v. map string_bytes v.items) (get_by_text old p))
+    (map string_bytes names.items) else option_map (λ v. map string_bytes v.items) (get_by_text old p))
 names_at-insert old new k names updates p =
     ap (option_map (λ v. map string_bytes v.items)) (btree_map_updates_text (string_bytes k) old new (Some names) updates p)
     ∙ choose (λ v. map string_bytes v.items) (bytes_eq (string_bytes k) p) names (get_by_text old p)

@@ -45,7 +45,7 @@ pub files_follow : (known : Files) (folder ending : List ℕ) (names : List (Lis
 files_follow known folder ending [] texts stop stops next goes on_stop on_texts with = on_texts texts with
 files_follow known folder ending (name ∷ names) texts stop stops next goes on_stop on_texts with =
     text_follows (known (path_in folder ending name)) stop stops
-      (λ text. WithFiles known folder ending names (insert texts name text) stop next) _ on_stop
+    (λ text. WithFiles known folder ending names (insert texts name text) stop next) _ on_stop
     (λ text. files_follow known folder ending names (insert texts name text) stop stops next goes on_stop on_texts) with
 
 pub folder_follows : (known : Files) (folder : List ℕ) (ending : Option (List ℕ)) (listed : Option (Option (List (List ℕ))))
@@ -61,18 +61,18 @@ pub partials_follow : (known : Files) (listed : Folders) (ending : Option (List 
 partials_follow known listed ending [] stop stops next goes on_stop on_partials with = on_partials None with
 partials_follow known listed ending (folder ∷ words) stop stops next goes on_stop on_partials with =
     folder_follows known folder ending (listed (is_some ending) folder) stop stops (λ texts. next (Some texts))
-      (λ texts. goes (Some texts)) on_stop (λ texts. on_partials (Some texts)) with
+    (λ texts. goes (Some texts)) on_stop (λ texts. on_partials (Some texts)) with
 
 pub gathers_follow : (words : List (List ℕ)) (ending : Option (List ℕ)) (known : Files) (listed : Folders) (stop stops : Type 0)
     (next goes : List ℕ → Names → Option Texts → Type 0)
     → (stop → stops) → ((text : List ℕ) (names : Names) (partials : Option Texts) → next text names partials → goes text names partials)
-      → Gathers words ending known listed stop next → Gathers words ending known listed stops goes
+    → Gathers words ending known listed stop next → Gathers words ending known listed stops goes
 gathers_follow (template ∷ globals ∷ rest) ending known listed stop stops next goes on_stop on_next gathers =
     text_follows (known template) stop stops _ _ on_stop
     (λ text. text_follows (known globals) stop stops _ _ on_stop
     (λ json. globals_follow (object_read json) stop stops _ _ on_stop
     (λ names. partials_follow known listed ending rest stop stops (λ partials. next text names partials)
-      (λ partials. goes text names partials) on_stop (λ partials. on_next text names partials)))) gathers
+    (λ partials. goes text names partials) on_stop (λ partials. on_next text names partials)))) gathers
 gathers_follow [] ending known listed stop stops next goes on_stop on_next gathers = tt
 gathers_follow (template ∷ []) ending known listed stop stops next goes on_stop on_next gathers = tt
 

@@ -54,7 +54,7 @@ lands_nowhere known left file page answered status is same_status same =
 -- a page that was printed and then written, or not
 pub written : (Done : Sunk → Sunk → ℕ → Type 0) (known between left : Files) (file at page bytes : List ℕ) (answered status : ℕ)
     → between ≡ known → at ≡ file → bytes ≡ page → Printed Done (Some []) (Some page) answered → Lands between left at bytes answered status
-      → WritesFile Done file known left status
+    → WritesFile Done file known left status
 written Done known between left file at page bytes answered status same_known same_file same_page printed landed = record {
   page = page;
   answered = answered;
@@ -62,7 +62,7 @@ written Done known between left file at page bytes answered status same_known sa
   landed =
       subst (λ (k : Files). Lands k left file page answered status) same_known
       (subst (λ f. Lands between left f page answered status) same_file
-        (subst (λ b. Lands between left at b answered status) same_page landed));
+      (subst (λ b. Lands between left at b answered status) same_page landed));
 }
 
 pub same_known : (known left : Files) → left ≡ known → Same known left
@@ -103,7 +103,7 @@ pub each_more : (json : List ℕ) (pages : AskedPages) (partials : Option Texts)
     (known before between at left : Files) (status one next result : ℕ)
     → templates ≡ template ∷ rest → before ≡ known → at ≡ between → next ≡ first_fault status one
     → WithGlobals (object_read json) ⊤ (λ globals. WritesFile (ExecutesOne pages.options template globals partials before)
-      (file_in (pages_folder pages.output) template) before between one)
+    (file_in (pages_folder pages.output) template) before between one)
     → WithGlobals (object_read json) ⊤ (λ globals. WritesEach pages globals partials rest at left next result)
     → WithGlobals (object_read json) ⊤ (λ globals. WritesEach pages globals partials templates known left status result)
 each_more json pages partials templates rest template known before between at left status one next result split same_before same_at
@@ -140,7 +140,7 @@ pub one_rendered : (options : Options) (template : List ℕ) (globals : Names) (
     → ExecutesOne options template globals partials known before after status
 one_rendered options template globals partials known before after status text result there renders is =
     let finished : Finishes options (string_bytes text) globals partials before after status =
-        record { result = result; renders = renders; status_is = is } in
+    record { result = result; renders = renders; status_is = is } in
     text_follows (known template) _ _ _ _ (λ never. absurd never)
     (λ bytes same. subst (λ b. Finishes options b globals partials before after status) same finished) there
 
@@ -168,43 +168,43 @@ module _ (pages : AskedPages) (known : Files) (listed : Folders) (left : Files) 
 
   pub no_globals_text : (fault : Fault) → status ≡ fault_status fault → Same known left
       → WithText (known pages.globals) (Stops {A = String Global} (Err fault)) (λ text. Brings (string_bytes {Z = Global}) text (Err fault))
-        → WritesPages pages known listed left status
+      → WritesPages pages known listed left status
   no_globals_text fault is same step =
       text_follows (known pages.globals) _ Stop _ _ (none_written (String Global) fault is same)
-        (λ text memory. any_globals text (is ∙ memory) same) step
+      (λ text memory. any_globals text (is ∙ memory) same) step
 
   module _ (json : String Global) (there : WithText (known pages.globals) (Stops (Ok json)) (λ bytes. Brings string_bytes bytes (Ok json)))
-      where
-    with_json : WithGlobals (object_read (string_bytes json)) Stop Parts → WritesPages pages known listed left status
-    with_json given =
-        text_follows (known pages.globals) _ Stop _ _ (λ never. absurd never)
-        (λ bytes same. subst (λ b. WithGlobals (object_read b) Stop Parts) same given) there
+    where
+      with_json : WithGlobals (object_read (string_bytes json)) Stop Parts → WritesPages pages known listed left status
+      with_json given =
+          text_follows (known pages.globals) _ Stop _ _ (λ never. absurd never)
+          (λ bytes same. subst (λ b. WithGlobals (object_read b) Stop Parts) same given) there
 
-    pub no_globals_object : (fault : Fault) → status ≡ fault_status fault → Same known left
-        → WithGlobals (object_read (string_bytes json)) (Stops {A = BTreeMap (String Global) Value} (Err fault))
+      pub no_globals_object : (fault : Fault) → status ≡ fault_status fault → Same known left
+          → WithGlobals (object_read (string_bytes json)) (Stops {A = BTreeMap (String Global) Value} (Err fault))
           (λ names. Brings names_of names (Err fault)) → WritesPages pages known listed left status
-    no_globals_object fault is same step =
-        with_json (globals_follow _ _ Stop _ _ (none_written (BTreeMap (String Global) Value) fault is same)
+      no_globals_object fault is same step =
+          with_json (globals_follow _ _ Stop _ _ (none_written (BTreeMap (String Global) Value) fault is same)
           (λ names memory. any_partials names (is ∙ memory) same) step)
 
-    module _ (object : BTreeMap (String Global) Value) (given : WithGlobals (object_read (string_bytes json)) (Stops (Ok object))
-        (λ names. Brings names_of names (Ok object))) where
-      pub no_pages_partials : (fault : Fault) → status ≡ fault_status fault → Same known left
-          → WithPartials known listed pages.ending (option_words pages.partials) (Stops {A = Option Texts} (Err fault))
+      module _ (object : BTreeMap (String Global) Value) (given : WithGlobals (object_read (string_bytes json)) (Stops (Ok object))
+          (λ names. Brings names_of names (Ok object))) where
+        pub no_pages_partials : (fault : Fault) → status ≡ fault_status fault → Same known left
+            → WithPartials known listed pages.ending (option_words pages.partials) (Stops {A = Option Texts} (Err fault))
             (λ partials. Brings (λ (source : Option Texts). source) partials (Err fault))
-          → WritesPages pages known listed left status
-      no_pages_partials fault is same step =
-          with_json (globals_follow _ _ Stop _ Parts (λ never. absurd never)
-          (λ names _. partials_follow known listed pages.ending (option_words pages.partials) _ Stop _ _
+            → WritesPages pages known listed left status
+        no_pages_partials fault is same step =
+            with_json (globals_follow _ _ Stop _ Parts (λ never. absurd never)
+            (λ names _. partials_follow known listed pages.ending (option_words pages.partials) _ Stop _ _
             (none_written (Option Texts) fault is same) (λ partials memory. inl (is ∙ memory, same)) step) given)
 
-      pub each_written : (source : Option Texts)
-          → WithPartials known listed pages.ending (option_words pages.partials) (Stops (Ok source))
+        pub each_written : (source : Option Texts)
+            → WithPartials known listed pages.ending (option_words pages.partials) (Stops (Ok source))
             (λ partials. Brings (λ (s : Option Texts). s) partials (Ok source))
-          → WithGlobals (object_read (string_bytes json)) ⊤ (λ names. WritesEach pages names source pages.templates known left 0 status)
-          → WritesPages pages known listed left status
-      each_written source brought each =
-          with_json (both_globals (object_read (string_bytes json)) _ Stop _ _ Parts (λ never. never)
-          (λ names _ written. partials_follow known listed pages.ending (option_words pages.partials) _ Stop _ _ (λ never. absurd never)
-          (λ partials same. inr (subst (λ p. WritesEach pages names p pages.templates known left 0 status) same written)) brought) given
+            → WithGlobals (object_read (string_bytes json)) ⊤ (λ names. WritesEach pages names source pages.templates known left 0 status)
+            → WritesPages pages known listed left status
+        each_written source brought each =
+            with_json (both_globals (object_read (string_bytes json)) _ Stop _ _ Parts (λ never. never)
+            (λ names _ written. partials_follow known listed pages.ending (option_words pages.partials) _ Stop _ _ (λ never. absurd never)
+            (λ partials same. inr (subst (λ p. WritesEach pages names p pages.templates known left 0 status) same written)) brought) given
             each)

@@ -42,7 +42,7 @@ pub clear_more : (steps more : List Step) → first_trouble steps ≡ None → u
 clear_more [] more none = refl
 clear_more (step ∷ steps) more none =
     clear_step step.request step.trouble (up_to_trouble steps) (up_to_trouble (steps ++ more)) (up_to_trouble more) (first_trouble steps)
-      (clear_more steps more) none
+    (clear_more steps more) none
 
 -- steps with trouble end the requests
 ended_step : (request : Request) (trouble : Option Trouble) (rest both : List Request) (first : Option Trouble) (t : Trouble)
@@ -55,7 +55,7 @@ pub ended_more : (steps more : List Step) (t : Trouble) → first_trouble steps 
 ended_more [] more t is = absurd (true≢false (sym (ap is_some is)))
 ended_more (step ∷ steps) more t is =
     ended_step step.request step.trouble (up_to_trouble steps) (up_to_trouble (steps ++ more)) (first_trouble steps) t
-      (ended_more steps more t) is
+    (ended_more steps more t) is
 
 -- more steps have no fewer requests
 abbrev Grown : List Request → List Request → Type 0
@@ -97,7 +97,7 @@ all_made : (steps more : List Step) (before between after : Requests) → betwee
     → after ≡ also before (up_to_trouble (steps ++ more))
 all_made steps more before between after same none is =
     is ∙ ap (λ b. also b (up_to_trouble more)) same ∙ also_also before (up_to_trouble steps) (up_to_trouble more)
-      ∙ ap (λ rs. also before rs) (sym (clear_more steps more none))
+    ∙ ap (λ rs. also before rs) (sym (clear_more steps more none))
 
 first_left : (steps more : List Step) → first_trouble steps ≡ None → first_trouble (steps ++ more) ≡ first_trouble more
 first_left steps more none = first_more steps more ∙ ap (λ f. option_map_or Some f (first_trouble more)) none
@@ -211,23 +211,23 @@ follows_nothing before after status same = (Ok status, inl (same ∙ sym (also_n
 pub words_followed : (words : List (List ℕ)) (asked : Asked) (known : Files) (listed : Folders) (before between after : Requests)
     (status : ℕ) (answer : Result (Unit {0}) Fault) → command_of words ≡ Some asked
     → WhereKnown known listed (λ all folders. Follows (command_steps all folders asked.paths asked.choices.ending) before between answer)
-      → after ≡ between → status ≡ exit_status answer
+    → after ≡ between → status ≡ exit_status answer
     → FollowsWords words known listed before after status
 words_followed words asked known listed before between after status answer is follows same status_is = λ all folders here there.
     let steps = command_steps all folders asked.paths asked.choices.ending in
     subst (λ c. FollowsTo (option_map_or (λ (a : Asked). command_steps all folders a.paths a.choices.ending) c
-        (option_map_or (pages_steps all folders) (pages_of words) [])) before after status) (sym is)
+    (option_map_or (pages_steps all folders) (pages_of words) [])) before after status) (sym is)
     (subst (λ a. FollowsTo steps before a status) (sym same) (follows_to steps before between status answer status_is
-      (follows all folders here there)))
+    (follows all folders here there)))
 
 -- other words
 pub others_followed : (words : List (List ℕ)) (known : Files) (listed : Folders) (before after : Requests) (status : ℕ)
     → command_of words ≡ None
     → WhereKnown known listed (λ all folders. FollowsTo (option_map_or (pages_steps all folders) (pages_of words) []) before after status)
-      → FollowsWords words known listed before after status
+    → FollowsWords words known listed before after status
 others_followed words known listed before after status is follows = λ all folders here there.
     subst (λ c. FollowsTo (option_map_or (λ (a : Asked). command_steps all folders a.paths a.choices.ending) c
-        (option_map_or (pages_steps all folders) (pages_of words) [])) before after status) (sym is) (follows all folders here there)
+    (option_map_or (pages_steps all folders) (pages_of words) [])) before after status) (sym is) (follows all folders here there)
 
 pub pages_words_followed : (words : List (List ℕ)) (pages : AskedPages) (known : Files) (listed : Folders) (before after : Requests)
     (status : ℕ) → pages_of words ≡ Some pages
@@ -241,4 +241,4 @@ pub no_words_followed : (words : List (List ℕ)) (known : Files) (listed : Fold
     → WhereKnown known listed (λ all folders. FollowsTo (option_map_or (pages_steps all folders) (pages_of words) []) before after status)
 no_words_followed words known listed before after status is same = λ all folders here there.
     subst (λ p. FollowsTo (option_map_or (pages_steps all folders) p []) before after status) (sym is)
-      (follows_nothing before after status same)
+    (follows_nothing before after status same)

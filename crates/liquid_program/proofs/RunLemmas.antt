@@ -22,26 +22,26 @@ texts_are (Some texts) = refl
 pub plain_rendered : (page : PageOptions) (l : PlainLang) (text : List ℕ) (globals : Names) (partials : Option Texts) (before after : Sunk)
     (result : Result (Unit {0}) Error)
     → l ≡ plain_language → RendersPage plain_setting l page text globals
-      (option_map (λ (texts : Texts). texts) partials) before after result → RendersIn false page text globals partials before after result
+    (option_map (λ (texts : Texts). texts) partials) before after result → RendersIn false page text globals partials before after result
 plain_rendered page l text globals partials before after result same renders =
     subst (λ p. RendersPage plain_setting plain_language page text globals p before after result) (texts_are partials)
     (subst (λ m. RendersPage plain_setting m page text globals (option_map (λ (texts : Texts). texts) partials) before after result) same
-      renders)
+    renders)
 
 pub standard_rendered : (page : PageOptions) (l : StandardLang) (text : List ℕ) (globals : Names) (partials : Option Texts)
     (before after : Sunk) (result : Result (Unit {0}) Error)
     → l ≡ standard_language → RendersPage standard_setting l page text globals
-      (option_map (λ (texts : Texts). texts) partials) before after result → RendersIn true page text globals partials before after result
+    (option_map (λ (texts : Texts). texts) partials) before after result → RendersIn true page text globals partials before after result
 standard_rendered page l text globals partials before after result same renders =
     subst (λ p. RendersPage standard_setting standard_language page text globals p before after result) (texts_are partials)
     (subst (λ m. RendersPage standard_setting m page text globals (option_map (λ (texts : Texts). texts) partials) before after result) same
-      renders)
+    renders)
 
 -- the language that the options choose
 pub chosen_rendered : (options : Options) (standard : Bool) (page : PageOptions) (text : List ℕ) (globals : Names) (partials : Option Texts)
     (before after : Sunk) (result : Result (Unit {0}) Error)
     → options.standard ≡ standard → page ≡ page_options options → RendersIn standard page text globals partials before after result
-      → Renders options text globals partials before after result
+    → Renders options text globals partials before after result
 chosen_rendered options standard page text globals partials before after result is same renders =
     subst (λ o. RendersIn options.standard o text globals partials before after result) same
     (subst (λ b. RendersIn b page text globals partials before after result) (sym is) renders)
@@ -58,15 +58,15 @@ pub Printed-settled : (Done : Sunk → Sunk → ℕ → Type 0) (start stop : Su
     (before between after : Option (List ℕ)) (answered status : ℕ) (flushed : Bool)
     → Done start stop answered
     → start.taken ≡ [] → start.failures ≡ 0 → start.following ≡ before → stop.lent ≡ start.lent → Grows start stop
-      → between ≡ stop.following → Keeps between after
+    → between ≡ stop.following → Keeps between after
     → status ≡ settled answered flushed → Printed Done before after status
 Printed-settled Done start stop before between after answered status flushed done nothing none same_before same_lent grows same_between kept
     is =
     let begins : start ≡ sunk [] 0 before start.lent =
     ap (λ t. sunk t start.failures start.following start.lent) nothing ∙ ap (λ n. sunk [] n start.following start.lent) none
-      ∙ ap (λ b. sunk [] 0 b start.lent) same_before in
+    ∙ ap (λ b. sunk [] 0 b start.lent) same_before in
     let ends : stop ≡ sunk stop.taken stop.failures stop.following start.lent =
-        ap (λ l. sunk stop.taken stop.failures stop.following l) same_lent in
+    ap (λ l. sunk stop.taken stop.failures stop.following l) same_lent in
     record {
       taken = stop.taken;
       failures = stop.failures;
@@ -78,7 +78,7 @@ Printed-settled Done start stop before between after answered status flushed don
           subst (λ t. Appends before after t) (sym (grows.taken_is ∙ ap (λ t. t ++ grows.more) nothing))
           (appends_kept before between after grows.more
           (subst (λ b. Appends before b grows.more) (sym same_between)
-            (subst (λ b. Appends b stop.following grows.more) same_before grows.after_is)) kept);
+          (subst (λ b. Appends b stop.following grows.more) same_before grows.after_is)) kept);
       done =
           subst (λ s. Done s (sunk stop.taken stop.failures stop.following start.lent) answered) begins
           (subst (λ s. Done start s answered) ends done);

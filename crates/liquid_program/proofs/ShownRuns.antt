@@ -63,11 +63,11 @@ module _ (following after_after : Option (List ℕ)) (lent : List ℕ) where
 
   stopped_begins : {Reg : Type 0} (r : Run Reg) (output : List ℕ) (failures : ℕ) (left : View Reg) (t : Option Refusal)
       → MatchOption t (Cut r (ungated fresh) (ungated (filled output failures)))
-        (Stopped r (ungated fresh) (ungated (filled output failures)) left) → IsBeginning r output
+      (Stopped r (ungated fresh) (ungated (filled output failures)) left) → IsBeginning r output
   stopped_begins r output failures left None c = (
     c.rest ++ pieces c.later,
     ap pieces c.steps ∙ pieces-append c.front c.later ∙ ap (λ t. t ++ pieces c.later) c.pieces_are
-      ∙ append_assoc c.part c.rest (pieces c.later)
+        ∙ append_assoc c.part c.rest (pieces c.later)
         ∙ ap (λ front. front ++ (c.rest ++ pieces c.later)) (sym c.taken),
   )
   stopped_begins r output failures left (Some refusal) (inl s) = whole_begins r output s.0.taken
@@ -94,15 +94,15 @@ module _ (following after_after : Option (List ℕ)) (lent : List ℕ) where
   shown_page : {Reg F T P L B Q : Type 0} (s : Settings Reg F T P B Q) (l : Lang F T L B) (options : PageOptions) (text : List ℕ)
       (globals : Names) (partials : Option Texts) (output : List ℕ) (failures : ℕ) (flushed : Bool) (result : Result (Unit {0}) Error)
       → RendersPage s l options text globals partials fresh (filled output failures) result
-        → ShowsPage s l options text globals partials output (settled (status_of result) flushed)
+      → ShowsPage s l options text globals partials output (settled (status_of result) flushed)
   shown_page s l options text globals partials output failures flushed result renders = λ answer reads found is_found.
       shown_answer (page_action s options found globals) (first_view (first_register s) options globals)
-        (renders answer reads).left answer output failures flushed result ((renders answer reads).rendered found is_found)
+      (renders answer reads).left answer output failures flushed result ((renders answer reads).rendered found is_found)
 
   shown_in : (standard : Bool) (options : PageOptions) (text : List ℕ) (globals : Names) (partials : Option Texts) (output : List ℕ)
       (failures : ℕ) (flushed : Bool) (result : Result (Unit {0}) Error)
       → RendersIn standard options text globals partials fresh (filled output failures) result
-        → ShowsIn standard options text globals partials output (settled (status_of result) flushed)
+      → ShowsIn standard options text globals partials output (settled (status_of result) flushed)
   shown_in false options text globals partials output failures flushed result renders =
       shown_page plain_setting plain_language options text globals partials output failures flushed result renders
   shown_in true options text globals partials output failures flushed result renders =
@@ -116,7 +116,7 @@ module _ (following after_after : Option (List ℕ)) (lent : List ℕ) where
   shown_text : (options : Options) (text : List ℕ) (globals : Names) (partials : Option Texts) (output : List ℕ) (failures answered : ℕ)
       (flushed : Bool)
       → Finishes options text globals partials fresh (filled output failures) answered
-        → ShowsText options text globals partials output (settled answered flushed)
+      → ShowsText options text globals partials output (settled answered flushed)
   shown_text options text globals partials output failures answered flushed finishes =
       subst (λ s. ShowsText options text globals partials output (settled s flushed)) (sym finishes.status_is)
       (shown_in options.standard (page_options options) text globals partials output failures flushed finishes.result finishes.renders)
@@ -124,7 +124,7 @@ module _ (following after_after : Option (List ℕ)) (lent : List ℕ) where
   shown_command : (options : Options) (ending : Option (List ℕ)) (paths : List (List ℕ)) (files : List ℕ → Option (List ℕ))
       (folders : Bool → List ℕ → Option (List (List ℕ))) (output : List ℕ) (failures answered : ℕ) (flushed : Bool)
       → Executes options ending paths (known_in files) (listed_in folders) fresh (filled output failures) answered
-        → ShowsCommand options ending paths files folders output (settled answered flushed)
+      → ShowsCommand options ending paths files folders output (settled answered flushed)
   shown_command options ending paths files folders output failures answered flushed runs =
       gathers_follow paths ending (known_in files) (listed_in folders) _ _ _ _ (shown_nothing output failures answered flushed)
       (λ text globals partials. shown_text options text globals partials output failures answered flushed) runs
@@ -133,7 +133,7 @@ module _ (files left : List ℕ → Option (List ℕ)) (folders : Bool → List 
   -- a page that is printed to an empty output is what its command shows
   printed_page : (options : Options) (ending : Option (List ℕ)) (paths : List (List ℕ))
       → Printed (Executes options ending paths (known_in files) (listed_in folders)) (Some []) (Some output) status
-        → ShowsCommand options ending paths files folders output status
+      → ShowsCommand options ending paths files folders output status
   printed_page options ending paths p =
       let same : p.taken ≡ output = sym p.appended in
       subst (λ s. ShowsCommand options ending paths files folders output s) (sym p.status_is)
@@ -152,7 +152,7 @@ module _ (files left : List ℕ → Option (List ℕ)) (folders : Bool → List 
   printed_words : (command : Option Asked) (others : Option AskedPages)
       → MatchOption command ((Some output ≡ Some []) × WritesOthers others (known_in files) (listed_in folders) (known_in left) status)
       (λ asked. Placed Printed asked asked.choices.output (known_in files) (listed_in folders) (known_in left) (Some [])
-        (Some output) status)
+      (Some output) status)
       → MatchOption command ((output ≡ []) × WritesOthers others (known_in files) (listed_in folders) (known_in left) status)
       (λ asked. ShowsPlaced asked asked.choices.output files folders left output status)
   printed_words None others p = (printed_output (Some output) refl p.0, p.1)
@@ -162,6 +162,6 @@ module _ (files left : List ℕ → Option (List ℕ)) (folders : Bool → List 
 pub Shows-printed : (words : List (List ℕ)) (files left : List ℕ → Option (List ℕ)) (folders : Bool → List ℕ → Option (List (List ℕ)))
     (output : List ℕ) (status : ℕ)
     → Prints words (known_in files) (listed_in folders) (known_in left) (Some []) (Some output) status
-      → Shows words files folders left output status
+    → Shows words files folders left output status
 Shows-printed words files left folders output status p =
     printed_words files left folders output status (command_of words) (pages_of words) p

@@ -69,10 +69,10 @@ text_reports (Some bytes) path result read reports = text_case bytes path (is_ut
 pub text_known : (file : Option (List ℕ)) (here : Option (Option (List ℕ))) (path : List ℕ) (result : Result (String Global) Fault)
     → here ≡ Some file
     → WithText here (Stops result) (λ text. Brings (string_bytes {Z = Global}) text result) → Reports (unreadable path) result
-      → ReportsAny (text_trouble path file) result
+    → ReportsAny (text_trouble path file) result
 text_known file here path result known read reports =
     text_reports file path result (subst (λ h. WithText h (Stops result) (λ text. Brings (string_bytes {Z = Global}) text result)) known
-        read) reports
+    read) reports
 
 brought_case : (bytes : List ℕ) (b : Bool) (text : String Global) → is_utf8 bytes ≡ b → ReadText (Some bytes) (Ok text)
     → bytes ≡ string_bytes text
@@ -93,18 +93,18 @@ globals_unread file path fault (inr memory) = inr memory
 -- globals that are a text have the trouble of its JSON
 pub globals_known : (file : Option (List ℕ)) (here : Option (Option (List ℕ))) (path : List ℕ) (text : String Global) → here ≡ Some file
     → WithText here (Stops (Ok text)) (λ bytes. Brings (string_bytes {Z = Global}) bytes (Ok text))
-      → globals_trouble path file ≡ object_trouble path (object_read (string_bytes text))
+    → globals_trouble path file ≡ object_trouble path (object_read (string_bytes text))
 globals_known file here path text known read =
     let there : ReadText file (Ok text) =
-        subst (λ h. WithText h (Stops (Ok text)) (λ bytes. Brings (string_bytes {Z = Global}) bytes (Ok text))) known read in
+    subst (λ h. WithText h (Stops (Ok text)) (λ bytes. Brings (string_bytes {Z = Global}) bytes (Ok text))) known read in
     let none : text_trouble path file ≡ None = text_reports file path (Ok text) there tt in
     ap (λ t. option_map_or Some t (object_trouble path (object_read (unwrap_or file [])))) none
-      ∙ ap (λ b. object_trouble path (object_read b)) (brought file text there)
+    ∙ ap (λ b. object_trouble path (object_read b)) (brought file text there)
 
 pub globals_refused : (file : Option (List ℕ)) (here : Option (Option (List ℕ))) (path : List ℕ) (text : String Global) (fault : Fault)
     → here ≡ Some file
     → WithText here (Stops (Ok text)) (λ bytes. Brings (string_bytes {Z = Global}) bytes (Ok text))
-      → ReportsSome (object_trouble path (object_read (string_bytes text))) fault
+    → ReportsSome (object_trouble path (object_read (string_bytes text))) fault
     → ReportsSome (globals_trouble path file) fault
 globals_refused file here path text fault known read reports =
     subst (λ any. ReportsSome any fault) (sym (globals_known file here path text known read)) reports
@@ -113,20 +113,24 @@ globals_refused file here path text fault known read reports =
 pub folder_stops : (files : FilesAt) (folder : List ℕ) (ending : Option (List ℕ)) (names : Option (List (List ℕ)))
     (here : Option (Option (List (List ℕ)))) (before after : Requests) (fault : Fault) → here ≡ Some names
     → WithNames here (Stops {A = BTreeMap (String Global) (Unit {0})} (Err fault))
-      (λ ns. Brings (by_name {X = Unit {0}}) (names_into ending empty ns) (Err fault))
+    (λ ns. Brings (by_name {X = Unit {0}}) (names_into ending empty ns) (Err fault))
     → ReportsTrouble (unreadable folder) fault → after ≡ also before (listing (is_some ending) folder ∷ [])
-      → CollectsSome (folder_steps files folder ending names) before after fault
+    → CollectsSome (folder_steps files folder ending names) before after fault
 folder_stops files folder ending None here before after fault known read reports same =
     one_stops (listing (is_some ending) folder) (Some (unreadable folder)) before after fault same
-      (reported_any fault (unreadable folder) reports)
+    (reported_any fault (unreadable folder) reports)
 folder_stops files folder ending (Some names) here before after fault known read reports same =
     let one : fault_status fault ≡ 1 =
     subst (λ h. WithNames h (Stops {A = BTreeMap (String Global) (Unit {0})} (Err fault))
-        (λ ns. Brings (by_name {X = Unit {0}}) (names_into ending empty ns) (Err fault))) known read in
+    (λ ns. Brings (by_name {X = Unit {0}}) (names_into ending empty ns) (Err fault))) known read in
     inr (
       only_memory fault (unreadable folder) one reports,
-      (listing (is_some ending) folder ∷ [], up_to_trouble (file_steps files folder (unwrap_or ending []) (in_order ending names)), refl,
-        same),
+      (
+        listing (is_some ending) folder ∷ [],
+        up_to_trouble (file_steps files folder (unwrap_or ending []) (in_order ending names)),
+        refl,
+        same,
+      ),
     )
 
 -- the names, and then the files
@@ -134,16 +138,16 @@ pub folder_collects : {A : Type 0} (files : FilesAt) (folder : List ℕ) (ending
     (here : Option (Option (List (List ℕ)))) (names : BTreeMap (String Global) (Unit {0})) (before between after : Requests)
     (result : Result A Fault)
     → here ≡ Some listed → WithNames here (Stops (Ok names)) (λ ns. Brings by_name (names_into ending empty ns) (Ok names))
-      → between ≡ also before (listing (is_some ending) folder ∷ [])
+    → between ≡ also before (listing (is_some ending) folder ∷ [])
     → Collects (file_steps files folder (unwrap_or ending []) (keys (by_name names))) between after result
-      → Collects (folder_steps files folder ending listed) before after result
+    → Collects (folder_steps files folder ending listed) before after result
 folder_collects files folder ending None here names before between after result known read same collects =
     absurd (subst (λ h. WithNames h (Stops (Ok names)) (λ ns. Brings by_name (names_into ending empty ns) (Ok names))) known read)
 folder_collects files folder ending (Some ns) here names before between after result known read same collects =
     let is : by_name names ≡ names_into ending empty ns =
-        subst (λ h. WithNames h (Stops (Ok names)) (λ ns. Brings by_name (names_into ending empty ns) (Ok names))) known read in
+    subst (λ h. WithNames h (Stops (Ok names)) (λ ns. Brings by_name (names_into ending empty ns) (Ok names))) known read in
     collects_then (record { request = listing (is_some ending) folder; trouble = None } ∷ [])
-        (file_steps files folder (unwrap_or ending []) (in_order ending ns)) before between after result (same, refl)
+    (file_steps files folder (unwrap_or ending []) (in_order ending ns)) before between after result (same, refl)
     (subst (λ m. Collects (file_steps files folder (unwrap_or ending []) (keys m)) between after result) is collects)
 
 -- the files of these names were read, one after another
@@ -169,15 +173,15 @@ steps_split files folder ending names front rest same =
 pub came_more : (files : FilesAt) (folder name ending : List ℕ) (names rest : List (List ℕ)) (before now after : Requests)
     → CameSoFar files folder ending names (name ∷ rest) before now
     → after ≡ also now (reading (path_in folder ending name) ∷ [])
-      → text_trouble (path_in folder ending name) (files (path_in folder ending name)) ≡ None
-      → CameSoFar files folder ending names rest before after
+    → text_trouble (path_in folder ending name) (files (path_in folder ending name)) ≡ None
+    → CameSoFar files folder ending names rest before after
 came_more files folder name ending names rest before now after so_far same none = (
   so_far.0 ++ (name ∷ []),
   so_far.1 ∙ sym (append_assoc so_far.0 (name ∷ []) rest),
   subst (λ steps. CollectsAll steps before after) (sym (steps_more files folder ending so_far.0 (name ∷ [])))
       (all_then (file_steps files folder ending so_far.0) (text_at files (path_in folder ending name) ∷ []) before now after so_far.2
       (one_clear (reading (path_in folder ending name)) (text_trouble (path_in folder ending name) (files (path_in folder ending name))) now
-        after same none)),
+      after same none)),
 )
 
 -- a text that was read was requested
@@ -190,13 +194,13 @@ pub came_stops : (files : FilesAt) (folder name ending : List ℕ) (names rest :
     (result : Result (String Global) Fault) (fault : Fault) → result ≡ Err fault
     → CameSoFar files folder ending names (name ∷ rest) before now → Requested (reading (path_in folder ending name)) now after result
     → ReportsSome (text_trouble (path_in folder ending name) (files (path_in folder ending name))) fault
-      → CollectsSome (file_steps files folder ending names) before after fault
+    → CollectsSome (file_steps files folder ending names) before after fault
 came_stops files folder name ending names rest before now after result fault is so_far requested reports =
     subst (λ steps. CollectsSome steps before after fault) (steps_split files folder ending names so_far.0 (name ∷ rest) so_far.1)
     (some_then (file_steps files folder ending so_far.0) (file_steps files folder ending (name ∷ rest)) before now after fault so_far.2
     (collects_stop (text_at files (path_in folder ending name) ∷ []) (file_steps files folder ending rest) now after fault
     (maybe_stops (reading (path_in folder ending name)) (text_trouble (path_in folder ending name) (files (path_in folder ending name))) now
-      after result fault is requested reports)))
+    after result fault is requested reports)))
 
 pub came_memory : (files : FilesAt) (folder ending : List ℕ) (names rest : List (List ℕ)) (before now : Requests) (fault : Fault)
     → CameSoFar files folder ending names rest before now → OutOfMemory fault
@@ -211,7 +215,7 @@ pub came_all : (files : FilesAt) (folder ending : List ℕ) (names rest : List (
     → CollectsAll (file_steps files folder ending names) before now
 came_all files folder ending names rest before now so_far none =
     subst (λ ns. CollectsAll (file_steps files folder ending ns) before now)
-      (sym (so_far.1 ∙ ap (λ ns. so_far.0 ++ ns) none ∙ append-nil so_far.0)) so_far.2
+    (sym (so_far.1 ∙ ap (λ ns. so_far.0 ++ ns) none ∙ append-nil so_far.0)) so_far.2
 
 -- a folder that is named, and none
 pub no_folder : (files : FilesAt) (folders : FoldersAt) (ending : Option (List ℕ)) (folder : Option (Bor (List ℕ)))
@@ -219,12 +223,12 @@ pub no_folder : (files : FilesAt) (folders : FoldersAt) (ending : Option (List �
     → CollectsAll (partials_steps files folders (option_words (option_map (λ f. f.now) folder)) ending) before after
 no_folder files folders ending folder before after is same =
     subst (λ (f : Option (Bor (List ℕ))). CollectsAll (partials_steps files folders
-        (option_words (option_map (λ (w : Bor (List ℕ)). w.now) f)) ending) before after) (sym is) (same ∙ sym (also_nothing before), refl)
+    (option_words (option_map (λ (w : Bor (List ℕ)). w.now) f)) ending) before after) (sym is) (same ∙ sym (also_nothing before), refl)
 
 pub folder_named : (files : FilesAt) (folders : FoldersAt) (ending : Option (List ℕ)) (folder : Option (Bor (List ℕ)))
     (named : Bor (List ℕ)) → folder ≡ Some named
     → partials_steps files folders (option_words (option_map (λ f. f.now) folder)) ending ≡ folder_steps files named.now ending
-      (folders (is_some ending) named.now)
+    (folders (is_some ending) named.now)
 folder_named files folders ending folder named is =
     ap (λ (f : Option (Bor (List ℕ))). partials_steps files folders (option_words (option_map (λ (w : Bor (List ℕ)). w.now) f)) ending) is
 
@@ -245,7 +249,7 @@ module _ (files : FilesAt) (folders : FoldersAt) (template globals : List ℕ) (
   template_stops after fault same reports =
       follows_stop Steps before after fault
       (collects_stop (text_at files template ∷ []) AfterTemplate before after fault
-        (one_stops (reading template) (text_trouble template (files template)) before after fault same reports))
+      (one_stops (reading template) (text_trouble template (files template)) before after fault same reports))
 
   module _ (first : Requests) (made : first ≡ also before (reading template ∷ []))
       (there : text_trouble template (files template) ≡ None) where
@@ -258,7 +262,7 @@ module _ (files : FilesAt) (folders : FoldersAt) (template globals : List ℕ) (
         follows_stop Steps before after fault
         (some_then (text_at files template ∷ []) AfterTemplate before first after fault after_template
         (collects_stop (globals_at files globals ∷ []) Parts first after fault
-          (one_stops (reading globals) (globals_trouble globals (files globals)) first after fault same reports)))
+        (one_stops (reading globals) (globals_trouble globals (files globals)) first after fault same reports)))
 
     module _ (second : Requests) (also_made : second ≡ also first (reading globals ∷ []))
         (found : globals_trouble globals (files globals) ≡ None) where
@@ -276,7 +280,7 @@ module _ (files : FilesAt) (folders : FoldersAt) (template globals : List ℕ) (
       all_followed after result collects none =
           follows_done Steps before after result
           (all_then (text_at files template ∷ []) AfterTemplate before first after after_template
-            (all_then (globals_at files globals ∷ []) Parts first second after after_globals collects)) none
+          (all_then (globals_at files globals ∷ []) Parts first second after after_globals collects)) none
 
 -- several pages
 module _ (files : FilesAt) (folders : FoldersAt) (pages : AskedPages) (before : Requests) where
@@ -292,7 +296,7 @@ module _ (files : FilesAt) (folders : FoldersAt) (pages : AskedPages) (before : 
   pages_stop after fault same reports =
       follows_stop (pages_steps files folders pages) before after fault
       (collects_stop (globals_at files pages.globals ∷ []) AfterGlobals before after fault
-        (one_stops (reading pages.globals) (globals_trouble pages.globals (files pages.globals)) before after fault same reports))
+      (one_stops (reading pages.globals) (globals_trouble pages.globals (files pages.globals)) before after fault same reports))
 
   module _ (first : Requests) (made : first ≡ also before (reading pages.globals ∷ []))
       (found : globals_trouble pages.globals (files pages.globals) ≡ None) where
@@ -312,4 +316,4 @@ module _ (files : FilesAt) (folders : FoldersAt) (pages : AskedPages) (before : 
         follows_done (pages_steps files folders pages) before after (Ok status)
         (all_then (globals_at files pages.globals ∷ []) AfterGlobals before first after after_pages_globals
         (all_then PagesParts (map template_step pages.templates) first read after collects
-          (templates_collect pages.templates read after each))) refl
+        (templates_collect pages.templates read after each))) refl

@@ -40,7 +40,7 @@ module _ {Reg : Type 0} where
       (lookup v (render_scalar name)) (λ t. walk t path)
       (ok_or-agrees (lookup v (render_scalar name)) (unknown_variable (render_scalar name)))
       (λ t. sealed_answer-agrees (comes_from_seal v (render_scalar name)) (render_scalar name) (find_after (name ∷ []) t path)
-        ∙ find_after-agrees (name ∷ []) t path)
+      ∙ find_after-agrees (name ∷ []) t path)
 
   -- in a strict view a path gives its value or its refusal
   pub found_strict : (v : View Reg) (path : Path) → v.lenient ≡ false → found v path ≡ strictly_found v path
@@ -52,7 +52,7 @@ module _ {Reg : Type 0} where
   pub lenient_get_agrees : (v : View Reg) (path : Path) → v.lenient ≡ true → found v path ≡ Ok (unwrap_or (try_path v path) nil)
   lenient_get_agrees v path e =
       ap (λ lenient. or_nil lenient (strictly_found v path)) e ∙ lenient_answer (strictly_found v path)
-        ∙ ap (λ o. Ok (unwrap_or o nil)) (value_agrees v path)
+      ∙ ap (λ o. Ok (unwrap_or o nil)) (value_agrees v path)
 
   -- the empty path has no value
   pub empty_refused : (v : View Reg) → v.lenient ≡ false → found v [] ≡ Err (unknown_variable (codes "nil"))

@@ -77,7 +77,7 @@ module _ {Reg : Type 0} where
       → comes_from_seal (assigned_view assigned (begin_sandboxed fresh names name v)) q ≡ is_none (get assigned q)
   seal_isolated assigned fresh names name v q =
       seal_global assigned (begin_sandboxed fresh names name v) q ∙ ap (λ b. is_none (get assigned q) && b)
-        (seal_sandboxed fresh names name v q) ∙ and_true (is_none (get assigned q))
+      (seal_sandboxed fresh names name v q) ∙ and_true (is_none (get assigned q))
 
 -- what an implementation of a frame needs
 pub ruleset frame_laws = (lookup_stack, lookup_global, lookup_sandboxed, seal_stack, seal_global, seal_sandboxed)

@@ -90,7 +90,7 @@ module _ {Reg : Type 0} where
       names_either variables (names_seen (core_with r depth lenient))
       (names_seen (indexed_view variables (core_with r depth lenient))) below set
       (λ q. lookup_indexed variables r depth lenient q ∙ sym (or_none (get variables q))
-        ∙ ap (option_or (get variables q)) (sym (lookup_core r depth lenient q))) is of
+      ∙ ap (option_or (get variables q)) (sym (lookup_core r depth lenient q))) is of
 
   pub roots_stack : (names : Names) (name : Option (List ℕ)) (v : View Reg) (below set : BTreeSet (String Global))
       → NamesOver names below set → NamesOf (names_seen v) below → NamesOf (names_seen (begin_stack names name v)) set
@@ -115,6 +115,24 @@ module _ {Reg : Type 0} where
       names_either assigned names (names_seen (assigned_view assigned (begin_sandboxed fresh names name v))) below set
       (lookup_isolated assigned fresh names name v) is of
 
-pub ruleset frame_lookups =
-    (seal_own, seal_below, roots_core, roots_indexed, roots_stack, roots_global, roots_sandboxed, nothing_there, own_value, value_below,
-    lookup_core, lookup_indexed, lookup_stack, lookup_global, lookup_sandboxed, seal_stack, seal_global, seal_sandboxed, changed_objects)
+pub ruleset frame_lookups = (
+  seal_own,
+  seal_below,
+  roots_core,
+  roots_indexed,
+  roots_stack,
+  roots_global,
+  roots_sandboxed,
+  nothing_there,
+  own_value,
+  value_below,
+  lookup_core,
+  lookup_indexed,
+  lookup_stack,
+  lookup_global,
+  lookup_sandboxed,
+  seal_stack,
+  seal_global,
+  seal_sandboxed,
+  changed_objects,
+)

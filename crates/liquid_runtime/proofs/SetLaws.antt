@@ -33,7 +33,7 @@ get-other m name other t apart =
 
 get-other-shown : (shown : Bool) (globals : Option Names) (name other : List ℕ) (t : Tree) → other ≢ name
     → get (cond shown (unwrap_or (option_map (λ names. insert names name t) globals) empty) empty) other ≡ get
-      (cond shown (unwrap_or globals empty) empty) other
+    (cond shown (unwrap_or globals empty) empty) other
 get-other-shown true None name other t apart = refl
 get-other-shown true (Some m) name other t apart = get-other m name other t apart
 get-other-shown false globals name other t apart = refl
@@ -54,13 +54,13 @@ module _ {Reg : Type 0} where
       (option_or (get v.locals q) (option_or (get (shown_globals v) q) (get v.base q))) (get (floor_names v) q)
   lookup-layers v q = get-over (upper_names v) (floor_names v) q
       ∙ ap (λ o. option_or o (get (floor_names v) q)) (get-over v.locals (over (shown_globals v) v.base) q
-        ∙ ap (option_or (get v.locals q)) (get-over (shown_globals v) v.base q))
+      ∙ ap (option_or (get v.locals q)) (get-over (shown_globals v) v.base q))
 
   pub set_global_keeps : SetGlobalKeepsOthers Reg
   set_global_keeps v name other t apart = (
     lookup-layers (put_global v name t) other
         ∙ ap (λ o. option_or (option_or (get v.locals other) (option_or o (get v.base other))) (get (floor_names v) other))
-          (get-other-shown v.shown v.globals name other t apart)
+        (get-other-shown v.shown v.globals name other t apart)
         ∙ sym (lookup-layers v other),
     refl,
   )
@@ -69,7 +69,7 @@ module _ {Reg : Type 0} where
   set_index_keeps v name other t apart = (
     lookup-layers (put_index v name t) other
         ∙ ap (option_or (option_or (get v.locals other) (option_or (get (shown_globals v) other) (get v.base other))))
-          (get-other-floor v.floor v.index name other t apart)
+        (get-other-floor v.floor v.index name other t apart)
         ∙ sym (lookup-layers v other),
     refl,
   )
@@ -88,7 +88,7 @@ module _ {Reg : Type 0} where
       global_keeps (begin_stack globals None (begin_index (core_view fresh depth))) name
       ∙ lookup_stack globals None (begin_index (core_view fresh depth)) name
       ∙ ap (option_or (get globals name)) (lookup_indexed no_names
-        (record { interrupt = record { current = None }; value = fresh }) depth false name ∙ nothing_there name)
+      (record { interrupt = record { current = None }; value = fresh }) depth false name ∙ nothing_there name)
       ∙ or_none (get globals name)
 
   pub isolated_shows : IsolatedFrameShowsItsNames Reg
@@ -98,7 +98,7 @@ module _ {Reg : Type 0} where
   isolated_assigned fresh names name v q t =
       lookup_isolated (insert empty q t) fresh names name v q
       ∙ ap (λ o. option_or o (get names q)) (get-insert nat_list_cmp_total empty q t q
-        ∙ ap (λ b. cond b (Some t) (get no_names q)) ((eq_by_cmp_equiv nat_list_cmp_total).refl q))
+      ∙ ap (λ b. cond b (Some t) (get no_names q)) ((eq_by_cmp_equiv nat_list_cmp_total).refl q))
 
   pub isolated_ends : IsolatedEndsBoth Reg
   isolated_ends fresh names name v w = refl
@@ -108,6 +108,15 @@ module _ {Reg : Type 0} where
       ap (λ x. record v { index = w.index; depth = x; lenient = w.lenient }) d ∙ ap (λ x. record v { index = w.index; lenient = x }) l
 
 -- the laws of names and frames
-pub ruleset laws =
-    (get-over, get_agrees, lenient_get_agrees, roots_are_seen, set_global_keeps, set_index_keeps, stack_first, global_keeps, isolated_ends,
-    isolated_keeps)
+pub ruleset laws = (
+  get-over,
+  get_agrees,
+  lenient_get_agrees,
+  roots_are_seen,
+  set_global_keeps,
+  set_index_keeps,
+  stack_first,
+  global_keeps,
+  isolated_ends,
+  isolated_keeps,
+)

@@ -35,7 +35,7 @@ module _ {Reg : Type 0} (fresh : Reg) where
     pub same_answers : (s : S) (t : T) (calls : List Call) (outs : List (Answer × S)) (outs' : List (Answer × T)) → view s ≡ view' t
         → restores s ≡ restores' t
         → Made view restores fresh s calls outs → Made view' restores' fresh t calls outs'
-          → map (left_by view restores) outs ≡ map (left_by view' restores') outs'
+        → map (left_by view restores) outs ≡ map (left_by view' restores') outs'
     same_answers s t [] [] [] e d m n = refl
     same_answers s t [] [] (out' ∷ outs') e d m n = absurd n
     same_answers s t [] (out ∷ outs) outs' e d m n = absurd m
@@ -43,10 +43,10 @@ module _ {Reg : Type 0} (fresh : Reg) where
     same_answers s t (call ∷ calls) (out ∷ outs) [] e d m n = absurd n
     same_answers s t (call ∷ calls) (out ∷ outs) (out' ∷ outs') e d m n =
         let moved =
-            subst (λ v. Makes fresh call v (restores s) out'.0 (view' out'.1) (restores' out'.1)) (sym e)
-            (subst (λ rs. Makes fresh call (view' t) rs out'.0 (view' out'.1) (restores' out'.1)) (sym d) n.0) in
+        subst (λ v. Makes fresh call v (restores s) out'.0 (view' out'.1) (restores' out'.1)) (sym e)
+        (subst (λ rs. Makes fresh call (view' t) rs out'.0 (view' out'.1) (restores' out'.1)) (sym d) n.0) in
         let k =
-            one_call call (view s) (restores s) out.0 (view out.1) (restores out.1) out'.0 (view' out'.1) (restores' out'.1) m.0 moved in
+        one_call call (view s) (restores s) out.0 (view out.1) (restores out.1) out'.0 (view' out'.1) (restores' out'.1) m.0 moved in
         ap (λ a. (a, view out.1, restores out.1) ∷ map (left_by view restores) outs) k.0
         ∙ ap (λ w. (out'.0, w, restores out.1) ∷ map (left_by view restores) outs) k.1
         ∙ ap (λ ss. (out'.0, view' out'.1, ss) ∷ map (left_by view restores) outs) k.2

@@ -45,9 +45,9 @@ some_put false t (Some u) = refl
 put_name : (m : Names) (k q : List ℕ) (t : Tree) → is_some (get (insert m k t) q) ≡ (is_some (get m q) || (bytes_eq k q && nat_eq 0 0))
 put_name m k q t =
     let same : eq_by_cmp (slice_cmp nat_cmp) q k ≡ bytes_eq k q =
-        sym (sym (is_eq-slice_cmp k q) ∙ (eq_by_cmp_equiv nat_list_cmp_total).symm k q) in
+    sym (sym (is_eq-slice_cmp k q) ∙ (eq_by_cmp_equiv nat_list_cmp_total).symm k q) in
     ap is_some (get-insert nat_list_cmp_total m k t q) ∙ some_put (eq_by_cmp (slice_cmp nat_cmp) q k) t (get m q)
-      ∙ ap (λ b. is_some (get m q) || b) (same ∙ and_all (bytes_eq k q))
+    ∙ ap (λ b. is_some (get m q) || b) (same ∙ and_all (bytes_eq k q))
 
 same_place : (b : Bool) (j n : ℕ) → nat_eq j n ≡ b → (P : ℕ → Bool) → P n ≡ false → (P j && b) ≡ false
 same_place true j n e P h = let k : j ≡ n = grind (arith, nat_tests) in ap (λ i. P i && true) k ∙ ap (λ b. b && true) h
@@ -170,7 +170,7 @@ module _ {Reg : Type 0} where
       → S ≡ listed_at ls U q j → S ≡ listed_at ls (Some n) q j
   fits_next ls U q j n S e none fit =
       fit ∙ ap (λ u. has_at ls q j && not (is_at u j)) none ∙ sym (and_all (has_at ls q j))
-        ∙ sym (absent (has_at ls q) n j (nat_eq j n) refl (ap (has_at ls q) e ∙ nothing_after ls q))
+      ∙ sym (absent (has_at ls q) n j (nat_eq j n) refl (ap (has_at ls q) e ∙ nothing_after ls q))
 
   -- the places when the next frame is one without names
   pub fits_nameless : (ls : List (Layer Reg)) (l : Layer Reg) (U : Option ℕ) (q : List ℕ) (j : ℕ) (S : Bool) → own l q ≡ None
@@ -178,7 +178,7 @@ module _ {Reg : Type 0} where
   fits_nameless ls l U q j S none fit =
       let A = has_at ls q j in
       fit ∙ ap (λ b. b && not (is_at U j)) (or_nothing A ∙ ap (λ o. A || (is_some o && nat_eq j (length ls))) (sym none)
-        ∙ sym (has_at-push ls l q j))
+      ∙ sym (has_at-push ls l q j))
 
   put_own : (l : Layer Reg) (k q : List ℕ) (t : Tree) → is_global l ≡ true
       → is_some (own (assigning (insert (assigned l) k t) l) q) ≡ (is_some (own l q) || (bytes_eq k q && nat_eq 0 0))
@@ -192,7 +192,7 @@ module _ {Reg : Type 0} where
   -- a global frame with one more value
   has_at-put : (before after : List (Layer Reg)) (l : Layer Reg) (k q : List ℕ) (t : Tree) (j : ℕ) → is_global l ≡ true
       → has_at (before ++ assigning (insert (assigned l) k t) l ∷ after) q
-        j ≡ (has_at (before ++ l ∷ after) q j || (bytes_eq k q && nat_eq j (length before)))
+      j ≡ (has_at (before ++ l ∷ after) q j || (bytes_eq k q && nat_eq j (length before)))
   has_at-put [] after l k q t zero e = put_own l k q t e
   has_at-put [] after l k q t (suc j) e = no_more (has_at after q j) (bytes_eq k q) (nat_eq (suc j) 0) (suc_not_zero j)
   has_at-put (m ∷ before) after l k q t zero e =
@@ -227,7 +227,7 @@ module _ {Reg : Type 0} where
     fits_listed xs x q j i S T own_is fit noted =
         noted ∙ ap (λ b. b || (is_some (own (f x) q) && nat_eq j i)) fit
         ∙ listed_now (has_at (map f xs) q j) (is_some (own (f x) q)) (nat_eq j i)
-          (λ e. let k : j ≡ i = grind (arith, nat_tests) in ap (has_at (map f xs) q) k ∙ ap is_some (sym own_is))
+        (λ e. let k : j ≡ i = grind (arith, nat_tests) in ap (has_at (map f xs) q) k ∙ ap is_some (sym own_is))
 
     -- no frame is at the unlisted place
     pub fits_past : (xs : List X) (q : List ℕ) (j i : ℕ) (S : Bool) → length xs ≤ i → S ≡ listed_at (map f xs) (Some i) q j
@@ -241,7 +241,7 @@ module _ {Reg : Type 0} where
         → V ≡ (T && not (is_some (own (f x) q) && nat_eq j i)) → V ≡ listed_at (map f xs) (Some i) q j
     fits_undone xs x q j i S T V fit part dropped = dropped
         ∙ undone T S (is_some (own (f x) q) && nat_eq j i) part (ap (λ b. b && (is_some (own (f x) q) && nat_eq j i)) fit
-          ∙ part_undone (has_at (map f xs) q j) (is_some (own (f x) q)) (nat_eq j i))
+        ∙ part_undone (has_at (map f xs) q j) (is_some (own (f x) q)) (nat_eq j i))
         ∙ fit
 
     popped : (xs ys : List X) (x : X) (U : Option ℕ) (q : List ℕ) (j n : ℕ) (S : Bool) → xs ≡ ys ++ x ∷ [] → n ≡ length (map f ys)
@@ -297,15 +297,15 @@ module _ {Reg : Type 0} where
   pub fits_kept : (ls ms : List (Layer Reg)) (U : Option ℕ) (i : ℕ) (k q : List ℕ) (j : ℕ) (S T V : Bool) → is_at U i ≡ false → ms ≡ ls
       → S ≡ listed_at ls U q j
       → T ≡ (S || (bytes_eq k q && nat_eq j i)) → V ≡ (T && not ((bytes_eq k q && is_none (own_at i ms k)) && nat_eq j i))
-        → V ≡ listed_at ms U q j
+      → V ≡ listed_at ms U q j
   fits_kept ls ms U i k q j S T V apart same fit noted dropped =
       dropped
       ∙ ap (λ b. b && not ((bytes_eq k q && is_none (own_at i ms k)) && nat_eq j i))
-        (noted ∙ ap (λ b. b || (bytes_eq k q && nat_eq j i)) fit)
+      (noted ∙ ap (λ b. b || (bytes_eq k q && nat_eq j i)) fit)
       ∙ ap (λ xs. (listed_at ls U q j || (bytes_eq k q && nat_eq j i)) && not ((bytes_eq k q && is_none (own_at i xs k)) && nat_eq j i))
-        same
+      same
       ∙ kept_or_dropped (own_at i ls k) (has_at ls q j) (is_at U j) (bytes_eq k q) (nat_eq j i) (λ b e. had ls k q i j b e)
-        (λ e. same_at U i j false apart e)
+      (λ e. same_at U i j false apart e)
       ∙ sym (ap (λ xs. listed_at xs U q j) same)
     where
       had : (xs : List (Layer Reg)) (k q : List ℕ) (i j : ℕ) → bytes_eq k q ≡ true → nat_eq j i ≡ true

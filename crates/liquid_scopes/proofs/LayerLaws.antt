@@ -47,8 +47,16 @@ module _ {V : Type 0} where
   pub last_stays : (ls : List (Layer V)) (l : Layer V) (o : Option ℕ) → LastGlobal ls o → is_global l ≡ false → LastGlobal (ls ++ l ∷ []) o
   last_stays ls l None p e = plain_push ls l p e
   last_stays ls l (Some i) p e =
-      record { before = p.before; layer = p.layer; after = p.after ++ l ∷ []; is = ap (λ xs. xs ++ l ∷ []) p.is
-      ∙ append_assoc p.before (p.layer ∷ p.after) (l ∷ []); global = p.global; place = p.place; plain = plain_push p.after l p.plain e }
+      record {
+        before = p.before;
+        layer = p.layer;
+        after = p.after ++ l ∷ [];
+        is = ap (λ xs. xs ++ l ∷ []) p.is
+            ∙ append_assoc p.before (p.layer ∷ p.after) (l ∷ []);
+        global = p.global;
+        place = p.place;
+        plain = plain_push p.after l p.plain e;
+      }
 
   pub last_here : (ls : List (Layer V)) (l : Layer V) → is_global l ≡ true → LastGlobal (ls ++ l ∷ []) (Some (length ls))
   last_here ls l e = record { before = ls; layer = l; after = []; is = refl; global = e; place = refl; plain = tt }
@@ -290,7 +298,7 @@ module _ {V Reg : Type 0} (shape : V → Reg) where
   restoring_put_index v (l ∷ ls) q x rs =
       ap (λ u. restoring shape u ls (layer_restores shape l (put_index v q x) ∷ rs)) (index_link l v q x)
       ∙ restoring_put_index (layer_view l v) ls q x (layer_restores shape l (put_index v q x) ∷ rs)
-        ∙ ap (λ r. restoring shape (layer_view l v) ls (r ∷ rs)) (index_restores l v q x)
+      ∙ ap (λ r. restoring shape (layer_view l v) ls (r ∷ rs)) (index_restores l v q x)
 
   registers_restores : (l : Layer V) (v : View Reg) (w : Registers Reg)
       → layer_restores shape l (with_registers w v) ≡ layer_restores shape l v
@@ -306,7 +314,7 @@ module _ {V Reg : Type 0} (shape : V → Reg) where
   restoring_with_registers v (l ∷ ls) w rs =
       ap (λ u. restoring shape u ls (layer_restores shape l (with_registers w v) ∷ rs)) (registers_link l v w)
       ∙ restoring_with_registers (layer_view l v) ls w (layer_restores shape l (with_registers w v) ∷ rs)
-        ∙ ap (λ r. restoring shape (layer_view l v) ls (r ∷ rs)) (registers_restores l v w)
+      ∙ ap (λ r. restoring shape (layer_view l v) ls (r ∷ rs)) (registers_restores l v w)
 
   one_open : (l : Layer V) (v : View Reg) (rs : List (Restore Reg))
       → length (opened (layer_restores shape l v ∷ rs)) ≡ length (opened rs) + 1
@@ -340,7 +348,7 @@ module _ {V Reg : Type 0} (shape : V → Reg) where
   restoring_put_global v (l ∷ ls) q x rs p =
       ap (λ u. restoring shape u ls (layer_restores shape l (put_global v q x) ∷ rs)) (global_link l v q x p.0)
       ∙ restoring_put_global (layer_view l v) ls q x (layer_restores shape l (put_global v q x) ∷ rs) p.1
-        ∙ ap (λ r. restoring shape (layer_view l v) ls (r ∷ rs)) (global_restoring l v q x p.0)
+      ∙ ap (λ r. restoring shape (layer_view l v) ls (r ∷ rs)) (global_restoring l v q x p.0)
 
   assigning_restores : (m : Names) (l : Layer V) (v : View Reg) → layer_restores shape (assigning m l) v ≡ layer_restores shape l v
   assigning_restores m none_layer v = refl
@@ -367,19 +375,19 @@ module _ {V Reg : Type 0} (shape : V → Reg) where
       restoring_push w ls l rs ∙ ap (λ u. layer_restores shape l u ∷ restoring shape w ls rs)
       (ap (λ u. shown_over u ls) e ∙ shown_with_registers v ls (registers_of w))
       ∙ ap (λ k. layer_restores shape l (with_registers (registers_of w) (shown_over v ls)) ∷ k)
-        (ap (λ u. restoring shape u ls rs) e ∙ restoring_with_registers v ls (registers_of w) rs)
+      (ap (λ u. restoring shape u ls rs) e ∙ restoring_with_registers v ls (registers_of w) rs)
 
   pub pops : (v w : View Reg) (ls ls' : List (Layer V)) (l : Layer V) (rs rs' : List (Restore Reg)) → ls ≡ ls' ++ l ∷ []
       → w ≡ with_registers (registers_of w) v
       → ((u : View Reg) → registers_of u ≡ registers_of v → with_registers (registers_of w) u ≡ ending (layer_restores shape l u)
-        (layer_view l u)) → rs' ≡ rs
+      (layer_view l u)) → rs' ≡ rs
       → EndsFirst (restoring shape v ls (scope_base ∷ rs)) (shown_over v ls) (restoring shape w ls' (scope_base ∷ rs')) (shown_over w ls')
   pops v w ls ls' l rs rs' e r f k = record {
     restores = layer_restores shape l (shown_over v ls');
     was_first = ap (λ xs. restoring shape v xs (scope_base ∷ rs)) e ∙ restoring_push v ls' l (scope_base ∷ rs)
         ∙ ap (λ xs. layer_restores shape l (shown_over v ls') ∷ xs) (sym
-          (ap (λ u. restoring shape u ls' (scope_base ∷ rs')) r ∙ restoring_with_registers v ls' (registers_of w) (scope_base ∷ rs')
-          ∙ ap (λ xs. restoring shape v ls' (scope_base ∷ xs)) k));
+        (ap (λ u. restoring shape u ls' (scope_base ∷ rs')) r ∙ restoring_with_registers v ls' (registers_of w) (scope_base ∷ rs')
+        ∙ ap (λ xs. restoring shape v ls' (scope_base ∷ xs)) k));
     is_ended = ap (λ u. shown_over u ls') r ∙ shown_with_registers v ls' (registers_of w) ∙ f (shown_over v ls') (shown_registers v ls')
         ∙ ap (ending (layer_restores shape l (shown_over v ls'))) (sym (ap (shown_over v) e ∙ shown_push v ls' l));
   }
@@ -397,11 +405,11 @@ module _ {V Reg : Type 0} (shape : V → Reg) where
       → ((x : View Reg) → registers_of x ≡ registers_of v → layer_view l (with_registers (registers_of w) x) ≡ beginning fresh f x)
       → ((x : View Reg) → registers_of x ≡ registers_of v → layer_restores shape l (with_registers (registers_of w) x) ≡ restored_by f x)
       → ((x : View Reg) → registers_of x ≡ registers_of w → with_registers (registers_of u) x ≡ ending (layer_restores shape k x)
-        (layer_view k x))
+      (layer_view k x))
       → k ≡ l → u ≡ v
   given_back v w u l k fresh f e d b r n same =
       d ∙ ap (with_registers (registers_of u)) e ∙ n (with_registers (registers_of w) v) refl
       ∙ ap (λ m. ending (layer_restores shape m (with_registers (registers_of w) v)) (layer_view m (with_registers (registers_of w) v)))
-        same
+      same
       ∙ ap (λ y. ending y (layer_view l (with_registers (registers_of w) v))) (r v refl)
       ∙ ap (ending (restored_by f v)) (b v refl) ∙ ending_begun fresh f v

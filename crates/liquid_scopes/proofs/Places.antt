@@ -21,7 +21,7 @@ last-cons x (y ∷ ys) =
     let e : length (x ∷ y ∷ ys) - 1 ≡ suc (length (y ∷ ys) - 1) = omega arith in
     let h : length (y ∷ ys) - 1 < length (y ∷ ys) = omega arith in
     ap (slice_get (x ∷ y ∷ ys)) e ∙ some_or (slice_get (y ∷ ys) (length (y ∷ ys) - 1)) (Some x) _
-      (slice_get-get_or (y ∷ ys) (length (y ∷ ys) - 1) 0 h)
+    (slice_get-get_or (y ∷ ys) (length (y ∷ ys) - 1) 0 h)
 
 place_or : (n : ℕ) (S : Option ℕ) → option_or (option_map (λ i. suc n + i) S) (Some n) ≡ option_map (λ i. n + i)
     (option_or (option_map (λ i. suc i) S) (Some 0))
@@ -34,7 +34,7 @@ place_later n (Some i) = let e : suc n + i ≡ n + suc i = omega arith in ap (λ
 
 last_joined : (b : Bool) (n : ℕ) (R : List ℕ) (S : Option ℕ) → slice_get R (length R - 1) ≡ option_map (λ i. suc n + i) S
     → slice_get (cond b (n ∷ R) R) (length (cond b (n ∷ R) R) - 1) ≡ option_map (λ i. n + i)
-      (option_or (option_map (λ i. suc i) S) (cond b (Some 0) None))
+    (option_or (option_map (λ i. suc i) S) (cond b (Some 0) None))
 last_joined true n R S e = last-cons n R ∙ ap (λ o. option_or o (Some n)) e ∙ place_or n S
 last_joined false n R S e = e ∙ place_later n S
 
@@ -89,7 +89,7 @@ module _ {V : Type 0} (P : Layer V → Bool) where
     put_places s xs i x k t p a =
         let m = insert (assigned p.layer) k t in
         ap (places_where P 0) (set_put f xs i x k t p a) ∙ places-same 0 p.before p.after (assigning m p.layer) p.layer (s m p.layer)
-          ∙ sym (ap (places_where P 0) p.is)
+        ∙ sym (ap (places_where P 0) p.is)
 
 -- assigning in a layer makes it neither global nor sandboxed
 pub assigning_sandboxed : {V : Type 0} (m : Names) (l : Layer V) → is_sandboxed (assigning m l) ≡ is_sandboxed l
@@ -110,8 +110,15 @@ module _ {V : Type 0} where
   global_step : (l : Layer V) (ls : List (Layer V)) (o : Option ℕ) → LastGlobal ls o
       → LastGlobal (l ∷ ls) (option_or (option_map (λ i. suc i) o) (cond (is_global l) (Some 0) None))
   global_step l ls (Some i) p =
-      record { before = l ∷ p.before; layer = p.layer; after = p.after; is = ap (λ xs. l ∷ xs) p.is; global = p.global;
-      place = ap suc p.place; plain = p.plain }
+      record {
+        before = l ∷ p.before;
+        layer = p.layer;
+        after = p.after;
+        is = ap (λ xs. l ∷ xs) p.is;
+        global = p.global;
+        place = ap suc p.place;
+        plain = p.plain;
+      }
   global_step none_layer ls None p = (refl, p)
   global_step (stack_layer d n) ls None p = (refl, p)
   global_step (global_layer g) ls None p =

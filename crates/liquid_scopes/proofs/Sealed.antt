@@ -128,14 +128,14 @@ module _ {V Reg : Type 0} where
   pub sealed_here : (v : View Reg) (ls : List (Layer V)) (q : List ℕ) (listed U O : Option ℕ) (i : ℕ)
       → O ≡ seen_over listed (last_seal ls) U → O ≡ Some i
       → TopOf (listed_at ls U q) listed → has_at ls q i ≡ true → comes_from_seal (shown_over v ls) q ≡ sealed_by (Some i) (last_seal ls)
-        (seals_at ls q) (comes_from_seal v q)
+      (seals_at ls q) (comes_from_seal v q)
   sealed_here v ls q listed None O i over is h has = absurd (cc)
   sealed_here v ls q listed (Some u) O i over is h has =
       by_top v ls q (Some i) (asked ls q listed u i (is_under u (last_seal ls)) (is_under u listed) refl (sym over ∙ is) h has)
 
   missed : (v : View Reg) (ls : List (Layer V)) (q : List ℕ) (listed : Option ℕ) (u i : ℕ) (c : Bool) → cond c None (Some u) ≡ Some i
       → TopOf (listed_at ls (Some u) q) listed → has_at ls q i ≡ false
-        → comes_from_seal (shown_over v ls) q ≡ sealed_by listed (last_seal ls) (seals_at ls q) (comes_from_seal v q)
+      → comes_from_seal (shown_over v ls) q ≡ sealed_by listed (last_seal ls) (seals_at ls q) (comes_from_seal v q)
   missed v ls q listed u i true e h none = absurd (cc)
   missed v ls q listed u i false e h none = by_top v ls q listed (absent_top ls q listed u (ap (has_at ls q) (same_Some u i e) ∙ none) h)
 
@@ -143,21 +143,21 @@ module _ {V Reg : Type 0} where
   pub sealed_past : (v : View Reg) (ls : List (Layer V)) (q : List ℕ) (listed U O : Option ℕ) (i : ℕ)
       → O ≡ seen_over listed (last_seal ls) U → O ≡ Some i
       → TopOf (listed_at ls U q) listed → has_at ls q i ≡ false → comes_from_seal (shown_over v ls) q ≡ sealed_by listed (last_seal ls)
-        (seals_at ls q) (comes_from_seal v q)
+      (seals_at ls q) (comes_from_seal v q)
   sealed_past v ls q listed None O i over is h none = absurd (cc)
   sealed_past v ls q listed (Some u) O i over is h none =
       missed v ls q listed u i (is_under u (last_seal ls) || is_under u listed) (sym over ∙ is) h none
 
   under_listed : (v : View Reg) (ls : List (Layer V)) (q : List ℕ) (listed : Option ℕ) (u : ℕ) → is_under u listed ≡ true
       → TopOf (listed_at ls (Some u) q) listed → comes_from_seal (shown_over v ls) q ≡ sealed_by listed (last_seal ls) (seals_at ls q)
-        (comes_from_seal v q)
+      (comes_from_seal v q)
   under_listed v ls q None u e h = absurd (cc)
   under_listed v ls q (Some k) u e h = let lt : u < k = grind (arith, nat_tests) in by_top v ls q (Some k) (top_over (has_at ls q) u k lt h)
 
   under_seal : (v : View Reg) (ls : List (Layer V)) (q : List ℕ) (listed : Option ℕ) (u : ℕ) (has : Bool) → has_at ls q u ≡ has
       → is_under u (last_seal ls) ≡ true → is_under u listed ≡ false
       → TopOf (listed_at ls (Some u) q) listed → comes_from_seal (shown_over v ls) q ≡ sealed_by listed (last_seal ls) (seals_at ls q)
-        (comes_from_seal v q)
+      (comes_from_seal v q)
   under_seal v ls q listed u true has e f h =
       by_top v ls q (Some u) (top_here (has_at ls q) u listed f has h)
       ∙ hidden_alike listed (last_seal ls) u (seals_at ls q) (comes_from_seal v q) e f
@@ -166,7 +166,7 @@ module _ {V Reg : Type 0} where
   unasked : (v : View Reg) (ls : List (Layer V)) (q : List ℕ) (listed : Option ℕ) (u : ℕ) (a b : Bool) → is_under u (last_seal ls) ≡ a
       → is_under u listed ≡ b → cond (a || b) None (Some u) ≡ None
       → TopOf (listed_at ls (Some u) q) listed → comes_from_seal (shown_over v ls) q ≡ sealed_by listed (last_seal ls) (seals_at ls q)
-        (comes_from_seal v q)
+      (comes_from_seal v q)
   unasked v ls q listed u a true ea eb e h = under_listed v ls q listed u eb h
   unasked v ls q listed u true false ea eb e h = under_seal v ls q listed u (has_at ls q u) refl ea eb h
   unasked v ls q listed u false false ea eb e h = absurd (cc)
@@ -175,7 +175,7 @@ module _ {V Reg : Type 0} where
   pub sealed_unasked : (v : View Reg) (ls : List (Layer V)) (q : List ℕ) (listed U O : Option ℕ) → O ≡ seen_over listed (last_seal ls) U
       → O ≡ None
       → TopOf (listed_at ls U q) listed → comes_from_seal (shown_over v ls) q ≡ sealed_by listed (last_seal ls) (seals_at ls q)
-        (comes_from_seal v q)
+      (comes_from_seal v q)
   sealed_unasked v ls q listed None O over is h =
       by_top v ls q listed (top_same (listed_at ls None q) (has_at ls q) listed (λ j. and_true (has_at ls q j)) h)
   sealed_unasked v ls q listed (Some u) O over is h =

@@ -74,7 +74,7 @@ module _ {V Reg : Type 0} where
       let k : u ≡ i = same_Some u i e in
       let here : w ≡ own_at u ls q = own ∙ ap (λ j. own_at j ls q) (sym k) in
       here ∙ sym (value_here S u (own_at u ls q) (lookup v q) ea) ∙ sym
-        (sought v ls q (Some u) S (top_here (has_at ls q) u listed eb (sym (ap is_some here) ∙ some) h) s)
+      (sought v ls q (Some u) S (top_here (has_at ls q) u listed eb (sym (ap is_some here) ∙ some) h) s)
 
   -- the unlisted frame is the last one of the name
   pub unlisted_gives : (v : View Reg) (ls : List (Layer V)) (q : List ℕ) (listed S U O : Option ℕ) (i : ℕ) (w : Option Tree)
@@ -92,7 +92,7 @@ module _ {V Reg : Type 0} where
   passed : (v : View Reg) (ls : List (Layer V)) (q : List ℕ) (listed S : Option ℕ) (u i : ℕ) (c : Bool) (w : Option Tree)
       → cond c None (Some u) ≡ Some i
       → TopOf (listed_at ls (Some u) q) listed → S ≡ last_seal ls → None ≡ own_at i ls q
-        → w ≡ two_looks listed S (own_at_top listed ls q) (lookup v q) → w ≡ lookup (shown_over v ls) q
+      → w ≡ two_looks listed S (own_at_top listed ls q) (lookup v q) → w ≡ lookup (shown_over v ls) q
   passed v ls q listed S u i true w e h s none is = absurd (cc)
   passed v ls q listed S u i false w e h s none is =
       let k : u ≡ i = same_Some u i e in
@@ -102,7 +102,7 @@ module _ {V Reg : Type 0} where
   pub passed_unlisted : (v : View Reg) (ls : List (Layer V)) (q : List ℕ) (listed S U O : Option ℕ) (i : ℕ) (w : Option Tree)
       → O ≡ seen_over listed S U → O ≡ Some i
       → TopOf (listed_at ls U q) listed → S ≡ last_seal ls → None ≡ own_at i ls q
-        → w ≡ two_looks listed S (own_at_top listed ls q) (lookup v q) → w ≡ lookup (shown_over v ls) q
+      → w ≡ two_looks listed S (own_at_top listed ls q) (lookup v q) → w ≡ lookup (shown_over v ls) q
   passed_unlisted v ls q listed S None O i w over is h s none e = absurd (cc)
   passed_unlisted v ls q listed S (Some u) O i w over is h s none e =
       passed v ls q listed S u i (is_under u S || is_under u listed) w (sym over ∙ is) h s none e
@@ -110,7 +110,7 @@ module _ {V Reg : Type 0} where
   under_listed : (v : View Reg) (ls : List (Layer V)) (q : List ℕ) (listed S : Option ℕ) (u : ℕ) (w : Option Tree)
       → is_under u listed ≡ true
       → TopOf (listed_at ls (Some u) q) listed → S ≡ last_seal ls → w ≡ two_looks listed S (own_at_top listed ls q) (lookup v q)
-        → w ≡ lookup (shown_over v ls) q
+      → w ≡ lookup (shown_over v ls) q
   under_listed v ls q None S u w e h s is = absurd (cc)
   under_listed v ls q (Some k) S u w e h s is =
       let lt : u < k = grind (arith, nat_tests) in at_listed v ls q (Some k) S w (top_over (has_at ls q) u k lt h) s is
@@ -118,7 +118,7 @@ module _ {V Reg : Type 0} where
   under_seal : (v : View Reg) (ls : List (Layer V)) (q : List ℕ) (listed S : Option ℕ) (u : ℕ) (has : Bool) (w : Option Tree)
       → has_at ls q u ≡ has → is_under u S ≡ true → is_under u listed ≡ false
       → TopOf (listed_at ls (Some u) q) listed → S ≡ last_seal ls → w ≡ two_looks listed S (own_at_top listed ls q) (lookup v q)
-        → w ≡ lookup (shown_over v ls) q
+      → w ≡ lookup (shown_over v ls) q
   under_seal v ls q listed S u true w has e f h s is =
       is ∙ hidden_too listed S u (own_at_top listed ls q) (lookup v q) e f
       ∙ sym (sought v ls q (Some u) S (top_here (has_at ls q) u listed f has h) s ∙ hidden S u (own_at u ls q) (lookup v q) e)
@@ -127,7 +127,7 @@ module _ {V Reg : Type 0} where
   unseen : (v : View Reg) (ls : List (Layer V)) (q : List ℕ) (listed S : Option ℕ) (u : ℕ) (a b : Bool) (w : Option Tree) → is_under u S ≡ a
       → is_under u listed ≡ b → cond (a || b) None (Some u) ≡ None
       → TopOf (listed_at ls (Some u) q) listed → S ≡ last_seal ls → w ≡ two_looks listed S (own_at_top listed ls q) (lookup v q)
-        → w ≡ lookup (shown_over v ls) q
+      → w ≡ lookup (shown_over v ls) q
   unseen v ls q listed S u true true w ea eb e h s is = under_listed v ls q listed S u w eb h s is
   unseen v ls q listed S u true false w ea eb e h s is = under_seal v ls q listed S u (has_at ls q u) w refl ea eb h s is
   unseen v ls q listed S u false true w ea eb e h s is = under_listed v ls q listed S u w eb h s is
@@ -137,7 +137,7 @@ module _ {V Reg : Type 0} where
   pub no_unlisted : (v : View Reg) (ls : List (Layer V)) (q : List ℕ) (listed S U O : Option ℕ) (w : Option Tree) → O ≡ seen_over listed S U
       → O ≡ None
       → TopOf (listed_at ls U q) listed → S ≡ last_seal ls → w ≡ two_looks listed S (own_at_top listed ls q) (lookup v q)
-        → w ≡ lookup (shown_over v ls) q
+      → w ≡ lookup (shown_over v ls) q
   no_unlisted v ls q listed S None O w over is h s e =
       at_listed v ls q listed S w (top_same (listed_at ls None q) (has_at ls q) listed (λ j. and_true (has_at ls q j)) h) s e
   no_unlisted v ls q listed S (Some u) O w over is h s e =

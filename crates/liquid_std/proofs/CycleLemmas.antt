@@ -63,7 +63,7 @@ module _ (t : Token) where
   pub value_read : (token : TagToken) (attempt : TryMatchToken Expression) (result : Result Expression Error) → IsToken token t
       → Tries expression_of token attempt (expect_value t)
       → ((u : Token) → FailedToken attempt u → Gives (λ x. x) result (or_unexpected u (matched_of attempt)))
-        → Gives expression_of result (or_unexpected t (expect_value t))
+      → Gives expression_of result (or_unexpected t (expect_value t))
   value_read token (Matches x) (Ok y) is tries gives =
       ap (or_unexpected t) tries ∙ ap (λ q. ok_then q (λ a. Ok (expression_of a))) (gives t tt)
   value_read token (Matches x) (Err e) is tries gives = not_refused x (expect_value t) (told e) (gives t tt)
@@ -71,7 +71,7 @@ module _ (t : Token) where
       ap (or_unexpected t) tries.0 ∙ ap (λ q. ok_then q (λ a. Ok (expression_of a))) (gives t (subst (λ k. IsToken k t) (sym tries.1) is))
   value_read token (Fails u) (Err e) is tries gives =
       subst (λ o. IfSome (told e) (λ r. or_unexpected t o ≡ Err r)) (sym tries.0)
-        (refused_alike (told e) (gives t (subst (λ k. IsToken k t) (sym tries.1) is)))
+      (refused_alike (told e) (gives t (subst (λ k. IsToken k t) (sym tries.1) is)))
 
   module _ (ts : Tokens) where
     -- the name, and the values after it

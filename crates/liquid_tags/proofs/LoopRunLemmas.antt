@@ -75,7 +75,7 @@ module _ {Reg F T P B Q : Type 0} (s : Setting Reg F T P B Q) (partials : List �
   -- a turn after a body
   after_turn : (place k : ℕ) (turn : TurnShape) (p : ProgressShape) (rest : ProgressShape → Action Reg) (v : View Reg) → place ≡ suc k
       → follows (cond (is_left place v.interrupt) end_turn turn) p rest (left_by place v) ≡ cond (leaves v.interrupt) (done (cleared v))
-        (follows turn p rest (cleared v))
+      (follows turn p rest (cleared v))
   after_turn place k turn p rest v is_later =
       followed (is_left place v.interrupt) turn p rest (left_by place v)
       ∙ ap (λ (b : Bool). cond b (done (left_by place v)) (follows turn p rest (left_by place v))) (is_left_by place k v.interrupt is_later)
@@ -88,7 +88,7 @@ module _ {Reg F T P B Q : Type 0} (s : Setting Reg F T P B Q) (partials : List �
   turns_after [] place k size n count v is_later counted =
       ap (λ c. takes_turns c (loop_at [] place size n) v) counted
       ∙ asked v (after_turn place k end_turn (loop_at [] (place + 1) size n) (takes_turns 0) v is_later
-        ∙ either_done (leaves v.interrupt) (cleared v))
+      ∙ either_done (leaves v.interrupt) (cleared v))
   turns_after (t ∷ ts) place k size n count v is_later counted =
       ap (λ c. takes_turns c (loop_at (t ∷ ts) place size n) v) counted
       ∙ asked v (
@@ -96,7 +96,7 @@ module _ {Reg F T P B Q : Type 0} (s : Setting Reg F T P B Q) (partials : List �
       ∙ ap (λ (r : Run Reg). cond (leaves v.interrupt) (done (cleared v)) r)
       (item_follows place size (length (t ∷ ts)) n t ts (cleared v)
       ∙ goes_on_same (item_run s.fresh name size (part_at parts 0) place t (cleared v)).refusal
-        (item_run s.fresh name size (part_at parts 0) place t (cleared v))
+      (item_run s.fresh name size (part_at parts 0) place t (cleared v))
       (takes_turns (length (t ∷ ts)) (loop_at ts (place + 1) size n)) (after_body s.fresh name size (part_at parts 0) (place + 1) ts)
       (λ w. turns_after ts (place + 1) place size n (length (t ∷ ts)) w (add-one place) refl)))
 
@@ -124,4 +124,4 @@ module _ {Reg F : Type 0} (fresh : Reg) (m : FilterMeaning F) where
   pub loop_runs : LoopRuns fresh m
   loop_runs finds depth name series ps =
       loop_played (library fresh m finds) (partials_at (library fresh m finds) depth) name series
-        (run_parts (library fresh m finds) (partials_at (library fresh m finds) depth) ps)
+      (run_parts (library fresh m finds) (partials_at (library fresh m finds) depth) ps)

@@ -40,14 +40,14 @@ valued name e more (Err refusal) = refl
 coloned : (name : List ℕ) (d e : Token) (more : List Token) (r : Result (Unit {0}) Refusal)
     → ok_then r (λ w. ok_then (or_unexpected e (expect_value e)) (λ value. ok_then (pairs_given more) (with_pair name value)))
     ≡ ok_then (ok_then (ok_then r (on (following d (e ∷ more))))
-        (λ (sign : Unit {0} × Tokens). ok_then (next_as expect_value sign.1) (with_name name))) going_on
+    (λ (sign : Unit {0} × Tokens). ok_then (next_as expect_value sign.1) (with_name name))) going_on
 coloned name d e more (Ok x) = valued name e more (or_unexpected e (expect_value e))
 coloned name d e more (Err refusal) = refl
 
 coloned_last : (name : List ℕ) (d : Token) (r : Result (Unit {0}) Refusal)
     → ok_then r (λ w. missing_after d)
     ≡ ok_then (ok_then (ok_then r (on (following d []))) (λ (sign : Unit {0} × Tokens). ok_then (next_as expect_value sign.1)
-        (with_name name))) going_on
+    (with_name name))) going_on
 coloned_last name d (Ok x) = refl
 coloned_last name d (Err refusal) = refl
 
@@ -58,7 +58,7 @@ named r =
 
 named_on : (n d e : Token) (more : List Token) (r : Result (List ℕ) Refusal)
     → ok_then r (λ name. ok_then (colon d) (λ w. ok_then (or_unexpected e (expect_value e))
-      (λ value. ok_then (pairs_given more) (with_pair name value))))
+    (λ value. ok_then (pairs_given more) (with_pair name value))))
     ≡ named (ok_then r (on (following n (d ∷ e ∷ more))))
 named_on n d e more (Ok name) = coloned name d e more (colon d)
 named_on n d e more (Err refusal) = refl
@@ -100,16 +100,16 @@ pub pairs_of_first : (ts : List Token) (given : Token × Tokens) → first_of ts
     → pairs_given ts ≡ ok_then (comma given.0) (λ u. ok_then (pair_given given.1) going_on)
 pairs_of_first ts given e =
     ap pairs_given (first_is ts given e) ∙ pairs_step given.0 given.1.left
-      ∙ ap (λ rest. ok_then (comma given.0) (λ u. ok_then (pair_given rest) going_on)) (first_stands ts given e)
+    ∙ ap (λ rest. ok_then (comma given.0) (λ u. ok_then (pair_given rest) going_on)) (first_stands ts given e)
 
 -- a name, a colon and a value are a pair
 pub pair_taken : (ts named signed valued : Tokens) (name text : List ℕ) (u : Unit {0}) (e : ExpressionShape)
     → next_as expect_identifier ts ≡ Ok (name, named) → next_as expect_colon named ≡ Ok (u, signed)
-      → next_as expect_value signed ≡ Ok (e, valued) → text ≡ name
+    → next_as expect_value signed ≡ Ok (e, valued) → text ≡ name
     → pair_given ts ≡ Ok ((text, e), valued)
 pair_taken ts named signed valued name text u e is_named is_signed is_valued same =
     ap (λ r. ok_then r (λ (x : List ℕ × Tokens). ok_then (next_as expect_colon x.1)
-        (λ (sign : Unit {0} × Tokens). ok_then (next_as expect_value sign.1) (with_name x.0)))) is_named
+    (λ (sign : Unit {0} × Tokens). ok_then (next_as expect_value sign.1) (with_name x.0)))) is_named
     ∙ ap (λ r. ok_then r (λ (sign : Unit {0} × Tokens). ok_then (next_as expect_value sign.1) (with_name name))) is_signed
     ∙ ap (λ r. ok_then r (with_name name)) is_valued
     ∙ ap (λ (n : List ℕ). with_name n (e, valued)) (sym same)
@@ -135,12 +135,12 @@ joined done pair (Err refusal) = refl
 pub pair_read : (done after : List Pair) (ts : List Token) (given : Token × Tokens) (pair : Pair) (rest : Tokens) (u : Unit {0})
     (meant : Result (List Pair) Refusal)
     → meant ≡ read_on done ts → first_of ts ≡ Some given → comma given.0 ≡ Ok u → pair_given given.1 ≡ Ok (pair, rest) → after ≡ done
-      ++ pair ∷ []
+    ++ pair ∷ []
     → meant ≡ read_on after rest.left
 pair_read done after ts given pair rest u meant so_far first is_comma is_pair pushed =
     so_far
     ∙ ap (λ r. ok_then r (λ qs. Ok (done ++ qs))) (pairs_of_first ts given first
-      ∙ ap (λ r. ok_then r (λ w. ok_then (pair_given given.1) going_on)) is_comma ∙ ap (λ r. ok_then r going_on) is_pair)
+    ∙ ap (λ r. ok_then r (λ w. ok_then (pair_given given.1) going_on)) is_comma ∙ ap (λ r. ok_then r going_on) is_pair)
     ∙ joined done pair (pairs_given rest.left)
     ∙ ap (λ ps. read_on ps rest.left) (sym pushed)
 
@@ -150,16 +150,16 @@ pub comma_refused : (done : List Pair) (ts : List Token) (given : Token × Token
 comma_refused done ts given o meant so_far first refused =
     subst (λ q. IfSome o (λ r. q ≡ Err r)) (sym (so_far ∙ ap (λ r. ok_then r (λ qs. Ok (done ++ qs))) (pairs_of_first ts given first)))
     (then_refused o (ok_then (comma given.0) (λ u. ok_then (pair_given given.1) going_on)) (λ qs. Ok (done ++ qs))
-      (then_refused o (comma given.0) (λ u. ok_then (pair_given given.1) going_on) refused))
+    (then_refused o (comma given.0) (λ u. ok_then (pair_given given.1) going_on) refused))
 
 -- the refusal of what follows a comma
 pub pair_refused : (done : List Pair) (ts : List Token) (given : Token × Tokens) (u : Unit {0}) (o : Option Refusal)
     (meant : Result (List Pair) Refusal)
     → meant ≡ read_on done ts → first_of ts ≡ Some given → comma given.0 ≡ Ok u → IfSome o (λ r. pair_given given.1 ≡ Err r)
-      → IfSome o (λ r. meant ≡ Err r)
+    → IfSome o (λ r. meant ≡ Err r)
 pair_refused done ts given u o meant so_far first is_comma refused =
     subst (λ q. IfSome o (λ r. q ≡ Err r)) (sym (so_far ∙ ap (λ r. ok_then r (λ qs. Ok (done ++ qs)))
-      (pairs_of_first ts given first ∙ ap (λ r. ok_then r (λ w. ok_then (pair_given given.1) going_on)) is_comma)))
+    (pairs_of_first ts given first ∙ ap (λ r. ok_then r (λ w. ok_then (pair_given given.1) going_on)) is_comma)))
     (then_refused o (ok_then (pair_given given.1) going_on) (λ qs. Ok (done ++ qs)) (then_refused o (pair_given given.1) going_on refused))
 
 no_token : (ts : List Token) → first_of ts ≡ None → ts ≡ []

@@ -43,18 +43,18 @@ either : (q f n : List ℕ) (l t : Tree) → (n ≢ f) → cond (same q f) (Some
 either q f n l t apart =
     elim (same q f) as (λ b. same q f ≡ b → cond b (Some l) (cond (same q n) (Some t) None) ≡ cond (same q n) (Some t)
     (cond b (Some l) None)) [
-  | true ↦ λ is_f. elim (same q n) as (λ c. same q n ≡ c → Some l ≡ cond c (Some t) (Some l)) [
-    | true ↦ λ is_n. absurd (apart (sym (is_same q n is_n) ∙ is_same q f is_f))
-    | false ↦ λ is_n. refl
-  ] refl
-  | false ↦ λ is_f. refl
-] refl
+      | true ↦ λ is_f. elim (same q n) as (λ c. same q n ≡ c → Some l ≡ cond c (Some t) (Some l)) [
+        | true ↦ λ is_n. absurd (apart (sym (is_same q n is_n) ∙ is_same q f is_f))
+        | false ↦ λ is_n. refl
+      ] refl
+      | false ↦ λ is_f. refl
+    ] refl
 
 wanted : (q f n : List ℕ) (l t : Tree) → get (both f n l t) q ≡ cond (same q n) (Some t) (cond (same q f) (Some l) None)
 wanted q f n l t =
     get-insert nat_list_cmp_total (insert empty f l) n t q
     ∙ ap (cond (same q n) (Some t)) (get-insert nat_list_cmp_total empty f l q
-      ∙ ap (cond (same q f) (Some l)) (get-empty (slice_cmp nat_cmp) q))
+    ∙ ap (cond (same q f) (Some l)) (get-empty (slice_cmp nat_cmp) q))
 
 in_order : (f n : List ℕ) (l t : Tree) → (n ≢ f) → names_from ((f, l) ∷ (n, t) ∷ []) ≡ both f n l t
 in_order f n l t apart =
@@ -182,6 +182,6 @@ second_written (e ∷ (b, v) ∷ []) fs k n w t two sorted last is_n tw is_fs =
       refl,
       is_fs ∙ ap (λ x. insert_entry string_cmp (e ∷ (b, v) ∷ []) x w) (sym same)
           ∙ ap (λ o. match_ordering o ((b, w) ∷ e ∷ (b, v) ∷ []) ((e.0, w) ∷ (b, v) ∷ []) (e ∷ insert_entry string_cmp ((b, v) ∷ []) b w))
-            (above e.0 b (below e.0 b sorted))
+          (above e.0 b (below e.0 b sorted))
           ∙ ap (λ o. e ∷ match_ordering o ((b, w) ∷ (b, v) ∷ []) ((b, w) ∷ []) ((b, v) ∷ (b, w) ∷ [])) (same_key b),
     )

@@ -18,7 +18,7 @@ inserted es k v = members_view-insert_entry es k v
 pub rewritten : {F : Type 0} (T : F → String Global → Value → Bool → Value → F → Type 0) (place_in : F → ℕ) (given : F → Numbers)
     → ((k : String Global) (v : Value) (b : Bool) (w : Value) (g h : F) → T g k v b w h
     → (b ≡ true) × (view w ≡ written (flag_at (given g) (place_in g)) (number_at (given g) (place_in g)) (view v))
-      × (place_in h ≡ next_place (place_in g)) × (given h ≡ given g))
+    × (place_in h ≡ next_place (place_in g)) × (given h ≡ given g))
     → (g : F) (es kept : List Entry) → RetainsPairs T g es kept → members_view kept ≡ written_over (given g) (place_in g) (members_view es)
 rewritten T place_in given each g [] kept is = ap members_view is
 rewritten T place_in given each g (e ∷ es) kept (b, w, h, rest, step, others, is) =
@@ -28,4 +28,4 @@ rewritten T place_in given each g (e ∷ es) kept (b, w, h, rest, step, others, 
     ∙ ap (λ t. member (string_bytes e.0) t (members_view rest)) said.1
     ∙ ap (member (string_bytes e.0) (written (flag_at (given g) (place_in g)) (number_at (given g) (place_in g)) (view e.1)))
     (rewritten T place_in given each h es rest others ∙ ap (λ n. written_over (given h) n (members_view es)) said.2
-      ∙ ap (λ f. written_over f (next_place (place_in g)) (members_view es)) said.3)
+    ∙ ap (λ f. written_over f (next_place (place_in g)) (members_view es)) said.3)

@@ -27,7 +27,7 @@ module _ {F T B : Type 0} where
     where
       go : (b : Bool) → (find (slice_cmp nat_cmp) name es ≡ Some reading → size_read reading ≤ size_all (map (λ e. e.1) es))
           → cond b (Some e.1) (find (slice_cmp nat_cmp) name es) ≡ Some reading
-            → size_read reading ≤ size_read e.1 + size_all (map (λ e. e.1) es)
+          → size_read reading ≤ size_read e.1 + size_all (map (λ e. e.1) es)
       go true later k = let s : size_read e.1 ≡ size_read reading = ap size_read (same_Some e.1 reading k) in omega (arith, s)
       go false later k = omega (arith, later k)
 
@@ -37,7 +37,7 @@ module _ {F T B : Type 0} where
     where
       go : (found : Option (Result (Nodes F T B) Refusal)) → get finds name ≡ found
           → ◌≡◌ {A = Result (Nodes F T B) Refusal} (elim found [ None ↦ Err (unknown_partial name (keys finds)) | Some reading ↦ reading ])
-            (Ok ns) → size_nodes ns ≤ size_all (values finds)
+          (Ok ns) → size_nodes ns ≤ size_all (values finds)
       go None g k = absurd (subst IsErr k tt)
       go (Some reading) g k =
           let s : size_read reading ≡ size_nodes ns = ap size_read k in

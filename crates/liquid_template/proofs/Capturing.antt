@@ -70,10 +70,10 @@ module _ (b o d : Output) (empty : o.sunk.taken ≡ []) (no_bytes : o.bytes ≡ 
 
     cause_silent : (front : List (Step Reg)) (step : Step Reg) (part rest : List ℕ) (refusal : Refusal)
         → SinkFails step rest (checkpoints front) (length (pieces front)) o d refusal
-          ⊎ GateRefuses step part (checkpoints front) (length (pieces front)) o d refusal
+        ⊎ GateRefuses step part (checkpoints front) (length (pieces front)) o d refusal
         → SinkFails (silent_step step) [] (checkpoints (map silent_step front)) (length (pieces (map silent_step front))) b after refusal
-          ⊎ GateRefuses (silent_step step) [] (checkpoints (map silent_step front))
-          (length (pieces (map silent_step front))) b after refusal
+        ⊎ GateRefuses (silent_step step) [] (checkpoints (map silent_step front))
+        (length (pieces (map silent_step front))) b after refusal
     cause_silent front step part rest refusal (inl h) = absurd (no_more d.sunk.failures o.sunk.failures failures h.failures)
     cause_silent front step part rest refusal (inr h) =
         inr (record { nothing = refl; failures = refl; refused = refused_silent h.refused; reason = h.reason })
@@ -82,13 +82,13 @@ module _ (b o d : Output) (empty : o.sunk.taken ≡ []) (no_bytes : o.bytes ≡ 
             × Passes o.bytes (length (pieces front)) d.bytes) ⊎ ((0 < length step.piece) × Passes o.turns (checkpoints front) d.turns
             × Refuses o.bytes (length (pieces front)) (length step.piece) d.bytes)
             → ((step.checkpoint ≡ true) × Refuses b.turns (checkpoints (map silent_step front)) 1 d.turns
-              × Passes b.bytes (length (pieces (map silent_step front))) b.bytes)
-              ⊎ ((0 < 0) × Passes b.turns (checkpoints (map silent_step front)) d.turns
-              × Refuses b.bytes (length (pieces (map silent_step front))) 0 b.bytes)
+            × Passes b.bytes (length (pieces (map silent_step front))) b.bytes)
+            ⊎ ((0 < 0) × Passes b.turns (checkpoints (map silent_step front)) d.turns
+            × Refuses b.bytes (length (pieces (map silent_step front))) 0 b.bytes)
         refused_silent (inl x) = inl (
           x.0,
           refuses_at b.turns d.turns (checkpoints front) (checkpoints (map silent_step front)) 1 (sym (checkpoints-silent front))
-            (subst (λ t. Refuses t (checkpoints front) 1 d.turns) turns x.1),
+              (subst (λ t. Refuses t (checkpoints front) 1 d.turns) turns x.1),
           bytes_none front,
         )
         refused_silent (inr x) = absurd (never_bytes (length (pieces front)) (length step.piece) x.2)

@@ -47,7 +47,7 @@ module _ {Reg F T P B Q N R : Type 0} (s : Setting Reg F T P B Q) (m : NodeMeani
   one_turn : (partials : List ℕ → Action Reg) (n : N) (parts : List (Action Reg)) (left : ℕ) (progress : R) (v : View Reg) →
       asked_in (turns s partials m n parts (suc left) progress v) ≡ 1 + asked_in (answered s partials m n parts
       (m.takes n progress v).answer (m.takes n progress v).progress (turns s partials m n parts left)
-        (with_written (m.takes n progress v).written v))
+      (with_written (m.takes n progress v).written v))
   unfolding turns
   one_turn partials n parts left progress v = refl
 

@@ -41,12 +41,12 @@ module _ {Reg : Type 0} where
   pub renders_framed : (fresh : Reg) (frame : FrameShape) (trace : Option (List ℕ)) (inner : Action Reg) (v v1 w x : View Reg)
       (rs rs1 rs2 rs3 : List (Restore Reg)) (b a : Output) (answer answer' : Result (Unit {0}) Error)
       → v1 ≡ beginning fresh frame v → rs1 ≡ restored_by frame v ∷ rs → rs2 ≡ rs1 → EndsFirst rs2 w rs3 x
-        → ErrBecomes (refused_through trace) answer answer'
+      → ErrBecomes (refused_through trace) answer answer'
       → RendersWithin (inner v1) v1 b a w answer → RendersWithin (under fresh frame trace inner v) v b a x answer'
   renders_framed fresh frame trace inner v v1 w x rs rs1 rs2 rs3 b a answer answer' h i j k e r =
       let same : restored_by frame v ∷ rs ≡ k.restores ∷ rs3 = sym i ∙ sym j ∙ k.was_first in
       let is : x ≡ ending (restored_by frame v) w =
-          k.is_ended ∙ ap (λ o. ending o w) (sym (first_is (restored_by frame v) k.restores rs rs3 same)) in
+      k.is_ended ∙ ap (λ o. ending o w) (sym (first_is (restored_by frame v) k.restores rs rs3 same)) in
       subst (λ u. RendersWithin (under fresh frame trace inner v) v b a u answer') (sym is)
       (renders_under fresh frame trace inner v w b a answer answer' e (subst (λ u. RendersWithin (inner u) u b a w answer) h r))
 

@@ -64,12 +64,12 @@ pub partial_fails : {Reg : Type 0} (fresh : Reg) (frame : FrameShape) (trace : O
     (rs rs1 rs2 rs3 : List (Restore Reg)) (e : Error) (answer : Answer) → v1 ≡ beginning fresh frame v → rs1 ≡ restored_by frame v ∷ rs
     → rs2 ≡ rs1 → w ≡ v1 → EndsFirst rs2 w rs3 x → ErrBecomes (refused_through trace) (Err e) answer
     → IfSome (told e) (λ r. inner ≡ refuses r) → IsErrAnd answer
-      (λ f. (b : Output) → RendersWithin (under fresh frame trace inner v) v b b x (Err f))
+    (λ f. (b : Output) → RendersWithin (under fresh frame trace inner v) v b b x (Err f))
 partial_fails fresh frame trace inner v v1 w x rs rs1 rs2 rs3 e (Ok u) h i j l k t r = absurd t
 partial_fails fresh frame trace inner v v1 w x rs rs1 rs2 rs3 e (Err f) h i j l k t r =
     λ b. renders_framed fresh frame trace inner v v1 w x rs rs1 rs2 rs3 b b (Err e) (Err f) h i j k t
     (renders_refused (inner v1) v1 w b e (if_then (told e) (λ y z. ap (λ o. o v1) z ∙ ap (refuses y) (sym l)) r)
-      (subst (λ y. SameFrames v1 y) (sym l) refl))
+    (subst (λ y. SameFrames v1 y) (sym l) refl))
 
 -- what is owed in addition to what is owed
 pub owed_above : {A : Type 0} (x : A) (xs ys zs : List A) → xs ≡ x ∷ ys → ys ≡ zs → xs ≡ x ∷ zs
@@ -88,9 +88,10 @@ module _ {Reg : Type 0} where
   -- the checkpoint before a turn, which passes or is refused
   renders_asked : (v : View Reg) (b c : Output) (u : Unit {0}) → TurnAsked b c true → RendersWithin (asks v) v b c v (Ok u)
   renders_asked v b c u q = subst (λ x. RendersWithin (asks v) v b x v (Ok u)) (sym q.rest) (record {
-    outcome =
-        (record { taken = sym (append-nil b.sunk.taken); failures = refl; turns = q.turns; bytes = passes_none b.bytes; view = refl },
-        refl);
+    outcome = (
+      record { taken = sym (append-nil b.sunk.taken); failures = refl; turns = q.turns; bytes = passes_none b.bytes; view = refl },
+      refl,
+    );
     frames = refl;
     pours = pours_nothing b.sunk u;
   })
@@ -196,9 +197,9 @@ module _ {Reg F T P B Q : Type 0} (s : Setting Reg F T P B Q) (depth : ℕ) wher
             body_ends place (Err e) a h i =
                 λ parts k. subst (λ x. RendersWithin (turns s (partials_at s depth) m n parts (suc k) p v) v b0 b x (Err e)) (sym i)
                 (first parts k v1 b (Err e) (turn_fails s (partials_at s depth) m n parts k p q v v1 v1 b b
-                  (body_turn place frame trace) e tt a written progress same (turn_bodies s
-                  (partials_at s depth) parts place frame trace v1 v1 b b (Err e)
-                  (renders_memory (under s.fresh frame trace (part_at parts place) v1) v1 b e h))))
+                (body_turn place frame trace) e tt a written progress same (turn_bodies s
+                (partials_at s depth) parts place frame trace v1 v1 b b (Err e)
+                (renders_memory (under s.fresh frame trace (part_at parts place) v1) v1 b e h))))
 
             -- the captured part's run, as it is under its frame
             captured_is : (parts : List (Action Reg)) (place : ℕ) → performed s (partials_at s depth) parts
@@ -218,7 +219,7 @@ module _ {Reg F T P B Q : Type 0} (s : Setting Reg F T P B Q) (depth : ℕ) wher
                   (capture_more s (partials_at s depth) m n parts place frame trace k p q v v1 x y b d e u answer a written progress same
                   (subst {A = Run Reg} (λ r. RendersWithin (silent r) v1 b d x (Ok u)) (sym (captured_is parts place)) one)
                   (subst {A = Run Reg} (λ r. RendersWithin (turns s (partials_at s depth) m n parts k (m.catches n q (pieces r.steps)) x) x
-                    d e y answer) (sym (captured_is parts place)) rest));
+                  d e y answer) (sym (captured_is parts place)) rest));
               fails =
                   λ parts k d x e one. first parts k x d (Err e) (capture_fails s
                   (partials_at s depth) m n parts place frame trace k p q v v1 x b d e a written progress same
@@ -231,8 +232,8 @@ module _ {Reg F T P B Q : Type 0} (s : Setting Reg F T P B Q) (depth : ℕ) wher
             capture_ends place (Err e) a h i =
                 λ parts k. subst (λ x. RendersWithin (turns s (partials_at s depth) m n parts (suc k) p v) v b0 b x (Err e)) (sym i)
                 (first parts k v1 b (Err e) (capture_fails s (partials_at s depth) m n parts place frame trace k p q v v1 v1 b b e a written
-                  progress same (renders_memory (silent (performed s (partials_at s depth) parts (capture_turn place frame trace) v1)) v1 b
-                  e h)))
+                progress same (renders_memory (silent (performed s (partials_at s depth) parts (capture_turn place frame trace) v1)) v1 b
+                e h)))
 
             pub partial_opens : (name : List ℕ) (inner : Action Reg) (rs rs1 : List (Restore Reg))
                 → (m.takes n p v).answer ≡ Ok (partial_turn name frame trace) → partials_at s depth name ≡ inner
@@ -295,9 +296,11 @@ module _ {Reg F T P B Q : Type 0} (s : Setting Reg F T P B Q) (depth : ℕ) wher
       (o : Opens s depth m n p q v w b c trace inner rs rs1) (same : rs2 ≡ rs1) (ends : EndsFirst rs2 x rs3 y) where
     pub opens_taken : (answer answer' : Answer) (result : Bool) → result ≡ is_ok answer' → ErrBecomes (refused_through trace) answer answer'
         → RendersWithin (inner parts w) w c d x answer → Takes s depth m n parts p q v y b d answer' result
-    opens_taken answer (Ok u) true e t h =
-        (refl, λ k a z later rest. o.goes parts k d a y z u later (renders_framed s.fresh o.frame trace
-        (inner parts) o.from w x y rs rs1 rs2 rs3 c d answer (Ok u) o.opens o.owes same ends t h) rest)
+    opens_taken answer (Ok u) true e t h = (
+      refl,
+      λ k a z later rest. o.goes parts k d a y z u later (renders_framed s.fresh o.frame trace
+          (inner parts) o.from w x y rs rs1 rs2 rs3 c d answer (Ok u) o.opens o.owes same ends t h) rest,
+    )
     opens_taken answer (Ok u) false e t h = absurd (false-not-true e)
     opens_taken answer (Err f) true e t h = absurd (true-not-false e)
     opens_taken answer (Err f) false e t h =
@@ -314,41 +317,41 @@ module _ {Reg F T P B Q : Type 0} (s : Setting Reg F T P B Q) (depth : ℕ) wher
   module _ {N R : Type 0} (m : NodeMeaning N R Reg) (n : N) (parts : List (Action Reg)) (p q z : R) (v w y : View Reg) (b c d : Output)
       (trace : Option (List ℕ)) (inner : List (Action Reg) → Action Reg) (rs rs1 rs3 : List (Restore Reg)) (answer : Answer) (result : Bool)
       (o : Captures s depth m n p q v w b c trace inner rs rs1) (t : Captured m n (inner parts) trace q z w y rs1 rs3 c d answer result)
-      where
-    pub captures_kept : rs3 ≡ rs
-    captures_kept = framed_kept o.frame o.from t.left y rs rs1 rs1 rs3 o.owes refl t.ends
+    where
+      pub captures_kept : rs3 ≡ rs
+      captures_kept = framed_kept o.frame o.from t.left y rs rs1 rs1 rs3 o.owes refl t.ends
 
-    captured_framed : (last : Answer) → answer ≡ last → RendersWithin
-        (under s.fresh o.frame trace (inner parts) o.from) o.from t.start t.last y last
-    captured_framed last e =
-        renders_framed s.fresh o.frame trace (inner parts) o.from w t.left y rs rs1 rs1 rs3 t.start t.last t.own last o.opens o.owes refl
-        t.ends (subst (λ i. ErrBecomes (refused_through trace) t.own i) e t.traced) t.rendered
+      captured_framed : (last : Answer) → answer ≡ last → RendersWithin
+          (under s.fresh o.frame trace (inner parts) o.from) o.from t.start t.last y last
+      captured_framed last e =
+          renders_framed s.fresh o.frame trace (inner parts) o.from w t.left y rs rs1 rs1 rs3 t.start t.last t.own last o.opens o.owes refl
+          t.ends (subst (λ i. ErrBecomes (refused_through trace) t.own i) e t.traced) t.rendered
 
-    captured_cases : (last : Answer) (goes : Bool) → answer ≡ last → result ≡ goes → goes ≡ is_ok last
-        → Takes s depth m n parts p z v y b d last goes
-    captured_cases (Ok u) true e f i = (
-      refl,
-      λ k a x later rest. o.goes parts k d a y x u later (renders_silent
-        (under s.fresh o.frame trace (inner parts) o.from) o.from y c t.start t.last d (Ok u) t.aside (captured_framed (Ok u) e))
-          (subst (λ g. RendersWithin (turns s (partials_at s depth) m n parts k g y) y d a x later)
-          (t.progress f ∙ ap (m.catches n q) (text_silent (under s.fresh o.frame trace (inner parts) o.from) o.from y c t.start t.last d u
+      captured_cases : (last : Answer) (goes : Bool) → answer ≡ last → result ≡ goes → goes ≡ is_ok last
+          → Takes s depth m n parts p z v y b d last goes
+      captured_cases (Ok u) true e f i = (
+        refl,
+        λ k a x later rest. o.goes parts k d a y x u later (renders_silent
+            (under s.fresh o.frame trace (inner parts) o.from) o.from y c t.start t.last d (Ok u) t.aside (captured_framed (Ok u) e))
+            (subst (λ g. RendersWithin (turns s (partials_at s depth) m n parts k g y) y d a x later)
+            (t.progress f ∙ ap (m.catches n q) (text_silent (under s.fresh o.frame trace (inner parts) o.from) o.from y c t.start t.last d u
             t.aside (captured_framed (Ok u) e))) rest),
-    )
-    captured_cases (Ok u) false e f i = absurd (false-not-true i)
-    captured_cases (Err x) true e f i = absurd (true-not-false i)
-    captured_cases (Err x) false e f i =
-        λ k. o.fails parts k d y x (renders_silent (under s.fresh o.frame trace (inner parts) o.from) o.from y c t.start t.last d
-        (Err x) t.aside (captured_framed (Err x) e))
+      )
+      captured_cases (Ok u) false e f i = absurd (false-not-true i)
+      captured_cases (Err x) true e f i = absurd (true-not-false i)
+      captured_cases (Err x) false e f i =
+          λ k. o.fails parts k d y x (renders_silent (under s.fresh o.frame trace (inner parts) o.from) o.from y c t.start t.last d
+          (Err x) t.aside (captured_framed (Err x) e))
 
-    pub captured_taken : Takes s depth m n parts p z v y b d answer result
-    captured_taken = captured_cases answer result refl refl t.goes_on
+      pub captured_taken : Takes s depth m n parts p z v y b d answer result
+      captured_taken = captured_cases answer result refl refl t.goes_on
 
   -- a turn among those that are left
   module _ {N R : Type 0} (m : NodeMeaning N R Reg) (n : N) (parts : List (Action Reg)) where
     pub takes_more : (j k : ℕ) (o p q : R) (v w x : View Reg) (b c a : Output) (answer later : Answer) (result : Bool) → j ≡ suc k → p ≡ o
         → result ≡ true → Takes s depth m n parts p q v w b c answer result
         → RendersWithin (turns s (partials_at s depth) m n parts k q w) w c a x later
-          → RendersWithin (turns s (partials_at s depth) m n parts j o v) v b a x later
+        → RendersWithin (turns s (partials_at s depth) m n parts j o v) v b a x later
     takes_more j k o p q v w x b c a answer later true i l e h rest =
         subst (λ z. RendersWithin (turns s (partials_at s depth) m n parts z o v) v b a x later) (sym i)
         (subst (λ z. RendersWithin (turns s (partials_at s depth) m n parts (suc k) z v) v b a x later) l (h.1 k a x later rest))

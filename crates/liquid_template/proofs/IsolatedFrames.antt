@@ -30,17 +30,23 @@ module _ {Reg : Type 0} (fresh : Reg) (names : Names) (name : Option (List ℕ))
   back_steps [] = refl
   back_steps (x ∷ ss) =
       ap (λ y. record { piece = x.piece; checkpoint = x.checkpoint; traces = x.traces; at = y }
-          ∷ map (step_outside (restored_by (isolated_frame names name) p) None) ss) (back_view x.at)
+      ∷ map (step_outside (restored_by (isolated_frame names name) p) None) ss) (back_view x.at)
       ∙ ap (λ ys. step_given_back p (step_outside (restored_by (isolated_frame names name) (emptied fresh o)) None x) ∷ ys) (back_steps ss)
 
   back : (r : Run Reg) → outside (restored_by (isolated_frame names name) p) None r ≡ run_given_back p
       (outside (restored_by (isolated_frame names name) (emptied fresh o)) None r)
   back r =
-      ap (λ ss. record { steps = ss; refusal = option_map (refused_through None) r.refusal;
-          view = ending (restored_by (isolated_frame names name) p) r.view }) (back_steps r.steps)
-      ∙ ap (λ u. record { steps = map (step_given_back p) (map (step_outside
-        (restored_by (isolated_frame names name) (emptied fresh o)) None) r.steps); refusal = option_map (refused_through None) r.refusal;
-        view = u }) (back_view r.view)
+      ap (λ ss. record {
+        steps = ss;
+        refusal = option_map (refused_through None) r.refusal;
+        view = ending (restored_by (isolated_frame names name) p) r.view;
+      }) (back_steps r.steps)
+      ∙ ap (λ u. record {
+        steps = map (step_given_back p) (map (step_outside
+            (restored_by (isolated_frame names name) (emptied fresh o)) None) r.steps);
+        refusal = option_map (refused_through None) r.refusal;
+        view = u;
+      }) (back_view r.view)
 
 begun_same : {Reg : Type 0} (fresh : Reg) (names : Names) (name : Option (List ℕ)) (o p : View Reg) → o.depth ≡ p.depth
     → o.lenient ≡ p.lenient → o.index ≡ p.index → o.name ≡ p.name → begin_isolated fresh names name o ≡ begin_isolated fresh names name p
@@ -63,7 +69,7 @@ module _ {Reg F T P B Q : Type 0} (s : Setting Reg F T P B Q) where
   unfolding under
   same_run names name ns o p d l i n =
       ap (λ u. outside (restored_by (isolated_frame names name) p) None (nodes_run s u.depth ns u))
-        (sym (begun_same s.fresh names name o p d l i n))
+      (sym (begun_same s.fresh names name o p d l i n))
       ∙ back s.fresh names name o p n (nodes_run s o.depth ns (begin_isolated s.fresh names name o))
 
   pub from_outside : IsolatedFromOutside s
@@ -92,12 +98,12 @@ module _ {Reg F T P B Q : Type 0} (s : Setting Reg F T P B Q) where
     pub isolated_renders : (own : Option (List ℕ)) (v v1 w x : View Reg) (rs rs1 rs2 rs3 : List (Restore Reg)) (b a : Output)
         (answer : Result (Unit {0}) Error)
         → own ≡ name → v1 ≡ beginning s.fresh (isolated_frame names own) v → rs1 ≡ restored_by (isolated_frame names own) v ∷ rs → rs2 ≡ rs1
-          → EndsFirst rs2 w rs3 x → RendersWithin (template_run s ns v1) v1 b a w answer
+        → EndsFirst rs2 w rs3 x → RendersWithin (template_run s ns v1) v1 b a w answer
         → IsolatedWithin s.fresh (isolated_run s names name ns) v b a x answer
     isolated_renders own v v1 w x rs rs1 rs2 rs3 b a answer e h i j k r =
         renders_isolated v x b a answer (subst (λ n. RendersWithin (isolated_run s names n ns v) v b a x answer) e
         (renders_framed s.fresh (isolated_frame names own) None (template_run s ns) v v1 w x rs rs1 rs2 rs3 b a answer answer h i j k
-          (becomes_itself answer) r))
+        (becomes_itself answer) r))
 
 -- an isolated frame gives all but index variables back when it ends
 module _ {Reg : Type 0} where
@@ -111,7 +117,7 @@ module _ {Reg : Type 0} where
 
   pub kept_after : (v w x : View Reg) (rs rs1 rs2 rs3 : List (Restore Reg))
       → rs1 ≡ restore_isolated v.locals v.globals v.base v.shown v.floor v.name v.interrupt v.register ∷ rs → rs2 ≡ rs1
-        → EndsFirst rs2 w rs3 x → SameFrames v x → OnlyIndexChanges v x
+      → EndsFirst rs2 w rs3 x → SameFrames v x → OnlyIndexChanges v x
   kept_after v w x rs rs1 rs2 rs3 i j k h =
       let r : Restore Reg = restore_isolated v.locals v.globals v.base v.shown v.floor v.name v.interrupt v.register in
       let left : x ≡ ending r w = k.is_ended ∙ ap (λ y. ending y w) (first_is k.restores r rs3 rs (sym k.was_first ∙ j ∙ i)) in

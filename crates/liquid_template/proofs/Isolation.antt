@@ -72,7 +72,7 @@ module _ {Reg : Type 0} (g : Names) where
   covered_goes_on None r k i h =
       ap (λ p. record { steps = map cover_step r.steps ++ p.steps; refusal = p.refusal; view = p.view }) (i.same r.view h)
       ∙ ap (λ ss. record { steps = ss; refusal = (k r.view).refusal; view = cover (k r.view).view })
-        (sym (map-append cover_step r.steps (k r.view).steps))
+      (sym (map-append cover_step r.steps (k r.view).steps))
 
   hidden_goes_on : (f : Option Refusal) (r : Run Reg) (k : Action Reg) → Apart k → Hidden r.view → Hidden (goes_on f r k).view
   hidden_goes_on (Some refusal) r k i h = h
@@ -116,15 +116,18 @@ module _ {Reg : Type 0} (g : Names) where
       ap (λ y. record { piece = x.piece; checkpoint = x.checkpoint; traces = traced trace x.traces; at = y }
       ∷ map (step_outside r trace) (map cover_step ss)) (e x.at)
       ∙ ap (λ ys. record { piece = x.piece; checkpoint = x.checkpoint; traces = traced trace x.traces; at = cover (ending s x.at) } ∷ ys)
-        (outside_steps r s trace e ss)
+      (outside_steps r s trace e ss)
 
   outside_covered : (r s : Restore Reg) (trace : Option (List ℕ)) → ((v : View Reg) → ending r (cover v) ≡ cover (ending s v))
       → (o : Run Reg) → outside r trace (covered o) ≡ covered (outside s trace o)
   outside_covered r s trace e o =
       ap (λ ss. record { steps = ss; refusal = option_map (refused_through trace) o.refusal; view = ending r (cover o.view) })
       (outside_steps r s trace e o.steps)
-      ∙ ap (λ u. record { steps = map cover_step (map (step_outside s trace) o.steps);
-        refusal = option_map (refused_through trace) o.refusal; view = u }) (e o.view)
+      ∙ ap (λ u. record {
+        steps = map cover_step (map (step_outside s trace) o.steps);
+        refusal = option_map (refused_through trace) o.refusal;
+        view = u;
+      }) (e o.view)
 
   module _ (fresh : Reg) (trace : Option (List ℕ)) where
     apart_none : (k : Action Reg) → Apart k → Apart (under fresh no_frame trace k)
@@ -142,7 +145,7 @@ module _ {Reg : Type 0} (g : Names) where
           λ v h. ap (outside (restored_by (stack_frame d n) v) trace) (i.same (beginning fresh (stack_frame d n) v)
           (record { shown = h.shown; names = h.names; there = h.there }))
           ∙ outside_covered (restored_by (stack_frame d n) v) (restored_by (stack_frame d n) v) trace (λ u. refl)
-            (k (beginning fresh (stack_frame d n) v));
+          (k (beginning fresh (stack_frame d n) v));
       hidden =
           λ v h. let i' = i.hidden (beginning fresh (stack_frame d n) v) (record { shown = h.shown; names = h.names; there = h.there }) in
           record { shown = i'.shown; names = i'.names; there = i'.there };
@@ -155,7 +158,7 @@ module _ {Reg : Type 0} (g : Names) where
           λ v h. ap (outside (restored_by (sandboxed_frame d n) v) trace)
           (i.same (beginning fresh (sandboxed_frame d n) v) (record { shown = refl; names = h.names; there = h.there }))
           ∙ outside_covered (restored_by (sandboxed_frame d n) v) (restored_by (sandboxed_frame d n) v) trace (λ u. refl)
-            (k (beginning fresh (sandboxed_frame d n) v));
+          (k (beginning fresh (sandboxed_frame d n) v));
       hidden =
           λ v h. let i' = i.hidden (beginning fresh (sandboxed_frame d n) v) (record { shown = refl; names = h.names; there = h.there }) in
           record { shown = h.shown; names = i'.names; there = i'.there };
@@ -180,17 +183,20 @@ module _ {Reg : Type 0} (g : Names) where
     apart_global k = record {
       same = λ v h.
           ap (λ u. outside (restored_by global_frame (cover v)) trace (k
-              (record v { locals = empty; globals = Some empty; base = u; shown = true }))) (upper_hidden v v.shown refl h.shown)
-          ∙ ap (λ ss. record { steps = ss; refusal = option_map (refused_through trace) (k (beginning fresh global_frame v)).refusal;
-            view = ending (restored_by global_frame (cover v)) (k (beginning fresh global_frame v)).view })
-            (global_steps v.locals v.globals v.base v.shown (k (beginning fresh global_frame v)).steps);
+          (record v { locals = empty; globals = Some empty; base = u; shown = true }))) (upper_hidden v v.shown refl h.shown)
+          ∙ ap (λ ss. record {
+            steps = ss;
+            refusal = option_map (refused_through trace) (k (beginning fresh global_frame v)).refusal;
+            view = ending (restored_by global_frame (cover v)) (k (beginning fresh global_frame v)).view;
+          })
+          (global_steps v.locals v.globals v.base v.shown (k (beginning fresh global_frame v)).steps);
       hidden = λ v h. record { shown = h.shown; names = h.names; there = h.there };
     }
 
     isolated_steps : (l : Names) (s : Option Names) (b : Names) (x : Bool) (f : Floor) (n : Option (List ℕ)) (i : Option Interrupt)
         (r : Reg) (ss : List (Step Reg))
         → map (step_outside (restore_isolated l (Some (over (unwrap_or s empty) g)) b x f n i r) trace) ss ≡ map cover_step
-          (map (step_outside (restore_isolated l s b x f n i r) trace) ss)
+        (map (step_outside (restore_isolated l s b x f n i r) trace) ss)
     isolated_steps l s b x f n i r [] = refl
     isolated_steps l s b x f n i r (y ∷ ss) =
         ap (λ ys. step_outside (restore_isolated l (Some (over (unwrap_or s empty) g)) b x f n i r) trace y ∷ ys)
@@ -202,8 +208,11 @@ module _ {Reg : Type 0} (g : Names) where
     apart_isolated d n k = record {
       same = λ v h.
           let inner = k (begin_isolated fresh d n v) in
-          ap (λ ss. record { steps = ss; refusal = option_map (refused_through trace) inner.refusal;
-              view = ending (restored_by (isolated_frame d n) (cover v)) inner.view })
+          ap (λ ss. record {
+            steps = ss;
+            refusal = option_map (refused_through trace) inner.refusal;
+            view = ending (restored_by (isolated_frame d n) (cover v)) inner.view;
+          })
           (isolated_steps v.locals v.globals v.base v.shown v.floor v.name v.interrupt v.register inner.steps);
       hidden = λ v h. record { shown = h.shown; names = h.names; there = h.there };
     }
@@ -230,7 +239,7 @@ module _ {Reg : Type 0} (g : Names) where
         ap tells (cover_is_hiding v h)
         ∙ law (over h.names g) v
         ∙ ap (λ m. record (tells (hiding empty v)) { written = record (tells (hiding empty v)).written { globals = Some m } })
-          (sym (over-over (unwrap_or (tells (hiding empty v)).written.globals empty) h.names g))
+        (sym (over-over (unwrap_or (tells (hiding empty v)).written.globals empty) h.names g))
         ∙ ap (overlaid g) (sym (law h.names v))
         ∙ ap (λ u. overlaid g (tells u)) (sym (is_hiding v h))
 
@@ -251,7 +260,7 @@ module _ {Reg : Type 0} (g : Names) where
       → chain_value m c (cover v) ≡ chain_value m c v
   chain_hidden m c v h =
       ap (λ r. ok_then r (filtered m (erase (cover v)) c.filters))
-        (sym (evaluate_erased (cover v) c.entry) ∙ ap (λ u. evaluate u c.entry) (erase_hidden v h) ∙ evaluate_erased v c.entry)
+      (sym (evaluate_erased (cover v) c.entry) ∙ ap (λ u. evaluate u c.entry) (erase_hidden v h) ∙ evaluate_erased v c.entry)
       ∙ ap (λ u. ok_then (evaluate v c.entry) (filtered m u c.filters)) (erase_hidden v h)
 
   apart_chain : {F : Type 0} (m : FilterMeaning F) (c : ChainShape F) → Apart (λ v. writes_value (chain_value m c v) v)
@@ -304,17 +313,17 @@ module _ {Reg : Type 0} (g : Names) where
         apart_turns (suc left) progress =
             apart_then asks (λ w. answered s partials m n parts (m.takes n progress w).answer (m.takes n progress w).progress
             (turns s partials m n parts left) (with_written (m.takes n progress w).written w)) apart_asks (record {
-          same =
-              λ v h. ap (λ t. answered s partials m n parts t.answer t.progress (turns s partials m n parts left)
-              (with_written t.written (cover v))) (told_hidden (m.takes n progress) (law.turn n progress) v h)
-              ∙ (apart_answered (m.takes n progress v).answer (m.takes n progress v).progress (turns s partials m n parts left)
-                (apart_turns left)).same (with_written (m.takes n progress v).written v)
-                (told_stays_hidden (m.takes n progress) (law.turn n progress) v h);
-          hidden =
-              λ v h. (apart_answered (m.takes n progress v).answer (m.takes n progress v).progress (turns s partials m n parts left)
-              (apart_turns left)).hidden (with_written (m.takes n progress v).written v)
-              (told_stays_hidden (m.takes n progress) (law.turn n progress) v h);
-        })
+              same =
+                  λ v h. ap (λ t. answered s partials m n parts t.answer t.progress (turns s partials m n parts left)
+                  (with_written t.written (cover v))) (told_hidden (m.takes n progress) (law.turn n progress) v h)
+                  ∙ (apart_answered (m.takes n progress v).answer (m.takes n progress v).progress (turns s partials m n parts left)
+                  (apart_turns left)).same (with_written (m.takes n progress v).written v)
+                  (told_stays_hidden (m.takes n progress) (law.turn n progress) v h);
+              hidden =
+                  λ v h. (apart_answered (m.takes n progress v).answer (m.takes n progress v).progress (turns s partials m n parts left)
+                  (apart_turns left)).hidden (with_written (m.takes n progress v).written v)
+                  (told_stays_hidden (m.takes n progress) (law.turn n progress) v h);
+            })
 
         apart_started : (a : Result R Refusal) → Apart (started s partials m n parts a)
         apart_started (Err refusal) = apart_refuses refusal
@@ -327,7 +336,7 @@ module _ {Reg : Type 0} (g : Names) where
               λ v h. ap (λ t. started s partials m n parts t.answer (with_written t.written (cover v)))
               (told_hidden (m.starts n) (law.start n) v h)
               ∙ (apart_started (m.starts n v).answer).same (with_written (m.starts n v).written v)
-                (told_stays_hidden (m.starts n) (law.start n) v h);
+              (told_stays_hidden (m.starts n) (law.start n) v h);
           hidden =
               λ v h. (apart_started (m.starts n v).answer).hidden (with_written (m.starts n v).written v)
               (told_stays_hidden (m.starts n) (law.start n) v h);
@@ -392,18 +401,24 @@ module _ {Reg : Type 0} (assigned : Names) (o : View Reg) (e : o.globals ≡ Som
   back_steps [] = refl
   back_steps (x ∷ ss) =
       ap (λ y. record { piece = x.piece; checkpoint = x.checkpoint; traces = x.traces; at = y }
-          ∷ map (step_outside (restored_by (sandboxed_frame names name) o) None) (map (cover_step assigned) ss)) (back_view x.at)
+      ∷ map (step_outside (restored_by (sandboxed_frame names name) o) None) (map (cover_step assigned) ss)) (back_view x.at)
       ∙ ap (λ ys. step_over_outside o (step_outside (restored_by (sandboxed_frame names name) (emptied fresh o)) None x) ∷ ys)
-        (back_steps ss)
+      (back_steps ss)
 
   back : (r : Run Reg) → outside (restored_by (sandboxed_frame names name) o) None (covered assigned r) ≡ run_over_outside o
       (outside (restored_by (sandboxed_frame names name) (emptied fresh o)) None r)
   back r =
-      ap (λ ss. record { steps = ss; refusal = option_map (refused_through None) r.refusal;
-          view = ending (restored_by (sandboxed_frame names name) o) (cover assigned r.view) }) (back_steps r.steps)
-      ∙ ap (λ u. record { steps = map (step_over_outside o) (map (step_outside
-        (restored_by (sandboxed_frame names name) (emptied fresh o)) None) r.steps); refusal = option_map (refused_through None) r.refusal;
-        view = u }) (back_view r.view)
+      ap (λ ss. record {
+        steps = ss;
+        refusal = option_map (refused_through None) r.refusal;
+        view = ending (restored_by (sandboxed_frame names name) o) (cover assigned r.view);
+      }) (back_steps r.steps)
+      ∙ ap (λ u. record {
+        steps = map (step_over_outside o) (map (step_outside
+            (restored_by (sandboxed_frame names name) (emptied fresh o)) None) r.steps);
+        refusal = option_map (refused_through None) r.refusal;
+        view = u;
+      }) (back_view r.view)
 
   begins_covered : begin_sandboxed fresh names name o ≡ cover assigned (begin_sandboxed fresh names name (emptied fresh o))
   begins_covered = ap (λ m. record (begin_sandboxed fresh names name o) { globals = m })
@@ -417,9 +432,9 @@ module _ {Reg F T P B Q : Type 0} (s : Setting Reg F T P B Q) (tl : Discreet s.t
   isolated_from o assigned e =
       let b = begin_sandboxed s.fresh names name (emptied s.fresh o) in
       ap (λ u. outside (restored_by (sandboxed_frame names name) o) None (nodes_run s o.depth ns u))
-        (begins_covered assigned o e s.fresh names name)
+      (begins_covered assigned o e s.fresh names name)
       ∙ ap (outside (restored_by (sandboxed_frame names name) o) None)
-        ((apart_template assigned s tl bl o.depth ns).same b (record { shown = refl; names = empty; there = ap without_names e }))
+      ((apart_template assigned s tl bl o.depth ns).same b (record { shown = refl; names = empty; there = ap without_names e }))
       ∙ back assigned o e s.fresh names name (nodes_run s o.depth ns b)
 
   isolated_where : (o : View Reg) (m : Option Names) → o.globals ≡ m → is_some m ≡ true
@@ -443,8 +458,13 @@ emptied_same fresh o p a b d l i n =
     ∙ ap (λ x. record (emptied fresh o) { globals = without_names p.globals; depth = x }) d
     ∙ ap (λ x. record (emptied fresh o) { globals = without_names p.globals; depth = p.depth; lenient = x }) l
     ∙ ap (λ x. record (emptied fresh o) { globals = without_names p.globals; depth = p.depth; lenient = p.lenient; index = x }) i
-    ∙ ap (λ x. record (emptied fresh o) { globals = without_names p.globals; depth = p.depth; lenient = p.lenient; index = p.index;
-      name = x }) n
+    ∙ ap (λ x. record (emptied fresh o) {
+      globals = without_names p.globals;
+      depth = p.depth;
+      lenient = p.lenient;
+      index = p.index;
+      name = x;
+    }) n
 
 pub outsides_agree : {Reg F T P B Q : Type 0} (s : Setting Reg F T P B Q) → OutsidesAgree s
 outsides_agree s tl bl names name ns o p a b d l i n = record {

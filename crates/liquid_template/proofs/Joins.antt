@@ -93,9 +93,9 @@ module _ {Reg : Type 0} where
   cause_then : (rs front : List (Step Reg)) (step : Step Reg) (part rest : List ℕ) (b m a : Output) (refusal : Refusal)
       → m.sunk.failures ≡ b.sunk.failures → Passes b.turns (checkpoints rs) m.turns → Passes b.bytes (length (pieces rs)) m.bytes
       → SinkFails step rest (checkpoints front) (length (pieces front)) m a refusal
-        ⊎ GateRefuses step part (checkpoints front) (length (pieces front)) m a refusal
+      ⊎ GateRefuses step part (checkpoints front) (length (pieces front)) m a refusal
       → SinkFails step rest (checkpoints (rs ++ front)) (length (pieces (rs ++ front))) b a refusal
-        ⊎ GateRefuses step part (checkpoints (rs ++ front)) (length (pieces (rs ++ front))) b a refusal
+      ⊎ GateRefuses step part (checkpoints (rs ++ front)) (length (pieces (rs ++ front))) b a refusal
   cause_then rs front step part rest b m a refusal e t u (inl h) = inl (record {
     no_checkpoint = h.no_checkpoint;
     some_left = h.some_left;
@@ -121,23 +121,23 @@ module _ {Reg : Type 0} where
           × Passes m.bytes (length (pieces front)) a.bytes) ⊎ ((0 < length step.piece) × Passes m.turns (checkpoints front) a.turns
           × Refuses m.bytes (length (pieces front)) (length step.piece) a.bytes)
           → ((step.checkpoint ≡ true) × Refuses b.turns (checkpoints (rs ++ front)) 1 a.turns
-            × Passes b.bytes (length (pieces (rs ++ front))) a.bytes) ⊎ ((0 < length step.piece)
-            × Passes b.turns (checkpoints (rs ++ front)) a.turns × Refuses b.bytes (length (pieces (rs ++ front)))
-            (length step.piece) a.bytes)
+          × Passes b.bytes (length (pieces (rs ++ front))) a.bytes) ⊎ ((0 < length step.piece)
+          × Passes b.turns (checkpoints (rs ++ front)) a.turns × Refuses b.bytes (length (pieces (rs ++ front)))
+          (length step.piece) a.bytes)
       refused_then (inl x) = inl (
         x.0,
         refuses_at b.turns a.turns (checkpoints rs + checkpoints front) (checkpoints (rs ++ front)) 1 (sym (checkpoints-append rs front))
-          (refuses_then b.turns m.turns a.turns (checkpoints rs) (checkpoints front) 1 t x.1),
+            (refuses_then b.turns m.turns a.turns (checkpoints rs) (checkpoints front) 1 t x.1),
         passes_at b.bytes a.bytes (length (pieces rs) + length (pieces front)) (length (pieces (rs ++ front))) (sym (bytes-append rs front))
-          (passes_then b.bytes m.bytes a.bytes (length (pieces rs)) (length (pieces front)) u x.2),
+            (passes_then b.bytes m.bytes a.bytes (length (pieces rs)) (length (pieces front)) u x.2),
       )
       refused_then (inr x) = inr (
         x.0,
         passes_at b.turns a.turns (checkpoints rs + checkpoints front) (checkpoints (rs ++ front)) (sym (checkpoints-append rs front))
-          (passes_then b.turns m.turns a.turns (checkpoints rs) (checkpoints front) t x.1),
+            (passes_then b.turns m.turns a.turns (checkpoints rs) (checkpoints front) t x.1),
         refuses_at b.bytes a.bytes (length (pieces rs) + length (pieces front)) (length (pieces (rs ++ front))) (length step.piece)
-          (sym (bytes-append rs front)) (refuses_then b.bytes m.bytes a.bytes (length (pieces rs)) (length (pieces front))
-          (length step.piece) u x.2),
+            (sym (bytes-append rs front)) (refuses_then b.bytes m.bytes a.bytes (length (pieces rs)) (length (pieces front))
+            (length step.piece) u x.2),
       )
 
   broken_then : (r : Run Reg) (next : Action Reg) (b m a : Output) (w x : View Reg) (refusal : Refusal) → r.refusal ≡ None → Whole r b m w
@@ -156,7 +156,7 @@ module _ {Reg : Type 0} where
             i'.taken ∙ ap (λ t. t ++ (pieces i'.front ++ i'.part)) h.taken
             ∙ append_assoc b.sunk.taken (written r) (pieces i'.front ++ i'.part)
             ∙ ap (λ t. b.sunk.taken ++ t) (sym (append_assoc (written r) (pieces i'.front) i'.part)
-              ∙ ap (λ t. t ++ i'.part) (sym (pieces-append r.steps i'.front)));
+            ∙ ap (λ t. t ++ i'.part) (sym (pieces-append r.steps i'.front)));
         view = i'.view;
         cause = cause_then r.steps i'.front i'.step i'.part i'.rest b m a refusal h.failures h.turns h.bytes i'.cause;
       })
@@ -193,7 +193,7 @@ module _ {Reg : Type 0} where
 
   told_then : (t : Option Refusal) (r : Run Reg) (next : Action Reg) (b m a : Output) (w x : View Reg) → r.refusal ≡ None → Whole r b m w
       → MatchOption t (Cut (next w) m a) (Stopped (next w) m a x) → MatchOption t (Cut (and_then r next) b a)
-        (Stopped (and_then r next) b a x)
+      (Stopped (and_then r next) b a x)
   told_then None r next b m a w x d h i = cut_then r next b m a w d h i
   told_then (Some refusal) r next b m a w x d h i = stopped_then r next b m a w x refusal d h i
 
@@ -261,9 +261,16 @@ module _ {Reg : Type 0} where
   -- nothing is written
   pub renders_done : (v : View Reg) (b : Output) (u : Unit {0}) → RendersWithin (done v) v b b v (Ok u)
   renders_done v b u = record {
-    outcome =
-        (record { taken = sym (append-nil b.sunk.taken); failures = refl; turns = passes_none b.turns; bytes = passes_none b.bytes;
-        view = refl }, refl);
+    outcome = (
+      record {
+        taken = sym (append-nil b.sunk.taken);
+        failures = refl;
+        turns = passes_none b.turns;
+        bytes = passes_none b.bytes;
+        view = refl;
+      },
+      refl,
+    );
     frames = refl;
     pours = pours_nothing b.sunk u;
   }
@@ -283,9 +290,16 @@ module _ {Reg : Type 0} where
     bytes = inl (passes_none b.bytes);
   }
   told_refused (Some refusal) r x b h =
-      inl (subst (λ p. Whole p b b x × (p.refusal ≡ Some refusal)) (sym h)
-      (record { taken = sym (append-nil b.sunk.taken); failures = refl; turns = passes_none b.turns; bytes = passes_none b.bytes;
-      view = refl }, refl))
+      inl (subst (λ p. Whole p b b x × (p.refusal ≡ Some refusal)) (sym h) (
+        record {
+          taken = sym (append-nil b.sunk.taken);
+          failures = refl;
+          turns = passes_none b.turns;
+          bytes = passes_none b.bytes;
+          view = refl;
+        },
+        refl,
+      ))
 
   -- a refusal that is the run's own, with nothing written; an out-of-memory error says nothing about the run
   pub renders_refused : (r : Run Reg) (v x : View Reg) (b : Output) (e : Error) → IfSome (told e) (λ refusal. r ≡ refuses refusal x)
@@ -325,7 +339,7 @@ module _ {Reg : Type 0} where
     cause_outside : (step : Step Reg) (part rest : List ℕ) (t t' n n' : ℕ) (b a : Output) (refusal : Refusal) → t ≡ t' → n ≡ n'
         → SinkFails step rest t n b a refusal ⊎ GateRefuses step part t n b a refusal
         → SinkFails (step_outside restores trace step) rest t' n' b a (refused_through trace refusal)
-          ⊎ GateRefuses (step_outside restores trace step) part t' n' b a (refused_through trace refusal)
+        ⊎ GateRefuses (step_outside restores trace step) part t' n' b a (refused_through trace refusal)
     cause_outside step part rest t t' n n' b a refusal i j (inl h) = inl (record {
       no_checkpoint = h.no_checkpoint;
       some_left = h.some_left;
@@ -341,7 +355,7 @@ module _ {Reg : Type 0} where
           subst (λ k. ((step.checkpoint ≡ true) × Refuses b.turns k 1 a.turns × Passes b.bytes n' a.bytes)
           ⊎ ((0 < length step.piece) × Passes b.turns k a.turns × Refuses b.bytes n' (length step.piece) a.bytes)) i
           (subst (λ k. ((step.checkpoint ≡ true) × Refuses b.turns t 1 a.turns × Passes b.bytes k a.bytes)
-            ⊎ ((0 < length step.piece) × Passes b.turns t a.turns × Refuses b.bytes k (length step.piece) a.bytes)) j h.refused);
+          ⊎ ((0 < length step.piece) × Passes b.turns t a.turns × Refuses b.bytes k (length step.piece) a.bytes)) j h.refused);
       reason = ap (refused_through trace) h.reason;
     })
 
@@ -459,13 +473,13 @@ module _ {Reg : Type 0} where
     told_outside : (t t' : Option Refusal) (r : Run Reg) (b a : Output) (x : View Reg)
         → IfSome t' (λ refusal. option_map (refused_through trace) t ≡ Some refusal)
         → MatchOption t (Cut r b a) (Stopped r b a x) → MatchOption t' (Cut (outside restores trace r) b a)
-          (Stopped (outside restores trace r) b a (ending restores x))
+        (Stopped (outside restores trace r) b a (ending restores x))
     told_outside None None r b a x e h = cut_outside r b a h
     told_outside (Some refusal) None r b a x e h = cut_outside r b a (stopped_cut r b a x refusal h)
     told_outside None (Some refusal') r b a x e h = cc
     told_outside (Some refusal) (Some refusal') r b a x e h =
         subst (Stopped (outside restores trace r) b a (ending restores x)) (some_is (refused_through trace refusal) refusal' e)
-          (stopped_outside r b a x refusal h)
+        (stopped_outside r b a x refusal h)
 
     outcome_outside : (answer answer' : Result (Unit {0}) Error) (r : Run Reg) (b a : Output) (x : View Reg)
         → ErrBecomes (refused_through trace) answer answer' → Outcome r b a x answer
@@ -481,7 +495,7 @@ module _ {Reg : Type 0} where
   pub renders_under : (fresh : Reg) (frame : FrameShape) (trace : Option (List ℕ)) (inner : Action Reg) (v w : View Reg) (b a : Output)
       (answer answer' : Result (Unit {0}) Error) → ErrBecomes (refused_through trace) answer answer'
       → RendersWithin (inner (beginning fresh frame v)) (beginning fresh frame v) b a w answer
-        → RendersWithin (under fresh frame trace inner v) v b a (ending (restored_by frame v) w) answer'
+      → RendersWithin (under fresh frame trace inner v) v b a (ending (restored_by frame v) w) answer'
   unfolding under
   renders_under fresh frame trace inner v w b a answer answer' e h = record {
     outcome = outcome_outside (restored_by frame v) trace answer answer' (inner (beginning fresh frame v)) b a w e h.outcome;

@@ -18,8 +18,13 @@ module _ {A S F T B L : Type 0} (Unopened : Type 0) (store : S → Option A) (le
   pub keeps_both : (a b c : S) → Keeps Unopened store lent finds depth a b → Keeps Unopened store lent finds depth b c
       → Keeps Unopened store lent finds depth a c
   keeps_both a b c p q =
-      record { store_finds = q.store_finds ∙ p.store_finds; unasked = λ z. q.unasked z ∙ p.unasked z; unopened = λ n. q.unopened n
-      ∙ p.unopened n; borrows = q.borrows ∙ p.borrows }
+      record {
+        store_finds = q.store_finds ∙ p.store_finds;
+        unasked = λ z. q.unasked z ∙ p.unasked z;
+        unopened = λ n. q.unopened n
+            ∙ p.unopened n;
+        borrows = q.borrows ∙ p.borrows;
+      }
 
   -- a partial may be nested, so the store may be asked
   pub keeps_asked : (a b : S) → 0 < depth → option_map finds (store b) ≡ option_map finds (store a) → (Unopened → store b ≡ store a)

@@ -33,7 +33,7 @@ module _ {A : Type 0} where
   pub no_partial : (name : List ℕ) → partial_in none name ≡ Err (unknown_partial name [])
   no_partial name =
       ap (λ found. elim found [ None ↦ Err (unknown_partial name (keys none)) | Some reading ↦ reading ])
-          (no_name {X = Result A Refusal} name)
+      (no_name {X = Result A Refusal} name)
       ∙ ap (λ names. Err (unknown_partial name names)) (no_names (Result A Refusal))
 
 separated : (sep : List ℕ) (names : List (Bor (List ℕ))) → flat_map (λ name. sep ++ name.now) names ≡ flat_map (λ text. sep ++ text)

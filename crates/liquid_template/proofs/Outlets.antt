@@ -29,8 +29,11 @@ text_taken o text piece new u t e = record {
   taken = record { taken = e; failures = refl; bytes = refl };
   turns = refl;
   pours =
-      record { grows = record { more = piece; taken_is = e; destination_is = tt }; lent = refl;
-      text = record { more = piece; taken_is = e; text = t } };
+      record {
+        grows = record { more = piece; taken_is = e; destination_is = tt };
+        lent = refl;
+        text = record { more = piece; taken_is = e; text = t };
+      };
 }
 
 pub text_put : (o : Output) (open_text : Option (List ℕ)) (text piece new : List ℕ) (u : Unit {0}) → IsUtf8 piece → open_text ≡ Some text
@@ -67,7 +70,7 @@ text_lost o open_text text piece new e t i h =
 put_cause : (piece : List ℕ) (b : Sunk) (a : Sunk) (p : Partly piece b a) (x y : Output) (t : Option Refusal) → x.sunk ≡ b → y.sunk ≡ a
     → Passes x.bytes (length piece) y.bytes
     → MatchOption t ((a.failures ≡ b.failures) ⊎ (a.failures ≡ b.failures + 1))
-      (λ refusal. (a.failures ≡ b.failures + 1) × (refusal ≡ failed_to_render []))
+    (λ refusal. (a.failures ≡ b.failures + 1) × (refusal ≡ failed_to_render []))
     → MatchOption t (PieceLost piece p.part x y) (λ refusal. PieceFails piece p.rest x y refusal ⊎ PieceRefused piece p.part x y refusal)
 put_cause piece b a p x y None i j q h = record {
   failures = failures_of h;
@@ -79,15 +82,24 @@ put_cause piece b a p x y None i j q h = record {
     failures_of (inl e) = inl (ap (λ z. z.failures) j ∙ e ∙ sym (ap (λ z. z.failures) i))
     failures_of (inr e) = inr (ap (λ z. z.failures) j ∙ e ∙ sym (ap (λ z. z.failures + 1) i))
 put_cause piece b a p x y (Some r) i j q h =
-    inl (record { some_left = p.some_left; failures = ap (λ z. z.failures) j ∙ h.0 ∙ sym (ap (λ z. z.failures + 1) i); bytes = q;
-    reason = h.1 })
+    inl (record {
+      some_left = p.some_left;
+      failures = ap (λ z. z.failures) j ∙ h.0 ∙ sym (ap (λ z. z.failures + 1) i);
+      bytes = q;
+      reason = h.1;
+    })
 
 put_taken : (piece : List ℕ) (x y : Output) (answer : Answer) → Passes x.bytes (length piece) y.bytes
     → PiecePutTaken piece x.sunk y.sunk answer → PieceTaken piece x y answer
 put_taken piece x y (Ok u) q h = record { taken = h.0; failures = h.1; bytes = q }
 put_taken piece x y (Err e) q h =
-    record { part = h.0.part; rest = h.0.rest; is = h.0.is; taken = h.0.taken;
-    cause = put_cause piece x.sunk y.sunk h.0 x y (told e) refl refl q h.1 }
+    record {
+      part = h.0.part;
+      rest = h.0.rest;
+      is = h.0.is;
+      taken = h.0.taken;
+      cause = put_cause piece x.sunk y.sunk h.0 x y (told e) refl refl q h.1;
+    }
 
 through : (piece : List ℕ) (x y : Output) (answer : Answer) → Passes x.bytes (length piece) y.bytes → y.turns ≡ x.turns
     → PiecePut piece x.sunk y.sunk answer → PieceOut piece x y answer
@@ -136,9 +148,10 @@ pub gated_refused : (piece : List ℕ) (s : Sunk) (g h : Gated) (e : Error) (pas
     → h.bytes ≡ asked passed (length piece) g.bytes → (passed ≡ false → IsPast g.bytes (length piece)) → h.turns ≡ g.turns
     → IfSome (told e) (λ r. r ≡ was_stopped [])
     → PieceOut piece (gated s g) (gated s h) (Err e)
-gated_refused piece s g h e passed p l b past t i = refused_at piece (gated s g) (gated s h) e l refl (ap Some t)
-    (ap Some (b ∙ ap (λ x. asked x (length piece) g.bytes) p ∙ refused_any (length piece) g.bytes ∙ none_first g.bytes),
-      past_first g.bytes (length piece) (past p)) i
+gated_refused piece s g h e passed p l b past t i = refused_at piece (gated s g) (gated s h) e l refl (ap Some t) (
+  ap Some (b ∙ ap (λ x. asked x (length piece) g.bytes) p ∙ refused_any (length piece) g.bytes ∙ none_first g.bytes),
+  past_first g.bytes (length piece) (past p),
+) i
 
 -- nothing is put if the piece is empty
 pub nothing_put : (piece : List ℕ) (o : Output) (u : Unit {0}) → piece ≡ [] → PieceOut piece o o (Ok u)

@@ -44,8 +44,11 @@ pub so_far_put : (piece rest : List ℕ) (b m a : Sunk) (count : ℕ) → SoFar 
 so_far_put piece rest b m a count s p = record {
   part = s.part ++ take count rest;
   is =
-      s.is ∙ rw (take_all (length rest - count) (drop count rest) (omega (arith, length-drop count rest)), append_assoc,
-      take-append-drop count rest);
+      s.is ∙ rw (
+        take_all (length rest - count) (drop count rest) (omega (arith, length-drop count rest)),
+        append_assoc,
+        take-append-drop count rest,
+      );
   taken = p.bytes ∙ rw (s.taken, append_assoc);
   failures = omega (arith, p.failures, s.failures);
   grows = put_grows (take count rest) 0 b m a s.grows p;
@@ -61,7 +64,7 @@ pub piece_done : (piece rest : List ℕ) (b a : Sunk) (u : Unit {0}) → length 
     → PiecePut piece b a (Ok u)
 piece_done piece rest b a u e t s =
     let all : a.taken ≡ b.taken ++ piece =
-        s.taken ∙ ap (λ x. b.taken ++ x) (sym (s.is ∙ ap (λ x. s.part ++ x) (nothing_left rest e) ∙ append-nil s.part)) in
+    s.taken ∙ ap (λ x. b.taken ++ x) (sym (s.is ∙ ap (λ x. s.part ++ x) (nothing_left rest e) ∙ append-nil s.part)) in
     record {
       taken = (all, s.failures);
       pours = record { grows = s.grows; lent = s.lent; text = record { more = piece; taken_is = all; text = t } };

@@ -18,8 +18,11 @@ took_nothing taken = record { more = []; taken_is = sym (append-nil taken); text
 
 took_both : (a b c : List ℕ) → TookText a b → TookText b c → TookText a c
 took_both a b c p q =
-    record { more = p.more ++ q.more; taken_is = q.taken_is ∙ rw (p.taken_is, append_assoc);
-    text = IsUtf8-append p.more q.more p.text q.text }
+    record {
+      more = p.more ++ q.more;
+      taken_is = q.taken_is ∙ rw (p.taken_is, append_assoc);
+      text = IsUtf8-append p.more q.more p.text q.text;
+    }
 
 on_ok : {A B : Type 0} (answer : Answer) → (A → B) → OnOk answer A → OnOk answer B
 on_ok (Ok u) f a = f a

@@ -42,7 +42,7 @@ module _ {Reg : Type 0} where
   lost_cut : (piece : List ℕ) (v : View Reg) (b a : Output) (part rest : List ℕ) → a.turns ≡ b.turns → piece ≡ part ++ rest
       → a.sunk.taken ≡ b.sunk.taken ++ part
       → (a.sunk.failures ≡ b.sunk.failures) ⊎ (a.sunk.failures ≡ b.sunk.failures + 1) → Passes b.bytes (length piece) a.bytes
-        ⊎ ((part ≡ []) × Refuses b.bytes 0 (length piece) a.bytes) → Cut (writes piece v) b a
+      ⊎ ((part ≡ []) × Refuses b.bytes 0 (length piece) a.bytes) → Cut (writes piece v) b a
   lost_cut piece v b a part rest e is taken failures (inl q) = record {
     front = put_step piece v ∷ [];
     later = [];

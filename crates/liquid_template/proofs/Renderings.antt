@@ -237,7 +237,7 @@ module _ {Reg F T P B Q : Type 0} (s : Setting Reg F T P B Q) where
       → IfSome (told e) (λ r. store_answer s.finds name ≡ Err r) → w ≡ v → RendersWithin (partials_at s depth name v) v b b w (Err e)
   found_fails depth name v w b e h i same = subst (λ x. RendersWithin (partials_at s depth name v) v b b x (Err e)) (sym same)
       (renders_refused (partials_at s depth name v) v v b e (if_then (told e)
-        (λ r j. ap (λ k. k v) (more_is depth name h) ∙ ap (λ x. read_as x (nodes_run s (depth - 1)) v) j) i) refl)
+      (λ r j. ap (λ k. k v) (more_is depth name h) ∙ ap (λ x. read_as x (nodes_run s (depth - 1)) v) j) i) refl)
 
   pub found_goes : (depth : ℕ) (name : List ℕ) (v v1 w : View Reg) (ns : Nodes F T B) (b a : Output) (answer : Answer) → 0 < depth
       → store_answer s.finds name ≡ Ok ns → v1 ≡ v → RendersWithin (nodes_run s (depth - 1) ns v1) v1 b a w answer

@@ -45,12 +45,12 @@ module _ {Reg F T P B Q : Type 0} (s : Setting Reg F T P B Q) (tl : Discreet s.t
   pub sandboxed_renders : (own : Option (List ℕ)) (v v1 w x : View Reg) (rs rs1 rs2 rs3 : List (Restore Reg)) (b a : Output)
       (answer : Result (Unit {0}) Error)
       → own ≡ name → v1 ≡ beginning s.fresh (sandboxed_frame names own) v → rs1 ≡ restored_by (sandboxed_frame names own) v ∷ rs → rs2 ≡ rs1
-        → EndsFirst rs2 w rs3 x → RendersWithin (template_run s ns v1) v1 b a w answer
+      → EndsFirst rs2 w rs3 x → RendersWithin (template_run s ns v1) v1 b a w answer
       → SandboxedWithin s.fresh (sandboxed_run s names name ns) v b a x answer
   sandboxed_renders own v v1 w x rs rs1 rs2 rs3 b a answer e h i j k r =
       sandboxed v x b a answer (subst (λ n. RendersWithin (sandboxed_run s names n ns v) v b a x answer) e
       (renders_framed s.fresh (sandboxed_frame names own) None (template_run s ns) v v1 w x rs rs1 rs2 rs3 b a answer answer h i j k
-        (becomes_itself answer) r))
+      (becomes_itself answer) r))
 
 -- a sandboxed frame gives interrupt and register back when it ends
 module _ {Reg : Type 0} where
@@ -62,7 +62,7 @@ module _ {Reg : Type 0} where
 
   pub untouched_after : (v w x : View Reg) (rs rs1 rs2 rs3 : List (Restore Reg))
       → rs1 ≡ restore_sandboxed v.locals v.base v.shown v.floor v.name v.interrupt v.register ∷ rs → rs2 ≡ rs1 → EndsFirst rs2 w rs3 x
-        → Untouched v x
+      → Untouched v x
   untouched_after v w x rs rs1 rs2 rs3 i j k =
       let r : Restore Reg = restore_sandboxed v.locals v.base v.shown v.floor v.name v.interrupt v.register in
       let left : x ≡ ending r w = k.is_ended ∙ ap (λ y. ending y w) (first_is k.restores r rs3 rs (sym k.was_first ∙ j ∙ i)) in

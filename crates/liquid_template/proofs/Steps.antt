@@ -99,11 +99,11 @@ module _ {Reg F T P B Q : Type 0} (s : Setting Reg F T P B Q) (partials : List �
     pub turn_more : (k : ℕ) (p q : R) (v v1 v2 w : View Reg) (b c d : Output) (a : TurnShape) (u : Unit {0}) (answer : Answer) → GoesOn a
         → (m.takes n p v).answer ≡ Ok a → v1 ≡ with_written (m.takes n p v).written v → q ≡ (m.takes n p v).progress → SameFrames v v1
         → RendersWithin (performed s partials parts a v1) v1 b c v2 (Ok u)
-          → RendersWithin (turns s partials m n parts k q v2) v2 c d w answer → RendersWithin (taken k p v) v b d w answer
+        → RendersWithin (turns s partials m n parts k q v2) v2 c d w answer → RendersWithin (taken k p v) v b d w answer
     turn_more k p q v v1 v2 w b c d a u answer more e h i same x y =
         subst (λ r. RendersWithin r v b d w answer) (sym (turn_goes k p q v v1 a more e h i))
         (renders_from (and_then (performed s partials parts a v1) (turns s partials m n parts k q)) v v1 w b d answer same
-          (renders_then (performed s partials parts a v1) (turns s partials m n parts k q) v1 v2 w b c d u answer x y))
+        (renders_then (performed s partials parts a v1) (turns s partials m n parts k q) v1 v2 w b c d u answer x y))
 
     pub turn_fails : (k : ℕ) (p q : R) (v v1 w : View Reg) (b c : Output) (a : TurnShape) (e : Error) → GoesOn a
         → (m.takes n p v).answer ≡ Ok a → v1 ≡ with_written (m.takes n p v).written v → q ≡ (m.takes n p v).progress → SameFrames v v1
@@ -111,7 +111,7 @@ module _ {Reg F T P B Q : Type 0} (s : Setting Reg F T P B Q) (partials : List �
     turn_fails k p q v v1 w b c a e more g h i same x =
         subst (λ r. RendersWithin r v b c w (Err e)) (sym (turn_goes k p q v v1 a more g h i))
         (renders_from (and_then (performed s partials parts a v1) (turns s partials m n parts k q)) v v1 w b c (Err e) same
-          (renders_first (performed s partials parts a v1) (turns s partials m n parts k q) v1 w b c e x))
+        (renders_first (performed s partials parts a v1) (turns s partials m n parts k q) v1 w b c e x))
 
     -- a turn that captures a part
     module _ (place : ℕ) (frame : FrameShape) (trace : Option (List ℕ)) where
@@ -129,13 +129,13 @@ module _ {Reg F T P B Q : Type 0} (s : Setting Reg F T P B Q) (partials : List �
           → (m.takes n p v).answer ≡ Ok (capture_turn place frame trace) → v1 ≡ with_written (m.takes n p v).written v
           → q ≡ (m.takes n p v).progress → SameFrames v v1
           → RendersWithin (silent (inner v1)) v1 b c v2 (Ok u) → RendersWithin
-            (turns s partials m n parts k (m.catches n q (written (inner v1))) v2) v2 c d w answer
-            → RendersWithin (taken k p v) v b d w answer
+          (turns s partials m n parts k (m.catches n q (written (inner v1))) v2) v2 c d w answer
+          → RendersWithin (taken k p v) v b d w answer
       capture_more k p q v v1 v2 w b c d u answer e h i same x y =
           subst (λ r. RendersWithin r v b d w answer) (sym (capture_goes k p q v v1 e h i))
           (renders_from (and_then (silent (inner v1)) (turns s partials m n parts k (m.catches n q (written (inner v1))))) v v1 w b d answer
-            same (renders_then (silent (inner v1)) (turns s partials m n parts k (m.catches n q (written (inner v1)))) v1 v2 w b c d u
-            answer x y))
+          same (renders_then (silent (inner v1)) (turns s partials m n parts k (m.catches n q (written (inner v1)))) v1 v2 w b c d u
+          answer x y))
 
       pub capture_fails : (k : ℕ) (p q : R) (v v1 w : View Reg) (b c : Output) (e : Error)
           → (m.takes n p v).answer ≡ Ok (capture_turn place frame trace) → v1 ≡ with_written (m.takes n p v).written v
@@ -143,8 +143,8 @@ module _ {Reg F T P B Q : Type 0} (s : Setting Reg F T P B Q) (partials : List �
           → RendersWithin (silent (inner v1)) v1 b c w (Err e) → RendersWithin (taken k p v) v b c w (Err e)
       capture_fails k p q v v1 w b c e g h i same x = subst (λ r. RendersWithin r v b c w (Err e)) (sym (capture_goes k p q v v1 g h i))
           (renders_from (and_then (silent (inner v1)) (turns s partials m n parts k (m.catches n q (written (inner v1))))) v v1 w b c
-            (Err e) same (renders_first (silent (inner v1)) (turns s partials m n parts k (m.catches n q (written (inner v1)))) v1 w b c e
-            x))
+          (Err e) same (renders_first (silent (inner v1)) (turns s partials m n parts k (m.catches n q (written (inner v1)))) v1 w b c e
+          x))
 
     pub turns_done : (p : R) (v : View Reg) (b : Output) (u : Unit {0}) → RendersWithin (turns s partials m n parts zero p v) v b b v (Ok u)
     unfolding turns

@@ -42,7 +42,7 @@ skips q k t ms other = either (slice_cmp nat_cmp q k) _ _ (is_eq-slice_cmp q k �
 put_other_at : (o : Ordering) (q k l : List ℕ) (t u : Tree) (ms : Members) → slice_cmp nat_cmp k l ≡ o → (q ≡ k → ⊥)
     → get_member q (put_member k t ms) ≡ get_member q ms
     → get_member q (match_ordering o (member k t (member l u ms)) (member l t ms) (member l u (put_member k t ms))) ≡ get_member q
-      (member l u ms)
+    (member l u ms)
 put_other_at Less q k l t u ms is other later = skips q k t (member l u ms) other
 put_other_at Equal q k l t u ms is other later =
     let same : k ≡ l = (bytes_eq-Decides k l).0 (sym (is_eq-slice_cmp k l) ∙ ap is_eq is) in
@@ -65,7 +65,7 @@ untouched : {V : Type 0} (tree : V → Tree) (name : List ℕ) (es : List (Strin
 untouched tree name [] ms h = refl
 untouched tree name (e ∷ es) ms h =
     untouched tree name es (put_member (string_bytes e.0) (tree e.1) ms) h.1
-      ∙ put_other name (string_bytes e.0) (tree e.1) ms (apart name (string_bytes e.0) h.0)
+    ∙ put_other name (string_bytes e.0) (tree e.1) ms (apart name (string_bytes e.0) h.0)
 
 abbrev pub text_eq : String Global → String Global → Bool
 text_eq x y = bytes_eq (string_bytes x) (string_bytes y)
@@ -79,16 +79,16 @@ found_at : {V : Type 0} (tree : V → Tree) (name : List ℕ) (e : String Global
     → bytes_eq name (string_bytes e.0) ≡ b
     → AllByRecursion (λ y. text_eq e.0 y ≡ false) (keys_of es) → get_member name ms ≡ None
     → ((others : Members) → get_member name others ≡ None → option_map tree
-      (lookup (λ k. bytes_eq name (string_bytes k)) es) ≡ get_member name (put_entries tree es others))
+    (lookup (λ k. bytes_eq name (string_bytes k)) es) ≡ get_member name (put_entries tree es others))
     → option_map tree (cond b (Some e.1) (lookup (λ k. bytes_eq name (string_bytes k)) es)) ≡ get_member name
-      (put_entries tree es (put_member (string_bytes e.0) (tree e.1) ms))
+    (put_entries tree es (put_member (string_bytes e.0) (tree e.1) ms))
 found_at tree name e es ms true is distinct none later =
     let same : name ≡ string_bytes e.0 = (bytes_eq-Decides name (string_bytes e.0)).0 is in
     sym (untouched tree name es (put_member (string_bytes e.0) (tree e.1) ms) (renamed name e.0 (keys_of es) same distinct)
     ∙ ap (λ text. get_member text (put_member (string_bytes e.0) (tree e.1) ms)) same ∙ put_same (string_bytes e.0) (tree e.1) ms)
 found_at tree name e es ms false is distinct none later =
     later (put_member (string_bytes e.0) (tree e.1) ms) (put_other name (string_bytes e.0) (tree e.1) ms (apart name (string_bytes e.0) is)
-      ∙ none)
+    ∙ none)
 
 found_from : {V : Type 0} (tree : V → Tree) (name : List ℕ) (es : List (String Global × V)) (ms : Members) → IsDistinct text_eq (keys_of es)
     → get_member name ms ≡ None
@@ -106,7 +106,7 @@ value_of_entries tree name es h = found_from tree name es no_members h refl
 count_put_at : (o : Ordering) (k l : List ℕ) (t u : Tree) (ms : Members) → get_member k ms ≡ None
     → match_ordering o None (Some u) None ≡ None → member_count (put_member k t ms) ≡ suc (member_count ms)
     → member_count (match_ordering o (member k t (member l u ms)) (member l t ms) (member l u (put_member k t ms))) ≡ suc
-      (suc (member_count ms))
+    (suc (member_count ms))
 count_put_at Less k l t u ms none is later = refl
 count_put_at Equal k l t u ms none is later = cc
 count_put_at Greater k l t u ms none is later = ap suc later
@@ -125,15 +125,16 @@ count_put k t no_members none = refl
 count_put k t (member l u ms) none =
     let rest : get_member k ms ≡ None = rest_none (slice_cmp nat_cmp k l) (get_member k ms) (Some u) none (is_some_tree u) in
     count_put_at (slice_cmp nat_cmp k l) k l t u ms rest (subst (λ r. match_ordering (slice_cmp nat_cmp k l) r (Some u) r ≡ None) rest none)
-      (count_put k t ms rest)
+    (count_put k t ms rest)
 
 still_new : (k : String Global) (t : Tree) (ks : List (String Global)) (ms : Members) → AllByRecursion (λ y. text_eq k y ≡ false) ks
     → AllByRecursion (λ y. get_member (string_bytes y) ms ≡ None) ks
     → AllByRecursion (λ y. get_member (string_bytes y) (put_member (string_bytes k) t ms) ≡ None) ks
 still_new k t [] ms distinct new = distinct
-still_new k t (y ∷ ks) ms distinct new =
-    (put_other (string_bytes y) (string_bytes k) t ms (λ same. apart (string_bytes k) (string_bytes y) distinct.0 (sym same)) ∙ new.0,
-      still_new k t ks ms distinct.1 new.1)
+still_new k t (y ∷ ks) ms distinct new = (
+  put_other (string_bytes y) (string_bytes k) t ms (λ same. apart (string_bytes k) (string_bytes y) distinct.0 (sym same)) ∙ new.0,
+  still_new k t ks ms distinct.1 new.1,
+)
 
 count_from : {V : Type 0} (tree : V → Tree) (es : List (String Global × V)) (ms : Members) → IsDistinct text_eq (keys_of es)
     → AllByRecursion (λ y. get_member (string_bytes y) ms ≡ None) (keys_of es)
@@ -142,10 +143,10 @@ unfolding IsDistinct
 count_from tree [] ms h new = omega arith
 count_from tree (e ∷ es) ms h new =
     let later : member_count (put_entries tree es (put_member (string_bytes e.0) (tree e.1) ms)) ≡ length es + member_count
-        (put_member (string_bytes e.0) (tree e.1) ms) =
+    (put_member (string_bytes e.0) (tree e.1) ms) =
     count_from tree es (put_member (string_bytes e.0) (tree e.1) ms) h.1 (still_new e.0 (tree e.1) (keys_of es) ms h.0 new.1) in
     let more : member_count (put_member (string_bytes e.0) (tree e.1) ms) ≡ suc (member_count ms) =
-        count_put (string_bytes e.0) (tree e.1) ms new.0 in
+    count_put (string_bytes e.0) (tree e.1) ms new.0 in
     omega arith
 
 all_new : (ks : List (String Global)) → AllByRecursion (λ y. get_member (string_bytes y) no_members ≡ None) ks

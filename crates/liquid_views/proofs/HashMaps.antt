@@ -30,7 +30,7 @@ pub has_no_members_of_entries : {V : Type 0} (tree : V → Tree) (es : List (Str
 has_no_members_of_entries tree [] = refl
 has_no_members_of_entries tree (e ∷ es) =
     let some : has_no_members (put_entries tree es (put_member (string_bytes e.0) (tree e.1) no_members)) ≡ false =
-        stays_some tree es (put_member (string_bytes e.0) (tree e.1) no_members) refl in
+    stays_some tree es (put_member (string_bytes e.0) (tree e.1) no_members) refl in
     some ∙ search rules
 
 abbrev pub borrowed_cmp : Bor (List ℕ) → Bor (List ℕ) → Ordering
@@ -55,4 +55,4 @@ pub index_turn : {V : Type 0} (tree : V → Tree) (text : Members → List ℕ) 
     → whole ≡ done ++ text (index_members tree es) → whole ≡ (done ++ piece key.now (tree v.now)) ++ text (index_members tree left)
 index_turn tree text piece step whole done es left key v is e =
     e ∙ ap (λ ms. done ++ text (index_members tree ms)) is ∙ ap (λ more. done ++ more) (step _ _ _)
-      ∙ sym (append_assoc done (piece key.now (tree v.now)) _)
+    ∙ sym (append_assoc done (piece key.now (tree v.now)) _)

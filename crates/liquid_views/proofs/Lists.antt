@@ -29,7 +29,7 @@ pub list_turn : {T : Type 0} (tree : T → Tree) (text : Items → List ℕ) (pi
     → whole ≡ done ++ text (items_by tree (drop i xs)) → whole ≡ (done ++ piece (tree x)) ++ text (items_by tree (drop (i + 1) xs))
 list_turn tree text piece step whole done xs i x within is e =
     e ∙ ap (λ ts. done ++ text ts) (items_by-drop tree xs i x within is) ∙ ap (λ more. done ++ more) (step _ _)
-      ∙ sym (append_assoc done (piece (tree x)) _)
+    ∙ sym (append_assoc done (piece (tree x)) _)
 
 nth_within : {T : Type 0} (tree : T → Tree) (xs : List T) (k : ℕ) (x : T) → k < length xs → x ≡ get_or xs k x
     → Some (tree x) ≡ nth k (items_by tree xs)

@@ -56,7 +56,7 @@ put_last index cmp ordered tree [] e more h = refl
 put_last index cmp ordered tree (first ∷ done) e more h =
     let above : slice_cmp nat_cmp (index e.0) (index first.0) ≡ Greater =
     nat_list_cmp_total.antisymm (index e.0) (index first.0) ∙ ap ordering_reverse
-      (sym (ordered first.0 e.0) ∙ below_middle cmp first.0 done e more h.0) in
+    (sym (ordered first.0 e.0) ∙ below_middle cmp first.0 done e more h.0) in
     rw above (ap (member (index first.0) (tree first.1)) (put_last index cmp ordered tree done e more h.1))
 
 -- the text of the entries so far and the text of this one, before the text of the later ones
@@ -66,4 +66,4 @@ pub map_turn : {K V : Type 0} (index : K → List ℕ) (tree : V → Tree) (text
     → whole ≡ done ++ text (members_by index tree es) → whole ≡ (done ++ piece (index key) (tree v)) ++ text (members_by index tree left)
 map_turn index tree text piece step whole done es left key v is e =
     e ∙ ap (λ ms. done ++ text (members_by index tree ms)) is ∙ ap (λ more. done ++ more) (step _ _ _)
-      ∙ sym (append_assoc done (piece (index key) (tree v)) _)
+    ∙ sym (append_assoc done (piece (index key) (tree v)) _)

@@ -37,15 +37,17 @@ second e op t [] = refl
 second e op t (u ∷ us) = seconded e op u us (or_unexpected u (expect_value u))
 
 operated : (e : ExpressionShape) (place : Place) (t : Token) (more : List Token) (o : Option Operator)
-    → elim o as (λ _. Result ConditionShape Refusal) [ None ↦ joined_by (Holds e) t (from_value t.following more)
-      | Some op ↦ from_second e op t.following more ]
+    → elim o as (λ _. Result ConditionShape Refusal) [
+      | None ↦ joined_by (Holds e) t (from_value t.following more)
+      | Some op ↦ from_second e op t.following more
+    ]
     ≡ ok_then (test_from e (record { following = place; left = t ∷ more }) (option_map (λ op. (op, tokens t more)) o)) going_on
 operated e place t more None = refl
 operated e place t more (Some op) = second e op t more
 
 valued : (e : ExpressionShape) (place : Place) (ts : List Token)
     → after_value e ts ≡ ok_then (test_from e (record { following = place; left = ts })
-      (operator_in (record { following = place; left = ts }))) going_on
+    (operator_in (record { following = place; left = ts }))) going_on
 valued e place [] = refl
 valued e place (t ∷ more) = operated e place t more (operator_of t.text)
 
@@ -82,8 +84,10 @@ after_first : (last : TestShape) (ts : List Token) (given : Token × Tokens) →
 after_first last [] given e = cc
 after_first last (t ∷ more) given e =
     ap (joined_by last t) (from_place t.following more)
-    ∙ ap (λ o. elim o as (λ _. Result ConditionShape Refusal) [ None ↦ after_test last (t ∷ more)
-      | Some g ↦ joined_by last g.0 (ok_then (test_given g.1) going_on) ]) e
+    ∙ ap (λ o. elim o as (λ _. Result ConditionShape Refusal) [
+      | None ↦ after_test last (t ∷ more)
+      | Some g ↦ joined_by last g.0 (ok_then (test_given g.1) going_on)
+    ]) e
 
 -- a condition with tests before it
 abbrev pub preceded : List (TestShape × Connective) → ConditionShape → Result ConditionShape Refusal
@@ -109,7 +113,7 @@ joined_on last rest connective = ok_then rest (joined_with (last, connective))
 pub test_read : (done after : List (TestShape × Connective)) (last test : TestShape) (ts : List Token) (given : Token × Tokens)
     (connective : Connective) (rest : Tokens) (meant : Result ConditionShape Refusal)
     → meant ≡ read_on done last ts → first_of ts ≡ Some given → or_unexpected given.0 (connective_of given.0.text) ≡ Ok connective
-      → test_given given.1 ≡ Ok (test, rest)
+    → test_given given.1 ≡ Ok (test, rest)
     → after ≡ done ++ (last, connective) ∷ [] → meant ≡ read_on after test rest.left
 test_read done after last test ts given connective rest meant so_far first joins is pushed =
     so_far
@@ -124,7 +128,7 @@ test_read done after last test ts given connective rest meant so_far first joins
 pub connective_refused : (done : List (TestShape × Connective)) (last : TestShape) (ts : List Token) (given : Token × Tokens)
     (o : Option Refusal) (meant : Result ConditionShape Refusal)
     → meant ≡ read_on done last ts → first_of ts ≡ Some given → IfSome o (λ r. or_unexpected given.0 (connective_of given.0.text) ≡ Err r)
-      → IfSome o (λ r. meant ≡ Err r)
+    → IfSome o (λ r. meant ≡ Err r)
 connective_refused done last ts given o meant so_far first refused =
     subst (λ q. IfSome o (λ r. q ≡ Err r)) (sym (so_far ∙ ap (λ r. ok_then r (preceded done)) (after_first last ts given first)))
     (then_refused o (joined_by last given.0 (ok_then (test_given given.1) going_on)) (preceded done)
@@ -134,7 +138,7 @@ connective_refused done last ts given o meant so_far first refused =
 pub test_refused : (done : List (TestShape × Connective)) (last : TestShape) (ts : List Token) (given : Token × Tokens)
     (connective : Connective) (o : Option Refusal) (meant : Result ConditionShape Refusal)
     → meant ≡ read_on done last ts → first_of ts ≡ Some given → or_unexpected given.0 (connective_of given.0.text) ≡ Ok connective
-      → IfSome o (λ r. test_given given.1 ≡ Err r) → IfSome o (λ r. meant ≡ Err r)
+    → IfSome o (λ r. test_given given.1 ≡ Err r) → IfSome o (λ r. meant ≡ Err r)
 test_refused done last ts given connective o meant so_far first joins refused =
     subst (λ q. IfSome o (λ r. q ≡ Err r))
     (sym (so_far ∙ ap (λ r. ok_then r (preceded done))

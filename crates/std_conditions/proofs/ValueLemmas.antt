@@ -17,7 +17,7 @@ module _ (separators : List (List ℕ)) where
 
   valued : (t : Token) (more : List Token) (r : Result ExpressionShape Refusal)
       → ok_then r (λ e. ok_then (values_after separators more) (λ es. Ok (e ∷ es))) ≡ ok_then
-        (ok_then r (λ e. Ok (e, record { following = t.following; left = more }))) going_on
+      (ok_then r (λ e. Ok (e, record { following = t.following; left = more }))) going_on
   valued t more (Ok e) = refl
   valued t more (Err refusal) = refl
 
@@ -44,7 +44,7 @@ module _ (separators : List (List ℕ)) where
 
   after_first : (ts : List Token) (given : Token × Tokens) → first_of ts ≡ Some given
       → values_after separators ts ≡ ok_then (or_unexpected given.0 (expect_one_of separators given.0))
-        (λ u. ok_then (next_as expect_value given.1) going_on)
+      (λ u. ok_then (next_as expect_value given.1) going_on)
   after_first [] given e = cc
   after_first (t ∷ more) given e =
       ap (λ x. ok_then (or_unexpected t (expect_one_of separators t)) (λ u. x)) (from_place t.following more)
@@ -62,13 +62,13 @@ module _ (separators : List (List ℕ)) where
   pub value_read : (done after : List ExpressionShape) (ts : List Token) (given : Token × Tokens) (e : ExpressionShape) (rest : Tokens)
       (u : Unit {0}) (meant : Result (List ExpressionShape) Refusal)
       → meant ≡ read_on done ts → first_of ts ≡ Some given → or_unexpected given.0 (expect_one_of separators given.0) ≡ Ok u
-        → next_as expect_value given.1 ≡ Ok (e, rest) → after ≡ done ++ e ∷ []
+      → next_as expect_value given.1 ≡ Ok (e, rest) → after ≡ done ++ e ∷ []
       → meant ≡ read_on after rest.left
   value_read done after ts given e rest u meant so_far first separates is pushed =
       so_far
       ∙ ap (λ r. ok_then r (λ es. Ok (done ++ es)))
       (after_first ts given first ∙ ap (λ r. ok_then r (λ w. ok_then (next_as expect_value given.1) going_on)) separates
-        ∙ ap (λ r. ok_then r going_on) is)
+      ∙ ap (λ r. ok_then r going_on) is)
       ∙ moved done e (values_after separators rest.left)
       ∙ ap (λ es. read_on es rest.left) (sym pushed)
 
@@ -76,25 +76,25 @@ module _ (separators : List (List ℕ)) where
   pub separator_refused : (done : List ExpressionShape) (ts : List Token) (given : Token × Tokens) (o : Option Refusal)
       (meant : Result (List ExpressionShape) Refusal)
       → meant ≡ read_on done ts → first_of ts ≡ Some given → IfSome o
-        (λ r. or_unexpected given.0 (expect_one_of separators given.0) ≡ Err r) → IfSome o (λ r. meant ≡ Err r)
+      (λ r. or_unexpected given.0 (expect_one_of separators given.0) ≡ Err r) → IfSome o (λ r. meant ≡ Err r)
   separator_refused done ts given o meant so_far first refused =
       subst (λ q. IfSome o (λ r. q ≡ Err r)) (sym (so_far ∙ ap (λ r. ok_then r (λ es. Ok (done ++ es))) (after_first ts given first)))
       (then_refused o (ok_then (or_unexpected given.0 (expect_one_of separators given.0))
-        (λ u. ok_then (next_as expect_value given.1) going_on)) (λ es. Ok (done ++ es))
+      (λ u. ok_then (next_as expect_value given.1) going_on)) (λ es. Ok (done ++ es))
       (then_refused o (or_unexpected given.0 (expect_one_of separators given.0))
-        (λ u. ok_then (next_as expect_value given.1) going_on) refused))
+      (λ u. ok_then (next_as expect_value given.1) going_on) refused))
 
   -- the refusal of what follows a separator
   pub value_refused : (done : List ExpressionShape) (ts : List Token) (given : Token × Tokens) (u : Unit {0}) (o : Option Refusal)
       (meant : Result (List ExpressionShape) Refusal)
       → meant ≡ read_on done ts → first_of ts ≡ Some given → or_unexpected given.0 (expect_one_of separators given.0) ≡ Ok u
-        → IfSome o (λ r. next_as expect_value given.1 ≡ Err r) → IfSome o (λ r. meant ≡ Err r)
+      → IfSome o (λ r. next_as expect_value given.1 ≡ Err r) → IfSome o (λ r. meant ≡ Err r)
   value_refused done ts given u o meant so_far first separates refused =
       subst (λ q. IfSome o (λ r. q ≡ Err r))
       (sym (so_far ∙ ap (λ r. ok_then r (λ es. Ok (done ++ es))) (after_first ts given first
-        ∙ ap (λ r. ok_then r (λ w. ok_then (next_as expect_value given.1) going_on)) separates)))
+      ∙ ap (λ r. ok_then r (λ w. ok_then (next_as expect_value given.1) going_on)) separates)))
       (then_refused o (ok_then (next_as expect_value given.1) going_on) (λ es. Ok (done ++ es))
-        (then_refused o (next_as expect_value given.1) going_on refused))
+      (then_refused o (next_as expect_value given.1) going_on refused))
 
   no_token : (ts : List Token) → first_of ts ≡ None → ts ≡ []
   no_token [] none = refl
@@ -116,4 +116,4 @@ module _ (separators : List (List ℕ)) where
   one_of_refused t text None same is told = told
   one_of_refused t text (Some r) same is told =
       ap (λ b. or_unexpected t (cond b (Some tt) None)) (ap (λ x. list_any (bytes_eq x) separators) (sym same) ∙ is)
-        ∙ ap (λ q. Err q) (sym told)
+      ∙ ap (λ q. Err q) (sym told)

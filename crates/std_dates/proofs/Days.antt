@@ -43,8 +43,11 @@ next_year k d is last end h =
     let first = d.year_in.0 in
     let more = days_from_civil-next_year d.year (d.year +ℤ pos 1) (omega (arith, signed_arith, first)) refl in
     let is₂ : days_from_civil d.year 12 31 +ℤ pos 4_371_587 ≡ pos k = rw (← last, ← end) is in (
-      date_of (d.year +ℤ pos 1) 1 1 ((omega (arith, signed_arith, first), omega (arith, signed_arith, h)), (omega arith, omega arith),
-        (omega arith, omega arith)),
+      date_of (d.year +ℤ pos 1) 1 1 (
+        (omega (arith, signed_arith, first), omega (arith, signed_arith, h)),
+        (omega arith, omega arith),
+        (omega arith, omega arith),
+      ),
       omega (arith, signed_arith, is₂, more),
     )
 
@@ -78,8 +81,11 @@ next_date k small d is = by_day (cases_lt d.day (days_in_month d.year d.month))
 
 each_day : (k : ℕ) → k ≤ 7_304_483 → (d : CivilDate) × IsAfterFirst k d
 each_day zero small = (
-  date_of (neg_ℤ (pos 9999)) 1 1 ((omega (arith, signed_arith), omega (arith, signed_arith)), (omega arith, omega arith),
-    (omega arith, omega arith)),
+  date_of (neg_ℤ (pos 9999)) 1 1 (
+    (omega (arith, signed_arith), omega (arith, signed_arith)),
+    (omega arith, omega arith),
+    (omega arith, omega arith),
+  ),
   omega (arith, signed_arith, days_from_civil-min),
 )
 each_day (suc k) small =

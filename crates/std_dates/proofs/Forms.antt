@@ -68,7 +68,7 @@ dashed_decided text =
 pub date_decided : (text : List ℕ) → Decided (date_forms text)
 date_decided text =
     first_decided long_date (first short_date dashed_date) text (long_decided text)
-      (first_decided short_date dashed_date text (short_decided text) (dashed_decided text))
+    (first_decided short_date dashed_date text (short_decided text) (dashed_decided text))
 
 -- date times
 here : (dt : DateTime) → IsAt (civil_date dt).year (civil_date dt).month (civil_date dt).day (civil_time dt).hour (civil_time dt).minute
@@ -89,7 +89,7 @@ module _ {V : Type 0} (F : Form V) (r : List ℕ → Read V) (reads : Reads F r)
   timed_decided : (text : List ℕ) → Decided (Timed text)
   timed_decided text =
       written_decided (joined F 32 offset_form) (joined_at r 32 offset_at)
-        (joined_reads F r 32 offset_form offset_at reads offset_reads refl) (λ p. Is p.0 p.1) (λ p. made p.0 p.1) text
+      (joined_reads F r 32 offset_form offset_at reads offset_reads refl) (λ p. Is p.0 p.1) (λ p. made p.0 p.1) text
 
 -- the parts of a date time, in the order of a form
 abbrev Ymd : Type 0
@@ -119,65 +119,85 @@ month_made v z = at_decided v.0.1.1 v.0.0 v.0.1.0 v.1.0 v.1.1.0 v.1.1.1 0 z
 dashed_time_is : (text : List ℕ) (dt : DateTime) → Timed timed_dashed timed_dashed_at timed_dashed_reads by_year year_made text dt
     → dashed_date_time text dt
 unfolding dashed_date_time
-dashed_time_is text dt (p, f, is) =
-    (of_parts (λ y m d h i s n z. joined timed_dashed 32 offset_form text (((y, (m, d)), (h, (i, s))), z)) p.0.0.0 p.0.0.1.0 p.0.0.1.1
-    p.0.1.0 p.0.1.1.0 p.0.1.1.1 0 p.1 dt is f, is.of_nano)
+dashed_time_is text dt (p, f, is) = (
+  of_parts (λ y m d h i s n z. joined timed_dashed 32 offset_form text (((y, (m, d)), (h, (i, s))), z)) p.0.0.0 p.0.0.1.0 p.0.0.1.1
+      p.0.1.0 p.0.1.1.0 p.0.1.1.1 0 p.1 dt is f,
+  is.of_nano,
+)
 
 dashed_time_decided : (text : List ℕ) → Decided (dashed_date_time text)
 unfolding dashed_date_time
 dashed_time_decided text =
     same_decided (Timed timed_dashed timed_dashed_at timed_dashed_reads by_year year_made text) (dashed_date_time text)
-      (dashed_time_is text)
-    (λ dt h. (((((civil_date dt).year, ((civil_date dt).month, (civil_date dt).day)), hms dt.local), offset_seconds dt), h.0,
-      whole_second dt h.1))
+    (dashed_time_is text)
+    (λ dt h. (
+      ((((civil_date dt).year, ((civil_date dt).month, (civil_date dt).day)), hms dt.local), offset_seconds dt),
+      h.0,
+      whole_second dt h.1,
+    ))
     (timed_decided timed_dashed timed_dashed_at timed_dashed_reads by_year year_made text)
 
 long_time_is : (text : List ℕ) (dt : DateTime) → Timed (timed_day_month month_name) timed_long_at timed_long_reads by_day day_made text dt
     → long_date_time text dt
 unfolding long_date_time
-long_time_is text dt (p, f, is) =
-    (of_parts (λ y m d h i s n z. joined (timed_day_month month_name) 32 offset_form text (((d, (m, y)), (h, (i, s))), z)) p.0.0.1.1
-    p.0.0.1.0 p.0.0.0 p.0.1.0 p.0.1.1.0 p.0.1.1.1 0 p.1 dt is f, is.of_nano)
+long_time_is text dt (p, f, is) = (
+  of_parts (λ y m d h i s n z. joined (timed_day_month month_name) 32 offset_form text (((d, (m, y)), (h, (i, s))), z)) p.0.0.1.1
+      p.0.0.1.0 p.0.0.0 p.0.1.0 p.0.1.1.0 p.0.1.1.1 0 p.1 dt is f,
+  is.of_nano,
+)
 
 long_time_decided : (text : List ℕ) → Decided (long_date_time text)
 unfolding long_date_time
 long_time_decided text =
     same_decided (Timed (timed_day_month month_name) timed_long_at timed_long_reads by_day day_made text) (long_date_time text)
-      (long_time_is text)
-    (λ dt h. (((((civil_date dt).day, ((civil_date dt).month, (civil_date dt).year)), hms dt.local), offset_seconds dt), h.0,
-      whole_second dt h.1))
+    (long_time_is text)
+    (λ dt h. (
+      ((((civil_date dt).day, ((civil_date dt).month, (civil_date dt).year)), hms dt.local), offset_seconds dt),
+      h.0,
+      whole_second dt h.1,
+    ))
     (timed_decided (timed_day_month month_name) timed_long_at timed_long_reads by_day day_made text)
 
 short_time_is : (text : List ℕ) (dt : DateTime) → Timed (timed_day_month short_month_name) timed_short_at timed_short_reads by_day day_made
     text dt → short_date_time text dt
 unfolding short_date_time
-short_time_is text dt (p, f, is) =
-    (of_parts (λ y m d h i s n z. joined (timed_day_month short_month_name) 32 offset_form text (((d, (m, y)), (h, (i, s))), z)) p.0.0.1.1
-    p.0.0.1.0 p.0.0.0 p.0.1.0 p.0.1.1.0 p.0.1.1.1 0 p.1 dt is f, is.of_nano)
+short_time_is text dt (p, f, is) = (
+  of_parts (λ y m d h i s n z. joined (timed_day_month short_month_name) 32 offset_form text (((d, (m, y)), (h, (i, s))), z)) p.0.0.1.1
+      p.0.0.1.0 p.0.0.0 p.0.1.0 p.0.1.1.0 p.0.1.1.1 0 p.1 dt is f,
+  is.of_nano,
+)
 
 short_time_decided : (text : List ℕ) → Decided (short_date_time text)
 unfolding short_date_time
 short_time_decided text =
     same_decided (Timed (timed_day_month short_month_name) timed_short_at timed_short_reads by_day day_made text) (short_date_time text)
-      (short_time_is text)
-    (λ dt h. (((((civil_date dt).day, ((civil_date dt).month, (civil_date dt).year)), hms dt.local), offset_seconds dt), h.0,
-      whole_second dt h.1))
+    (short_time_is text)
+    (λ dt h. (
+      ((((civil_date dt).day, ((civil_date dt).month, (civil_date dt).year)), hms dt.local), offset_seconds dt),
+      h.0,
+      whole_second dt h.1,
+    ))
     (timed_decided (timed_day_month short_month_name) timed_short_at timed_short_reads by_day day_made text)
 
 slashed_time_is : (text : List ℕ) (dt : DateTime) → Timed timed_slashed timed_slashed_at timed_slashed_reads by_month month_made text dt
     → slashed_date_time text dt
 unfolding slashed_date_time
-slashed_time_is text dt (p, f, is) =
-    (of_parts (λ y m d h i s n z. joined timed_slashed 32 offset_form text (((m, (d, y)), (h, (i, s))), z)) p.0.0.1.1 p.0.0.0 p.0.0.1.0
-    p.0.1.0 p.0.1.1.0 p.0.1.1.1 0 p.1 dt is f, is.of_nano)
+slashed_time_is text dt (p, f, is) = (
+  of_parts (λ y m d h i s n z. joined timed_slashed 32 offset_form text (((m, (d, y)), (h, (i, s))), z)) p.0.0.1.1 p.0.0.0 p.0.0.1.0
+      p.0.1.0 p.0.1.1.0 p.0.1.1.1 0 p.1 dt is f,
+  is.of_nano,
+)
 
 slashed_time_decided : (text : List ℕ) → Decided (slashed_date_time text)
 unfolding slashed_date_time
 slashed_time_decided text =
     same_decided (Timed timed_slashed timed_slashed_at timed_slashed_reads by_month month_made text) (slashed_date_time text)
-      (slashed_time_is text)
-    (λ dt h. (((((civil_date dt).month, ((civil_date dt).day, (civil_date dt).year)), hms dt.local), offset_seconds dt), h.0,
-      whole_second dt h.1))
+    (slashed_time_is text)
+    (λ dt h. (
+      ((((civil_date dt).month, ((civil_date dt).day, (civil_date dt).year)), hms dt.local), offset_seconds dt),
+      h.0,
+      whole_second dt h.1,
+    ))
     (timed_decided timed_slashed timed_slashed_at timed_slashed_reads by_month month_made text)
 
 -- with a fraction
@@ -201,9 +221,12 @@ fraction_time_decided : (text : List ℕ) → Decided (fraction_date_time text)
 unfolding fraction_date_time
 fraction_time_decided text =
     same_decided (Timed timed_fraction timed_fraction_at timed_fraction_reads exactly exact_made text) (fraction_date_time text)
-      (fraction_time_is text)
-    (λ dt h. (((((civil_date dt).year, ((civil_date dt).month, (civil_date dt).day)), (hms dt.local, nanosecond dt)), offset_seconds dt), h,
-      here dt))
+    (fraction_time_is text)
+    (λ dt h. (
+      ((((civil_date dt).year, ((civil_date dt).month, (civil_date dt).day)), (hms dt.local, nanosecond dt)), offset_seconds dt),
+      h,
+      here dt,
+    ))
     (timed_decided timed_fraction timed_fraction_at timed_fraction_reads exactly exact_made text)
 
 -- with a weekday, which may be any
@@ -219,17 +242,23 @@ name_made v z = at_decided v.1.1.1.1 v.1.0 v.1.1.0 v.1.1.1.0.0 v.1.1.1.0.1.0 v.1
 weekday_time_is : (text : List ℕ) (dt : DateTime) → Timed timed_weekday timed_weekday_at timed_weekday_reads by_name name_made text dt
     → weekday_date_time text dt
 unfolding weekday_date_time
-weekday_time_is text dt (p, f, is) =
-    (p.0.0, of_parts (λ y m d h i s n z. joined timed_weekday 32 offset_form text ((p.0.0, (m, (d, ((h, (i, s)), y)))), z)) p.0.1.1.1.1
-    p.0.1.0 p.0.1.1.0 p.0.1.1.1.0.0 p.0.1.1.1.0.1.0 p.0.1.1.1.0.1.1 0 p.1 dt is f, is.of_nano)
+weekday_time_is text dt (p, f, is) = (
+  p.0.0,
+  of_parts (λ y m d h i s n z. joined timed_weekday 32 offset_form text ((p.0.0, (m, (d, ((h, (i, s)), y)))), z)) p.0.1.1.1.1
+      p.0.1.0 p.0.1.1.0 p.0.1.1.1.0.0 p.0.1.1.1.0.1.0 p.0.1.1.1.0.1.1 0 p.1 dt is f,
+  is.of_nano,
+)
 
 weekday_time_decided : (text : List ℕ) → Decided (weekday_date_time text)
 unfolding weekday_date_time
 weekday_time_decided text =
     same_decided (Timed timed_weekday timed_weekday_at timed_weekday_reads by_name name_made text) (weekday_date_time text)
-      (weekday_time_is text)
-    (λ dt h. (((h.0, ((civil_date dt).month, ((civil_date dt).day, (hms dt.local, (civil_date dt).year)))), offset_seconds dt), h.1,
-      whole_second dt h.2))
+    (weekday_time_is text)
+    (λ dt h. (
+      ((h.0, ((civil_date dt).month, ((civil_date dt).day, (hms dt.local, (civil_date dt).year)))), offset_seconds dt),
+      h.1,
+      whole_second dt h.2,
+    ))
     (timed_decided timed_weekday timed_weekday_at timed_weekday_reads by_name name_made text)
 
 day_forms_decided : (text : List ℕ) → Decided (day_forms text)

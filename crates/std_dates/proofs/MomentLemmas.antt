@@ -26,7 +26,7 @@ use Rattle.std_dates.proofs.Parts.{date_of, time_of, date_time_of, same_date_is,
 is_now : (bytes : List ℕ) → Either (IsNow bytes)
 is_now bytes =
     one_of (equal_texts (map to_ascii_lowercase (trim bytes)) (codes "now"))
-      (equal_texts (map to_ascii_lowercase (trim bytes)) (codes "today"))
+    (equal_texts (map to_ascii_lowercase (trim bytes)) (codes "today"))
 
 today_is_now : (bytes : List ℕ) → bytes ≡ codes "today" → IsNow bytes
 unfolding trim_start trim_end chars lib.Utf8.encode
@@ -124,8 +124,12 @@ midnight_once c d a b e (date_a, time_a, offset_a) (date_b, time_b, offset_b) =
     let years = ap (λ (x : CivilDate). x.year) e in
     let months = ap (λ (x : CivilDate). x.month) e in
     let days = ap (λ (x : CivilDate). x.day) e in
-    same_date_time_is a b ((date_a.0 ∙ years ∙ sym date_b.0, date_a.1 ∙ months ∙ sym date_b.1, date_a.2 ∙ days ∙ sym date_b.2),
-      (time.0, time.1, time.2), time.3, offset_a ∙ sym offset_b)
+    same_date_time_is a b (
+      (date_a.0 ∙ years ∙ sym date_b.0, date_a.1 ∙ months ∙ sym date_b.1, date_a.2 ∙ days ∙ sym date_b.2),
+      (time.0, time.1, time.2),
+      time.3,
+      offset_a ∙ sym offset_b,
+    )
 
 midnight_text_decided : (bytes : List ℕ) (now : DateTime) → Decided (IsMidnightText now bytes)
 midnight_text_decided bytes now = by_date (date_text_decided bytes now)
@@ -138,7 +142,7 @@ midnight_text_decided bytes now = by_date (date_text_decided bytes now)
 pub text_at_decided : (bytes : List ℕ) (now : DateTime) → Decided (IsTextAt now bytes)
 text_at_decided bytes now =
     first_decided (λ b dt. IsDateTimeText b now dt) (IsMidnightText now) bytes (date_time_text_decided bytes now)
-      (midnight_text_decided bytes now)
+    (midnight_text_decided bytes now)
 
 text_at_once : (bytes : List ℕ) (now a b : DateTime) → IsTextAt now bytes a → IsTextAt now bytes b → a ≡ b
 text_at_once bytes now a b (inl h) (inl k) = date_time_text_once bytes now a b h k
@@ -164,8 +168,11 @@ text_anywhen bytes now then dt other (inr (none, (d, is, at))) =
 -- some date time
 epoch : DateTime
 epoch =
-    midnight (date_of (pos 1970) 1 1 ((omega (arith, signed_arith), omega (arith, signed_arith)), (omega arith, omega arith),
-      (omega arith, omega arith)))
+    midnight (date_of (pos 1970) 1 1 (
+      (omega (arith, signed_arith), omega (arith, signed_arith)),
+      (omega arith, omega arith),
+      (omega arith, omega arith),
+    ))
 
 -- the text, with such a moment or without one
 moment_text_decided : (now : Option DateTime) (bytes : List ℕ) → Decided (IsMomentText now bytes)

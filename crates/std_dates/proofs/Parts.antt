@@ -18,8 +18,16 @@ date_of y m d h = record { year = y; month = m; day = d; year_in = h.0; month_in
 
 abbrev pub time_of : (hour minute second nano : ℕ) → IsClockTime hour minute second nano → CivilTime
 time_of hour minute second nano h =
-    record { hour = hour; minute = minute; second = second; subsec_nanosecond = nano; hour_in = h.0; minute_in = h.1; second_in = h.2;
-    subsec_in = h.3 }
+    record {
+      hour = hour;
+      minute = minute;
+      second = second;
+      subsec_nanosecond = nano;
+      hour_in = h.0;
+      minute_in = h.1;
+      second_in = h.2;
+      subsec_in = h.3;
+    }
 
 abbrev offset_of : (z : ℤ) → IsOffsetSeconds z → Offset
 offset_of z h = record { seconds = z; in_range = h }
@@ -69,7 +77,7 @@ pub of_parts : (P : ℤ → ℕ → ℕ → ℕ → ℕ → ℕ → ℕ → ℤ 
     (civil_time dt).second (nanosecond dt) (offset_seconds dt)
 of_parts P y m d h i s n z dt is p =
     moved P _ y _ m _ d _ h _ i _ s _ n _ z is.of_date.0 is.of_date.1 is.of_date.2 is.of_hour is.of_minute is.of_second is.of_nano
-      is.of_offset p
+    is.of_offset p
 
 clocked : (hour minute second nano : ℕ) (t : CivilTime) → t.hour ≡ hour → t.minute ≡ minute → t.second ≡ second → t.subsec_nanosecond ≡ nano
     → IsClockTime hour minute second nano
@@ -84,8 +92,10 @@ at_decided y m d hour minute second nano z = by_cases (on_decided y m d) (is_clo
     by_cases : Decided (IsOn y m d) → Either (IsClockTime hour minute second nano) → Either (IsOffsetSeconds z)
         → Decided (IsAt y m d hour minute second nano z)
     by_cases (inl (date, on)) (inl clock) (inl offset) =
-        inl (date_time_of date (time_of hour minute second nano clock) z offset,
-        record { of_date = on; of_hour = refl; of_minute = refl; of_second = refl; of_nano = refl; of_offset = refl })
+        inl (
+          date_time_of date (time_of hour minute second nano clock) z offset,
+          record { of_date = on; of_hour = refl; of_minute = refl; of_second = refl; of_nano = refl; of_offset = refl },
+        )
     by_cases (inl _) (inl _) (inr fails) = inr (λ dt is. fails (offsetted z dt.offset is.of_offset))
     by_cases (inl _) (inr fails) _ =
         inr (λ dt is. fails (clocked hour minute second nano (civil_time dt) is.of_hour is.of_minute is.of_second is.of_nano))
@@ -158,7 +168,7 @@ same_offset_is a b e = by_seconds b.in_range
 pub same_date_time_is : (a b : DateTime) → SameDateTime a b → a ≡ b
 same_date_time_is a b h =
     ap (λ (d : CivilDate). record { local = record { date = d; time = civil_time a }; offset = a.offset })
-        (same_date_is (civil_date a) (civil_date b) h.0)
+    (same_date_is (civil_date a) (civil_date b) h.0)
     ∙ ap (λ (t : CivilTime). record { local = record { date = civil_date b; time = t }; offset = a.offset })
-      (same_time_is (civil_time a) (civil_time b) h.1 h.2)
+    (same_time_is (civil_time a) (civil_time b) h.1 h.2)
     ∙ ap (λ (o : Offset). record { local = b.local; offset = o }) (same_offset_is a.offset b.offset h.3)

@@ -32,9 +32,9 @@ pub evaluate_arguments_erased : {Reg : Type 0} (v : View Reg) (es : List Express
     → evaluate_arguments (erase v) es ks ≡ evaluate_arguments v es ks
 evaluate_arguments_erased v es ks =
     ap (λ r. ok_then r (λ ts. ok_then (evaluate_named (erase v) ks) (λ us. Ok (record { positional = ts; keyword = us }))))
-        (evaluate_all_erased v es)
+    (evaluate_all_erased v es)
     ∙ ap (λ q. ok_then (evaluate_all v es) (λ ts. ok_then q (λ us. Ok (record { positional = ts; keyword = us }))))
-      (evaluate_named_erased v ks)
+    (evaluate_named_erased v ks)
 
 -- so it is all that a call needs
 pub call_answer_erased : {K Reg : Type 0} (sense : K → FilterSense) (f : CallShape K) (input : Tree) (v : View Reg)

@@ -66,7 +66,7 @@ unseen-new keys more k e es moved key new =
     ∙ ap (λ b. b || is_seen keys u) (ap (same_value u) key ∙ same_value_equiv.symm u e.0) in
     cond-true _ _ _ (ap not new)
     ∙ ap (λ l. e ∷ l) (filter-both _ _ _ (λ other. ap not (seen_now other.0) ∙ neither (same_value e.0 other.0) (is_seen keys other.0))
-      (distinct es))
+    (distinct es))
 
 unseen-none : (es : List (Tree × Tree)) → unseen [] es ≡ es
 unseen-none [] = refl
@@ -77,7 +77,7 @@ pub kept-start : (kept : List Value) (keys : List (Bor Value)) (es : List (Tree 
     ++ items_in (unseen keys (distinct es)) ≡ items_in (distinct es)
 kept-start kept keys es none unread =
     ap (λ l. map view l ++ items_in (unseen keys (distinct es))) none ∙ ap (λ l. items_in (unseen l (distinct es))) unread
-      ∙ ap items_in (unseen-none (distinct es))
+    ∙ ap items_in (unseen-none (distinct es))
 
 -- an entry with a new key is kept
 pub kept-new : (kept after : List Tree) (keys more : List (Bor Value)) (k : Bor Value) (e : Tree × Tree) (es : List (Tree × Tree))

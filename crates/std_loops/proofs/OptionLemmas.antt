@@ -25,26 +25,26 @@ module _ (block : LoopBlock) where
 
   argued : (option : LoopOption) (o : OptionsShape) (t : Token) (more : List Token) (r : Result ExpressionShape Refusal)
       → ok_then r (λ e. options_from block (with_option option e o) more) ≡ ok_then (ok_then r (λ e. Ok (e, tokens t more)))
-        (with_argument option o)
+      (with_argument option o)
   argued option o t more (Ok e) = refl
   argued option o t more (Err refusal) = refl
 
   from_place : (option : LoopOption) (o : OptionsShape) (place : Place) (ts : List Token)
       → from_argument block option o place ts ≡ ok_then (next_as (expect_argument option) (record { following = place; left = ts }))
-        (with_argument option o)
+      (with_argument option o)
   from_place option o place [] = refl
   from_place option o place (t ∷ more) = argued option o t more (or_unexpected t (expect_argument option t))
 
   coloned : (option : LoopOption) (o : OptionsShape) (t : Token) (more : List Token) (r : Result (Unit {0}) Refusal)
       → ok_then r (λ u. from_argument block option o t.following more)
       ≡ ok_then (ok_then (ok_then {B = Unit {0} × Tokens} r (λ u. Ok (u, tokens t more)))
-          (λ colon. next_as (expect_argument option) colon.1)) (with_argument option o)
+      (λ colon. next_as (expect_argument option) colon.1)) (with_argument option o)
   coloned option o t more (Ok u) = from_place option o t.following more
   coloned option o t more (Err refusal) = refl
 
   from_name : (option : LoopOption) (o : OptionsShape) (place : Place) (ts : List Token)
       → from_colon block option o place ts ≡ ok_then (argument_given option (record { following = place; left = ts }))
-        (with_argument option o)
+      (with_argument option o)
   from_name option o place [] = refl
   from_name option o place (t ∷ more) = coloned option o t more (or_unexpected t (expect_str (codes ":") t))
 
@@ -102,15 +102,15 @@ module _ (block : LoopBlock) where
   chosen_on Reversed o ts given first = refl
   chosen_on Offset o ts given first =
       from_name Offset o given.0.following given.1.left ∙ ap (λ g. ok_then (argument_given Offset g) (with_argument Offset o))
-        (stands ts given first)
+      (stands ts given first)
       ∙ argument_on Offset o (λ e. record o { offset = Some e }) (argument_given Offset given.1) (λ e. refl)
   chosen_on Cols o ts given first =
       from_name Cols o given.0.following given.1.left ∙ ap (λ g. ok_then (argument_given Cols g) (with_argument Cols o))
-        (stands ts given first)
+      (stands ts given first)
       ∙ argument_on Cols o (λ e. record o { cols = Some e }) (argument_given Cols given.1) (λ e. refl)
   chosen_on Limit o ts given first =
       from_name Limit o given.0.following given.1.left ∙ ap (λ g. ok_then (argument_given Limit g) (with_argument Limit o))
-        (stands ts given first)
+      (stands ts given first)
       ∙ argument_on Limit o (λ e. record o { limit = Some e }) (argument_given Limit given.1) (λ e. refl)
 
   option_on : (o : OptionsShape) (ts : List Token) (given : Token × Tokens) (option : LoopOption) → first_of ts ≡ Some given
@@ -122,23 +122,23 @@ module _ (block : LoopBlock) where
   pub option_read : (o after : OptionsShape) (ts : List Token) (given : Token × Tokens) (option : LoopOption) (rest : Tokens)
       (meant : Result OptionsShape Refusal)
       → meant ≡ options_from block o ts → first_of ts ≡ Some given → option_named block o given.0.text ≡ Some option
-        → option_given option o given.1 ≡ Ok (after, rest) → meant ≡ options_from block after rest.left
+      → option_given option o given.1 ≡ Ok (after, rest) → meant ≡ options_from block after rest.left
   option_read o after ts given option rest meant so_far first is read =
       so_far ∙ option_on o ts given option first is ∙ ap (λ r. ok_then r going_on) read
 
   pub option_refused : (o : OptionsShape) (ts : List Token) (given : Token × Tokens) (option : LoopOption) (e : Option Refusal)
       (meant : Result OptionsShape Refusal)
       → meant ≡ options_from block o ts → first_of ts ≡ Some given → option_named block o given.0.text ≡ Some option
-        → IfSome e (λ r. option_given option o given.1 ≡ Err r) → IfSome e (λ r. meant ≡ Err r)
+      → IfSome e (λ r. option_given option o given.1 ≡ Err r) → IfSome e (λ r. meant ≡ Err r)
   option_refused o ts given option e meant so_far first is refused =
       subst (λ q. IfSome e (λ r. q ≡ Err r)) (sym (so_far ∙ option_on o ts given option first is))
-        (then_refused e (option_given option o given.1) going_on refused)
+      (then_refused e (option_given option o given.1) going_on refused)
 
   -- a token that names no option is an error
   pub name_refused : (o : OptionsShape) (ts : List Token) (given : Token × Tokens) (e : Option Refusal)
       (meant : Result OptionsShape Refusal)
       → meant ≡ options_from block o ts → first_of ts ≡ Some given → option_named block o given.0.text ≡ None
-        → IfSome e (λ r. r ≡ unexpected given.0) → IfSome e (λ r. meant ≡ Err r)
+      → IfSome e (λ r. r ≡ unexpected given.0) → IfSome e (λ r. meant ≡ Err r)
   name_refused o ts given None meant so_far first is told = told
   name_refused o ts given (Some r) meant so_far first is told = so_far ∙ named o ts given None first is ∙ ap (λ q. Err q) (sym told)
 

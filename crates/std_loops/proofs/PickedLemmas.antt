@@ -70,7 +70,7 @@ pub picked_all : {A : Type 0} (offset : ℤ) (from to : ℕ) (rev : Bool) (xs : 
     → in_order rev (drop from (take to xs)) ≡ picked offset None rev xs
 picked_all offset from to rev xs starts ends =
     ap (λ n. in_order rev (drop n (take to xs))) starts ∙ ap (λ ys. in_order rev (drop (natural offset) ys))
-      (ap (λ n. take n xs) ends ∙ take-length xs)
+    (ap (λ n. take n xs) ends ∙ take-length xs)
 
 pub picked_some : {A : Type 0} (offset limit : ℤ) (from to : ℕ) (rev : Bool) (xs : List A) → from ≡ natural offset
     → to ≡ natural (offset +ℤ limit)

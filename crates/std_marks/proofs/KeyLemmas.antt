@@ -57,8 +57,8 @@ after_length t more = append_assoc (decimal (length t)) (58 ∷ t) more
 first_text : (s t xs ys : List ℕ) → length s < 2 ^ 64 → length t < 2 ^ 64 → with_length s ++ xs ≡ with_length t ++ ys → (s ≡ t) × (xs ≡ ys)
 first_text s t xs ys small short e =
     let parts =
-        up_to_colon (decimal (length s)) (decimal (length t)) (s ++ xs) (t ++ ys) (digits_only (length s) small)
-        (digits_only (length t) short)
+    up_to_colon (decimal (length s)) (decimal (length t)) (s ++ xs) (t ++ ys) (digits_only (length s) small)
+    (digits_only (length t) short)
     (sym (after_length s xs) ∙ e ∙ after_length t ys) in
     split_alike s t xs ys (decimal_injective (length s) (length t) small short parts.0) parts.1
 

@@ -24,5 +24,5 @@ floor_remainder-negated a (negsuc b) r low e =
     let flip : (z : ℤ) → pos 0 -ℤ z ≡ neg_ℤ z = λ z. omega (arith, ints) in
     let divisor : pos 0 -ℤ negsuc b ≡ pos (suc b) = omega (arith, ints) in
     let rest : r ≡ int_rem_euclid (neg_ℤ a) (pos (suc b)) =
-        e ∙ ap (int_rem_euclid (pos 0 -ℤ a)) divisor ∙ ap (λ z. int_rem_euclid z (pos (suc b))) (flip a) in
+    e ∙ ap (int_rem_euclid (pos 0 -ℤ a)) divisor ∙ ap (λ z. int_rem_euclid z (pos (suc b))) (flip a) in
     flip r ∙ ap neg_ℤ rest ∙ floor_remainder-below a b

@@ -59,7 +59,7 @@ module _ {X : Type 0} (lt : X → X → Bool) (o : IsStrictWeakOrder lt) where
   Rises-put_in c [] up = (tt, tt)
   Rises-put_in c (d ∷ ds) up = elim (cases_Bool (lt d c)) [
     | inl first ↦ rw (cond-true (lt d c) (d ∷ put_in lt c ds) (c ∷ d ∷ ds) first)
-      (AreNotBefore-put_in d c ds (o.one_way d c first) up.0, Rises-put_in c ds up.1)
+        (AreNotBefore-put_in d c ds (o.one_way d c first) up.0, Rises-put_in c ds up.1)
     | inr stays ↦ rw (cond-false (lt d c) (d ∷ put_in lt c ds) (c ∷ d ∷ ds) stays) ((stays, AreNotBefore-chain d c ds stays up.0), up)
   ]
 
@@ -120,7 +120,7 @@ module _ {X : Type 0} (lt : X → X → Bool) (o : IsStrictWeakOrder lt) where
       λ x. elim (cases_Bool (ties lt x y)) [
         | inl with ↦
             let both =
-                sym (filter-kept (ties lt x) y ys with) ∙ same x ∙ filter-kept (ties lt x) z zs (ap (ties lt x) (sym head) ∙ with) in cc
+            sym (filter-kept (ties lt x) y ys with) ∙ same x ∙ filter-kept (ties lt x) z zs (ap (ties lt x) (sym head) ∙ with) in cc
         | inr without ↦
             sym (filter-dropped (ties lt x) y ys without) ∙ same x ∙ filter-dropped (ties lt x) z zs (ap (ties lt x) (sym head) ∙ without)
       ] in
@@ -158,7 +158,7 @@ module _ {X : Type 0} (lt : X → X → Bool) (o : IsStrictWeakOrder lt) where
   pub in_order-from_sort : (xs ys : List X) → IsSortedBy lt ys → IsStableBy lt xs ys → ys ≡ in_order lt xs
   in_order-from_sort xs ys sorted stable =
       same_from_ties ys (in_order lt xs) (Rises-from_far ys (sorted_far lt o ys sorted)) (Rises-in_order xs)
-        (λ x. stable x ∙ sym (filter-in_order x xs))
+      (λ x. stable x ∙ sym (filter-in_order x xs))
 
 -- entries that are seen through a function are put in order by what is seen
 put_in-map : {X Y : Type 0} (f : X → Y) (lt : Y → Y → Bool) (x : X) (xs : List X)

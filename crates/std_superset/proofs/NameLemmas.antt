@@ -34,7 +34,7 @@ module _ {P : Type 0} (name_of : P → List ℕ) (q : List ℕ) where
   found before (p ∷ ps) =
       found (insert before (name_of p) p) ps
       ∙ ap (λ o. last_named o ps) (get-insert nat_list_cmp_total before (name_of p) p q
-        ∙ ap (λ b. cond b (Some p) (get before q)) (is_eq-slice_cmp q (name_of p)))
+      ∙ ap (λ b. cond b (Some p) (get before q)) (is_eq-slice_cmp q (name_of p)))
 
   found_in : (ps : List P) → get (under_names name_of empty ps) q ≡ last_named None ps
   found_in ps = found empty ps ∙ ap (λ o. last_named o ps) (get-empty (slice_cmp nat_cmp) q)

@@ -27,13 +27,17 @@ module _ {F : Type 0} (filters : Filters F) (source : List ℕ) where
   reads_all r [] nodes is = reads_end r nodes is
   reads_all r (e ∷ es) nodes is =
       let read_on =
-          made_from (step (languages.tags_and_blocks filters) source 0 (old_state r) e (joined es))
-          (λ next. read (languages.tags_and_blocks filters) source 0 next es) nodes is in
+      made_from (step (languages.tags_and_blocks filters) source 0 (old_state r) e (joined es))
+      (λ next. read (languages.tags_and_blocks filters) source 0 next es) nodes is in
       let follows = reads_step filters source 0 r e (joined es) read_on.0 read_on.1 in
       ap (λ s. ok_then s (λ next. read (tags_and_blocks filters) source 0 next es)) follows.2
       ∙ reads_all follows.0 es nodes (ap (λ s. read (languages.tags_and_blocks filters) source 0 s es) (sym follows.1) ∙ read_on.2)
 
 pub reads_images : {F : Type 0} (filters : Filters F) → ReadsImages filters
 reads_images filters text nodes reads =
-    record { elements = reads.elements; cover = reads.cover; is = sym
-        (reads_all filters text (among_nodes [] []) reads.elements nodes (sym reads.is)) }
+    record {
+      elements = reads.elements;
+      cover = reads.cover;
+      is = sym
+          (reads_all filters text (among_nodes [] []) reads.elements nodes (sym reads.is));
+    }

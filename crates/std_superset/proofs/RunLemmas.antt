@@ -39,17 +39,23 @@ module _ {Reg F T P B Q U R C S : Type 0} (old : Setting Reg F T P B Q) (new : S
 
   -- a node whose progress has an image, and the node that answers the same with the image
   module _ {N X M Y : Type 0} (m : NodeMeaning N X Reg) (k : NodeMeaning M Y Reg) (n : N) (image : M) (of : X → Y)
-      (starts : (v : View Reg) → k.starts image v ≡ record { answer = ok_then (m.starts n v).answer (λ p. Ok (of p));
-        progress = (m.starts n v).progress; written = (m.starts n v).written })
+      (starts : (v : View Reg) → k.starts image v ≡ record {
+        answer = ok_then (m.starts n v).answer (λ p. Ok (of p));
+        progress = (m.starts n v).progress;
+        written = (m.starts n v).written;
+      })
       (counts : (p : X) → k.count (of p) ≡ m.count p)
-      (takes : (p : X) (v : View Reg) → k.takes image (of p) v ≡ record { answer = (m.takes n p v).answer;
-        progress = of (m.takes n p v).progress; written = (m.takes n p v).written })
+      (takes : (p : X) (v : View Reg) → k.takes image (of p) v ≡ record {
+        answer = (m.takes n p v).answer;
+        progress = of (m.takes n p v).progress;
+        written = (m.takes n p v).written;
+      })
       (catches : (p : X) (text : List ℕ) → k.catches image (of p) text ≡ of (m.catches n p text)) where
     moved : (turn : TurnShape) (p : X) (rest : X → Action Reg) (after : Y → Action Reg) → ((q : X) → after (of q) ≡ rest q) → (v : View Reg)
         → and_then (performed new partials parts turn v) (after (of p)) ≡ and_then (performed old partials parts turn v) (rest p)
     moved turn p rest after same v =
         ap (λ (a : Action Reg). and_then (a v) (after (of p))) (performed_kept turn)
-            ∙ ap (and_then (performed old partials parts turn v)) (same p)
+        ∙ ap (and_then (performed old partials parts turn v)) (same p)
 
     answered_kept : (a : Result TurnShape Refusal) (p : X) (rest : X → Action Reg) (after : Y → Action Reg)
         → ((q : X) → after (of q) ≡ rest q) → (v : View Reg)
@@ -61,7 +67,7 @@ module _ {Reg F T P B Q U R C S : Type 0} (old : Setting Reg F T P B Q) (new : S
     answered_kept (Ok (capture_turn place frame trace)) p rest after same v =
         let r = performed old partials parts (capture_turn place frame trace) v in
         ap (λ (a : Action Reg). and_then (silent (a v)) (after (k.catches image (of p) (written (a v)))))
-            (performed_kept (capture_turn place frame trace))
+        (performed_kept (capture_turn place frame trace))
         ∙ ap (λ q. and_then (silent r) (after q)) (catches p (written r))
         ∙ ap (and_then (silent r)) (same (m.catches n p (written r)))
     answered_kept (Ok end_turn) p rest after same v = refl
@@ -71,9 +77,9 @@ module _ {Reg F T P B Q U R C S : Type 0} (old : Setting Reg F T P B Q) (new : S
     turns_kept zero p = fun_ext (λ v. refl)
     turns_kept (suc left) p = fun_ext (λ v. ap (and_then (asks v)) (fun_ext (λ w.
         ap (λ t. answered new partials k image parts t.answer t.progress (turns new partials k image parts left) (with_written t.written w))
-          (takes p w)
+        (takes p w)
         ∙ answered_kept (m.takes n p w).answer (m.takes n p w).progress (turns old partials m n parts left)
-          (turns new partials k image parts left) (turns_kept left) (with_written (m.takes n p w).written w))))
+        (turns new partials k image parts left) (turns_kept left) (with_written (m.takes n p w).written w))))
 
     started_kept : (a : Result X Refusal) (v : View Reg) → started new partials k image parts
         (ok_then a (λ p. Ok (of p))) v ≡ started old partials m n parts a v
@@ -94,16 +100,16 @@ module _ {Reg F : Type 0} (held : MarksIn Reg) (fresh : Reg) (m : FilterMeaning 
         (isolating fresh m finds) partials (isolating_tags m) n []
     tag_kept n =
         played_kept (isolating fresh m finds) (standard held fresh m images) refl partials [] (isolating_tags m) (tag_nodes held m) n
-          (Library n) (λ p. p)
+        (Library n) (λ p. p)
         (λ v. refl) (λ p. refl) (λ p v. refl) (λ p text. refl)
 
     block_kept : (b : BlockShape) (parts : List (Action Reg)) → played (standard held fresh m images) partials (block_nodes held)
         (block_image b) parts ≡ played (isolating fresh m finds) partials library.block_nodes b parts
     block_kept b parts =
         played_kept (isolating fresh m finds) (standard held fresh m images) refl partials parts library.block_nodes (block_nodes held) b
-          (block_image b) progress_image
+        (block_image b) progress_image
         (λ v. ap (λ r. record { answer = r; progress = tt; written = (library.block_nodes.starts b v).written }) (begins_kept v b))
-          counts_kept (takes_kept held b) (catches_kept b)
+        counts_kept (takes_kept held b) (catches_kept b)
 
     mutual
       unfolding run_node run_nodes run_parts
@@ -122,7 +128,7 @@ module _ {Reg F : Type 0} (held : MarksIn Reg) (fresh : Reg) (m : FilterMeaning 
       nodes_kept no_nodes = refl
       nodes_kept (node n ns) = fun_ext (λ v.
           ap (λ (a : Action Reg). and_then (a v) (unless_interrupted (run_nodes (standard held fresh m images) partials (nodes_image ns))))
-              (node_kept n)
+          (node_kept n)
           ∙ ap (λ a. and_then (run_node (isolating fresh m finds) partials n v) (unless_interrupted a)) (nodes_kept ns))
 
       parts_kept : (ps : Parts F (TagShape F) BlockShape) → run_parts (standard held fresh m images) partials (parts_image ps) ≡ run_parts
@@ -153,7 +159,7 @@ module _ {Reg F : Type 0} (held : MarksIn Reg) (fresh : Reg) (m : FilterMeaning 
     partials_kept (suc depth) = fun_ext (λ name.
         ap (λ ps. sought (option_map partial_in images) name (run_nodes (standard held fresh m images) ps)) (partials_kept depth)
         ∙ sought_kept (run_nodes (standard held fresh m images) (partials_at (isolating fresh m finds) depth))
-          (run_nodes (isolating fresh m finds) (partials_at (isolating fresh m finds) depth))
+        (run_nodes (isolating fresh m finds) (partials_at (isolating fresh m finds) depth))
         (nodes_kept finds images (partials_at (isolating fresh m finds) depth)) finds images are name)
 
     pub template_kept : (ns : Nodes F (TagShape F) BlockShape) (v : View Reg)

@@ -121,19 +121,19 @@ module _ {F : Type 0} (filters : Filters F) (source : List ℕ) (outside : ℕ) 
   ends (opened p is_closed place before ps) os ns t s is =
       let last = block_with (node_of p) (ps ++ ns ∷ []) in
       let whole =
-          made_from (closed source t (old_open (opened p is_closed place before ps)) ns)
-          (λ after. Ok (among (map old_open os) after)) s is in
+      made_from (closed source t (old_open (opened p is_closed place before ps)) ns)
+      (λ after. Ok (among (map old_open os) after)) s is in
       let left =
-          made_from (expect_nothing (handed source t)) (λ u. finished (old_open (opened p is_closed place before ps))
-          (parts (length ps + 1)) (ps ++ ns ∷ [])) whole.0 whole.1 in
+      made_from (expect_nothing (handed source t)) (λ u. finished (old_open (opened p is_closed place before ps))
+      (parts (length ps + 1)) (ps ++ ns ∷ [])) whole.0 whole.1 in
       let nodes = same_value (before ++ last ∷ []) whole.0 left.2 in
       let of_parts : List (List (NodeShape F (StdTagShape F) StdBlockShape))
-          → Result (State F (StdTagShape F) StdPlanShape StdBlockShape) Refusal
+      → Result (State F (StdTagShape F) StdPlanShape StdBlockShape) Refusal
       = λ qs. Ok (among (map new_open os) (map node_image before ++ block_with (block_image (node_of p)) qs ∷ [])) in (
         among_nodes os whole.0,
         sym (same_value (among (map old_open os) whole.0) s whole.2),
         ap (λ r. ok_then (ok_then r (λ u. finished (new_open (opened p is_closed place before ps))
-          (parts (length (map (map node_image) ps) + 1)) (map (map node_image) ps ++ map node_image ns ∷ [])))
+            (parts (length (map (map node_image) ps) + 1)) (map (map node_image) ps ++ map node_image ns ∷ [])))
             (λ after. Ok (among (map new_open os) after))) left.1
             ∙ ap of_parts (parts_added ps ns)
             ∙ ap (λ n. Ok (among (map new_open os) (map node_image before ++ n ∷ []))) (sym (block_kept (node_of p) (ps ++ ns ∷ [])))
@@ -151,49 +151,54 @@ module _ {F : Type 0} (filters : Filters F) (source : List ℕ) (outside : ℕ) 
       let old_with : Blocks → PlanShape → Open F (TagShape F) PlanShape BlockShape
       = λ k q. record { kind = library.whole_block k; place = place; plan = q; before = before; parts = ps ++ ns ∷ [] } in
       let new_with : Blocks → StdPlanShape → List (List (NodeShape F (StdTagShape F) StdBlockShape))
-          → Open F (StdTagShape F) StdPlanShape StdBlockShape
-      = λ k q qs. record { kind = standard.whole_block (standard_block k); place = place; plan = q; before = map node_image before;
-          parts = qs } in
+      → Open F (StdTagShape F) StdPlanShape StdBlockShape
+      = λ k q qs. record {
+        kind = standard.whole_block (standard_block k);
+        place = place;
+        plan = q;
+        before = map node_image before;
+        parts = qs;
+      } in
       let whole =
-          made_from (parted source t (old_open (opened p is_closed place before ps)) ns)
-          (λ divided. Ok (among (divided ∷ map old_open os) [])) s is in
+      made_from (parted source t (old_open (opened p is_closed place before ps)) ns)
+      (λ divided. Ok (among (divided ∷ map old_open os) [])) s is in
       let made =
-          made_from (placed_at at (library.divided (plan p is_closed) t.0 (handed source t)))
-          (λ q. Ok (old_with (kind_of p) q)) whole.0 whole.1 in
+      made_from (placed_at at (library.divided (plan p is_closed) t.0 (handed source t)))
+      (λ q. Ok (old_with (kind_of p) q)) whole.0 whole.1 in
       let law =
-          divides p is_closed t.0 (handed source t) made.0 is_divider (unplaced at
-          (library.divided (plan p is_closed) t.0 (handed source t)) made.0 made.1) in (
+      divides p is_closed t.0 (handed source t) made.0 is_divider (unplaced at
+      (library.divided (plan p is_closed) t.0 (handed source t)) made.0 made.1) in (
         among_nodes (opened law.0 law.1 place before (ps ++ ns ∷ []) ∷ os) [],
         sym (same_value (among (whole.0 ∷ map old_open os) []) s whole.2)
             ∙ ap (λ d. among (d ∷ map old_open os) []) (sym (same_value (old_with (kind_of p) made.0) whole.0 made.2)
-              ∙ ap (old_with (kind_of p)) law.3 ∙ ap (λ k. old_with k (plan law.0 law.1)) (sym law.2)),
+            ∙ ap (old_with (kind_of p)) law.3 ∙ ap (λ k. old_with k (plan law.0 law.1)) (sym law.2)),
         ap (λ r. ok_then (ok_then (placed_at at r) (λ q. Ok (new_with (kind_of p) q (map (map node_image) ps ++ map node_image ns ∷ []))))
-          (λ divided. Ok (among (divided ∷ map new_open os) []))) law.4
+            (λ divided. Ok (among (divided ∷ map new_open os) []))) law.4
             ∙ ap (λ qs. Ok (among (new_with (kind_of p) (plan_image law.0 law.1) qs ∷ map new_open os) [])) (parts_added ps ns)
             ∙ ap (λ k. Ok (among (new_with k (plan_image law.0 law.1) (map (map node_image) (ps ++ ns ∷ [])) ∷ map new_open os) []))
-              (sym law.2),
+            (sym law.2),
       )
 
   -- a tag of the library is one of the standard language
   reads_tag : (os : List (Opened F)) (ns : List (NodeShape F (TagShape F) BlockShape)) (t : token.Tag) (p : Tags)
       → get languages.the_tags t.0 ≡ Some p
       → Follows (outer_read old source outside t (map old_open os) ns)
-        (outer_read new source outside t (map new_open os) (map node_image ns))
+      (outer_read new source outside t (map new_open os) (map node_image ns))
   reads_tag os ns t p has s is =
       let at = place_in source (name_place t) in
       let old_read = tag_outer old source outside t (map old_open os) ns (old_tag p) (ap (option_map old_tag) has) in
       let new_read =
-          tag_outer new source outside t (map new_open os) (map node_image ns) (new_tag (tag.Library p))
-          (ap (option_map new_tag) (tag_kept t.0 p (tag_named t.0 p has))) in
+      tag_outer new source outside t (map new_open os) (map node_image ns) (new_tag (tag.Library p))
+      (ap (option_map new_tag) (tag_kept t.0 p (tag_named t.0 p has))) in
       let whole =
-          made_from (tag_given source t filters (old_tag p)) (λ n. Ok (among (map old_open os) (ns ++ n ∷ []))) s (sym old_read ∙ is) in
+      made_from (tag_given source t filters (old_tag p)) (λ n. Ok (among (map old_open os) (ns ++ n ∷ []))) s (sym old_read ∙ is) in
       let made = made_from (placed_at at (old_tag p filters (handed source t))) (λ n. Ok (tag_node n)) whole.0 whole.1 in (
         among_nodes os (ns ++ tag_node made.0 ∷ []),
         sym (same_value (among (map old_open os) (ns ++ whole.0 ∷ [])) s whole.2)
-          ∙ ap (λ n. among (map old_open os) (ns ++ n ∷ [])) (sym (same_value (tag_node made.0) whole.0 made.2)),
+            ∙ ap (λ n. among (map old_open os) (ns ++ n ∷ [])) (sym (same_value (tag_node made.0) whole.0 made.2)),
         new_read
             ∙ ap (λ r. ok_then (ok_then (placed_at at (ok_then r library_node)) (λ n. Ok (tag_node n)))
-              (λ n. Ok (among (map new_open os) (map node_image ns ++ n ∷ []))))
+            (λ n. Ok (among (map new_open os) (map node_image ns ++ n ∷ []))))
             (unplaced at (old_tag p filters (handed source t)) made.0 made.1)
             ∙ ap (λ l. Ok (among (map new_open os) l)) (added ns (tag_node made.0)),
       )
@@ -212,7 +217,7 @@ module _ {F : Type 0} (filters : Filters F) (source : List ℕ) (outside : ℕ) 
 
   new_enters : (p : Planned) (os : List (Opened F)) (ns : List (NodeShape F (TagShape F) BlockShape)) (place : Place)
       → entered (standard.escapes_of (standard_block (kind_of p))) (new_open (opened p false place ns [])) (map new_open os) ≡ new_state
-        (entry p os ns place)
+      (entry p os ns place)
   new_enters (if_plan cs) os ns place = refl
   new_enters (for_plan name s) os ns place = refl
   new_enters (raw_plan text) os ns place = refl
@@ -220,7 +225,7 @@ module _ {F : Type 0} (filters : Filters F) (source : List ℕ) (outside : ℕ) 
   begins_block : (os : List (Opened F)) (ns : List (NodeShape F (TagShape F) BlockShape)) (t : token.Tag) (b : Blocks)
       → Follows (ok_then (begun source t filters (old_block b) ns) (λ o. Ok (entered (library.escapes_of b) o (map old_open os))))
       (ok_then (begun source t filters (new_block (standard_block b)) (map node_image ns))
-        (λ o. Ok (entered (standard.escapes_of (standard_block b)) o (map new_open os))))
+      (λ o. Ok (entered (standard.escapes_of (standard_block b)) o (map new_open os))))
   begins_block os ns t b s is =
       let at = place_in source (name_place t) in
       let old_with : Blocks → PlanShape → Open F (TagShape F) PlanShape BlockShape
@@ -233,13 +238,13 @@ module _ {F : Type 0} (filters : Filters F) (source : List ℕ) (outside : ℕ) 
         entry law.0 os ns at,
         sym (same_value (entered (library.escapes_of b) whole.0 (map old_open os)) s whole.2)
             ∙ ap (λ o. entered (library.escapes_of b) o (map old_open os))
-              (sym (same_value (old_with b made.0) whole.0 made.2) ∙ ap (old_with b) law.2)
+            (sym (same_value (old_with b made.0) whole.0 made.2) ∙ ap (old_with b) law.2)
             ∙ ap (λ k. entered (library.escapes_of k) (old_with k (plan law.0 false)) (map old_open os)) (sym law.1)
             ∙ old_enters law.0 os ns at,
         ap (λ r. ok_then (ok_then (placed_at at r) (λ q. Ok (new_with b q)))
-          (λ o. Ok (entered (standard.escapes_of (standard_block b)) o (map new_open os)))) law.3
+            (λ o. Ok (entered (standard.escapes_of (standard_block b)) o (map new_open os)))) law.3
             ∙ ap (λ k. Ok (entered (standard.escapes_of (standard_block k)) (new_with k (plan_image law.0 false)) (map new_open os)))
-              (sym law.1)
+            (sym law.1)
             ∙ ap (λ (n : State F (StdTagShape F) StdPlanShape StdBlockShape). Ok n) (new_enters law.0 os ns at),
       )
 
@@ -253,38 +258,38 @@ module _ {F : Type 0} (filters : Filters F) (source : List ℕ) (outside : ℕ) 
   reads_block : (os : List (Opened F)) (ns : List (NodeShape F (TagShape F) BlockShape)) (t : token.Tag) (b : Blocks)
       → get languages.the_tags t.0 ≡ None → get languages.the_blocks t.0 ≡ Some b
       → Follows (outer_read old source outside t (map old_open os) ns)
-        (outer_read new source outside t (map new_open os) (map node_image ns))
+      (outer_read new source outside t (map new_open os) (map node_image ns))
   reads_block os ns t b none has =
       let named = block_named t.0 b has in
       let x = ok_then (begun source t filters (old_block b) ns) (λ o. Ok (entered (library.escapes_of b) o (map old_open os))) in
       let y =
-          ok_then (begun source t filters (new_block (standard_block b)) (map node_image ns))
-          (λ o. Ok (entered (standard.escapes_of (standard_block b)) o (map new_open os))) in
+      ok_then (begun source t filters (new_block (standard_block b)) (map node_image ns))
+      (λ o. Ok (entered (standard.escapes_of (standard_block b)) o (map new_open os))) in
       let refusal = refused_at source (codes "Nested too deep") (name_place t) in
       alike (outer_read old source outside t (map old_open os) ns) (if nat_lt (outside + length os) block_limit then x else Err refusal)
       (outer_read new source outside t (map new_open os) (map node_image ns))
-        (if nat_lt (outside + length os) block_limit then y else Err refusal)
+      (if nat_lt (outside + length os) block_limit then y else Err refusal)
       (block_outer old source outside t (map old_open os) ns (old_block b) (ap (option_map old_tag) none) (ap (option_map old_block) has)
       ∙ ap (λ n. if nat_lt (outside + n) block_limit then x else Err refusal) (length-map os old_open))
       (block_outer new source outside t (map new_open os) (map node_image ns) (new_block (standard_block b))
-        (ap (option_map new_tag) (tag_free t.0 b named)) (ap (option_map new_block) (own_block t.0 b named))
+      (ap (option_map new_tag) (tag_free t.0 b named)) (ap (option_map new_block) (own_block t.0 b named))
       ∙ ap (λ n. if nat_lt (outside + n) block_limit then y else Err refusal) (length-map os new_open))
       (with_room (nat_lt (outside + length os) block_limit) x y refusal (begins_block os ns t b))
 
   reads_named : (os : List (Opened F)) (ns : List (NodeShape F (TagShape F) BlockShape)) (t : token.Tag) (o : Option Tags)
       (q : Option Blocks) → get languages.the_tags t.0 ≡ o → get languages.the_blocks t.0 ≡ q
       → Follows (outer_read old source outside t (map old_open os) ns)
-        (outer_read new source outside t (map new_open os) (map node_image ns))
+      (outer_read new source outside t (map new_open os) (map node_image ns))
   reads_named os ns t (Some p) q has other s is = reads_tag os ns t p has s is
   reads_named os ns t None (Some b) none has s is = reads_block os ns t b none has s is
   reads_named os ns t None None none no_block s is =
       let unknown =
-          unknown_outer old source outside t (map old_open os) ns (ap (option_map old_tag) none) (ap (option_map old_block) no_block) in
+      unknown_outer old source outside t (map old_open os) ns (ap (option_map old_tag) none) (ap (option_map old_block) no_block) in
       cc (sym unknown ∙ is)
 
   reads_outer : (os : List (Opened F)) (ns : List (NodeShape F (TagShape F) BlockShape)) (t : token.Tag)
       → Follows (outer_read old source outside t (map old_open os) ns)
-        (outer_read new source outside t (map new_open os) (map node_image ns))
+      (outer_read new source outside t (map new_open os) (map node_image ns))
   reads_outer os ns t = reads_named os ns t (get languages.the_tags t.0) (get languages.the_blocks t.0) refl refl
 
   same_end : (o : Opened F) → (new_open o).kind.names.end_name ≡ (old_open o).kind.names.end_name
@@ -301,31 +306,31 @@ module _ {F : Type 0} (filters : Filters F) (source : List ℕ) (outside : ℕ) 
       (is_end is_divider : Bool)
       → bytes_eq t.0 (old_open o).kind.names.end_name ≡ is_end → list_any (bytes_eq t.0) (old_open o).kind.means.dividers ≡ is_divider
       → Follows (tag_read old source outside (map old_open (o ∷ os)) ns t)
-        (tag_read new source outside (map new_open (o ∷ os)) (map node_image ns) t)
+      (tag_read new source outside (map new_open (o ∷ os)) (map node_image ns) t)
   reads_in o os ns t true is_divider ending dividing =
       alike (tag_read old source outside (map old_open (o ∷ os)) ns t)
-        (ok_then (closed source t (old_open o) ns) (λ after. Ok (among (map old_open os) after)))
+      (ok_then (closed source t (old_open o) ns) (λ after. Ok (among (map old_open os) after)))
       (tag_read new source outside (map new_open (o ∷ os)) (map node_image ns) t)
-        (ok_then (closed source t (new_open o) (map node_image ns)) (λ after. Ok (among (map new_open os) after)))
+      (ok_then (closed source t (new_open o) (map node_image ns)) (λ after. Ok (among (map new_open os) after)))
       (end_read old source outside t (old_open o) (map old_open os) ns ending)
       (end_read new source outside t (new_open o) (map new_open os) (map node_image ns) (ap (bytes_eq t.0) (same_end o) ∙ ending))
       (ends o os ns t)
   reads_in o os ns t false true ending dividing =
       alike (tag_read old source outside (map old_open (o ∷ os)) ns t)
-        (ok_then (parted source t (old_open o) ns) (λ divided. Ok (among (divided ∷ map old_open os) [])))
+      (ok_then (parted source t (old_open o) ns) (λ divided. Ok (among (divided ∷ map old_open os) [])))
       (tag_read new source outside (map new_open (o ∷ os)) (map node_image ns) t)
-        (ok_then (parted source t (new_open o) (map node_image ns)) (λ divided. Ok (among (divided ∷ map new_open os) [])))
+      (ok_then (parted source t (new_open o) (map node_image ns)) (λ divided. Ok (among (divided ∷ map new_open os) [])))
       (divider_read old source outside t (old_open o) (map old_open os) ns ending dividing)
       (divider_read new source outside t (new_open o) (map new_open os) (map node_image ns) (ap (bytes_eq t.0) (same_end o) ∙ ending)
-        (ap (list_any (bytes_eq t.0)) (same_dividers o) ∙ dividing))
+      (ap (list_any (bytes_eq t.0)) (same_dividers o) ∙ dividing))
       (parts_on o os ns t dividing)
   reads_in o os ns t false false ending dividing =
       alike (tag_read old source outside (map old_open (o ∷ os)) ns t) (outer_read old source outside t (map old_open (o ∷ os)) ns)
       (tag_read new source outside (map new_open (o ∷ os)) (map node_image ns) t)
-        (outer_read new source outside t (map new_open (o ∷ os)) (map node_image ns))
+      (outer_read new source outside t (map new_open (o ∷ os)) (map node_image ns))
       (other_read old source outside t (old_open o) (map old_open os) ns ending dividing)
       (other_read new source outside t (new_open o) (map new_open os) (map node_image ns) (ap (bytes_eq t.0) (same_end o) ∙ ending)
-        (ap (list_any (bytes_eq t.0)) (same_dividers o) ∙ dividing))
+      (ap (list_any (bytes_eq t.0)) (same_dividers o) ∙ dividing))
       (reads_outer (o ∷ os) ns t)
 
   reads_any : (os : List (Opened F)) (ns : List (NodeShape F (TagShape F) BlockShape)) (t : token.Tag)
@@ -337,28 +342,33 @@ module _ {F : Type 0} (filters : Filters F) (source : List ℕ) (outside : ℕ) 
 
   reads_element : (os : List (Opened F)) (ns : List (NodeShape F (TagShape F) BlockShape)) (e : Element) (following : List ℕ)
       → Follows (element_read old source outside (map old_open os) ns e following)
-        (element_read new source outside (map new_open os) (map node_image ns) e following)
-  reads_element os ns (raw text) following s is =
-      (among_nodes os (ns ++ text_node text ∷ []), sym (same_value (among (map old_open os) (ns ++ text_node text ∷ [])) s is),
-        ap (λ l. Ok (among (map new_open os) l)) (added ns (text_node text)))
+      (element_read new source outside (map new_open os) (map node_image ns) e following)
+  reads_element os ns (raw text) following s is = (
+    among_nodes os (ns ++ text_node text ∷ []),
+    sym (same_value (among (map old_open os) (ns ++ text_node text ∷ [])) s is),
+    ap (λ l. Ok (among (map new_open os) l)) (added ns (text_node text)),
+  )
   reads_element os ns (expression c text) following s is =
       let fine =
-          made_from (checked source (chain_fault c)) (λ u. node_added (map old_open os) ns (expression_read filters source c)) s is in
+      made_from (checked source (chain_fault c)) (λ u. node_added (map old_open os) ns (expression_read filters source c)) s is in
       let whole = made_from (expression_read filters source c) (λ n. Ok (among (map old_open os) (ns ++ n ∷ []))) s fine.2 in
       let made = made_from (chain_read filters source c) (λ chain. Ok (chain_node chain)) whole.0 whole.1 in (
         among_nodes os (ns ++ chain_node made.0 ∷ []),
         sym (same_value (among (map old_open os) (ns ++ whole.0 ∷ [])) s whole.2)
-          ∙ ap (λ n. among (map old_open os) (ns ++ n ∷ [])) (sym (same_value (chain_node made.0) whole.0 made.2)),
+            ∙ ap (λ n. among (map old_open os) (ns ++ n ∷ [])) (sym (same_value (chain_node made.0) whole.0 made.2)),
         ap (λ r. ok_then r (λ u. node_added (map new_open os) (map node_image ns) (expression_read filters source c))) fine.1
             ∙ ap (λ r. ok_then (ok_then r (λ chain. Ok (chain_node chain)))
-              (λ n. Ok (among (map new_open os) (map node_image ns ++ n ∷ [])))) made.1
+            (λ n. Ok (among (map new_open os) (map node_image ns ++ n ∷ [])))) made.1
             ∙ ap (λ l. Ok (among (map new_open os) l)) (added ns (chain_node made.0)),
       )
   reads_element os ns (tag_element t text) following s is =
       let fine = made_from (checked source (tag_fault t)) (λ u. tag_read old source outside (map old_open os) ns t) s is in
-      let follows = reads_any os ns t s fine.2 in
-      (follows.0, follows.1, ap (λ r. ok_then r (λ u. tag_read new source outside (map new_open os) (map node_image ns) t)) fine.1
-        ∙ follows.2)
+      let follows = reads_any os ns t s fine.2 in (
+        follows.0,
+        follows.1,
+        ap (λ r. ok_then r (λ u. tag_read new source outside (map new_open os) (map node_image ns) t)) fine.1
+            ∙ follows.2,
+      )
   reads_element os ns (invalid text) following s is = cc is
 
   reads_raw : (text : List ℕ) (is_closed : Bool) (place : Place) (before : List (NodeShape F (TagShape F) BlockShape))
@@ -366,13 +376,15 @@ module _ {F : Type 0} (filters : Filters F) (source : List ℕ) (outside : ℕ) 
       → Follows (escape_read (old_open (opened (raw_plan text) is_closed place before ps)) (map old_open os) so_far content level)
       (escape_read (new_open (opened (raw_plan text) is_closed place before ps)) (map new_open os) so_far content level)
   reads_raw text is_closed place before ps os so_far content None s is =
-      let last : NodeShape F (TagShape F) BlockShape = block_with (node_of (raw_plan so_far)) [] in
-      (among_nodes os (before ++ last ∷ []), sym (same_value (among (map old_open os) (before ++ last ∷ [])) s is),
-        ap (λ l. Ok (among (map new_open os) l)) (added before last))
+      let last : NodeShape F (TagShape F) BlockShape = block_with (node_of (raw_plan so_far)) [] in (
+        among_nodes os (before ++ last ∷ []),
+        sym (same_value (among (map old_open os) (before ++ last ∷ [])) s is),
+        ap (λ l. Ok (among (map new_open os) l)) (added before last),
+      )
   reads_raw text is_closed place before ps os so_far content (Some level) s is = (
     inside_raw text is_closed place before ps os level (so_far ++ content),
     sym (same_value (inside (old_open (opened (raw_plan text) is_closed place before ps)) (map old_open os) level (so_far ++ content)) s
-      is),
+        is),
     refl,
   )
 

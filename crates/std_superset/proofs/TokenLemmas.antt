@@ -79,7 +79,7 @@ compared e op value = alone (Compares e op value.0) value.1
 
 no_more : (e x : ExpressionShape) (op : Comparison) (ts : List Token) (place : Place) (c : ConditionShape)
     → alone (Compares e op x) (record { following = place; left = ts }) ≡ Ok c
-      → after_test (test.Passes e (operator.Compares op) x) ts ≡ Ok (condition_image c)
+    → after_test (test.Passes e (operator.Compares op) x) ts ≡ Ok (condition_image c)
 no_more e x op [] place c is = ap (λ d. Ok (condition_image d)) (same_value (Compares e op x) c is)
 no_more e x op (t ∷ ts) place c is = cc is
 
@@ -105,9 +105,9 @@ after_first : (e : ExpressionShape) (ts : List Token) (c : ConditionShape) → a
 after_first e [] c is = ap (λ d. Ok (condition_image d)) (same_value (Holds e) c is)
 after_first e (t ∷ more) c is =
     let read =
-        made_from (or_unexpected t (comparison_of t.text)) (λ op. ok_then (next_as expect_value (tokens t more)) (compared e op)) c is in
+    made_from (or_unexpected t (comparison_of t.text)) (λ op. ok_then (next_as expect_value (tokens t more)) (compared e op)) c is in
     ap (λ o. elim o as (λ _. Result standard.ConditionShape Refusal)
-      [ None ↦ joined_by (test.Holds e) t (from_value t.following more) | Some op ↦ from_second e op t.following more ])
+    [ None ↦ joined_by (test.Holds e) t (from_value t.following more) | Some op ↦ from_second e op t.following more ])
     (same_operator t.text read.0 (given_back t (comparison_of t.text) read.0 read.1))
     ∙ second e read.0 t.following more c read.2
 
@@ -119,7 +119,7 @@ first_of t more (Err refusal) c is = cc is
 
 from_first : (place : Place) (ts : List Token) (c : ConditionShape)
     → ok_then (next_as expect_value (record { following = place; left = ts })) after_value_asked ≡ Ok c
-      → from_value place ts ≡ Ok (condition_image c)
+    → from_value place ts ≡ Ok (condition_image c)
 from_first place [] c is = cc is
 from_first place (t ∷ more) c is = first_of t more (or_unexpected t (expect_value t)) c is
 
@@ -162,9 +162,12 @@ one_condition c = unclosed (shape.If (c ∷ []))
 
 begins_if : (ts : Tokens) (p : PlanShape) → library.begun If ts ≡ Ok p → Begins If ts p
 begins_if ts p is =
-    let read = made_from (asked.condition_given ts) (λ c. Ok (library.planned (node.If (c ∷ [])))) p is in
-    (if_plan (read.0 ∷ []), refl, sym (same_value (library.planned (node.If (read.0 ∷ []))) p read.2),
-      ap (λ r. ok_then r one_condition) (condition_kept ts read.0 read.1))
+    let read = made_from (asked.condition_given ts) (λ c. Ok (library.planned (node.If (c ∷ [])))) p is in (
+      if_plan (read.0 ∷ []),
+      refl,
+      sym (same_value (library.planned (node.If (read.0 ∷ []))) p read.2),
+      ap (λ r. ok_then r one_condition) (condition_kept ts read.0 read.1),
+    )
 
 -- the parts of a loop without options
 abbrev from_options : List ℕ → SeriesShape → OptionsShape → Result LoopShape Refusal
@@ -214,9 +217,12 @@ begins_for ts p is =
 
 begins_raw : (ts : Tokens) (p : PlanShape) → library.begun Raw ts ≡ Ok p → Begins Raw ts p
 begins_raw ts p is =
-    let left = made_from (none_left ts.left) (λ u. Ok (library.planned (node.Raw []))) p is in
-    (raw_plan [], refl, sym (same_value (library.planned (node.Raw [])) p left.2),
-      ap (λ r. ok_then r (λ u. unclosed (shape.Raw []))) left.1)
+    let left = made_from (none_left ts.left) (λ u. Ok (library.planned (node.Raw []))) p is in (
+      raw_plan [],
+      refl,
+      sym (same_value (library.planned (node.Raw [])) p left.2),
+      ap (λ r. ok_then r (λ u. unclosed (shape.Raw []))) left.1,
+    )
 
 -- a block of the library begins as its image
 pub begins : (b : Blocks) (ts : Tokens) (p : PlanShape) → library.begun b ts ≡ Ok p → Begins b ts p
@@ -227,7 +233,7 @@ begins Raw ts p is = begins_raw ts p is
 abbrev pub Divides : Planned → Bool → List ℕ → Tokens → PlanShape → Type 0
 Divides planned is_closed name ts p =
     (next : Planned) × (closed : Bool) × (kind_of next ≡ kind_of planned) × (p ≡ plan next closed)
-      × (divided (plan_image planned is_closed) name ts ≡ Ok (plan_image next closed))
+    × (divided (plan_image planned is_closed) name ts ≡ Ok (plan_image next closed))
 
 -- what an image makes of a divider, by whether that is `else`
 abbrev by_name : StdBlockShape → Tokens → Bool → Result StdPlanShape Refusal
@@ -257,7 +263,7 @@ old_condition cs c = Ok (plan (if_plan (cs ++ c ∷ [])) false)
 if_divides : (cs : List ConditionShape) (is_else : Bool) (name : List ℕ) (ts : Tokens) (p : PlanShape)
     → bytes_eq name (codes "else") ≡ is_else
     → cond is_else (alone (plan (if_plan cs) true) ts) (ok_then (asked.condition_given ts) (old_condition cs)) ≡ Ok p
-      → Divides (if_plan cs) false name ts p
+    → Divides (if_plan cs) false name ts p
 if_divides cs true name ts p same is = closes (if_plan cs) name ts p same is
 if_divides cs false name ts p same is =
     let read = made_from (asked.condition_given ts) (old_condition cs) p is in (
@@ -267,7 +273,7 @@ if_divides cs false name ts p same is =
       sym (same_value (plan (if_plan (cs ++ read.0 ∷ [])) false) p read.2),
       ap (by_name (shape.If (map condition_image cs)) ts) same
           ∙ ap (λ r. ok_then (ok_then (ok_then r (one_more (map condition_image cs))) divided_if) unclosed)
-            (condition_kept ts read.0 read.1)
+          (condition_kept ts read.0 read.1)
           ∙ ap (λ ds. unclosed (shape.If ds)) (sym (map-append condition_image cs (read.0 ∷ []))),
     )
 
@@ -277,7 +283,7 @@ old_other name_of s c = Ok (plan (for_plan name_of s) false)
 for_divides : (name_of : List ℕ) (s : SeriesShape) (is_else : Bool) (name : List ℕ) (ts : Tokens) (p : PlanShape)
     → bytes_eq name (codes "else") ≡ is_else → list_any (bytes_eq name) (codes "else" ∷ []) ≡ true
     → cond is_else (alone (plan (for_plan name_of s) true) ts) (ok_then (asked.condition_given ts) (old_other name_of s)) ≡ Ok p
-      → Divides (for_plan name_of s) false name ts p
+    → Divides (for_plan name_of s) false name ts p
 for_divides name_of s true name ts p same is_divider is = closes (for_plan name_of s) name ts p same is
 for_divides name_of s false name ts p same is_divider is =
     let differs : false ≡ true = sym (ap (λ b. b || false) same) ∙ is_divider in

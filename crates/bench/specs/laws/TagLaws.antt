@@ -40,8 +40,10 @@ module _ {Reg : Type 0} where
       ∙ set_hides name (evaluate (hiding empty v) e) p g v
   tag_turn_hides (shape.Inc name) p g v = unchanged_hides (Ok (partial_turn name no_frame None)) p g v
   tag_turn_hides shape.Brk p g v =
-      ap (λ m. record (tag_takes shape.Brk p (hiding g v)) { written = record (tag_takes shape.Brk p (hiding g v)).written
-      { globals = Some m } }) (sym (empty-over g))
+      ap (λ m. record (tag_takes shape.Brk p (hiding g v)) {
+        written = record (tag_takes shape.Brk p (hiding g v)).written
+            { globals = Some m };
+      }) (sym (empty-over g))
 
   pub tags_hide : Discreet {Reg = Reg} tag_nodes
   tags_hide = record { start = tag_start_hides; turn = tag_turn_hides }

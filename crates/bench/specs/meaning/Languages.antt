@@ -30,7 +30,7 @@ abbrev pub leaky_tags : NameMap LeakyTags
 leaky_tags =
     registered empty
     ((codes "set", leaky.Plain tags.Set) ∷ (codes "inc", leaky.Plain tags.Inc) ∷ (codes "brk", leaky.Plain tags.Brk)
-      ∷ (codes "leak", leaky.Leak) ∷ [])
+    ∷ (codes "leak", leaky.Leak) ∷ [])
 
 abbrev pub hostile_tags : NameMap HostileTags
 hostile_tags =
@@ -42,14 +42,14 @@ abbrev pub plain_blocks : NameMap Blocks
 plain_blocks =
     registered empty
     ((codes "box", blocks.Box) ∷ (codes "sbox", blocks.Sbox) ∷ (codes "swap", blocks.Swap) ∷ (codes "raw", blocks.Raw)
-      ∷ (codes "with", blocks.With)
+    ∷ (codes "with", blocks.With)
     ∷ (codes "glob", blocks.Glob) ∷ [])
 
 abbrev pub hostile_blocks : NameMap HostileBlocks
 hostile_blocks =
     registered empty
     ((codes "box", hostile_block.Plain blocks.Box) ∷ (codes "sbox", hostile_block.Plain blocks.Sbox)
-      ∷ (codes "swap", hostile_block.Plain blocks.Swap)
+    ∷ (codes "swap", hostile_block.Plain blocks.Swap)
     ∷ (codes "raw", hostile_block.Plain blocks.Raw) ∷ (codes "with", hostile_block.Plain blocks.With)
-      ∷ (codes "glob", hostile_block.Plain blocks.Glob)
+    ∷ (codes "glob", hostile_block.Plain blocks.Glob)
     ∷ (codes "far", hostile_block.Far) ∷ (codes "b", hostile_block.Odd) ∷ [])

@@ -33,7 +33,7 @@ abbrev pub partials_read : ℕ → List NameAndText → Texts → Result Texts F
 partials_read n [] texts = Ok texts
 partials_read n (p ∷ ps) texts =
     and_then (text_read (PartialName n) p.0) (λ name. and_then (text_read (PartialText n) p.1)
-      (λ text. partials_read (suc n) ps (insert texts name text)))
+    (λ text. partials_read (suc n) ps (insert texts name text)))
 
 -- the names of the globals, from bytes that are a text of JSON
 abbrev pub names_read : List ℕ → Result Names Fault
@@ -72,7 +72,7 @@ module _ {Reg F T P L B Q : Type 0} (s : Settings Reg F T P B Q) (l : Lang F T L
   abbrev pub TextComesTo : List ℕ → Names → Texts → Page → Type 0
   TextComesTo text names texts page =
       (answer : PageAnswer F T B) × Reads l text answer × ((found : Option (Found F T B)) × IsFoundIn l (Some texts) found
-        × (page ≡ page_of_answer (page_run s options names found) answer))
+      × (page ≡ page_of_answer (page_run s options names found) answer))
 
   -- nodes over names, with these partials, are rendered as this page
   abbrev pub NodesComeTo : List (NodeShape F T B) → Names → Texts → Page → Type 0

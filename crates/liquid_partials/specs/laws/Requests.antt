@@ -71,7 +71,7 @@ module _ {A : Type 0} where
     kept_more : {kept next : NameMap (Result A Refusal)} {n m : ℕ} {request : Request A} {more : List (Request A)}
         → next ≡ kept_after (is_answered request) finds (name_asked request) kept
         → m ≡ n + once (is_read finds kept (name_asked request)) → Keeps finds last count next m more
-          → Keeps finds last count kept n (request ∷ more)
+        → Keeps finds last count kept n (request ∷ more)
 
 -- over any list of requests a store that keeps its results parses at most as many texts as it keeps new names and as
 -- requests are out of memory

@@ -41,7 +41,7 @@ mutual
   same_congr (variable n is) (variable m js) (literal w) same = refl
   same_congr (variable n is) (variable m js) (variable k ks) same =
       ap (λ b. b && same_indexes is ks) (same_scalar_equiv.congr n m k (first_true _ _ same))
-        ∙ ap (λ b. same_scalar m k && b) (indexes_congr is js ks (second_true _ _ same))
+      ∙ ap (λ b. same_scalar m k && b) (indexes_congr is js ks (second_true _ _ same))
 
   indexes_congr : (l r other : Indexes) → same_indexes l r ≡ true → same_indexes l other ≡ same_indexes r other
   indexes_congr no_indexes no_indexes other same = refl
@@ -50,7 +50,7 @@ mutual
   indexes_congr (index e es) (index f fs) no_indexes same = refl
   indexes_congr (index e es) (index f fs) (index g gs) same =
       ap (λ b. b && same_indexes es gs) (same_congr e f g (first_true _ _ same))
-        ∙ ap (λ b. same_expression f g && b) (indexes_congr es fs gs (second_true _ _ same))
+      ∙ ap (λ b. same_expression f g && b) (indexes_congr es fs gs (second_true _ _ same))
 
 pub same_expression_equiv : IsEquivalence same_expression
 same_expression_equiv = record { refl = same_refl; symm = same_symm; congr = same_congr }

@@ -25,7 +25,7 @@ abbrev mutual
   path_of v no_indexes = Ok []
   path_of v (index e es) =
       ok_then (evaluate v e) (λ t. ok_then (ok_or (as_scalar t) (expected_scalar t))
-        (λ scalar. ok_then (path_of v es) (λ path. Ok (scalar ∷ path))))
+      (λ scalar. ok_then (path_of v es) (λ path. Ok (scalar ∷ path))))
 
 -- the same without the reason of a failure
 abbrev mutual
@@ -37,7 +37,7 @@ abbrev mutual
   try_path_of v no_indexes = Some []
   try_path_of v (index e es) =
       option_and_then (λ t. option_and_then (λ scalar. option_map (λ path. scalar ∷ path) (try_path_of v es)) (as_scalar t))
-        (try_evaluate v e)
+      (try_evaluate v e)
 
 -- the path of a name and indexes
 abbrev pub named_path : {Reg : Type 0} → View Reg → Scal → Indexes → Result Path Refusal

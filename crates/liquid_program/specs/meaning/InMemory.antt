@@ -64,7 +64,7 @@ abbrev pub ShowsPage : {Reg F T P L B Q : Type 0} → Settings Reg F T P B Q →
     → List ℕ → ℕ → Type 0
 ShowsPage {F = F} {T = T} {B = B} s l options text globals partials output status =
     (answer : PageAnswer F T B) → Reads l text answer → (found : Option (Found F T B)) → IsFoundIn l partials found
-      → ShowsAnswer (page_run s options globals found) answer output status
+    → ShowsAnswer (page_run s options globals found) answer output status
 
 -- the template's text, in the standard language or in the other one
 abbrev pub ShowsIn : Bool → PageOptions → List ℕ → Names → Option Texts → List ℕ → ℕ → Type 0
@@ -81,7 +81,7 @@ abbrev pub ShowsCommand : Options → Option (List ℕ) → List (List ℕ) → 
     → List ℕ → ℕ → Type 0
 ShowsCommand options ending paths files folders output status =
     Gathers paths ending (known_in files) (listed_in folders) (ShowsNothing output status)
-      (λ text globals partials. ShowsText options text globals partials output status)
+    (λ text globals partials. ShowsText options text globals partials output status)
 
 -- a page that goes to the output leaves all files as they are; one that goes to a file shows nothing
 abbrev pub ShowsPlaced : Asked → Option (List ℕ) → (List ℕ → Option (List ℕ)) → (Bool → List ℕ → Option (List (List ℕ)))
@@ -96,4 +96,4 @@ abbrev pub Shows : List (List ℕ) → (List ℕ → Option (List ℕ)) → (Boo
     → List ℕ → ℕ → Type 0
 Shows words files folders left output status =
     MatchOption (command_of words) ((output ≡ []) × WritesOthers (pages_of words) (known_in files) (listed_in folders)
-      (known_in left) status) (λ asked. ShowsPlaced asked asked.choices.output files folders left output status)
+    (known_in left) status) (λ asked. ShowsPlaced asked asked.choices.output files folders left output status)

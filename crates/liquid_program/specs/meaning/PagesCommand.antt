@@ -46,8 +46,14 @@ are_places (word ∷ words) = is_place word && are_places words
 
 abbrev pub pages_to : Choices → Option (List ℕ) → Option (List ℕ) → List (List ℕ) → Option AskedPages
 pages_to c (Some output) (Some globals) templates =
-    if are_templates templates then Some (record { options = c.options; ending = c.ending; output = output; globals = globals;
-        partials = c.partials; templates = templates }) else None
+    if are_templates templates then Some (record {
+      options = c.options;
+      ending = c.ending;
+      output = output;
+      globals = globals;
+      partials = c.partials;
+      templates = templates;
+    }) else None
 pages_to c output globals templates = None
 
 -- these templates, with these choices

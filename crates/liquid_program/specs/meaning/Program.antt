@@ -63,7 +63,7 @@ abbrev pub Executes : Options → Option (List ℕ) → List (List ℕ) → (Lis
     → (Bool → List ℕ → Option (Option (List (List ℕ)))) → Sunk → Sunk → ℕ → Type 0
 Executes options ending paths known listed before after status =
     Gathers paths ending known listed (Fails before after status)
-      (λ text globals partials. Finishes options text globals partials before after status)
+    (λ text globals partials. Finishes options text globals partials before after status)
 
 -- the template at a path is read and rendered, over globals and partials that were read before
 abbrev pub ExecutesOne : Options → List ℕ → Names → Option Texts → (List ℕ → Option (Option (List ℕ))) → Sunk → Sunk → ℕ → Type 0

@@ -119,14 +119,14 @@ Begins all before after = (made : List Request) × (left : List Request) × (all
 abbrev pub Follows : {A : Type 0} → List Step → Requests → Requests → Result A Fault → Type 0
 Follows steps before after result =
     ((after ≡ also before (up_to_trouble steps)) × (trouble_in result ≡ first_trouble steps))
-      ⊎ (IsMemory result × Begins (up_to_trouble steps) before after)
+    ⊎ (IsMemory result × Begins (up_to_trouble steps) before after)
 
 -- what holds where all files and folders are known
 abbrev pub WhereKnown : (List ℕ → Option (Option (List ℕ))) → (Bool → List ℕ → Option (Option (List (List ℕ))))
     → ((List ℕ → Option (List ℕ)) → (Bool → List ℕ → Option (List (List ℕ))) → Type 0) → Type 0
 WhereKnown known listed says =
     (files : List ℕ → Option (List ℕ)) (folders : Bool → List ℕ → Option (List (List ℕ))) → known ≡ known_in files
-      → listed ≡ listed_in folders → says files folders
+    → listed ≡ listed_in folders → says files folders
 
 -- the exit status is that of the fault that is reported, or of what came after the last request
 abbrev pub FollowsTo : List Step → Requests → Requests → ℕ → Type 0

@@ -46,7 +46,7 @@ abbrev pub WritesAsked : Asked → List ℕ → (List ℕ → Option (Option (Li
     → (List ℕ → Option (Option (List ℕ))) → ℕ → Type 0
 WritesAsked asked place known listed left status =
     WritesFile (Executes asked.choices.options asked.choices.ending asked.paths known listed)
-      (page_file place (unwrap_or (first_word asked.paths) [])) known left status
+    (page_file place (unwrap_or (first_word asked.paths) [])) known left status
 
 -- the first status that isn't 0
 abbrev pub first_fault : ℕ → ℕ → ℕ

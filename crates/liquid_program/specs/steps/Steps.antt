@@ -61,7 +61,7 @@ CollectsAll steps before after = (after ≡ also before (up_to_trouble steps)) �
 abbrev pub CollectsSome : List Step → Requests → Requests → Fault → Type 0
 CollectsSome steps before after fault =
     ((after ≡ also before (up_to_trouble steps)) × (trouble : Trouble) × (first_trouble steps ≡ Some trouble)
-      × (reported fault ≡ Some trouble))
+    × (reported fault ≡ Some trouble))
     ⊎ (OutOfMemory fault × Begins (up_to_trouble steps) before after)
 
 abbrev pub Collects : {A : Type 0} → List Step → Requests → Requests → Result A Fault → Type 0

@@ -57,4 +57,4 @@ module _ {Reg : Type 0} where
       (s : S) (t : T) (calls : List Call) (outs : List (Answer × S)) (outs' : List (Answer × T)) → view s ≡ view' t
       → restores s ≡ restores' t
       → Made view restores fresh s calls outs → Made view' restores' fresh t calls outs'
-        → map (left_by view restores) outs ≡ map (left_by view' restores') outs'
+      → map (left_by view restores) outs ≡ map (left_by view' restores') outs'

@@ -38,7 +38,7 @@ module _ {Reg : Type 0} (held : MarksIn Reg) where
   captures_hide name None g v = answers_hide (Ok (capture_turn 0 no_frame None)) None (λ w. w) (λ h w. refl) g v
   captures_hide name (Some bytes) g v =
       ap (λ n. answers (Ok end_turn) None (hiding n v)) (ap (λ n. insert n name (text_value bytes)) (sym (empty-over g))
-        ∙ sym (insert-over empty g name (text_value bytes)))
+      ∙ sym (insert-over empty g name (text_value bytes)))
 
   block_start_hides : (n : StdBlockShape) → HidesGlobals {Reg = Reg} (block_starts n)
   block_start_hides n g v =

@@ -34,7 +34,7 @@ module _ {F Reg : Type 0} (held : MarksIn Reg) (m : FilterMeaning F) where
   counted_hides name None p g v = answers_hide (Err (past_limit name)) p (λ w. w) (λ h w. refl) g v
   counted_hides name (Some lower) p g v =
       answers_hide (ok_then (old_index v name) (λ old. Ok (text_turn (signed_decimal lower)))) p
-        (λ w. put_index w name (scalar (integer lower))) (λ h w. refl) g v
+      (λ w. put_index w name (scalar (integer lower))) (λ h w. refl) g v
 
   tag_start_hides : (n : StdTagShape F) → HidesGlobals {A = ℕ} {P = Unit {0}} {Reg = Reg} (begins_with 1)
   tag_start_hides n g v = answers_hide (Ok 1) tt (λ w. w) (λ h w. refl) g v
@@ -44,7 +44,7 @@ module _ {F Reg : Type 0} (held : MarksIn Reg) (m : FilterMeaning F) where
   tag_turn_hides (Decrement name) p g v = counted_hides name (one_lower (counts_from (value_in v.index name))) p g v
   tag_turn_hides (Echo c) p g v =
       ap (λ r. answers (echo_turn r) p (hiding g v)) (chain_hidden c g v)
-        ∙ answers_hide (echo_turn (chain_value m c (hiding empty v))) p (λ w. w) (λ h w. refl) g v
+      ∙ answers_hide (echo_turn (chain_value m c (hiding empty v))) p (λ w. w) (λ h w. refl) g v
   tag_turn_hides (Cycle c) p g v = cycles_hide held g v c p
 
   pub tags_hide : Discreet {Reg = Reg} (tag_nodes held m)

@@ -42,9 +42,9 @@ module _ {Reg : Type 0} where
   items_hidden (Of e) g v = ap (λ x. ok_then x items_in) (evaluate_hidden g v e)
   items_hidden (Between from to) g v =
       ap (λ x. ok_then (evaluate (hiding g v) from) (λ a. ok_then (whole_number a)
-        (λ m. ok_then x (λ b. ok_then (whole_number b) (λ n. items_between m n))))) (evaluate_hidden g v to)
+      (λ m. ok_then x (λ b. ok_then (whole_number b) (λ n. items_between m n))))) (evaluate_hidden g v to)
       ∙ ap (λ x. ok_then x (λ a. ok_then (whole_number a) (λ m. ok_then (evaluate (hiding empty v) to)
-        (λ b. ok_then (whole_number b) (λ n. items_between m n))))) (evaluate_hidden g v from)
+      (λ b. ok_then (whole_number b) (λ n. items_between m n))))) (evaluate_hidden g v from)
 
   begins_hidden : (n : BlockShape) (g : Names) (v : View Reg) → begins_as n (hiding g v) ≡ begins_as n (hiding empty v)
   begins_hidden (shape.If cs) g v = ap (λ r. ok_then r (λ part. Ok (Once part))) (chosen_hidden 0 cs g v)
@@ -63,7 +63,7 @@ module _ {Reg : Type 0} where
       → loop_takes name r (hiding g v) ≡ overlaid g (loop_takes name r (hiding empty v))
   loop_hides name r g v =
       answers_hide (Ok (cond (is_left r.place v.interrupt) end_turn (item_turn name r.place r.size (slice_get r.left 0)))) (following r)
-        (rested r.place) (rested_keeps r.place) g v
+      (rested r.place) (rested_keeps r.place) g v
 
   block_turn_hides : (n : BlockShape) (p : ProgressShape) → HidesGlobals {Reg = Reg} (block_takes n p)
   block_turn_hides (shape.Raw slice) p g v = answers_hide (Ok (text_turn slice)) p (λ w. w) (λ h w. refl) g v

@@ -39,7 +39,7 @@ module _ {Reg : Type 0} (fresh : Reg) (name : List ℕ) (size : ℕ) (body : Act
   after_body place [] v = and_then (asks v) (λ w. done (cleared w))
   after_body place (t ∷ ts) v =
       and_then (asks v) (λ w. cond (leaves w.interrupt) (done (cleared w))
-        (and_then (item_run place t (cleared w)) (after_body (place + 1) ts)))
+      (and_then (item_run place t (cleared w)) (after_body (place + 1) ts)))
 
   -- a first item, after its checkpoint, and those after it
   abbrev pub loop_run : Tree → List Tree → Action Reg
@@ -50,7 +50,7 @@ module _ {Reg F : Type 0} (fresh : Reg) (m : FilterMeaning F) where
   abbrev pub LoopRuns : Type 0
   LoopRuns =
       (finds : Option (Found F (TagShape F) BlockShape)) (depth : ℕ) (name : List ℕ) (series : SeriesShape)
-        (ps : Parts F (TagShape F) BlockShape)
+      (ps : Parts F (TagShape F) BlockShape)
       (t : Tree) (ts : List Tree) (v : View Reg) → items_of v series ≡ Ok (t ∷ ts) →
       block_run (library fresh m finds) depth (For name series) ps v ≡ loop_run fresh name (length (t ∷ ts))
-        (part_run (library fresh m finds) depth ps 0) t ts v
+      (part_run (library fresh m finds) depth ps 0) t ts v

@@ -18,14 +18,14 @@ module _ {Reg F : Type 0} (fresh : Reg) (m : FilterMeaning F) where
   abbrev pub LibraryIsolated : Type 0
   LibraryIsolated =
       (finds : Option (Found F (TagShape F) BlockShape)) (names : Names) (name : Option (List ℕ)) (ns : Nodes F (TagShape F) BlockShape)
-        (outside : View Reg) → HasGlobals outside →
+      (outside : View Reg) → HasGlobals outside →
       sandboxed_run (library fresh m finds) names name ns outside ≡ run_over_outside outside
-        (sandboxed_run (library fresh m finds) names name ns (emptied fresh outside))
+      (sandboxed_run (library fresh m finds) names name ns (emptied fresh outside))
 
   -- so two such outsides that agree on depth, leniency, index variables and name get the same text, refusal and writes
   abbrev pub LibraryAgrees : Type 0
   LibraryAgrees =
       (finds : Option (Found F (TagShape F) BlockShape)) (names : Names) (name : Option (List ℕ)) (ns : Nodes F (TagShape F) BlockShape)
-        (o p : View Reg) → HasGlobals o → HasGlobals p →
+      (o p : View Reg) → HasGlobals o → HasGlobals p →
       o.depth ≡ p.depth → o.lenient ≡ p.lenient → o.index ≡ p.index → o.name ≡ p.name →
       SameRun o p (sandboxed_run (library fresh m finds) names name ns o) (sandboxed_run (library fresh m finds) names name ns p)

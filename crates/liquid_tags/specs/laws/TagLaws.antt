@@ -47,22 +47,22 @@ module _ {F Reg : Type 0} (m : FilterMeaning F) where
   counted_hides name n None p g v = answers_hide (Err (past_limit name)) p (λ w. w) (λ h w. refl) g v
   counted_hides name n (Some higher) p g v =
       answers_hide (ok_then (old_index v name) (λ old. Ok (text_turn (signed_decimal n)))) p
-        (λ w. put_index w name (scalar (integer higher))) (λ h w. refl) g v
+      (λ w. put_index w name (scalar (integer higher))) (λ h w. refl) g v
 
   bound_hidden : (names : Names) (ps : List Pair) (g : Names) (v : View Reg) → bound (hiding g v) names ps ≡ bound (hiding empty v) names ps
   bound_hidden names [] g v = refl
   bound_hidden names (p ∷ ps) g v =
       ap (λ r. ok_then r (λ t. bound (hiding g v) (insert names p.0 t) ps)) (evaluate_hidden g v p.1)
       ∙ ok_then_same (evaluate (hiding empty v) p.1) (λ t. bound (hiding g v) (insert names p.0 t) ps)
-        (λ t. bound (hiding empty v) (insert names p.0 t) ps) (λ t. bound_hidden (insert names p.0 t) ps g v)
+      (λ t. bound (hiding empty v) (insert names p.0 t) ps) (λ t. bound_hidden (insert names p.0 t) ps g v)
 
   included_hidden : (i : Inclusion) (e : ExpressionShape) (ps : List Pair) (g : Names) (v : View Reg)
       → included i e ps (hiding g v) ≡ included i e ps (hiding empty v)
   included_hidden i e ps g v =
       ap (λ b. ok_then (evaluate (hiding g v) e) (λ t. ok_then (partial_name t)
-        (λ name. ok_then b (λ names. Ok (inclusion_turn i name names))))) (bound_hidden empty ps g v)
+      (λ name. ok_then b (λ names. Ok (inclusion_turn i name names))))) (bound_hidden empty ps g v)
       ∙ ap (λ r. ok_then r (λ t. ok_then (partial_name t) (λ name. ok_then (bound (hiding empty v) empty ps)
-        (λ names. Ok (inclusion_turn i name names))))) (evaluate_hidden g v e)
+      (λ names. Ok (inclusion_turn i name names))))) (evaluate_hidden g v e)
 
   tag_start_hides : (n : TagShape F) → HidesGlobals {A = ℕ} {P = Unit {0}} {Reg = Reg} (begins_with 1)
   tag_start_hides n g v = answers_hide (Ok 1) tt (λ w. w) (λ h w. refl) g v
@@ -75,7 +75,7 @@ module _ {F Reg : Type 0} (m : FilterMeaning F) where
   tag_turn_hides (Interrupts i) p g v = answers_hide (Ok end_turn) p (λ w. record w { interrupt = Some i }) (λ h w. refl) g v
   tag_turn_hides (Includes i e ps) p g v =
       ap (λ r. answers r p (hiding g v)) (included_hidden i e ps g v)
-        ∙ answers_hide (included i e ps (hiding empty v)) p (λ w. w) (λ h w. refl) g v
+      ∙ answers_hide (included i e ps (hiding empty v)) p (λ w. w) (λ h w. refl) g v
 
   pub tags_hide : Discreet {Reg = Reg} (tag_nodes m)
   tags_hide = record { start = tag_start_hides; turn = tag_turn_hides }

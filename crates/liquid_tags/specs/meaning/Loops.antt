@@ -62,4 +62,4 @@ following r = record r { left = drop 1 r.left; place = r.place + 1 }
 abbrev pub loop_takes : {Reg : Type 0} → List ℕ → RoundsShape → View Reg → Answered TurnShape RoundsShape Reg
 loop_takes name r v =
     answers (Ok (cond (is_left r.place v.interrupt) end_turn (item_turn name r.place r.size (slice_get r.left 0)))) (following r)
-      (rested r.place v)
+    (rested r.place v)

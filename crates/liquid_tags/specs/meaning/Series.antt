@@ -76,4 +76,4 @@ abbrev pub items_of : {Reg : Type 0} → View Reg → SeriesShape → Result (Li
 items_of v (Of e) = ok_then (evaluate v e) items_in
 items_of v (Between from to) =
     ok_then (evaluate v from) (λ a. ok_then (whole_number a) (λ m. ok_then (evaluate v to)
-      (λ b. ok_then (whole_number b) (λ n. items_between m n))))
+    (λ b. ok_then (whole_number b) (λ n. items_between m n))))

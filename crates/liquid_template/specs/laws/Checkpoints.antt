@@ -24,7 +24,7 @@ pub record OneEachTurn {Reg F T P B Q N R : Type 0} (s : Setting Reg F T P B Q) 
   pub turn : (partials : List ℕ → Action Reg) (n : N) (parts : List (Action Reg)) (left : ℕ) (progress : R) (v : View Reg) →
       asked_in (turns s partials m n parts (suc left) progress v) ≡ 1 + asked_in (answered s partials m n parts
       (m.takes n progress v).answer (m.takes n progress v).progress (turns s partials m n parts left)
-        (with_written (m.takes n progress v).written v))
+      (with_written (m.takes n progress v).written v))
   pub none : (partials : List ℕ → Action Reg) (n : N) (parts : List (Action Reg)) (progress : R) (v : View Reg) →
       asked_in (turns s partials m n parts 0 progress v) ≡ 0
 

@@ -41,7 +41,7 @@ module _ {Reg F T P B Q : Type 0} (s : Setting Reg F T P B Q) (partials : List �
     turns zero progress v = done v
     turns (suc left) progress v = and_then (asks v)
         (λ w. answered (m.takes n progress w).answer (m.takes n progress w).progress (turns left)
-          (with_written (m.takes n progress w).written w))
+        (with_written (m.takes n progress w).written w))
 
     -- at most as many turns as the progress counts, unless the start was refused
     abbrev pub started : Result R Refusal → Action Reg

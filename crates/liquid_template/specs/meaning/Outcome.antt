@@ -45,7 +45,7 @@ pub record GateRefuses {Reg : Type 0} (step : Step Reg) (part : List ℕ) (turns
   pub failures : after.sunk.failures ≡ before.sunk.failures
   pub refused : ((step.checkpoint ≡ true) × Refuses before.turns turns_before 1 after.turns × Passes before.bytes bytes_before after.bytes)
       ⊎ ((0 < length step.piece) × Passes before.turns turns_before after.turns
-        × Refuses before.bytes bytes_before (length step.piece) after.bytes)
+      × Refuses before.bytes bytes_before (length step.piece) after.bytes)
   pub reason : refusal ≡ was_stopped step.traces
 
 -- broken off at one step: the sink took all pieces before it, and a part of its own piece; the view is that step's, and

@@ -21,7 +21,7 @@ no_store name = with_context (codes "name") name (plain (codes "Partial does not
 abbrev pub unknown_partial : List ℕ → List (List ℕ) → Refusal
 unknown_partial name names =
     with_context (codes "available partials") (listed names) (with_context (codes "requested partial") name
-      (plain (codes "Unknown partial-template")))
+    (plain (codes "Unknown partial-template")))
 
 -- the tree that a text is parsed as, and none for a fault
 abbrev pub read_tree : {A : Type 0} → Result A Refusal → Option A

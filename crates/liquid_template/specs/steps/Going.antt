@@ -56,7 +56,7 @@ module _ {Reg F T P B Q : Type 0} (s : Setting Reg F T P B Q) (depth : ℕ) wher
       pub goes : (parts : List (Action Reg)) → (k : ℕ) → (d a : Output) → (x y : View Reg) → (u : Unit {0}) → (answer : Answer)
           → RendersWithin (silent (under s.fresh frame trace (inner parts) from)) from c d x (Ok u)
           → RendersWithin (turns s (partials_at s depth) m n parts k (m.catches n q
-            (written (under s.fresh frame trace (inner parts) from))) x) x d a y answer
+          (written (under s.fresh frame trace (inner parts) from))) x) x d a y answer
           → RendersWithin (turns s (partials_at s depth) m n parts (suc k) p v) v b a y answer
       pub fails : (parts : List (Action Reg)) → (k : ℕ) → (d : Output) → (x : View Reg) → (e : Error)
           → RendersWithin (silent (under s.fresh frame trace (inner parts) from)) from c d x (Err e)
@@ -130,7 +130,7 @@ module _ {Reg F T P B Q : Type 0} (s : Setting Reg F T P B Q) (depth : ℕ) {A :
       × IsOk answer
   PartialOpens frame trace v w rs rs1 answer kept None =
       (rs1 ≡ rs) × IsErrAnd answer (λ e. (b : Output) → RendersWithin (under s.fresh frame trace (partials_at s depth name) v) v b b w
-        (Err e))
+      (Err e))
 
 -- the frame of a part has begun, with the part's trace kept; or out of memory is the answer, and no frame has begun
 abbrev pub FrameBegins : {Reg : Type 0} → Reg → FrameShape → Option (List ℕ) → View Reg → View Reg → List (Restore Reg) → List (Restore Reg)

@@ -14,4 +14,4 @@ abbrev pub Begins : {N R Reg : Type 0} → NodeMeaning N R Reg → N → View Re
 Begins m n v w answer (Some p) = IsOk answer × ((m.starts n v).answer ≡ Ok p) × (w ≡ with_written (m.starts n v).written v)
 Begins m n v w answer None =
     IsErrAnd answer (λ e. IfSome (told e) (λ r. (m.starts n v).answer ≡ Err r)
-      × OnSome (told e) (w ≡ with_written (m.starts n v).written v))
+    × OnSome (told e) (w ≡ with_written (m.starts n v).written v))

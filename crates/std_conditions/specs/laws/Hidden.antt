@@ -70,4 +70,4 @@ module _ {Reg : Type 0} (g : Names) (v : View Reg) where
   part_case_hidden c =
       ap (λ r. ok_then r (λ t. part_when (hiding g v) t 1 c.alternatives)) (evaluate_hidden g v c.value)
       ∙ then_same (evaluate (hiding empty v) c.value) (λ t. part_when (hiding g v) t 1 c.alternatives)
-        (λ t. part_when (hiding empty v) t 1 c.alternatives) (λ t. when_hidden t 1 c.alternatives)
+      (λ t. part_when (hiding empty v) t 1 c.alternatives) (λ t. when_hidden t 1 c.alternatives)

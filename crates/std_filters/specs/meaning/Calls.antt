@@ -97,4 +97,4 @@ accepts sense arguments = takes sense.optional (length arguments.positional) && 
 abbrev pub call_made : {K : Type 0} → (K → FilterSense) → K → Arguments → Result (CallShape K) Refusal
 call_made sense kind arguments =
     cond (accepts (sense kind) arguments) (Ok (record { kind = kind; positional = arguments.positional; keyword = arguments.keyword }))
-        (Err unexpected_arguments)
+    (Err unexpected_arguments)

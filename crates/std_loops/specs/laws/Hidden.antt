@@ -34,9 +34,9 @@ module _ {Reg : Type 0} (g : Names) (v : View Reg) where
   series_hidden (Of e) = ap (λ x. ok_then x items_in) (evaluate_hidden g v e)
   series_hidden (Between from to) =
       ap (λ x. ok_then (evaluate (hiding g v) from) (λ a. ok_then (whole_number a)
-        (λ m. ok_then x (λ b. ok_then (whole_number b) (λ n. items_between m n))))) (evaluate_hidden g v to)
+      (λ m. ok_then x (λ b. ok_then (whole_number b) (λ n. items_between m n))))) (evaluate_hidden g v to)
       ∙ ap (λ x. ok_then x (λ a. ok_then (whole_number a) (λ m. ok_then (evaluate (hiding empty v) to)
-        (λ b. ok_then (whole_number b) (λ n. items_between m n))))) (evaluate_hidden g v from)
+      (λ b. ok_then (whole_number b) (λ n. items_between m n))))) (evaluate_hidden g v from)
 
   option_hidden : (e : Option ExpressionShape) → option_number (hiding g v) e ≡ option_number (hiding empty v) e
   option_hidden None = refl
@@ -45,13 +45,13 @@ module _ {Reg : Type 0} (g : Names) (v : View Reg) where
   pub picked_hidden : (l : LoopShape) → picked_items (hiding g v) l ≡ picked_items (hiding empty v) l
   picked_hidden l =
       ap (λ x. ok_then (items_of (hiding g v) l.series) (λ ts. ok_then (option_number (hiding g v) l.options.offset)
-        (λ offset. ok_then x (λ limit.
+      (λ offset. ok_then x (λ limit.
       Ok (picked (unwrap_or offset (pos 0)) limit l.options.is_reversed ts))))) (option_hidden l.options.limit)
       ∙ ap (λ x. ok_then (items_of (hiding g v) l.series) (λ ts. ok_then x
-        (λ offset. ok_then (option_number (hiding empty v) l.options.limit) (λ limit.
+      (λ offset. ok_then (option_number (hiding empty v) l.options.limit) (λ limit.
       Ok (picked (unwrap_or offset (pos 0)) limit l.options.is_reversed ts))))) (option_hidden l.options.offset)
       ∙ ap (λ x. ok_then x (λ ts. ok_then (option_number (hiding empty v) l.options.offset)
-        (λ offset. ok_then (option_number (hiding empty v) l.options.limit) (λ limit.
+      (λ offset. ok_then (option_number (hiding empty v) l.options.limit) (λ limit.
       Ok (picked (unwrap_or offset (pos 0)) limit l.options.is_reversed ts))))) (series_hidden l.series)
 
   nil_hidden : (s : SeriesShape) → is_over_nil (hiding g v) s ≡ is_over_nil (hiding empty v) s
@@ -78,13 +78,13 @@ module _ {Reg : Type 0} where
       → loop_takes name r (hiding g v) ≡ overlaid g (loop_takes name r (hiding empty v))
   loop_hides name r g v =
       answers_hide (Ok (cond (is_left r.place v.interrupt) end_turn (item_turn name r.place r.size (slice_get r.left 0)))) (following r)
-        (rested r.place) (rested_keeps r.place) g v
+      (rested r.place) (rested_keeps r.place) g v
 
   stage_hides : (s : Stage) (name : List ℕ) (t : TableShape) (g : Names) (v : View Reg)
       → stage_takes s name t (hiding g v) ≡ overlaid g (stage_takes s name t (hiding empty v))
   stage_hides Text name t g v =
       answers_hide (Ok (text_turn (text_at t (is_left t.place v.interrupt)))) (after_text t (is_left t.place v.interrupt)) (rested t.place)
-        (rested_keeps t.place) g v
+      (rested_keeps t.place) g v
   stage_hides Body name t g v = answers_hide (Ok (body_of name t)) (after_body t) (λ w. w) (λ h w. refl) g v
   stage_hides End name t g v = answers_hide (Ok end_turn) t (λ w. w) (λ h w. refl) g v
 

@@ -56,7 +56,7 @@ module _ {Reg : Type 0} (held : MarksIn Reg) (g : Names) (v : View Reg) where
   cycles_hide c p =
       let next = next_of (hiding empty v) c (marks_in held v) in
       ap (λ n. answers (ok_then n (λ x. Ok (text_turn x.0))) p (view_after held (hiding g v) n)) (next_hidden c (marks_in held v))
-        ∙ told_hides p next
+      ∙ told_hides p next
 
   unless_last_hides : (text : List ℕ) (is : Bool) → unless_last held text (hiding g v) is ≡ overlaid g
       (unless_last held text (hiding empty v) is)

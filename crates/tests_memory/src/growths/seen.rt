@@ -60,10 +60,7 @@ impl fmt::Display for Seen {
         match (self.before, self.after) {
             (Some(count), _) => write!(f, "refused in front of it, after {count} boxes"),
             (None, Some(count)) => write!(f, "refused after it, after {count} boxes"),
-            (None, None) if self.first == Told::Memory => write!(
-                f,
-                "refused in it, out of memory"
-            ),
+            (None, None) if self.first == Told::Memory => write!(f, "refused in it, out of memory"),
             (None, None) => write!(f, "refused in it or never, whole answer"),
         }
     }

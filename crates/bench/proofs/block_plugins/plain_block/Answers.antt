@@ -14,4 +14,4 @@ pub returns-in_err-name-in-With : goal.returns-in_err-name-in-With
 returns-in_err-name-in-With c ts at =
     let p = err_from_is_err_and c.from_residual.result c.from_residual.ensures.1 in
     rw (c.in-With.is, p.1, p.2) (then_refused (told c.in_err-name-in-With.field-0.0) _ (λ given. Ok (With given.0 given.1))
-      (c.in_err-name-in-With.ensures ts at))
+    (c.in_err-name-in-With.ensures ts at))

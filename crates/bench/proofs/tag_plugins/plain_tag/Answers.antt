@@ -14,7 +14,7 @@ pub returns-in_err-name-in-Set : goal.returns-in_err-name-in-Set
 returns-in_err-name-in-Set c ts at =
     let p = err_from_is_err_and c.from_residual.result c.from_residual.ensures.1 in
     rw (c.in-Set.is, p.1, p.2) (then_refused (told c.in_err-name-in-Set.field-0.0) _ (λ given. Ok (Set given.0 given.1))
-      (c.in_err-name-in-Set.ensures ts at))
+    (c.in_err-name-in-Set.ensures ts at))
 
 pub returns-in_ok-name_alone-in-Inc : goal.returns-in_ok-name_alone-in-Inc
 returns-in_ok-name_alone-in-Inc c ts at =
@@ -24,4 +24,4 @@ pub returns-in_err-name_alone-in-Inc : goal.returns-in_err-name_alone-in-Inc
 returns-in_err-name_alone-in-Inc c ts at =
     let p = err_from_is_err_and c.from_residual-in_err-name_alone-in-Inc.result c.from_residual-in_err-name_alone-in-Inc.ensures.1 in
     rw (c.in-Inc.is, p.1, p.2) (then_refused (told c.in_err-name_alone-in-Inc.field-0.0) _ (λ name. Ok (Inc name))
-      (c.in_err-name_alone-in-Inc.ensures ts at))
+    (c.in_err-name_alone-in-Inc.ensures ts at))

@@ -20,4 +20,4 @@ pub returns : goal.returns
 returns c =
     let ends : c.loop-place.place ≡ c.fewer-place-end.result = search rules in
     λ out. all_turns (λ g. g.now) _ out out c.args.globals.now c.args.outcomes.now c.loop-place.outcomes 0 0 c.loop-place.place _
-      (ends ∙ c.fewer-place-end.ensures) (c.loop-place.invariant.turns out) c.loop-place.invariant.later
+    (ends ∙ c.fewer-place-end.ensures) (c.loop-place.invariant.turns out) c.loop-place.invariant.later

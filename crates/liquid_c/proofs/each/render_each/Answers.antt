@@ -6,21 +6,21 @@ use Rattle.liquid_c.proofs.each.render_each.Goals as goal
 pub returns-in-NoOptions : goal.returns-in-NoOptions
 returns-in-NoOptions c =
     all_leave (λ globals old new o refused. none_asked c.args.page.now globals old new o c.choose_language.result c.choose_language.ensures
-      c.in-NoOptions.is refused) (c.refuse_each.ensures c.args.out.now)
+    c.in-NoOptions.is refused) (c.refuse_each.ensures c.args.out.now)
 
 pub returns-in-NoMemory : goal.returns-in-NoMemory
 returns-in-NoMemory c =
     all_leave (λ globals old new o refused. memory_asked c.args.page.now globals old new o c.choose_language.result
-      c.choose_language.ensures c.in-NoMemory.is
+    c.choose_language.ensures c.in-NoMemory.is
     (λ page. nothing_left page old new o refused.0 refused.1.0 refused.1.1.0 refused.1.1.1))
-      (c.refuse_each-in-NoMemory.ensures c.args.out.now)
+    (c.refuse_each-in-NoMemory.ensures c.args.out.now)
 
 pub returns-in-Plain : goal.returns-in-Plain
 returns-in-Plain c =
     all_leave (λ globals old new o leaves. plain_asked c.args.page.now globals old new o c.choose_language.result c.choose_language.ensures
-      _ c.in-Plain.is leaves) c.render_each_in.ensures
+    _ c.in-Plain.is leaves) c.render_each_in.ensures
 
 pub returns-in-Standard : goal.returns-in-Standard
 returns-in-Standard c =
     all_leave (λ globals old new o leaves. standard_asked c.args.page.now globals old new o c.choose_language.result
-      c.choose_language.ensures _ c.in-Standard.is leaves) c.render_each_in-in-Standard.ensures
+    c.choose_language.ensures _ c.in-Standard.is leaves) c.render_each_in-in-Standard.ensures

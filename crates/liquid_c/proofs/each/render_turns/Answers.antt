@@ -5,8 +5,14 @@ use Rattle.liquid_c.proofs.each.render_turns.Goals as goal
 
 pub loop-place-init : goal.loop-place-init
 loop-place-init g c =
-    record { again = λ options globals page comes. comes; turns = begun; fits = search rules; counted = search rules; later = refl;
-    size = refl }
+    record {
+      again = λ options globals page comes. comes;
+      turns = begun;
+      fits = search rules;
+      counted = search rules;
+      later = refl;
+      size = refl;
+    }
 
 pub loop-place-preserved : goal.loop-place-preserved
 loop-place-preserved g c = record {
@@ -28,4 +34,4 @@ pub returns : goal.returns
 returns g c =
     let ends : c.loop-place.place ≡ c.fewer-count.result = search rules in
     all_turns (λ g. g.now) _ c.args.out.now c.loop-place.out c.args.globals.now c.args.outcomes.now c.loop-place.outcomes c.loop-place.used
-      c.loop-place.whole c.loop-place.place _ (ends ∙ c.fewer-count.ensures) c.loop-place.invariant.turns c.loop-place.invariant.later
+    c.loop-place.whole c.loop-place.place _ (ends ∙ c.fewer-count.ensures) c.loop-place.invariant.turns c.loop-place.invariant.later

@@ -6,11 +6,21 @@ use Rattle.liquid_c.proofs.ChosenLemmas.{made}
 use Rattle.liquid_c.proofs.languages.choose_language.Goals as goal
 
 pub returns-in-Ok : goal.returns-in-Ok
-returns-in-Ok c =
-    (search rules, (search rules, made (λ l. standard_meaning filter_made l.value ≡ standard_language) c.standard_language.result
-      c.in-Ok.language c.in-Ok.is c.standard_language.ensures))
+returns-in-Ok c = (
+  search rules,
+  (
+    search rules,
+    made (λ l. standard_meaning filter_made l.value ≡ standard_language) c.standard_language.result
+        c.in-Ok.language c.in-Ok.is c.standard_language.ensures,
+  ),
+)
 
 pub returns-in-Ok-plain_language : goal.returns-in-Ok-plain_language
-returns-in-Ok-plain_language c =
-    (search rules, (search rules, made (λ l. meaning_of filter_made l.value ≡ plain_language) c.plain_language.result
-      c.in-Ok-plain_language.language c.in-Ok-plain_language.is c.plain_language.ensures))
+returns-in-Ok-plain_language c = (
+  search rules,
+  (
+    search rules,
+    made (λ l. meaning_of filter_made l.value ≡ plain_language) c.plain_language.result
+        c.in-Ok-plain_language.language c.in-Ok-plain_language.is c.plain_language.ensures,
+  ),
+)

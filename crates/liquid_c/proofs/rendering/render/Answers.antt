@@ -12,7 +12,7 @@ pub returns-in-NoMemory : goal.returns-in-NoMemory
 returns-in-NoMemory c =
     memory_asked c.args.page.now c.args.page.now.globals.now _ _ _ c.choose_language.result c.choose_language.ensures c.in-NoMemory.is
     (λ page. nothing_left page _ _ _ c.refused-in-NoMemory.ensures.kind c.refused-in-NoMemory.ensures.needed
-      c.refused-in-NoMemory.ensures.written refl)
+    c.refused-in-NoMemory.ensures.written refl)
 
 pub returns-in-Plain : goal.returns-in-Plain
 returns-in-Plain c =

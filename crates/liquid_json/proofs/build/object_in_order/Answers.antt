@@ -9,4 +9,4 @@ pub returns : goal.returns
 returns c =
     let entries = c.args.entries.items in
     IfOk-weaker c.collect.result (IsFromIterResult string_cmp entries) _
-      (λ m made. members_by_name m.entries entries (collected entries m c.requires made)) (search rules)
+    (λ m made. members_by_name m.entries entries (collected entries m c.requires made)) (search rules)

@@ -11,11 +11,11 @@ abbrev pub invariant-into_items-loop-item : goal.invariant-into_items-loop-item
 invariant-into_items-loop-item l =
     (goal.iterator-into_items-loop-item).can_next l.item-iterator × (goal.iterator-into_items-loop-item).is_finite l.item-iterator
     × (items_given (json_items l.fn.items.items) ≡ after_items (map view l.values.items)
-      (items_given (json_items (into_iter_items l.item-iterator))))
+    (items_given (json_items (into_iter_items l.item-iterator))))
 
 abbrev pub invariant-into_members-loop-name : goal.invariant-into_members-loop-name
 invariant-into_members-loop-name l =
     (goal.iterator-into_members-loop-name).can_next l.name-iterator × (goal.iterator-into_members-loop-name).is_finite l.name-iterator
     × (members_given (json_members l.fn.members.entries) ≡ after_members (map entry_view l.entries.items)
-      (members_given (json_members l.name-iterator)))
+    (members_given (json_members l.name-iterator)))
     × (keys_of l.fn.members.entries ≡ keys_of l.entries.items ++ keys_of l.name-iterator)

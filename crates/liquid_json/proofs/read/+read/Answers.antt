@@ -19,16 +19,20 @@ pub read_value-returns-in_ok-from_str-in-String-clause-read : goal.read_value-re
 read_value-returns-in_ok-from_str-in-String-clause-read t c =
     let first : c.args.reader.now ≡ token_of c.in_ok-token.token ∷ c.next.new.self = grind arith in
     let is : c.args.reader.now ≡ Token.string c.in-String.text.now ∷ c.next.new.self = grind (arith, first) in
-    let copied : string_bytes c.in_ok-from_str-in-String.field-0 ≡ c.in-String.text.now = search rules in
-    (json.string c.in-String.text.now, ap (value c.args.depth) is ∙ value_is c.args.depth _,
-      (read.string c.in-String.text.now, refl, ap Ok (sym (view_scalar _ ∙ ap (λ bytes. scalar (text bytes)) copied))))
+    let copied : string_bytes c.in_ok-from_str-in-String.field-0 ≡ c.in-String.text.now = search rules in (
+      json.string c.in-String.text.now,
+      ap (value c.args.depth) is ∙ value_is c.args.depth _,
+      (read.string c.in-String.text.now, refl, ap Ok (sym (view_scalar _ ∙ ap (λ bytes. scalar (text bytes)) copied))),
+    )
 
 pub read_value-returns-in-Bool-clause-read : goal.read_value-returns-in-Bool-clause-read
 read_value-returns-in-Bool-clause-read t c =
     let first : c.args.reader.now ≡ token_of c.in_ok-token.token ∷ c.next.new.self = grind arith in
-    let is : c.args.reader.now ≡ Token.boolean c.in-Bool.truth ∷ c.next.new.self = grind (arith, first) in
-    (json.boolean c.in-Bool.truth, ap (value c.args.depth) is ∙ value_is c.args.depth _,
-      (read.boolean c.in-Bool.truth, refl, ap Ok (sym (view_scalar _))))
+    let is : c.args.reader.now ≡ Token.boolean c.in-Bool.truth ∷ c.next.new.self = grind (arith, first) in (
+      json.boolean c.in-Bool.truth,
+      ap (value c.args.depth) is ∙ value_is c.args.depth _,
+      (read.boolean c.in-Bool.truth, refl, ap Ok (sym (view_scalar _))),
+    )
 
 pub read_value-returns-in-Null-clause-read : goal.read_value-returns-in-Null-clause-read
 read_value-returns-in-Null-clause-read t c =
@@ -42,36 +46,53 @@ read_value-returns-in-Some-clause-read t c =
     let is : c.args.reader.now ≡ Token.number c.in-Number.text.now ∷ c.next.new.self = grind (arith, first) in (
       json.number c.in-Number.text.now,
       ap (value c.args.depth) is ∙ value_is c.args.depth _,
-      (read.number (of_integer c.in-Some.number), rw c.in-Some.ensures refl, whole_given c.in-Some.number (grind arith)
-        ∙ ap Ok (search (rules, the_lemmas))),
+      (
+        read.number (of_integer c.in-Some.number),
+        rw c.in-Some.ensures refl,
+        whole_given c.in-Some.number (grind arith)
+            ∙ ap Ok (search (rules, the_lemmas)),
+      ),
     )
 
 pub read_value-returns-in_ok-value_of_array-in-BeginArray-clause-read : goal.read_value-returns-in_ok-value_of_array-in-BeginArray-clause-read
 read_value-returns-in_ok-value_of_array-in-BeginArray-clause-read t c =
     let first : c.args.reader.now ≡ token_of c.in_ok-token.token ∷ c.next.new.self = grind arith in
     let opened =
-        ap (value c.args.depth) (first ∙ ap (λ k. token_of k ∷ c.next.new.self) c.in-BeginArray.is)
-        ∙ value-begin_array c.args.depth c.next.new.self (omega arith) in
-    let found = c.in_ok-array-in-BeginArray.ensures.read in
-    (json.array found.0, opened ∙ ap (parse_map json.array) found.1,
-      (read.array found.2.0, rw found.2.1 refl, rw found.2.2 (ap Ok (sym c.in_ok-value_of_array-in-BeginArray.ensures))))
+    ap (value c.args.depth) (first ∙ ap (λ k. token_of k ∷ c.next.new.self) c.in-BeginArray.is)
+    ∙ value-begin_array c.args.depth c.next.new.self (omega arith) in
+    let found = c.in_ok-array-in-BeginArray.ensures.read in (
+      json.array found.0,
+      opened ∙ ap (parse_map json.array) found.1,
+      (read.array found.2.0, rw found.2.1 refl, rw found.2.2 (ap Ok (sym c.in_ok-value_of_array-in-BeginArray.ensures))),
+    )
 
 pub read_value-returns-in_ok-shared-in-BeginObject-clause-read : goal.read_value-returns-in_ok-shared-in-BeginObject-clause-read
 read_value-returns-in_ok-shared-in-BeginObject-clause-read t c =
     let first : c.args.reader.now ≡ token_of c.in_ok-token.token ∷ c.next.new.self = grind arith in
     let opened =
-        ap (value c.args.depth) (first ∙ ap (λ k. token_of k ∷ c.next.new.self) c.in-BeginObject.is)
-        ∙ value-begin_object c.args.depth c.next.new.self (omega arith) in
-    let found = c.in_ok-object-in-BeginObject.ensures.read in
-    (json.object found.0, opened ∙ ap (parse_map json.object) found.1,
-      (read.object found.2.0, rw found.2.1 refl, rw found.2.2 (ap Ok
-      (sym (view_object _ ∙ ap object c.in_ok-shared-in-BeginObject.ensures)))))
+    ap (value c.args.depth) (first ∙ ap (λ k. token_of k ∷ c.next.new.self) c.in-BeginObject.is)
+    ∙ value-begin_object c.args.depth c.next.new.self (omega arith) in
+    let found = c.in_ok-object-in-BeginObject.ensures.read in (
+      json.object found.0,
+      opened ∙ ap (parse_map json.object) found.1,
+      (
+        read.object found.2.0,
+        rw found.2.1 refl,
+        rw found.2.2 (ap Ok
+            (sym (view_object _ ∙ ap object c.in_ok-shared-in-BeginObject.ensures))),
+      ),
+    )
 
 pub read_items-items-init : goal.read_items-items-init
 read_items-items-init t c =
-    let all = json.items (value c.args.depth) (length c.args.reader.now) c.args.reader.now in
-    (length c.args.reader.now, omega arith, omega arith, [], rw c.new-values.ensures.items (λ rest ts given. none_made rest ts given),
-      after_none all)
+    let all = json.items (value c.args.depth) (length c.args.reader.now) c.args.reader.now in (
+      length c.args.reader.now,
+      omega arith,
+      omega arith,
+      [],
+      rw c.new-values.ensures.items (λ rest ts given. none_made rest ts given),
+      after_none all,
+    )
 
 pub read_items-items-preserved : goal.read_items-items-preserved
 read_items-items-preserved t c =
@@ -102,9 +123,16 @@ read_items-returns-clause-read t c =
 
 pub read_members-members-init : goal.read_members-members-init
 read_members-members-init t c =
-    let all = json.members (value c.args.depth) (length c.args.reader.now) c.args.reader.now in
-    (length c.args.reader.now, omega arith, omega arith, [], read.no_members, none_put, rw c.new-object.ensures.empty refl,
-      put_after_none all)
+    let all = json.members (value c.args.depth) (length c.args.reader.now) c.args.reader.now in (
+      length c.args.reader.now,
+      omega arith,
+      omega arith,
+      [],
+      read.no_members,
+      none_put,
+      rw c.new-object.ensures.empty refl,
+      put_after_none all,
+    )
 
 pub read_members-members-preserved : goal.read_members-members-preserved
 read_members-members-preserved t c =
@@ -139,6 +167,8 @@ pub read_members-returns-clause-read : goal.read_members-returns-clause-read
 read_members-returns-clause-read t c =
     let l = c.members in
     let done = l.invariant.3 in
-    let over = members_end (value c.args.depth) l.invariant.0 l.reader c.next_key.new.self l.invariant.1 (grind arith) in
-    (put_after done json.no_members, l.invariant.7 ∙ ap (parse_map (put_after done)) over,
-      all_put done l.invariant.4 (members_view l.object.entries) l.invariant.5 l.invariant.6)
+    let over = members_end (value c.args.depth) l.invariant.0 l.reader c.next_key.new.self l.invariant.1 (grind arith) in (
+      put_after done json.no_members,
+      l.invariant.7 ∙ ap (parse_map (put_after done)) over,
+      all_put done l.invariant.4 (members_view l.object.entries) l.invariant.5 l.invariant.6,
+    )

@@ -21,7 +21,7 @@ invariant-read_items-items l =
     (n : ℕ) × (length l.reader ≤ n) × (length l.reader ≤ length l.initial.reader)
     × (done : List json.Json) × AreMade done l.values.items
     × (json.items (value l.depth) (length l.initial.reader) l.initial.reader ≡ parse_map (following done)
-      (json.items (value l.depth) n l.reader))
+    (json.items (value l.depth) n l.reader))
 
 abbrev pub decreases-read_items-items : goal.decreases-read_items-items
 decreases-read_items-items l = length l.reader
@@ -31,7 +31,7 @@ invariant-read_members-members l =
     (n : ℕ) × (length l.reader ≤ n) × (length l.reader ≤ length l.initial.reader)
     × (done : List (List ℕ × json.Json)) × (ds : Members) × ArePut done ds × (members_given ds ≡ Ok (members_view l.object.entries))
     × (json.members (value l.depth) (length l.initial.reader) l.initial.reader ≡ parse_map (put_after done)
-      (json.members (value l.depth) n l.reader))
+    (json.members (value l.depth) n l.reader))
 
 abbrev pub decreases-read_members-members : goal.decreases-read_members-members
 decreases-read_members-members l = length l.reader

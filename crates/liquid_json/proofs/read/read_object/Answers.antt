@@ -16,7 +16,7 @@ returns-in-None c =
     let found = c.in_ok-object.ensures.read in
     let none : c.read_members.new.reader ≡ [] = grind arith in
     let all : value 127 (tokens c.args.text.now) ≡ Some (json.object found.0, []) =
-        ap (value 127) begun ∙ value-begin_object 127 left (omega arith)
-        ∙ ap (json.parse_map json.object) (found.1 ∙ ap (λ ts. Some (found.0, ts)) none) in
+    ap (value 127) begun ∙ value-begin_object 127 left (omega arith)
+    ∙ ap (json.parse_map json.object) (found.1 ∙ ap (λ ts. Some (found.0, ts)) none) in
     ap (λ o. option_map object_given (option_and_then of_json (option_and_then (λ p. if_last p.0 p.1) o))) all
-      ∙ ap (λ o. option_map object_given (option_map read.object o)) found.2.1 ∙ ap Some found.2.2
+    ∙ ap (λ o. option_map object_given (option_map read.object o)) found.2.1 ∙ ap Some found.2.2

@@ -13,7 +13,7 @@ returns-then-has_minus c =
     let parts : c.scan.result ≡ scan (drop 1 s) = c.scan.ensures.parts ∙ ap scan (take_all _ (drop 1 s) (omega (arith, length-drop 1 s))) in
     let read : number_from true (scan (drop 1 s)) ≡ number_of s = rw signed in
     subst (λ found. IfSome c.below_zero.result (λ n. found ≡ Some (of_integer n)))
-      (ap (number_from true) parts ∙ read ∙ ap number_of c.as_bytes-bytes.ensures.value) c.below_zero.ensures
+    (ap (number_from true) parts ∙ read ∙ ap number_of c.as_bytes-bytes.ensures.value) c.below_zero.ensures
 
 pub returns-else-has_minus : goal.returns-else-has_minus
 unfolding number_of
@@ -22,5 +22,5 @@ returns-else-has_minus c =
     let unsigned : (get_or s 0 0 == 45) ≡ false = sym c.if-has_minus.ensures.value in
     let read : number_from false (scan s) ≡ number_of s = rw unsigned in
     subst (λ found. IfSome c.not_below_zero.result (λ n. found ≡ Some (of_integer n)))
-      (ap (number_from false) c.scan-else-has_minus.ensures.parts ∙ read ∙ ap number_of c.as_bytes-bytes.ensures.value)
-      c.not_below_zero.ensures
+    (ap (number_from false) c.scan-else-has_minus.ensures.parts ∙ read ∙ ap number_of c.as_bytes-bytes.ensures.value)
+    c.not_below_zero.ensures

@@ -12,15 +12,15 @@ use Rattle.liquid_json.proofs.write.+write.Goals as goal
 pub from_items-returns : goal.from_items-returns
 from_items-returns t c =
     let all : map json_view c.loop-item.shown.items ≡ map (λ v. value_shown (view v)) c.args.items.now.items =
-        first_of (search rules, grind (arith, common_steps)) in
+    first_of (search rules, grind (arith, common_steps)) in
     ap items_of all ∙ sym (items_shown-map c.args.items.now.items)
 
 pub from_entries-returns-clause-order : goal.from_entries-returns-clause-order
 from_entries-returns-clause-order t c =
     let all : map json_entry c.loop-name.entries.items ≡ map shown_entry c.args.members.now.entries =
-        first_of (search rules, grind (arith, common_steps)) in
+    first_of (search rules, grind (arith, common_steps)) in
     same_order c.loop-name.entries.items c.args.members.now.entries
-      (names_shown c.loop-name.entries.items c.args.members.now.entries all) c.iter-name-items.ensures.ordered
+    (names_shown c.loop-name.entries.items c.args.members.now.entries all) c.iter-name-items.ensures.ordered
 
 pub from_members-returns : goal.from_members-returns
 from_members-returns t c =

@@ -11,4 +11,4 @@ pub returns-in_err-template-clause-renders : goal.returns-in_err-template-clause
 returns-in_err-template-clause-renders g c = λ answer reads.
     let p = err_from_is_err_and c.from_residual.result c.from_residual.ensures.1 in
     rw (p.1, p.2) (refused_alike _ _ c.args.options answer _ _ _ c.in_err-template.field-0.0
-      (c.in_err-template.ensures answer (rw c.deref.ensures reads)))
+    (c.in_err-template.ensures answer (rw c.deref.ensures reads)))

@@ -18,6 +18,6 @@ returns-in_err-store g c =
 pub returns : goal.returns
 returns g c =
     page_over _ _ _ c.args.text.now _ _ _ _ _ _ _ _ _ _ c.render_source.ensures.rendered
-      (ap (language_of _ _ _) (c.deref.ensures ∙ c.in_ok-language.ensures.ok))
-      (ap (option_map _) c.runtime_of-runtime.ensures.store) c.runtime_of-runtime.ensures.view
+    (ap (language_of _ _ _) (c.deref.ensures ∙ c.in_ok-language.ensures.ok))
+    (ap (option_map _) c.runtime_of-runtime.ensures.store) c.runtime_of-runtime.ensures.view
     (compiled_alike _ _ _ _ _ (ap (language_of _ _ _) c.in_ok-language.ensures.ok) refl c.in_ok-store.ensures)

@@ -19,4 +19,4 @@ returns-in_err-parse g c =
     let l = (language_of g.F.ParseFilter.makes g.T.ParseTag.gives g.B.ParseBlock.block c.args.language.now) in
     let p = err_from_is_err_and c.from_residual.result c.from_residual.ensures.1 in
     rw (p.1, p.2) (if_some (told c.in_err-parse.field-0.0) (λ r e. ap as_tree e)
-      (c.in_err-parse.ensures.only (reading l c.args.text.now) (reading_reads l c.args.text.now)))
+    (c.in_err-parse.ensures.only (reading l c.args.text.now) (reading_reads l c.args.text.now)))

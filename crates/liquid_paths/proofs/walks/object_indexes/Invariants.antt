@@ -8,5 +8,5 @@ use Rattle.liquid_paths.proofs.walks.object_indexes.Given as goal
 abbrev pub invariant-loop-name : goal.invariant-loop-name
 invariant-loop-name l =
     listed (names (members_view l.members.entries)) ≡ string_bytes l.text
-      ++ cond l.is_first (listed (names (members_view l.name-iterator)))
-      (flat_map (λ name. codes ", " ++ name) (names (members_view l.name-iterator)))
+    ++ cond l.is_first (listed (names (members_view l.name-iterator)))
+    (flat_map (λ name. codes ", " ++ name) (names (members_view l.name-iterator)))

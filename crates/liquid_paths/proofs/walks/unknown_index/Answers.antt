@@ -6,6 +6,6 @@ use Rattle.liquid_paths.proofs.walks.unknown_index.Goals as goal
 pub returns : goal.returns
 returns c =
     unknown_told c.with_msg.result c.with_front-error.result c.context.result c.context-2.result (indexes_of c.args.front.now)
-      (view c.args.value.now) (index_of c.args.index.now) c.as_str.result.now c.as_str-2.result.now
+    (view c.args.value.now) (index_of c.args.index.now) c.as_str.result.now c.as_str-2.result.now
     c.with_msg.ensures c.with_front-error.ensures c.context.ensures c.context-2.ensures (cc (c.in-Ok.ensures, c.as_str.ensures.value))
-      (cc (c.in-Ok-available_indexes.ensures, c.as_str-2.ensures.value))
+    (cc (c.in-Ok-available_indexes.ensures, c.as_str-2.ensures.value))

@@ -12,4 +12,4 @@ invariant-borrow_through-loop-index g l =
     let v = g.R.Runtime.view l.runtime in
     InPlace l.at
     × (from_here (tree_of l.value) (try_path_of v (expressions_of l.indexes.items)) ≡ from_here (cow_view l.at)
-      (try_path_of v (expressions_of (drop l.index-index l.index-items))))
+    (try_path_of v (expressions_of (drop l.index-index l.index-items))))

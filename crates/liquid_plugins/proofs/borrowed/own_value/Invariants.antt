@@ -7,4 +7,4 @@ use Rattle.liquid_plugins.proofs.borrowed.own_value.Given as goal
 abbrev pub invariant-loop-index : goal.invariant-loop-index
 invariant-loop-index l =
     literal_walk (tree_of l.value) (expressions_of l.indexes.items) ≡ literal_walk (tree_of l.at)
-      (expressions_of (drop l.index-index l.index-items))
+    (expressions_of (drop l.index-index l.index-items))

@@ -10,6 +10,6 @@ loop-filter-preserved g c =
     let shape = g.X.Meant.shape in (
       l.invariant.0 ++ (codes " | " ++ g.X.Filter.means.label (shape x)),
       pieces_turn shape (λ y. codes " | " ++ g.X.Filter.means.label y) _ _ _ l.filter-index x c.loop-filter-test.true c.filter-item.is
-        l.invariant.1,
+          l.invariant.1,
       λ p. has_written_append _ _ _ _ _ _ (l.invariant.2 p) (search rules),
     )

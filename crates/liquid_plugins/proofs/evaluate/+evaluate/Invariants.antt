@@ -10,4 +10,4 @@ abbrev pub invariant-named_path-loop-index : goal.invariant-named_path-loop-inde
 invariant-named_path-loop-index g l =
     let v = g.R.Runtime.view l.runtime in
     named_path v (scal string_bytes l.name) (expressions_of l.indexes.items) ≡ following (code_path_of l.path)
-      (path_of v (expressions_of (drop l.index-index l.index-items)))
+    (path_of v (expressions_of (drop l.index-index l.index-items)))

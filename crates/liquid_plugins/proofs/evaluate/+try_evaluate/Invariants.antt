@@ -10,4 +10,4 @@ abbrev pub invariant-try_named_path-loop-index : goal.invariant-try_named_path-l
 invariant-try_named_path-loop-index g l =
     let v = g.R.Runtime.view l.runtime in
     try_named_path v (scal string_bytes l.name) (expressions_of l.indexes.items) ≡ try_after (code_path_of l.path)
-      (try_path_of v (expressions_of (drop l.index-index l.index-items)))
+    (try_path_of v (expressions_of (drop l.index-index l.index-items)))

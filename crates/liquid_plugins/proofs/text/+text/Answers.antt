@@ -15,6 +15,6 @@ write_indexes-loop-index-preserved g t c =
     let e = c.index-item.result in (
       l.invariant.0 ++ (codes "[" ++ (expression_text (expression_of e) ++ codes "]")),
       l.invariant.1 ∙ ap (λ is. l.invariant.0 ++ indexes_text is) (expressions_of-drop _ l.index-index e c.loop-index-test.true
-        c.index-item.is) ∙ sym (append_assoc l.invariant.0 (codes "[" ++ (expression_text (expression_of e) ++ codes "]")) _),
+          c.index-item.is) ∙ sym (append_assoc l.invariant.0 (codes "[" ++ (expression_text (expression_of e) ++ codes "]")) _),
       λ p. has_written_append _ _ _ _ _ _ (l.invariant.2 p) (search rules),
     )

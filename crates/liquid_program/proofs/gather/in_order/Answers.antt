@@ -14,7 +14,7 @@ loop-name-init c =
     let none : by_name c.new-set.result ≡ empty = by_name-empty c.new-set.result c.new-set.ensures.empty in
     let ending = option_map (λ e. e.now) c.args.ending in
     ap (λ m. names_into ending m (map string_bytes c.into_iter-name-iterator.result.rest.items)) none
-      ∙ ap (λ ns. names_into ending empty (map string_bytes ns)) rest
+    ∙ ap (λ ns. names_into ending empty (map string_bytes ns)) rest
 
 pub loop-name-preserved : goal.loop-name-preserved
 loop-name-preserved c =
@@ -22,7 +22,7 @@ loop-name-preserved c =
     let found = by_name c.loop-name.set in
     let left : c.loop-name.name-iterator.rest.items ≡ c.in-Some.name ∷ c.next.new.self.rest.items = c.in-Some.ensures.steps.0 in
     let stem : option_map (λ s. s.now) c.stem_of.result ≡ stem_of ending (string_bytes c.in-Some.name) =
-        rw c.as_str.ensures.value at c.stem_of.ensures in
+    rw c.as_str.ensures.value at c.stem_of.ensures in
     let put : by_name c.match-stem_of.set ≡ option_map_or (λ s. insert found s tt) (option_map (λ s. s.now) c.stem_of.result) found =
     elim c.match-stem_of.branch [
       | in-Some-stem_of+in_ok-from_str+in_ok-insert w ↦
@@ -34,6 +34,6 @@ loop-name-preserved c =
           ap by_name w.set-is ∙ sym (ap (λ r. option_map_or (λ s. insert found s tt) (option_map (λ s. s.now) r) found) none)
     ] in
     names_step ending found (by_name c.match-stem_of.set) (string_bytes c.in-Some.name) (option_map (λ s. s.now) c.stem_of.result)
-      (map string_bytes c.next.new.self.rest.items) stem put
+    (map string_bytes c.next.new.self.rest.items) stem put
     ∙ sym (ap (λ ns. names_into ending found (map string_bytes ns)) left)
     ∙ c.loop-name.invariant

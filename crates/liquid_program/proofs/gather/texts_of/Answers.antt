@@ -22,13 +22,13 @@ loop-name-init g c = record {
       nothing_read (g.F.Folder.known c.args.files.now) c.args.folder.now c.args.ending.now
       (keys (by_name c.args.names)) _ c.new-source.result
       (sym (names-by_name c.args.names c.into_iter-name-iterator.ensures.into_iter_gives.5)
-        ∙ ap (λ es. map (λ s. string_bytes s) (keys_of es)) (sym c.into_iter-name-iterator.ensures.into_iter_gives.0))
+      ∙ ap (λ es. map (λ s. string_bytes s) (keys_of es)) (sym c.into_iter-name-iterator.ensures.into_iter_gives.0))
       c.new-source.ensures;
   came =
       λ all known. nothing_came all c.args.folder.now c.args.ending.now (keys (by_name c.args.names)) _
       (g.F.Folder.requests c.args.files.now)
       (sym (names-by_name c.args.names c.into_iter-name-iterator.ensures.into_iter_gives.5)
-        ∙ ap (λ es. map (λ s. string_bytes s) (keys_of es)) (sym c.into_iter-name-iterator.ensures.into_iter_gives.0));
+      ∙ ap (λ es. map (λ s. string_bytes s) (keys_of es)) (sym c.into_iter-name-iterator.ensures.into_iter_gives.0));
 }
 
 pub loop-name-preserved : goal.loop-name-preserved
@@ -37,12 +37,12 @@ loop-name-preserved g c =
     let names = keys (by_name c.args.names) in
     let left : c.loop-name.name-iterator ≡ (c.in-Some.name, tt) ∷ c.next.new.self = search rules in
     let so_far =
-        subst (λ es. ReadSoFar known c.args.folder.now c.args.ending.now names (map (λ s. string_bytes s) (keys_of es)) c.loop-name.source)
-        left c.loop-name.invariant.read in
+    subst (λ es. ReadSoFar known c.args.folder.now c.args.ending.now names (map (λ s. string_bytes s) (keys_of es)) c.loop-name.source)
+    left c.loop-name.invariant.read in
     let there =
-        subst (λ (k : Files). WithText (k (path_in c.args.folder.now c.args.ending.now (string_bytes c.in-Some.name)))
-        (Stops (Ok c.in_ok-text.text)) (λ bytes. Brings (string_bytes {Z = Global}) bytes (Ok c.in_ok-text.text)))
-        c.loop-name.invariant.same
+    subst (λ (k : Files). WithText (k (path_in c.args.folder.now c.args.ending.now (string_bytes c.in-Some.name)))
+    (Stops (Ok c.in_ok-text.text)) (λ bytes. Brings (string_bytes {Z = Global}) bytes (Ok c.in_ok-text.text)))
+    c.loop-name.invariant.same
     (rw c.as_str.ensures.value at c.in_ok-text.ensures.text) in
     let put : c.add.new.self ≡ insert c.loop-name.source (string_bytes c.in-Some.name) (string_bytes c.in_ok-text.text) = search rules in
     record {
@@ -53,15 +53,15 @@ loop-name-preserved g c =
       came = λ all known_all.
           let name = string_bytes c.in-Some.name in
           let came =
-              subst (λ es. CameSoFar all c.args.folder.now c.args.ending.now names (map (λ s. string_bytes s) (keys_of es))
-              (g.F.Folder.requests c.args.files.now) (g.F.Folder.requests c.loop-name.files)) left
-              (c.loop-name.invariant.came all known_all) in
+          subst (λ es. CameSoFar all c.args.folder.now c.args.ending.now names (map (λ s. string_bytes s) (keys_of es))
+          (g.F.Folder.requests c.args.files.now) (g.F.Folder.requests c.loop-name.files)) left
+          (c.loop-name.invariant.came all known_all) in
           let none : text_trouble (path_in c.args.folder.now c.args.ending.now name)
-              (all (path_in c.args.folder.now c.args.ending.now name)) ≡ None =
+          (all (path_in c.args.folder.now c.args.ending.now name)) ≡ None =
           text_known (all (path_in c.args.folder.now c.args.ending.now name)) _ (path_in c.args.folder.now c.args.ending.now name)
-              (Ok c.in_ok-text.text) (ap (λ (k : Files). k (path_in c.args.folder.now c.args.ending.now name)) known_all) there tt in
+          (Ok c.in_ok-text.text) (ap (λ (k : Files). k (path_in c.args.folder.now c.args.ending.now name)) known_all) there tt in
           came_more all c.args.folder.now name c.args.ending.now names (map (λ s. string_bytes s) (keys_of c.next.new.self))
-            (g.F.Folder.requests c.args.files.now) (g.F.Folder.requests c.loop-name.files) (g.F.Folder.requests c.text_in.new.files) came
+          (g.F.Folder.requests c.args.files.now) (g.F.Folder.requests c.loop-name.files) (g.F.Folder.requests c.text_in.new.files) came
           (was_requested _ _ _ _ c.in_ok-text.text (search rules) (rw c.as_str.ensures.value at c.text_in.ensures.requests)) none;
     }
 
@@ -72,17 +72,17 @@ returns-in_err-text-clause-texts g c =
     let fault = c.in_err-text.field-0.0 in
     let left : c.loop-name.name-iterator ≡ (c.in-Some.name, tt) ∷ c.next.new.self = search rules in
     let so_far =
-        subst (λ es. ReadSoFar known c.args.folder.now c.args.ending.now names (map (λ s. string_bytes s) (keys_of es)) c.loop-name.source)
-        left c.loop-name.invariant.read in
+    subst (λ es. ReadSoFar known c.args.folder.now c.args.ending.now names (map (λ s. string_bytes s) (keys_of es)) c.loop-name.source)
+    left c.loop-name.invariant.read in
     let step =
-        subst (λ (k : Files). WithText (k (path_in c.args.folder.now c.args.ending.now (string_bytes c.in-Some.name)))
-        (Stops {A = String Global} (Err fault)) (λ bytes. Brings (string_bytes {Z = Global}) bytes (Err fault))) c.loop-name.invariant.same
+    subst (λ (k : Files). WithText (k (path_in c.args.folder.now c.args.ending.now (string_bytes c.in-Some.name)))
+    (Stops {A = String Global} (Err fault)) (λ bytes. Brings (string_bytes {Z = Global}) bytes (Err fault))) c.loop-name.invariant.same
     (rw c.as_str.ensures.value at c.in_err-text.ensures.text) in
     let is : c.from_residual.result ≡ Err fault = search rules in
     subst (λ r. WithFiles known c.args.folder.now c.args.ending.now names empty (Stops r) (λ texts. Brings (λ (s : Texts). s) texts r))
-        (sym is)
+    (sym is)
     (read_stops known c.args.folder.now (string_bytes c.in-Some.name) c.args.ending.now names
-      (map (λ s. string_bytes s) (keys_of c.next.new.self)) c.loop-name.source fault so_far step)
+    (map (λ s. string_bytes s) (keys_of c.next.new.self)) c.loop-name.source fault so_far step)
 
 pub returns-then-is_err-clause-texts : goal.returns-then-is_err-clause-texts
 returns-then-is_err-clause-texts g c =
@@ -93,7 +93,7 @@ pub returns-clause-texts : goal.returns-clause-texts
 returns-clause-texts g c =
     let none : c.loop-name.name-iterator ≡ [] = search rules in
     read_all (g.F.Folder.known c.args.files.now) c.args.folder.now c.args.ending.now
-      (keys (by_name c.args.names)) _ c.loop-name.source c.loop-name.invariant.read (ap (λ es. map (λ s. string_bytes s) (keys_of es)) none)
+    (keys (by_name c.args.names)) _ c.loop-name.source c.loop-name.invariant.read (ap (λ es. map (λ s. string_bytes s) (keys_of es)) none)
 
 pub returns-in_err-text-clause-requests : goal.returns-in_err-text-clause-requests
 returns-in_err-text-clause-requests g c = λ all known_all.
@@ -103,21 +103,21 @@ returns-in_err-text-clause-requests g c = λ all known_all.
     let fault = c.in_err-text.field-0.0 in
     let left : c.loop-name.name-iterator ≡ (c.in-Some.name, tt) ∷ c.next.new.self = search rules in
     let came =
-        subst (λ es. CameSoFar all c.args.folder.now c.args.ending.now names (map (λ s. string_bytes s) (keys_of es))
-        (g.F.Folder.requests c.args.files.now) (g.F.Folder.requests c.loop-name.files)) left (c.loop-name.invariant.came all known_all) in
+    subst (λ es. CameSoFar all c.args.folder.now c.args.ending.now names (map (λ s. string_bytes s) (keys_of es))
+    (g.F.Folder.requests c.args.files.now) (g.F.Folder.requests c.loop-name.files)) left (c.loop-name.invariant.came all known_all) in
     let step =
-        subst (λ (k : Files). WithText (k path) (Stops {A = String Global} (Err fault))
-        (λ bytes. Brings (string_bytes {Z = Global}) bytes (Err fault))) c.loop-name.invariant.same
+    subst (λ (k : Files). WithText (k path) (Stops {A = String Global} (Err fault))
+    (λ bytes. Brings (string_bytes {Z = Global}) bytes (Err fault))) c.loop-name.invariant.same
     (rw c.as_str.ensures.value at c.in_err-text.ensures.text) in
     let reports =
-        text_known (all path) _ path (Err fault) (ap (λ (k : Files). k path) known_all) step
-        (rw c.as_str.ensures.value at c.in_err-text.ensures.reports) in
+    text_known (all path) _ path (Err fault) (ap (λ (k : Files). k path) known_all) step
+    (rw c.as_str.ensures.value at c.in_err-text.ensures.reports) in
     let is : c.from_residual.result ≡ Err fault = search rules in
     subst (λ r. Collects (file_steps all c.args.folder.now c.args.ending.now names) (g.F.Folder.requests c.args.files.now)
-      (g.F.Folder.requests c.text_in.new.files) r) (sym is)
+    (g.F.Folder.requests c.text_in.new.files) r) (sym is)
     (came_stops all c.args.folder.now name c.args.ending.now names (map (λ s. string_bytes s) (keys_of c.next.new.self))
-      (g.F.Folder.requests c.args.files.now) (g.F.Folder.requests c.loop-name.files)
-      (g.F.Folder.requests c.text_in.new.files) c.text_in.result fault (search rules) came
+    (g.F.Folder.requests c.args.files.now) (g.F.Folder.requests c.loop-name.files)
+    (g.F.Folder.requests c.text_in.new.files) c.text_in.result fault (search rules) came
     (rw c.as_str.ensures.value at c.text_in.ensures.requests) reports)
 
 pub returns-then-is_err-clause-requests : goal.returns-then-is_err-clause-requests
@@ -127,18 +127,18 @@ returns-then-is_err-clause-requests g c = λ all known_all.
     let path = path_in c.args.folder.now c.args.ending.now name in
     let left : c.loop-name.name-iterator ≡ (c.in-Some.name, tt) ∷ c.next.new.self = search rules in
     let came =
-        subst (λ es. CameSoFar all c.args.folder.now c.args.ending.now names (map (λ s. string_bytes s) (keys_of es))
-        (g.F.Folder.requests c.args.files.now) (g.F.Folder.requests c.loop-name.files)) left (c.loop-name.invariant.came all known_all) in
+    subst (λ es. CameSoFar all c.args.folder.now c.args.ending.now names (map (λ s. string_bytes s) (keys_of es))
+    (g.F.Folder.requests c.args.files.now) (g.F.Folder.requests c.loop-name.files)) left (c.loop-name.invariant.came all known_all) in
     let there =
-        subst (λ (k : Files). WithText (k path) (Stops (Ok c.in_ok-text.text))
-        (λ bytes. Brings (string_bytes {Z = Global}) bytes (Ok c.in_ok-text.text))) c.loop-name.invariant.same
+    subst (λ (k : Files). WithText (k path) (Stops (Ok c.in_ok-text.text))
+    (λ bytes. Brings (string_bytes {Z = Global}) bytes (Ok c.in_ok-text.text))) c.loop-name.invariant.same
     (rw c.as_str.ensures.value at c.in_ok-text.ensures.text) in
     let none : text_trouble path (all path) ≡ None =
-        text_known (all path) _ path (Ok c.in_ok-text.text) (ap (λ (k : Files). k path) known_all) there tt in
+    text_known (all path) _ path (Ok c.in_ok-text.text) (ap (λ (k : Files). k path) known_all) there tt in
     came_memory all c.args.folder.now c.args.ending.now names (map (λ s. string_bytes s) (keys_of c.next.new.self))
-      (g.F.Folder.requests c.args.files.now) (g.F.Folder.requests c.text_in.new.files) (Refused Memory)
+    (g.F.Folder.requests c.args.files.now) (g.F.Folder.requests c.text_in.new.files) (Refused Memory)
     (came_more all c.args.folder.now name c.args.ending.now names (map (λ s. string_bytes s) (keys_of c.next.new.self))
-      (g.F.Folder.requests c.args.files.now) (g.F.Folder.requests c.loop-name.files) (g.F.Folder.requests c.text_in.new.files) came
+    (g.F.Folder.requests c.args.files.now) (g.F.Folder.requests c.loop-name.files) (g.F.Folder.requests c.text_in.new.files) came
     (was_requested _ _ _ _ c.in_ok-text.text (search rules) (rw c.as_str.ensures.value at c.text_in.ensures.requests)) none)
     (search (rules, the_lemmas))
 
@@ -146,4 +146,4 @@ pub returns-clause-requests : goal.returns-clause-requests
 returns-clause-requests g c = λ all known_all.
     let none : c.loop-name.name-iterator ≡ [] = search rules in
     came_all all c.args.folder.now c.args.ending.now (keys (by_name c.args.names)) _ (g.F.Folder.requests c.args.files.now) _
-      (c.loop-name.invariant.came all known_all) (ap (λ es. map (λ s. string_bytes s) (keys_of es)) none)
+    (c.loop-name.invariant.came all known_all) (ap (λ es. map (λ s. string_bytes s) (keys_of es)) none)

@@ -14,5 +14,5 @@ invariant-loop-name g l = record {
       (map (λ s. string_bytes s) (keys_of l.name-iterator)) l.source;
   came : (all : List ℕ → Option (List ℕ)) → g.F.Folder.known l.fn.files ≡ known_in all
       → CameSoFar all l.fn.folder l.fn.ending (keys (by_name l.fn.names)) (map (λ s. string_bytes s) (keys_of l.name-iterator))
-        (g.F.Folder.requests l.fn.files) (g.F.Folder.requests l.files);
+      (g.F.Folder.requests l.fn.files) (g.F.Folder.requests l.files);
 }

@@ -20,8 +20,8 @@ returns-after-status-eq0-clause-writes g t c =
           w.status-is ∙ sym (ap (λ b. if b then one else c.args.status) no)
     ] in
     each_more c.args.json.now (asked_pages c.args.pages) c.args.partials.now (map string_bytes c.args.templates.now)
-      (map string_bytes c.in-Some.rest.now) (string_bytes c.in-Some.template.now) (g.F.Folder.known c.args.files.now)
+    (map string_bytes c.in-Some.rest.now) (string_bytes c.in-Some.template.now) (g.F.Folder.known c.args.files.now)
     (g.F.Folder.known c.announce.new.self) (g.F.Folder.known c.write_one-answer.new.files) (g.F.Folder.known c.report-one.new.files)
-      (g.F.Folder.known c.write_each.new.files)
+    (g.F.Folder.known c.write_each.new.files)
     c.args.status one c.if-status-eq0.status c.write_each.result (search rules) c.announce.ensures.same c.report-one.ensures.same next
     (rw c.as_str-template.ensures.value at c.write_one-answer.ensures.writes) c.write_each.ensures.writes

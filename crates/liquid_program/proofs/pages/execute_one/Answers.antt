@@ -12,7 +12,7 @@ returns-in_err-text-clause-executes g c =
     let fault = c.in_err-text.field-0.0 in
     globals_anyhow (object_read c.args.json.now) ⊤ _ tt
     (λ globals. one_unread c.args.pages.options c.args.template.now globals c.args.partials.now (g.F.Folder.known c.args.files.now)
-      (g.K.Sink.sunk c.args.sink.now) (exit_status c.from_residual.result)
+    (g.K.Sink.sunk c.args.sink.now) (exit_status c.from_residual.result)
     fault (failed c.from_residual.result fault (search rules)) c.in_err-text.ensures.text)
 
 pub returns-in_err-globals-clause-executes : goal.returns-in_err-globals-clause-executes
@@ -20,11 +20,11 @@ returns-in_err-globals-clause-executes g c =
     let fault = c.in_err-globals.field-0.0 in
     maybe_globals (object_read c.args.json.now) _ _ _
     (λ globals memory. one_memory c.args.pages.options c.args.template.now globals c.args.partials.now (g.F.Folder.known c.args.files.now)
-      (g.K.Sink.sunk c.args.sink.now) (exit_status c.from_residual-in_err-globals.result)
+    (g.K.Sink.sunk c.args.sink.now) (exit_status c.from_residual-in_err-globals.result)
     (failed c.from_residual-in_err-globals.result fault (search rules) ∙ memory)) c.in_err-globals.ensures.globals
 
 pub returns-in_default-clause-executes : goal.returns-in_default-clause-executes
 returns-in_default-clause-executes g c =
     globals_anyhow (object_read c.args.json.now) ⊤ _ tt
     (λ globals. one_memory c.args.pages.options c.args.template.now globals c.args.partials.now (g.F.Folder.known c.args.files.now)
-      (g.K.Sink.sunk c.args.sink.now) _ refl)
+    (g.K.Sink.sunk c.args.sink.now) _ refl)

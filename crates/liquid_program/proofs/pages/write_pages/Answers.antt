@@ -9,9 +9,9 @@ use Rattle.liquid_program.proofs.pages.write_pages.Goals as goal
 pub returns-in-Err-clause-writes : goal.returns-in-Err-clause-writes
 returns-in-Err-clause-writes g c =
     subst (λ s. WritesPages (asked_pages c.args.pages) (g.F.Folder.known c.args.files.now) (g.F.Folder.listed c.args.files.now)
-      (g.F.Folder.known c.tell.new.files) s) (sym c.tell.ensures.status)
+    (g.F.Folder.known c.tell.new.files) s) (sym c.tell.ensures.status)
     (subst (λ (left : Files). WritesPages (asked_pages c.args.pages) (g.F.Folder.known c.args.files.now)
-      (g.F.Folder.listed c.args.files.now) left (fault_status c.in-Err.fault)) (sym c.tell.ensures.same) c.in-Err.ensures.writes)
+    (g.F.Folder.listed c.args.files.now) left (fault_status c.in-Err.fault)) (sym c.tell.ensures.same) c.in-Err.ensures.writes)
 
 pub returns-in-Ok-clause-requests : goal.returns-in-Ok-clause-requests
 returns-in-Ok-clause-requests g c = λ all folders known listed. (Ok c.in-Ok.status, c.in-Ok.ensures.requests all folders known listed, refl)

@@ -7,4 +7,4 @@ pub returns : goal.returns
 returns c =
     let m = names_of c.args.object.now in
     if_ok c.add_names.result (λ set. NamesOver m c.new.result set) (λ set. NamesOf m set)
-      (λ set is. names_alone m c.new.result set is c.new.ensures.empty) c.add_names.ensures
+    (λ set is. names_alone m c.new.result set is c.new.ensures.empty) c.add_names.ensures

@@ -11,5 +11,5 @@ loop-link-preserved g c = λ v e.
     let i = c.loop-link.link-index in
     let l = c.link-item.result in
     c.seals-sealed.ensures ∙ ap (layer_seals (layer_of l) c.args.name.now) (c.loop-link.invariant v e)
-      ∙ sym (seal_layer (layer_of l) (shown_over v (map layer_of (take i xs))) c.args.name.now)
+    ∙ sym (seal_layer (layer_of l) (shown_over v (map layer_of (take i xs))) c.args.name.now)
     ∙ ap (λ u. comes_from_seal u c.args.name.now) (sym (shown_step layer_of v xs i l c.loop-link-test.true c.link-item.is))

@@ -10,4 +10,4 @@ returns c =
     let d = names_of c.args.names.now in
     let below = c.in_ok-only_names.field-0 in
     if_ok c.add_names.result (NamesOver g below) (NamesOf (over g d))
-      (λ set is. names_both g d below set c.in_ok-only_names.ensures is) c.add_names.ensures
+    (λ set is. names_both g d below set c.in_ok-only_names.ensures is) c.add_names.ensures

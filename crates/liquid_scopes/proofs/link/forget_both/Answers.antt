@@ -10,4 +10,4 @@ returns c =
     λ q j. both_forgotten (stands c.args.index.now.places q j) (stands c.forget_all.new.self.places q j)
     (stands c.forget_all-2.new.self.places q j)
     (nat_eq j c.args.place) (get (names_of c.args.assigned.now) q) (get (names_of c.args.names.now) q) (c.forget_all.ensures q j)
-      (c.forget_all-2.ensures q j)
+    (c.forget_all-2.ensures q j)

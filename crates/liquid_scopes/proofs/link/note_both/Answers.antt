@@ -10,4 +10,4 @@ returns-clause-partly c =
     λ q j. both_partly (stands c.args.index.now.places q j) (stands c.note_all.new.self.places q j)
     (stands c.note_all-2.new.self.places q j)
     (nat_eq j c.args.place) (get (names_of c.args.assigned.now) q) (get (names_of c.args.names.now) q) (c.note_all.ensures.partly q j)
-      (c.note_all-2.ensures.partly q j)
+    (c.note_all-2.ensures.partly q j)

@@ -11,7 +11,7 @@ loop-link-preserved g c = λ v e.
     let i = c.loop-link.link-index in
     let l = c.link-item.result in
     c.name_over-name.ensures ∙ ap (layer_name (layer_of l)) (c.loop-link.invariant v e)
-      ∙ sym (name_link (layer_of l) (shown_over v (map layer_of (take i xs))))
+    ∙ sym (name_link (layer_of l) (shown_over v (map layer_of (take i xs))))
     ∙ ap (λ u. u.name) (sym (shown_step layer_of v xs i l c.loop-link-test.true c.link-item.is))
 
 pub returns : goal.returns

@@ -28,7 +28,7 @@ returns-clause-gives g c = λ v.
     gives_value (option_map tree_of) c.assign.result _ (IfOk-weaker c.assign.result _ _ (λ old is.
     ap (λ o. old_value no_global_frame o q) (globals_here v (map layer_of xs) i c.requires)
     ∙ ap (λ o. Ok o) (sym (is ∙ ap (λ k. get (assigned (layer_of k)) q) c.index_mut.ensures.value ∙ ap (λ k. get (assigned k) q) here)))
-      c.assign.ensures.old) c.assign.ensures.err
+    c.assign.ensures.old) c.assign.ensures.err
 
 pub returns-clause-sets : goal.returns-clause-sets
 returns-clause-sets g c = λ v.
@@ -40,8 +40,8 @@ returns-clause-sets g c = λ v.
     let t = tree_of c.args.value in
     on_ok_weaker c.assign.result (λ is.
     let set =
-        is ∙ ap (λ k. assigning (insert (assigned (layer_of k)) q t) (layer_of k)) c.index_mut.ensures.value
-        ∙ ap (λ k. assigning (insert (assigned k) q t) k) here in
+    is ∙ ap (λ k. assigning (insert (assigned (layer_of k)) q t) (layer_of k)) c.index_mut.ensures.value
+    ∙ ap (λ k. assigning (insert (assigned k) q t) k) here in
     set_shown layer_of v xs i x q t c.requires set) c.assign.ensures.sets
 
 pub returns-clause-owes : goal.returns-clause-owes
@@ -54,10 +54,10 @@ returns-clause-owes g c = λ v rs.
     let t = tree_of c.args.value in
     on_both c.assign.result
     (λ is. set_restoring g.V.Fresh.shape layer_of v xs i x q t rs c.requires
-      (is ∙ ap (λ k. assigning (insert (assigned (layer_of k)) q t) (layer_of k)) c.index_mut.ensures.value
-      ∙ ap (λ k. assigning (insert (assigned k) q t) k) here))
+    (is ∙ ap (λ k. assigning (insert (assigned (layer_of k)) q t) (layer_of k)) c.index_mut.ensures.value
+    ∙ ap (λ k. assigning (insert (assigned k) q t) k) here))
     (λ same. ap (λ ys. restoring g.V.Fresh.shape v ys rs) (set_same layer_of xs i x c.requires
-      (same ∙ ap layer_of c.index_mut.ensures.value ∙ here)))
+    (same ∙ ap layer_of c.index_mut.ensures.value ∙ here)))
     c.assign.ensures.sets c.assign.ensures.unchanged
 
 pub returns-clause-names : goal.returns-clause-names
@@ -70,8 +70,8 @@ returns-clause-names g c =
     let t = tree_of c.args.value in
     on_ok_weaker c.assign.result (λ is p j.
     let set =
-        is ∙ ap (λ k. assigning (insert (assigned (layer_of k)) q t) (layer_of k)) c.index_mut.ensures.value
-        ∙ ap (λ k. assigning (insert (assigned k) q t) k) here in
+    is ∙ ap (λ k. assigning (insert (assigned (layer_of k)) q t) (layer_of k)) c.index_mut.ensures.value
+    ∙ ap (λ k. assigning (insert (assigned k) q t) k) here in
     put_at layer_of xs i x q p t j c.requires set) c.assign.ensures.sets
 
 pub returns-clause-seals : goal.returns-clause-seals
@@ -84,8 +84,8 @@ returns-clause-seals g c =
     let t = tree_of c.args.value in
     on_ok_weaker c.assign.result (λ is.
     let set =
-        is ∙ ap (λ k. assigning (insert (assigned (layer_of k)) q t) (layer_of k)) c.index_mut.ensures.value
-        ∙ ap (λ k. assigning (insert (assigned k) q t) k) here in
+    is ∙ ap (λ k. assigning (insert (assigned (layer_of k)) q t) (layer_of k)) c.index_mut.ensures.value
+    ∙ ap (λ k. assigning (insert (assigned k) q t) k) here in
     put_places is_sandboxed layer_of assigning_sandboxed xs i x q t c.requires set) c.assign.ensures.sets
 
 pub returns-clause-globals : goal.returns-clause-globals
@@ -98,8 +98,8 @@ returns-clause-globals g c =
     let t = tree_of c.args.value in
     on_ok_weaker c.assign.result (λ is.
     let set =
-        is ∙ ap (λ k. assigning (insert (assigned (layer_of k)) q t) (layer_of k)) c.index_mut.ensures.value
-        ∙ ap (λ k. assigning (insert (assigned k) q t) k) here in
+    is ∙ ap (λ k. assigning (insert (assigned (layer_of k)) q t) (layer_of k)) c.index_mut.ensures.value
+    ∙ ap (λ k. assigning (insert (assigned k) q t) k) here in
     put_places is_global layer_of assigning_global xs i x q t c.requires set) c.assign.ensures.sets
 
 pub returns-clause-unchanged : goal.returns-clause-unchanged
@@ -108,4 +108,4 @@ returns-clause-unchanged g c =
     let i = c.args.place in
     let here = read_here layer_of xs i c.index_mut.result.now c.requires in
     on_err_weaker c.assign.result (λ same. set_same layer_of xs i c.assign.new.self c.requires
-      (same ∙ ap layer_of c.index_mut.ensures.value ∙ here)) c.assign.ensures.unchanged
+    (same ∙ ap layer_of c.index_mut.ensures.value ∙ here)) c.assign.ensures.unchanged

@@ -15,7 +15,7 @@ loop-link-preserved g c = λ v e.
     let l = c.link-item.result in
     subst (λ u. NamesOf (names_seen u) c.in_ok-names.names) (sym (shown_step layer_of v xs i l c.loop-link-test.true c.link-item.is))
     (roots_layer (layer_of l) (shown_over v (map layer_of (take i xs))) c.loop-link.names c.in_ok-names.names c.in_ok-names.ensures
-      (c.loop-link.invariant v e))
+    (c.loop-link.invariant v e))
 
 pub returns : goal.returns
 returns g c =

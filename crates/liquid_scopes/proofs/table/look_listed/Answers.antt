@@ -11,7 +11,7 @@ returns-then-place-seal-clause-value g c =
     let q = c.args.name.now in
     let top = c.args.listed in
     sealed_away top (last_seal ls) c.in-Some.place c.in-Some-sealed.seal (own_at_top top ls q)
-      (lookup (g.R.Runtime.view c.args.base.now) q) c.in-Some.is (sym c.sealed.ensures ∙ c.in-Some-sealed.is) c.if-place-seal.true
+    (lookup (g.R.Runtime.view c.args.base.now) q) c.in-Some.is (sym c.sealed.ensures ∙ c.in-Some-sealed.is) c.if-place-seal.true
 
 pub returns-else-place-seal-clause-value : goal.returns-else-place-seal-clause-value
 returns-else-place-seal-clause-value g c =
@@ -20,7 +20,7 @@ returns-else-place-seal-clause-value g c =
     let top = c.args.listed in
     c.look_at.ensures.value ∙ ap (λ o. own_at_top o ls q) (sym c.in-Some.is)
     ∙ above_seal top (last_seal ls) c.in-Some.place c.in-Some-sealed.seal (own_at_top top ls q)
-      (lookup (g.R.Runtime.view c.args.base.now) q) c.in-Some.is (sym c.sealed.ensures ∙ c.in-Some-sealed.is) c.if-place-seal.false
+    (lookup (g.R.Runtime.view c.args.base.now) q) c.in-Some.is (sym c.sealed.ensures ∙ c.in-Some-sealed.is) c.if-place-seal.false
 
 pub returns-in-None-sealed-clause-value : goal.returns-in-None-sealed-clause-value
 returns-in-None-sealed-clause-value g c =
@@ -29,7 +29,7 @@ returns-in-None-sealed-clause-value g c =
     let top = c.args.listed in
     c.look_at-in-None-sealed.ensures.value ∙ ap (λ o. own_at_top o ls q) (sym c.in-Some.is)
     ∙ no_seal top (last_seal ls) c.in-Some.place (own_at_top top ls q) (lookup (g.R.Runtime.view c.args.base.now) q) c.in-Some.is
-      (sym c.sealed.ensures ∙ c.in-None-sealed.is)
+    (sym c.sealed.ensures ∙ c.in-None-sealed.is)
 
 pub returns-in-Some-sealed-2-clause-value : goal.returns-in-Some-sealed-2-clause-value
 returns-in-Some-sealed-2-clause-value g c =
@@ -37,7 +37,7 @@ returns-in-Some-sealed-2-clause-value g c =
     let q = c.args.name.now in
     let top = c.args.listed in
     base_sealed top (last_seal ls) c.in-Some-sealed-2.field-0 (own_at_top top ls q)
-      (lookup (g.R.Runtime.view c.args.base.now) q) c.in-None.is (sym c.sealed-in-None.ensures ∙ c.in-Some-sealed-2.is)
+    (lookup (g.R.Runtime.view c.args.base.now) q) c.in-None.is (sym c.sealed-in-None.ensures ∙ c.in-Some-sealed-2.is)
 
 pub returns-in-None-sealed-2-clause-value : goal.returns-in-None-sealed-2-clause-value
 returns-in-None-sealed-2-clause-value g c =
@@ -45,4 +45,4 @@ returns-in-None-sealed-2-clause-value g c =
     let q = c.args.name.now in
     let top = c.args.listed in
     c.try_get_name.ensures ∙ base_seen top (last_seal ls) (own_at_top top ls q) (lookup (g.R.Runtime.view c.args.base.now) q) c.in-None.is
-      (sym c.sealed-in-None.ensures ∙ c.in-None-sealed-2.is)
+    (sym c.sealed-in-None.ensures ∙ c.in-None-sealed-2.is)

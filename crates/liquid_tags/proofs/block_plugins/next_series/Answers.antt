@@ -7,5 +7,5 @@ use Rattle.liquid_tags.proofs.block_plugins.next_series.Goals as goal
 pub returns : goal.returns
 returns c ts at =
     next_given series_of expect_series token_expected ts c.in_ok-token.token c.expect_next.new.self c.in_ok-expect_series.field-0
-      c.into_result.result
+    c.into_result.result
     (c.in_ok-token.ensures.value ts at) c.in_ok-expect_series.ensures c.into_result.ensures

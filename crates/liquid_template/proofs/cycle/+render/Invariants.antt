@@ -63,13 +63,13 @@ invariant-render_list-loop-node g l = record {
   around : around (g.O.Out.place l.out) ≡ around (g.O.Out.place l.fn.out);
   renders : (after : Output) (left : View g.row.S-Register-Shape.Denot) (answer : Result (Unit {0}) Error)
       → RendersWithin (nodes_run (setting g.S.Register.Fresh.fresh g.X.Filter.means g.T.Renderable.means g.B.Renderable.means
-        (option_map g.S.Store.PartialStore.finds (g.S.Runtime.store l.fn.scopes))) l.depth
-        (nodes_of g.X.Meant.shape g.T.Meant.shape g.B.Meant.shape (drop l.node-index l.nodes)) (g.S.Runtime.view l.scopes))
-        (g.S.Runtime.view l.scopes) (target (g.O.Out.place l.out)) after left answer
+      (option_map g.S.Store.PartialStore.finds (g.S.Runtime.store l.fn.scopes))) l.depth
+      (nodes_of g.X.Meant.shape g.T.Meant.shape g.B.Meant.shape (drop l.node-index l.nodes)) (g.S.Runtime.view l.scopes))
+      (g.S.Runtime.view l.scopes) (target (g.O.Out.place l.out)) after left answer
       → RendersWithin (nodes_run (setting g.S.Register.Fresh.fresh g.X.Filter.means g.T.Renderable.means g.B.Renderable.means
-        (option_map g.S.Store.PartialStore.finds (g.S.Runtime.store l.fn.scopes))) l.depth
-        (nodes_of g.X.Meant.shape g.T.Meant.shape g.B.Meant.shape l.nodes) (g.S.Runtime.view l.fn.scopes)) (g.S.Runtime.view l.fn.scopes)
-        (target (g.O.Out.place l.fn.out)) after left answer;
+      (option_map g.S.Store.PartialStore.finds (g.S.Runtime.store l.fn.scopes))) l.depth
+      (nodes_of g.X.Meant.shape g.T.Meant.shape g.B.Meant.shape l.nodes) (g.S.Runtime.view l.fn.scopes)) (g.S.Runtime.view l.fn.scopes)
+      (target (g.O.Out.place l.fn.out)) after left answer;
 }
 
 abbrev pub invariant-render_tag-loop : goal.invariant-render_tag-loop
@@ -81,14 +81,14 @@ invariant-render_tag-loop g l = record {
   around : around (g.O.Out.place l.out) ≡ around (g.O.Out.place l.fn.out);
   renders : (after : Output) (left : View g.row.S-Register-Shape.Denot) (answer : Result (Unit {0}) Error)
       → RendersWithin (turns (setting g.S.Register.Fresh.fresh g.X.Filter.means g.T.Renderable.means g.B.Renderable.means
-        (option_map g.S.Store.PartialStore.finds (g.S.Runtime.store l.fn.scopes)))
-        (partials_at (setting g.S.Register.Fresh.fresh g.X.Filter.means g.T.Renderable.means g.B.Renderable.means
-        (option_map g.S.Store.PartialStore.finds (g.S.Runtime.store l.fn.scopes))) l.depth) g.T.Renderable.means (g.T.Meant.shape l.tag) []
-        (l.end - l.counter) (g.T.Progress.Meant.shape l.going.progress) (g.S.Runtime.view l.scopes)) (g.S.Runtime.view l.scopes)
-        (target (g.O.Out.place l.out)) after left answer
+      (option_map g.S.Store.PartialStore.finds (g.S.Runtime.store l.fn.scopes)))
+      (partials_at (setting g.S.Register.Fresh.fresh g.X.Filter.means g.T.Renderable.means g.B.Renderable.means
+      (option_map g.S.Store.PartialStore.finds (g.S.Runtime.store l.fn.scopes))) l.depth) g.T.Renderable.means (g.T.Meant.shape l.tag) []
+      (l.end - l.counter) (g.T.Progress.Meant.shape l.going.progress) (g.S.Runtime.view l.scopes)) (g.S.Runtime.view l.scopes)
+      (target (g.O.Out.place l.out)) after left answer
       → RendersWithin (tag_run (setting g.S.Register.Fresh.fresh g.X.Filter.means g.T.Renderable.means g.B.Renderable.means
-        (option_map g.S.Store.PartialStore.finds (g.S.Runtime.store l.fn.scopes))) l.depth (g.T.Meant.shape l.tag)
-        (g.S.Runtime.view l.fn.scopes)) (g.S.Runtime.view l.fn.scopes) (target (g.O.Out.place l.fn.out)) after left answer;
+      (option_map g.S.Store.PartialStore.finds (g.S.Runtime.store l.fn.scopes))) l.depth (g.T.Meant.shape l.tag)
+      (g.S.Runtime.view l.fn.scopes)) (g.S.Runtime.view l.fn.scopes) (target (g.O.Out.place l.fn.out)) after left answer;
 }
 
 abbrev pub invariant-render_block-loop : goal.invariant-render_block-loop
@@ -100,18 +100,18 @@ invariant-render_block-loop g l = record {
   around : around (g.O.Out.place l.out) ≡ around (g.O.Out.place l.fn.out);
   renders : (after : Output) (left : View g.row.S-Register-Shape.Denot) (answer : Result (Unit {0}) Error)
       → RendersWithin (turns (setting g.S.Register.Fresh.fresh g.X.Filter.means g.T.Renderable.means g.B.Renderable.means
-        (option_map g.S.Store.PartialStore.finds (g.S.Runtime.store l.fn.scopes)))
-        (partials_at (setting g.S.Register.Fresh.fresh g.X.Filter.means g.T.Renderable.means g.B.Renderable.means
-        (option_map g.S.Store.PartialStore.finds (g.S.Runtime.store l.fn.scopes))) l.depth) g.B.Renderable.means (g.B.Meant.shape l.block)
-        (run_parts (setting g.S.Register.Fresh.fresh g.X.Filter.means g.T.Renderable.means g.B.Renderable.means
-        (option_map g.S.Store.PartialStore.finds (g.S.Runtime.store l.fn.scopes)))
-        (partials_at (setting g.S.Register.Fresh.fresh g.X.Filter.means g.T.Renderable.means g.B.Renderable.means
-        (option_map g.S.Store.PartialStore.finds (g.S.Runtime.store l.fn.scopes))) l.depth)
-        (parts_of g.X.Meant.shape g.T.Meant.shape g.B.Meant.shape l.parts)) (l.end - l.counter)
-        (g.B.Progress.Meant.shape l.going.value.progress) (g.S.Runtime.view l.scopes)) (g.S.Runtime.view l.scopes)
-        (target (g.O.Out.place l.out)) after left answer
+      (option_map g.S.Store.PartialStore.finds (g.S.Runtime.store l.fn.scopes)))
+      (partials_at (setting g.S.Register.Fresh.fresh g.X.Filter.means g.T.Renderable.means g.B.Renderable.means
+      (option_map g.S.Store.PartialStore.finds (g.S.Runtime.store l.fn.scopes))) l.depth) g.B.Renderable.means (g.B.Meant.shape l.block)
+      (run_parts (setting g.S.Register.Fresh.fresh g.X.Filter.means g.T.Renderable.means g.B.Renderable.means
+      (option_map g.S.Store.PartialStore.finds (g.S.Runtime.store l.fn.scopes)))
+      (partials_at (setting g.S.Register.Fresh.fresh g.X.Filter.means g.T.Renderable.means g.B.Renderable.means
+      (option_map g.S.Store.PartialStore.finds (g.S.Runtime.store l.fn.scopes))) l.depth)
+      (parts_of g.X.Meant.shape g.T.Meant.shape g.B.Meant.shape l.parts)) (l.end - l.counter)
+      (g.B.Progress.Meant.shape l.going.value.progress) (g.S.Runtime.view l.scopes)) (g.S.Runtime.view l.scopes)
+      (target (g.O.Out.place l.out)) after left answer
       → RendersWithin (block_run (setting g.S.Register.Fresh.fresh g.X.Filter.means g.T.Renderable.means g.B.Renderable.means
-        (option_map g.S.Store.PartialStore.finds (g.S.Runtime.store l.fn.scopes))) l.depth (g.B.Meant.shape l.block)
-        (parts_of g.X.Meant.shape g.T.Meant.shape g.B.Meant.shape l.parts) (g.S.Runtime.view l.fn.scopes)) (g.S.Runtime.view l.fn.scopes)
-        (target (g.O.Out.place l.fn.out)) after left answer;
+      (option_map g.S.Store.PartialStore.finds (g.S.Runtime.store l.fn.scopes))) l.depth (g.B.Meant.shape l.block)
+      (parts_of g.X.Meant.shape g.T.Meant.shape g.B.Meant.shape l.parts) (g.S.Runtime.view l.fn.scopes)) (g.S.Runtime.view l.fn.scopes)
+      (target (g.O.Out.place l.fn.out)) after left answer;
 }

@@ -13,7 +13,7 @@ returns-in-Err-found-clause-opens g c =
     let x = rw (ap (option_map g.S.Store.PartialStore.finds) c.in-Ok.ensures.store) at c.in-Err-found.ensures.finds in (
       framed_kept _ _ _ _ _ _ _ _ c.in-Ok.ensures.opens c.in-Err-found.ensures.owes c.pop.ensures.ends,
       partial_fails _ _ _ _ _ _ _ _ _ _ _ _ _ _ c.in-Ok.ensures.ok c.in-Ok.ensures.opens c.in-Err-found.ensures.owes
-        c.in-Err-found.ensures.view c.pop.ensures.ends c.with_own_trace.ensures x,
+          c.in-Err-found.ensures.view c.pop.ensures.ends c.with_own_trace.ensures x,
     )
 
 pub returns-in-Err-clause-keeps : goal.returns-in-Err-clause-keeps
@@ -22,7 +22,7 @@ returns-in-Err-clause-keeps g c = keeps_store _ _ _ _ _ _ _ c.in-Err.ensures.sto
 pub returns-in-Err-found-clause-keeps : goal.returns-in-Err-found-clause-keeps
 returns-in-Err-found-clause-keeps g c =
     keeps_ended _ _ _ _ _ _ _ _ (keeps_both _ _ _ _ _ _ _ _ (keeps_store _ _ _ _ _ _ _ c.in-Ok.ensures.store c.in-Ok.ensures.borrows)
-      c.in-Err-found.ensures.keeps) c.pop.ensures.store c.pop.ensures.borrows
+    c.in-Err-found.ensures.keeps) c.pop.ensures.store c.pop.ensures.borrows
 
 pub returns-in-Ok-found-clause-keeps : goal.returns-in-Ok-found-clause-keeps
 returns-in-Ok-found-clause-keeps g c =

@@ -12,7 +12,7 @@ returns-in-Some g c =
     let xs = c.args.items.now in
     nth_of_slice tree xs c.in-Some.place c.get.result c.get.ensures.lookup
     ∙ ap (option_and_then (λ place. nth place (items_by tree xs)))
-      (c.in-Some.ensures ∙ ap (λ i. place_at i (length xs)) (to_z-of_z w64 c.args.index c.ranges.index))
+    (c.in-Some.ensures ∙ ap (λ i. place_at i (length xs)) (to_z-of_z w64 c.args.index c.ranges.index))
     ∙ sym (item_at_of_list tree xs c.args.index (length xs) (sym (count_of_list tree xs)))
 
 pub returns-in-None : goal.returns-in-None
@@ -20,5 +20,5 @@ returns-in-None g c =
     let tree = g.T.ValueView.tree in
     let xs = c.args.items.now in
     ap (option_and_then (λ place. nth place (items_by tree xs)))
-      (c.in-None.ensures ∙ ap (λ i. place_at i (length xs)) (to_z-of_z w64 c.args.index c.ranges.index))
-      ∙ sym (item_at_of_list tree xs c.args.index (length xs) (sym (count_of_list tree xs)))
+    (c.in-None.ensures ∙ ap (λ i. place_at i (length xs)) (to_z-of_z w64 c.args.index c.ranges.index))
+    ∙ sym (item_at_of_list tree xs c.args.index (length xs) (sym (count_of_list tree xs)))

@@ -10,6 +10,6 @@ loop-item-preserved g c =
     let x = c.item-item.result in (
       l.invariant.0 ++ (render (g.T.ValueView.tree x) ++ codes ", "),
       list_turn g.T.ValueView.tree listed_items (λ t. render t ++ codes ", ")
-        (λ t ts. refl) _ _ _ l.item-index x c.loop-item-test.true c.item-item.is l.invariant.1,
+          (λ t ts. refl) _ _ _ l.item-index x c.loop-item-test.true c.item-item.is l.invariant.1,
       λ p. has_written_append _ _ _ _ _ _ (l.invariant.2 p) (search rules),
     )

@@ -17,6 +17,6 @@ loop-pair-preserved g c =
     let put : members_view c.insert.new.self.entries ≡ put_member pair.0.now (tree pair.1) ms =
     ap members_view c.in_ok-insert.ensures.entries ∙ members_view-insert_entry l.object.entries c.in_ok-name.name c.in_ok-to_value.field-0
     ∙ ap (λ name. put_member name (view c.in_ok-to_value.field-0) ms) named
-      ∙ ap (λ t. put_member pair.0.now t ms) c.in_ok-to_value.ensures in
+    ∙ ap (λ t. put_member pair.0.now t ms) c.in_ok-to_value.ensures in
     l.invariant ∙ pairs_turn tree ps l.pair-index pair ms c.loop-pair-test.true c.pair-item.is
-      ∙ ap (put_pairs tree (drop (l.pair-index + 1) ps)) (sym put)
+    ∙ ap (put_pairs tree (drop (l.pair-index + 1) ps)) (sym put)

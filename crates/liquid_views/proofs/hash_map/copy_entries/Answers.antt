@@ -15,5 +15,5 @@ loop-key-preserved g c =
     let put : members_view c.insert.new.self.entries ≡ put_member (string_bytes c.in-Some.key.now) (tree c.in-Some.member.now) ms =
     ap members_view c.in_ok-insert.ensures.entries ∙ members_view-insert_entry l.copies.entries c.in_ok-name.name c.in_ok-to_value.field-0
     ∙ ap (λ name. put_member name (view c.in_ok-to_value.field-0) ms) named
-      ∙ ap (λ t. put_member (string_bytes c.in-Some.key.now) t ms) c.in_ok-to_value.ensures in
+    ∙ ap (λ t. put_member (string_bytes c.in-Some.key.now) t ms) c.in_ok-to_value.ensures in
     l.invariant ∙ ap (λ es. put_entries tree es ms) c.in-Some.ensures.steps ∙ ap (put_entries tree left) (sym put)

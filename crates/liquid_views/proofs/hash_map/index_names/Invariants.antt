@@ -6,4 +6,4 @@ use Rattle.liquid_views.proofs.hash_map.index_names.Given as goal
 abbrev pub invariant-loop-key : goal.invariant-loop-key
 invariant-loop-key g l =
     names (index_members g.V.ValueView.tree l.fn.index.entries) ≡ map (λ key. key.now) l.names.items
-      ++ names (index_members g.V.ValueView.tree l.key-iterator)
+    ++ names (index_members g.V.ValueView.tree l.key-iterator)

@@ -12,6 +12,6 @@ loop-key-preserved g c =
     let left = c.next.new.self in
     let put : index_members tree c.insert.new.self.entries ≡ put_member (string_bytes c.in-Some.key.now) (tree c.in-Some.member.now) ms =
     ap (index_members tree) c.in_ok-insert.ensures.entries ∙ index_members-insert_entry tree l.index.entries c.as_str.result
-      c.in-Some.member
+    c.in-Some.member
     ∙ ap (λ name. put_member name (tree c.in-Some.member.now) ms) c.as_str.ensures.value in
     l.invariant ∙ ap (λ es. put_entries tree es ms) c.in-Some.ensures.steps ∙ ap (put_entries tree left) (sym put)

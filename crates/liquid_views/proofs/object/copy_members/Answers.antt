@@ -14,11 +14,11 @@ loop-key-preserved g c =
     let left = c.next.new.self in
     let all : c.args.members.now.entries ≡ done ++ e ∷ left = l.invariant.1 ∙ ap (λ es. done ++ es) c.in-Some.ensures.steps in
     let last =
-        put_last g.K.ObjectIndex.index g.K.Ord.cmp g.met.K.ObjectIndex.ordered g.V.ValueView.tree done e left
-        (subst (λ es. IsStrictlySortedBy g.K.Ord.cmp (keys_of es)) all c.iter-key-items.ensures.ordered) in
+    put_last g.K.ObjectIndex.index g.K.Ord.cmp g.met.K.ObjectIndex.ordered g.V.ValueView.tree done e left
+    (subst (λ es. IsStrictlySortedBy g.K.Ord.cmp (keys_of es)) all c.iter-key-items.ensures.ordered) in
     let named : string_bytes c.in_ok-name.name ≡ g.K.ObjectIndex.index e.0 = c.in_ok-name.ensures.ok ∙ c.as_index.ensures in (
       done ++ e ∷ [],
       all ∙ sym (append_assoc done (e ∷ []) left),
       ap members_view c.in_ok-insert.ensures.entries ∙ members_view-insert_entry l.copies.entries c.in_ok-name.name c.in_ok-to_value.field-0
-        ∙ rw (named, c.in_ok-to_value.ensures, l.invariant.2) last,
+          ∙ rw (named, c.in_ok-to_value.ensures, l.invariant.2) last,
     )

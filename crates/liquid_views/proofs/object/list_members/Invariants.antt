@@ -7,5 +7,5 @@ use Rattle.liquid_views.proofs.object.list_members.Given as goal
 abbrev pub invariant-loop-key : goal.invariant-loop-key
 invariant-loop-key g l =
     (done : List ℕ) × (listed_members (members_by g.K.ObjectIndex.index g.V.ValueView.tree l.members.entries) ≡ done
-      ++ listed_members (members_by g.K.ObjectIndex.index g.V.ValueView.tree l.key-iterator))
-      × (IsPlainFormatter l.initial.f → HasWritten g.W.Write.write_str_gives l.initial.f done l.f)
+    ++ listed_members (members_by g.K.ObjectIndex.index g.V.ValueView.tree l.key-iterator))
+    × (IsPlainFormatter l.initial.f → HasWritten g.W.Write.write_str_gives l.initial.f done l.f)

@@ -8,4 +8,4 @@ abbrev pub invariant-loop-expression : goal.invariant-loop-expression
 invariant-loop-expression g l =
     let v = g.R.Runtime.view l.runtime in
     equals_one v (tree_of l.value) (map expression_of l.expressions) ≡ equals_one v (tree_of l.value)
-      (map expression_of (drop l.expression-index l.expressions))
+    (map expression_of (drop l.expression-index l.expressions))

@@ -7,4 +7,4 @@ abbrev pub invariant-loop-condition : goal.invariant-loop-condition
 invariant-loop-condition g l =
     let v = g.R.Runtime.view l.runtime in
     (l.part ≡ l.first + l.condition-index) × (part_if v l.first (map condition_of l.conditions) ≡ part_if v l.part
-      (map condition_of (drop l.condition-index l.conditions)))
+    (map condition_of (drop l.condition-index l.conditions)))

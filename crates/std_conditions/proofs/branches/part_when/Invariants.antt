@@ -9,4 +9,4 @@ invariant-loop-values g l =
     let v = g.R.Runtime.view l.runtime in
     (l.part ≡ l.values-index + 1)
     × (part_when v (tree_of l.value) 1 (map expressions_of l.alternatives) ≡ part_when v (tree_of l.value) l.part
-      (map expressions_of (drop l.values-index l.alternatives)))
+    (map expressions_of (drop l.values-index l.alternatives)))

@@ -13,4 +13,4 @@ pub returns : goal.returns
 returns c =
     c.is_some.ensures ∙ some_mapped (λ v. view v.now) c.get.result
     ∙ ap is_some (now_mapped view c.get.result ∙ ap (option_map view) c.get.ensures.value
-      ∙ value_of_member c.args.name.now c.args.members.now.entries)
+    ∙ value_of_member c.args.name.now c.args.members.now.entries)

@@ -9,7 +9,7 @@ pub returns : goal.returns
 returns c ts at =
     let taken = c.in_ok-first.ensures.value ts at in
     subst (λ m. Gives condition_of c.read_joined.result m) (sym (condition_goes_on ts taken.0 (test_of c.in_ok-first.first) taken.1))
-      (c.read_joined.ensures taken.0 taken.2)
+    (c.read_joined.ensures taken.0 taken.2)
 
 pub returns-in_err-first : goal.returns-in_err-first
 returns-in_err-first c ts at =

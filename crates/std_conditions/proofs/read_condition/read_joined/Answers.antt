@@ -17,11 +17,11 @@ tests-preserved c ts at =
       taken.0,
       taken.2,
       test_read (map joined_of c.tests.joined.items) _ (test_of c.tests.last)
-        (test_of c.replace.new.dest) so_far.0.left given.0 c.in_ok-connective.connective taken.0 _
+          (test_of c.replace.new.dest) so_far.0.left given.0 c.in_ok-connective.connective taken.0 _
           so_far.2 given.1 (c.in_ok-connective.ensures given.0.0 given.2.token_is)
-            (taken.1 ∙ ap (λ test. Ok (test_of test, taken.0)) (sym renewed))
+          (taken.1 ∙ ap (λ test. Ok (test_of test, taken.0)) (sym renewed))
           (ap (map joined_of) c.in_ok-push.ensures.items ∙ map-append joined_of c.tests.joined.items
-            ((c.replace.result, c.in_ok-connective.connective) ∷ [])
+          ((c.replace.result, c.in_ok-connective.connective) ∷ [])
           ∙ ap (λ test. map joined_of c.tests.joined.items ++ (test_of test, c.in_ok-connective.connective) ∷ []) replaced),
     )
 
@@ -31,7 +31,7 @@ returns-in_err-test c ts at =
     let given = c.in-Some.ensures.value so_far.0 so_far.1 in
     let p = err_from_is_err_and c.from_residual-in_err-test.result c.from_residual-in_err-test.ensures.1 in
     rw (p.1, p.2) (test_refused (map joined_of c.tests.joined.items)
-      (test_of c.tests.last) so_far.0.left given.0 c.in_ok-connective.connective (told c.in_err-test.field-0.0) _
+    (test_of c.tests.last) so_far.0.left given.0 c.in_ok-connective.connective (told c.in_err-test.field-0.0) _
     so_far.2 given.1 (c.in_ok-connective.ensures given.0.0 given.2.token_is) (c.in_err-test.ensures.value given.0.1 given.2.left))
 
 pub returns-in_err-connective : goal.returns-in_err-connective
@@ -40,11 +40,11 @@ returns-in_err-connective c ts at =
     let given = c.in-Some.ensures.value so_far.0 so_far.1 in
     let p = err_from_is_err_and c.from_residual.result c.from_residual.ensures.1 in
     rw (p.1, p.2) (connective_refused (map joined_of c.tests.joined.items) (test_of c.tests.last) so_far.0.left given.0
-      (told c.in_err-connective.field-0.0) _
+    (told c.in_err-connective.field-0.0) _
     so_far.2 given.1 (c.in_err-connective.ensures given.0.0 given.2.token_is))
 
 pub returns : goal.returns
 returns c ts at =
     let so_far = c.tests.invariant ts at in
     all_read (map joined_of c.tests.joined.items) (test_of c.tests.last) so_far.0.left _ so_far.2
-      (c.in_default.ensures.value so_far.0 so_far.1).0
+    (c.in_default.ensures.value so_far.0 so_far.1).0

@@ -11,7 +11,7 @@ abbrev pub invariant-tests : goal.invariant-tests
 invariant-tests l =
     (ts : Tokens) → AreTokens l.fn.tokens ts
     → (rest : Tokens) × AreTokens l.tokens rest × (after_test (test_of l.fn.first) ts.left ≡ read_on (map joined_of l.joined.items)
-      (test_of l.last) rest.left)
+    (test_of l.last) rest.left)
 
 abbrev pub decreases-tests : goal.decreases-tests
 decreases-tests l = bytes_left l.tokens

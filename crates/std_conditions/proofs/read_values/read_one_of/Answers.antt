@@ -14,4 +14,4 @@ pub returns-else-is_one_of : goal.returns-else-is_one_of
 returns-else-is_one_of c t is =
     let missing : list_any (bytes_eq c.as_str.result.now) (map (λ s. s.now) c.args.texts.now) ≡ false = search rules in
     one_of_refused (map (λ s. s.now) c.args.texts.now) t c.as_str.result.now (told c.raise_error.result) (c.as_str.ensures t is) missing
-      (c.raise_error.ensures t is)
+    (c.raise_error.ensures t is)

@@ -12,7 +12,7 @@ returns-in-Some-clause-fits c = inl c.in-Some.ensures.fits
 pub returns-in-Some-from_str-clause-fits : goal.returns-in-Some-from_str-clause-fits
 returns-in-Some-from_str-clause-fits c =
     found_weaker _ _ _ (λ dt at. inr (c.in-None.ensures.only, (c.in-Some-from_str.date, c.in-Some-from_str.ensures.fits, at)))
-      c.midnight.ensures.is
+    c.midnight.ensures.is
 
 -- neither a date time nor a date
 neither : (text : List ℕ) (now dt : DateTime) → ((e : DateTime) → ¬ (IsDateTimeText text now e))

@@ -9,4 +9,4 @@ abbrev pub invariant-loop-expression : goal.invariant-loop-expression
 invariant-loop-expression g l =
     let v = g.R.Runtime.view l.runtime in
     evaluate_all v (map expression_of l.expressions.items) ≡ following (map cow_view l.values.items)
-      (evaluate_all v (map expression_of (drop l.expression-index l.expression-items)))
+    (evaluate_all v (map expression_of (drop l.expression-index l.expression-items)))

@@ -7,4 +7,4 @@ abbrev pub invariant-loop-keyword : goal.invariant-loop-keyword
 invariant-loop-keyword g l =
     let v = g.R.Runtime.view l.runtime in
     evaluate_named v (map named_expression l.expressions.items) ≡ following (map named_tree l.values.items)
-      (evaluate_named v (map named_expression (drop l.keyword-index l.keyword-items)))
+    (evaluate_named v (map named_expression (drop l.keyword-index l.keyword-items)))

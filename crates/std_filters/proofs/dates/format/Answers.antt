@@ -7,9 +7,9 @@ use Rattle.std_filters.proofs.dates.format.Goals as goal
 pub returns-in-Ok : goal.returns-in-Ok
 returns-in-Ok c =
     ap (printed c.args.pattern.now) (formatted_is c.args.moment.now c.args.pattern.now _ c.in-Ok.ensures.text)
-      ∙ ap Ok (sym c.text_value.ensures)
+    ∙ ap Ok (sym c.text_value.ensures)
 
 pub returns-in-Err : goal.returns-in-Err
 returns-in-Err c =
     refused c.args.moment.now c.args.pattern.now c.in-Err.error (told c.pattern_error.result) c.in-Err.ensures.refused
-      c.pattern_error.ensures
+    c.pattern_error.ensures

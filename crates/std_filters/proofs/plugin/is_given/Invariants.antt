@@ -6,4 +6,4 @@ use Rattle.std_filters.proofs.plugin.is_given.Given as goal
 abbrev pub invariant-loop-keyword : goal.invariant-loop-keyword
 invariant-loop-keyword l =
     is_given l.name (map (λ k. (k.0.now, expression_of k.1)) (drop l.keyword-index l.given)) ≡ is_given l.name
-      (map (λ k. (k.0.now, expression_of k.1)) l.given)
+    (map (λ k. (k.0.now, expression_of k.1)) l.given)

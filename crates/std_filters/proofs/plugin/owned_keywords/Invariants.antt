@@ -6,4 +6,4 @@ use Rattle.std_filters.proofs.plugin.owned_keywords.Given as goal
 abbrev pub invariant-loop-name : goal.invariant-loop-name
 invariant-loop-name l =
     map named_expression l.owned.items ++ map (λ k. (k.0.now, expression_of k.1)) l.name-iterator.rest.items ≡ map
-      (λ k. (k.0.now, expression_of k.1)) l.fn.given.items
+    (λ k. (k.0.now, expression_of k.1)) l.fn.given.items

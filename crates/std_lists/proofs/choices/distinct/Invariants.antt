@@ -8,4 +8,4 @@ use Rattle.std_lists.proofs.choices.distinct.Given as goal
 abbrev pub invariant-loop-entry : goal.invariant-loop-entry
 invariant-loop-entry l =
     map tree_of l.kept.items ++ items_in (unseen l.seen.keys (distinct (map entry_view (drop l.entry-index l.entries)))) ≡ items_in
-      (distinct (map entry_view l.entries))
+    (distinct (map entry_view l.entries))

@@ -8,4 +8,4 @@ use Rattle.std_lists.proofs.choices.with_key.Given as goal
 abbrev pub invariant-loop-entry : goal.invariant-loop-entry
 invariant-loop-entry l =
     map tree_of l.kept.items ++ items_in (filter (λ e. not (is_nil e.0)) (map entry_view (drop l.entry-index l.entries))) ≡ items_in
-      (filter (λ e. not (is_nil e.0)) (map entry_view l.entries))
+    (filter (λ e. not (is_nil e.0)) (map entry_view l.entries))

@@ -7,5 +7,5 @@ use Rattle.std_lists.proofs.choices.with_wanted.Given as goal
 abbrev pub invariant-loop-entry : goal.invariant-loop-entry
 invariant-loop-entry l =
     map tree_of l.kept.items ++ items_in (filter (λ e. is_wanted (tree_of l.wanted) e.0)
-      (map entry_view (drop l.entry-index l.entries))) ≡ items_in (filter (λ e. is_wanted (tree_of l.wanted) e.0)
-      (map entry_view l.entries))
+    (map entry_view (drop l.entry-index l.entries))) ≡ items_in (filter (λ e. is_wanted (tree_of l.wanted) e.0)
+    (map entry_view l.entries))

@@ -11,4 +11,4 @@ abbrev pub invariant-loop-item : goal.invariant-loop-item
 invariant-loop-item l =
     let name = option_map (λ n. cow_str_bytes n.now) l.name in
     keyed name (map (λ r. tree_of r.now) l.items) ≡ after (map entry_view l.entries.items)
-      (keyed name (map (λ r. tree_of r.now) (drop l.item-index l.items)))
+    (keyed name (map (λ r. tree_of r.now) (drop l.item-index l.items)))

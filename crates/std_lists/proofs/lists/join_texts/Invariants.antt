@@ -8,4 +8,4 @@ use Rattle.std_lists.proofs.lists.join_texts.Given as goal
 abbrev pub invariant-loop-item : goal.invariant-loop-item
 invariant-loop-item l =
     string_bytes l.text ++ flat_map (λ t. l.separator ++ render t)
-      (map (λ r. tree_of r.now) (drop l.item-index l.rest)) ≡ join_by render l.separator (map (λ r. tree_of r.now) l.items)
+    (map (λ r. tree_of r.now) (drop l.item-index l.rest)) ≡ join_by render l.separator (map (λ r. tree_of r.now) l.items)

@@ -9,6 +9,6 @@ use Rattle.std_lists.proofs.lists.last_item.Goals as goal
 pub returns : goal.returns
 returns c =
     let read =
-        last_item-read c.deref.result.now c.last.result c.last.ensures.value
-        ∙ ap (λ vs. last_item nil (items_view vs)) c.deref.ensures.value in
+    last_item-read c.deref.result.now c.last.result c.last.ensures.value
+    ∙ ap (λ vs. last_item nil (items_view vs)) c.deref.ensures.value in
     subst (λ (t : Tree). IfOk c.copied_or_nil.result (λ v. view v ≡ t)) read c.copied_or_nil.ensures

@@ -6,4 +6,4 @@ use Rattle.std_lists.proofs.lists.push_own_items.Given as goal
 abbrev pub invariant-loop-other : goal.invariant-loop-other
 invariant-loop-other l =
     map (λ r. tree_of r.now) l.initial.all.items ++ own_items (items_view l.others.items) ≡ map (λ r. tree_of r.now) l.all.items
-      ++ own_items (items_view (drop l.other-index l.other-items))
+    ++ own_items (items_view (drop l.other-index l.other-items))

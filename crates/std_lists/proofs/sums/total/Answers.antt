@@ -15,8 +15,8 @@ loop-item-preserved c =
     let name = option_map (λ n. cow_str_bytes n.now) c.args.name in
     let so_far = to_z w128 c.loop-item.total-bits in
     let front =
-        mapped-drop (λ (r : Bor Value). tree_of r.now) c.args.items.now c.loop-item.item-index c.item-item.result c.loop-item-test.true
-        c.item-item.is in
+    mapped-drop (λ (r : Bor Value). tree_of r.now) c.args.items.now c.loop-item.item-index c.item-item.result c.loop-item-test.true
+    c.item-item.is in
     record {
       sum_so_far =
           c.loop-item.invariant.sum_so_far ∙ ap (λ ts. added so_far (total name ts)) front

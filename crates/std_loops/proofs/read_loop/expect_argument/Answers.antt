@@ -14,4 +14,4 @@ pub returns-else-eq : goal.returns-else-eq
 returns-else-eq c t is =
     let apart : bytes_eq c.as_str.result.now (codes "continue") ≡ false = search rules in
     subst (λ o. IfOk c.expect_value.result (λ m. Tries expression_of c.args.token m o))
-      (sym (other_argument c.args.option t c.as_str.result.now c.in-Offset.is (c.as_str.ensures t is) apart)) (c.expect_value.ensures t is)
+    (sym (other_argument c.args.option t c.as_str.result.now c.in-Offset.is (c.as_str.ensures t is) apart)) (c.expect_value.ensures t is)

@@ -11,22 +11,25 @@ options-preserved c ts at =
     let so_far = c.options.invariant ts at in
     let given = c.in-Some.ensures.value so_far.0 so_far.1 in
     let fits =
-        ap (option_named c.args.block (options_of c.options.options)) (sym (c.as_str.ensures given.0.0 given.2.token_is))
-        ∙ sym c.in-Some-option_named.ensures in
-    let taken = c.in_ok-take_option-in-Some-option_named.ensures.value given.0.1 given.2.left in
-    (taken.0, taken.2, option_read c.args.block (options_of c.options.options) _ so_far.0.left given.0 c.in-Some-option_named.option taken.0
-      _ so_far.2 given.1 fits taken.1)
+    ap (option_named c.args.block (options_of c.options.options)) (sym (c.as_str.ensures given.0.0 given.2.token_is))
+    ∙ sym c.in-Some-option_named.ensures in
+    let taken = c.in_ok-take_option-in-Some-option_named.ensures.value given.0.1 given.2.left in (
+      taken.0,
+      taken.2,
+      option_read c.args.block (options_of c.options.options) _ so_far.0.left given.0 c.in-Some-option_named.option taken.0
+          _ so_far.2 given.1 fits taken.1,
+    )
 
 pub returns-in_err-take_option-in-Some-option_named : goal.returns-in_err-take_option-in-Some-option_named
 returns-in_err-take_option-in-Some-option_named c ts at =
     let so_far = c.options.invariant ts at in
     let given = c.in-Some.ensures.value so_far.0 so_far.1 in
     let fits =
-        ap (option_named c.args.block (options_of c.options.options)) (sym (c.as_str.ensures given.0.0 given.2.token_is))
-        ∙ sym c.in-Some-option_named.ensures in
+    ap (option_named c.args.block (options_of c.options.options)) (sym (c.as_str.ensures given.0.0 given.2.token_is))
+    ∙ sym c.in-Some-option_named.ensures in
     let p = err_from_is_err_and c.from_residual.result c.from_residual.ensures.1 in
     rw (p.1, p.2) (option_refused c.args.block (options_of c.options.options) so_far.0.left given.0 c.in-Some-option_named.option
-      (told c.in_err-take_option-in-Some-option_named.field-0.0) _
+    (told c.in_err-take_option-in-Some-option_named.field-0.0) _
     so_far.2 given.1 fits (c.in_err-take_option-in-Some-option_named.ensures.value given.0.1 given.2.left))
 
 pub returns-in-None : goal.returns-in-None
@@ -34,10 +37,10 @@ returns-in-None c ts at =
     let so_far = c.options.invariant ts at in
     let given = c.in-Some.ensures.value so_far.0 so_far.1 in
     let fails =
-        ap (option_named c.args.block (options_of c.options.options)) (sym (c.as_str.ensures given.0.0 given.2.token_is))
-        ∙ sym c.in-None.ensures in
+    ap (option_named c.args.block (options_of c.options.options)) (sym (c.as_str.ensures given.0.0 given.2.token_is))
+    ∙ sym c.in-None.ensures in
     name_refused c.args.block (options_of c.options.options) so_far.0.left given.0 (told c.raise_error.result) _ so_far.2 given.1 fails
-      (c.raise_error.ensures given.0.0 given.2.token_is)
+    (c.raise_error.ensures given.0.0 given.2.token_is)
 
 pub returns : goal.returns
 returns c ts at =

@@ -10,7 +10,7 @@ abbrev pub invariant-options : goal.invariant-options
 invariant-options l =
     (ts : Tokens) → AreTokens l.fn.tokens ts
     → (rest : Tokens) × AreTokens l.tokens rest × (options_from l.block no_options ts.left ≡ options_from l.block
-      (options_of l.options) rest.left)
+    (options_of l.options) rest.left)
 
 abbrev pub decreases-options : goal.decreases-options
 decreases-options l = bytes_left l.tokens

@@ -7,4 +7,4 @@ use Rattle.std_order.proofs.order.natural_entries.Given as goal
 abbrev pub invariant-loop-entry : goal.invariant-loop-entry
 invariant-loop-entry l =
     map entry_view l.natural.items ++ map (λ (e : Tree × Tree). (natural_key e.0, e.1))
-        (map entry_view (drop l.entry-index l.entries)) ≡ map (λ (e : Tree × Tree). (natural_key e.0, e.1)) (map entry_view l.entries)
+    (map entry_view (drop l.entry-index l.entries)) ≡ map (λ (e : Tree × Tree). (natural_key e.0, e.1)) (map entry_view l.entries)

@@ -8,4 +8,4 @@ use Rattle.std_order.proofs.order.present.Given as goal
 abbrev pub invariant-loop-entry : goal.invariant-loop-entry
 invariant-loop-entry l =
     map (λ r. tree_of r.now) l.keys.items ++ present (keys_of (map entry_view (drop l.entry-index l.entries))) ≡ present
-      (keys_of (map entry_view l.entries))
+    (keys_of (map entry_view l.entries))

@@ -24,6 +24,6 @@ returns c =
     let stable = c.sort_by.ensures.stable by_key order (always_returns_same _ _ _ (λ a r f' k. search rules)) in
     OnOk-map c.sort_by.result
     (λ sorted. ap (map entry_view) (in_order-from_sort by_key order _ _
-      (sorted by_key order (always_returns_same _ _ _ (λ a r f' k. search rules))) stable)
+    (sorted by_key order (always_returns_same _ _ _ (λ a r f' k. search rules))) stable)
     ∙ in_order-map entry_view comes_before c.args.entries.now.items)
     c.sort_by.ensures.sorted

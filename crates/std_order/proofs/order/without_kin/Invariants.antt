@@ -7,4 +7,4 @@ use Rattle.std_order.proofs.order.without_kin.Given as goal
 abbrev pub invariant-loop-other : goal.invariant-loop-other
 invariant-loop-other l =
     find (λ other. not (one_kind (tree_of l.first.now) other)) (map (λ r. tree_of r.now) l.others) ≡ find
-      (λ other. not (one_kind (tree_of l.first.now) other)) (map (λ r. tree_of r.now) (drop l.other-index l.others))
+    (λ other. not (one_kind (tree_of l.first.now) other)) (map (λ r. tree_of r.now) (drop l.other-index l.others))

@@ -11,4 +11,4 @@ returns c =
     let all : length c.args.parts.now ≤ c.loop-part.part-index = omega arith in
     c.from.ensures
     ∙ ap (λ ts. array (items_of ts)) (c.loop-part.invariant ∙ ap (map (λ p. written p.now))
-      (take_all c.loop-part.part-index c.args.parts.now all) ∙ written_each (λ p. p.now) c.args.parts.now)
+    (take_all c.loop-part.part-index c.args.parts.now all) ∙ written_each (λ p. p.now) c.args.parts.now)

@@ -6,4 +6,4 @@ use Rattle.std_values.proofs.items.+flat.Given as goal
 abbrev pub invariant-push_items-loop-value : goal.invariant-push_items-loop-value
 invariant-push_items-loop-value l =
     map (λ r. tree_of r.now) l.initial.items.items ++ flat_items (items_view l.array.items) ≡ map (λ r. tree_of r.now) l.items.items
-      ++ flat_items (items_view (drop l.value-index l.value-items))
+    ++ flat_items (items_view (drop l.value-index l.value-items))

@@ -14,4 +14,4 @@ pub returns-in_err-name-in-Leak : goal.returns-in_err-name-in-Leak
 returns-in_err-name-in-Leak g c ts at =
     let p = err_from_is_err_and c.from_residual-in_err-name-in-Leak.result c.from_residual-in_err-name-in-Leak.ensures.1 in
     rw (c.in-Leak.is, p.1, p.2) (then_refused (told c.in_err-name-in-Leak.field-0.0) _ (λ given. Ok (Leak given.0 given.1))
-      (c.in_err-name-in-Leak.ensures ts at))
+    (c.in_err-name-in-Leak.ensures ts at))

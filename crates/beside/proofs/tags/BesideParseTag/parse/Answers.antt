@@ -21,7 +21,7 @@ returns-in_err-parse-in-Library g c ts at =
     rw (p.1, p.2) (subst (λ m. IfSome (told c.in_err-parse-in-Library.field-0.0) (λ r. m ≡ Err r))
     (sym (ap (λ x. tag_beside g.L.ParseTag.gives g.O.ParseTag.gives x filters ts) c.in-Library.is))
     (then_refused (told c.in_err-parse-in-Library.field-0.0) (g.L.ParseTag.gives c.in-Library.tag filters ts) (λ node. Ok (Library node))
-      (c.in_err-parse-in-Library.ensures ts at)))
+    (c.in_err-parse-in-Library.ensures ts at)))
 
 pub returns-in_ok-parse-in-Own : goal.returns-in_ok-parse-in-Own
 returns-in_ok-parse-in-Own g c ts at =
@@ -35,4 +35,4 @@ returns-in_err-parse-in-Own g c ts at =
     rw (p.1, p.2) (subst (λ m. IfSome (told c.in_err-parse-in-Own.field-0.0) (λ r. m ≡ Err r))
     (sym (ap (λ x. tag_beside g.L.ParseTag.gives g.O.ParseTag.gives x filters ts) c.in-Own.is))
     (then_refused (told c.in_err-parse-in-Own.field-0.0) (g.O.ParseTag.gives c.in-Own.tag filters ts) (λ node. Ok (Own node))
-      (c.in_err-parse-in-Own.ensures ts at)))
+    (c.in_err-parse-in-Own.ensures ts at)))

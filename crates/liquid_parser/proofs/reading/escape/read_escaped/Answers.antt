@@ -11,7 +11,8 @@ returns-in-Some-clause-value g c es cover =
       e.0,
       e.1,
       escaped_ok c.args.source.now (open_view g.F.Filter.Meant.shape g.T.Node.Meant.shape g.B.Node.Meant.shape g.B.Plan.Meant.shape
-          g.B.ParseBlock.block c.args.block) (blocks_view g.F.Filter.Meant.shape g.T.Node.Meant.shape g.B.Node.Meant.shape g.B.Plan.Meant.shape
+          g.B.ParseBlock.block c.args.block) (blocks_view g.F.Filter.Meant.shape g.T.Node.Meant.shape g.B.Node.Meant.shape
+          g.B.Plan.Meant.shape
           g.B.ParseBlock.block c.args.state.now.open.items) _ e.0 c.in-Some.text.now _ e.2 c.in_ok-state-in-Some.ensures,
     )
 

@@ -18,7 +18,8 @@ elements-init g c = (
   Goes-begin (language_of g.F.ParseFilter.makes g.T.ParseTag.gives g.B.ParseBlock.block c.args.language.now)
       c.args.text.now _ (ap (λ os. among (blocks_view g.F.Filter.Meant.shape g.T.Node.Meant.shape g.B.Node.Meant.shape g.B.Plan.Meant.shape
       g.B.ParseBlock.block os) (shapes_of g.F.Filter.Meant.shape g.T.Node.Meant.shape g.B.Node.Meant.shape c.new-2.result.items))
-      c.new.ensures.items ∙ ap (λ ns. among (blocks_view g.F.Filter.Meant.shape g.T.Node.Meant.shape g.B.Node.Meant.shape g.B.Plan.Meant.shape
+      c.new.ensures.items ∙ ap (λ ns. among (blocks_view g.F.Filter.Meant.shape g.T.Node.Meant.shape g.B.Node.Meant.shape
+      g.B.Plan.Meant.shape
       g.B.ParseBlock.block []) (shapes_of g.F.Filter.Meant.shape g.T.Node.Meant.shape g.B.Node.Meant.shape ns)) c.new-2.ensures.items),
 )
 

@@ -16,7 +16,7 @@ pub invariant_of-self : goal.invariant_of-self
 invariant_of-self g c = record {
   whole = subst (λ source. HasAll c.try_get.new.self.kept (g.S.PartialSource.texts source)) (sym c.try_get.ensures.source)
       (has-after (λ template. template_nodes g.F.Filter.Meant.shape g.T.Node.Meant.shape g.B.Node.Meant.shape template.value)
-        (language_of g.F.ParseFilter.makes g.T.ParseTag.gives g.B.ParseBlock.block c.args.self.now.lazy.texts.parser.language.value)
-        (g.S.PartialSource.texts c.args.self.now.lazy.texts.source) c.args.self.now.lazy.kept c.try_get.new.self.kept
-        (is_ok c.try_get.result) c.args.name.now c.args.self.now.whole c.try_get.ensures.keeps);
+      (language_of g.F.ParseFilter.makes g.T.ParseTag.gives g.B.ParseBlock.block c.args.self.now.lazy.texts.parser.language.value)
+      (g.S.PartialSource.texts c.args.self.now.lazy.texts.source) c.args.self.now.lazy.kept c.try_get.new.self.kept
+      (is_ok c.try_get.result) c.args.name.now c.args.self.now.whole c.try_get.ensures.keeps);
 }

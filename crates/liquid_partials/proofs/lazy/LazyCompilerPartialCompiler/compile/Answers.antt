@@ -9,8 +9,8 @@ pub returns-clause-compiled : goal.returns-clause-compiled
 returns-clause-compiled g c =
     rw (c.new-texts.ensures.language, c.new-texts.ensures.source)
     (compiled-empty (λ template. template_nodes g.F.Filter.Meant.shape g.T.Node.Meant.shape g.B.Node.Meant.shape template.value)
-      (language_of g.F.ParseFilter.makes g.T.ParseTag.gives g.B.ParseBlock.block c.args.language.value)
-      (g.S.PartialSource.texts c.args.self.source) c.new-kept.result c.new-kept.ensures.empty)
+    (language_of g.F.ParseFilter.makes g.T.ParseTag.gives g.B.ParseBlock.block c.args.language.value)
+    (g.S.PartialSource.texts c.args.self.source) c.new-kept.result c.new-kept.ensures.empty)
 
 pub returns-clause-kept : goal.returns-clause-kept
 returns-clause-kept g c =
@@ -19,6 +19,8 @@ returns-clause-kept g c =
 
 pub invariant_of-result : goal.invariant_of-result
 invariant_of-result g c =
-    record { known = known-empty (λ template. template_nodes g.F.Filter.Meant.shape g.T.Node.Meant.shape g.B.Node.Meant.shape
-    template.value) (language_of g.F.ParseFilter.makes g.T.ParseTag.gives g.B.ParseBlock.block c.args.language.value)
-    (g.S.PartialSource.texts c.new-texts.result.source) c.new-kept.result c.new-kept.ensures.empty }
+    record {
+      known = known-empty (λ template. template_nodes g.F.Filter.Meant.shape g.T.Node.Meant.shape g.B.Node.Meant.shape
+          template.value) (language_of g.F.ParseFilter.makes g.T.ParseTag.gives g.B.ParseBlock.block c.args.language.value)
+          (g.S.PartialSource.texts c.new-texts.result.source) c.new-kept.result c.new-kept.ensures.empty;
+    }

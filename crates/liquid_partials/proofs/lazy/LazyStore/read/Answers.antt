@@ -83,14 +83,14 @@ returns-in-None-clause-gives g c =
 pub returns-in-None-clause-keeps : goal.returns-in-None-clause-keeps
 returns-in-None-clause-keeps g c =
     absent_stays true (kept_or_read (λ template. template_nodes g.F.Filter.Meant.shape g.T.Node.Meant.shape g.B.Node.Meant.shape
-      template.value) (language_of g.F.ParseFilter.makes g.T.ParseTag.gives g.B.ParseBlock.block
-      c.args.self.now.texts.parser.language.value) c.args.self.now.kept (g.S.PartialSource.texts c.args.self.now.texts.source))
-      (all_kept (λ template. template_nodes g.F.Filter.Meant.shape g.T.Node.Meant.shape g.B.Node.Meant.shape template.value)
-      c.args.self.now.kept) c.args.name.now
+    template.value) (language_of g.F.ParseFilter.makes g.T.ParseTag.gives g.B.ParseBlock.block
+    c.args.self.now.texts.parser.language.value) c.args.self.now.kept (g.S.PartialSource.texts c.args.self.now.texts.source))
+    (all_kept (λ template. template_nodes g.F.Filter.Meant.shape g.T.Node.Meant.shape g.B.Node.Meant.shape template.value)
+    c.args.self.now.kept) c.args.name.now
     (sym (read_found (λ template. template_nodes g.F.Filter.Meant.shape g.T.Node.Meant.shape g.B.Node.Meant.shape template.value)
-      (language_of g.F.ParseFilter.makes g.T.ParseTag.gives g.B.ParseBlock.block c.args.self.now.texts.parser.language.value)
-      (g.S.PartialSource.texts c.args.self.now.texts.source) c.args.self.now.kept c.args.self.now.known c.args.name.now c.requires None
-      (rw c.in-None.is at c.in_ok-answer.ensures.gives)))
+    (language_of g.F.ParseFilter.makes g.T.ParseTag.gives g.B.ParseBlock.block c.args.self.now.texts.parser.language.value)
+    (g.S.PartialSource.texts c.args.self.now.texts.source) c.args.self.now.kept c.args.self.now.known c.args.name.now c.requires None
+    (rw c.in-None.is at c.in_ok-answer.ensures.gives)))
 
 pub invariant_of-self-in-Some : goal.invariant_of-self-in-Some
 invariant_of-self-in-Some g c =
@@ -98,9 +98,9 @@ invariant_of-self-in-Some g c =
     record {
       known = subst (λ source. Known c.keep.new.kept (g.S.PartialSource.texts source)) (sym c.in_ok-answer.ensures.source)
           (known-kept (λ template. template_nodes g.F.Filter.Meant.shape g.T.Node.Meant.shape g.B.Node.Meant.shape template.value)
-            (language_of g.F.ParseFilter.makes g.T.ParseTag.gives g.B.ParseBlock.block c.args.self.now.texts.parser.language.value)
-            (g.S.PartialSource.texts c.args.self.now.texts.source) c.args.self.now.kept c.keep.new.kept c.args.name.now
-            c.in_ok-copy-in-Some.copy c.keep.result c.args.self.now.known
+          (language_of g.F.ParseFilter.makes g.T.ParseTag.gives g.B.ParseBlock.block c.args.self.now.texts.parser.language.value)
+          (g.S.PartialSource.texts c.args.self.now.texts.source) c.args.self.now.kept c.keep.new.kept c.args.name.now
+          c.in_ok-copy-in-Some.copy c.keep.result c.args.self.now.known
           (rw c.in_ok-from_str-in-Some.ensures.ok at c.keep.ensures.ok) c.keep.ensures.err
-            (ap (λ a. Some a) c.in_ok-copy-in-Some.ensures ∙ read));
+          (ap (λ a. Some a) c.in_ok-copy-in-Some.ensures ∙ read));
     }

@@ -8,5 +8,5 @@ pub returns : goal.returns
 returns g c =
     c.contains.ensures
     ∙ sym (contains-known (λ template. template_nodes g.F.Filter.Meant.shape g.T.Node.Meant.shape g.B.Node.Meant.shape template.value)
-      (language_of g.F.ParseFilter.makes g.T.ParseTag.gives g.B.ParseBlock.block c.args.self.now.texts.parser.language.value)
-      (g.S.PartialSource.texts c.args.self.now.texts.source) c.args.self.now.kept c.args.self.now.known c.args.name.now)
+    (language_of g.F.ParseFilter.makes g.T.ParseTag.gives g.B.ParseBlock.block c.args.self.now.texts.parser.language.value)
+    (g.S.PartialSource.texts c.args.self.now.texts.source) c.args.self.now.kept c.args.self.now.known c.args.name.now)

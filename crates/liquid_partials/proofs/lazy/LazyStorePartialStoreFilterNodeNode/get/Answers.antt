@@ -12,17 +12,17 @@ use Rattle.liquid_partials.proofs.lazy.LazyStorePartialStoreFilterNodeNode.get.G
 pub returns-in-Some-clause-gives : goal.returns-in-Some-clause-gives
 returns-in-Some-clause-gives g c =
     subst (λ meant. Gives (λ template. template_nodes g.F.Filter.Meant.shape g.T.Node.Meant.shape g.B.Node.Meant.shape template.value)
-      c.kept_answer.result meant)
+    c.kept_answer.result meant)
     (sym (partial_found (kept_or_read (λ template. template_nodes g.F.Filter.Meant.shape g.T.Node.Meant.shape g.B.Node.Meant.shape
-      template.value) (language_of g.F.ParseFilter.makes g.T.ParseTag.gives g.B.ParseBlock.block
-      c.args.self.now.texts.parser.language.value) c.args.self.now.kept (g.S.PartialSource.texts c.args.self.now.texts.source))
-      c.args.name.now (Some (kept_as (λ template. template_nodes g.F.Filter.Meant.shape g.T.Node.Meant.shape g.B.Node.Meant.shape
-      template.value) c.in-Some.answer.now)) (found_kept (all_kept
-      (λ template. template_nodes g.F.Filter.Meant.shape g.T.Node.Meant.shape g.B.Node.Meant.shape template.value) c.args.self.now.kept)
-      (readings (language_of g.F.ParseFilter.makes g.T.ParseTag.gives g.B.ParseBlock.block c.args.self.now.texts.parser.language.value)
-      (g.S.PartialSource.texts c.args.self.now.texts.source)) c.args.name.now
-      (kept_as (λ template. template_nodes g.F.Filter.Meant.shape g.T.Node.Meant.shape g.B.Node.Meant.shape template.value)
-      c.in-Some.answer.now) (rw c.in-Some.is at c.under.ensures))))
+    template.value) (language_of g.F.ParseFilter.makes g.T.ParseTag.gives g.B.ParseBlock.block
+    c.args.self.now.texts.parser.language.value) c.args.self.now.kept (g.S.PartialSource.texts c.args.self.now.texts.source))
+    c.args.name.now (Some (kept_as (λ template. template_nodes g.F.Filter.Meant.shape g.T.Node.Meant.shape g.B.Node.Meant.shape
+    template.value) c.in-Some.answer.now)) (found_kept (all_kept
+    (λ template. template_nodes g.F.Filter.Meant.shape g.T.Node.Meant.shape g.B.Node.Meant.shape template.value) c.args.self.now.kept)
+    (readings (language_of g.F.ParseFilter.makes g.T.ParseTag.gives g.B.ParseBlock.block c.args.self.now.texts.parser.language.value)
+    (g.S.PartialSource.texts c.args.self.now.texts.source)) c.args.name.now
+    (kept_as (λ template. template_nodes g.F.Filter.Meant.shape g.T.Node.Meant.shape g.B.Node.Meant.shape template.value)
+    c.in-Some.answer.now) (rw c.in-Some.is at c.under.ensures))))
     c.kept_answer.ensures
 
 pub returns-in-Some-clause-keeps : goal.returns-in-Some-clause-keeps
@@ -38,11 +38,11 @@ pub returns-in-Ok-None-clause-gives : goal.returns-in-Ok-None-clause-gives
 returns-in-Ok-None-clause-gives g c =
     if_some (told c.unknown.result)
     (λ r e. partial_found (kept_or_read (λ template. template_nodes g.F.Filter.Meant.shape g.T.Node.Meant.shape g.B.Node.Meant.shape
-      template.value) (language_of g.F.ParseFilter.makes g.T.ParseTag.gives g.B.ParseBlock.block
-      c.args.self.now.texts.parser.language.value) c.args.self.now.kept (g.S.PartialSource.texts c.args.self.now.texts.source))
-      c.args.name.now None (sym (rw c.in-Ok-None.field-0-is at c.in-Ok-None.ensures.gives))
+    template.value) (language_of g.F.ParseFilter.makes g.T.ParseTag.gives g.B.ParseBlock.block
+    c.args.self.now.texts.parser.language.value) c.args.self.now.kept (g.S.PartialSource.texts c.args.self.now.texts.source))
+    c.args.name.now None (sym (rw c.in-Ok-None.field-0-is at c.in-Ok-None.ensures.gives))
     ∙ ap (λ names. Err (unknown_partial c.args.name.now names)) (keys-known
-      (λ template. template_nodes g.F.Filter.Meant.shape g.T.Node.Meant.shape g.B.Node.Meant.shape template.value)
-      (language_of g.F.ParseFilter.makes g.T.ParseTag.gives g.B.ParseBlock.block c.args.self.now.texts.parser.language.value)
-      (g.S.PartialSource.texts c.args.self.now.texts.source) c.args.self.now.kept c.args.self.now.known) ∙ ap (λ x. Err x) (sym e))
+    (λ template. template_nodes g.F.Filter.Meant.shape g.T.Node.Meant.shape g.B.Node.Meant.shape template.value)
+    (language_of g.F.ParseFilter.makes g.T.ParseTag.gives g.B.ParseBlock.block c.args.self.now.texts.parser.language.value)
+    (g.S.PartialSource.texts c.args.self.now.texts.source) c.args.self.now.kept c.args.self.now.known) ∙ ap (λ x. Err x) (sym e))
     (rw c.in-Ok-None.ensures.source at c.unknown.ensures)

@@ -14,7 +14,7 @@ returns-in-None-clause-gives g c =
     let unknown = rw c.in_ok-template.ensures.source at c.unknown.ensures in
     if_some (told c.unknown.result)
     (λ r e. partial_found (readings l texts) c.args.name.now None none
-      ∙ ap (λ names. Err (unknown_partial c.args.name.now names)) (keys-readings l texts) ∙ ap (λ x. Err x) (sym e))
+    ∙ ap (λ names. Err (unknown_partial c.args.name.now names)) (keys-readings l texts) ∙ ap (λ x. Err x) (sym e))
     unknown
 
 pub returns-in-None-clause-lost : goal.returns-in-None-clause-lost

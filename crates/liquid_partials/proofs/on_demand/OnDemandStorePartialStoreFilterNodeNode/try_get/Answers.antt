@@ -6,5 +6,5 @@ use Rattle.liquid_partials.proofs.on_demand.OnDemandStorePartialStoreFilterNodeN
 pub returns-in-Ok-clause-gives : goal.returns-in-Ok-clause-gives
 returns-in-Ok-clause-gives g c =
     tried_tree (readings (language_of g.F.ParseFilter.makes g.T.ParseTag.gives g.B.ParseBlock.block
-      c.args.self.now.texts.parser.language.value) (g.S.PartialSource.texts c.args.self.now.texts.source)) c.args.name.now _
-      c.in-Ok.ensures.gives
+    c.args.self.now.texts.parser.language.value) (g.S.PartialSource.texts c.args.self.now.texts.source)) c.args.name.now _
+    c.in-Ok.ensures.gives

@@ -6,4 +6,4 @@ use Rattle.liquid_plugins.proofs.variable.VariableOfExpressionExtendScalar.exten
 abbrev pub invariant-loop-scalar : goal.invariant-loop-scalar
 invariant-loop-scalar g l =
     (name_of l.self ≡ name_of l.fn.self) × (index_list l.self ≡ index_list l.fn.self
-      ++ map (λ s. literal_of (scal string_bytes s)) l.yielded)
+    ++ map (λ s. literal_of (scal string_bytes s)) l.yielded)

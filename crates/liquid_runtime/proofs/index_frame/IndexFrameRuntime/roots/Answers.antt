@@ -12,5 +12,5 @@ returns g c =
     let r = shaped g.V.Fresh.shape f.parent.registers in
     let m = names_of f.variables in
     if_ok c.add_names.result (λ set. NamesOver m c.in_ok-below.below set)
-      (λ set. NamesOf (names_seen (indexed_view m (core_with r f.parent.depth f.parent.lenient))) set)
+    (λ set. NamesOf (names_seen (indexed_view m (core_with r f.parent.depth f.parent.lenient))) set)
     (λ set is. roots_indexed m r f.parent.depth f.parent.lenient c.in_ok-below.below set is c.in_ok-below.ensures) c.add_names.ensures

@@ -14,5 +14,5 @@ returns g c =
     let v = g.P.Runtime.view f.parent in
     let r = shaped g.P.Register.Fresh.shape f.registers in
     if_ok c.add_names.result (λ set. NamesOver (names_of f.names) c.new.result set)
-      (λ set. NamesOf (names_seen (sandboxed_with r (names_of f.names) n v)) set)
+    (λ set. NamesOf (names_seen (sandboxed_with r (names_of f.names) n v)) set)
     (λ set is. roots_sandboxed r (names_of f.names) n v c.new.result set is c.new.ensures.empty) c.add_names.ensures

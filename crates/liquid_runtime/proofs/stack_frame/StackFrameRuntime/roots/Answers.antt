@@ -12,5 +12,5 @@ returns g c =
     let n = option_map (λ s. string_bytes s) f.name in
     let v = g.P.Runtime.view f.parent in
     if_ok c.add_names.result (λ set. NamesOver (names_of f.names) c.in_ok-below.below set)
-      (λ set. NamesOf (names_seen (begin_stack (names_of f.names) n v)) set)
+    (λ set. NamesOf (names_seen (begin_stack (names_of f.names) n v)) set)
     (λ set is. roots_stack (names_of f.names) n v c.in_ok-below.below set is c.in_ok-below.ensures) c.add_names.ensures

@@ -19,4 +19,4 @@ returns-in-None g c =
     let v = g.P.Runtime.view f.parent in
     let q = c.args.name.now in
     c.seals.ensures ∙ sym (seal_stack (names_of f.names) None v q
-      ∙ seal_below (get (names_of f.names) q) (comes_from_seal v q) c.in-None.ensures)
+    ∙ seal_below (get (names_of f.names) q) (comes_from_seal v q) c.in-None.ensures)

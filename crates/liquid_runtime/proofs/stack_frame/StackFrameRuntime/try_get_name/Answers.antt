@@ -19,4 +19,4 @@ returns-in-None g c =
     let v = g.P.Runtime.view f.parent in
     let q = c.args.name.now in
     c.try_get_name.ensures ∙ sym (lookup_stack (names_of f.names) None v q
-      ∙ value_below (get (names_of f.names) q) (lookup v q) c.in-None.ensures)
+    ∙ value_below (get (names_of f.names) q) (lookup v q) c.in-None.ensures)

@@ -13,7 +13,7 @@ loop-i-preserved g c =
     let h : i < length xs = omega (arith, c.len-i-end.ensures, c.args.self.now.links.ok.0) in
     elim c.if-is_global.branch [
       | then-is_global w ↦ subst (λ o. LastGlobal (map layer_of (take (i + 1) xs)) o) (sym w.at-is)
-        (last_taken layer_of xs i l h c.index.ensures (sym c.is_global.ensures ∙ w.if-is_global.true))
+          (last_taken layer_of xs i l h c.index.ensures (sym c.is_global.ensures ∙ w.if-is_global.true))
       | else-is_global w ↦ subst (λ o. LastGlobal (map layer_of (take (i + 1) xs)) o) (sym w.at-is)
-        (last_step layer_of xs i l c.loop-i.at h c.index.ensures c.loop-i.invariant (sym c.is_global.ensures ∙ w.if-is_global.false))
+          (last_step layer_of xs i l c.loop-i.at h c.index.ensures c.loop-i.invariant (sym c.is_global.ensures ∙ w.if-is_global.false))
     ]

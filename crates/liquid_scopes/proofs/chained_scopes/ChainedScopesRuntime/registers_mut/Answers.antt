@@ -21,7 +21,7 @@ returns g c =
             λ w. ap (λ v. restoring g.R.Register.Fresh.shape v ls (scope_base ∷ g.R.Runtime.restores (g.R.Runtime.relent s.base w)))
             (c.registers_mut.ensures.after w)
             ∙ restoring_with_registers g.R.Register.Fresh.shape (g.R.Runtime.view s.base) ls (shaped g.R.Register.Fresh.shape w)
-              (scope_base ∷ g.R.Runtime.restores (g.R.Runtime.relent s.base w))
+            (scope_base ∷ g.R.Runtime.restores (g.R.Runtime.relent s.base w))
             ∙ ap (λ rs. restoring g.R.Register.Fresh.shape (g.R.Runtime.view s.base) ls (scope_base ∷ rs)) (c.registers_mut.ensures.owes w);
         borrows = c.registers_mut.ensures.borrows;
         value = c.registers_mut.ensures.value ∙ sym (shown_registers (g.R.Runtime.view s.base) ls);

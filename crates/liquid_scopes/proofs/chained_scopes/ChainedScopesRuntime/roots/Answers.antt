@@ -10,4 +10,4 @@ pub returns : goal.returns
 returns g c =
     let v = g.R.Runtime.view c.args.self.now.base in
     subst (λ xs. IfOk c.roots_over.result (λ names. NamesOf (names_seen (shown_over v (map layer_of xs))) names)) c.as_slice.ensures.value
-      (c.roots_over.ensures v c.in_ok-below.ensures)
+    (c.roots_over.ensures v c.in_ok-below.ensures)

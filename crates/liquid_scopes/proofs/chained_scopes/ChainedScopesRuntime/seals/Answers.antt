@@ -8,4 +8,4 @@ pub returns : goal.returns
 returns g c =
     let v = g.R.Runtime.view c.args.self.now.base in
     c.seals_over.ensures v c.seals.ensures ∙ ap (λ xs. comes_from_seal (shown_over v (map layer_of xs)) c.args.name.now)
-      c.as_slice.ensures.value
+    c.as_slice.ensures.value

@@ -7,6 +7,11 @@ use Rattle.liquid_scopes.proofs.chained_scopes.ChainedScopesScopes.frames.Goals 
 pub returns : goal.returns
 returns g c =
     let ls = map layer_of c.args.self.now.links.items in
-    omega (arith, c.len.ensures, c.args.self.now.links.ok.0, map_length layer_of c.args.self.now.links.items,
+    omega (
+      arith,
+      c.len.ensures,
+      c.args.self.now.links.ok.0,
+      map_length layer_of c.args.self.now.links.items,
       count_open g.R.Register.Fresh.shape (g.R.Runtime.view c.args.self.now.base) ls
-      (scope_base ∷ g.R.Runtime.restores c.args.self.now.base))
+          (scope_base ∷ g.R.Runtime.restores c.args.self.now.base),
+    )

@@ -14,9 +14,9 @@ returns-clause-ok g c =
     let ls = map layer_of xs in
     let l = c.opening-link.result in
     ap (λ ys. shown_over w (map layer_of ys)) (c.push_reserved.ensures.items ∙ ap (λ ys. ys ++ l ∷ []) c.reserve.ensures.items)
-      ∙ ap (shown_over w) (map_append layer_of xs (l ∷ []))
+    ∙ ap (shown_over w) (map_append layer_of xs (l ∷ []))
     ∙ begins_over v w ls (layer_of l) c.opening-link.ensures.registers
-      ∙ c.opening-link.ensures.begins (shown_over v ls) (shown_registers v ls)
+    ∙ c.opening-link.ensures.begins (shown_over v ls) (shown_registers v ls)
 
 pub returns-clause-opens : goal.returns-clause-opens
 returns-clause-opens g c =
@@ -27,9 +27,9 @@ returns-clause-opens g c =
     let l = c.opening-link.result in
     let rs = scope_base ∷ g.R.Runtime.restores c.opening-link.new.base in
     ap (λ ys. restoring g.R.Register.Fresh.shape w (map layer_of ys) rs)
-      (c.push_reserved.ensures.items ∙ ap (λ ys. ys ++ l ∷ []) c.reserve.ensures.items)
-      ∙ ap (λ ys. restoring g.R.Register.Fresh.shape w ys rs) (map_append layer_of xs (l ∷ []))
+    (c.push_reserved.ensures.items ∙ ap (λ ys. ys ++ l ∷ []) c.reserve.ensures.items)
+    ∙ ap (λ ys. restoring g.R.Register.Fresh.shape w ys rs) (map_append layer_of xs (l ∷ []))
     ∙ restores_over g.R.Register.Fresh.shape v w ls (layer_of l) rs c.opening-link.ensures.registers
     ∙ ap (λ r. r ∷ restoring g.R.Register.Fresh.shape v ls rs) (c.opening-link.ensures.restores (shown_over v ls) (shown_registers v ls))
     ∙ ap (λ ys. restored_by (frame_of c.args.frame) (shown_over v ls) ∷ restoring g.R.Register.Fresh.shape v ls (scope_base ∷ ys))
-      c.opening-link.ensures.owes
+    c.opening-link.ensures.owes

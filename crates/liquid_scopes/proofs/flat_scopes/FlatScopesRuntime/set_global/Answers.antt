@@ -32,8 +32,8 @@ pub returns-in-None-clause-sets : goal.returns-in-None-clause-sets
 returns-in-None-clause-sets g c =
     let ls = map layer_of c.args.self.now.table.links.items in
     on_ok_weaker c.set_global.result (λ is. ap (λ v. shown_over v ls) is
-      ∙ shown_put_global (g.R.Runtime.view c.args.self.now.base) ls (string_bytes c.args.name) (tree_of c.args.value) c.in-None.ensures)
-      c.set_global.ensures.sets
+    ∙ shown_put_global (g.R.Runtime.view c.args.self.now.base) ls (string_bytes c.args.name) (tree_of c.args.value) c.in-None.ensures)
+    c.set_global.ensures.sets
 
 pub returns-in-None-clause-unchanged : goal.returns-in-None-clause-unchanged
 returns-in-None-clause-unchanged g c =
@@ -48,6 +48,6 @@ returns-in-None-clause-owes g c =
     let below = ap (λ xs. restoring g.R.Register.Fresh.shape v ls (scope_base ∷ xs)) c.set_global.ensures.owes in
     on_both c.set_global.result
     (λ is. ap (λ u. restoring g.R.Register.Fresh.shape u ls rs) is
-      ∙ restoring_put_global g.R.Register.Fresh.shape v ls (string_bytes c.args.name) (tree_of c.args.value) rs c.in-None.ensures ∙ below)
+    ∙ restoring_put_global g.R.Register.Fresh.shape v ls (string_bytes c.args.name) (tree_of c.args.value) rs c.in-None.ensures ∙ below)
     (λ same. ap (λ u. restoring g.R.Register.Fresh.shape u ls rs) same ∙ below)
     c.set_global.ensures.sets c.set_global.ensures.unchanged

@@ -18,8 +18,8 @@ pub returns-clause-sets : goal.returns-clause-sets
 returns-clause-sets g c =
     let ls = map layer_of c.args.self.now.table.links.items in
     on_ok_weaker c.set_index.result (λ is. ap (λ v. shown_over v ls) is
-      ∙ shown_put_index (g.R.Runtime.view c.args.self.now.base) ls (string_bytes c.args.name) (tree_of c.args.value))
-      c.set_index.ensures.sets
+    ∙ shown_put_index (g.R.Runtime.view c.args.self.now.base) ls (string_bytes c.args.name) (tree_of c.args.value))
+    c.set_index.ensures.sets
 
 pub returns-clause-unchanged : goal.returns-clause-unchanged
 returns-clause-unchanged g c =
@@ -34,6 +34,6 @@ returns-clause-owes g c =
     let below = ap (λ xs. restoring g.R.Register.Fresh.shape v ls (scope_base ∷ xs)) c.set_index.ensures.owes in
     on_both c.set_index.result
     (λ is. ap (λ u. restoring g.R.Register.Fresh.shape u ls rs) is
-      ∙ restoring_put_index g.R.Register.Fresh.shape v ls (string_bytes c.args.name) (tree_of c.args.value) rs ∙ below)
+    ∙ restoring_put_index g.R.Register.Fresh.shape v ls (string_bytes c.args.name) (tree_of c.args.value) rs ∙ below)
     (λ same. ap (λ u. restoring g.R.Register.Fresh.shape u ls rs) same ∙ below)
     c.set_index.ensures.sets c.set_index.ensures.unchanged

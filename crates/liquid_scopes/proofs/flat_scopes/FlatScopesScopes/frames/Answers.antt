@@ -7,6 +7,10 @@ use Rattle.liquid_scopes.proofs.flat_scopes.FlatScopesScopes.frames.Goals as goa
 pub returns : goal.returns
 returns g c =
     let ls = map layer_of c.args.self.now.table.links.items in
-    omega (arith, c.frames.ensures, map_length layer_of c.args.self.now.table.links.items,
+    omega (
+      arith,
+      c.frames.ensures,
+      map_length layer_of c.args.self.now.table.links.items,
       count_open g.R.Register.Fresh.shape (g.R.Runtime.view c.args.self.now.base) ls
-      (scope_base ∷ g.R.Runtime.restores c.args.self.now.base))
+          (scope_base ∷ g.R.Runtime.restores c.args.self.now.base),
+    )

@@ -8,5 +8,5 @@ returns-in-Some-clause-ends g c =
     pops g.R.Register.Fresh.shape (g.R.Runtime.view c.args.self.now.base) (g.R.Runtime.view c.closing.new.base)
     (map layer_of c.args.self.now.table.links.items) (map layer_of c.take.new.self.links.items) (layer_of c.in-Some.link)
     (g.R.Runtime.restores c.args.self.now.base) (g.R.Runtime.restores c.closing.new.base)
-      (ap (map layer_of) c.in-Some.ensures.items ∙ map_append layer_of c.take.new.self.links.items (c.in-Some.link ∷ []))
-      c.closing.ensures.registers c.closing.ensures.ends c.closing.ensures.owes
+    (ap (map layer_of) c.in-Some.ensures.items ∙ map_append layer_of c.take.new.self.links.items (c.in-Some.link ∷ []))
+    c.closing.ensures.registers c.closing.ensures.ends c.closing.ensures.owes

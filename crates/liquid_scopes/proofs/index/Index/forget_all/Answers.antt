@@ -19,11 +19,11 @@ loop-name-preserved c = λ q j.
     let e = nat_eq j c.args.frame in
     let b = bytes_eq (string_bytes k) q in
     let dropped : stands c.forget.new.self.places q j ≡ (S && not (b && e)) =
-        c.forget.ensures q j ∙ ap (λ bs. S && not (bytes_eq bs q && e)) c.as_str.ensures.value in
+    c.forget.ensures q j ∙ ap (λ bs. S && not (bytes_eq bs q && e)) c.as_str.ensures.value in
     let more : has_name q c.loop-name.name-iterator ≡ (b || has_name q es) =
-        ap (has_name q) c.in-Some.ensures.steps ∙ has_more k c.in-Some.field-0-1.now es q in
+    ap (has_name q) c.in-Some.ensures.steps ∙ has_more k c.in-Some.field-0-1.now es q in
     ap (λ x. x && not (has_name q es && e)) dropped ∙ forget_moves S b (has_name q es) e ∙ ap (λ x. S && not (x && e)) (sym more)
-      ∙ c.loop-name.invariant q j
+    ∙ c.loop-name.invariant q j
 
 pub returns : goal.returns
 returns c = λ q j.

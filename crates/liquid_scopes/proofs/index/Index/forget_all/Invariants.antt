@@ -9,4 +9,4 @@ use Rattle.liquid_scopes.proofs.index.Index.forget_all.Given as goal
 abbrev pub invariant-loop-name : goal.invariant-loop-name
 invariant-loop-name l = (q : List ℕ) (j : ℕ)
     → (stands l.self.places q j && not (has_name q l.name-iterator && nat_eq j l.frame)) ≡ (stands l.initial.self.places q j
-      && not (is_some (get (names_of l.names) q) && nat_eq j l.frame))
+    && not (is_some (get (names_of l.names) q) && nat_eq j l.frame))

@@ -10,5 +10,5 @@ use Rattle.liquid_scopes.proofs.index.Index.note_all.Given as goal
 abbrev pub invariant-loop-name : goal.invariant-loop-name
 invariant-loop-name l = (q : List ℕ) (j : ℕ)
     → ((stands l.self.places q j || (has_name q l.name-iterator && nat_eq j l.frame)) ≡ (stands l.initial.self.places q j
-      || (is_some (get (names_of l.names) q) && nat_eq j l.frame)))
+    || (is_some (get (names_of l.names) q) && nat_eq j l.frame)))
     × ((stands l.self.places q j || stands l.initial.self.places q j) ≡ stands l.self.places q j)

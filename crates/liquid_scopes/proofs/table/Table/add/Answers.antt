@@ -17,8 +17,8 @@ invariant_of-self g c =
     record {
       fits = λ q j. c.in-Ok.ensures.fits q j
           ∙ ap (λ ls. listed_at ls t.unlisted q j) (sym (ap (map layer_of)
-            (c.push_reserved.ensures.items ∙ ap (λ links. links.items ++ link ∷ []) c.in-Ok.ensures.links)
-            ∙ map_append layer_of s.links.items (link ∷ [])));
+          (c.push_reserved.ensures.items ∙ ap (λ links. links.items ++ link ∷ []) c.in-Ok.ensures.links)
+          ∙ map_append layer_of s.links.items (link ∷ [])));
       seals_are =
           kept_place is_sandboxed layer_of xs ys link place _ _ c.push_reserved.ensures.items
           (omega (arith, c.len-place.ensures, t.links.ok.0)) t.seals_are

@@ -16,7 +16,7 @@ invariant_of-self-in-Ok-1 g c =
           λ p j. fits_put (map layer_of s.links.items) (map layer_of c.put-2.new.links.items) s.unlisted i q p j
           (stands s.index.places p j) _ (sym c.is_at.ensures ∙ c.if-is_at.false) (c.in-Ok.ensures.names p j) (s.fits p j)
           (c.in_ok-note.ensures.noted p j ∙ ap (λ bs. stands s.index.places p j || (bytes_eq bs p && nat_eq j i))
-            (c.as_str.ensures.value ∙ c.in_ok-kept.ensures.cases));
+          (c.as_str.ensures.value ∙ c.in_ok-kept.ensures.cases));
       seals_are = s.seals_are ∙ sym c.in-Ok.ensures.seals;
       globals_are = s.globals_are ∙ sym c.in-Ok.ensures.globals;
     }
@@ -33,12 +33,12 @@ invariant_of-self-in-Err g c =
           λ p j. fits_kept (map layer_of s.links.items) (map layer_of c.put-2.new.links.items) s.unlisted i q p j
           (stands s.index.places p j) (stands c.note.new.self.places p j) _ (sym c.is_at.ensures ∙ c.if-is_at.false) same (s.fits p j)
           (c.in_ok-note.ensures.noted p j ∙ ap (λ bs. stands s.index.places p j || (bytes_eq bs p && nat_eq j i))
-            (c.as_str.ensures.value ∙ c.in_ok-kept.ensures.cases))
+          (c.as_str.ensures.value ∙ c.in_ok-kept.ensures.cases))
           (c.forget_absent.ensures p j
           ∙ ap (λ bs. stands c.note.new.self.places p j && not ((bytes_eq bs p
-            && is_none (own_at i (map layer_of c.as_slice.result.now) bs)) && nat_eq j i)) kept
+          && is_none (own_at i (map layer_of c.as_slice.result.now) bs)) && nat_eq j i)) kept
           ∙ ap (λ xs. stands c.note.new.self.places p j && not ((bytes_eq q p && is_none (own_at i (map layer_of xs) q)) && nat_eq j i))
-            c.as_slice.ensures.value);
+          c.as_slice.ensures.value);
       seals_are = s.seals_are ∙ ap (places_where is_sandboxed 0) (sym same);
       globals_are = s.globals_are ∙ ap (places_where is_global 0) (sym same);
     }

@@ -8,4 +8,4 @@ pub returns : goal.returns
 returns g c =
     let ls = map layer_of c.args.self.now.links.items in
     subst (LastGlobal ls) (sym (c.last_of.ensures ∙ last_of_places is_global ls c.args.self.now.globals.items c.args.self.now.globals_are))
-      (last_global_is ls)
+    (last_global_is ls)

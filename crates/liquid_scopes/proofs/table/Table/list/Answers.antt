@@ -24,7 +24,7 @@ invariant_of-self-in-Ok g c =
     record {
       fits = λ q j. fits_listed layer_of xs link q j c.in-Some.place _ _
           (own_within layer_of c.as_slice.result.now c.in-Some.place link q c.in-Some-get.ensures.lookup.3.0 c.in-Some-get.ensures.lookup.1
-            ∙ ap (λ ys. own_at c.in-Some.place (map layer_of ys) q) c.as_slice.ensures.value)
+          ∙ ap (λ ys. own_at c.in-Some.place (map layer_of ys) q) c.as_slice.ensures.value)
           (s.fits q j ∙ ap (λ u. listed_at (map layer_of xs) u q j) c.in-Some.is) (c.in-Ok.ensures.noted q j);
       seals_are = s.seals_are;
       globals_are = s.globals_are;

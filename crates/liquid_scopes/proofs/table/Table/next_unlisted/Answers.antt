@@ -26,5 +26,5 @@ pub returns-clause-fits : goal.returns-clause-fits
 returns-clause-fits g c = λ q j.
     let s = c.list.new.self in
     fits_push (map layer_of s.links.items) (layer_of c.args.next.now) s.unlisted q j c.len.result _
-      (omega (arith, c.len.ensures, s.links.ok.0) ∙ sym (map_length layer_of s.links.items)) c.in_ok-list.ensures.listed (s.fits q j)
+    (omega (arith, c.len.ensures, s.links.ok.0) ∙ sym (map_length layer_of s.links.items)) c.in_ok-list.ensures.listed (s.fits q j)
     ∙ ap (λ links. listed_at (map layer_of links.items ++ layer_of c.args.next.now ∷ []) (Some c.len.result) q j) c.in_ok-list.ensures.links

@@ -8,16 +8,16 @@ pub returns-in-Some-look_at-clause-seals : goal.returns-in-Some-look_at-clause-s
 returns-in-Some-look_at-clause-seals g c = λ v.
     let s = c.args.self.now in
     sealed_here v (map layer_of s.links.items) c.args.name.now c.listed-listed.result s.unlisted c.unlisted_over.result c.in-Some.place
-      c.unlisted_over.ensures c.in-Some.is c.listed-listed.ensures (sym (ap is_some c.in-Some-look_at.ensures.value))
+    c.unlisted_over.ensures c.in-Some.is c.listed-listed.ensures (sym (ap is_some c.in-Some-look_at.ensures.value))
 
 pub returns-in-None-look_at-clause-seals : goal.returns-in-None-look_at-clause-seals
 returns-in-None-look_at-clause-seals g c = λ v.
     let s = c.args.self.now in
     sealed_past v (map layer_of s.links.items) c.args.name.now c.listed-listed.result s.unlisted c.unlisted_over.result c.in-Some.place
-      c.unlisted_over.ensures c.in-Some.is c.listed-listed.ensures (sym (ap is_some c.in-None-look_at.ensures.value))
+    c.unlisted_over.ensures c.in-Some.is c.listed-listed.ensures (sym (ap is_some c.in-None-look_at.ensures.value))
 
 pub returns-in-None-clause-seals : goal.returns-in-None-clause-seals
 returns-in-None-clause-seals g c = λ v.
     let s = c.args.self.now in
     sealed_unasked v (map layer_of s.links.items) c.args.name.now c.listed-listed.result s.unlisted c.unlisted_over.result
-      c.unlisted_over.ensures c.in-None.is c.listed-listed.ensures
+    c.unlisted_over.ensures c.in-None.is c.listed-listed.ensures

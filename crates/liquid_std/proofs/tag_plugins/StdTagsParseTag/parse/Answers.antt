@@ -14,4 +14,4 @@ pub returns-in_err-parse-in-Library : goal.returns-in_err-parse-in-Library
 returns-in_err-parse-in-Library g c ts at =
     let p = err_from_is_err_and c.from_residual.result c.from_residual.ensures.1 in
     rw (c.in-Library.is, p.1, p.2) (then_refused (told c.in_err-parse-in-Library.field-0.0) _ (λ n. Ok (Library n))
-      (c.in_err-parse-in-Library.ensures ts at))
+    (c.in_err-parse-in-Library.ensures ts at))

@@ -7,5 +7,5 @@ use Rattle.liquid_tags.proofs.for_block.reuse.write_loop_second.Goals as goal
 pub returns-in_ok-write_loop-in-Some : goal.returns-in_ok-write_loop-in-Some
 returns-in_ok-write_loop-in-Some c = λ _.
     second_written _ _ _ _ c.write_loop.new.slot _ c.requires (subst (IsStrictlySortedBy string_cmp) (c.in-Some.ensures.keys_stay Nil)
-      (c.in-Some.ensures.update.2 Nil))
+    (c.in-Some.ensures.update.2 Nil))
     c.in-Some.ensures.key (search rules) (search rules) (search rules)

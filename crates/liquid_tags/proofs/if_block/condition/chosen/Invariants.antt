@@ -6,4 +6,4 @@ abbrev pub invariant-loop-condition : goal.invariant-loop-condition
 invariant-loop-condition g l =
     let v = g.R.Runtime.view l.runtime in
     (l.place ≡ l.condition-index) × (chosen v 0 (map condition_of l.conditions) ≡ chosen v l.place
-      (map condition_of (drop l.condition-index l.conditions)))
+    (map condition_of (drop l.condition-index l.conditions)))

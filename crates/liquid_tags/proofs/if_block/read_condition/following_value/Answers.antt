@@ -32,7 +32,7 @@ returns-in_ok-right-in-Some-comparison_of c ts at =
     subst (λ m. Gives condition_of c.alone.result m)
     (sym (compared (expression_of c.args.left) ts.left given.0 c.in-Some-comparison_of.comparison given.1 fits
     ∙ ap (λ r. ok_then r (λ value. alone (Compares (expression_of c.args.left) c.in-Some-comparison_of.comparison value.0) value.1))
-      taken.1))
+    taken.1))
     (c.alone.ensures taken.0 taken.2)
 
 pub returns-in_err-right-in-Some-comparison_of : goal.returns-in_err-right-in-Some-comparison_of
@@ -44,5 +44,5 @@ returns-in_err-right-in-Some-comparison_of c ts at =
     rw (p.1, p.2) (subst (λ m. IfSome (told error) (λ r. m ≡ Err r))
     (sym (compared (expression_of c.args.left) ts.left given.0 c.in-Some-comparison_of.comparison given.1 fits))
     (then_refused {B = ConditionShape} (told error) (next_as expect_value given.0.1)
-      (λ value. alone (Compares (expression_of c.args.left) c.in-Some-comparison_of.comparison value.0) value.1)
-      (c.in_err-right-in-Some-comparison_of.ensures.value given.0.1 given.2.left)))
+    (λ value. alone (Compares (expression_of c.args.left) c.in-Some-comparison_of.comparison value.0) value.1)
+    (c.in_err-right-in-Some-comparison_of.ensures.value given.0.1 given.2.left)))

@@ -15,7 +15,7 @@ pairs-preserved c ts at =
       taken.0,
       taken.2,
       pair_read (map pair_of c.pairs.pairs.items) _ so_far.0.left given.0 (pair_of c.in_ok-pair.pair) taken.0 tt
-        (pairs_given ts.left) so_far.2 given.1 (c.in_ok-read_comma.ensures given.0.0 given.2.token_is) taken.1
+          (pairs_given ts.left) so_far.2 given.1 (c.in_ok-read_comma.ensures given.0.0 given.2.token_is) taken.1
           (ap (map pair_of) c.in_ok-push.ensures.items ∙ map-append pair_of c.pairs.pairs.items (c.in_ok-pair.pair ∷ [])),
     )
 
@@ -25,7 +25,7 @@ returns-in_err-pair c ts at =
     let given = c.in-Some.ensures.value so_far.0 so_far.1 in
     let p = err_from_is_err_and c.from_residual-in_err-pair.result c.from_residual-in_err-pair.ensures.1 in
     rw (p.1, p.2) (pair_refused (map pair_of c.pairs.pairs.items) so_far.0.left given.0 tt (told c.in_err-pair.field-0.0)
-      (pairs_given ts.left)
+    (pairs_given ts.left)
     so_far.2 given.1 (c.in_ok-read_comma.ensures given.0.0 given.2.token_is) (c.in_err-pair.ensures.value given.0.1 given.2.left))
 
 pub returns-in_err-read_comma : goal.returns-in_err-read_comma
@@ -34,7 +34,7 @@ returns-in_err-read_comma c ts at =
     let given = c.in-Some.ensures.value so_far.0 so_far.1 in
     let p = err_from_is_err_and c.from_residual.result c.from_residual.ensures.1 in
     rw (p.1, p.2) (comma_refused (map pair_of c.pairs.pairs.items) so_far.0.left given.0 (told c.in_err-read_comma.field-0.0)
-      (pairs_given ts.left)
+    (pairs_given ts.left)
     so_far.2 given.1 (c.in_err-read_comma.ensures given.0.0 given.2.token_is))
 
 pub returns : goal.returns

@@ -10,7 +10,7 @@ use Rattle.liquid_tags.proofs.partial_call.read_call.read_pairs.Given as goal
 abbrev pub invariant-pairs : goal.invariant-pairs
 invariant-pairs l =
     (ts : Tokens) → AreTokens l.fn.tokens ts → (rest : Tokens) × AreTokens l.tokens rest
-      × (pairs_given ts.left ≡ read_on (map pair_of l.pairs.items) rest.left)
+    × (pairs_given ts.left ≡ read_on (map pair_of l.pairs.items) rest.left)
 
 abbrev pub decreases-pairs : goal.decreases-pairs
 decreases-pairs l = bytes_left l.tokens

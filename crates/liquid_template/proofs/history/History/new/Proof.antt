@@ -33,6 +33,6 @@ new_spec 𝓤 𝓛 𝓜 𝓡 wired =
     sets ! (agg ! (no_more !)) refl (tt, tt) $ sets ! (agg ! (and_then ! (get ! refl) (no_more !))) refl (tt, (tt, tt)) $
     returns ! (look_at ! 0 refl) $ free_all ! refl $
     pure_i ! (R.own_val empty (stored ∷ [])) ((λ vss. (tt, ((λ uss. (tt, tt)), tt))), tt)
-      (((vstruct vnil ∷ [], tt), (refl, ((tt, (refl, tt)), tt))), tt) $
+    (((vstruct vnil ∷ [], tt), (refl, ((tt, (refl, tt)), tt))), tt) $
     suffices ! _ (ends_at 𝓛 f.ended tt c ((κs, qs, bounds, a, tt), g) stored empty tt tt) $ says ! both $
     nothing ! $ join ! $ nothing ! $ done !))

@@ -9,4 +9,4 @@ pub returns-else-bytes : goal.returns-else-bytes
 returns-else-bytes g c =
     let some : 0 < length c.args.piece.now = search rules in
     rw c.refuse.ensures (gated_refused _ _ _ _ _ _ c.if-bytes.false some c.bytes.ensures.bytes c.bytes.ensures.past c.bytes.ensures.turns
-      c.stopped_error.ensures)
+    c.stopped_error.ensures)

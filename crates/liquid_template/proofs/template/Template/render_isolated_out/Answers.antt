@@ -27,13 +27,13 @@ pub returns-clause-renders : goal.returns-clause-renders
 returns-clause-renders g c =
     (isolated_renders _ _ _ _ _ _ _ _ _ _ _ _ _ _ _ _
     c.in_ok-name.ensures c.in_ok-push.ensures.ok c.in_ok-push.ensures.opens c.render_out-answer.ensures.owes c.pop.ensures.ends
-      (rw c.in_ok-push.ensures.store at c.render_out-answer.ensures.renders)).renders
+    (rw c.in_ok-push.ensures.store at c.render_out-answer.ensures.renders)).renders
 
 pub returns-clause-isolated : goal.returns-clause-isolated
 returns-clause-isolated g c =
     (isolated_renders _ _ _ _ _ _ _ _ _ _ _ _ _ _ _ _
     c.in_ok-name.ensures c.in_ok-push.ensures.ok c.in_ok-push.ensures.opens c.render_out-answer.ensures.owes c.pop.ensures.ends
-      (rw c.in_ok-push.ensures.store at c.render_out-answer.ensures.renders)).isolated
+    (rw c.in_ok-push.ensures.store at c.render_out-answer.ensures.renders)).isolated
 
 pub returns-in_err-name-clause-kept : goal.returns-in_err-name-clause-kept
 returns-in_err-name-clause-kept g c = kept_still _ _ refl
@@ -47,4 +47,4 @@ returns-clause-kept g c =
     kept_after v _ _ _ _ _ _ c.in_ok-push.ensures.opens c.render_out-answer.ensures.owes c.pop.ensures.ends
     (isolated_renders _ _ _ _ _ v _ _ _ _ _ _ _ _ _ _
     c.in_ok-name.ensures c.in_ok-push.ensures.ok c.in_ok-push.ensures.opens c.render_out-answer.ensures.owes c.pop.ensures.ends
-      (rw c.in_ok-push.ensures.store at c.render_out-answer.ensures.renders)).renders.frames
+    (rw c.in_ok-push.ensures.store at c.render_out-answer.ensures.renders)).renders.frames

@@ -7,5 +7,5 @@ use Rattle.liquid_views.proofs.array.VecValueView.write_render.Given as goal
 abbrev pub invariant-loop-item : goal.invariant-loop-item
 invariant-loop-item g l =
     (done : List ℕ) × (render_items (items_by g.T.ValueView.tree l.self.items) ≡ done
-      ++ render_items (items_by g.T.ValueView.tree (drop l.item-index l.item-items)))
-      × (IsPlainFormatter l.initial.f → HasWritten g.W.Write.write_str_gives l.initial.f done l.f)
+    ++ render_items (items_by g.T.ValueView.tree (drop l.item-index l.item-items)))
+    × (IsPlainFormatter l.initial.f → HasWritten g.W.Write.write_str_gives l.initial.f done l.f)

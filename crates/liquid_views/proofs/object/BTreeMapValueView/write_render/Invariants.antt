@@ -7,5 +7,5 @@ use Rattle.liquid_views.proofs.object.BTreeMapValueView.write_render.Given as go
 abbrev pub invariant-loop-key : goal.invariant-loop-key
 invariant-loop-key g l =
     (done : List ℕ) × (render_members (members_by g.K.ObjectIndex.index g.V.ValueView.tree l.self.entries) ≡ done
-      ++ render_members (members_by g.K.ObjectIndex.index g.V.ValueView.tree l.key-iterator))
-      × (IsPlainFormatter l.initial.f → HasWritten g.W.Write.write_str_gives l.initial.f done l.f)
+    ++ render_members (members_by g.K.ObjectIndex.index g.V.ValueView.tree l.key-iterator))
+    × (IsPlainFormatter l.initial.f → HasWritten g.W.Write.write_str_gives l.initial.f done l.f)

@@ -5,6 +5,8 @@ use Rattle.std_filters.proofs.call.FilterCallFilter.evaluate.Goals as goal
 
 pub returns : goal.returns
 returns g c =
-    rw (call_answer_erased g.K.FilterKind.sense (call_of c.args.self.now) (cow_view c.args.input.now) (g.R.Runtime.view c.args.runtime.now),
-      ← c.as_view.ensures)
+    rw (
+      call_answer_erased g.K.FilterKind.sense (call_of c.args.self.now) (cow_view c.args.input.now) (g.R.Runtime.view c.args.runtime.now),
+      ← c.as_view.ensures,
+    )
     c.answer.ensures

@@ -9,9 +9,12 @@ pub returns-then-is_end-clause-open : goal.returns-then-is_end-clause-open
 returns-then-is_end-clause-open c is_open es cover =
     let found = c.in-Some.ensures.found in
     let over = c.in_ok-element-in-Some.ensures c.in-Some.following.now found.0 found.1 found.2 in
-    let out = first_out c.args.self.now.source.now c.args.self.now.end_name.now _ c.in-Some.following.now found.0 es found.1 cover over.0 in (
+    let out =
+    first_out c.args.self.now.source.now c.args.self.now.end_name.now _ c.in-Some.following.now found.0 es found.1 cover
+    over.0 in (
       (
-        out.0 ∙ (c.in_ok-is_end-in-Some.ensures _ c.in-Some.following.now found.0 over.1 ∙ ap (λ b. Ok (end_or found.0 b)) c.if-is_end.true),
+        out.0 ∙ (c.in_ok-is_end-in-Some.ensures _ c.in-Some.following.now found.0 over.1
+            ∙ ap (λ b. Ok (end_or found.0 b)) c.if-is_end.true),
         c.if-is_end.true,
       ),
       out.1,
@@ -21,7 +24,9 @@ pub returns-else-is_end-clause-open : goal.returns-else-is_end-clause-open
 returns-else-is_end-clause-open c is_open es cover =
     let found = c.in-Some.ensures.found in
     let over = c.in_ok-element-in-Some.ensures c.in-Some.following.now found.0 found.1 found.2 in
-    let out = first_out c.args.self.now.source.now c.args.self.now.end_name.now _ c.in-Some.following.now found.0 es found.1 cover over.0 in (
+    let out =
+    first_out c.args.self.now.source.now c.args.self.now.end_name.now _ c.in-Some.following.now found.0 es found.1 cover
+    over.0 in (
       (
         found.0,
         out.0 ∙ (c.in_ok-is_end-in-Some.ensures _ c.in-Some.following.now found.0 over.1

@@ -11,9 +11,9 @@ returns-in_ok-item-in-Some-clause-first c =
     let listed = c.args.self.now in
     let values = c.as_array.result.now.items in
     let found : slice_get values listed.place ≡ Some c.in-Some.item.now =
-        ap (λ xs. slice_get xs listed.place) (sym c.deref.ensures.value)
-        ∙ slice_get-get_or c.deref.result.now listed.place c.in-Some.item.now c.in-Some.ensures.lookup.3.0
-        ∙ ap Some (sym c.in-Some.ensures.lookup.1) in
+    ap (λ xs. slice_get xs listed.place) (sym c.deref.ensures.value)
+    ∙ slice_get-get_or c.deref.result.now listed.place c.in-Some.item.now c.in-Some.ensures.lookup.3.0
+    ∙ ap Some (sym c.in-Some.ensures.lookup.1) in
     let copied : tree_of c.in_ok-item-in-Some.item ≡ tree_of c.in-Some.item.now = search rules in
     ap Some copied ∙ sym (first_left values (array_view listed.array) listed.place c.as_array.ensures.value ∙ ap (option_map tree_of) found)
 
@@ -25,8 +25,8 @@ returns-in-None-clause-first c =
     let listed = c.args.self.now in
     let values = c.as_array.result.now.items in
     let none : slice_get values listed.place ≡ None =
-        ap (λ xs. slice_get xs listed.place) (sym c.deref.ensures.value)
-        ∙ slice_get_past c.deref.result.now listed.place c.in-None.ensures.lookup.3 in
+    ap (λ xs. slice_get xs listed.place) (sym c.deref.ensures.value)
+    ∙ slice_get_past c.deref.result.now listed.place c.in-None.ensures.lookup.3 in
     sym (first_left values (array_view listed.array) listed.place c.as_array.ensures.value ∙ ap (option_map tree_of) none)
 
 pub returns-in-None-clause-rest : goal.returns-in-None-clause-following
@@ -34,6 +34,6 @@ returns-in-None-clause-rest c =
     let listed = c.args.self.now in
     let values = c.as_array.result.now.items in
     let none : slice_get values listed.place ≡ None =
-        ap (λ xs. slice_get xs listed.place) (sym c.deref.ensures.value)
-        ∙ slice_get_past c.deref.result.now listed.place c.in-None.ensures.lookup.3 in
+    ap (λ xs. slice_get xs listed.place) (sym c.deref.ensures.value)
+    ∙ slice_get_past c.deref.result.now listed.place c.in-None.ensures.lookup.3 in
     none_left values (array_view listed.array) listed.place c.as_array.ensures.value none
