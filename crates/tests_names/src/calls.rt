@@ -1,13 +1,13 @@
 //! Each call of scopes, over both forms.
 ghost use Rattle.std.specs.Prelude.{◌≡◌};
 
-use crate::framed::{Base, Body, add_line, framed, nothing_known, over};
+use crate::framed::{Base, Body, add_line, framed, nothing_known, over_both};
 use crate::made;
 use crate::values::numbers;
 use liquid_error::Error;
 use liquid_runtime::{Frame, Interrupt, Runtime, Scopes};
 use liquid_scalar::ScalarCow;
-use liquid_scopes::{ChainedScopes, FlatScopes};
+use liquid_scopes::FlatScopes;
 use liquid_value::Value;
 use std::alloc::{AllocError, Global};
 use std::test::Fail;
@@ -114,14 +114,6 @@ fn interrupts<S: Scopes>(scopes: &mut S, log: &mut String) -> Result<(), Error>
 const ANSWERS: &str = "page 1 32 true false false false true true a g i\
     liquid: Unknown index\n  with:\n    variable=a\n    requested index=x\n    available indexes=\nfirst then";
 
-/// Returns `true` if scopes of one form return what is expected.
-fn answers_alike<S: Scopes>(alloc: Global, base: S::Base) -> Result<bool, Error>
-where
-    S::Base: Drop,
-{
-    Ok(over::<S, Calls>(alloc, base, &Calls)?.as_str() == ANSWERS)
-}
-
 /// Returns `true` if scopes over a borrowed runtime have no partials.
 fn borrowed_has_no_partials(alloc: Global) -> bool {
     let mut base = nothing_known(alloc);
@@ -134,16 +126,18 @@ fn borrowed_has_no_partials(alloc: Global) -> bool {
 #[test]
 fn each_call_answers_alike(rt: HostRuntime) -> Result<(), Fail> {
     let alloc = rt.alloc();
+    let bases = (nothing_known(alloc), nothing_known(alloc));
+    let answers = over_both(alloc, bases, &Calls)?;
     holds(
-        answers_alike::<ChainedScopes<Base>>(alloc, nothing_known(alloc))?,
-        "chained scopes answer as told",
-    )?;
+        answers.0.as_str() == ANSWERS && answers.1.as_str() == ANSWERS,
+        "scopes answer as told",
+    )
+}
+
+#[test]
+fn a_borrowed_runtime_has_no_partials(rt: HostRuntime) -> Result<(), Fail> {
     holds(
-        answers_alike::<FlatScopes<Base>>(alloc, nothing_known(alloc))?,
-        "flat scopes answer as told",
-    )?;
-    holds(
-        borrowed_has_no_partials(alloc),
+        borrowed_has_no_partials(rt.alloc()),
         "a borrowed runtime has no partials",
     )
 }

@@ -6,6 +6,7 @@ use crate::values::numbers;
 use liquid_error::Error;
 use liquid_runtime::{BuiltRuntime, Frame, RuntimeBuilder, Scopes};
 use liquid_scalar::ScalarCow;
+use liquid_scopes::{ChainedScopes, FlatScopes};
 use liquid_value::ValueCow;
 use liquid_views::ValueView;
 use std::alloc::{AllocError, Global};
@@ -68,6 +69,18 @@ where
     let mut log = String::new(alloc);
     run_over::<S, B>(alloc, base, body, &mut log)?;
     Ok(log)
+}
+
+/// Runs a body over scopes of both forms, each over a base of its own, and returns what it wrote down over each. No other
+/// test of both forms names them with their base: each function that does is checked against all that they promise.
+pub(crate) fn over_both<B: Body>(
+    alloc: Global,
+    bases: (Base, Base),
+    body: &B,
+) -> Result<(String, String), Error> {
+    let chained = over::<ChainedScopes<Base>, B>(alloc, bases.0, body)?;
+    let flat = over::<FlatScopes<Base>, B>(alloc, bases.1, body)?;
+    Ok((chained, flat))
 }
 
 /// Writes a line down, if it could be made.

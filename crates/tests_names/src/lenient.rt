@@ -1,7 +1,7 @@
 //! What paths lead to under frames, in a strict runtime and in a lenient one, over both forms of scopes.
 ghost use Rattle.std.specs.Prelude.{◌≡◌};
 
-use crate::framed::{Base, Body};
+use crate::framed::{Base, Body, over_both};
 use crate::made;
 use crate::paths::path_of;
 use crate::values::{answer_text, numbers, text};
@@ -10,7 +10,6 @@ use liquid_json::to_object;
 use liquid_paths::find;
 use liquid_runtime::{Frame, Runtime, RuntimeBuilder, Scopes};
 use liquid_scalar::ScalarCow;
-use liquid_scopes::{ChainedScopes, FlatScopes};
 use liquid_value::Value;
 use liquid_views::ValueView;
 use serde_json::Value as Json;
@@ -131,21 +130,17 @@ fn under<S: Scopes, B: Body>(
     }
 }
 
-/// Runs a body under these frames over scopes of one form, and returns what it wrote down.
-fn run_under<S: Scopes, B: Body>(
-    alloc: Global,
-    base: S::Base,
-    frames: &[Json],
-    body: &B,
-    log: &mut String,
-) -> Result<(), Error>
-where
-    S::Base: Drop,
-{
-    let mut scopes = S::new(alloc, base);
-    let answer = under(alloc, &mut scopes, frames, body, log);
-    let _base = scopes.into_base();
-    answer
+/// A body under these frames.
+#[derive(Drop)]
+struct WithFrames<'r, B> {
+    frames: &'r [Json],
+    body: &'r B,
+}
+
+impl<B: Body> Body for WithFrames<'_, B> {
+    fn run<S: Scopes>(&self, alloc: Global, scopes: &mut S, log: &mut String) -> Result<(), Error> {
+        under(alloc, scopes, self.frames, self.body, log)
+    }
 }
 
 /// Sets a name to 4, unless it is empty.
@@ -281,44 +276,41 @@ fn based(alloc: Global, lenient: bool) -> Result<Base, AllocError> {
     )
 }
 
-/// Returns what a body writes down under these frames, over scopes of both forms.
-fn noted<B: Body>(
+/// Returns `true` if a body writes nothing down under these frames, over scopes of both forms.
+fn notes_nothing<B: Body>(
     alloc: Global,
     lenient: bool,
     frames: &[Json],
     body: &B,
-) -> Result<String, Error> {
-    let mut log = String::new(alloc);
-    let base = based(alloc, lenient)?;
-    run_under::<ChainedScopes<Base>, B>(alloc, base, frames, body, &mut log)?;
-    let base = based(alloc, lenient)?;
-    run_under::<FlatScopes<Base>, B>(alloc, base, frames, body, &mut log)?;
-    Ok(log)
+) -> Result<bool, Error> {
+    let bases = (based(alloc, lenient)?, based(alloc, lenient)?);
+    let noted = over_both(alloc, bases, &WithFrames { frames, body })?;
+    Ok(noted.0.is_empty() && noted.1.is_empty())
 }
 
-/// Returns what is written down of a row of paths.
-fn asked(alloc: Global, lenient: bool, row: &Line) -> Result<String, Fail> {
+/// Returns `true` if the path of a row has the expected result.
+fn is_asked(alloc: Global, lenient: bool, row: &Line) -> Result<bool, Fail> {
     let path = path_of(alloc, row.list(2)?)?;
     let asks = Asks {
         set: row.text(1)?,
         path: path.as_slice(),
         strict: row.text(3)?,
     };
-    Ok(noted(alloc, lenient, row.list(0)?.as_slice(), &asks)?)
+    Ok(notes_nothing(alloc, lenient, row.list(0)?.as_slice(), &asks)?)
 }
 
-/// Returns what is written down of a row of names.
-fn listed(alloc: Global, lenient: bool, row: &Line) -> Result<String, Fail> {
+/// Returns `true` if the names seen are those of a row.
+fn listed(alloc: Global, lenient: bool, row: &Line) -> Result<bool, Fail> {
     let lists = Lists {
         set: row.text(1)?,
         names: row.list(2)?.as_slice(),
     };
-    Ok(noted(alloc, lenient, row.list(0)?.as_slice(), &lists)?)
+    Ok(notes_nothing(alloc, lenient, row.list(0)?.as_slice(), &lists)?)
 }
 
 /// Returns `true` if the path of a row has the expected result, in a strict runtime and in a lenient one.
 fn is_answered(alloc: Global, row: &Line) -> Result<bool, Fail> {
-    Ok(asked(alloc, false, row)?.is_empty() && asked(alloc, true, row)?.is_empty())
+    Ok(is_asked(alloc, false, row)? && is_asked(alloc, true, row)?)
 }
 
 #[test]
@@ -328,7 +320,7 @@ fn a_path_without_a_value_is_nil_in_a_lenient_runtime(rt: HostRuntime) -> Result
 
 /// Returns `true` if the names seen are those of a row, in a strict runtime and in a lenient one.
 fn is_listed(alloc: Global, row: &Line) -> Result<bool, Fail> {
-    Ok(listed(alloc, false, row)?.is_empty() && listed(alloc, true, row)?.is_empty())
+    Ok(listed(alloc, false, row)? && listed(alloc, true, row)?)
 }
 
 #[test]

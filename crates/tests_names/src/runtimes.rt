@@ -266,10 +266,8 @@ fn a_global_is_set_below_a_frame(rt: HostRuntime) -> Result<(), Fail> {
     )
 }
 
-type Sandbox<'r> = SandboxedStackFrame<&'r mut BuiltRuntime<Marks, u8>>;
-
 /// Returns `true` if a sandbox has its own registers, which are then marked.
-fn marks_its_own(sandbox: &mut Sandbox<'_>) -> bool {
+fn marks_its_own<R: Runtime<Register = Marks>>(sandbox: &mut R) -> bool {
     let is_fresh = !sandbox.registers().interrupt.interrupted()
         && sandbox.registers().value.count == 0;
     sandbox.registers_mut().value.count = 2;
@@ -278,7 +276,7 @@ fn marks_its_own(sandbox: &mut Sandbox<'_>) -> bool {
 }
 
 /// Returns `true` if an index variable is new, is found by `get_index`, and is not a name in a sandbox.
-fn sets_index(alloc: Global, sandbox: &mut Sandbox<'_>) -> Result<bool, Error> {
+fn sets_index<R: Runtime>(alloc: Global, sandbox: &mut R) -> Result<bool, Error> {
     let is_new = sandbox
         .set_index(text(alloc, "i")?, Value::scalar(1i64))?
         .is_none();
@@ -286,13 +284,21 @@ fn sets_index(alloc: Global, sandbox: &mut Sandbox<'_>) -> Result<bool, Error> {
 }
 
 /// Returns `true` if a sandbox has its own registers, and sets an index variable below.
+fn is_a_sandbox<R: Runtime<Register = Marks>>(
+    alloc: Global,
+    sandbox: &mut R,
+) -> Result<bool, Error> {
+    Ok(marks_its_own(sandbox) && sets_index(alloc, sandbox)?)
+}
+
+/// Returns `true` if a sandbox over a runtime is one.
 fn sandbox_holds(alloc: Global, runtime: &mut BuiltRuntime<Marks, u8>) -> Result<bool, Error> {
     let mut sandbox = SandboxedStackFrame::new(runtime, Object::new(alloc));
-    Ok(marks_its_own(&mut sandbox) && sets_index(alloc, &mut sandbox)?)
+    is_a_sandbox(alloc, &mut sandbox)
 }
 
 /// Returns `true` if the registers are as they were before the sandbox: unmarked, with one interrupt.
-fn keeps_registers(runtime: &mut BuiltRuntime<Marks, u8>) -> bool {
+fn keeps_registers<R: Runtime<Register = Marks>>(runtime: &mut R) -> bool {
     runtime.registers().value.count == 0
         && runtime.registers_mut().interrupt.reset() == Some(Interrupt::Break)
         && !runtime.registers().interrupt.interrupted()
