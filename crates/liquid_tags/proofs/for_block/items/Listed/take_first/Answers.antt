@@ -17,7 +17,7 @@ returns-in_ok-item-in-Some-clause-first c =
     let copied : tree_of c.in_ok-item-in-Some.item ≡ tree_of c.in-Some.item.now = search rules in
     ap Some copied ∙ sym (first_left values (array_view listed.array) listed.place c.as_array.ensures.value ∙ ap (option_map tree_of) found)
 
-pub returns-in_ok-item-in-Some-clause-rest : goal.returns-in_ok-item-in-Some-clause-following
+pub returns-in_ok-item-in-Some-clause-rest : goal.returns-in_ok-item-in-Some-clause-rest
 returns-in_ok-item-in-Some-clause-rest c = rest_after (trees (array_view c.args.self.now.array)) c.args.self.now.place
 
 pub returns-in-None-clause-first : goal.returns-in-None-clause-first
@@ -29,7 +29,7 @@ returns-in-None-clause-first c =
     ∙ slice_get_past c.deref.result.now listed.place c.in-None.ensures.lookup.3 in
     sym (first_left values (array_view listed.array) listed.place c.as_array.ensures.value ∙ ap (option_map tree_of) none)
 
-pub returns-in-None-clause-rest : goal.returns-in-None-clause-following
+pub returns-in-None-clause-rest : goal.returns-in-None-clause-rest
 returns-in-None-clause-rest c =
     let listed = c.args.self.now in
     let values = c.as_array.result.now.items in
