@@ -77,8 +77,8 @@ module _ (options : Options) (ending : Option (List ℕ)) (template globals : Li
         (λ partials. Finishes options bytes names partials at at status)))
 
     with_template : Following (string_bytes text) → Execution
-    with_template following =
-        text_follows (known template) _ Stop _ _ (λ never. absurd never) (λ bytes same. subst Following same following) there
+    with_template destination =
+        text_follows (known template) _ Stop _ _ (λ never. absurd never) (λ bytes same. subst Following same destination) there
 
     pub no_json : (fault : Fault) → status ≡ fault_status fault → WithText (known globals) (Stops {A = String Global} (Err fault))
         (λ bytes. Brings (string_bytes {Z = Global}) bytes (Err fault)) → Execution

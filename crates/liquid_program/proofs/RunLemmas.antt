@@ -57,20 +57,20 @@ appends_kept (Some x) (Some y) (Some z) more appended kept = kept ∙ appended
 pub Printed-settled : (Done : Sunk → Sunk → ℕ → Type 0) (start stop : Sunk)
     (before between after : Option (List ℕ)) (answered status : ℕ) (flushed : Bool)
     → Done start stop answered
-    → start.taken ≡ [] → start.failures ≡ 0 → start.following ≡ before → stop.lent ≡ start.lent → Grows start stop
-    → between ≡ stop.following → Keeps between after
+    → start.taken ≡ [] → start.failures ≡ 0 → start.destination ≡ before → stop.lent ≡ start.lent → Grows start stop
+    → between ≡ stop.destination → Keeps between after
     → status ≡ settled answered flushed → Printed Done before after status
 Printed-settled Done start stop before between after answered status flushed done nothing none same_before same_lent grows same_between kept
     is =
     let begins : start ≡ sunk [] 0 before start.lent =
-    ap (λ t. sunk t start.failures start.following start.lent) nothing ∙ ap (λ n. sunk [] n start.following start.lent) none
+    ap (λ t. sunk t start.failures start.destination start.lent) nothing ∙ ap (λ n. sunk [] n start.destination start.lent) none
     ∙ ap (λ b. sunk [] 0 b start.lent) same_before in
-    let ends : stop ≡ sunk stop.taken stop.failures stop.following start.lent =
-    ap (λ l. sunk stop.taken stop.failures stop.following l) same_lent in
+    let ends : stop ≡ sunk stop.taken stop.failures stop.destination start.lent =
+    ap (λ l. sunk stop.taken stop.failures stop.destination l) same_lent in
     record {
       taken = stop.taken;
       failures = stop.failures;
-      following = stop.following;
+      destination = stop.destination;
       lent = start.lent;
       answered = answered;
       flushed = flushed;
@@ -78,9 +78,9 @@ Printed-settled Done start stop before between after answered status flushed don
           subst (λ t. Appends before after t) (sym (grows.taken_is ∙ ap (λ t. t ++ grows.more) nothing))
           (appends_kept before between after grows.more
           (subst (λ b. Appends before b grows.more) (sym same_between)
-          (subst (λ b. Appends b stop.following grows.more) same_before grows.after_is)) kept);
+          (subst (λ b. Appends b stop.destination grows.more) same_before grows.after_is)) kept);
       done =
-          subst (λ s. Done s (sunk stop.taken stop.failures stop.following start.lent) answered) begins
+          subst (λ s. Done s (sunk stop.taken stop.failures stop.destination start.lent) answered) begins
           (subst (λ s. Done start s answered) ends done);
       status_is = is;
     }

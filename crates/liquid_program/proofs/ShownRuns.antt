@@ -48,10 +48,10 @@ shown_whole r output true is done = inl (refl, (is, done))
 shown_whole r output false is done = inr (refl, whole_begins r output is)
 
 -- the content of a sink's destination before and after the call, and what the sink borrows
-module _ (following after_after : Option (List ℕ)) (lent : List ℕ) where
+module _ (destination after_after : Option (List ℕ)) (lent : List ℕ) where
   -- a sink that has taken nothing yet
   abbrev fresh : Sunk
-  fresh = sunk [] 0 following lent
+  fresh = sunk [] 0 destination lent
 
   abbrev filled : List ℕ → ℕ → Sunk
   filled output failures = sunk output failures after_after lent
@@ -138,7 +138,7 @@ module _ (files left : List ℕ → Option (List ℕ)) (folders : Bool → List 
       let same : p.taken ≡ output = sym p.appended in
       subst (λ s. ShowsCommand options ending paths files folders output s) (sym p.status_is)
       (subst (λ o. ShowsCommand options ending paths files folders o (settled p.answered p.flushed)) same
-      (shown_command (Some []) p.following p.lent options ending paths files folders p.taken p.failures p.answered p.flushed p.done))
+      (shown_command (Some []) p.destination p.lent options ending paths files folders p.taken p.failures p.answered p.flushed p.done))
 
   printed_output : (after : Option (List ℕ)) → Some output ≡ after → after ≡ Some [] → output ≡ []
   printed_output after same is = ap (λ o. unwrap_or o output) (same ∙ is)

@@ -170,7 +170,7 @@ fn execute_one<'w, F: Folder, K: Sink>(
         (K.sunk sink.old) (K.sunk sink.new) (exit_status result)) }
     ensures same { F.known files.new ≡ F.known files.old }
     ensures requests { F.requests files.new ≡ also (F.requests files.old) (reading template.now ∷ []) }
-    ensures following { Grows (K.sunk sink.old) (K.sunk sink.new) }
+    ensures destination { Grows (K.sunk sink.old) (K.sunk sink.new) }
     ensures borrows { (K.sunk sink.new).lent ≡ (K.sunk sink.old).lent }
 {
     let text = text_of(alloc, files, template)?;

@@ -37,7 +37,7 @@ pub fn render_over<K: Sink>(
 ) -> Result<(), Error>
     ensures renders { Renders options text.now (names_of globals) partials
         (K.sunk sink.old) (K.sunk sink.new) result }
-    ensures following { Grows (K.sunk sink.old) (K.sunk sink.new) }
+    ensures destination { Grows (K.sunk sink.old) (K.sunk sink.new) }
     ensures borrows { (K.sunk sink.new).lent ≡ (K.sunk sink.old).lent }
 {
     let page = page_options(options);
@@ -60,7 +60,7 @@ fn render_plain<K: Sink>(
 ) -> Result<(), Error>
     ensures renders { RendersIn false page text.now (names_of globals) partials
         (K.sunk sink.old) (K.sunk sink.new) result }
-    ensures following { Grows (K.sunk sink.old) (K.sunk sink.new) }
+    ensures destination { Grows (K.sunk sink.old) (K.sunk sink.new) }
     ensures borrows { (K.sunk sink.new).lent ≡ (K.sunk sink.old).lent }
 {
     match plain_language(alloc) {
@@ -83,7 +83,7 @@ fn render_standard<K: Sink>(
 ) -> Result<(), Error>
     ensures renders { RendersIn true page text.now (names_of globals) partials
         (K.sunk sink.old) (K.sunk sink.new) result }
-    ensures following { Grows (K.sunk sink.old) (K.sunk sink.new) }
+    ensures destination { Grows (K.sunk sink.old) (K.sunk sink.new) }
     ensures borrows { (K.sunk sink.new).lent ≡ (K.sunk sink.old).lent }
 {
     match standard_language(alloc) {

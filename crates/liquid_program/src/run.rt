@@ -105,7 +105,7 @@ pub fn run_to<F: Folder, K: Sink, E: Write>(
     ensures requests { FollowsWords (map string_bytes words.now) (F.known files.old) (F.listed files.old)
         (F.requests files.old) (F.requests files.new) result }
     ensures quiet { result ≡ 0 → err.new ≡ err.old }
-    ensures following { Grows (K.sunk sink.old) (K.sunk sink.new) }
+    ensures destination { Grows (K.sunk sink.old) (K.sunk sink.new) }
     ensures borrows { (K.sunk sink.new).lent ≡ (K.sunk sink.old).lent }
 {
     match Command::from_words(words) {
@@ -217,7 +217,7 @@ fn execute_or_write<'w, F: Folder, K: Sink>(
     ensures requests { WhereKnown (F.known files.old) (F.listed files.old) (λ all folders. Follows
         (command_steps all folders (asked_of command.entry).paths (asked_of command.entry).choices.ending)
         (F.requests files.old) (F.requests files.new) result) }
-    ensures following { Grows (K.sunk sink.old) (K.sunk sink.new) }
+    ensures destination { Grows (K.sunk sink.old) (K.sunk sink.new) }
     ensures borrows { (K.sunk sink.new).lent ≡ (K.sunk sink.old).lent }
 {
     match command.choices.output {
@@ -293,7 +293,7 @@ fn execute<'w, F: Folder, K: Sink>(
     ensures requests { WhereKnown (F.known files.old) (F.listed files.old) (λ all folders. Follows
         (command_steps all folders (asked_of command.entry).paths (asked_of command.entry).choices.ending)
         (F.requests files.old) (F.requests files.new) result) }
-    ensures following { Grows (K.sunk sink.old) (K.sunk sink.new) }
+    ensures destination { Grows (K.sunk sink.old) (K.sunk sink.new) }
     ensures borrows { (K.sunk sink.new).lent ≡ (K.sunk sink.old).lent }
 {
     let Command { choices, paths } = command;

@@ -74,10 +74,10 @@ ExecutesOne options template globals partials known before after status =
 pub record Printed (Done : Sunk → Sunk → ℕ → Type 0) (before after : Option (List ℕ)) (status : ℕ) : Type 0 where
   pub taken : List ℕ
   pub failures : ℕ
-  pub following : Option (List ℕ)
+  pub destination : Option (List ℕ)
   pub lent : List ℕ
   pub answered : ℕ
   pub flushed : Bool
   pub appended : Appends before after taken
-  pub done : Done (sunk [] 0 before lent) (sunk taken failures following lent) answered
+  pub done : Done (sunk [] 0 before lent) (sunk taken failures destination lent) answered
   pub status_is : status ≡ settled answered flushed

@@ -9,7 +9,7 @@ pub returns-clause-prints : goal.returns-clause-prints
 returns-clause-prints g c =
     maybe_globals (object_read c.args.json.now) ⊤ _ _
     (λ globals executed. Printed-settled _ _ _ _ _ _ _ _ _ executed c.new-sink.ensures.taken c.new-sink.ensures.failures
-    c.new-sink.ensures.following
-    c.execute_one-answer.ensures.borrows c.execute_one-answer.ensures.following c.into_inner.ensures.following
+    c.new-sink.ensures.destination
+    c.execute_one-answer.ensures.borrows c.execute_one-answer.ensures.destination c.into_inner.ensures.destination
     (search rules) c.settle.ensures.status)
     c.execute_one-answer.ensures.executes

@@ -8,8 +8,8 @@ use Rattle.liquid_program.proofs.run.print.Goals as goal
 pub returns-clause-prints : goal.returns-clause-prints
 returns-clause-prints g c =
     Printed-settled _ _ _ _ _ _ _ _ _ c.execute-answer.ensures.executes c.new-sink.ensures.taken c.new-sink.ensures.failures
-    c.new-sink.ensures.following
-    c.execute-answer.ensures.borrows c.execute-answer.ensures.following c.into_inner.ensures.following
+    c.new-sink.ensures.destination
+    c.execute-answer.ensures.borrows c.execute-answer.ensures.destination c.into_inner.ensures.destination
     (search rules) c.settle.ensures.status
 
 pub returns-clause-requests : goal.returns-clause-requests
