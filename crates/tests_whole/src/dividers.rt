@@ -1,7 +1,5 @@
 //! Dividers with tokens, and dividers where none is allowed.
-use crate::kinds::OnDemand;
-use crate::languages::{library_language, plain_language};
-use crate::pages::all_hold;
+use crate::languages::{library_tables_hold, plain_tables_hold};
 use std::test::Fail;
 
 /// A divider of the test plug-ins takes no token.
@@ -32,6 +30,6 @@ const LIBRARY: &str =
 #[test]
 fn dividers_are_asked_with_their_tokens(rt: HostRuntime) -> Result<(), Fail> {
     let alloc = rt.alloc();
-    all_hold::<_, _, _, OnDemand>(alloc, PLAIN, &plain_language(alloc)?, 9)?;
-    all_hold::<_, _, _, OnDemand>(alloc, LIBRARY, &library_language(alloc)?, 11)
+    plain_tables_hold(alloc, &[(PLAIN, 9)], false)?;
+    library_tables_hold(alloc, &[(LIBRARY, 11)], false)
 }

@@ -1,8 +1,7 @@
 //! Blocks that escape, with starts in their bodies that nest and that do not.
-use crate::kinds::OnDemand;
-use crate::languages::plain_language;
+use crate::languages::plain_tables_hold;
 use crate::nested::nested_language;
-use crate::pages::all_hold;
+use crate::pages::tables_hold;
 use std::rc::Rc;
 use std::test::Fail;
 
@@ -30,7 +29,7 @@ const NESTED: &str = r#"{"template": "{% raw %}a{% endraw %}b", "written": "ab"}
 #[test]
 fn bodies_are_escaped(rt: HostRuntime) -> Result<(), Fail> {
     let alloc = rt.alloc();
-    all_hold::<_, _, _, OnDemand>(alloc, FLAT, &plain_language(alloc)?, 7)?;
+    plain_tables_hold(alloc, &[(FLAT, 7)], false)?;
     let nested = Rc::new(alloc, nested_language(alloc)?)?;
-    all_hold::<_, _, _, OnDemand>(alloc, NESTED, &nested, 10)
+    tables_hold(alloc, &[(NESTED, 10)], false, &nested)
 }

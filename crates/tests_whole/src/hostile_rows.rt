@@ -1,8 +1,7 @@
 //! Malicious texts: plug-ins that don't end, openers that are not liquid, and more open blocks or brackets than
 //! allowed.
-use crate::kinds::OnDemand;
-use crate::languages::{hostile_language, plain_language};
-use crate::pages::all_hold;
+use crate::languages::{hostile_language, plain_tables_hold};
+use crate::pages::tables_hold;
 use std::alloc::Global;
 use std::test::Fail;
 
@@ -26,7 +25,7 @@ const HOSTILE: &str = r#"{"template": "{% spin %}.", "written": "sss."}
 #[test]
 fn malicious_templates_are_rendered(rt: HostRuntime) -> Result<(), Fail> {
     let alloc = rt.alloc();
-    all_hold::<_, _, _, OnDemand>(alloc, HOSTILE, &hostile_language(alloc)?, 15)
+    tables_hold(alloc, &[(HOSTILE, 15)], false, &hostile_language(alloc)?)
 }
 
 /// Returns a text over and over.
@@ -51,7 +50,7 @@ fn nested(alloc: Global, open: &str, text: &str, end: &str, count: usize) -> Res
 fn comes_to(alloc: Global, template: &str, written: &str, error: &str) -> Result<(), Fail> {
     let members = format!(in alloc; "\"written\": \"{written}\", \"error\": \"{error}\"")?;
     let line = format!(in alloc; "{{\"template\": \"{template}\", {members}}}")?;
-    all_hold::<_, _, _, OnDemand>(alloc, line.as_str(), &plain_language(alloc)?, 1)
+    plain_tables_hold(alloc, &[(line.as_str(), 1)], false)
 }
 
 #[test]

@@ -1,8 +1,10 @@
-//! The languages that rows are in.
+//! The languages that rows are in, and tables of rows in the two that most tests use.
+use crate::pages::{Table, tables_hold};
 use bench::{Blocks, Filters, HostileBlocks, HostileTags, Tags};
 use liquid_core::parser::Language;
 use std::alloc::{AllocError, Global};
 use std::rc::Rc;
+use std::test::Fail;
 
 pub(crate) type PlainLanguage = Language<Filters, Tags, Blocks>;
 
@@ -24,4 +26,23 @@ pub(crate) type LibraryLanguage = Language<Filters, liquid_tags::Tags, liquid_ta
 pub(crate) fn library_language(alloc: Global) -> Result<Rc<LibraryLanguage>, AllocError> {
     let filters = bench::languages::filters(alloc)?;
     Ok(Rc::new(alloc, liquid_tags::language(alloc, filters)?)?)
+}
+
+/// Fails for the first row of tables in the language of the test plug-ins that does not pass. With `each_store`, over each
+/// kind of store.
+pub(crate) fn plain_tables_hold(
+    alloc: Global,
+    tables: &[Table<'_>],
+    each_store: bool,
+) -> Result<(), Fail> {
+    tables_hold(alloc, tables, each_store, &plain_language(alloc)?)
+}
+
+/// Does the same in the language of the tag library.
+pub(crate) fn library_tables_hold(
+    alloc: Global,
+    tables: &[Table<'_>],
+    each_store: bool,
+) -> Result<(), Fail> {
+    tables_hold(alloc, tables, each_store, &library_language(alloc)?)
 }

@@ -1,5 +1,5 @@
 //! Rows in any language, by each of the calls that render a template.
-use crate::kinds::{Kind, source};
+use crate::kinds::{Eager, Kind, Lazy, OnDemand, source};
 use liquid_core::model::{Object, to_object};
 use liquid_core::parser::{Language, Node, ParseBlock, ParseFilter, ParseTag, parse};
 use liquid_core::runtime::{
@@ -239,7 +239,7 @@ where
 
 /// Fails for the first row of a table that does not pass with each of the calls, with strict names and with lenient
 /// ones, and for a table with another number of rows.
-pub(crate) fn all_hold<F, T, B, K>(
+fn all_hold<F, T, B, K>(
     alloc: Global,
     rows: &str,
     language: &Rc<Language<F, T, B>>,
@@ -262,4 +262,33 @@ where
         }
     }
     tests_lines::holds(rows.lines().count() == count, "a table has all its rows")
+}
+
+/// A table of rows, and the number of its rows.
+pub(crate) type Table<'r> = (&'r str, usize);
+
+/// Fails for the first row of the tables that does not pass with each of the calls, over partials that are parsed on
+/// demand, and if `each_store` is true over those of each kind of store. A test names a language in one call of this
+/// function, since a check of tests costs with each call that names one.
+pub(crate) fn tables_hold<F, T, B>(
+    alloc: Global,
+    tables: &[Table<'_>],
+    each_store: bool,
+    language: &Rc<Language<F, T, B>>,
+) -> Result<(), Fail>
+where
+    F: ParseFilter + Drop,
+    T: ParseTag<F> + Drop,
+    B: ParseBlock<F> + Drop,
+    T::Node: Renderable<()>,
+    B::Node: Renderable<()>,
+{
+    for (rows, count) in tables {
+        all_hold::<F, T, B, OnDemand>(alloc, rows, language, *count)?;
+        if each_store {
+            all_hold::<F, T, B, Lazy>(alloc, rows, language, *count)?;
+            all_hold::<F, T, B, Eager>(alloc, rows, language, *count)?;
+        }
+    }
+    Ok(())
 }

@@ -218,10 +218,11 @@ fn counting(alloc: Global, asked: &Rc<Cell<u64>>) -> Result<CountingSource<InMem
     })
 }
 
-/// Returns a store on demand reads a text for each request of a name that has one.
-fn is_read_on_demand(alloc: Global, asked: &Rc<Cell<u64>>) -> Result<(), Fail> {
-    let compiler = OnDemandCompiler::new(counting(alloc, asked)?);
-    let mut store = PartialCompiler::compile(compiler, alloc, plain_language(alloc)?)?;
+/// Fails unless a store reads a text for each request of a name that has one.
+fn reads_on_demand<S>(alloc: Global, mut store: S, asked: &Cell<u64>) -> Result<(), Fail>
+where
+    S: PartialStore<AnyFilter, TagNode, BlockNode> + Drop,
+{
     holds(asked.get() == 0, "no text is read beforehand")?;
     request(alloc, &mut store, "p")?;
     request(alloc, &mut store, "p")?;
@@ -232,20 +233,22 @@ fn is_read_on_demand(alloc: Global, asked: &Rc<Cell<u64>>) -> Result<(), Fail> {
     holds(asked.get() == 2, "a name is listed or unknown unread")
 }
 
-/// Returns an eager store reads each text when it is made, and none later.
-fn is_read_eagerly(alloc: Global, asked: &Rc<Cell<u64>>) -> Result<(), Fail> {
-    let compiler = EagerCompiler::new(counting(alloc, asked)?);
-    let mut store = PartialCompiler::compile(compiler, alloc, plain_language(alloc)?)?;
+/// Fails unless a store has read each text, and reads none later.
+fn reads_no_more<S>(alloc: Global, mut store: S, asked: &Cell<u64>) -> Result<(), Fail>
+where
+    S: PartialStore<AnyFilter, TagNode, BlockNode> + Drop,
+{
     holds(asked.get() == 5, "each text is read beforehand")?;
     request(alloc, &mut store, "p")?;
     request(alloc, &mut store, "none")?;
     holds(asked.get() == 5, "no text is read later")
 }
 
-/// Returns a lazy store reads a text for the first request of its name.
-fn is_read_lazily(alloc: Global, asked: &Rc<Cell<u64>>) -> Result<(), Fail> {
-    let compiler = LazyCompiler::new(counting(alloc, asked)?);
-    let mut store = PartialCompiler::compile(compiler, alloc, plain_language(alloc)?)?;
+/// Fails unless a store reads a text for the first request of its name.
+fn reads_once<S>(alloc: Global, mut store: S, asked: &Cell<u64>) -> Result<(), Fail>
+where
+    S: PartialStore<AnyFilter, TagNode, BlockNode> + Drop,
+{
     holds(asked.get() == 5, "no text is read beforehand")?;
     get(alloc, &mut store, "p");
     request(alloc, &mut store, "p")?;
@@ -257,6 +260,24 @@ fn is_read_lazily(alloc: Global, asked: &Rc<Cell<u64>>) -> Result<(), Fail> {
     get(alloc, &mut store, "none");
     holds(lists_its_names(alloc, &store)?, "a store has its names")?;
     holds(asked.get() == 7, "a name is listed or unknown unread")
+}
+
+fn is_read_on_demand(alloc: Global, asked: &Rc<Cell<u64>>) -> Result<(), Fail> {
+    let compiler = OnDemandCompiler::new(counting(alloc, asked)?);
+    let store = PartialCompiler::compile(compiler, alloc, plain_language(alloc)?)?;
+    reads_on_demand(alloc, store, asked)
+}
+
+fn is_read_eagerly(alloc: Global, asked: &Rc<Cell<u64>>) -> Result<(), Fail> {
+    let compiler = EagerCompiler::new(counting(alloc, asked)?);
+    let store = PartialCompiler::compile(compiler, alloc, plain_language(alloc)?)?;
+    reads_no_more(alloc, store, asked)
+}
+
+fn is_read_lazily(alloc: Global, asked: &Rc<Cell<u64>>) -> Result<(), Fail> {
+    let compiler = LazyCompiler::new(counting(alloc, asked)?);
+    let store = PartialCompiler::compile(compiler, alloc, plain_language(alloc)?)?;
+    reads_once(alloc, store, asked)
 }
 
 #[test]

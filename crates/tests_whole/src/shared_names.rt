@@ -1,6 +1,5 @@
 //! Names that have two meanings: which of them is tried first.
-use crate::kinds::OnDemand;
-use crate::pages::all_hold;
+use crate::pages::tables_hold;
 use bench::block_plugins::{Blocks, HostileBlocks};
 use bench::filters::Filters;
 use bench::tag_plugins::{HostileTags, Tags};
@@ -44,5 +43,5 @@ fn shared_names(
 fn the_first_of_two_meanings_is_taken(rt: HostRuntime) -> Result<(), Fail> {
     let alloc = rt.alloc();
     let language = Rc::new(alloc, shared_names(alloc)?)?;
-    all_hold::<_, _, _, OnDemand>(alloc, ROWS, &language, 6)
+    tables_hold(alloc, &[(ROWS, 6)], false, &language)
 }

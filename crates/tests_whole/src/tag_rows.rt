@@ -1,7 +1,7 @@
 //! Templates with the tags and blocks of the library.
-use crate::kinds::{Eager, Lazy, OnDemand, source};
-use crate::languages::library_language;
-use crate::pages::{all_hold, globals, is_told};
+use crate::kinds::source;
+use crate::languages::library_tables_hold;
+use crate::pages::{globals, is_told};
 use liquid_core::TextSink;
 use liquid_tags::render_page;
 use std::alloc::Global;
@@ -156,18 +156,11 @@ fn pages_come_to_what_they_mean(rt: HostRuntime) -> Result<(), Fail> {
 
 #[test]
 fn templates_of_the_library_come_to_what_they_mean(rt: HostRuntime) -> Result<(), Fail> {
-    let alloc = rt.alloc();
-    let language = library_language(alloc)?;
-    all_hold::<_, _, _, OnDemand>(alloc, PLAIN, &language, 18)?;
-    all_hold::<_, _, _, OnDemand>(alloc, CONDITIONS, &language, 18)?;
-    all_hold::<_, _, _, OnDemand>(alloc, LOOPS, &language, 53)?;
-    all_hold::<_, _, _, OnDemand>(alloc, PARTIALS, &language, 21)
+    let tables = [(PLAIN, 18), (CONDITIONS, 18), (LOOPS, 53)];
+    library_tables_hold(rt.alloc(), &tables, false)
 }
 
 #[test]
 fn partials_of_the_library_are_the_same_from_each_store(rt: HostRuntime) -> Result<(), Fail> {
-    let alloc = rt.alloc();
-    let language = library_language(alloc)?;
-    all_hold::<_, _, _, Lazy>(alloc, PARTIALS, &language, 21)?;
-    all_hold::<_, _, _, Eager>(alloc, PARTIALS, &language, 21)
+    library_tables_hold(rt.alloc(), &[(PARTIALS, 21)], true)
 }

@@ -106,32 +106,32 @@ fn registered(alloc: Global, registry: &PluginRegistry<Filters>) -> Result<Strin
 }
 
 /// Returns the text of a result that is a part of a template or of a language, or an error.
-fn part_shown(alloc: Global, answer: Answer<'_>) -> Result<String, AllocError> {
+fn part_shown(alloc: Global, answer: &Answer<'_>) -> Result<String, AllocError> {
     match answer {
         Answer::Cause(cause) => cause.to_string(alloc),
         Answer::Kept(kept) => kept.to_string(alloc),
         Answer::Expression(expression) => expression.to_string(alloc),
         Answer::Variable(variable) => variable.to_string(alloc),
         Answer::Chain(chain) => chain.to_string(alloc),
-        Answer::Registry(registry) => registered(alloc, &registry),
+        Answer::Registry(registry) => registered(alloc, registry),
         Answer::Language(language) => registered(alloc, &language.filters),
         Answer::Refused(error) => error.to_string(alloc),
-        Answer::Names(names) => joined(alloc, &names),
-        Answer::Listed(names) => listed(alloc, &names),
+        Answer::Names(names) => joined(alloc, names),
+        Answer::Listed(names) => listed(alloc, names),
         _ => Ok(String::new(alloc)),
     }
 }
 
 /// Returns the result's text, or `None` if it is out of memory.
-pub fn shown(alloc: Global, answer: Answer<'_>) -> Result<Option<String>, Problem> {
+pub fn shown(alloc: Global, answer: &Answer<'_>) -> Result<Option<String>, Problem> {
     let text = match answer {
         Answer::Memory => return Ok(None),
         Answer::Done => String::from_str(alloc, "done")?,
         Answer::Nothing => String::from_str(alloc, "nothing")?,
         Answer::Truth(truth) => format!(in alloc; "{truth}")?,
-        Answer::Text(text) => text,
+        Answer::Text(text) => text.clone()?,
         Answer::Shown(text) => String::from_str(alloc, text.as_str())?,
-        Answer::Value(value) => ValueSource::new(&value).to_string(alloc)?,
+        Answer::Value(value) => ValueSource::new(value).to_string(alloc)?,
         Answer::Found(value) => ValueSource::new(value.as_view()).to_string(alloc)?,
         Answer::Path(path) => path.to_string(alloc)?,
         Answer::Json(json) => json.to_string(alloc)?,

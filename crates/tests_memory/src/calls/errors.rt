@@ -82,13 +82,19 @@ fn of_changes<'g>(alloc: Global, word: &str, given: &'g mut Given, error: Error)
     }
 }
 
-/// Makes the calls that copy an error, or keep it.
-fn of_copies<'g>(alloc: Global, word: &str, given: &'g Given, error: Error) -> Answered<'g> {
+/// Makes the calls that copy an error, a cause or an error that is kept.
+fn of_copies<'g>(word: &str, given: &'g Given, error: &Error) -> Answered<'g> {
     match word {
-        "clone" => Ok(Answer::from(Error::clone(&error)?)),
-        "clone_report" => cloned_report(error),
+        "clone" => Ok(Answer::from(Error::clone(error)?)),
         "clone_cause" => Ok(Answer::Cause(Cause::clone(&given.cause)?)),
-        "clone_kept" => Ok(Answer::Kept(CloneableError::clone(&given.kept)?)),
+        _ => Ok(Answer::Kept(CloneableError::clone(&given.kept)?)),
+    }
+}
+
+/// Makes the calls that take an error whole: one copies its report, the other keeps it.
+fn of_wholes<'g>(alloc: Global, word: &str, error: Error) -> Answered<'g> {
+    match word {
+        "clone_report" => cloned_report(error),
         _ => Ok(Answer::Kept(CloneableError::new(alloc, error)?)),
     }
 }
@@ -99,9 +105,8 @@ pub fn call<'g>(alloc: Global, word: &str, given: &'g mut Given) -> Answered<'g>
     match word {
         "with_msg" | "with_text" | "at_place" => of_new(alloc, word, given),
         "trace" | "context" | "cause" | "or_place" => of_changes(alloc, word, given, error),
-        "clone" | "clone_report" | "clone_cause" | "clone_kept" | "kept" => {
-            of_copies(alloc, word, given, error)
-        }
+        "clone" | "clone_cause" | "clone_kept" => of_copies(word, given, &error),
+        "clone_report" | "kept" => of_wholes(alloc, word, error),
         _ => of_results(alloc, word, error),
     }
 }

@@ -156,36 +156,71 @@ fn steps(alloc: Global) -> Result<(Vec<ScalarCow<'static>>, Vec<Expression>), Pr
     Ok((indexes, expressions(alloc)?))
 }
 
+/// The parts that are data, by the functions that make them.
+type Data = (
+    (Error, Cause, CloneableError),
+    (Json, Object, Value),
+    (String, Value, DateTime),
+);
+
+/// The parts that lead to data, and what calls put into them.
+type Ways = (
+    Path<'static>,
+    (Variable, Expression),
+    (Vec<(String, Value)>, Vec<Value>),
+    (Vec<ScalarCow<'static>>, Vec<Expression>),
+);
+
+/// The parts that render.
+type Engine = (
+    FilterChain<AnyFilter>,
+    Language<Filters, Tags, Blocks>,
+    Built,
+);
+
+fn data(alloc: Global) -> Result<Data, Problem> {
+    let errors = errors(alloc)?;
+    let values = values(alloc)?;
+    Ok((errors, values, alone(alloc)?))
+}
+
+fn ways(alloc: Global) -> Result<Ways, Problem> {
+    let path = path(alloc)?;
+    let variables = variables(alloc)?;
+    let members = members(alloc)?;
+    Ok((path, variables, members, steps(alloc)?))
+}
+
+fn engine(alloc: Global) -> Result<Engine, Problem> {
+    let chain = chain(alloc)?;
+    let language = language(alloc)?;
+    Ok((chain, language, runtime(alloc)?))
+}
+
 impl Given {
-    /// Makes each part by its own function: a check costs more with each value that is held where a call may fail.
+    /// Makes each part by its own function, and the parts in groups: a check costs more with each value that is held
+    /// where a call may fail.
     pub fn new(alloc: Global) -> Result<Given, Problem> {
-        let errors = errors(alloc)?;
-        let values = values(alloc)?;
-        let path = path(alloc)?;
-        let variables = variables(alloc)?;
-        let alone = alone(alloc)?;
-        let members = members(alloc)?;
-        let steps = steps(alloc)?;
-        let chain = chain(alloc)?;
-        let language = language(alloc)?;
-        let runtime = runtime(alloc)?;
+        let ((error, cause, kept), (json, object, value), (text, member, moment)) = data(alloc)?;
+        let (path, (variable, expression), (pairs, items), (indexes, expressions)) = ways(alloc)?;
+        let (chain, language, runtime) = engine(alloc)?;
         Ok(Given {
-            error: errors.0,
-            cause: errors.1,
-            kept: errors.2,
-            text: alone.0,
-            member: alone.1,
-            json: values.0,
-            object: values.1,
-            value: values.2,
-            moment: alone.2,
+            error,
+            cause,
+            kept,
+            text,
+            member,
+            json,
+            object,
+            value,
+            moment,
             path,
-            variable: variables.0,
-            expression: variables.1,
-            pairs: members.0,
-            items: members.1,
-            indexes: steps.0,
-            expressions: steps.1,
+            variable,
+            expression,
+            pairs,
+            items,
+            indexes,
+            expressions,
             chain,
             language,
             runtime,

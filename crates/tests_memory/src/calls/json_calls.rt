@@ -18,26 +18,38 @@ pub fn wanted(word: &str) -> &'static str {
     }
 }
 
+/// Makes the calls that read JSON.
+fn of_reads<'g>(alloc: Global, word: &str, json: &Json) -> Answered<'g> {
+    match word {
+        "to_value" => Ok(Answer::Value(to_value(alloc, json)?)),
+        "to_object" => Ok(Answer::Value(Value::from(to_object(alloc, json)?))),
+        _ => match json.get("i") {
+            Some(member) => Ok(Answer::Value(Value::Scalar(to_scalar(alloc, member)?))),
+            None => Ok(Answer::Nothing),
+        },
+    }
+}
+
+/// Reads the globals from their text.
+fn of_text<'g>(alloc: Global) -> Answered<'g> {
+    match object_from_str(alloc, GLOBALS) {
+        Ok(object) => Ok(Answer::Value(Value::from(object?))),
+        Err(error) => Ok(if error.is_memory() {
+            Answer::Memory
+        } else {
+            Answer::Nothing
+        }),
+    }
+}
+
 /// Makes a call of JSON.
 pub fn call<'g>(alloc: Global, word: &str, given: &'g mut Given) -> Answered<'g> {
     let json = std::mem::replace(&mut given.json, Json::Null);
     match word {
-        "to_value" => Ok(Answer::Value(to_value(alloc, &json)?)),
-        "to_object" => Ok(Answer::Value(Value::from(to_object(alloc, &json)?))),
+        "to_value" | "to_object" | "to_scalar" => of_reads(alloc, word, &json),
         "into_value" => Ok(Answer::Value(into_value(alloc, json)?)),
         "into_object" => Ok(Answer::Value(Value::from(into_object(alloc, json)?))),
-        "object_from_str" => match object_from_str(alloc, GLOBALS) {
-            Ok(object) => Ok(Answer::Value(Value::from(object?))),
-            Err(error) => Ok(if error.is_memory() {
-                Answer::Memory
-            } else {
-                Answer::Nothing
-            }),
-        },
-        "to_scalar" => match json.get("i") {
-            Some(member) => Ok(Answer::Value(Value::Scalar(to_scalar(alloc, member)?))),
-            None => Ok(Answer::Nothing),
-        },
+        "object_from_str" => of_text(alloc),
         _ => Ok(Answer::Json(from_value(alloc, &given.value)?)),
     }
 }

@@ -6,7 +6,7 @@ use bench::filters::AnyFilter;
 use liquid_core::call_filter;
 use liquid_core::model::{Value, ValueCow};
 use liquid_core::parser::{FilterArguments, FilterChain, Language, PluginRegistry, parse_variable};
-use liquid_core::runtime::{Expression, Variable};
+use liquid_core::runtime::{Expression, Runtime, Variable};
 use std::alloc::Global;
 
 /// Returns the result of each call of registries, expressions and chains.
@@ -49,30 +49,50 @@ fn of_filters<'g>(alloc: Global, word: &str, given: &'g mut Given) -> Answered<'
     }
 }
 
-/// Makes the calls of variables.
-fn of_variables<'g>(alloc: Global, word: &str, given: &'g mut Given) -> Answered<'g> {
+/// Makes the calls that evaluate a variable, an expression or a chain over a runtime.
+fn of_values<'g, R: Runtime>(
+    alloc: Global,
+    word: &str,
+    given: &'g Given,
+    runtime: &'g R,
+) -> Answered<'g> {
+    match word {
+        "evaluate" => Ok(Answer::Found(Expression::evaluate(&given.expression, alloc, runtime)?)),
+        "chain_evaluate" => Ok(Answer::Found(FilterChain::evaluate(&given.chain, alloc, runtime)?)),
+        "variable_evaluate" => Ok(Answer::Path(Variable::evaluate(
+            &given.variable,
+            alloc,
+            runtime,
+        )?)),
+        "try_evaluate" => match Expression::try_evaluate(&given.expression, alloc, runtime)? {
+            Some(value) => Ok(Answer::Found(value)),
+            None => Ok(Answer::Nothing),
+        },
+        _ => match Variable::try_evaluate(&given.variable, alloc, runtime)? {
+            Some(path) => Ok(Answer::Path(path)),
+            None => Ok(Answer::Nothing),
+        },
+    }
+}
+
+/// Makes the calls that copy a variable, an expression or a chain, or make one.
+fn of_parts<'g>(alloc: Global, word: &str, given: &'g Given) -> Answered<'g> {
     match word {
         "clone_variable" => Ok(Answer::Variable(Variable::clone(&given.variable)?)),
-        "variable_evaluate" => {
-            let path = Variable::evaluate(&given.variable, alloc, &given.runtime)?;
-            Ok(Answer::Path(path))
-        }
-        "variable_try_evaluate" => {
-            match Variable::try_evaluate(&given.variable, alloc, &given.runtime)? {
-                Some(path) => Ok(Answer::Path(path)),
-                None => Ok(Answer::Nothing),
-            }
-        }
-        "variable_extend" => {
-            let expressions = std::mem::replace(&mut given.expressions, Vec::new(alloc));
-            given.variable.extend(expressions)?;
-            Ok(Answer::Done)
-        }
+        "clone_expression" => Ok(Answer::Expression(Expression::clone(&given.expression)?)),
+        "of_name" => Ok(Answer::Chain(FilterChain::<AnyFilter>::of_name(alloc, "a")?)),
         _ => {
             let variable = parse_variable(alloc, "a")?;
             Ok(Answer::Variable(Variable::push_literal(variable, 1i64)?))
         }
     }
+}
+
+/// Extends a variable.
+fn extended<'g>(alloc: Global, given: &'g mut Given) -> Answered<'g> {
+    let expressions = std::mem::replace(&mut given.expressions, Vec::new(alloc));
+    given.variable.extend(expressions)?;
+    Ok(Answer::Done)
 }
 
 /// Makes a call of registries, expressions and chains.
@@ -81,22 +101,12 @@ pub fn call<'g>(alloc: Global, word: &str, given: &'g mut Given) -> Answered<'g>
         "register" | "clone_registry" | "clone_language" | "call_filter" => {
             of_filters(alloc, word, given)
         }
-        "clone_expression" => Ok(Answer::Expression(Expression::clone(&given.expression)?)),
-        "evaluate" => {
-            let value = Expression::evaluate(&given.expression, alloc, &given.runtime)?;
-            Ok(Answer::Found(value))
-        }
-        "try_evaluate" => {
-            match Expression::try_evaluate(&given.expression, alloc, &given.runtime)? {
-                Some(value) => Ok(Answer::Found(value)),
-                None => Ok(Answer::Nothing),
-            }
-        }
-        "chain_evaluate" => {
-            let value = FilterChain::evaluate(&given.chain, alloc, &given.runtime)?;
-            Ok(Answer::Found(value))
-        }
-        "of_name" => Ok(Answer::Chain(FilterChain::<AnyFilter>::of_name(alloc, "a")?)),
-        _ => of_variables(alloc, word, given),
+        "evaluate"
+        | "try_evaluate"
+        | "chain_evaluate"
+        | "variable_evaluate"
+        | "variable_try_evaluate" => of_values(alloc, word, &*given, &given.runtime),
+        "variable_extend" => extended(alloc, given),
+        _ => of_parts(alloc, word, given),
     }
 }

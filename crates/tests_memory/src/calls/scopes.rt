@@ -163,37 +163,37 @@ fn seek(alloc: Global, base: Built, boxes: usize) -> Result<Seen, Problem> {
     })
 }
 
-/// Makes a call of chained scopes after that many boxes, and then once more.
-fn chained(alloc: Global, base: Built, word: &str, boxes: usize) -> Result<Seen, Problem> {
-    match word {
-        "chained_push" => push::<Chained<()>>(alloc, base, false, boxes),
-        "chained_push_isolated" => push::<Chained<()>>(alloc, base, true, boxes),
-        "chained_set_global" => sets::<Chained<()>>(alloc, base, "global", boxes),
-        "chained_set_index" => sets::<Chained<()>>(alloc, base, "index", boxes),
-        "chained_roots" => roots::<Chained<()>>(alloc, base, boxes),
+/// Makes a call of scopes of any form after that many boxes, and then once more.
+fn of_form<S>(alloc: Global, base: S::Base, call: &str, boxes: usize) -> Result<Seen, Problem>
+where
+    S: Scopes<Register = (), Store = ()>,
+    S::Base: Drop,
+{
+    match call {
+        "push" => push::<S>(alloc, base, false, boxes),
+        "push_isolated" => push::<S>(alloc, base, true, boxes),
+        "set_global" => sets::<S>(alloc, base, "global", boxes),
+        "set_index" => sets::<S>(alloc, base, "index", boxes),
+        "roots" => roots::<S>(alloc, base, boxes),
         _ => Err(Problem::Case),
     }
 }
 
 /// Makes a call of flat scopes after that many boxes, and then once more.
-fn flat(alloc: Global, base: Built, word: &str, boxes: usize) -> Result<Seen, Problem> {
-    match word {
-        "flat_push" => push::<Flat<()>>(alloc, base, false, boxes),
-        "flat_push_isolated" => push::<Flat<()>>(alloc, base, true, boxes),
-        "flat_set_global" => sets::<Flat<()>>(alloc, base, "global", boxes),
-        "flat_set_index" => sets::<Flat<()>>(alloc, base, "index", boxes),
-        "flat_roots" => roots::<Flat<()>>(alloc, base, boxes),
-        "flat_seek" => seek(alloc, base, boxes),
-        _ => Err(Problem::Case),
+fn flat(alloc: Global, base: Built, call: &str, boxes: usize) -> Result<Seen, Problem> {
+    match call {
+        "seek" => seek(alloc, base, boxes),
+        _ => of_form::<Flat<()>>(alloc, base, call, boxes),
     }
 }
 
-/// Makes a call of scopes after that many boxes, and then once more.
+/// Makes a call of scopes after that many boxes, and then once more. Each form is named in one call, since a check of
+/// tests costs with each call that names it.
 pub fn tried(alloc: Global, word: &str, boxes: usize) -> Result<Seen, Problem> {
     let base = runtime(alloc)?;
-    if word.starts_with("chained") {
-        chained(alloc, base, word, boxes)
-    } else {
-        flat(alloc, base, word, boxes)
+    match word.split_once("_") {
+        Some(("chained", call)) => of_form::<Chained<()>>(alloc, base, call, boxes),
+        Some(("flat", call)) => flat(alloc, base, call, boxes),
+        _ => Err(Problem::Case),
     }
 }

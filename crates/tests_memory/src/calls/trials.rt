@@ -69,10 +69,10 @@ fn answer<'g>(alloc: Global, group: &str, word: &str, given: &'g mut Given) -> A
 }
 
 /// Compares a result's text with the one that is wanted.
-fn told(text: &Option<String>, wanted: &str) -> Told {
-    match text {
-        None => Told::Memory,
-        Some(text) => Told::Whole.only_if(text.as_str() == wanted),
+fn told(alloc: Global, answer: Answer<'_>, wanted: &str) -> Result<Told, Problem> {
+    match shown(alloc, &answer)? {
+        None => Ok(Told::Memory),
+        Some(text) => Ok(Told::Whole.only_if(text.as_str() == wanted)),
     }
 }
 
@@ -102,7 +102,7 @@ pub fn tried(alloc: Global, group: &str, word: &str, boxes: usize) -> Result<See
     let before = taken(alloc, boxes);
     let answered = answer(alloc, group, word, &mut given);
     let after = taken(alloc, MOST);
-    let first = told(&shown(alloc, answered)?, wanted);
+    let first = told(alloc, answered, wanted)?;
     let part = extended(alloc, &given, group, word)?;
     let parts = beginnings(group, word);
     let stands = if parts.is_empty() {
@@ -117,7 +117,7 @@ pub fn tried(alloc: Global, group: &str, word: &str, boxes: usize) -> Result<See
         Given::new(alloc)?
     };
     let answered = answer(alloc, group, word, &mut other);
-    let next = told(&shown(alloc, answered)?, wanted);
+    let next = told(alloc, answered, wanted)?;
     Ok(Seen {
         before,
         after,

@@ -23,43 +23,78 @@ pub fn wanted(word: &str) -> &'static str {
     }
 }
 
-/// Makes the calls of scalars.
-fn of_scalars<'g>(alloc: Global, word: &str, member: Value) -> Answered<'g> {
+/// Copies a scalar.
+fn of_scalar<'g>(member: &Value) -> Answered<'g> {
+    match member {
+        Value::Scalar(scalar) => Ok(Answer::Value(Value::Scalar(Scalar::clone(scalar)?))),
+        _ => Ok(Answer::Nothing),
+    }
+}
+
+/// Returns the text of a number that stays.
+fn of_number<'g>(alloc: Global, number: &ScalarCow<'_>) -> Answered<'g> {
+    let text = ScalarCow::to_kstr(number, alloc)?;
+    Ok(Answer::Text(String::from_str(alloc, text.as_str())?))
+}
+
+/// Makes the calls that take a scalar whole.
+fn of_wholes<'g>(alloc: Global, word: &str) -> Answered<'g> {
     let number = ScalarCow::from(7i64);
     match word {
-        "scalar_clone" => match member {
-            Value::Scalar(scalar) => Ok(Answer::Value(Value::Scalar(Scalar::clone(&scalar)?))),
-            _ => Ok(Answer::Nothing),
-        },
-        "scalar_into_owned" => {
-            let owned = ScalarCow::into_owned(ScalarCow::from("seven"), alloc)?;
-            Ok(Answer::Value(Value::Scalar(owned)))
-        }
-        "scalar_to_kstr" => {
-            let text = ScalarCow::to_kstr(&number, alloc)?;
-            Ok(Answer::Text(String::from_str(alloc, text.as_str())?))
-        }
+        "scalar_to_kstr" => of_number(alloc, &number),
         "into_string" => Ok(Answer::Text(ScalarCow::into_string(number, alloc)?)),
         "into_cow_str" => Ok(Answer::Shown(ScalarCow::into_cow_str(number, alloc)?)),
         _ => Ok(Answer::Nothing),
     }
 }
 
-/// Makes the calls that put a member into an array or an object.
-fn of_growing<'g>(alloc: Global, word: &str, given: &'g mut Given, member: Value) -> Answered<'g> {
-    let name = std::mem::replace(&mut given.text, String::new(alloc));
-    let pairs = std::mem::replace(&mut given.pairs, Vec::new(alloc));
-    let items = std::mem::replace(&mut given.items, Vec::new(alloc));
-    match (word, given.value.as_array_mut()) {
-        ("insert", _) => {
-            let _old = Object::insert(&mut given.object, name, member)?;
+/// Makes the calls of scalars.
+fn of_scalars<'g>(alloc: Global, word: &str, member: &Value) -> Answered<'g> {
+    match word {
+        "scalar_clone" => of_scalar(member),
+        "scalar_into_owned" => {
+            let owned = ScalarCow::into_owned(ScalarCow::from("seven"), alloc)?;
+            Ok(Answer::Value(Value::Scalar(owned)))
         }
-        ("object_extend", _) => given.object.extend(pairs)?,
-        ("array_push", Some(array)) => array.to_mut()?.push(member)?,
-        ("array_extend", Some(array)) => array.to_mut()?.extend(items)?,
-        _ => return Ok(Answer::Nothing),
+        _ => of_wholes(alloc, word),
     }
+}
+
+/// Puts a member into an object.
+fn inserted<'g>(alloc: Global, given: &'g mut Given, member: Value) -> Answered<'g> {
+    let name = std::mem::replace(&mut given.text, String::new(alloc));
+    let _old = Object::insert(&mut given.object, name, member)?;
     Ok(Answer::Done)
+}
+
+/// Puts pairs into an object.
+fn extended<'g>(alloc: Global, given: &'g mut Given) -> Answered<'g> {
+    let pairs = std::mem::replace(&mut given.pairs, Vec::new(alloc));
+    given.object.extend(pairs)?;
+    Ok(Answer::Done)
+}
+
+/// Puts an item after the items of an array.
+fn pushed<'g>(given: &'g mut Given, member: Value) -> Answered<'g> {
+    match given.value.as_array_mut() {
+        Some(array) => {
+            array.to_mut()?.push(member)?;
+            Ok(Answer::Done)
+        }
+        None => Ok(Answer::Nothing),
+    }
+}
+
+/// Puts items after those of an array.
+fn lengthened<'g>(alloc: Global, given: &'g mut Given) -> Answered<'g> {
+    let items = std::mem::replace(&mut given.items, Vec::new(alloc));
+    match given.value.as_array_mut() {
+        Some(array) => {
+            array.to_mut()?.extend(items)?;
+            Ok(Answer::Done)
+        }
+        None => Ok(Answer::Nothing),
+    }
 }
 
 /// Writes to an array that another value shares, and returns the other value.
@@ -124,12 +159,13 @@ pub fn call<'g>(alloc: Global, word: &str, given: &'g mut Given) -> Answered<'g>
         "clone" | "into_owned" | "to_value" | "to_kstr" => of_copies(alloc, word, given),
         "array" | "array_of" => of_arrays(alloc, word, given),
         "object_of" | "lookup" | "keys" => of_objects(alloc, word, given),
-        "insert" | "object_extend" | "array_push" | "array_extend" => {
-            of_growing(alloc, word, given, member)
-        }
+        "insert" => inserted(alloc, given, member),
+        "object_extend" => extended(alloc, given),
+        "array_push" => pushed(given, member),
+        "array_extend" => lengthened(alloc, given),
         "shared_array_push" => of_shared_arrays(given, member),
         "shared_object_insert" => of_shared_objects(alloc, given, member),
         "cow_clone" => Ok(Answer::Found(ValueCow::clone(&ValueCow::Owned(member))?)),
-        _ => of_scalars(alloc, word, member),
+        _ => of_scalars(alloc, word, &member),
     }
 }
