@@ -78,7 +78,7 @@ Printed-settled Done start stop before between after answered status flushed don
           subst (λ t. Appends before after t) (sym (grows.taken_is ∙ ap (λ t. t ++ grows.more) nothing))
           (appends_kept before between after grows.more
           (subst (λ b. Appends before b grows.more) (sym same_between)
-          (subst (λ b. Appends b stop.destination grows.more) same_before grows.after_is)) kept);
+          (subst (λ b. Appends b stop.destination grows.more) same_before grows.destination_is)) kept);
       done =
           subst (λ s. Done s (sunk stop.taken stop.failures stop.destination start.lent) answered) begins
           (subst (λ s. Done start s answered) ends done);
