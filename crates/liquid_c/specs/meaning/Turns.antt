@@ -7,9 +7,9 @@ use Rattle.liquid_c.specs.declared.page.Outcome.{Outcome}
 abbrev pub one_if_whole : Outcome → ℕ
 one_if_whole o = if nat_eq o.kind 0 then 1 else 0
 
--- pages over these globals were rendered in turn, which left these outcomes and this memory, of which so many bytes
--- are used, and so many of
--- them whole. Each was rendered into the memory after the bytes that were used before it, which stay, and left there what P says
+-- pages over these globals were rendered in turn, which left these outcomes and this memory, of which so many bytes are
+-- used, and so many of the pages are whole. Each was rendered into the memory after the bytes that were used before it,
+-- which stay, and left there what P says
 pub data InTurn (P : List ℕ → List ℕ → List ℕ → Outcome → Type 0) (old : List ℕ) : List (List ℕ) → List Outcome → List ℕ → ℕ → ℕ
     → Type 0 where
   begun : InTurn P old [] [] old 0 0
